@@ -1,7 +1,7 @@
 -- What the steps of edits state about memory.
 use Rattle.std.proofs.Common.{◌≡◌, ◌⊎◌, ◌++◌, inl, inr, sym, ℕ, ◌+◌, ◌*◌, ◌-◌, ◌^◌, ◌&&◌, nat_le, nat_lt, ◌<◌, ◌≤◌, Bool, true, false, if◌then◌else◌, List, [], ◌∷◌, length, Option, Some, None, IfSome, IsSomeAnd, refl, ap, ◌∙◌, subst, arith, map}
 use Rattle.capnp_words.specs.declared.error.ErrorKind.{ErrorKind}
-use Rattle.capnp_words.specs.declared.error.ErrorKind.TheVariants.{AllocationFailed, MessageTooLarge}
+use Rattle.capnp_words.specs.declared.error.ErrorKind.TheVariants.{AllocationFailed, MessageTooLarge, NoSuchPlace}
 use Rattle.capnp_format.specs.Canonical.{word_count}
 use Rattle.capnp_format.specs.Forest.{IsForest}
 use Rattle.capnp_format.specs.Segments.{segment}
@@ -19,7 +19,7 @@ use Rattle.capnp_edits.specs.declared.edit.Op.{Op}
 use Rattle.capnp_edits.specs.declared.edit.Op.TheVariants.{InitData, InitList, InitStruct, InitStructList, InitText, SetData, SetText}
 use Rattle.capnp_edits.specs.Edits.{is_of_path, refusals_after}
 use Rattle.capnp_edits.specs.Paths.{step_of}
-use Rattle.capnp_edits.specs.Steps.{AreSteps, FitsAt, IsRefusedAt, IsStep}
+use Rattle.capnp_edits.specs.Steps.{AreSteps, EndsAt, FitsAt, IsStep}
 use Rattle.capnp_edits.specs.Tasks.{task_of}
 use Rattle.capnp_edits.proofs.Stepped.{step_is_there}
 use Rattle.callers.specs.Truly.{AreRefusedTruly, IsRefusedTruly, object_made}
@@ -60,48 +60,48 @@ no_tree y e = cc
 
 -- an object that an edit makes is refused in the same way as its words
 asked_by : (old new : View) (e : Edit) (r : Option ErrorKind) (step : IsStep old new e r) (op : Op) → e.op ≡ op → (object t x : Tree) (s p : ℕ) (k : ErrorKind) → object_made op ≡ Some object → IsForest old.words t →
-    PathLeads old.words (node 0 0 t) (map step_of e.path.now) (node s p x) → IsSomeAnd step.path_end (λ place. IsSomeAnd (task_of e.op) (λ task. IsRefusedAt old new task k place)) → IsRefusedFor old new (word_count object) k
+    PathLeads old.words (node 0 0 t) (map step_of e.path.now) (node s p x) → IsSomeAnd step.path_end (λ place. IsSomeAnd (task_of e.op) (λ task. EndsAt old new task (Some k) place)) → IsRefusedFor old new (word_count object) k
 asked_by old new e r step (InitStruct size) same object t x s p k is forest leads named =
     let there = step_is_there old new e r t x s p step forest leads in
-    let by = subst (λ (o : Op). IsSomeAnd step.path_end (λ place. IsSomeAnd (task_of o) (λ task. IsRefusedAt old new task k place))) same named in
-    let h = subst (λ o. IsSomeAnd o (λ place. IsSomeAnd (task_of (InitStruct size)) (λ task. IsRefusedAt old new task k place))) there by in
-    subst (λ (o : Tree). IsRefusedFor old new (word_count o) k) (same_tree (zero_struct size) object is) h
+    let by = subst (λ (o : Op). IsSomeAnd step.path_end (λ place. IsSomeAnd (task_of o) (λ task. EndsAt old new task (Some k) place))) same named in
+    let h = subst (λ o. IsSomeAnd o (λ place. IsSomeAnd (task_of (InitStruct size)) (λ task. EndsAt old new task (Some k) place))) there by in
+    subst (λ (o : Tree). IsRefusedFor old new (word_count o) k) (same_tree (zero_struct size) object is) (h.0, h.1)
 asked_by old new e r step (InitList size n) same object t x s p k is forest leads named =
     let there = step_is_there old new e r t x s p step forest leads in
-    let by = subst (λ (o : Op). IsSomeAnd step.path_end (λ place. IsSomeAnd (task_of o) (λ task. IsRefusedAt old new task k place))) same named in
-    let h = subst (λ o. IsSomeAnd o (λ place. IsSomeAnd (task_of (InitList size n)) (λ task. IsRefusedAt old new task k place))) there by in
+    let by = subst (λ (o : Op). IsSomeAnd step.path_end (λ place. IsSomeAnd (task_of o) (λ task. EndsAt old new task (Some k) place))) same named in
+    let h = subst (λ o. IsSomeAnd o (λ place. IsSomeAnd (task_of (InitList size n)) (λ task. EndsAt old new task (Some k) place))) there by in
     let v = where_some (nat_le (size_number size) 6 && nat_lt n (2 ^ 29)) _ _ h in
-    subst (λ (o : Tree). IsRefusedFor old new (word_count o) k) (same_tree (zero_list (size_number size) n) object is) v
+    subst (λ (o : Tree). IsRefusedFor old new (word_count o) k) (same_tree (zero_list (size_number size) n) object is) (v.0, v.1)
 asked_by old new e r step (InitStructList n size) same object t x s p k is forest leads named =
     let there = step_is_there old new e r t x s p step forest leads in
-    let by = subst (λ (o : Op). IsSomeAnd step.path_end (λ place. IsSomeAnd (task_of o) (λ task. IsRefusedAt old new task k place))) same named in
-    let h = subst (λ o. IsSomeAnd o (λ place. IsSomeAnd (task_of (InitStructList n size)) (λ task. IsRefusedAt old new task k place))) there by in
+    let by = subst (λ (o : Op). IsSomeAnd step.path_end (λ place. IsSomeAnd (task_of o) (λ task. EndsAt old new task (Some k) place))) same named in
+    let h = subst (λ o. IsSomeAnd o (λ place. IsSomeAnd (task_of (InitStructList n size)) (λ task. EndsAt old new task (Some k) place))) there by in
     let v = where_some (nat_lt n (2 ^ 30) && nat_lt (n * (size.data_words + size.pointers)) (2 ^ 29)) _ _ h in
-    subst (λ (o : Tree). IsRefusedFor old new (word_count o) k) (same_tree (zero_structs n size) object is) v
+    subst (λ (o : Tree). IsRefusedFor old new (word_count o) k) (same_tree (zero_structs n size) object is) (v.0, v.1)
 asked_by old new e r step (InitText n) same object t x s p k is forest leads named =
     let there = step_is_there old new e r t x s p step forest leads in
-    let by = subst (λ (o : Op). IsSomeAnd step.path_end (λ place. IsSomeAnd (task_of o) (λ task. IsRefusedAt old new task k place))) same named in
-    let h = subst (λ o. IsSomeAnd o (λ place. IsSomeAnd (task_of (InitText n)) (λ task. IsRefusedAt old new task k place))) there by in
+    let by = subst (λ (o : Op). IsSomeAnd step.path_end (λ place. IsSomeAnd (task_of o) (λ task. EndsAt old new task (Some k) place))) same named in
+    let h = subst (λ o. IsSomeAnd o (λ place. IsSomeAnd (task_of (InitText n)) (λ task. EndsAt old new task (Some k) place))) there by in
     let v = where_some (nat_lt (n + 1) (2 ^ 29)) _ _ h in
-    subst (λ (o : Tree). IsRefusedFor old new (word_count o) k) (same_tree (zero_list 2 (n + 1)) object is) v
+    subst (λ (o : Tree). IsRefusedFor old new (word_count o) k) (same_tree (zero_list 2 (n + 1)) object is) (v.0, v.1)
 asked_by old new e r step (InitData n) same object t x s p k is forest leads named =
     let there = step_is_there old new e r t x s p step forest leads in
-    let by = subst (λ (o : Op). IsSomeAnd step.path_end (λ place. IsSomeAnd (task_of o) (λ task. IsRefusedAt old new task k place))) same named in
-    let h = subst (λ o. IsSomeAnd o (λ place. IsSomeAnd (task_of (InitData n)) (λ task. IsRefusedAt old new task k place))) there by in
+    let by = subst (λ (o : Op). IsSomeAnd step.path_end (λ place. IsSomeAnd (task_of o) (λ task. EndsAt old new task (Some k) place))) same named in
+    let h = subst (λ o. IsSomeAnd o (λ place. IsSomeAnd (task_of (InitData n)) (λ task. EndsAt old new task (Some k) place))) there by in
     let v = where_some (nat_lt n (2 ^ 29)) _ _ h in
-    subst (λ (o : Tree). IsRefusedFor old new (word_count o) k) (same_tree (zero_list 2 n) object is) v
+    subst (λ (o : Tree). IsRefusedFor old new (word_count o) k) (same_tree (zero_list 2 n) object is) (v.0, v.1)
 asked_by old new e r step (SetText bytes) same object t x s p k is forest leads named =
     let there = step_is_there old new e r t x s p step forest leads in
-    let by = subst (λ (o : Op). IsSomeAnd step.path_end (λ place. IsSomeAnd (task_of o) (λ task. IsRefusedAt old new task k place))) same named in
-    let h = subst (λ o. IsSomeAnd o (λ place. IsSomeAnd (task_of (SetText bytes)) (λ task. IsRefusedAt old new task k place))) there by in
+    let by = subst (λ (o : Op). IsSomeAnd step.path_end (λ place. IsSomeAnd (task_of o) (λ task. EndsAt old new task (Some k) place))) same named in
+    let h = subst (λ o. IsSomeAnd o (λ place. IsSomeAnd (task_of (SetText bytes)) (λ task. EndsAt old new task (Some k) place))) there by in
     let v = where_some (nat_lt (length bytes.now + 1) (2 ^ 29)) _ _ h in
-    subst (λ (o : Tree). IsRefusedFor old new (word_count o) k) (same_tree (Flat 2 (bytes.now ++ 0 ∷ [])) object is) v
+    subst (λ (o : Tree). IsRefusedFor old new (word_count o) k) (same_tree (Flat 2 (bytes.now ++ 0 ∷ [])) object is) (v.0, v.1)
 asked_by old new e r step (SetData bytes) same object t x s p k is forest leads named =
     let there = step_is_there old new e r t x s p step forest leads in
-    let by = subst (λ (o : Op). IsSomeAnd step.path_end (λ place. IsSomeAnd (task_of o) (λ task. IsRefusedAt old new task k place))) same named in
-    let h = subst (λ o. IsSomeAnd o (λ place. IsSomeAnd (task_of (SetData bytes)) (λ task. IsRefusedAt old new task k place))) there by in
+    let by = subst (λ (o : Op). IsSomeAnd step.path_end (λ place. IsSomeAnd (task_of o) (λ task. EndsAt old new task (Some k) place))) same named in
+    let h = subst (λ o. IsSomeAnd o (λ place. IsSomeAnd (task_of (SetData bytes)) (λ task. EndsAt old new task (Some k) place))) there by in
     let v = where_some (nat_lt (length bytes.now) (2 ^ 29)) _ _ h in
-    subst (λ (o : Tree). IsRefusedFor old new (word_count o) k) (same_tree (Flat 2 bytes.now) object is) v
+    subst (λ (o : Tree). IsRefusedFor old new (word_count o) k) (same_tree (Flat 2 bytes.now) object is) (v.0, v.1)
 asked_by old new e r step _ same object t x s p k is forest leads named = absurd (no_tree object is)
 
 -- and has room if its words have
@@ -151,16 +151,26 @@ fits_by old new e r step (SetData bytes) same object t x s p is forest leads fit
     (subst (λ o. IfSome o (λ place. IfSome (task_of (SetData bytes)) (λ task. FitsAt old task place))) (sym there) (if_some (nat_lt (length bytes.now) (2 ^ 29)) _ _ room))
 fits_by old new e r step _ same object t x s p is forest leads fits = absurd (no_tree object is)
 
+-- a step that isn't refused with NoSuchPlace has a place and a task
+both_some : {A B : Type 0} (o : Option A) (w : Option B) (P : A → B → Type 0) → (o ≡ None → ⊥) → (w ≡ None → ⊥) → IfSome o (λ x. IfSome w (P x)) → IsSomeAnd o (λ x. IsSomeAnd w (P x))
+both_some (Some x) (Some y) P some has h = h
+both_some (Some x) None P some has h = absurd (has refl)
+both_some None w P some has h = absurd (some refl)
+
+other_name : (n : ℕ) → Some (MessageTooLarge n) ≡ Some NoSuchPlace → ⊥
+other_name n e = cc
+
 step_truly : (old new : View) (e : Edit) (r : Option ErrorKind) → IsStep old new e r → IsRefusedTruly old new e r
 step_truly old new e r step = record {
   counted = λ is. step.counted ∙ ap (λ (o : Option ErrorKind). refusals_after o old.refusals) is;
   others = λ other. step.counted ∙ uncounted r old.refusals other;
   fits = λ object t x s p is forest leads fits k refused. no_memory k (step.fits (fits_by old new e r step e.op refl object t x s p is forest leads fits) k refused);
-  asked = λ object t x s p n is forest leads refused. elim (step.named (MessageTooLarge n) refused) [
-    | inl path ↦ absurd (let wrong = path.0 in cc)
-    | inr there ↦ number old new (length old.words) (word_count object + 1) n
-        (asked_by old new e r step e.op refl object t x s p (MessageTooLarge n) is forest leads there).0
-  ];
+  asked = λ object t x s p n is forest leads refused.
+      (let wrong : r ≡ Some NoSuchPlace → ⊥ = λ e. other_name n (sym refused ∙ e) in
+      let ends = subst (λ q. IfSome step.path_end (λ place. IfSome (task_of e.op) (λ task. EndsAt old new task q place))) refused (step.ends wrong) in
+      let there = both_some step.path_end (task_of e.op) (λ place task. EndsAt old new task (Some (MessageTooLarge n)) place) (λ none. wrong (step.missing none)) (λ none. wrong (step.out_of_range none)) ends in
+      number old new (length old.words) (word_count object + 1) n
+      (asked_by old new e r step e.op refl object t x s p (MessageTooLarge n) is forest leads there).0);
 }
 
 pub steps_truly : (old new : View) (es : List Edit) (rs : List (Option ErrorKind)) → AreSteps old new es rs → AreRefusedTruly old new es rs

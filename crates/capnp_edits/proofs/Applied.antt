@@ -45,12 +45,12 @@ use Rattle.capnp_edits.specs.declared.edit.tasks.StructChange.{StructChange}
 use Rattle.capnp_edits.specs.declared.edit.tasks.StructChange.TheVariants.{Bits, Content}
 use Rattle.capnp_edits.specs.declared.edit.path.PathEnd.TheVariants.{Pointer as AtPointer, Element as AtElement}
 use Rattle.capnp_edits.specs.Tasks.{task_of}
-use Rattle.capnp_edits.specs.Edits.{struct_changed, refusal_of, bits_of, value_of, Effect, becomes, denied, struct_with, effect_of_task, is_of_path, HasEffect, are_written, are_outside, PutsBits, EditTakes, IsApplied, refusals_after}
+use Rattle.capnp_edits.specs.Edits.{struct_changed, refusal_of, bits_of, value_of, Effect, gives, struct_with, effect_of_task, is_of_path, HasEffect, are_written, are_outside, PutsBits, EditTakes, IsApplied, refusals_after}
 use Rattle.capnp_edits.specs.Steps.{DoesThere, IsDoneAt, LeadsThere}
 use Rattle.capnp_edits.proofs.Steps.{first, same_some, struct_of}
-use Rattle.capnp_edits.proofs.Taken.{KeepsLengths, writes}
-use Rattle.capnp_edits.proofs.Ways.{DoesAt, yielded, is_allocated, is_denied, is_done, is_not_allocated, leads_nowhere, leads_to, takes}
-use Rattle.capnp_edits.proofs.Walks.{found-append, update-append}
+use Rattle.capnp_edits.proofs.Taken.{KeepsLengths, part_ends, plain_end, writes}
+use Rattle.capnp_edits.proofs.Ways.{DoesAt, becomes, denied, yielded, is_denied, is_done, is_not_allocated, leads_nowhere, leads_to, takes}
+use Rattle.capnp_edits.proofs.Walks.{found-append, leads_value, list_end, update-append}
 
 -- From S to R the task is done at a pointer, with outcome r, for each value t that the pointer
 -- means; then what an edit's task makes, if its numbers are in range.
@@ -74,11 +74,6 @@ of_memory old new n k (why, same) = of_allocation old new (length old.words) (n 
 -- the error of a refused allocation isn't NoSuchPlace
 pub of_no_place : (k : ErrorKind) → is_allocation_name k ≡ true → k ≡ NoSuchPlace → ⊥
 of_no_place k h e = absurd (let f : false ≡ true = sym (ap is_allocation_name e) ∙ h in cc)
-
--- a call that can only be refused for what a path leads to, and then changes nothing
-pub refused_there : {A : Type 0} (result : Result A ErrorKind) (old new : View) (Q : ErrorKind → Type 0) (k : ErrorKind) → IfErr result (λ k. is_of_path k ≡ true) → OnErr result (new ≡ old) → refusal_of result ≡ Some k → ((is_of_path k ≡ true) × (new ≡ old)) ⊎ Q k
-refused_there (Ok x) old new Q k named kept e = absurd (cc)
-refused_there (Err j) old new Q k named kept e = inl (subst (λ x. is_of_path x ≡ true) (same_some j k e) named, kept)
 
 -- a refusal with NoSuchPlace is one for what a path leads to
 pub of_place : {A : Type 0} (result : Result A ErrorKind) → IfErr result (λ k. k ≡ NoSuchPlace) → IfErr result (λ k. is_of_path k ≡ true)
@@ -171,12 +166,14 @@ object_made result old new place object n is made leads =
     value_made : {A : Type 0} (result : Result A ErrorKind) (old new : View) (place : PointerPlace) (object : NewObject) → MakesObject result (call_at place.segment place.word old new) (value_of object) (word_count (value_of object)) →
         OnOk result (Leads (call_at place.segment place.word old new) object) → IsDoneAt old new (AtPointer place) (Make object) (refusal_of result)
     value_made (Ok x) old new place object made leads = record {
-      done = λ t stored. (Some (value_of object), yielded (is_allocated Null (value_of object) refl refl refl), made.made t stored);
+      done = λ t stored. (Some (value_of object), yielded (is_done (value_of object) refl refl refl), made.made t stored);
       counted = ap (λ (v : View). v.refusals) made.memory.granted.0;
-      named = λ k e. absurd (cc);
       fits = λ room k e. absurd (cc);
       nowhere = λ e. absurd (cc);
-      taken = λ some. record { taken = made.memory.taken; behind = made.behind; leads = empty_leads (call_at place.segment place.word old new) object leads; memory = made.memory.granted };
+      ends = λ some. (
+          record { behind = made.behind; forms = tt; begun = new; kept = made.memory.granted; object = made.memory.taken; pads = writes new new refl (refl, λ v. refl) },
+          empty_leads (call_at place.segment place.word old new) object leads,
+      );
     }
     value_made (Err k) old new place object made leads =
         let n : ℕ = word_count (value_of object) in
@@ -184,10 +181,9 @@ object_made result old new place object n is made leads =
         record {
           done = λ t stored. (Some Null, yielded (is_not_allocated Null (value_of object) k refl (of_memory old new n k why) refl refl), made.refused t stored);
           counted = counted old new n k why;
-          named = λ j e. inr (subst (IsRefusedFor old new n) (same_some k j e) why);
           fits = λ room j e. absurd (let h = made.memory.fits room in cc);
           nowhere = λ e. absurd (of_no_place k (of_memory old new n k why) (same_some k NoSuchPlace e));
-          taken = λ some. made.only;
+          ends = λ some. (why.0, why.1, made.only);
         }
 
 -- a call that makes no object
@@ -196,10 +192,9 @@ pub pointed : (old new : View) (place : PointerPlace) (i : Option ℕ) (u : Tree
 pointed old new place i u makes puts limits lengths = record {
   done = λ t stored. (Some u, yielded (is_done u (makes t) refl refl), puts t stored);
   counted = ap (λ (v : View). v.refusals) limits;
-  named = λ k e. absurd (cc);
   fits = λ room k e. absurd (cc);
   nowhere = λ e. absurd (cc);
-  taken = λ some. writes old new limits lengths;
+  ends = λ some. writes old new limits lengths;
 }
 
 -- a call that writes a part
@@ -208,10 +203,9 @@ pub part_done : {A : Type 0} (result : Result A ErrorKind) (old new : View) (pla
 part_done result old new place part does lengths limits named kept = record {
   done = does;
   counted = none_counted result old.refusals new.refusals (ap (λ (v : View). v.refusals) limits) named;
-  named = λ k. refused_there result old new (λ j. ⊥) k named kept;
   fits = λ room k e. named_refusal result (λ j. is_of_path j ≡ true) k named e;
   nowhere = kept_nowhere result old new kept;
-  taken = λ some. writes old new limits lengths;
+  ends = λ some. part_ends old new part (refusal_of result) (AtPointer place) (plain_end result old new (writes old new limits lengths) named kept);
 }
 
 -- what is made replaces the value at its place
@@ -223,13 +217,13 @@ denied_at k denies named same = (None, yielded (is_denied k denies named refl), 
 
 -- a field that the struct has, or doesn't have
 field_there : (n : Number) (ws : List ℕ) (ts : Trees) → (bits_of n).start + (bits_of n).bits ≤ 64 * length ws → struct_changed (Bits n) (Struct ws ts) ≡ becomes (struct_with (bits_of n) (Struct ws ts))
-field_there n ws ts l = ap (λ b. cond b (becomes (struct_with (bits_of n) (Struct ws ts))) (denied NoSuchPlace)) (within ((bits_of n).start + (bits_of n).bits) (64 * length ws) l)
+field_there n ws ts l = ap (λ b. gives None (cond b (Ok (struct_with (bits_of n) (Struct ws ts))) (Err NoSuchPlace))) (within ((bits_of n).start + (bits_of n).bits) (64 * length ws) l)
   where
     within : (a b : ℕ) → a ≤ b → nat_le a b ≡ true
     within a b l = grind (arith, nat_tests)
 
 field_past : (n : Number) (ws : List ℕ) (ts : Trees) → 64 * length ws < (bits_of n).start + (bits_of n).bits → struct_changed (Bits n) (Struct ws ts) ≡ denied NoSuchPlace
-field_past n ws ts l = ap (λ b. cond b (becomes (struct_with (bits_of n) (Struct ws ts))) (denied NoSuchPlace)) (past ((bits_of n).start + (bits_of n).bits) (64 * length ws) l)
+field_past n ws ts l = ap (λ b. gives None (cond b (Ok (struct_with (bits_of n) (Struct ws ts))) (Err NoSuchPlace))) (past ((bits_of n).start + (bits_of n).bits) (64 * length ws) l)
   where
     past : (a b : ℕ) → b < a → nat_le a b ≡ false
     past a b l = grind (arith, nat_tests)
@@ -281,7 +275,7 @@ pub applied_pointer : (S R : Segments) (e : Edit) (place : PointerPlace) (task :
 applied_pointer S R e place task r is leads does t forest =
     let stored = forest_stored S t forest in
     let f = leads t stored in
-    at_pointer S R e place (effect_of_task task (PointerTo f.0)) r t f.0 (ap (λ o. made o (PointerTo f.0)) is) f.1 f.2 forest
+    at_pointer S R e place (effect_of_task task (PointerTo f.0)) r t f.0 (ap (λ o. made o (PointerTo f.0)) is) f.1 (leads_value S 0 0 t (map step_of e.path.now) place.segment place.word f.0 f.1) forest
     (does f.0 (stored_within S 0 0 t (map step_of e.path.now) place.segment place.word f.0 f.1 stored))
 
 -- an element of a list of structs is a struct
@@ -311,7 +305,7 @@ at_element S R e s n r t f ws ts is wide stored end_value forest makes (are_writ
     let placed = rw (f.segment_is, f.start_is) at written in
     let replaced = element_field_written S R f.list_segment f.list_at d q f.elements f.index ws ts g.start g.bits g.value stored f.counts is there placed in
     let same : update t (map step_of e.path.now) y ≡ update t f.front (Structs d q (put_struct f.elements f.index y)) =
-    ap (λ p. update t p y) f.path_is ∙ update-append t f.front (Element f.index ∷ []) list y f.end_value in (
+    ap (λ p. update t p y) f.path_is ∙ update-append t f.front (Element f.index ∷ []) list y (list_end f) in (
       update t f.front (Structs d q (put_struct f.elements f.index y)),
       forest_updated S R t f.front f.list_segment f.list_at list (Structs d q (put_struct f.elements f.index y)) forest f.leads replaced,
       takes e r t (leads_to (ElementOf (Struct ws ts)) (Some y) end_value (yielded (is_done y (makes ∙ field_there n ws ts within) done refl)) (sym same)),
@@ -324,7 +318,7 @@ at_element S R e s n r t f ws ts is wide stored end_value forest makes (are_outs
 -- what is at the end of a path that leads to an element
 pub element_end : (S : Segments) (e : Edit) (s : ExistingStruct) (t : Tree) (f : IsElementFound S 0 0 t (map step_of e.path.now) s) (ws : List ℕ) (ts : Trees) → struct_at f.elements f.index ≡ Struct ws ts → found t (map step_of e.path.now) ≡ Some (ElementOf (Struct ws ts))
 element_end S e s t f ws ts is =
-    ap (found t) f.path_is ∙ found-append t f.front (Element f.index ∷ []) (Structs s.size.data_words s.size.pointers f.elements) f.end_value ∙ first f.index (element_count f.elements) _ _ f.counts ∙ ap (λ x. Some (ElementOf x)) is
+    ap (found t) f.path_is ∙ found-append t f.front (Element f.index ∷ []) (Structs s.size.data_words s.size.pointers f.elements) (list_end f) ∙ first f.index (element_count f.elements) _ _ f.counts ∙ ap (λ x. Some (ElementOf x)) is
 
 -- bits of an element are written
 pub applied_bits : (S R : Segments) (e : Edit) (s : ExistingStruct) (n : Number) (r : Option ErrorKind) → task_of e.op ≡ Some (InStruct (Bits n)) → ((t : Tree) → IsStored S 0 0 t → IsElementFound S 0 0 t (map step_of e.path.now) s) → PutsBits S R s (bits_of n) r →

@@ -28,7 +28,7 @@ use Rattle.capnp_builders.proofs.FoundLists.{found_inside}
 use Rattle.capnp_edits.specs.declared.edit.tasks.Task.TheVariants.{Write}
 use Rattle.capnp_edits.specs.declared.edit.tasks.Part.TheVariants.{ListElement, TextByte, DataByte}
 use Rattle.capnp_edits.specs.Tasks.{is_number}
-use Rattle.capnp_edits.specs.Edits.{becomes, denied, struct_with, with_lowest, elements_of, data_length, text_length, if_reached, refusal_of, PutsElement, element_put, element_past, no_list, list_denied, PutsByte, byte_put, byte_past, no_bytes_there, bytes_denied}
+use Rattle.capnp_edits.specs.Edits.{gives, struct_with, with_lowest, elements_of, data_length, text_length, if_reached, refusal_of, PutsElement, element_put, element_past, no_list, list_denied, PutsByte, byte_put, byte_past, no_bytes_there, bytes_denied}
 use Rattle.capnp_edits.specs.declared.edit.tasks.Number.{Number}
 use Rattle.capnp_edits.proofs.Steps.{first, second, chosen}
 use Rattle.capnp_edits.proofs.Applied.{Does, done_at, denied_at, element_struct, element_width_stored}
@@ -103,10 +103,10 @@ text_refusal_of a t = counted_refusal (λ (b : ExistingBytes). b.length) (text_i
 
 -- the result of writing element i of the n that a search found
 reached_done : (S R : Segments) (place : PointerPlace) (t u : Tree) (i n : ℕ) (q : Result ℕ ErrorKind) → q ≡ Ok n → i < n → IsReplaced S R place.segment place.word t u → DoesAt S R place (if_reached i u q) t None
-reached_done S R place t u i n q is_n l replaced = done_at u (ap (if_reached i u) is_n ∙ first i n (becomes u) (denied NoSuchPlace) l) refl replaced
+reached_done S R place t u i n q is_n l replaced = done_at u (ap (if_reached i u) is_n ∙ ap (gives None) (first i n (Ok u) (Err NoSuchPlace) l)) refl replaced
 
 reached_past : (S : Segments) (place : PointerPlace) (t u : Tree) (i n : ℕ) (q : Result ℕ ErrorKind) → q ≡ Ok n → n ≤ i → DoesAt S S place (if_reached i u q) t (Some NoSuchPlace)
-reached_past S place t u i n q is_n l = denied_at NoSuchPlace (ap (if_reached i u) is_n ∙ second i n (becomes u) (denied NoSuchPlace) l) refl refl
+reached_past S place t u i n q is_n l = denied_at NoSuchPlace (ap (if_reached i u) is_n ∙ ap (gives None) (second i n (Ok u) (Err NoSuchPlace) l)) refl refl
 
 reached_denied : (S : Segments) (place : PointerPlace) (t u : Tree) (i : ℕ) (k : ErrorKind) (q : Result ℕ ErrorKind) → q ≡ Err k → DoesAt S S place (if_reached i u q) t (Some k)
 reached_denied S place t u i k q is_k = denied_at k (ap (if_reached i u) is_k) refl refl

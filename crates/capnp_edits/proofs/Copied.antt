@@ -1,6 +1,6 @@
 -- What a copy from another message leaves, and what it is refused for.
 use Rattle.std.proofs.Common.{◌≡◌, inl, inr, ◌⊎◌, ℕ, ◌+◌, ◌≤◌, Bool, true, false, cond, nat_eq, nat_lt, length, Option, Some, None, Result, Ok, Err, IfOk, IfErr, OnOk, OnErr, refl, sym, ap, ◌∙◌, subst, arith, IsOk}
-use Rattle.std.specs.Prelude.{MatchOption}
+use Rattle.std.specs.Prelude.{IsSomeAnd, MatchOption}
 use Rattle.std.proofs.lemmas.Bool.{cases_lt, false≢true}
 use Rattle.capnp_words.specs.Meter.{Meter}
 use Rattle.capnp_words.specs.declared.error.ErrorKind.{ErrorKind}
@@ -79,18 +79,24 @@ root_unread c k why named same t stored = (None, yielded (is_unread c k refl why
 abbrev pub FitsBehind : View → ℕ → Copying → Type 0
 FitsBehind v id c = (u : Tree) × Copies c u × (c.wanted ≡ AList → AreWords (root_of c.source).segments) × HasOwnRoom v id (word_count u)
 
+-- what is wanted of a value that is copied
+kept_of : (o : Option Tree) (P : Tree → Type 0) → IsSomeAnd o P → (x : Tree) × (o ≡ Some x) × P x
+kept_of (Some x) P h = (x, refl, h)
+kept_of None P h = absurd h
+
 can_be_copied : (v : View) (id : ℕ) (c : Copying) → FitsBehind v id c → CanBeCopiedAs c (root_of c.source) (once_at_root c.source) (length (segment v.words id)) (v.room id)
 can_be_copied v id c (u, copies, words, room) =
     let x = copies.is_read in
+    let (copied, is_wanted, is_kept) = kept_of (as_wanted c.wanted copies.value) (λ y. u ≡ kept (form_of c.canonicalize) y) copies.is_kept in
     record {
       value = copies.value;
       cost = x.cost;
       means = x.means;
       takes = x.takes;
       covers = x.covers;
-      copied = copies.copied;
-      is_wanted = copies.is_wanted;
-      fits = subst (λ t. length (segment v.words id) + word_count t ≤ v.room id) copies.is_kept room;
+      copied = copied;
+      is_wanted = is_wanted;
+      fits = subst (λ t. length (segment v.words id) + word_count t ≤ v.room id) is_kept room;
     }
 
 -- What a copy that is done leaves.
@@ -187,7 +193,7 @@ pub tried_done : {A : Type 0} (result : Result A ErrorKind) (c : Copying) (old n
     Does old.words new.words place (CopyRoot c) (refusal_of result)
 tried_done (Ok x) c old new place tried cleared =
     let (t, w, reads, is, puts) = tried.done in
-    root_copied (kept (form_of c.canonicalize) w) (record { root = tried.root; value = t; after = tried.after; is_read = reads; copied = w; is_wanted = is; is_kept = refl }) refl puts
+    root_copied (kept (form_of c.canonicalize) w) (record { root = tried.root; value = t; after = tried.after; is_read = reads; is_kept = subst (λ o. IsSomeAnd o (λ x. kept (form_of c.canonicalize) w ≡ kept (form_of c.canonicalize) x)) (sym is) refl }) refl puts
 tried_done (Err k) c old new place tried cleared =
     root_not_copied c k (something_to_copy c (call_at place.segment place.word old new) tried.after (λ o d. Says (Some k) o d) tried.root tried.copies) (elim (copy_refused_as c.wanted c.canonicalize place.segment place.word old new (root_of c.source) (once_at_root c.source) tried.after k (tried_refused k c old new place tried)) [
       | inl memory ↦ inl memory
@@ -373,15 +379,16 @@ pub copied_or_refused : (c : Copying) (u : Tree) (k : ErrorKind) → Copies c u 
 copied_or_refused c u k good (inl (inl rootless)) = rootless.0 good.root
 copied_or_refused c u k good (inl (inr (has, (m, withheld)))) =
     let x = good.is_read in
-    let n : ℕ = word_count (kept (form_of c.canonicalize) good.copied) in
+    let (copied, is_wanted, is_kept) = kept_of (as_wanted c.wanted good.value) (λ y. u ≡ kept (form_of c.canonicalize) y) good.is_kept in
+    let n : ℕ = word_count (kept (form_of c.canonicalize) copied) in
     let can : CanBeCopiedAs c (root_of c.source) (once_at_root c.source) 0 n = record {
       value = good.value;
       cost = x.cost;
       means = x.means;
       takes = x.takes;
       covers = x.covers;
-      copied = good.copied;
-      is_wanted = good.is_wanted;
+      copied = copied;
+      is_wanted = is_wanted;
       fits = omega arith;
     } in wanted_there c.wanted c (root_of c.source) (once_at_root c.source) m 0 n k refl can withheld
 copied_or_refused c u k good (inr (has, (m, refused))) = let x = good.is_read in (unreadable refused).only good.value x.cost x.means x.takes x.covers
@@ -430,8 +437,7 @@ pub root_done : {A : Type 0} (result : Result A ErrorKind) (old new : View) (pla
 root_done result old new place c copies counts taken fits = record {
   done = copies;
   counted = counts;
-  named = λ k e. inr (subst (CopiesWhole (call_at place.segment place.word old new) c) e taken);
   fits = λ room k e. named_refusal result (λ j. is_of_path j ≡ true) k (never_refused result (fits room)) e;
   nowhere = copy_nowhere (refusal_of result) (call_at place.segment place.word old new) c taken;
-  taken = λ some. taken;
+  ends = λ some. taken;
 }

@@ -1,6 +1,7 @@
 -- Content of another message's struct, copied over a struct that a pointer leads to or that is an
 -- element of a list.
-use Rattle.std.proofs.Common.{◌≡◌, ◌⊎◌, inl, inr, ℕ, zero, suc, pred, min, ◌+◌, ◌*◌, ◌<◌, List, [], ◌∷◌, length, Option, Some, None, IsSomeAnd, Result, Ok, Err, IsOk, IfOk, IfErr, OnErr, true, refl, sym, ap, ap₂, ◌∙◌, subst, arith, map}
+use Rattle.std.proofs.Common.{◌≡◌, ◌⊎◌, inl, inr, ℕ, zero, suc, pred, min, ◌+◌, ◌*◌, ◌/◌, ◌%◌, ◌^◌, ◌<◌, List, [], ◌∷◌, length, Option, Some, None, IsSomeAnd, Result, Ok, Err, IsOk, IfOk, IfErr, OnErr, true, refl, sym, ap, ap₂, ◌∙◌, subst, arith, map}
+use Rattle.std.specs.Prelude.{MatchOption}
 use Rattle.capnp_words.specs.Meter.{Meter}
 use Rattle.capnp_words.specs.declared.error.ErrorKind.{ErrorKind}
 use Rattle.capnp_words.specs.declared.error.ErrorKind.TheVariants.{NoSuchPlace}
@@ -8,7 +9,7 @@ use Rattle.capnp_arena_traits.specs.View.{View, KeepsLimits}
 use Rattle.capnp_arena_traits.specs.declared.arena.reader_arena.ReaderArena.{Ghosts}
 use Rattle.capnp_format.specs.Bytes.{words_of}
 use Rattle.capnp_format.specs.Forest.{IsForest, target}
-use Rattle.capnp_format.specs.Segments.{Target}
+use Rattle.capnp_format.specs.Segments.{Segments, Target}
 use Rattle.capnp_format.specs.Tree.{Tree, Null, Capability, Struct, Flat, Pointers, Structs, Trees, no_trees, count}
 use Rattle.capnp_format.specs.Word.{data_words, pointer_count}
 use Rattle.capnp_making.specs.Memory.{refusals_for}
@@ -44,10 +45,9 @@ use Rattle.capnp_copies.specs.Originals.{children_original}
 use Rattle.capnp_builders.specs.StructValues.{data_of}
 use Rattle.capnp_copies.proofs.Growth.{none_taken, all_taken}
 use Rattle.capnp_copies.proofs.FilledChildren.{no_child}
-use Rattle.capnp_copies.specs.Changes.{CopiesChildren}
+use Rattle.capnp_copies.specs.Changes.{CopiesChildren, CopiesFirst}
 use Rattle.capnp_words.specs.Names.{is_allocation_name}
-use Rattle.capnp_builders.specs.Content.{TakesContent, StopsAtContent, ContentFits, pointers_copied}
-use Rattle.capnp_builders.specs.Content.{up_to}
+use Rattle.capnp_builders.specs.Content.{AreCleared, ContentFits, StopsAtContent, TakesBytes, TakesContent, content_byte, fields_from, pointers_copied, up_to, with_content, with_fields}
 use Rattle.capnp_builders.specs.Places.{struct_place}
 use Rattle.capnp_builders.proofs.ContentTaken.{content_taken, content_stopped}
 use Rattle.capnp_builders.proofs.ElementContent.{element_content_taken, element_content_stopped, element_long}
@@ -64,14 +64,14 @@ use Rattle.capnp_edits.specs.Tasks.{task_of}
 use Rattle.capnp_edits.specs.Paths.{found, IsElementFound, ElementOf, step_of}
 use Rattle.capnp_edits.specs.Sources.{root_of, once_at_root, Sections, LeadsToStruct, no_struct, a_struct, ContentRead, HasNothingToCopy, IsNextUnreadable}
 use Rattle.capnp_edits.specs.Edits.{struct_changed, refusal_of, bits_of, fills, is_of_path, PutsBits, are_written, are_outside, refusals_after, IsApplied, EditTakes}
-use Rattle.capnp_edits.specs.Steps.{DoesThere, FillsAt, Filling, IsStructAt, FitsAt, IsRefusedAt, AllocatesAt, IsDoneAt}
+use Rattle.capnp_edits.specs.Steps.{DoesThere, FillsAt, IsStructAt, FitsAt, EndsAt, IsDoneAt, result_of}
 use Rattle.capnp_edits.specs.declared.edit.path.PathEnd.TheVariants.{Pointer as AtPointer, Element as AtElement}
-use Rattle.capnp_edits.proofs.Taken.{bits_lengths, writes}
-use Rattle.capnp_edits.proofs.Applied.{made, of_allocation, of_no_place, of_place, named_refusal, none_counted, kept_nowhere, refused_there, never_refused, denied_at, no_struct as is_none, written_at, element_struct, element_end, applied_bits}
+use Rattle.capnp_edits.proofs.Taken.{bits_end, bits_ended, bits_lengths, plain_end, writes}
+use Rattle.capnp_edits.proofs.Applied.{made, of_allocation, of_no_place, of_place, named_refusal, none_counted, kept_nowhere, never_refused, denied_at, no_struct as is_none, written_at, element_struct, element_end, applied_bits}
 use Rattle.capnp_edits.proofs.Copied.{IsRootReader, where_read}
 use Rattle.capnp_edits.proofs.CopiedStruct.{struct_at as source_at, struct_there_given, whole_words, whole_bits}
 use Rattle.capnp_edits.proofs.Steps.{same_some, first, struct_of}
-use Rattle.capnp_edits.proofs.Walks.{update-append}
+use Rattle.capnp_edits.proofs.Walks.{list_end, update-append}
 use Rattle.capnp_edits.proofs.Ways.{DoesAt, yielded, is_filled, is_half_filled, is_not_filled, leads_to, takes}
 use Rattle.capnp_objects.proofs.Followed.{entered_leads}
 
@@ -103,8 +103,67 @@ source_struct g source from v m n opened long read =
       bits = all.1;
     }
 
+-- From old to new the content of a source's struct is copied over the struct at a place, with
+-- outcome r; then the same, or there is no struct to copy.
+record FillingAt (old new : View) (place : StructPlace) (source : Source) (r : Option ErrorKind) : Type 0 where
+  root : HasRoot source
+  from : Sections
+  leads : LeadsToStruct (root_of source) (once_at_root source) from
+  bytes : List ℕ
+  are_words : words_of bytes ≡ from.words
+  taken : View
+  limits : KeepsLimits old taken
+  takes : TakesBytes old.words taken.words place (64 * length from.words) bytes
+  after : Meter
+  copies : let call = pointers_copied place taken new from.limiter after in MatchOption r (CopiesChildren from.first (min place.pointers from.pointers) call) (CopiesFirst from.first (min place.pointers from.pointers) call)
+  few : TakesAtMost (result_of r) (children_original from.first (min place.pointers from.pointers)) (pointers_copied place old new from.limiter after)
+
+abbrev pub FillsPlace : View → View → StructPlace → Source → Option ErrorKind → Type 0
+FillsPlace old new place source r = (IsSomeAnd r (HasNothingToCopy source AStruct) × (new ≡ old)) ⊎ FillingAt old new place source r
+
+-- the data section of a struct has whole bytes
+content_bytes : (S : Segments) (e : ExistingStruct) (bits : ℕ) (bytes : List ℕ) → with_content S (struct_place e) bits bytes ≡ with_fields S e.segment (fields_from (64 * e.start) 8 (content_byte bits bytes)) (8 * e.size.data_words)
+content_bytes S e bits bytes =
+    let f : ℕ → ℕ = content_byte bits bytes in
+    let d : ℕ = e.size.data_words in
+    let s : ℕ = e.segment in
+    ap (λ k. with_fields (with_fields S s (fields_from (8 * (8 * e.start)) 8 f) (64 * d / 8)) s (fields_from (8 * (8 * e.start) + 64 * d / 8 * 8) 1 (λ j. f (64 * d / 8) / 2 ^ j % 2)) k) (let z : 64 * d % 8 ≡ 0 = omega arith in z)
+    ∙ ap₂ (λ b k. with_fields S s (fields_from b 8 f) k) (let z : 8 * (8 * e.start) ≡ 64 * e.start = omega arith in z) (let z : 64 * d / 8 ≡ 8 * d = omega arith in z)
+
+pub fills_struct : {old new : View} {e : ExistingStruct} {source : Source} {r : Option ErrorKind} → FillsPlace old new (struct_place e) source r → FillsAt old new e source r
+fills_struct (inl h) = inl h
+fills_struct {old = old} {e = e} (inr f) = inr (record {
+  root = f.root;
+  from = f.from;
+  leads = f.leads;
+  bytes = f.bytes;
+  are_words = f.are_words;
+  taken = f.taken;
+  limits = f.limits;
+  takes = subst (λ S. AreCleared S f.taken.words e.segment (e.start + e.size.data_words) e.size.pointers) (content_bytes old.words e (64 * length f.from.words) f.bytes) f.takes;
+  after = f.after;
+  copies = f.copies;
+  few = f.few;
+})
+
+struct_filled : {old new : View} {e : ExistingStruct} {source : Source} {r : Option ErrorKind} → FillsAt old new e source r → FillsPlace old new (struct_place e) source r
+struct_filled (inl h) = inl h
+struct_filled {old = old} {e = e} (inr f) = inr (record {
+  root = f.root;
+  from = f.from;
+  leads = f.leads;
+  bytes = f.bytes;
+  are_words = f.are_words;
+  taken = f.taken;
+  limits = f.limits;
+  takes = subst (λ S. AreCleared S f.taken.words e.segment (e.start + e.size.data_words) e.size.pointers) (sym (content_bytes old.words e (64 * length f.from.words) f.bytes)) f.takes;
+  after = f.after;
+  copies = f.copies;
+  few = f.few;
+})
+
 -- what was read of the source's struct: the values ts of the first pointers
-abbrev content_read : {old new : View} {place : StructPlace} {source : Source} {r : Option ErrorKind} (f : Filling old new place source r) (m : Meter) (ts : Trees) → ReadsAll plain f.from.first f.from.limiter m ts → ContentRead source
+abbrev content_read : {old new : View} {place : StructPlace} {source : Source} {r : Option ErrorKind} (f : FillingAt old new place source r) (m : Meter) (ts : Trees) → ReadsAll plain f.from.first f.from.limiter m ts → ContentRead source
 content_read f m ts are_read = record {
   root = f.root;
   from = f.from;
@@ -116,14 +175,14 @@ content_read f m ts are_read = record {
   are_words = f.are_words;
 }
 
-abbrev all_read : {old new : View} {place : StructPlace} {source : Source} → Filling old new place source None → ContentRead source
+abbrev all_read : {old new : View} {place : StructPlace} {source : Source} → FillingAt old new place source None → ContentRead source
 all_read f = content_read f f.after f.copies.children f.copies.are_read
 
-abbrev first_read : {old new : View} {place : StructPlace} {source : Source} {k : ErrorKind} → Filling old new place source (Some k) → ContentRead source
+abbrev first_read : {old new : View} {place : StructPlace} {source : Source} {k : ErrorKind} → FillingAt old new place source (Some k) → ContentRead source
 first_read f = content_read f f.copies.between f.copies.first f.copies.are_read
 
 -- why not all pointers are copied
-why_stopped : {old new : View} {place : StructPlace} {source : Source} {k : ErrorKind} (f : Filling old new place source (Some k)) → (is_allocation_name k ≡ true) ⊎ IsNextUnreadable source (first_read f) k
+why_stopped : {old new : View} {place : StructPlace} {source : Source} {k : ErrorKind} (f : FillingAt old new place source (Some k)) → (is_allocation_name k ≡ true) ⊎ IsNextUnreadable source (first_read f) k
 why_stopped {old} {new} {place} {source} {k} f = elim f.copies.why [
   | inl h ↦ inl (of_allocation f.taken new (length new.words) (h.0.0 + 1) k h.0.2.0.0)
   | inr h ↦ inr (f.after, h)
@@ -132,7 +191,7 @@ why_stopped {old} {new} {place} {source} {k} f = elim f.copies.why [
 -- what copying over a struct leaves
 pub fill_done : {A B : Type 0} (result : Result B ErrorKind) (g : Ghosts A) (source : Source) (from : PointerReader A g) (v : StructReader A g) (m n m' : Meter) (old new : View) (place : StructPlace) → IsRootReader g source from m →
     length v.content.now ≡ bytes_for v.bits → WhereRead g (record { from = from; expected = struct_expected; default = None }) (λ p. IsStructRead g p m n v) → IfOk result (λ x. TakesContent g v place (pointers_copied place old new n m')) →
-    IfErr result (StopsAtContent g v place (pointers_copied place old new n m')) → TakesAtMost result (children_original (pointers_read g v) (min place.pointers v.pointer_count)) (pointers_copied place old new n m') → FillsAt old new place source (refusal_of result)
+    IfErr result (StopsAtContent g v place (pointers_copied place old new n m')) → TakesAtMost result (children_original (pointers_read g v) (min place.pointers v.pointer_count)) (pointers_copied place old new n m') → FillsPlace old new place source (refusal_of result)
 fill_done (Ok x) g source from v m n m' old new place opened long read (mid, taking, copies) refused few =
     let s = source_struct g source from v m n opened long read in
     inr (record { root = opened.0; from = sections_read g v n; leads = s.leads; bytes = v.content.now; are_words = refl; taken = mid; limits = taking.limits; takes = rw (← s.bits) taking.cleared; after = m'; copies = copies; few = few })
@@ -146,7 +205,7 @@ fill_counted (Ok x) g v n m' old new place (mid, taking, copies) refused = ap (�
 fill_counted (Err k) g v n m' old new place copied (mid, taking, stops) = stops.memory.2 ∙ ap (refusals_for k) (ap (λ (y : View). y.refusals) taking.limits)
 
 -- a refusal with NoSuchPlace changes nothing
-pub fill_nowhere : (r : Option ErrorKind) (old new : View) (place : StructPlace) (source : Source) → FillsAt old new place source r → r ≡ Some NoSuchPlace → new ≡ old
+pub fill_nowhere : (r : Option ErrorKind) (old new : View) (place : StructPlace) (source : Source) → FillsPlace old new place source r → r ≡ Some NoSuchPlace → new ≡ old
 fill_nowhere None old new place source filled n = absurd (cc)
 fill_nowhere (Some k) old new place source (inl h) n = h.1
 fill_nowhere (Some k) old new place source (inr f) n =
@@ -158,7 +217,7 @@ fill_nowhere (Some k) old new place source (inr f) n =
 
 -- copying content over a struct without words changes nothing
 pub fill_nothing : {A : Type 0} (g : Ghosts A) (source : Source) (from : PointerReader A g) (v : StructReader A g) (m n : Meter) (old : View) (e : ExistingStruct) → IsRootReader g source from m → length v.content.now ≡ bytes_for v.bits →
-    WhereRead g (record { from = from; expected = struct_expected; default = None }) (λ p. IsStructRead g p m n v) → e.size.data_words + e.size.pointers ≡ 0 → FillsAt old old (struct_place e) source None
+    WhereRead g (record { from = from; expected = struct_expected; default = None }) (λ p. IsStructRead g p m n v) → e.size.data_words + e.size.pointers ≡ 0 → FillsPlace old old (struct_place e) source None
 fill_nothing g source from v m n old e opened long read empty =
     let s = source_struct g source from v m n opened long read in
     let no_data : e.size.data_words ≡ 0 = omega (arith, empty) in
@@ -193,26 +252,25 @@ pub bits_changed : {A : Type 0} (result : Result A ErrorKind) (old new : View) (
 bits_changed result old new e n puts limits named kept = record {
   done = bits_put old new e n (refusal_of result) puts;
   counted = none_counted result old.refusals new.refusals (ap (λ (v : View). v.refusals) limits) (of_place result named);
-  named = λ k. refused_there result old new (λ j. ⊥) k (of_place result named) kept;
   fits = λ room k e. named_refusal result (λ j. is_of_path j ≡ true) k (of_place result named) e;
   nowhere = kept_nowhere result old new kept;
-  taken = λ some. (e, refl, writes old new limits (bits_lengths old.words new.words e (bits_of n) (refusal_of result) puts));
+  ends = λ some. bits_end old new n (refusal_of result) (AtElement e)
+      (plain_end result old new (writes old new limits (bits_lengths old.words new.words e (bits_of n) (refusal_of result) puts)) (of_place result named) kept);
 }
 
-pub content_changed : {A : Type 0} (result : Result A ErrorKind) (old new : View) (e : ExistingStruct) (source : Source) → FillsAt old new (struct_place e) source (refusal_of result) → new.refusals ≡ refusals_after (refusal_of result) old.refusals →
+pub content_changed : {A : Type 0} (result : Result A ErrorKind) (old new : View) (e : ExistingStruct) (source : Source) → FillsAt old new e source (refusal_of result) → new.refusals ≡ refusals_after (refusal_of result) old.refusals →
     (FitsAt old (InStruct (Content source)) (AtElement e) → IsOk result) → IsDoneAt old new (AtElement e) (InStruct (Content source)) (refusal_of result)
 content_changed result old new e source filled counted fits = record {
   done = filled;
   counted = counted;
-  named = λ k is. inr (e, refl, subst (FillsAt old new (struct_place e) source) is filled);
   fits = λ room k is. named_refusal result (λ j. is_of_path j ≡ true) k (never_refused result (fits room)) is;
-  nowhere = fill_nowhere (refusal_of result) old new (struct_place e) source filled;
-  taken = λ some. (e, refl, filled);
+  nowhere = fill_nowhere (refusal_of result) old new (struct_place e) source (struct_filled filled);
+  ends = λ some. (e, refl, filled);
 }
 
 -- at a struct that a pointer leads to
 filled_struct : (old new : View) (place : PointerPlace) (source : Source) (r : Option ErrorKind) (ws : List ℕ) (ts : Trees) → IsStored old.words place.segment place.word (Struct ws ts) →
-    FillsAt old new (struct_place (struct_of (target old.words place.segment place.word).segment (target old.words place.segment place.word).start (length ws) (count ts))) source r →
+    FillsPlace old new (struct_place (struct_of (target old.words place.segment place.word).segment (target old.words place.segment place.word).start (length ws) (count ts))) source r →
     DoesAt old.words new.words place (struct_changed (Content source) (Struct ws ts)) (Struct ws ts) r
 filled_struct old new place source r ws ts stored (inl (unread, same)) = filled_none r unread
   where
@@ -230,11 +288,11 @@ filled_struct old new place source (Some k) ws ts stored (inr f) =
     let u : Tree = Struct vs (up_to (count ts) f.copies.first) in
     (Some u, yielded (is_half_filled source (length ws) (count ts) k u refl (first_read f, (vs, holds, refl), f.copies.fewer, why_stopped f) refl refl), replaced)
 
-filled_value : (old new : View) (place : PointerPlace) (source : Source) (r : Option ErrorKind) (e : ExistingStruct) (t : Tree) → Some e ≡ struct_in (target old.words place.segment place.word) t → FillsAt old new (struct_place e) source r → IsStored old.words place.segment place.word t →
+filled_value : (old new : View) (place : PointerPlace) (source : Source) (r : Option ErrorKind) (e : ExistingStruct) (t : Tree) → Some e ≡ struct_in (target old.words place.segment place.word) t → FillsAt old new e source r → IsStored old.words place.segment place.word t →
     DoesAt old.words new.words place (struct_changed (Content source) t) t r
 filled_value old new place source r e (Struct ws ts) is_e h stored =
     let a = target old.words place.segment place.word in
-    filled_struct old new place source r ws ts stored (subst (λ x. FillsAt old new (struct_place x) source r) (same_some e (struct_of a.segment a.start (length ws) (count ts)) is_e) h)
+    filled_struct old new place source r ws ts stored (subst (λ x. FillsPlace old new (struct_place x) source r) (same_some e (struct_of a.segment a.start (length ws) (count ts)) is_e) (struct_filled h))
 filled_value old new place source r e Null is_e h stored = absurd (cc)
 filled_value old new place source r e (Capability j) is_e h stored = absurd (cc)
 filled_value old new place source r e (Flat size ns) is_e h stored = absurd (cc)
@@ -247,18 +305,14 @@ changed_at : (old new : View) (place : PointerPlace) (change : StructChange) (r 
 changed_at old new place (Bits n) r e t is_e h stored = written_at old.words new.words place n r e t is_e (puts_bits old new e n r h) stored
 changed_at old new place (Content source) r e t is_e h stored = filled_value old new place source r e t is_e h stored
 
--- what a change of that struct is refused for, what it takes, and the room for it
-refused_at : (old new : View) (place : PointerPlace) (change : StructChange) (k : ErrorKind) (e : ExistingStruct) → IsStructAt old.words (AtPointer place) e → IsRefusedAt old new (InStruct change) k (AtElement e) → IsRefusedAt old new (InStruct change) k (AtPointer place)
-refused_at old new place (Bits n) k e there h = h
-refused_at old new place (Content source) k e there (x, is, h) = (e, there, subst (λ y. FillsAt old new (struct_place y) source (Some k)) is h)
-
+-- how a change of that struct ends, and the room for it
 fits_at : (old : View) (place : PointerPlace) (change : StructChange) (e : ExistingStruct) → IsStructAt old.words (AtPointer place) e → FitsAt old (InStruct change) (AtPointer place) → FitsAt old (InStruct change) (AtElement e)
 fits_at old place (Bits n) e there room = tt
 fits_at old place (Content source) e there room = λ x is. subst (λ (y : ExistingStruct). ContentFitsBehind old y.segment source y.size.pointers) (sym is) (room e there)
 
-takes_at : (old new : View) (place : PointerPlace) (change : StructChange) (r : Option ErrorKind) (e : ExistingStruct) → IsStructAt old.words (AtPointer place) e → AllocatesAt old new (InStruct change) r (AtElement e) → AllocatesAt old new (InStruct change) r (AtPointer place)
-takes_at old new place (Bits n) r e there (x, is, h) = (e, there, h)
-takes_at old new place (Content source) r e there (x, is, h) = (e, there, subst (λ (y : ExistingStruct). FillsAt old new (struct_place y) source r) is h)
+ends_at : (old new : View) (place : PointerPlace) (change : StructChange) (r : Option ErrorKind) (e : ExistingStruct) → IsStructAt old.words (AtPointer place) e → EndsAt old new (InStruct change) r (AtElement e) → EndsAt old new (InStruct change) r (AtPointer place)
+ends_at old new place (Bits n) r e there h = bits_end old new n r (AtPointer place) (bits_ended old new n r (AtElement e) h)
+ends_at old new place (Content source) r e there (x, is, h) = (e, there, subst (λ (y : ExistingStruct). FillsAt old new y source r) is h)
 
 found_struct : (a : Target) (t : Tree) (e : ExistingStruct) → Some e ≡ struct_in a t → (ws : List ℕ) × (ts : Trees) × (t ≡ Struct ws ts) × (e ≡ struct_of a.segment a.start (length ws) (count ts))
 found_struct a (Struct ws ts) e is_e = (ws, ts, refl, same_some e (struct_of a.segment a.start (length ws) (count ts)) is_e)
@@ -275,10 +329,9 @@ change_done old new place change r e found changed =
     record {
       done = λ t stored. changed_at old new place change r e t (found t stored) changed.done stored;
       counted = changed.counted;
-      named = λ k is. elim (changed.named k is) [ inl h ↦ inl h | inr h ↦ inr (refused_at old new place change k e there h) ];
       fits = λ room. changed.fits (fits_at old place change e there room);
       nowhere = changed.nowhere;
-      taken = λ some. takes_at old new place change r e there (changed.taken some);
+      ends = λ some. ends_at old new place change r e there (changed.ends some);
     }
 
 -- a change of a struct that isn't there
@@ -286,15 +339,14 @@ pub nothing_changed : (v : View) (place : PointerPlace) (change : StructChange) 
 nothing_changed v place change none = record {
   done = λ t stored. denied_at NoSuchPlace (is_none (target v.words place.segment place.word) change t (none t stored)) refl refl;
   counted = refl;
-  named = λ k e. inl (ap is_of_path (sym (same_some NoSuchPlace k e)), refl);
   fits = λ room k e. ap is_of_path (sym (same_some NoSuchPlace k e));
   nowhere = λ e. refl;
-  taken = λ some. absurd (some refl);
+  ends = λ some. absurd (some refl);
 }
 
 -- at an element of a list
 filled_element : (old new : View) (e : Edit) (s : ExistingStruct) (source : Source) (r : Option ErrorKind) → task_of e.op ≡ Some (InStruct (Content source)) → ((t : Tree) → IsStored old.words 0 0 t → IsElementFound old.words 0 0 t (map step_of e.path.now) s) →
-    FillsAt old new (struct_place s) source r → IsApplied (EditTakes e r) old.words new.words
+    FillsAt old new s source r → IsApplied (EditTakes e r) old.words new.words
 filled_element old new e s source r is leads h t forest =
     let S = old.words in
     let stored = forest_stored S t forest in
@@ -307,11 +359,11 @@ filled_element old new e s source r is leads h t forest =
     let long = element_long S f.list_segment f.list_at d q f.elements f.index ws ts there f.counts at in
     let end_value = element_end S e s t f ws ts at in
     let makes : made (task_of e.op) (ElementOf (Struct ws ts)) ≡ fills source d q = ap (λ o. made o (ElementOf (Struct ws ts))) is ∙ ap₂ (fills source) long.0 long.1 in
-    done_there r f ws ts at there end_value makes h
+    done_there r f ws ts at there end_value makes (struct_filled h)
   where
     done_there : (z : Option ErrorKind) (f : IsElementFound old.words 0 0 t (map step_of e.path.now) s) (ws : List ℕ) (ts : Trees) → struct_at f.elements f.index ≡ Struct ws ts →
         IsStored old.words f.list_segment f.list_at (Structs s.size.data_words s.size.pointers f.elements) → found t (map step_of e.path.now) ≡ Some (ElementOf (Struct ws ts)) →
-        made (task_of e.op) (ElementOf (Struct ws ts)) ≡ fills source s.size.data_words s.size.pointers → FillsAt old new (struct_place s) source z → (u : Tree) × IsForest new.words u × EditTakes e z t u
+        made (task_of e.op) (ElementOf (Struct ws ts)) ≡ fills source s.size.data_words s.size.pointers → FillsPlace old new (struct_place s) source z → (u : Tree) × IsForest new.words u × EditTakes e z t u
     done_there None f ws ts at there end_value makes (inr h) =
         let d : ℕ = s.size.data_words in
         let q : ℕ = s.size.pointers in
@@ -321,7 +373,7 @@ filled_element old new e s source r is leads h t forest =
         (ap₂ (λ (u b : ℕ). struct_place (record { segment = u; start = b; size = s.size })) f.segment_is f.start_is) h.takes h.copies.made (omega (arith, h.copies.counts)) in
         let y : Tree = Struct vs (up_to q h.copies.children) in
         let path : update t (map step_of e.path.now) y ≡ update t f.front (Structs d q (put_struct f.elements f.index y)) =
-        ap (λ p. update t p y) f.path_is ∙ update-append t f.front (Element f.index ∷ []) list y f.end_value in (
+        ap (λ p. update t p y) f.path_is ∙ update-append t f.front (Element f.index ∷ []) list y (list_end f) in (
           update t f.front (Structs d q (put_struct f.elements f.index y)),
           forest_updated old.words new.words t f.front f.list_segment f.list_at list (Structs d q (put_struct f.elements f.index y)) forest f.leads replaced,
           takes e None t (leads_to (ElementOf (Struct ws ts)) (Some y) end_value
@@ -337,7 +389,7 @@ filled_element old new e s source r is leads h t forest =
         (ap₂ (λ (u b : ℕ). struct_place (record { segment = u; start = b; size = s.size })) f.segment_is f.start_is) h.takes h.copies.made (omega (arith, h.copies.fewer)) h.copies.cleared in
         let y : Tree = Struct vs (up_to q h.copies.first) in
         let path : update t (map step_of e.path.now) y ≡ update t f.front (Structs d q (put_struct f.elements f.index y)) =
-        ap (λ p. update t p y) f.path_is ∙ update-append t f.front (Element f.index ∷ []) list y f.end_value in (
+        ap (λ p. update t p y) f.path_is ∙ update-append t f.front (Element f.index ∷ []) list y (list_end f) in (
           update t f.front (Structs d q (put_struct f.elements f.index y)),
           forest_updated old.words new.words t f.front f.list_segment f.list_at list (Structs d q (put_struct f.elements f.index y)) forest f.leads replaced,
           takes e (Some k) t (leads_to (ElementOf (Struct ws ts)) (Some y) end_value

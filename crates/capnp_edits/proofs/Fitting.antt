@@ -1,5 +1,5 @@
 -- Edits whose words fit in the first segment.
-use Rattle.std.proofs.Common.{◌≡◌, ◌⊎◌, inl, inr, ℕ, ◌+◌, ◌<◌, ◌≤◌, true, [], ◌∷◌, length, Option, Some, None, IfSome, IsSomeAnd, refl, sym, ap, ◌∙◌, subst, arith, map, All, List}
+use Rattle.std.proofs.Common.{◌≡◌, ◌⊎◌, inl, inr, ℕ, ◌+◌, ◌<◌, ◌≤◌, true, [], ◌∷◌, length, Option, Some, None, IfSome, refl, sym, ap, ◌∙◌, subst, arith, map, All, List}
 use Rattle.std.proofs.lemmas.Bool.{cases_eq}
 use Rattle.std.specs.List.{sum_by}
 use Rattle.std.proofs.lemmas.List.Sums.{sum_by-cons}
@@ -29,9 +29,13 @@ use Rattle.capnp_edits.specs.declared.edit.tasks.StructChange.TheVariants.{Bits,
 use Rattle.capnp_edits.specs.Edits.{is_of_path, value_of}
 use Rattle.capnp_edits.specs.Fitting.{words_asked, AsksNoMore, AreInFirst, IsNoneOfMemory}
 use Rattle.capnp_edits.specs.Paths.{IsPathFound, step_of}
-use Rattle.capnp_edits.specs.Steps.{AreSteps, FitsAt, IsRefusedAt, IsStep, AllocatesAt, TakesForObject}
+use Rattle.capnp_edits.specs.Steps.{AreSteps, FitsAt, IsStep, EndsAt}
 use Rattle.capnp_edits.specs.Tasks.{task_of}
+use Rattle.capnp_contents.specs.declared.existing.ExistingStruct.{ExistingStruct}
+use Rattle.capnp_edits.specs.declared.edit.tasks.Part.{Part}
 use Rattle.capnp_edits.proofs.Applied.{of_memory}
+use Rattle.capnp_edits.proofs.Steps.{same_some}
+use Rattle.capnp_edits.proofs.Taken.{EndsPlainly, bits_ended}
 
 -- What edits leave in the first segment if they request n words in all: no more are allocated, all
 -- words are there, it has as much room as before, and the allocator has refused nothing.
@@ -67,6 +71,15 @@ kept_first old new n first x = record {
   refusals = ap (λ (v : View). v.refusals) x.limits;
 }
 
+-- then only words are written
+then_kept : (old mid new : View) (n : ℕ) → StaysInFirst old mid n → OnlyWrites mid new → StaysInFirst old new n
+then_kept old mid new n x only = record {
+  words = omega (arith, only.words 0, x.words);
+  first = λ k other. only.words k ∙ x.first k other;
+  room = ap (λ (v : View). v.room 0) only.limits ∙ x.room;
+  refusals = ap (λ (v : View). v.refusals) only.limits ∙ x.refusals;
+}
+
 -- the words of an object are allocated
 made_first : (old new : View) (place : PointerPlace) (n : ℕ) → 0 < length old.words → AreInFirst old.words → place.segment ≡ 0 → length (segment old.words 0) + n ≤ old.room 0 → TakesWords old new place.segment n → KeepsMemory old new → StaysInFirst old new n
 made_first old new place n there first here fits takes keeps =
@@ -82,49 +95,60 @@ made_first old new place n there first here fits takes keeps =
 -- What is known of an edit at its place.
 record Fact (old new : View) (there : PathEnd) (task : Task) (r : Option ErrorKind) : Type 0 where
   fits : FitsAt old task there → (k : ErrorKind) → r ≡ Some k → is_of_path k ≡ true
-  named : (k : ErrorKind) → r ≡ Some k → ((is_of_path k ≡ true) × (new ≡ old)) ⊎ IsRefusedAt old new task k there
-  taken : (r ≡ Some NoSuchPlace → ⊥) → AllocatesAt old new task r there
+  nowhere : r ≡ Some NoSuchPlace → new ≡ old
+  ends : (r ≡ Some NoSuchPlace → ⊥) → EndsAt old new task r there
 
--- an edit is refused for its path, and changes nothing; or it is done
-by_outcome : (old new : View) (n : ℕ) (r : Option ErrorKind) → AreInFirst old.words → IsNoneOfMemory r → ((k : ErrorKind) → r ≡ Some k → new ≡ old) → (r ≡ None → StaysInFirst old new n) → IsNoneOfMemory r × StaysInFirst old new n
-by_outcome old new n None first none kept done = (none, done refl)
-by_outcome old new n (Some k) first none kept done = (none, same_first old new n first (kept k refl))
+-- an error is NoSuchPlace, or it isn't
+is_missing : (k : ErrorKind) → (k ≡ NoSuchPlace) ⊎ (k ≡ NoSuchPlace → ⊥)
+is_missing NoSuchPlace = inl refl
+is_missing k = inr (λ e. cc)
 
-not_missing : (r : Option ErrorKind) → r ≡ None → r ≡ Some NoSuchPlace → ⊥
-not_missing r e f = absurd (cc)
-
-unrefused : (old new : View) (k : ErrorKind) → ((is_of_path k ≡ true) × (new ≡ old)) ⊎ ⊥ → new ≡ old
-unrefused old new k (inl h) = h.1
-unrefused old new k (inr none) = absurd none
+another : (k : ErrorKind) → (k ≡ NoSuchPlace → ⊥) → Some k ≡ Some NoSuchPlace → ⊥
+another k other e = other (same_some k NoSuchPlace e)
 
 -- a task that takes no words leaves all words in the first segment
-without_words : (old new : View) (n : ℕ) (r : Option ErrorKind) → AreInFirst old.words → IsNoneOfMemory r → ((k : ErrorKind) → r ≡ Some k → new ≡ old) → ((r ≡ Some NoSuchPlace → ⊥) → OnlyWrites old new) → IsNoneOfMemory r × StaysInFirst old new n
-without_words old new n r first none kept taken = by_outcome old new n r first none kept (λ e. kept_first old new n first (taken (not_missing r e)))
+without_words : (old new : View) (n : ℕ) (r : Option ErrorKind) → AreInFirst old.words → IsNoneOfMemory r → (r ≡ Some NoSuchPlace → new ≡ old) → ((r ≡ Some NoSuchPlace → ⊥) → EndsPlainly old new r) → IsNoneOfMemory r × StaysInFirst old new n
+without_words old new n None first none nowhere ends = (none, kept_first old new n first (ends (λ e. cc)))
+without_words old new n (Some k) first none nowhere ends = (none, same_first old new n first (elim (is_missing k) [ inl is ↦ nowhere (ap Some is) | inr other ↦ (ends (another k other)).1 ]))
 
 with_object : (old new : View) (place : PointerPlace) (object : NewObject) (r : Option ErrorKind) → 0 < length old.words → AreInFirst old.words → place.segment ≡ 0 → length (segment old.words 0) + word_count (value_of object) ≤ old.room 0 → Fact old new (AtPointer place) (Make object) r →
     IsNoneOfMemory r × StaysInFirst old new (word_count (value_of object))
-with_object old new place object r there first here fits f =
-    let none = f.fits (inl (subst (λ s. length (segment old.words s) + word_count (value_of object) ≤ old.room s) (sym here) fits)) in
-    by_outcome old new (word_count (value_of object)) r first none
-    (λ k e. elim (f.named k e) [ inl h ↦ h.1 | inr why ↦ absurd (not_of_path k (of_memory old new (word_count (value_of object)) k why) (none k e)) ])
-    (λ e. (let x : TakesForObject old new place object = subst (λ o. AllocatesAt old new (Make object) o (AtPointer place)) e (f.taken (not_missing r e)) in
-    made_first old new place (word_count (value_of object)) there first here fits x.taken x.memory))
+with_object old new place object None there first here fits f =
+    let (made, leads) = f.ends (λ e. cc) in
+    let n : ℕ = word_count (value_of object) in
+    let begun : StaysInFirst old made.begun n = made_first old made.begun place n there first here fits made.object made.kept in
+    (f.fits (inl (subst (λ s. length (segment old.words s) + n ≤ old.room s) (sym here) fits)), then_kept old made.begun new n begun made.pads)
+with_object old new place object (Some k) there first here fits f =
+    let n : ℕ = word_count (value_of object) in
+    let none : IsNoneOfMemory (Some k) = f.fits (inl (subst (λ s. length (segment old.words s) + n ≤ old.room s) (sym here) fits)) in
+    (none, same_first old new n first (elim (is_missing k) [
+      | inl is ↦ f.nowhere (ap Some is)
+      | inr other ↦ (let (why, same, only) = f.ends (another k other) in absurd (not_of_path k (of_memory old new n k (why, same)) (none k refl)))
+    ]))
+
+-- such tasks
+made_plainly : (old new : View) (object : NewObject) (r : Option ErrorKind) (e : ExistingStruct) → EndsAt old new (Make object) r (AtElement e) → EndsPlainly old new r
+made_plainly old new object None e h = h
+made_plainly old new object (Some k) e h = h
+
+pointed_plainly : (old new : View) (i : Option ℕ) (r : Option ErrorKind) (there : PathEnd) → EndsAt old new (Point i) r there → EndsPlainly old new r
+pointed_plainly old new i None there h = h
+pointed_plainly old new i (Some k) there h = h
+
+part_plainly : (old new : View) (part : Part) (r : Option ErrorKind) (there : PathEnd) → EndsAt old new (Write part) r there → EndsPlainly old new r
+part_plainly old new part None there h = h
+part_plainly old new part (Some k) there h = h
 
 at_place : (old new : View) (there : PathEnd) (task : Task) (r : Option ErrorKind) → 0 < length old.words → AreInFirst old.words → ((place : PointerPlace) → there ≡ AtPointer place → place.segment ≡ 0) → AsksNoMore (Some task) →
     length (segment old.words 0) + words_asked (Some task) ≤ old.room 0 → Fact old new there task r → IsNoneOfMemory r × StaysInFirst old new (words_asked (Some task))
 at_place old new (AtPointer place) (Make object) r there first here asks fits f = with_object old new place object r there first (here place refl) fits f
-at_place old new (AtElement e) (Make object) r there first here asks fits f = without_words old new _ r first (f.fits tt) (λ k is. unrefused old new k (f.named k is)) (λ some. element_none r (f.taken some))
-  where
-    element_none : (o : Option ErrorKind) → AllocatesAt old new (Make object) o (AtElement e) → OnlyWrites old new
-    element_none None x = x
-    element_none (Some k) x = x
-at_place old new (AtPointer place) (Point i) r there first here asks fits f = without_words old new _ r first (f.fits tt) (λ k is. unrefused old new k (f.named k is)) f.taken
-at_place old new (AtElement e) (Point i) r there first here asks fits f = without_words old new _ r first (f.fits tt) (λ k is. unrefused old new k (f.named k is)) f.taken
-at_place old new (AtPointer place) (Write part) r there first here asks fits f = without_words old new _ r first (f.fits tt) (λ k is. unrefused old new k (f.named k is)) f.taken
-at_place old new (AtElement e) (Write part) r there first here asks fits f = without_words old new _ r first (f.fits tt) (λ k is. unrefused old new k (f.named k is)) f.taken
-at_place old new (AtPointer place) (InStruct (Bits n)) r there first here asks fits f =
-    without_words old new _ r first (f.fits tt) (λ k is. unrefused old new k (f.named k is)) (λ some. (f.taken some).2)
-at_place old new (AtElement e) (InStruct (Bits n)) r there first here asks fits f = without_words old new _ r first (f.fits tt) (λ k is. unrefused old new k (f.named k is)) (λ some. (f.taken some).2)
+at_place old new (AtElement e) (Make object) r there first here asks fits f = without_words old new _ r first (f.fits tt) f.nowhere (λ some. made_plainly old new object r e (f.ends some))
+at_place old new (AtPointer place) (Point i) r there first here asks fits f = without_words old new _ r first (f.fits tt) f.nowhere (λ some. pointed_plainly old new i r (AtPointer place) (f.ends some))
+at_place old new (AtElement e) (Point i) r there first here asks fits f = without_words old new _ r first (f.fits tt) f.nowhere (λ some. pointed_plainly old new i r (AtElement e) (f.ends some))
+at_place old new (AtPointer place) (Write part) r there first here asks fits f = without_words old new _ r first (f.fits tt) f.nowhere (λ some. part_plainly old new part r (AtPointer place) (f.ends some))
+at_place old new (AtElement e) (Write part) r there first here asks fits f = without_words old new _ r first (f.fits tt) f.nowhere (λ some. part_plainly old new part r (AtElement e) (f.ends some))
+at_place old new (AtPointer place) (InStruct (Bits n)) r there first here asks fits f = without_words old new _ r first (f.fits tt) f.nowhere (λ some. bits_ended old new n r (AtPointer place) (f.ends some))
+at_place old new (AtElement e) (InStruct (Bits n)) r there first here asks fits f = without_words old new _ r first (f.fits tt) f.nowhere (λ some. bits_ended old new n r (AtElement e) (f.ends some))
 at_place old new there (InStruct (Content source)) r some first here asks fits f = absurd asks
 at_place old new there (Search sought default) r some first here asks fits f = absurd asks
 at_place old new there (CopyRoot c) r some first here asks fits f = absurd asks
@@ -150,11 +174,8 @@ one_fits old new edit r t forest first asks fits s = by_task s.path_end (task_of
         let leads : IsPathFound old.words (record { segment = 0; word = 0 }) t (map step_of edit.path.now) (Some there) = subst (IsPathFound old.words (record { segment = 0; word = 0 }) t (map step_of edit.path.now)) found (s.leads t stored) in
         at_place old new there task r (some_segment old.words root) first (λ place e. place_first place (subst (λ x. IsPathFound old.words (record { segment = 0; word = 0 }) t (map step_of edit.path.now) (Some x)) e leads)) asks fits (record {
           fits = λ room. s.fits (subst (λ x. IfSome x (λ y. IfSome (task_of edit.op) (λ z. FitsAt old z y))) (sym found) (subst (λ x. IfSome x (λ z. FitsAt old z there)) (sym is) room));
-          named = λ k e. elim (s.named k e) [
-            | inl h ↦ inl h
-            | inr h ↦ inr (subst (λ x. IsSomeAnd x (λ z. IsRefusedAt old new z k there)) is (subst (λ x. IsSomeAnd x (λ y. IsSomeAnd (task_of edit.op) (λ z. IsRefusedAt old new z k y))) found h))
-          ];
-          taken = λ some. subst (λ x. IfSome x (λ z. AllocatesAt old new z r there)) is (subst (λ x. IfSome x (λ y. IfSome (task_of edit.op) (λ z. AllocatesAt old new z r y))) found (s.taken some));
+          nowhere = s.nowhere;
+          ends = λ some. subst (λ x. IfSome x (λ z. EndsAt old new z r there)) is (subst (λ x. IfSome x (λ y. IfSome (task_of edit.op) (λ z. EndsAt old new z r y))) found (s.ends some));
         })
       where
         some_segment : (S : Segments) → 0 < length (segment S 0) → 0 < length S

@@ -27,9 +27,9 @@ use Rattle.capnp_making.proofs.Placed.{count-nulls}
 use Rattle.capnp_making.specs.Stored.{IsStored, IsReplaced}
 use Rattle.capnp_making.proofs.Filling.{unchanged as stays}
 use Rattle.capnp_making.proofs.FillingMade.{null_stored}
-use Rattle.capnp_making.proofs.Memory.{keeps_itself}
 use Rattle.capnp_making.proofs.Replaced.{replaced_again}
 use Rattle.capnp_objects.specs.Faults.{HasFault}
+use Rattle.capnp_objects.specs.Follow.{◌>=>◌}
 use Rattle.capnp_objects.specs.Wanted.{of_default}
 use Rattle.capnp_objects.proofs.Faultless.{no_fault}
 use Rattle.capnp_copies.specs.Rooms.{CanBeCopied}
@@ -56,15 +56,15 @@ use Rattle.capnp_edits.specs.declared.edit.tasks.NewObject.TheVariants.{ZeroStru
 use Rattle.capnp_edits.specs.declared.edit.tasks.Sought.{Sought}
 use Rattle.capnp_edits.specs.declared.edit.tasks.Sought.TheVariants.{Struct as ForStruct, List as ForList, StructList as ForStructs, Text as ForText, Data as ForData}
 use Rattle.capnp_edits.specs.Tasks.{is_small_default, is_in_range}
-use Rattle.capnp_edits.specs.Edits.{refusal_of, Effect, allocates, becomes, elements_of, data_length, text_length, effect_of_search, looked_for, with_default, default_for, is_of_path, HasEffect}
+use Rattle.capnp_edits.specs.Edits.{refusal_of, Effect, gives, elements_of, data_length, text_length, looked_for, defaults, default_for, is_of_path, HasEffect}
 use Rattle.capnp_builders.proofs.FoundLists.{GivesFoundList}
 use Rattle.capnp_builders.proofs.FoundBytes.{GivesFoundBytes}
-use Rattle.capnp_edits.specs.Steps.{FitsAt, IsOpeningRefused, IsRefusedAt, FindsSought, OpeningHasRoom, LeadsThere, IsDoneAt, result_of}
-use Rattle.capnp_edits.proofs.Applied.{Does, never_refused, of_allocation, of_no_place, denied_at}
+use Rattle.capnp_edits.specs.Steps.{FitsAt, FindsSought, KeepsHeld, OpeningHasRoom, LeadsThere, IsDoneAt, result_of}
+use Rattle.capnp_edits.proofs.Applied.{Does, never_refused, of_allocation, of_no_place}
 use Rattle.capnp_edits.proofs.Contents.{list_refusal_of, data_refusal_of, text_refusal_of}
 use Rattle.capnp_edits.proofs.Names.{unfound_of_path, elsewhere, struct_elsewhere, structs_elsewhere, list_elsewhere, data_elsewhere, text_elsewhere, fault_elsewhere, unfound_name, list_unfound, data_unfound, text_unfound}
 use Rattle.capnp_edits.proofs.Steps.{same_some}
-use Rattle.capnp_edits.proofs.Ways.{DoesAt, Way, yielded, default_dropped, default_put, is_allocated, is_denied, is_done, is_not_allocated}
+use Rattle.capnp_edits.proofs.Ways.{DoesAt, Way, becomes, yielded, default_denied, default_dropped, default_ignored, default_put, is_denied, is_done, is_not_allocated}
 use Rattle.capnp_contents.proofs.Listed.{same_tree}
 use Rattle.capnp_builders.proofs.Openings.{same_error}
 
@@ -96,8 +96,8 @@ DoesSo P made_of result = (c : CallAt) (t : Tree) → IsStored c.old.words c.seg
 
 -- what is opened replaces the value that was there, or that stays
 opened_so : {B : Type 0} (result : Result B ErrorKind) (size : StructSize) (Given : Segments → ℕ → ℕ → Tree → B → Type 0) (c : CallAt) (t : Tree) (q : Result Tree ErrorKind) → Opens size Given c t q result →
-    DoesAs c.old.words c.new.words (place_in c) (effect_of_search (allocates t) q) t (refusal_of result)
-opened_so (Ok b) size Given c t (Ok u) h = record { left = Some u; yields = is_allocated t u refl refl refl; stands = h.replaced }
+    DoesAs c.old.words c.new.words (place_in c) (gives (Some t) q) t (refusal_of result)
+opened_so (Ok b) size Given c t (Ok u) h = record { left = Some u; yields = is_done u refl refl refl; stands = h.replaced }
 opened_so (Err k) size Given c t (Ok u) h =
     record { left = Some t; yields = is_not_allocated t u k refl (growth_named c.old c.new (widened_words u) (direct_pointers t) k h.full) refl refl; stands = h.stands }
 opened_so result size Given c t (Err k) h = record { left = None; yields = is_denied k refl (ap refusal_of h.0) refl; stands = same_words h.1 }
@@ -107,7 +107,7 @@ struct_so result size c t stored h = opened_so result size IsStructGiven c t (st
 
 -- a value that is only looked for stays
 kept_so : {A B : Type 0} (q : Result A ErrorKind) (result : Result B ErrorKind) (c : CallAt) (t : Tree) → IsStored c.old.words c.segment c.at t → refusal_of result ≡ refusal_of q → c.new ≡ c.old →
-    DoesAs c.old.words c.new.words (place_in c) (effect_of_search (λ x. becomes t) q) t (refusal_of result)
+    DoesAs c.old.words c.new.words (place_in c) (gives None (q >=> (λ x. Ok t))) t (refusal_of result)
 kept_so (Ok x) result c t stored e same =
     record { left = Some t; yields = is_done t refl e refl; stands = subst (λ Q. IsReplaced c.old.words Q c.segment c.at t t) (sym (same_words same)) (stays c.old.words c.segment c.at t stored) }
 kept_so (Err k) result c t stored e same = record { left = None; yields = is_denied k refl e refl; stands = same_words same }
@@ -155,8 +155,8 @@ text_so : (result : Result ExistingBytes ErrorKind) → DoesSo (GivesFoundBytes 
 text_so result c t stored h = kept_so (text_length t) result c t stored (text_named result c t h) h.1
 
 -- what is done with the value that is there
-as_stands : (S R : Segments) (place : PointerPlace) (m : Effect) (t : Tree) (r : Option ErrorKind) → DoesAs S R place m t r → DoesAt S R place m t r
-as_stands S R place m t r d = (d.left, yielded d.yields, d.stands)
+as_stands : (S R : Segments) (place : PointerPlace) (made_of : Tree → Effect) (t : Tree) (r : Option ErrorKind) → DoesAs S R place (made_of t) t r → DoesAt S R place (defaults ignored made_of t) t r
+as_stands S R place made_of t r d = (d.left, default_ignored made_of t r d.left (yielded d.yields), d.stands)
 
 -- what is done with a default's value, which first replaces null
 replaced_if : (S M R : Segments) (place : PointerPlace) (d : Tree) (left : Option Tree) → IsReplaced S M place.segment place.word Null d → MatchOption left (R ≡ M) (IsReplaced M R place.segment place.word d) → IsReplaced S R place.segment place.word Null (unwrap_or left d)
@@ -170,9 +170,9 @@ dropped_name bytes id at old new k (inr (lacks, large)) =
     inl (of_allocation old new (length new.words) (x.0 + 1) k x.1.0)
 
 null_does : {B : Type 0} (result : Result B ErrorKind) (used : DefaultUse) (made_of : Tree → Effect) (P : CallAt → Tree → Type 0) (c : CallAt) → IsStored c.old.words c.segment c.at Null → DoesSo P made_of result → WithDefault used c Null P result →
-    DoesAt c.old.words c.new.words (place_in c) (with_default used made_of Null) Null (refusal_of result)
-null_does result ignored made_of P c stored does h = as_stands c.old.words c.new.words (place_in c) (made_of Null) Null (refusal_of result) (does c Null stored h)
-null_does result (is_denied_by k) made_of P c stored does h = denied_at k refl (ap refusal_of h.0) (same_words h.1)
+    DoesAt c.old.words c.new.words (place_in c) (defaults used made_of Null) Null (refusal_of result)
+null_does result ignored made_of P c stored does h = as_stands c.old.words c.new.words (place_in c) made_of Null (refusal_of result) (does c Null stored h)
+null_does result (is_denied_by k) made_of P c stored does h = (None, default_denied k made_of Null (refusal_of result) (ap refusal_of h.0), same_words h.1)
 null_does result (is_copied_from bytes) made_of P c stored does (inl on) =
     let then = does (record c { old = on.0 }) on.1 on.2.replaced.stored on.3 in (
       Some (unwrap_or then.left on.1),
@@ -190,14 +190,14 @@ null_or_ignored of_null (Some d) Null = inl refl
 null_or_ignored of_null (Some d) t = inr refl
 
 with_does : {B : Type 0} (result : Result B ErrorKind) (of_null : DefaultUse) (default : Option (Bor (List ℕ))) (made_of : Tree → Effect) (P : CallAt → Tree → Type 0) (c : CallAt) (t : Tree) → IsStored c.old.words c.segment c.at t → DoesSo P made_of result →
-    WithDefault (default_use of_null default t) c t P result → DoesAt c.old.words c.new.words (place_in c) (with_default (default_use of_null default t) made_of t) t (refusal_of result)
+    WithDefault (default_use of_null default t) c t P result → DoesAt c.old.words c.new.words (place_in c) (defaults (default_use of_null default t) made_of t) t (refusal_of result)
 with_does result of_null default made_of P c t stored does h = elim (null_or_ignored of_null default t) [
   | inl null ↦
-      subst (λ x. DoesAt c.old.words c.new.words (place_in c) (with_default (default_use of_null default x) made_of x) x (refusal_of result)) (sym null)
+      subst (λ x. DoesAt c.old.words c.new.words (place_in c) (defaults (default_use of_null default x) made_of x) x (refusal_of result)) (sym null)
       (null_does result (default_use of_null default Null) made_of P c (subst (IsStored c.old.words c.segment c.at) null stored) does (subst (λ x. WithDefault (default_use of_null default x) c x P result) null h))
   | inr plain ↦
-      subst (λ u. DoesAt c.old.words c.new.words (place_in c) (with_default u made_of t) t (refusal_of result)) (sym plain)
-      (as_stands c.old.words c.new.words (place_in c) (made_of t) t (refusal_of result) (does c t stored (subst (λ u. WithDefault u c t P result) plain h)))
+      subst (λ u. DoesAt c.old.words c.new.words (place_in c) (defaults u made_of t) t (refusal_of result)) (sym plain)
+      (as_stands c.old.words c.new.words (place_in c) made_of t (refusal_of result) (does c t stored (subst (λ u. WithDefault u c t P result) plain h)))
 ]
 
 -- Why a value isn't opened or found: it is refused with its error, which isn't NoSuchPlace, and
@@ -257,6 +257,22 @@ data_why k c t stored h = inl (elsewhere (data_in (target c.old.words c.segment 
 text_why : (k : ErrorKind) → WhySo ForText (GivesFoundBytes text_in (Err k)) k
 text_why k c t stored h = inl (elsewhere (text_in (target c.old.words c.segment c.at) t) k (text_elsewhere (target c.old.words c.segment c.at) t) (bytes_err c.segment (text_in (target c.old.words c.segment c.at) t) k h.0), h.1)
 
+-- What is looked for isn't opened, which is refused with k: nothing is changed; or memory is refused
+-- for what becomes of a struct or a list of structs.
+abbrev IsOpeningRefused : Sought → CallAt → ErrorKind → Type 0
+IsOpeningRefused (ForStruct size) c k = (c.new ≡ c.old) ⊎ RefusesToBecome (IsStored c.old.words c.segment c.at) (struct_opened size) c.old c.new k
+IsOpeningRefused (ForStructs size) c k = (c.new ≡ c.old) ⊎ RefusesToBecome (IsStored c.old.words c.segment c.at) (list_widened size.data_words size.pointers) c.old c.new k
+IsOpeningRefused sought c k = c.new ≡ c.old
+
+kept_held : (sought : Sought) (c : CallAt) (k : ErrorKind) → IsOpeningRefused sought c k → KeepsHeld sought c.old c.new k
+kept_held (ForStruct size) c k (inl same) = inl same
+kept_held (ForStruct size) c k (inr h) = inr (h.name, h.memory)
+kept_held (ForStructs size) c k (inl same) = inl same
+kept_held (ForStructs size) c k (inr h) = inr (h.name, h.memory)
+kept_held (ForList size) c k same = same
+kept_held ForText c k same = same
+kept_held ForData c k same = same
+
 -- Why a search is refused: for the value that is there; for the value of its default, which is
 -- copied first; or because the copy of the default is refused.
 data Why (sought : Sought) (c : CallAt) (default : Option (Bor (List ℕ))) (k : ErrorKind) : Type 0 where
@@ -309,23 +325,6 @@ why_refused B k of_null default sought P c there plain why found set = elim (cas
   | inr none ↦ (let stored = null_stored c.old.words c.segment c.at there (omega (arith, none)) in why_null B k of_null default sought P c stored plain why (found Null stored))
 ]
 
--- a search is refused
-abbrev IsSearchRefused : Sought → CallAt → Option (Bor (List ℕ)) → ErrorKind → Type 0
-IsSearchRefused sought c default k = IsRefusedAt c.old c.new (Search sought default) k (AtPointer (place_in c))
-
-refused_so : (sought : Sought) (c : CallAt) (default : Option (Bor (List ℕ))) (k : ErrorKind) → Why sought c default k → IsSearchRefused sought c default k
-refused_so sought c None k (as_found h) = h
-refused_so sought c (Some d) k (as_found h) = inl (c.old, keeps_itself c.old, h)
-refused_so sought c None k (as_default d mid is keeps h) = absurd (cc)
-refused_so sought c (Some e) k (as_default d mid is keeps h) = inl (mid, keeps, plainly sought (record c { old = mid }) k h)
-refused_so sought c None k (as_copy d is spent named) = absurd (cc)
-refused_so sought c (Some e) k (as_copy d is spent named) =
-    let same : d ≡ e = same_default d e (sym is) in
-    inr (spent, subst (λ (x : Bor (List ℕ)). RefusesDefault x.now c k) same named)
-  where
-    same_default : (d e : Bor (List ℕ)) → Some d ≡ Some e → d ≡ e
-    same_default d e h = cc
-
 -- a search is refused with NoSuchPlace only if nothing is changed
 grown_nowhere : (sought : Sought) (c : CallAt) (k : ErrorKind) → IsGrowthRefused sought c k → k ≡ NoSuchPlace → ⊥
 grown_nowhere (ForStruct size) c k h e = (let same = sym h.name ∙ ap is_allocation_name e in cc)
@@ -365,7 +364,7 @@ structs_found : (result : Result ListPlace ErrorKind) (size : StructSize) (c : C
 structs_found result size c Null h = (ap refusal_of h.0, h.1)
 structs_found result size c t h = opens_so result size IsListGiven c t (list_widened size.data_words size.pointers t) h
 
-yields_so : {A : Type 0} (q : Result A ErrorKind) (r : Option ErrorKind) (t : Tree) → r ≡ refusal_of q → (o : Option Tree) × HasEffect (effect_of_search (λ x. becomes t) q) r o
+yields_so : {A : Type 0} (q : Result A ErrorKind) (r : Option ErrorKind) (t : Tree) → r ≡ refusal_of q → (o : Option Tree) × HasEffect (gives None (q >=> (λ x. Ok t))) r o
 yields_so (Ok x) r t e = (Some t, yielded (is_done t refl e refl))
 yields_so (Err k) r t e = (None, yielded (is_denied k refl e refl))
 
@@ -424,25 +423,27 @@ opens_at : (c : CallAt) (sought : Sought) (default : Option (Bor (List ℕ))) (r
     size.data_words + size.pointers ≡ 0 → LeadsThere c (ZeroStruct size)
 opens_at c sought default r opens size is null plain done none = subst (λ s. OpensThere c s default r) is opens null plain none done
 
+-- a place that doesn't store null isn't null
+not_null : (c : CallAt) → IsPlace c.old.words c.segment c.at → (IsStored c.old.words c.segment c.at Null → ⊥) → word_at c.old.words c.segment c.at ≡ 0 → ⊥
+not_null c there none null = none (null_stored c.old.words c.segment c.at there null)
+
 -- what a call leaves, refused or not
 search_done : {B : Type 0} (result : Result B ErrorKind) (sought : Sought) (default : Option (Bor (List ℕ))) (c : CallAt) → Does c.old.words c.new.words (place_in c) (Search sought default) (refusal_of result) → OnOk result (KeepsMemory c.old c.new) →
-    IfErr result (SpendsMemory c.old c.new) → IfErr result (Why sought c default) → (FitsAt c.old (Search sought default) (AtPointer (place_in c)) → IfErr result (λ k. is_of_path k ≡ true)) →
+    IfErr result (SpendsMemory c.old c.new) → IfErr result (Why sought c default) → ((IsStored c.old.words c.segment c.at Null → ⊥) → IfErr result (IsOpeningRefused sought c)) → (FitsAt c.old (Search sought default) (AtPointer (place_in c)) → IfErr result (λ k. is_of_path k ≡ true)) →
     ((t : Tree) → IsStored c.old.words c.segment c.at t → FindsThere sought default (refusal_of result) c t) → OpensThere c sought default (refusal_of result) → IsDoneAt c.old c.new (AtPointer (place_in c)) (Search sought default) (refusal_of result)
-search_done (Ok x) sought default c does granted memory why fits finds opens = record {
+search_done (Ok x) sought default c does granted memory why held fits finds opens = record {
   done = does;
   counted = ap (λ (v : View). v.refusals) granted.0;
-  named = λ k e. absurd (cc);
   fits = λ room k e. absurd (cc);
   nowhere = λ e. absurd (cc);
-  taken = λ some. (opens_at c sought default None opens, finds);
+  ends = λ some. (finds, λ set. tt, opens_at c sought default None opens);
 }
-search_done (Err k) sought default c does granted memory why fits finds opens = record {
+search_done (Err k) sought default c does granted memory why held fits finds opens = record {
   done = does;
   counted = memory.2;
-  named = λ j e. inr (subst (IsSearchRefused sought c default) (same_some k j e) (refused_so sought c default k why));
   fits = λ room j e. subst (λ x. is_of_path x ≡ true) (same_some k j e) (fits room);
   nowhere = λ e. never_nowhere sought c default k why (same_some k NoSuchPlace e);
-  taken = λ some. (opens_at c sought default (Some k) opens, finds);
+  ends = λ some. (finds, λ set. kept_held sought c k (held set), opens_at c sought default (Some k) opens);
 }
 
 -- If a default's value has no fault and fits, the search is refused only for what is found.
@@ -524,7 +525,7 @@ pub struct_sought : (result : Result StructPlace ErrorKind) (size : StructSize) 
 struct_sought result size default c there found set granted memory fits empty =
     search_done result (ForStruct size) default c
     (λ t stored. with_does result ignored default (looked_for (ForStruct size)) (OpensStruct IsStructGiven size result) c t stored (struct_so result size) (found t stored)) granted memory
-    (why_if result ignored default (ForStruct size) (OpensStruct IsStructGiven size) c there (λ b. tt) (struct_why size) found (λ some. set_struct result c size (set some))) (λ room. never_refused result (fits (struct_room size default c.old (place_in c) room)))
+    (why_if result ignored default (ForStruct size) (OpensStruct IsStructGiven size) c there (λ b. tt) (struct_why size) found (λ some. set_struct result c size (set some))) (λ none. set_struct result c size (set (not_null c there none))) (λ room. never_refused result (fits (struct_room size default c.old (place_in c) room)))
     (λ t stored. by_outcome result (object_default default t) (OpensStruct IsStructGiven size result) (FindsSought (ForStruct size) (refusal_of result)) c t (λ d u. opens_so result size IsStructGiven d u (struct_opened size u)) (found t stored))
     (opens_there result c size default empty)
 
@@ -535,7 +536,7 @@ pub structs_sought : (result : Result ListPlace ErrorKind) (size : StructSize) (
 structs_sought result size default c there found set granted memory fits =
     search_done result (ForStructs size) default c
     (λ t stored. with_does result ignored default (looked_for (ForStructs size)) (OpensList size result) c t stored (structs_so result size) (found t stored)) granted memory
-    (why_if result ignored default (ForStructs size) (OpensList size) c there (λ b. tt) (structs_why size) found (λ some. set_structs result c size (set some))) (λ room. never_refused result (fits room))
+    (why_if result ignored default (ForStructs size) (OpensList size) c there (λ b. tt) (structs_why size) found (λ some. set_structs result c size (set some))) (λ none. set_structs result c size (set (not_null c there none))) (λ room. never_refused result (fits room))
     (λ t stored. by_outcome result (object_default default t) (OpensList size result) (FindsSought (ForStructs size) (refusal_of result)) c t (structs_found result size) (found t stored)) tt
 
 pub list_sought : (result : Result ListPlace ErrorKind) (size : ElementSize) (default : Option (Bor (List ℕ))) (c : CallAt) → IsPlace c.old.words c.segment c.at →
@@ -544,7 +545,7 @@ pub list_sought : (result : Result ListPlace ErrorKind) (size : ElementSize) (de
 list_sought result size default c there found set granted memory =
     search_done result (ForList size) default c
     (λ t stored. with_does result ignored default (looked_for (ForList size)) (GivesFoundList size result) c t stored (list_so result size) (found t stored)) granted memory
-    (why_if result ignored default (ForList size) (GivesFoundList size) c there (λ b. tt) (list_why size) found (λ some. set_same result (ForList size) c (set some).0))
+    (why_if result ignored default (ForList size) (GivesFoundList size) c there (λ b. tt) (list_why size) found (λ some. set_same result (ForList size) c (set some).0)) (λ none. set_same result (ForList size) c (set (not_null c there none)).0)
     (λ room. found_fits result ignored default (GivesFoundList size) c there (λ b. tt) (list_name size) found (λ some. (set some).1) room)
     (λ t stored. by_outcome result (object_default default t) (GivesFoundList size result) (FindsSought (ForList size) (refusal_of result)) c t (list_found result size) (found t stored)) tt
 
@@ -555,7 +556,7 @@ data_sought result default c there found set granted memory =
     let of_null : DefaultUse = is_denied_by ExistingPointerIsNotAList in
     search_done result ForData default c
     (λ t stored. with_does result of_null default (looked_for ForData) (GivesFoundBytes data_in result) c t stored (data_so result) (found t stored)) granted memory
-    (why_if result of_null default ForData (GivesFoundBytes data_in) c there (λ b. tt) data_why found (λ some. set_same result ForData c (set some).0))
+    (why_if result of_null default ForData (GivesFoundBytes data_in) c there (λ b. tt) data_why found (λ some. set_same result ForData c (set some).0)) (λ none. set_same result ForData c (set (not_null c there none)).0)
     (λ room. found_fits result of_null default (GivesFoundBytes data_in) c there (λ b. refl) data_name found (λ some. (set some).1) room)
     (λ t stored. by_outcome result (blob_default default t) (GivesFoundBytes data_in result) (FindsSought ForData (refusal_of result)) c t (data_found result) (found t stored)) tt
 
@@ -566,7 +567,7 @@ text_sought result default c there found set granted memory =
     let of_null : DefaultUse = is_denied_by ExistingPointerIsNotAList in
     search_done result ForText default c
     (λ t stored. with_does result of_null default (looked_for ForText) (GivesFoundBytes text_in result) c t stored (text_so result) (found t stored)) granted memory
-    (why_if result of_null default ForText (GivesFoundBytes text_in) c there (λ b. tt) text_why found (λ some. set_same result ForText c (set some).0))
+    (why_if result of_null default ForText (GivesFoundBytes text_in) c there (λ b. tt) text_why found (λ some. set_same result ForText c (set some).0)) (λ none. set_same result ForText c (set (not_null c there none)).0)
     (λ room. found_fits result of_null default (GivesFoundBytes text_in) c there (λ b. refl) text_name found (λ some. (set some).1) room)
     (λ t stored. by_outcome result (blob_default default t) (GivesFoundBytes text_in result) (FindsSought ForText (refusal_of result)) c t (text_found result) (found t stored)) tt
 

@@ -1,5 +1,5 @@
 -- Steps: one edit at its place, and edits one after another.
-use Rattle.std.proofs.Common.{◌≡◌, ◌⊎◌, inl, inr, ℕ, ◌+◌, ◌*◌, ◌<◌, ◌≤◌, true, ◌&&◌, cond, List, [], ◌∷◌, ◌++◌, length, take, get_or, set, Option, Some, None, IfSome, IsSomeAnd, refl, sym, ap, ap₂, ◌∙◌, subst, arith, lt-ltb, map}
+use Rattle.std.proofs.Common.{◌≡◌, ◌⊎◌, inl, inr, ℕ, ◌+◌, ◌*◌, ◌<◌, ◌≤◌, true, List, [], ◌∷◌, ◌++◌, length, take, get_or, set, Option, Some, None, IfSome, refl, sym, ap, ap₂, ◌∙◌, subst, arith, map}
 use Rattle.std.proofs.lemmas.List.{append-nil, take_more, take_more_set}
 use Rattle.capnp_words.specs.declared.error.ErrorKind.{ErrorKind}
 use Rattle.capnp_words.specs.declared.error.ErrorKind.TheVariants.{NoSuchPlace}
@@ -18,17 +18,17 @@ use Rattle.capnp_edits.specs.declared.edit.path.PathEnd.{PathEnd}
 use Rattle.capnp_edits.specs.declared.edit.path.PathEnd.TheVariants.{Pointer as AtPointer, Element as AtElement}
 use Rattle.capnp_edits.specs.Edits.{is_of_path, IsApplied, refusals_after, EditTakes}
 use Rattle.capnp_edits.specs.Paths.{PointerTo, ElementOf, found, IsPathFound, step_of}
-use Rattle.capnp_edits.specs.Steps.{DoesThere, FitsAt, IsRefusedAt, AllocatesAt, IsStep, AreSteps}
+use Rattle.capnp_edits.specs.Steps.{DoesThere, FitsAt, EndsAt, IsStep, AreSteps}
 use Rattle.capnp_edits.specs.Tasks.{task_of}
 use Rattle.capnp_edits.proofs.Applied.{no_forest}
 use Rattle.capnp_edits.proofs.Steps.{first, same_some}
-use Rattle.capnp_edits.proofs.Walks.{found-append}
+use Rattle.capnp_edits.proofs.Walks.{found-append, leads_value, list_end}
 
 -- an edit at its place
 pub step_at : (old new : View) (edit : Edit) (there : PathEnd) (task : Task) (r : Option ErrorKind) → task_of edit.op ≡ Some task → 1 ≤ length (segment old.words 0) → IsApplied (EditTakes edit r) old.words new.words → new.refusals ≡ refusals_after r old.refusals →
-    ((t : Tree) → IsStored old.words 0 0 t → IsPathFound old.words (record { segment = 0; word = 0 }) t (map step_of edit.path.now) (Some there)) → ((k : ErrorKind) → r ≡ Some k → ((is_of_path k ≡ true) × (new ≡ old)) ⊎ IsRefusedAt old new task k there) →
-    (FitsAt old task there → (k : ErrorKind) → r ≡ Some k → is_of_path k ≡ true) → (r ≡ Some NoSuchPlace → new ≡ old) → ((r ≡ Some NoSuchPlace → ⊥) → AllocatesAt old new task r there) → DoesThere old new there task r → IsStep old new edit r
-step_at old new edit there task r is root applied counted leads named fits nowhere taken done = record {
+    ((t : Tree) → IsStored old.words 0 0 t → IsPathFound old.words (record { segment = 0; word = 0 }) t (map step_of edit.path.now) (Some there)) →
+    (FitsAt old task there → (k : ErrorKind) → r ≡ Some k → is_of_path k ≡ true) → (r ≡ Some NoSuchPlace → new ≡ old) → ((r ≡ Some NoSuchPlace → ⊥) → EndsAt old new task r there) → DoesThere old new there task r → IsStep old new edit r
+step_at old new edit there task r is root applied counted leads fits nowhere ends done = record {
   applied = applied;
   counted = counted;
   path_end = Some there;
@@ -38,9 +38,8 @@ step_at old new edit there task r is root applied counted leads named fits nowhe
   out_of_range = λ e. absurd (no_task task (sym is ∙ e));
   rootless = λ e. absurd (omega (arith, root, e));
   nowhere = nowhere;
-  named = λ k e. elim (named k e) [ inl h ↦ inl h | inr h ↦ inr (subst (λ o. IsSomeAnd o (λ x. IsRefusedAt old new x k there)) (sym is) h) ];
   fits = λ room. fits (subst (λ o. IfSome o (λ x. FitsAt old x there)) is room);
-  taken = λ some. subst (λ o. IfSome o (λ x. AllocatesAt old new x r there)) (sym is) (taken some);
+  ends = λ some. subst (λ o. IfSome o (λ x. EndsAt old new x r there)) (sym is) (ends some);
 }
   where
     no_task : (task : Task) → Some task ≡ None → ⊥
@@ -62,9 +61,8 @@ nothing_done v edit place applied leads done = record {
   out_of_range = λ e. refl;
   rootless = λ e. refl;
   nowhere = λ e. refl;
-  named = λ k e. inl (of_missing k e, refl);
   fits = λ room k e. of_missing k e;
-  taken = λ other. absurd (other refl);
+  ends = λ other. absurd (other refl);
 }
 
 -- the root of a stored value has a word
@@ -101,17 +99,6 @@ same_end S s p (Structs d w es) (Element i ∷ Child j ∷ path) u q x v r y h k
     same_end S (target S s p).segment ((target S s p).start + 1 + i * (d + w) + d + j) (next (struct_at es i) (Child j)) path u q x v r y h.2 k.2
 same_end S s p t (step ∷ path) u q x v r y h k = absurd h
 
--- a path that leads to a pointer
-leads_value : (S : Segments) (s p : ℕ) (t : Tree) (path : List Step) (u q : ℕ) (x : Tree) → PathLeads S (node s p t) path (node u q x) → found t path ≡ Some (PointerTo x)
-leads_value S s p t [] u q x h = ap (λ y. Some (PointerTo y)) (same_node h).2
-leads_value S s p (Struct ws ts) (Child i ∷ path) u q x h =
-    first i (count ts) _ _ h.0 ∙ leads_value S (target S s p).segment ((target S s p).start + length ws + i) (tree_at ts i) path u q x h.1
-leads_value S s p (Pointers ts) (Element i ∷ path) u q x h = first i (count ts) _ _ h.0 ∙ leads_value S (target S s p).segment ((target S s p).start + i) (tree_at ts i) path u q x h.1
-leads_value S s p (Structs d w es) (Element i ∷ Child j ∷ path) u q x h =
-    ap₂ (λ a b. cond (a && b) (found (next (struct_at es i) (Child j)) path) None) (lt-ltb i (element_count es) h.0) (lt-ltb j w h.1)
-    ∙ leads_value S (target S s p).segment ((target S s p).start + 1 + i * (d + w) + d + j) (next (struct_at es i) (Child j)) path u q x h.2
-leads_value S s p t (step ∷ path) u q x h = absurd h
-
 no_value : (x : Tree) → Some (PointerTo x) ≡ None → ⊥
 no_value x e = cc
 
@@ -137,5 +124,5 @@ step_is_there old new edit r t x u q s forest leads = go s.path_end (s.leads t (
     go (Some (AtElement e)) f =
         let list = Structs e.size.data_words e.size.pointers f.elements in
         absurd (no_element x (struct_at f.elements f.index) (
-        sym end_value ∙ ap (found t) f.path_is ∙ found-append t f.front (Element f.index ∷ []) list f.end_value ∙ first f.index (element_count f.elements) _ _ f.counts
+        sym end_value ∙ ap (found t) f.path_is ∙ found-append t f.front (Element f.index ∷ []) list (list_end f) ∙ first f.index (element_count f.elements) _ _ f.counts
         ))

@@ -21,7 +21,7 @@ use Rattle.capnp_edits.specs.declared.edit.Step.{Step as EditStep}
 use Rattle.capnp_edits.specs.declared.edit.path.PathEnd.{PathEnd}
 use Rattle.capnp_edits.specs.declared.edit.path.PathEnd.TheVariants.{Pointer as AtPointer, Element as AtElement}
 use Rattle.capnp_edits.specs.Paths.{step_of, found, IsElementFound, IsPathFound, IsEndInside, child_in, element_in, Steps}
-use Rattle.capnp_edits.proofs.Walks.{leads_further, found-append}
+use Rattle.capnp_edits.proofs.Walks.{leads_further, leads_value, list_end, found-append}
 use Rattle.capnp_contents.proofs.Listed.{same_list}
 
 -- the place of a value is inside the message
@@ -58,7 +58,7 @@ struct_child S s p i (Struct ws ts) e r is_e stored exactly =
           let leads : PathLeads S (node s p (Struct ws ts)) (Child i ∷ []) (node a.segment (a.start + length ws + i) (tree_at ts i)) = (l, refl) in
           let inside = place_inside S s p (Struct ws ts) (Child i ∷ []) a.segment (a.start + length ws + i) (tree_at ts i) leads stored in
           subst (IsPathFound S (record { segment = s; word = p }) (Struct ws ts) (Child i ∷ [])) (sym (known (subst (λ (o : Option PathEnd). IfSome o (IsEndInside S)) (sym is_there) inside) ∙ is_there))
-          (tree_at ts i, leads, first i (count ts) _ _ l)
+          (tree_at ts i, leads)
       | inr l ↦
           let none : child_in f i ≡ None = second i (count ts) _ _ l in
           subst (IsPathFound S (record { segment = s; word = p }) (Struct ws ts) (Child i ∷ [])) (sym (known (subst (λ (o : Option PathEnd). IfSome o (IsEndInside S)) (sym none) tt) ∙ none)) (λ more. second i (count ts) _ _ l)
@@ -119,7 +119,7 @@ list_element S s p i (Pointers ts) l r is_l stored few exactly =
     let less : i < count ts = subst (λ x. i < x.count) same few in
     let leads : PathLeads S (node s p (Pointers ts)) (Element i ∷ []) (node a.segment (a.start + i) (tree_at ts i)) = (less, refl) in
     let inside = place_inside S s p (Pointers ts) (Element i ∷ []) a.segment (a.start + i) (tree_at ts i) leads stored in
-    subst (IsPathFound S (record { segment = s; word = p }) (Pointers ts) (Element i ∷ [])) (sym (known inside)) (tree_at ts i, leads, first i (count ts) _ _ less)
+    subst (IsPathFound S (record { segment = s; word = p }) (Pointers ts) (Element i ∷ [])) (sym (known inside)) (tree_at ts i, leads)
 list_element S s p i (Structs d q es) l r is_l stored few exactly =
     let a = target S s p in
     let same = same_list l (struct_list a d q (element_count es)) is_l in
@@ -137,7 +137,6 @@ list_element S s p i (Structs d q es) l r is_l stored few exactly =
       list_at = p;
       elements = es;
       leads = refl;
-      end_value = refl;
       counts = less;
       segment_is = refl;
       start_is = refl;
@@ -165,7 +164,7 @@ pub pointer_further : (S : Segments) (s p : ℕ) (t : Tree) (path : List Step) (
     ((x : Tree) → IsStored S u q x → IsPathFound S (record { segment = u; word = q }) x (step ∷ []) r) → IsPathFound S (record { segment = s; word = p }) t (path ++ step ∷ []) r
 pointer_further S s p t path u q step (Some (AtPointer place)) f stored then =
     let g = then f.0 (stored_within S s p t path u q f.0 f.1 stored) in
-    (g.0, leads_further S s p t path (step ∷ []) u q f.0 place.segment place.word g.0 f.1 g.1, found-append t path (step ∷ []) f.0 f.2 ∙ g.2)
+    (g.0, leads_further S s p t path (step ∷ []) u q f.0 place.segment place.word g.0 f.1 g.1)
 pointer_further S s p t path u q step (Some (AtElement e)) f stored then =
     let g = then f.0 (stored_within S s p t path u q f.0 f.1 stored) in
     record {
@@ -176,14 +175,13 @@ pointer_further S s p t path u q step (Some (AtElement e)) f stored then =
       list_at = g.list_at;
       elements = g.elements;
       leads = leads_further S s p t path g.front u q f.0 g.list_segment g.list_at (Structs e.size.data_words e.size.pointers g.elements) f.1 g.leads;
-      end_value = found-append t path g.front f.0 f.2 ∙ g.end_value;
       counts = g.counts;
       segment_is = g.segment_is;
       start_is = g.start_is;
     }
 pointer_further S s p t path u q step None f stored then =
     let g = then f.0 (stored_within S s p t path u q f.0 f.1 stored) in
-    λ more. ap (found t) (append_assoc path (step ∷ []) more) ∙ found-append t path (step ∷ more) f.0 f.2 ∙ g more
+    λ more. ap (found t) (append_assoc path (step ∷ []) more) ∙ found-append t path (step ∷ more) f.0 (leads_value S s p t path u q f.0 f.1) ∙ g more
 
 -- what a longer path finds after an element of a list
 behind_element : (d q : ℕ) (es : Elements) (i j : ℕ) (more : List Step) → i < element_count es →
@@ -201,7 +199,7 @@ element_child S s p t path e j r f stored exactly =
     let joined : (more : List Step) → path ++ Child j ∷ more ≡ f.front ++ Element f.index ∷ Child j ∷ more =
     (λ more. ap (λ x. x ++ Child j ∷ more) f.path_is ∙ append_assoc f.front (Element f.index ∷ []) (Child j ∷ more)) in
     let all : (more : List Step) → found t (path ++ Child j ∷ more) ≡ cond (nat_lt j q) (found child more) None =
-    (λ more. ap (found t) (joined more) ∙ found-append t f.front (Element f.index ∷ Child j ∷ more) list f.end_value ∙ behind_element d q f.elements f.index j more f.counts) in
+    (λ more. ap (found t) (joined more) ∙ found-append t f.front (Element f.index ∷ Child j ∷ more) list (list_end f) ∙ behind_element d q f.elements f.index j more f.counts) in
     elim (cases_lt j q) [
       | inl l ↦
           let is_there : child_in e j ≡ Some (AtPointer (record { segment = e.segment; word = e.start + d + j })) = first j q _ _ l in
@@ -211,7 +209,7 @@ element_child S s p t path e j r f stored exactly =
           let leads = leads_further S s p t f.front (Element f.index ∷ Child j ∷ []) f.list_segment f.list_at list e.segment (e.start + d + j) child f.leads near in
           let inside = place_inside S s p t (f.front ++ Element f.index ∷ Child j ∷ []) e.segment (e.start + d + j) child leads stored in
           subst (IsPathFound S (record { segment = s; word = p }) t (path ++ Child j ∷ [])) (sym (exactly (subst (λ (o : Option PathEnd). IfSome o (IsEndInside S)) (sym is_there) inside) ∙ is_there))
-          (child, subst (λ x. PathLeads S (node s p t) x (node e.segment (e.start + d + j) child)) (sym (joined [])) leads, all [] ∙ first j q _ _ l)
+          (child, subst (λ x. PathLeads S (node s p t) x (node e.segment (e.start + d + j) child)) (sym (joined [])) leads)
       | inr l ↦
           let none : child_in e j ≡ None = second j q _ _ l in
           subst (IsPathFound S (record { segment = s; word = p }) t (path ++ Child j ∷ [])) (sym (exactly (subst (λ (o : Option PathEnd). IfSome o (IsEndInside S)) (sym none) tt) ∙ none))
@@ -222,7 +220,7 @@ pub element_element : (S : Segments) (s p : ℕ) (t : Tree) (path : List Step) (
 element_element S s p t path e j f more =
     let list = Structs e.size.data_words e.size.pointers f.elements in
     ap (found t) (append_assoc path (Element j ∷ []) more ∙ ap (λ x. x ++ Element j ∷ more) f.path_is ∙ append_assoc f.front (Element f.index ∷ []) (Element j ∷ more))
-    ∙ found-append t f.front (Element f.index ∷ Element j ∷ more) list f.end_value
+    ∙ found-append t f.front (Element f.index ∷ Element j ∷ more) list (list_end f)
 
 -- one step more, from any end of a path
 pub step_further : (S : Segments) (s p : ℕ) (t : Tree) (path : List Step) (here : PathEnd) (step : Step) (r : Option PathEnd) → IsPathFound S (record { segment = s; word = p }) t path (Some here) → IsStored S s p t → Steps S here step r →

@@ -1,5 +1,5 @@
 -- Words that an operation takes, and by which calls.
-use Rattle.std.proofs.Common.{◌≡◌, ℕ, ◌+◌, ◌*◌, length, Option, Result, Ok, Err, ap, ◌∙◌}
+use Rattle.std.proofs.Common.{◌≡◌, ℕ, true, ◌+◌, ◌*◌, length, Option, Some, None, Result, Ok, Err, IfErr, OnErr, ap, ◌∙◌}
 use Rattle.std.proofs.lemmas.List.{length-set}
 use Rattle.capnp_words.specs.declared.error.ErrorKind.{ErrorKind}
 use Rattle.capnp_arena_traits.proofs.WordsOver.{lengths_kept}
@@ -13,9 +13,13 @@ use Rattle.capnp_copies.specs.Changes.{CopyCall}
 use Rattle.capnp_copies.specs.Growth.{TakesAtMost}
 use Rattle.capnp_copies.specs.Originals.{Original}
 use Rattle.capnp_builders.specs.Places.{Field}
-use Rattle.capnp_edits.specs.Edits.{refusal_of, are_written, are_outside, PutsBits, PutsElement, element_put, element_past, no_list, list_denied, PutsByte, byte_put, byte_past, no_bytes_there, bytes_denied}
+use Rattle.capnp_edits.specs.Edits.{is_of_path, refusal_of, are_written, are_outside, PutsBits, PutsElement, element_put, element_past, no_list, list_denied, PutsByte, byte_put, byte_past, no_bytes_there, bytes_denied}
 use Rattle.capnp_edits.specs.declared.edit.tasks.Number.{Number}
-use Rattle.capnp_edits.specs.Steps.{result_of}
+use Rattle.capnp_edits.specs.declared.edit.path.PathEnd.{PathEnd}
+use Rattle.capnp_edits.specs.declared.edit.tasks.Part.{Part}
+use Rattle.capnp_edits.specs.declared.edit.tasks.StructChange.TheVariants.{Bits}
+use Rattle.capnp_edits.specs.declared.edit.tasks.Task.TheVariants.{InStruct, Write}
+use Rattle.capnp_edits.specs.Steps.{EndsAt, result_of}
 use Rattle.capnp_arena_traits.specs.View.{View, KeepsLimits}
 use Rattle.capnp_contents.specs.Anew.{OnlyWrites}
 use Rattle.capnp_words.specs.declared.wire_pointer.ElementSize.TheVariants.{Byte}
@@ -26,6 +30,28 @@ KeepsLengths S R = (length R ≡ length S) × ((v : ℕ) → length (segment R v
 
 pub writes : (old new : View) → KeepsLimits old new → KeepsLengths old.words new.words → OnlyWrites old new
 writes old new limits lengths = record { limits = limits; segments = lengths.0; words = lengths.1 }
+
+-- How a task ends that makes nothing and reads no other message.
+abbrev pub EndsPlainly : View → View → Option ErrorKind → Type 0
+EndsPlainly old new None = OnlyWrites old new
+EndsPlainly old new (Some k) = (is_of_path k ≡ true) × (new ≡ old)
+
+pub plain_end : {A : Type 0} (result : Result A ErrorKind) (old new : View) → OnlyWrites old new → IfErr result (λ k. is_of_path k ≡ true) → OnErr result (new ≡ old) → EndsPlainly old new (refusal_of result)
+plain_end (Ok x) old new only named kept = only
+plain_end (Err k) old new only named kept = (named, kept)
+
+-- such tasks: a number or a byte, and bits of a struct
+pub part_ends : (old new : View) (part : Part) (r : Option ErrorKind) (there : PathEnd) → EndsPlainly old new r → EndsAt old new (Write part) r there
+part_ends old new part None there h = h
+part_ends old new part (Some k) there h = h
+
+pub bits_end : (old new : View) (n : Number) (r : Option ErrorKind) (there : PathEnd) → EndsPlainly old new r → EndsAt old new (InStruct (Bits n)) r there
+bits_end old new n None there h = h
+bits_end old new n (Some k) there h = h
+
+pub bits_ended : (old new : View) (n : Number) (r : Option ErrorKind) (there : PathEnd) → EndsAt old new (InStruct (Bits n)) r there → EndsPlainly old new r
+bits_ended old new n None there h = h
+bits_ended old new n (Some k) there h = h
 
 -- writing bits takes no words
 same_lengths : (S R : Segments) → R ≡ S → KeepsLengths S R

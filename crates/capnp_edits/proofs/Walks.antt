@@ -1,11 +1,12 @@
 -- Paths one after another.
-use Rattle.std.proofs.Common.{◌≡◌, ℕ, ◌+◌, ◌*◌, Bool, true, false, ◌&&◌, cond, nat_lt, List, [], ◌∷◌, ◌++◌, length, Option, Some, None, ap}
+use Rattle.std.proofs.Common.{◌≡◌, ℕ, ◌+◌, ◌*◌, Bool, true, false, ◌&&◌, cond, nat_lt, List, [], ◌∷◌, ◌++◌, length, Option, Some, None, ap, ap₂, ◌∙◌, lt-ltb}
 use Rattle.capnp_format.specs.Segments.{Segments}
 use Rattle.capnp_format.specs.Tree.{Tree, Null, Capability, Struct, Flat, Pointers, Structs, count, element_count}
 use Rattle.capnp_format.specs.Forest.{target}
 use Rattle.capnp_making.proofs.Paths.{same_node}
 use Rattle.capnp_format.specs.Path.{Step, Child, Element, tree_at, struct_at, next, put, update, node, PathLeads}
-use Rattle.capnp_edits.specs.Paths.{EndValue, PointerTo, ElementOf, found}
+use Rattle.capnp_contents.specs.declared.existing.ExistingStruct.{ExistingStruct}
+use Rattle.capnp_edits.specs.Paths.{EndValue, PointerTo, ElementOf, IsElementFound, found}
 
 pub leads_further : (S : Segments) (s p : ℕ) (t : Tree) (path more : List Step) (u q : ℕ) (x : Tree) (v r : ℕ) (y : Tree) → PathLeads S (node s p t) path (node u q x) → PathLeads S (node u q x) more (node v r y) → PathLeads S (node s p t) (path ++ more) (node v r y)
 leads_further S s p t [] more u q x v r y h k =
@@ -17,6 +18,22 @@ leads_further S s p (Pointers ts) (Element i ∷ path) more u q x v r y h k = (h
 leads_further S s p (Structs d w es) (Element i ∷ Child j ∷ path) more u q x v r y h k =
     (h.0, h.1, leads_further S (target S s p).segment ((target S s p).start + 1 + i * (d + w) + d + j) (next (struct_at es i) (Child j)) path more u q x v r y h.2 k)
 leads_further S s p t (step ∷ path) more u q x v r y h k = absurd h
+
+-- a path that leads to a pointer finds what that means
+pub leads_value : (S : Segments) (s p : ℕ) (t : Tree) (path : List Step) (u q : ℕ) (x : Tree) → PathLeads S (node s p t) path (node u q x) → found t path ≡ Some (PointerTo x)
+leads_value S s p t [] u q x h = ap (λ y. Some (PointerTo y)) (same_node h).2
+leads_value S s p (Struct ws ts) (Child i ∷ path) u q x h =
+    ap (λ b. cond b (found (tree_at ts i) path) None) (lt-ltb i (count ts) h.0) ∙ leads_value S (target S s p).segment ((target S s p).start + length ws + i) (tree_at ts i) path u q x h.1
+leads_value S s p (Pointers ts) (Element i ∷ path) u q x h =
+    ap (λ b. cond b (found (tree_at ts i) path) None) (lt-ltb i (count ts) h.0) ∙ leads_value S (target S s p).segment ((target S s p).start + i) (tree_at ts i) path u q x h.1
+leads_value S s p (Structs d w es) (Element i ∷ Child j ∷ path) u q x h =
+    ap₂ (λ a b. cond (a && b) (found (next (struct_at es i) (Child j)) path) None) (lt-ltb i (element_count es) h.0) (lt-ltb j w h.1)
+    ∙ leads_value S (target S s p).segment ((target S s p).start + 1 + i * (d + w) + d + j) (next (struct_at es i) (Child j)) path u q x h.2
+leads_value S s p t (step ∷ path) u q x h = absurd h
+
+-- the list whose element a path leads to
+pub list_end : {S : Segments} {s p : ℕ} {t : Tree} {path : List Step} {e : ExistingStruct} (f : IsElementFound S s p t path e) → found t f.front ≡ Some (PointerTo (Structs e.size.data_words e.size.pointers f.elements))
+list_end {S} {s} {p} {t} {path} {e} f = leads_value S s p t f.front f.list_segment f.list_at (Structs e.size.data_words e.size.pointers f.elements) f.leads
 
 -- if the choice between o and None is something, it is o
 taken : (b : Bool) (o r : Option EndValue) (y : EndValue) (z : Option EndValue) → cond b o None ≡ Some y → (o ≡ Some y → r ≡ z) → cond b r None ≡ z

@@ -2,7 +2,8 @@
 use Rattle.std.specs.Option.{option_map_or}
 use Rattle.std.specs.Prelude.{MatchOption, ◌≡◌, ◌⊎◌, ℕ, min, ◌+◌, ◌*◌, ◌<◌, ◌≤◌, Bool, true, false}
 use Rattle.std.specs.Prelude.{if◌then◌else◌, ◌-◌, nat_eq, nat_le, nat_lt, List, ◌++◌, [], ◌∷◌, length, get_or, map}
-use Rattle.std.specs.Prelude.{slice_set, Option, Some, None, unwrap_or, Result, Ok, Err, OnErr, ⊤}
+use Rattle.std.specs.Prelude.{slice_set, Option, Some, None, IsSomeAnd, unwrap_or, Result, Ok, Err}
+use Rattle.std.specs.Prelude.{OnErr, ⊤}
 use Rattle.std.specs.Borrow.{Bor}
 use Rattle.capnp_words.specs.declared.error.ErrorKind.{ErrorKind}
 use Rattle.capnp_words.specs.declared.error.ErrorKind.TheVariants.{ExistingPointerIsNotAList}
@@ -34,6 +35,7 @@ use Rattle.capnp_contents.specs.declared.existing.ExistingBytes.{ExistingBytes}
 use Rattle.capnp_contents.specs.declared.existing.ExistingList.{ExistingList}
 use Rattle.capnp_contents.specs.declared.existing.ExistingStruct.{ExistingStruct}
 use Rattle.capnp_objects.specs.Faults.{HasFault}
+use Rattle.capnp_objects.specs.Follow.{◌>=>◌}
 use Rattle.capnp_objects.specs.Outcomes.{MeansThere}
 use Rattle.capnp_objects.specs.Wanted.{of_default}
 use Rattle.capnp_readers.specs.Readers.{IsListPlace}
@@ -48,7 +50,7 @@ use Rattle.capnp_edits.specs.declared.edit.Source.{Source}
 use Rattle.capnp_readers.specs.Sections.{step_bits, data_bits}
 use Rattle.capnp_objects.specs.declared.pointers.PointerPlace.{PointerPlace}
 use Rattle.capnp_builders.specs.declared.builders.PointerBuilder.{PointerBuilder}
-use Rattle.capnp_builders.specs.Places.{Field, list_place}
+use Rattle.capnp_builders.specs.Places.{Field, field, list_place}
 use Rattle.capnp_edits.specs.declared.edit.Edit.{Edit}
 use Rattle.capnp_edits.specs.declared.edit.copying.Copying.{Copying}
 use Rattle.capnp_edits.specs.declared.edit.copying.Wanted.TheVariants.{Struct as AStruct}
@@ -82,26 +84,20 @@ refusal_of (Err k) = Some k
 
 -- The bits of a data section that the number n has, and their new value.
 abbrev pub bits_of : Number → Field
-bits_of n = record {
-  start = n.index * element_bits (size_number n.size);
-  bits = element_bits (size_number n.size);
-  value = n.value;
-}
+bits_of n =
+    let bits = element_bits (size_number n.size) in field (n.index * bits) bits n.value
 
 -- What an operation makes of the value at the end of a path:
--- - `becomes`: a value.
--- - `denied`: nothing; it is refused with this error, and changes nothing.
--- - `allocates`: a value whose words are allocated first, and another value if memory for them is
---   refused.
--- - `defaults`: what it makes of a default value, which first replaces null.
+-- - `gives`: a value; or it is refused with this error, and changes nothing. If words are allocated
+--   for the value first, there is another value, which is left if memory for them is refused.
+-- - `defaults`: what it makes of a value; or, by its use of a default, it is refused, or makes that
+--   of the default's value, which first replaces null.
 -- - `copies`: what is copied from another message.
 -- - `fills`: a struct of this many data words and pointers gets the content of a struct of another
 --   message.
 pub data Effect : Type 0 where
-  becomes : Tree → Effect
-  denied : ErrorKind → Effect
-  allocates : Tree → Tree → Effect
-  defaults : List ℕ → (Tree → Effect) → Effect
+  gives : Option Tree → Result Tree ErrorKind → Effect
+  defaults : DefaultUse → (Tree → Effect) → Tree → Effect
   copies : Copying → Effect
   fills : Source → ℕ → ℕ → Effect
 
@@ -114,8 +110,7 @@ struct_with f t = t
 abbrev pub with_lowest : ℕ → ℕ → ℕ → Tree → Tree
 with_lowest i w v (Flat size ns) = Flat size (slice_set ns i (with_bits (get_or ns i 0) 0 w v))
 with_lowest i w v (Structs d q es) =
-    Structs d q
-    (put_struct es i (struct_with (record { start = 0; bits = w; value = v }) (struct_at es i)))
+    Structs d q (put_struct es i (struct_with (field 0 w v) (struct_at es i)))
 with_lowest i w v t = t
 
 -- How many elements the list t has if elements of this size are expected, or with which error that
@@ -129,51 +124,39 @@ elements_of size (Structs d q es) =
     option_map_or Err (structs_misfit size d q) (Ok (element_count es))
 elements_of size t = Err ExistingPointerIsNotAList
 
--- How many bytes the data t has, or the text t without the zero byte at its end; or with which
--- error looking for them is refused. Null has none.
+-- What `count_of` says of the bytes of the list t; or with which error looking for data or a text
+-- is refused. Null has none.
+abbrev pub count_in : (List ℕ → Result ℕ ErrorKind) → Tree → Result ℕ ErrorKind
+count_in count_of Null = Ok 0
+count_in count_of (Flat size ns) =
+    if nat_eq size 2 then count_of ns else Err ExistingListPointerIsNotByteSized
+count_in count_of (Pointers ts) = Err ExistingListPointerIsNotByteSized
+count_in count_of (Structs d q es) = Err ExistingListPointerIsNotByteSized
+count_in count_of t = Err ExistingPointerIsNotAList
+
+-- How many bytes the data t has, and the text t without the zero byte at its end.
 abbrev pub data_length : Tree → Result ℕ ErrorKind
-data_length Null = Ok 0
-data_length (Flat size ns) =
-    if nat_eq size 2 then Ok (length ns) else Err ExistingListPointerIsNotByteSized
-data_length (Pointers ts) = Err ExistingListPointerIsNotByteSized
-data_length (Structs d q es) = Err ExistingListPointerIsNotByteSized
-data_length t = Err ExistingPointerIsNotAList
+data_length t = count_in (λ ns. Ok (length ns)) t
 
 abbrev pub text_length : Tree → Result ℕ ErrorKind
-text_length (Flat size ns) =
-    if nat_eq size 2 then
-    if ends_in_zero ns then Ok (length ns - 1) else Err TextBlobMissingNULTerminator
-    else Err ExistingListPointerIsNotByteSized
-text_length t = data_length t
-
--- What an operation makes of what it found, or its refusal.
-abbrev pub effect_of_search : {A : Type 0} → (A → Effect) → Result A ErrorKind → Effect
-effect_of_search made_of (Ok x) = made_of x
-effect_of_search made_of (Err k) = denied k
+text_length t = count_in (λ ns. if ends_in_zero ns then Ok (length ns - 1)
+    else Err TextBlobMissingNULTerminator) t
 
 -- The result of writing element or byte i of those that a search found. It is u if i is below their
 -- number; otherwise it is refused with NoSuchPlace. If the search was refused, it is refused with
 -- the same error.
 abbrev pub if_reached : ℕ → Tree → Result ℕ ErrorKind → Effect
-if_reached i u (Ok n) = if nat_lt i n then becomes u else denied NoSuchPlace
-if_reached i u (Err k) = denied k
+if_reached i u found = gives None (found >=> (λ n. if nat_lt i n then Ok u else Err NoSuchPlace))
 
 -- The result of a search where t is. A struct or a list of structs becomes at least as large as
 -- requested, but null isn't a list of structs; a list, a text or data is only found, and t stays.
 abbrev pub looked_for : Sought → Tree → Effect
-looked_for (ForStruct size) t = effect_of_search (allocates t) (struct_opened size t)
-looked_for (ForStructs size) Null = becomes Null
-looked_for (ForStructs size) t =
-    effect_of_search (allocates t) (list_widened size.data_words size.pointers t)
-looked_for (ForList size) t = effect_of_search (λ n. becomes t) (elements_of size t)
-looked_for ForText t = effect_of_search (λ n. becomes t) (text_length t)
-looked_for ForData t = effect_of_search (λ n. becomes t) (data_length t)
-
--- What an operation makes of t if it uses its default in this way.
-abbrev pub with_default : DefaultUse → (Tree → Effect) → Tree → Effect
-with_default ignored made_of t = made_of t
-with_default (is_denied_by k) made_of t = denied k
-with_default (is_copied_from bytes) made_of t = defaults bytes made_of
+looked_for (ForStruct size) t = gives (Some t) (struct_opened size t)
+looked_for (ForStructs size) Null = gives None (Ok Null)
+looked_for (ForStructs size) t = gives (Some t) (list_widened size.data_words size.pointers t)
+looked_for (ForList size) t = gives None (elements_of size t >=> (λ n. Ok t))
+looked_for ForText t = gives None (text_length t >=> (λ n. Ok t))
+looked_for ForData t = gives None (data_length t >=> (λ n. Ok t))
 
 -- The value of a new object.
 abbrev pub value_of : NewObject → Tree
@@ -218,20 +201,20 @@ place_of b = record { segment = b.segment; word = b.at }
 abbrev pub struct_changed : StructChange → Tree → Effect
 struct_changed (Bits n) (Struct ws ts) =
     let f = bits_of n in
-    if nat_le (f.start + f.bits) (64 * length ws) then becomes (struct_with f (Struct ws ts))
-    else denied NoSuchPlace
+    gives None (if nat_le (f.start + f.bits) (64 * length ws) then Ok (struct_with f (Struct ws ts))
+    else Err NoSuchPlace)
 struct_changed (Content source) (Struct ws ts) = fills source (length ws) (count ts)
-struct_changed change t = denied NoSuchPlace
+struct_changed change t = gives None (Err NoSuchPlace)
 
 -- What a task makes at the end of a path, or with which error it is refused, which changes nothing.
 -- Changes of a struct apply to an element of a list, too; all other tasks require a pointer.
 abbrev pub effect_of_task : Task → EndValue → Effect
 effect_of_task (InStruct change) (ElementOf t) = struct_changed change t
-effect_of_task task (ElementOf t) = denied NoSuchPlace
+effect_of_task task (ElementOf t) = gives None (Err NoSuchPlace)
 effect_of_task (InStruct change) (PointerTo t) = struct_changed change t
-effect_of_task (Make object) (PointerTo t) = allocates Null (value_of object)
-effect_of_task (Point (Some i)) (PointerTo t) = becomes (Capability i)
-effect_of_task (Point None) (PointerTo t) = becomes Null
+effect_of_task (Make object) (PointerTo t) = gives (Some Null) (Ok (value_of object))
+effect_of_task (Point (Some i)) (PointerTo t) = gives None (Ok (Capability i))
+effect_of_task (Point None) (PointerTo t) = gives None (Ok Null)
 effect_of_task (Write (ListElement n)) (PointerTo t) =
     if_reached n.index (with_lowest n.index (element_bits (size_number n.size)) n.value t)
     (elements_of n.size t)
@@ -240,13 +223,8 @@ effect_of_task (Write (TextByte i b)) (PointerTo t) =
 effect_of_task (Write (DataByte i b)) (PointerTo t) =
     if_reached i (with_lowest i 8 b t) (data_length t)
 effect_of_task (Search sought default) (PointerTo t) =
-    with_default (default_for sought default t) (looked_for sought) t
+    defaults (default_for sought default t) (looked_for sought) t
 effect_of_task (CopyRoot c) (PointerTo t) = copies c
-
--- A call is refused with an error that satisfies P, and leaves `left`; None means that nothing is
--- changed.
-abbrev pub Fails : (ErrorKind → Type 0) → Option Tree → Option ErrorKind → Option Tree → Type 0
-Fails P left r o = (k : ErrorKind) × P k × (r ≡ Some k) × (o ≡ left)
 
 -- The outcome r of an operation that makes this, and what it leaves: o is the value that replaces
 -- the old one, if anything is changed.
@@ -255,31 +233,33 @@ Fails P left r o = (k : ErrorKind) × P k × (r ≡ Some k) × (o ≡ left)
 -- - `fills`: a struct u. It has the data that both structs have, followed by zeros, and the
 --   pointers that were read, followed by nulls. These are as many as both have, or the ones before
 --   a pointer that is refused. Nothing is changed if there is no struct to copy.
--- - `defaults`: what the operation leaves after the default is copied: the default, if that isn't
---   changed; or null, if the copy of the default is refused for memory or for what it reads.
+-- - `defaults`: if a default is copied, what the operation leaves after that: the default, if that
+--   isn't changed; or null, if the copy of the default is refused for memory or for what it reads.
 unfoldable pub HasEffect : Effect → Option ErrorKind → Option Tree → Type 0
-HasEffect (becomes u) r o = (r ≡ None) × (o ≡ Some u)
-HasEffect (denied k) r o = Fails (λ j. j ≡ k) None r o
-HasEffect (allocates t u) r o =
-    ((r ≡ None) × (o ≡ Some u)) ⊎ Fails (λ k. is_allocation_name k ≡ true) (Some t) r o
-HasEffect (copies c) r o =
-    ((u : Tree) × Copies c u × (r ≡ None) × (o ≡ Some u))
-    ⊎ ((((k : ErrorKind) → HasNothingToCopy c.source c.wanted k → ⊥)
-    × Fails (λ k. (is_allocation_name k ≡ true) ⊎ IsUnreadable c k) (Some Null) r o)
-    ⊎ Fails (HasNothingToCopy c.source c.wanted) None r o)
-HasEffect (fills source d q) r o =
-    ((c : ContentRead source) × (u : Tree) × (section : List ℕ)
+HasEffect (gives left (Err k)) r o = (r ≡ Some k) × (o ≡ None)
+HasEffect (gives left (Ok u)) None o = o ≡ Some u
+HasEffect (gives (Some t) (Ok u)) (Some k) o = (is_allocation_name k ≡ true) × (o ≡ Some t)
+HasEffect (copies c) None o = (u : Tree) × Copies c u × (o ≡ Some u)
+HasEffect (copies c) (Some k) None = HasNothingToCopy c.source c.wanted k
+HasEffect (copies c) (Some k) (Some u) = (u ≡ Null)
+    × ((j : ErrorKind) → HasNothingToCopy c.source c.wanted j → ⊥)
+    × ((is_allocation_name k ≡ true) ⊎ IsUnreadable c k)
+HasEffect (fills source d q) (Some k) None = HasNothingToCopy source AStruct k
+HasEffect (fills source d q) r (Some u) =
+    (c : ContentRead source) × (section : List ℕ)
     × HoldContent section d (64 * length c.from.words) c.bytes
     × (u ≡ Struct section (up_to q c.children))
-    × (((count c.children ≡ min q c.from.pointers) × (r ≡ None) × (o ≡ Some u))
-    ⊎ ((count c.children < min q c.from.pointers)
-    × Fails (λ k. (is_allocation_name k ≡ true) ⊎ IsNextUnreadable source c k) (Some u) r o)))
-    ⊎ Fails (HasNothingToCopy source AStruct) None r o
-HasEffect (defaults bytes made_of) r o =
+    × MatchOption r (count c.children ≡ min q c.from.pointers)
+    (λ k. (count c.children < min q c.from.pointers)
+    × ((is_allocation_name k ≡ true) ⊎ IsNextUnreadable source c k))
+HasEffect (defaults ignored made_of t) r o = HasEffect (made_of t) r o
+HasEffect (defaults (is_denied_by k) made_of t) r o = (r ≡ Some k) × (o ≡ None)
+HasEffect (defaults (is_copied_from bytes) made_of t) r o =
     ((d : Tree) × (n : ℕ) × (left : Option Tree) × MeansThere (default_root bytes) d n
     × (capabilities d ≡ 0) × HasEffect (made_of d) r left × (o ≡ Some (unwrap_or left d)))
-    ⊎ Fails (λ k. (is_allocation_name k ≡ true) ⊎ HasFault of_default (default_root bytes) k)
-    (Some Null) r o
+    ⊎ (IsSomeAnd r (λ k. (is_allocation_name k ≡ true) ⊎ HasFault of_default (default_root bytes) k)
+    × (o ≡ Some Null))
+HasEffect making r o = ⊥
 
 -- A call changes only words, and nothing if it is refused.
 pub record WritesWords (result : Result ⊤ ErrorKind) (old new : View) : Type 0 where
@@ -332,7 +312,7 @@ unfoldable pub EditTakes : Edit → Option ErrorKind → Tree → Tree → Type 
 EditTakes e r t u =
     MatchOption (found t (map step_of e.path.now)) ((r ≡ Some NoSuchPlace) × (u ≡ t))
     (λ there. (o : Option Tree) × HasEffect
-    (option_map_or (λ x. effect_of_task x there) (task_of e.op) (denied NoSuchPlace)) r o
+    (option_map_or (λ x. effect_of_task x there) (task_of e.op) (gives None (Err NoSuchPlace))) r o
     × (u ≡ option_map_or (update t (map step_of e.path.now)) o t))
 
 -- If S is a forest of a value t, R is a forest of a value u with P t u: P says what an edit makes

@@ -51,7 +51,6 @@ pub record IsElementFound (S : Segments) (s p : ℕ) (t : Tree) (path : List Ste
   pub elements : Elements
   pub leads : PathLeads S (node s p t) front
       (node list_segment list_at (Structs e.size.data_words e.size.pointers elements))
-  pub end_value : found t front ≡ Some (PointerTo (Structs e.size.data_words e.size.pointers elements))
   pub counts : index < element_count elements
   pub segment_is : e.segment ≡ (target S list_segment list_at).segment
   pub start_is : e.start ≡ (target S list_segment list_at).start + 1 + index
@@ -60,10 +59,8 @@ pub record IsElementFound (S : Segments) (s p : ℕ) (t : Tree) (path : List Ste
 -- From a pointer that means t, a path leads to this end: a pointer, and what it means; an element;
 -- or nowhere, and then no longer path leads anywhere either.
 abbrev pub IsPathFound : Segments → PointerPlace → Tree → List Step → Option PathEnd → Type 0
-IsPathFound S from t path (Some (AtPointer place)) =
-    (x : Tree)
-    × PathLeads S (node from.segment from.word t) path (node place.segment place.word x)
-    × (found t path ≡ Some (PointerTo x))
+IsPathFound S from t path (Some (AtPointer place)) = (x : Tree) ×
+    PathLeads S (node from.segment from.word t) path (node place.segment place.word x)
 IsPathFound S from t path (Some (AtElement e)) = IsElementFound S from.segment from.word t path e
 IsPathFound S from t path None = (more : List Step) → found t (path ++ more) ≡ None
 

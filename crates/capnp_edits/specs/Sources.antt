@@ -1,6 +1,6 @@
 -- What is copied from another message.
 use Rattle.std.specs.Prelude.{ℕ, pred, ◌+◌, ◌≡◌, ◌≢◌, ◌⊎◌, true, false}
-use Rattle.std.specs.Prelude.{if◌then◌else◌, nat_eq, List, [], map, Option, Some, None}
+use Rattle.std.specs.Prelude.{if◌then◌else◌, nat_eq, List, [], map, Option, Some, None, IsSomeAnd}
 use Rattle.capnp_words.specs.Meter.{Meter, Affords, less, unused}
 use Rattle.capnp_words.specs.declared.error.ErrorKind.{ErrorKind}
 use Rattle.capnp_words.specs.declared.error.ErrorKind.TheVariants.{FoundBitListWhereStructListWasExpected}
@@ -38,14 +38,9 @@ use Rattle.capnp_objects.specs.declared.object.Purpose.TheVariants.{Value as For
 -- The root of a source, read within its nesting limit.
 abbrev pub root_of : Source → Reading
 root_of source =
-    record {
-      segments = message (map whole (map (λ s. s.now) source.arena.now.segments.segments.now));
-      charging = true;
-      of_default = false;
-      levels = levels source.arena.now.nesting_limit;
-      segment = 0;
-      at = 0;
-    }
+    let S = message (map whole (map (λ s. s.now) source.arena.now.segments.segments.now)) in
+    let n = levels source.arena.now.nesting_limit in
+    record { segments = S; charging = true; of_default = false; levels = n; segment = 0; at = 0 }
 
 -- The limiter of a source once the root's word is charged.
 abbrev pub once_at_root : Source → Meter
@@ -106,9 +101,7 @@ pub record Copies (c : Copying) (u : Tree) : Type 0 where
   pub value : Tree
   pub after : Meter
   pub is_read : Reads (form_of c.canonicalize) (root_of c.source) (once_at_root c.source) after value
-  pub copied : Tree
-  pub is_wanted : as_wanted c.wanted value ≡ Some copied
-  pub is_kept : u ≡ kept (form_of c.canonicalize) copied
+  pub is_kept : IsSomeAnd (as_wanted c.wanted value) (λ x. u ≡ kept (form_of c.canonicalize) x)
 
 -- The root is reached, and reading what it means is refused with k.
 abbrev pub IsUnreadable : Copying → ErrorKind → Type 0

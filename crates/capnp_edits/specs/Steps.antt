@@ -18,28 +18,26 @@ use Rattle.capnp_words.specs.declared.wire_pointer.StructSize.{StructSize}
 use Rattle.capnp_words.specs.Sizes.{sized}
 use Rattle.capnp_making.specs.Fields.{with_field}
 use Rattle.capnp_making.specs.Makes.{CallAt, call_at}
-use Rattle.capnp_making.specs.Memory.{HasRoom, KeepsMemory, SpendsMemory, refusals_for}
-use Rattle.capnp_making.specs.Memory.{ComesAfter, TakesWords, start_of}
+use Rattle.capnp_making.specs.Memory.{HasRoom, SpendsMemory, refusals_for}
 use Rattle.capnp_making.specs.Near.{HasOwnRoom}
 use Rattle.capnp_making.specs.Stored.{IsReplaced, IsStored}
 use Rattle.capnp_making.specs.Zeroed.{IsPruned}
 use Rattle.capnp_contents.specs.declared.existing.ExistingStruct.{ExistingStruct}
 use Rattle.capnp_objects.specs.declared.pointers.PointerPlace.{PointerPlace}
-use Rattle.capnp_readers.specs.declared.readers.struct_reader.StructPlace.{StructPlace}
+use Rattle.capnp_objects.specs.Wanted.{plain}
 use Rattle.capnp_copies.specs.Changes.{CopiesChildren, CopiesFirst, RefusesToCopy, copy_call}
 use Rattle.capnp_copies.specs.Forms.{form_of}
 use Rattle.capnp_copies.specs.Growth.{TakesAtMost}
 use Rattle.capnp_copies.specs.Originals.{children_original}
-use Rattle.capnp_contents.specs.Anew.{OnlyWrites}
+use Rattle.capnp_contents.specs.Anew.{OnlyWrites, StandsAnew}
 use Rattle.capnp_contents.specs.Opening.{Opens, struct_opened}
-use Rattle.capnp_contents.specs.Rooms.{HasRoomFor, RefusesToBecome}
+use Rattle.capnp_contents.specs.Rooms.{HasRoomFor}
+use Rattle.capnp_words.specs.Names.{is_allocation_name}
 use Rattle.capnp_contents.specs.Widened.{list_widened}
-use Rattle.capnp_builders.specs.Content.{pointers_copied}
-use Rattle.capnp_builders.specs.Defaults.{RefusesDefault, DefaultCopyFits, FitsWithDefault, WithDefault}
+use Rattle.capnp_builders.specs.Defaults.{DefaultCopyFits, FitsWithDefault, WithDefault}
 use Rattle.capnp_builders.specs.Defaults.{default_use, ignored}
 use Rattle.capnp_builders.specs.Kept.{PutsCopy}
-use Rattle.capnp_builders.specs.Content.{TakesBytes}
-use Rattle.capnp_builders.specs.Places.{struct_place}
+use Rattle.capnp_builders.specs.Content.{AreCleared, content_byte, fields_from, with_fields}
 use Rattle.capnp_edits.specs.declared.edit.Edit.{Edit}
 use Rattle.capnp_edits.specs.declared.edit.Source.{Source}
 use Rattle.capnp_edits.specs.declared.edit.copying.Copying.{Copying}
@@ -72,16 +70,6 @@ LeadsThere c (ZeroStruct size) = word_at c.new.words c.segment c.at ≡ struct_w
 LeadsThere c object = let a = target c.new.words c.segment c.at in HasOwnRoom c.old c.segment 0 →
     (a.segment ≡ c.segment) × (a.start ≡ length (segment c.old.words c.segment))
 
--- From old to new an object is made at a pointer, after all words that were there. It takes exactly
--- its own words, and every segment has as much room as before.
-pub record TakesForObject (old new : View) (place : PointerPlace) (object : NewObject) : Type 0 where
-  pub taken : TakesWords old new place.segment (word_count (value_of object))
-  pub behind : ComesAfter old place.segment (word_count (value_of object))
-      (start_of (target new.words place.segment place.word))
-  pub leads : word_count (value_of object) ≡ 0 →
-      LeadsThere (call_at place.segment place.word old new) object
-  pub memory : KeepsMemory old new
-
 -- e is the struct at the end of a path, if there is one: an element of a list, or what a pointer
 -- leads to, if it holds a value.
 abbrev pub IsStructAt : Segments → PathEnd → ExistingStruct → Type 0
@@ -107,11 +95,11 @@ CopiesWhole call c r =
     (copy_call (form_of c.canonicalize) call (once_at_root c.source) m)
     (λ o d. TakesAtMost (result_of r) o d × MatchOption r (PutsCopy o d) (RefusesToCopy o d)))
 
--- From old to new the content of a source's struct is copied over a struct, with outcome r. The
--- struct takes the data (until `taken`). Then the pointers that both structs have are copied; or
--- only the first ones, because the copy of one is refused. The copies take at most as many words as
--- reading costs, and their landing pads.
-pub record Filling (old new : View) (place : StructPlace) (source : Source) (r : Option ErrorKind)
+-- From old to new the content of a source's struct is copied over the struct e, with outcome r. The
+-- struct takes the data, byte by byte, and its pointers become null (until `taken`). Then the
+-- pointers that both structs have are copied; or only the first ones, because the copy of one is
+-- refused. The copies take at most as many words as reading costs, and their landing pads.
+pub record Filling (old new : View) (e : ExistingStruct) (source : Source) (r : Option ErrorKind)
     : Type 0 where
   pub root : HasRoot source
   pub from : Sections
@@ -120,20 +108,24 @@ pub record Filling (old new : View) (place : StructPlace) (source : Source) (r :
   pub are_words : words_of bytes ≡ from.words
   pub taken : View
   pub limits : KeepsLimits old taken
-  pub takes : TakesBytes old.words taken.words place (64 * length from.words) bytes
+  pub takes : AreCleared (with_fields old.words e.segment (fields_from (64 * e.start) 8
+      (content_byte (64 * length from.words) bytes)) (8 * e.size.data_words))
+      taken.words e.segment (e.start + e.size.data_words) e.size.pointers
   pub after : Meter
-  pub copies : let call = pointers_copied place taken new from.limiter after in
-      MatchOption r (CopiesChildren from.first (min place.pointers from.pointers) call)
-      (CopiesFirst from.first (min place.pointers from.pointers) call)
+  pub copies :
+      let place = call_at e.segment (e.start + e.size.data_words) taken new in
+      let call = copy_call plain place from.limiter after in
+      MatchOption r (CopiesChildren from.first (min e.size.pointers from.pointers) call)
+      (CopiesFirst from.first (min e.size.pointers from.pointers) call)
   pub few : TakesAtMost (result_of r)
-      (children_original from.first (min place.pointers from.pointers))
-      (pointers_copied place old new from.limiter after)
+      (children_original from.first (min e.size.pointers from.pointers))
+      (copy_call plain (call_at e.segment (e.start + e.size.data_words) old new) from.limiter after)
 
--- From old to new the content of a source's struct is copied over a struct, with outcome r; or
+-- From old to new the content of a source's struct is copied over the struct e, with outcome r; or
 -- there is no struct to copy, and nothing is changed.
-abbrev pub FillsAt : View → View → StructPlace → Source → Option ErrorKind → Type 0
-FillsAt old new place source r =
-    (IsSomeAnd r (HasNothingToCopy source AStruct) × (new ≡ old)) ⊎ Filling old new place source r
+abbrev pub FillsAt : View → View → ExistingStruct → Source → Option ErrorKind → Type 0
+FillsAt old new e source r =
+    (IsSomeAnd r (HasNothingToCopy source AStruct) × (new ≡ old)) ⊎ Filling old new e source r
 
 -- Room.
 
@@ -172,41 +164,7 @@ FitsAt old (CopyRoot c) (AtPointer place) =
     HasOwnRoom old place.segment (word_count u)
 FitsAt old task there = ⊤
 
--- Refusals.
-
--- What is looked for isn't opened, which is refused with k: nothing is changed; or memory is
--- refused for what becomes of a struct or a list of structs.
-abbrev pub IsOpeningRefused : Sought → CallAt → ErrorKind → Type 0
-IsOpeningRefused (ForStruct size) c k = (c.new ≡ c.old) ⊎
-    RefusesToBecome (IsStored c.old.words c.segment c.at) (struct_opened size) c.old c.new k
-IsOpeningRefused (ForStructs size) c k =
-    (c.new ≡ c.old) ⊎ RefusesToBecome (IsStored c.old.words c.segment c.at)
-    (list_widened size.data_words size.pointers) c.old c.new k
-IsOpeningRefused sought c k = c.new ≡ c.old
-
--- From old to new the builder's call at the place of the task is refused with k. One that makes an
--- object is refused only because there is no memory or no room for its words. A search with a
--- default is refused like one without, perhaps after the default has replaced null; or because the
--- copy of the default is refused.
-abbrev pub IsRefusedAt : View → View → Task → ErrorKind → PathEnd → Type 0
-IsRefusedAt old new (Make object) k (AtPointer place) =
-    IsAllocationRefusal old new (length old.words) (word_count (value_of object) + 1) k ×
-    (new ≡ record old { words = new.words; refusals = new.refusals })
-IsRefusedAt old new (InStruct (Content source)) k there =
-    (e : ExistingStruct) × IsStructAt old.words there e ×
-    FillsAt old new (struct_place e) source (Some k)
-IsRefusedAt old new (Search sought None) k (AtPointer place) =
-    IsOpeningRefused sought (call_at place.segment place.word old new) k
-IsRefusedAt old new (Search sought (Some default)) k (AtPointer place) =
-    ((mid : View) × KeepsMemory old mid ×
-    IsOpeningRefused sought (call_at place.segment place.word mid new) k)
-    ⊎ (SpendsMemory old new k ×
-    RefusesDefault default.now (call_at place.segment place.word old new) k)
-IsRefusedAt old new (CopyRoot c) k (AtPointer place) =
-    CopiesWhole (call_at place.segment place.word old new) c (Some k)
-IsRefusedAt old new task k there = ⊥
-
--- Words that are allocated.
+-- Words that are allocated, and refusals.
 
 -- What is looked for is found where t is, with outcome r. A struct or a list of structs is opened,
 -- but null isn't a list of structs; a list, a text or data is only found, and nothing is changed.
@@ -217,26 +175,43 @@ FindsSought (ForStructs size) r c t =
     Opens size (λ S s p u b. ⊤) c t (list_widened size.data_words size.pointers t) (result_of r)
 FindsSought sought r c t = (o : Option Tree) × HasEffect (looked_for sought t) r o × (c.new ≡ c.old)
 
--- From old to new a task with outcome r takes the words that the contract of the builder's call
--- states for its place. A refused object takes none, nor does a change of bits. If a struct without
--- words replaces null, its pointer has offset -1.
-abbrev pub AllocatesAt : View → View → Task → Option ErrorKind → PathEnd → Type 0
-AllocatesAt old new (Make object) None (AtPointer place) = TakesForObject old new place object
-AllocatesAt old new (Make object) (Some k) (AtPointer place) = IsPruned old.words new.words
-AllocatesAt old new (InStruct (Bits n)) r there =
-    (e : ExistingStruct) × IsStructAt old.words there e × OnlyWrites old new
-AllocatesAt old new (InStruct (Content source)) r there =
-    (e : ExistingStruct) × IsStructAt old.words there e × FillsAt old new (struct_place e) source r
-AllocatesAt old new (Search sought default) r (AtPointer place) =
-    ((size : StructSize) → sought ≡ ForStruct size → word_at old.words place.segment place.word ≡ 0 →
+-- From old to new a search whose place doesn't store null is refused with k: nothing is changed; or
+-- memory is refused, for what becomes of a struct or a list of structs.
+abbrev pub KeepsHeld : Sought → View → View → ErrorKind → Type 0
+KeepsHeld (ForList size) old new k = new ≡ old
+KeepsHeld ForText old new k = new ≡ old
+KeepsHeld ForData old new k = new ≡ old
+KeepsHeld sought old new k = (new ≡ old) ⊎ ((is_allocation_name k ≡ true) × SpendsMemory old new k)
+
+-- From old to new a task ends with outcome r: it takes the words that the contract of the builder's
+-- call states for its place, or is refused as that call is.
+-- - `Make`: takes exactly the words of the object, which come after all words that were there; or
+--   it is refused, only because there is no memory or no room for them, and takes none.
+-- - `Search`: if the place stores a value, finds what is looked for in it or in its default. If a
+--   struct without words replaces null, its pointer has offset -1.
+-- - A task that makes nothing and reads no other message takes no words. It is refused only for
+--   what its path leads to, and changes nothing then.
+abbrev pub EndsAt : View → View → Task → Option ErrorKind → PathEnd → Type 0
+EndsAt old new (Make object) None (AtPointer place) =
+    let c = call_at place.segment place.word old new in
+    let n = word_count (value_of object) in StandsAnew c n [] × (n ≡ 0 → LeadsThere c object)
+EndsAt old new (Make object) (Some k) (AtPointer place) =
+    IsAllocationRefusal old new (length old.words) (word_count (value_of object) + 1) k ×
+    (new ≡ record old { words = new.words; refusals = new.refusals }) × IsPruned old.words new.words
+EndsAt old new (InStruct (Content source)) r there =
+    (e : ExistingStruct) × IsStructAt old.words there e × FillsAt old new e source r
+EndsAt old new (Search sought default) r (AtPointer place) =
+    let c = call_at place.segment place.word old new in
+    ((t : Tree) → IsStored old.words c.segment c.at t →
+    WithDefault (default_for sought default t) c t (FindsSought sought r) (result_of r)) ×
+    ((IsStored old.words c.segment c.at Null → ⊥) → IfSome r (KeepsHeld sought old new)) ×
+    ((size : StructSize) → sought ≡ ForStruct size → word_at old.words c.segment c.at ≡ 0 →
     default_use ignored default Null ≡ ignored → r ≡ None → size.data_words + size.pointers ≡ 0 →
-    LeadsThere (call_at place.segment place.word old new) (ZeroStruct size)) ×
-    ((t : Tree) → IsStored old.words place.segment place.word t →
-    WithDefault (default_for sought default t) (call_at place.segment place.word old new) t
-    (FindsSought sought r) (result_of r))
-AllocatesAt old new (CopyRoot c) r (AtPointer place) =
+    LeadsThere c (ZeroStruct size))
+EndsAt old new (CopyRoot c) r (AtPointer place) =
     CopiesWhole (call_at place.segment place.word old new) c r
-AllocatesAt old new task r there = OnlyWrites old new
+EndsAt old new task None there = OnlyWrites old new
+EndsAt old new task (Some k) there = (is_of_path k ≡ true) × (new ≡ old)
 
 -- Calls at a place.
 
@@ -255,21 +230,19 @@ DoesThere old new (AtElement e) (InStruct (Bits n)) r =
     (new.words ≡ with_field old.words e.segment (64 * e.start + f.start) f.bits f.value))
     ⊎ ((bits < f.start + f.bits) × (r ≡ Some NoSuchPlace) × (new.words ≡ old.words))
 DoesThere old new (AtElement e) (InStruct (Content source)) r =
-    FillsAt old new (struct_place e) source r
+    FillsAt old new e source r
 DoesThere old new (AtElement e) task r = new.words ≡ old.words
 
 -- From old to new a call does a task that is in range, at the end of a path, with outcome r. It
--- states what the task leaves; the count of refused memory requests; why it is refused, which if
--- there is room is only for what is at the end of the path; and which words it takes.
+-- states what the task leaves; the count of refused memory requests; that if there is room, it is
+-- refused only for what is at the end of the path; and how it ends.
 pub record IsDoneAt (old new : View) (there : PathEnd) (task : Task) (r : Option ErrorKind)
     : Type 0 where
   pub done : DoesThere old new there task r
   pub counted : new.refusals ≡ refusals_after r old.refusals
-  pub named : (k : ErrorKind) → r ≡ Some k → ((is_of_path k ≡ true) × (new ≡ old)) ⊎
-      IsRefusedAt old new task k there
   pub fits : FitsAt old task there → (k : ErrorKind) → r ≡ Some k → is_of_path k ≡ true
   pub nowhere : r ≡ Some NoSuchPlace → new ≡ old
-  pub taken : (r ≡ Some NoSuchPlace → ⊥) → AllocatesAt old new task r there
+  pub ends : (r ≡ Some NoSuchPlace → ⊥) → EndsAt old new task r there
 
 -- A call on a builder does a task at its pointer, and leaves the builder over the same arena.
 pub record IsDoneBy {A : Type 0} (view : A → View) (old new : PointerBuilder A) (task : Task)
@@ -282,8 +255,8 @@ pub record IsDoneBy {A : Type 0} (view : A → View) (old new : PointerBuilder A
 -- From old to new an edit is done, with outcome r. If old is a forest of a value, new is a forest
 -- of what the edit makes of that value. Each AllocationFailed is counted. The edit is refused with
 -- NoSuchPlace, and changes nothing, if its path leads nowhere, its numbers are out of range, or the
--- message has no root word. Otherwise it is refused only as the builder's call at the end of its
--- path is, never for memory if that has room, and takes words as that call does.
+-- message has no root word. Otherwise it ends as the builder's call at the end of its path does,
+-- and isn't refused for memory if that has room.
 pub record IsStep (old new : View) (edit : Edit) (r : Option ErrorKind) : Type 0 where
   pub applied : IsApplied (EditTakes edit r) old.words new.words
   pub counted : new.refusals ≡ option_map_or (λ k. refusals_for k old.refusals) r old.refusals
@@ -296,13 +269,10 @@ pub record IsStep (old new : View) (edit : Edit) (r : Option ErrorKind) : Type 0
   pub out_of_range : task_of edit.op ≡ None → r ≡ Some NoSuchPlace
   pub rootless : length (segment old.words 0) ≡ 0 → r ≡ Some NoSuchPlace
   pub nowhere : r ≡ Some NoSuchPlace → new ≡ old
-  pub named : (k : ErrorKind) → r ≡ Some k → ((is_of_path k ≡ true) × (new ≡ old)) ⊎
-      IsSomeAnd path_end (λ there. IsSomeAnd (task_of edit.op)
-      (λ task. IsRefusedAt old new task k there))
   pub fits : IfSome path_end (λ there. IfSome (task_of edit.op) (λ task. FitsAt old task there)) →
       (k : ErrorKind) → r ≡ Some k → is_of_path k ≡ true
-  pub taken : (r ≡ Some NoSuchPlace → ⊥) →
-      IfSome path_end (λ there. IfSome (task_of edit.op) (λ task. AllocatesAt old new task r there))
+  pub ends : (r ≡ Some NoSuchPlace → ⊥) →
+      IfSome path_end (λ there. IfSome (task_of edit.op) (λ task. EndsAt old new task r there))
 
 -- From old to new the edits are such steps in order, each with its outcome.
 abbrev pub AreSteps : View → View → List Edit → List (Option ErrorKind) → Type 0

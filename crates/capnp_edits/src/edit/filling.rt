@@ -51,7 +51,7 @@ pub(crate) fn copy_content<A: BuilderArena>(
     source: Source<'_>,
 ) -> Result<(), ErrorKind>
     requires { IsStructInside (A.view arena.old).words parent }
-    ensures filled { FillsAt (A.view arena.old) (A.view arena.new) (struct_place parent)
+    ensures filled { FillsAt (A.view arena.old) (A.view arena.new) parent
         source.entry (refusal_of result) }
     ensures counted { (A.view arena.new).refusals ≡ refusals_after (refusal_of result)
         (A.view arena.old).refusals }

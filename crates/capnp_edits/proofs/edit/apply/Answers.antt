@@ -39,8 +39,8 @@ returns-in-Pointer g c =
     let is : task_of e.op ≡ Some task = sym c.in-Some-task_of.ensures in
     let leads : (t : Tree) → IsStored old.words 0 0 t → IsPathFound old.words (record { segment = 0; word = 0 }) t (map step_of e.path.now) (Some (AtPointer there)) =
     λ t stored. subst (IsPathFound old.words (record { segment = 0; word = 0 }) t (map step_of e.path.now)) (ap Some c.in-Pointer.is) (c.in-Some.ensures.found t stored) in
-    step_at old new e (AtPointer there) task (refusal_of c.edit_pointer.result) is (c.has_words.ensures.enough.0 c.if-not-has_words.false) (applied_pointer old.words new.words e there task _ is leads done.done) done.counted leads done.named
-    done.fits done.nowhere done.taken done.done
+    step_at old new e (AtPointer there) task (refusal_of c.edit_pointer.result) is (c.has_words.ensures.enough.0 c.if-not-has_words.false) (applied_pointer old.words new.words e there task _ is leads done.done) done.counted leads
+    done.fits done.nowhere done.ends done.done
 
 pub returns-in-InStruct : goal.returns-in-InStruct
 returns-in-InStruct g c =
@@ -54,7 +54,7 @@ returns-in-InStruct g c =
     let leads : (t : Tree) → IsStored old.words 0 0 t → IsPathFound old.words (record { segment = 0; word = 0 }) t (map step_of e.path.now) (Some (AtElement there)) =
     λ t stored. subst (IsPathFound old.words (record { segment = 0; word = 0 }) t (map step_of e.path.now)) (ap Some c.in-Element.is) (c.in-Some.ensures.found t stored) in
     step_at old new e (AtElement there) (InStruct change) (refusal_of c.change_struct.result) is (c.has_words.ensures.enough.0 c.if-not-has_words.false) (element_applied old new e there change _ is leads done.done) done.counted leads
-    done.named done.fits done.nowhere done.taken done.done
+    done.fits done.nowhere done.ends done.done
 
 pub returns-in_default-task : goal.returns-in_default-task
 returns-in_default-task g c =

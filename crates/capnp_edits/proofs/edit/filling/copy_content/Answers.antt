@@ -6,7 +6,7 @@ use Rattle.capnp_edits.specs.Edits.{refusal_of, refusals_after}
 use Rattle.capnp_edits.specs.Steps.{FillsAt}
 use Rattle.capnp_edits.proofs.Copied.{unread_counted, struct_unread}
 use Rattle.capnp_builders.specs.Places.{struct_place}
-use Rattle.capnp_edits.proofs.Filled.{ContentFitsBehind, fill_done, fill_counted, fill_nothing, fill_unread, fill_fits}
+use Rattle.capnp_edits.proofs.Filled.{ContentFitsBehind, FillsPlace, fills_struct, fill_done, fill_counted, fill_nothing, fill_unread, fill_fits}
 use Rattle.capnp_edits.proofs.edit.filling.copy_content.Goals as goal
 
 pub returns-in_err-root-clause-filled : goal.returns-in_err-root-clause-filled
@@ -37,9 +37,9 @@ returns-in-Some-clause-filled g c =
     let old = g.A.BuilderArena.view c.args.arena.now in
     let new = g.A.BuilderArena.view c.copy_content_from.new.self.arena.now in
     let value = c.in_ok-value.value in
-    let filled = subst (λ p. FillsAt old new p c.args.source (refusal_of c.copy_content_from.result)) c.in-Some.ensures.place
-    (fill_done c.copy_content_from.result _ c.args.source c.in_ok-root.root value _ _ _ old new c.in-Some.place c.in_ok-root.ensures.found value.content_is.1 c.in_ok-value.ensures.read c.copy_content_from.ensures.copied c.copy_content_from.ensures.refused c.copy_content_from.ensures.taken) in
-    subst (λ (a : g.row.A.Denot). FillsAt old (g.A.BuilderArena.view a) (struct_place c.args.parent) c.args.source (refusal_of c.copy_content_from.result)) (search rules) filled
+    let filled = fills_struct (subst (λ p. FillsPlace old new p c.args.source (refusal_of c.copy_content_from.result)) c.in-Some.ensures.place
+    (fill_done c.copy_content_from.result _ c.args.source c.in_ok-root.root value _ _ _ old new c.in-Some.place c.in_ok-root.ensures.found value.content_is.1 c.in_ok-value.ensures.read c.copy_content_from.ensures.copied c.copy_content_from.ensures.refused c.copy_content_from.ensures.taken)) in
+    subst (λ (a : g.row.A.Denot). FillsAt old (g.A.BuilderArena.view a) c.args.parent c.args.source (refusal_of c.copy_content_from.result)) (search rules) filled
 
 pub returns-in-Some-clause-counted : goal.returns-in-Some-clause-counted
 returns-in-Some-clause-counted g c =
@@ -51,7 +51,7 @@ returns-in-Some-clause-counted g c =
 pub returns-in-None-clause-filled : goal.returns-in-None-clause-filled
 returns-in-None-clause-filled g c =
     let value = c.in_ok-value.value in
-    fill_nothing _ c.args.source c.in_ok-root.root value _ _ (g.A.BuilderArena.view c.args.arena.now) c.args.parent c.in_ok-root.ensures.found value.content_is.1 c.in_ok-value.ensures.read (c.in-None.ensures.empty refl)
+    fills_struct (fill_nothing _ c.args.source c.in_ok-root.root value _ _ (g.A.BuilderArena.view c.args.arena.now) c.args.parent c.in_ok-root.ensures.found value.content_is.1 c.in_ok-value.ensures.read (c.in-None.ensures.empty refl))
 
 pub returns-in_err-value-clause-fits : goal.returns-in_err-value-clause-fits
 returns-in_err-value-clause-fits g c = λ fits. absurd (fill_unread (g.A.BuilderArena.view c.args.arena.now) c.args.parent.segment c.args.source c.args.parent.size.pointers _ (struct_unread _ (record { source = c.args.source; wanted = AStruct; canonicalize = false }) c.in_ok-root.root _ _ _ refl c.in_ok-root.ensures.found c.in_err-value.ensures.refused) (fits c.args.parent refl))

@@ -7,7 +7,7 @@ returns-in-None-clause-found g c = λ t stored. step_nowhere _ 0 0 t c.loop-step
 
 -- without a step the path leads to the root itself
 pub loop-step-init : goal.loop-step-init
-loop-step-init g c = record { inside = c.requires; found = λ t stored. (t, refl, refl) }
+loop-step-init g c = record { inside = c.requires; found = λ t stored. (t, refl) }
 
 pub loop-step-preserved : goal.loop-step-preserved
 loop-step-preserved g c = record {
