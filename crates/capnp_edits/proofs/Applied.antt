@@ -171,8 +171,8 @@ object_made result old new place object n is made leads =
       fits = λ room k e. absurd (cc);
       nowhere = λ e. absurd (cc);
       ends = λ some. (
-          record { behind = made.behind; forms = tt; begun = new; kept = made.memory.granted; object = made.memory.taken; pads = writes new new refl (refl, λ v. refl) },
-          empty_leads (call_at place.segment place.word old new) object leads,
+        record { behind = made.behind; forms = tt; begun = new; kept = made.memory.granted; object = made.memory.taken; pads = writes new new refl (refl, λ v. refl) },
+        empty_leads (call_at place.segment place.word old new) object leads,
       );
     }
     value_made (Err k) old new place object made leads =

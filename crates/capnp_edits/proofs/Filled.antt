@@ -62,7 +62,7 @@ use Rattle.capnp_edits.specs.declared.edit.tasks.StructChange.{StructChange}
 use Rattle.capnp_edits.specs.declared.edit.tasks.StructChange.TheVariants.{Bits, Content}
 use Rattle.capnp_edits.specs.Tasks.{task_of}
 use Rattle.capnp_edits.specs.Paths.{found, IsElementFound, ElementOf, step_of}
-use Rattle.capnp_edits.specs.Sources.{root_of, once_at_root, Sections, LeadsToStruct, no_struct, a_struct, ContentRead, HasNothingToCopy, IsNextUnreadable}
+use Rattle.capnp_edits.specs.Sources.{HasRoot, root_of, once_at_root, Sections, LeadsToStruct, no_struct, a_struct, ContentRead, HasNothingToCopy, IsNextUnreadable}
 use Rattle.capnp_edits.specs.Edits.{struct_changed, refusal_of, bits_of, fills, is_of_path, PutsBits, are_written, are_outside, refusals_after, IsApplied, EditTakes}
 use Rattle.capnp_edits.specs.Steps.{DoesThere, FillsAt, IsStructAt, FitsAt, EndsAt, IsDoneAt, result_of}
 use Rattle.capnp_edits.specs.declared.edit.path.PathEnd.TheVariants.{Pointer as AtPointer, Element as AtElement}
@@ -105,18 +105,18 @@ source_struct g source from v m n opened long read =
 
 -- From old to new the content of a source's struct is copied over the struct at a place, with
 -- outcome r; then the same, or there is no struct to copy.
-record FillingAt (old new : View) (place : StructPlace) (source : Source) (r : Option ErrorKind) : Type 0 where
-  root : HasRoot source
-  from : Sections
-  leads : LeadsToStruct (root_of source) (once_at_root source) from
-  bytes : List ℕ
-  are_words : words_of bytes ≡ from.words
-  taken : View
-  limits : KeepsLimits old taken
-  takes : TakesBytes old.words taken.words place (64 * length from.words) bytes
-  after : Meter
-  copies : let call = pointers_copied place taken new from.limiter after in MatchOption r (CopiesChildren from.first (min place.pointers from.pointers) call) (CopiesFirst from.first (min place.pointers from.pointers) call)
-  few : TakesAtMost (result_of r) (children_original from.first (min place.pointers from.pointers)) (pointers_copied place old new from.limiter after)
+pub record FillingAt (old new : View) (place : StructPlace) (source : Source) (r : Option ErrorKind) : Type 0 where
+  pub root : HasRoot source
+  pub from : Sections
+  pub leads : LeadsToStruct (root_of source) (once_at_root source) from
+  pub bytes : List ℕ
+  pub are_words : words_of bytes ≡ from.words
+  pub taken : View
+  pub limits : KeepsLimits old taken
+  pub takes : TakesBytes old.words taken.words place (64 * length from.words) bytes
+  pub after : Meter
+  pub copies : let call = pointers_copied place taken new from.limiter after in MatchOption r (CopiesChildren from.first (min place.pointers from.pointers) call) (CopiesFirst from.first (min place.pointers from.pointers) call)
+  pub few : TakesAtMost (result_of r) (children_original from.first (min place.pointers from.pointers)) (pointers_copied place old new from.limiter after)
 
 abbrev pub FillsPlace : View → View → StructPlace → Source → Option ErrorKind → Type 0
 FillsPlace old new place source r = (IsSomeAnd r (HasNothingToCopy source AStruct) × (new ≡ old)) ⊎ FillingAt old new place source r

@@ -120,11 +120,13 @@ with_object old new place object None there first here fits f =
     (f.fits (inl (subst (λ s. length (segment old.words s) + n ≤ old.room s) (sym here) fits)), then_kept old made.begun new n begun made.pads)
 with_object old new place object (Some k) there first here fits f =
     let n : ℕ = word_count (value_of object) in
-    let none : IsNoneOfMemory (Some k) = f.fits (inl (subst (λ s. length (segment old.words s) + n ≤ old.room s) (sym here) fits)) in
-    (none, same_first old new n first (elim (is_missing k) [
-      | inl is ↦ f.nowhere (ap Some is)
-      | inr other ↦ (let (why, same, only) = f.ends (another k other) in absurd (not_of_path k (of_memory old new n k (why, same)) (none k refl)))
-    ]))
+    let none : IsNoneOfMemory (Some k) = f.fits (inl (subst (λ s. length (segment old.words s) + n ≤ old.room s) (sym here) fits)) in (
+      none,
+      same_first old new n first (elim (is_missing k) [
+        | inl is ↦ f.nowhere (ap Some is)
+        | inr other ↦ (let (why, same, only) = f.ends (another k other) in absurd (not_of_path k (of_memory old new n k (why, same)) (none k refl)))
+      ]),
+    )
 
 -- such tasks
 made_plainly : (old new : View) (object : NewObject) (r : Option ErrorKind) (e : ExistingStruct) → EndsAt old new (Make object) r (AtElement e) → EndsPlainly old new r

@@ -16,7 +16,6 @@ use Rattle.capnp_format.specs.Forest.{target}
 use Rattle.capnp_format.specs.Segments.{Segments, Target, segment, word_at, IsPlace}
 use Rattle.capnp_format.specs.Word.{struct_word}
 use Rattle.capnp_format.specs.Tree.{Tree, Null, Capability, Struct, Flat, Pointers, Structs, capabilities, count}
-use Rattle.capnp_format.proofs.Levels.{one_value}
 use Rattle.capnp_arena_traits.specs.View.{View}
 use Rattle.capnp_contents.specs.declared.existing.ExistingBytes.{ExistingBytes}
 use Rattle.capnp_contents.specs.declared.existing.ExistingList.{ExistingList}
@@ -40,7 +39,7 @@ use Rattle.capnp_readers.specs.declared.readers.list_reader.ListPlace.{ListPlace
 use Rattle.capnp_readers.specs.declared.readers.struct_reader.StructPlace.{StructPlace}
 use Rattle.capnp_making.specs.Makes.{CallAt, call_at}
 use Rattle.capnp_contents.specs.Opening.{IsNoWider, Opens, OpensStruct, struct_opened}
-use Rattle.capnp_contents.specs.Rooms.{HasRoomFor, OpeningFits, RefusesGrowth, RefusesToBecome, direct_pointers, widened_words}
+use Rattle.capnp_contents.specs.Rooms.{HasRoomFor, OpeningFits, direct_pointers, widened_words}
 use Rattle.capnp_words.specs.Names.{is_allocation_name}
 use Rattle.capnp_contents.specs.RowsRemade.{RefusesWider}
 use Rattle.capnp_contents.specs.Widened.{list_widened, widened}
@@ -62,7 +61,7 @@ use Rattle.capnp_builders.proofs.FoundBytes.{GivesFoundBytes}
 use Rattle.capnp_edits.specs.Steps.{FitsAt, FindsSought, KeepsHeld, OpeningHasRoom, LeadsThere, IsDoneAt, result_of}
 use Rattle.capnp_edits.proofs.Applied.{Does, never_refused, of_allocation, of_no_place}
 use Rattle.capnp_edits.proofs.Contents.{list_refusal_of, data_refusal_of, text_refusal_of}
-use Rattle.capnp_edits.proofs.Names.{unfound_of_path, elsewhere, struct_elsewhere, structs_elsewhere, list_elsewhere, data_elsewhere, text_elsewhere, fault_elsewhere, unfound_name, list_unfound, data_unfound, text_unfound}
+use Rattle.capnp_edits.proofs.Names.{is_nowhere, unfound_of_path, elsewhere, struct_elsewhere, structs_elsewhere, list_elsewhere, data_elsewhere, text_elsewhere, fault_elsewhere, unfound_name, list_unfound, data_unfound, text_unfound}
 use Rattle.capnp_edits.proofs.Steps.{same_some}
 use Rattle.capnp_edits.proofs.Ways.{DoesAt, Way, becomes, yielded, default_denied, default_dropped, default_ignored, default_put, is_denied, is_done, is_not_allocated}
 use Rattle.capnp_contents.proofs.Listed.{same_tree}
@@ -200,43 +199,20 @@ with_does result of_null default made_of P c t stored does h = elim (null_or_ign
       (as_stands c.old.words c.new.words (place_in c) made_of t (refusal_of result) (does c t stored (subst (λ u. WithDefault u c t P result) plain h)))
 ]
 
--- Why a value isn't opened or found: it is refused with its error, which isn't NoSuchPlace, and
--- nothing is changed; or memory is refused.
-abbrev IsGrowthRefused : Sought → CallAt → ErrorKind → Type 0
-IsGrowthRefused (ForStruct size) c k = RefusesToBecome (IsStored c.old.words c.segment c.at) (struct_opened size) c.old c.new k
-IsGrowthRefused (ForStructs size) c k = RefusesToBecome (IsStored c.old.words c.segment c.at) (list_widened size.data_words size.pointers) c.old c.new k
-IsGrowthRefused sought c k = ⊥
+-- Where P holds for a call that is refused with k, k isn't NoSuchPlace.
+abbrev NeverSo : (CallAt → Tree → Type 0) → ErrorKind → Type 0
+NeverSo P k = (c : CallAt) (t : Tree) → P c t → k ≡ NoSuchPlace → ⊥
 
-abbrev IsWhy : Sought → CallAt → ErrorKind → Type 0
-IsWhy sought c k = ((k ≡ NoSuchPlace → ⊥) × (c.new ≡ c.old)) ⊎ IsGrowthRefused sought c k
+never_opened : {B : Type 0} (k : ErrorKind) (size : StructSize) (Given : Segments → ℕ → ℕ → Tree → B → Type 0) (c : CallAt) (t : Tree) (q : Result Tree ErrorKind) → is_nowhere q ≡ false → Opens size Given c t q (Err k) → k ≡ NoSuchPlace → ⊥
+never_opened k size Given c t (Ok u) e h is = of_no_place k (growth_named c.old c.new (widened_words u) (direct_pointers t) k h.full) is
+never_opened k size Given c t (Err j) e h is = elsewhere {A = Tree} (Err j) k e (ap Err (sym (same_error k j h.0))) is
 
-abbrev WhySo : Sought → (CallAt → Tree → Type 0) → ErrorKind → Type 0
-WhySo sought P k = (c : CallAt) (t : Tree) → IsStored c.old.words c.segment c.at t → P c t → IsWhy sought c k
+struct_never : (size : StructSize) (k : ErrorKind) → NeverSo (OpensStruct IsStructGiven size (Err k)) k
+struct_never size k c t h is = never_opened k size IsStructGiven c t (struct_opened size t) (struct_elsewhere size t) h is
 
--- memory is refused for what the value t at the place becomes
-not_become : (becomes_of : Tree → Result Tree ErrorKind) (c : CallAt) (t u : Tree) (k : ErrorKind) → IsStored c.old.words c.segment c.at t → becomes_of t ≡ Ok u → SpendsMemory c.old c.new k →
-    RefusesGrowth c.old c.new (widened_words u) (direct_pointers t) k → RefusesToBecome (IsStored c.old.words c.segment c.at) becomes_of c.old c.new k
-not_become becomes_of c t u k stored e memory full = record {
-  name = growth_named c.old c.new (widened_words u) (direct_pointers t) k full;
-  memory = memory;
-  full = λ x v stands f.
-      (let same : x ≡ t = (one_value c.old.words stands.means.0 stored.means.0 c.segment c.at x t stands.means.1 stored.means.1 stands.means.2 stored.means.2).0 in
-      let made : u ≡ v = same_tree u v (sym e ∙ ap becomes_of (sym same) ∙ f) in
-      subst (λ y. RefusesGrowth c.old c.new (widened_words y) (direct_pointers x) k) made (subst (λ y. RefusesGrowth c.old c.new (widened_words u) (direct_pointers y) k) (sym same) full));
-}
-
-why_opened : {B : Type 0} (becomes_of : Tree → Result Tree ErrorKind) (k : ErrorKind) (size : StructSize) (Given : Segments → ℕ → ℕ → Tree → B → Type 0) (c : CallAt) (t : Tree) → IsStored c.old.words c.segment c.at t → (q : Result Tree ErrorKind) → becomes_of t ≡ q →
-    ((j : ErrorKind) → q ≡ Err j → j ≡ NoSuchPlace → ⊥) → Opens size Given c t q (Err k) → ((k ≡ NoSuchPlace → ⊥) × (c.new ≡ c.old)) ⊎ RefusesToBecome (IsStored c.old.words c.segment c.at) becomes_of c.old c.new k
-why_opened becomes_of k size Given c t stored (Ok u) e names h = inr (not_become becomes_of c t u k stored e h.memory h.full)
-why_opened becomes_of k size Given c t stored (Err j) e names h = inl ((λ e. names j refl (sym (same_error k j h.0) ∙ e)), h.1)
-
-struct_why : (size : StructSize) (k : ErrorKind) → WhySo (ForStruct size) (OpensStruct IsStructGiven size (Err k)) k
-struct_why size k c t stored h = why_opened (struct_opened size) k size IsStructGiven c t stored (struct_opened size t) refl (λ j e. elsewhere (struct_opened size t) j (struct_elsewhere size t) e) h
-
-structs_why : (size : StructSize) (k : ErrorKind) → WhySo (ForStructs size) (OpensList size (Err k)) k
-structs_why size k c Null stored h = absurd (let e = h.0 in cc)
-structs_why size k c t stored h =
-    why_opened (list_widened size.data_words size.pointers) k size IsListGiven c t stored (list_widened size.data_words size.pointers t) refl (λ j e. elsewhere (list_widened size.data_words size.pointers t) j (structs_elsewhere size.data_words size.pointers t) e) h
+structs_never : (size : StructSize) (k : ErrorKind) → NeverSo (OpensList size (Err k)) k
+structs_never size k c Null h is = absurd (let e = h.0 in cc)
+structs_never size k c t h is = never_opened k size IsListGiven c t (list_widened size.data_words size.pointers t) (structs_elsewhere size.data_words size.pointers t) h is
 
 list_err : (id : ℕ) (q : Result (Option ExistingList) ErrorKind) (k : ErrorKind) → Err k ≡ list_given id q → q ≡ Err k
 list_err id (Ok (Some l)) k e = absurd (cc)
@@ -248,101 +224,32 @@ bytes_err id (Ok (Some b)) k e = absurd (cc)
 bytes_err id (Ok None) k e = absurd (cc)
 bytes_err id (Err j) k e = ap Err (let same : j ≡ k = cc in same)
 
-list_why : (size : ElementSize) (k : ErrorKind) → WhySo (ForList size) (GivesFoundList size (Err k)) k
-list_why size k c t stored h = inl (elsewhere (list_in (target c.old.words c.segment c.at) size t) k (list_elsewhere (target c.old.words c.segment c.at) size t) (list_err c.segment (list_in (target c.old.words c.segment c.at) size t) k h.0), h.1)
+list_never : (size : ElementSize) (k : ErrorKind) → NeverSo (GivesFoundList size (Err k)) k
+list_never size k c t h is = elsewhere (list_in (target c.old.words c.segment c.at) size t) k (list_elsewhere (target c.old.words c.segment c.at) size t) (list_err c.segment (list_in (target c.old.words c.segment c.at) size t) k h.0) is
 
-data_why : (k : ErrorKind) → WhySo ForData (GivesFoundBytes data_in (Err k)) k
-data_why k c t stored h = inl (elsewhere (data_in (target c.old.words c.segment c.at) t) k (data_elsewhere (target c.old.words c.segment c.at) t) (bytes_err c.segment (data_in (target c.old.words c.segment c.at) t) k h.0), h.1)
+data_never : (k : ErrorKind) → NeverSo (GivesFoundBytes data_in (Err k)) k
+data_never k c t h is = elsewhere (data_in (target c.old.words c.segment c.at) t) k (data_elsewhere (target c.old.words c.segment c.at) t) (bytes_err c.segment (data_in (target c.old.words c.segment c.at) t) k h.0) is
 
-text_why : (k : ErrorKind) → WhySo ForText (GivesFoundBytes text_in (Err k)) k
-text_why k c t stored h = inl (elsewhere (text_in (target c.old.words c.segment c.at) t) k (text_elsewhere (target c.old.words c.segment c.at) t) (bytes_err c.segment (text_in (target c.old.words c.segment c.at) t) k h.0), h.1)
+text_never : (k : ErrorKind) → NeverSo (GivesFoundBytes text_in (Err k)) k
+text_never k c t h is = elsewhere (text_in (target c.old.words c.segment c.at) t) k (text_elsewhere (target c.old.words c.segment c.at) t) (bytes_err c.segment (text_in (target c.old.words c.segment c.at) t) k h.0) is
 
--- What is looked for isn't opened, which is refused with k: nothing is changed; or memory is refused
--- for what becomes of a struct or a list of structs.
-abbrev IsOpeningRefused : Sought → CallAt → ErrorKind → Type 0
-IsOpeningRefused (ForStruct size) c k = (c.new ≡ c.old) ⊎ RefusesToBecome (IsStored c.old.words c.segment c.at) (struct_opened size) c.old c.new k
-IsOpeningRefused (ForStructs size) c k = (c.new ≡ c.old) ⊎ RefusesToBecome (IsStored c.old.words c.segment c.at) (list_widened size.data_words size.pointers) c.old c.new k
-IsOpeningRefused sought c k = c.new ≡ c.old
-
-kept_held : (sought : Sought) (c : CallAt) (k : ErrorKind) → IsOpeningRefused sought c k → KeepsHeld sought c.old c.new k
-kept_held (ForStruct size) c k (inl same) = inl same
-kept_held (ForStruct size) c k (inr h) = inr (h.name, h.memory)
-kept_held (ForStructs size) c k (inl same) = inl same
-kept_held (ForStructs size) c k (inr h) = inr (h.name, h.memory)
-kept_held (ForList size) c k same = same
-kept_held ForText c k same = same
-kept_held ForData c k same = same
-
--- Why a search is refused: for the value that is there; for the value of its default, which is
--- copied first; or because the copy of the default is refused.
-data Why (sought : Sought) (c : CallAt) (default : Option (Bor (List ℕ))) (k : ErrorKind) : Type 0 where
-  as_found : IsOpeningRefused sought c k → Why sought c default k
-  as_default : (d : Bor (List ℕ)) (mid : View) → default ≡ Some d → KeepsMemory c.old mid → IsWhy sought (record c { old = mid }) k → Why sought c default k
-  as_copy : (d : Bor (List ℕ)) → default ≡ Some d → SpendsMemory c.old c.new k → RefusesDefault d.now c k → Why sought c default k
-
-unopened : (sought : Sought) (c : CallAt) (k : ErrorKind) → c.new ≡ c.old → IsOpeningRefused sought c k
-unopened (ForStruct size) c k same = inl same
-unopened (ForStructs size) c k same = inl same
-unopened sought c k same = same
-
-plainly : (sought : Sought) (c : CallAt) (k : ErrorKind) → IsWhy sought c k → IsOpeningRefused sought c k
-plainly sought c k (inl h) = unopened sought c k h.1
-plainly (ForStruct size) c k (inr h) = inr h
-plainly (ForStructs size) c k (inr h) = inr h
-plainly sought c k (inr h) = absurd h
-
--- if a default is copied, it has these bytes
-abbrev IsOf : List ℕ → DefaultUse → Type 0
-IsOf bytes ignored = Unit {0}
-IsOf bytes (is_denied_by k) = Unit {0}
-IsOf bytes (is_copied_from other) = other ≡ bytes
-
-use_is : (of_null : DefaultUse) (bytes ws : List ℕ) → IsOf bytes of_null → IsOf bytes (use_of_words of_null bytes ws)
-use_is of_null bytes [] plain = tt
-use_is of_null bytes (x ∷ xs) plain = by_first (nat_eq x 0)
-  where
-    by_first : (b : Bool) → IsOf bytes (cond b of_null (is_copied_from bytes))
-    by_first true = plain
-    by_first false = refl
-
-why_used : (B : Type 0) (k : ErrorKind) (used : DefaultUse) (d : Bor (List ℕ)) (sought : Sought) (P : CallAt → Tree → Type 0) (c : CallAt) → IsStored c.old.words c.segment c.at Null → IsOf d.now used → WhySo sought P k → WithDefault {B = B} used c Null P (Err k) →
-    Why sought c (Some d) k
-why_used B k ignored d sought P c stored only why h = as_found (plainly sought c k (why c Null stored h))
-why_used B k (is_denied_by j) d sought P c stored only why h = as_found (unopened sought c k h.1)
-why_used B k (is_copied_from bytes) d sought P c stored only why (inl on) = as_default d on.0 refl on.2.memory (why (record c { old = on.0 }) on.1 on.2.replaced.stored on.3)
-why_used B k (is_copied_from bytes) d sought P c stored only why (inr drops) = as_copy d refl drops.memory (subst (λ b. RefusesDefault b c k) only drops.named)
-
-why_null : (B : Type 0) (k : ErrorKind) (of_null : DefaultUse) (default : Option (Bor (List ℕ))) (sought : Sought) (P : CallAt → Tree → Type 0) (c : CallAt) → IsStored c.old.words c.segment c.at Null → ((bytes : List ℕ) → IsOf bytes of_null) → WhySo sought P k →
-    WithDefault {B = B} (default_use of_null default Null) c Null P (Err k) → Why sought c default k
-why_null B k of_null None sought P c stored plain why h = as_found (plainly sought c k (why c Null stored h))
-why_null B k of_null (Some d) sought P c stored plain why h = why_used B k (use_of_words of_null d.now (words_of d.now)) d sought P c stored (use_is of_null d.now (words_of d.now) (plain d.now)) why h
-
--- a place that is null stores null; for any other place the call says why it is refused
-why_refused : (B : Type 0) (k : ErrorKind) (of_null : DefaultUse) (default : Option (Bor (List ℕ))) (sought : Sought) (P : CallAt → Tree → Type 0) (c : CallAt) → IsPlace c.old.words c.segment c.at → ((bytes : List ℕ) → IsOf bytes of_null) → WhySo sought P k →
-    ((t : Tree) → IsStored c.old.words c.segment c.at t → WithDefault {B = B} (default_use of_null default t) c t P (Err k)) → ((word_at c.old.words c.segment c.at ≡ 0 → ⊥) → IsOpeningRefused sought c k) → Why sought c default k
-why_refused B k of_null default sought P c there plain why found set = elim (cases_lt 0 (word_at c.old.words c.segment c.at)) [
-  | inl some ↦ as_found (set (λ null. absurd (omega (arith, some, null))))
-  | inr none ↦ (let stored = null_stored c.old.words c.segment c.at there (omega (arith, none)) in why_null B k of_null default sought P c stored plain why (found Null stored))
-]
-
--- a search is refused with NoSuchPlace only if nothing is changed
-grown_nowhere : (sought : Sought) (c : CallAt) (k : ErrorKind) → IsGrowthRefused sought c k → k ≡ NoSuchPlace → ⊥
-grown_nowhere (ForStruct size) c k h e = (let same = sym h.name ∙ ap is_allocation_name e in cc)
-grown_nowhere (ForStructs size) c k h e = (let same = sym h.name ∙ ap is_allocation_name e in cc)
-grown_nowhere sought c k h e = absurd h
-
-never_nowhere : (sought : Sought) (c : CallAt) (default : Option (Bor (List ℕ))) (k : ErrorKind) → Why sought c default k → k ≡ NoSuchPlace → c.new ≡ c.old
-never_nowhere (ForStruct size) c default k (as_found (inl same)) e = same
-never_nowhere (ForStruct size) c default k (as_found (inr h)) e = absurd (grown_nowhere (ForStruct size) c k h e)
-never_nowhere (ForStructs size) c default k (as_found (inl same)) e = same
-never_nowhere (ForStructs size) c default k (as_found (inr h)) e = absurd (grown_nowhere (ForStructs size) c k h e)
-never_nowhere sought c default k (as_found same) e = same
-never_nowhere sought c default k (as_default d mid is keeps (inl h)) e = absurd (h.0 e)
-never_nowhere sought c default k (as_default d mid is keeps (inr h)) e = absurd (grown_nowhere sought (record c { old = mid }) k h e)
-never_nowhere sought c default k (as_copy d is spent named) e = absurd (elim (dropped_name d.now c.segment c.at c.old c.new k named) [
-  | inl memory ↦ of_no_place k memory e
-  | inr fault ↦ fault_elsewhere of_default (subst (HasFault of_default (default_root d.now)) e fault)
+-- A search that is refused with NoSuchPlace changes nothing: with a default, and at a place that
+-- doesn't store null.
+never_used : (B : Type 0) (k : ErrorKind) (used : DefaultUse) (P : CallAt → Tree → Type 0) (c : CallAt) (t : Tree) → NeverSo P k → WithDefault {B = B} used c t P (Err k) → k ≡ NoSuchPlace → c.new ≡ c.old
+never_used B k ignored P c t never h is = absurd (never c t h is)
+never_used B k (is_denied_by j) P c t never h is = h.1
+never_used B k (is_copied_from bytes) P c t never (inl on) is = absurd (never (record c { old = on.0 }) on.1 on.3 is)
+never_used B k (is_copied_from bytes) P c t never (inr drops) is = absurd (elim (dropped_name bytes c.segment c.at c.old c.new k drops.named) [
+  | inl memory ↦ of_no_place k memory is
+  | inr fault ↦ fault_elsewhere of_default (subst (HasFault of_default (default_root bytes)) is fault)
 ])
+
+never_held : (sought : Sought) (c : CallAt) (k : ErrorKind) → KeepsHeld sought c.old c.new k → k ≡ NoSuchPlace → c.new ≡ c.old
+never_held (ForStruct size) c k (inl same) is = same
+never_held (ForStruct size) c k (inr h) is = absurd (of_no_place k h.0 is)
+never_held (ForStructs size) c k (inl same) is = same
+never_held (ForStructs size) c k (inr h) is = absurd (of_no_place k h.0 is)
+never_held sought c k same is = same
 
 -- A search finds what is sought, by its outcome r.
 abbrev FindsThere : Sought → Option (Bor (List ℕ)) → Option ErrorKind → CallAt → Tree → Type 0
@@ -429,21 +336,21 @@ not_null c there none null = none (null_stored c.old.words c.segment c.at there 
 
 -- what a call leaves, refused or not
 search_done : {B : Type 0} (result : Result B ErrorKind) (sought : Sought) (default : Option (Bor (List ℕ))) (c : CallAt) → Does c.old.words c.new.words (place_in c) (Search sought default) (refusal_of result) → OnOk result (KeepsMemory c.old c.new) →
-    IfErr result (SpendsMemory c.old c.new) → IfErr result (Why sought c default) → ((IsStored c.old.words c.segment c.at Null → ⊥) → IfErr result (IsOpeningRefused sought c)) → (FitsAt c.old (Search sought default) (AtPointer (place_in c)) → IfErr result (λ k. is_of_path k ≡ true)) →
+    IfErr result (SpendsMemory c.old c.new) → IfErr result (λ k. k ≡ NoSuchPlace → c.new ≡ c.old) → ((IsStored c.old.words c.segment c.at Null → ⊥) → IfErr result (KeepsHeld sought c.old c.new)) → (FitsAt c.old (Search sought default) (AtPointer (place_in c)) → IfErr result (λ k. is_of_path k ≡ true)) →
     ((t : Tree) → IsStored c.old.words c.segment c.at t → FindsThere sought default (refusal_of result) c t) → OpensThere c sought default (refusal_of result) → IsDoneAt c.old c.new (AtPointer (place_in c)) (Search sought default) (refusal_of result)
-search_done (Ok x) sought default c does granted memory why held fits finds opens = record {
+search_done (Ok x) sought default c does granted memory never held fits finds opens = record {
   done = does;
   counted = ap (λ (v : View). v.refusals) granted.0;
   fits = λ room k e. absurd (cc);
   nowhere = λ e. absurd (cc);
   ends = λ some. (finds, λ set. tt, opens_at c sought default None opens);
 }
-search_done (Err k) sought default c does granted memory why held fits finds opens = record {
+search_done (Err k) sought default c does granted memory never held fits finds opens = record {
   done = does;
   counted = memory.2;
   fits = λ room j e. subst (λ x. is_of_path x ≡ true) (same_some k j e) (fits room);
-  nowhere = λ e. never_nowhere sought c default k why (same_some k NoSuchPlace e);
-  ends = λ some. (finds, λ set. kept_held sought c k (held set), opens_at c sought default (Some k) opens);
+  nowhere = λ e. never (same_some k NoSuchPlace e);
+  ends = λ some. (finds, held, opens_at c sought default (Some k) opens);
 }
 
 -- If a default's value has no fault and fits, the search is refused only for what is found.
@@ -494,27 +401,30 @@ found_fits {B} (Err k) of_null default P c there plain name found set room = eli
     at_null None fits h = unfound_of_path k (name k c Null h)
     at_null (Some d) fits h = used_fits B k of_null d.now (words_of d.now) (P (Err k)) c (plain d.now) (name k) fits.1 h
 
--- why any call is refused
-why_if : {B : Type 0} (result : Result B ErrorKind) (of_null : DefaultUse) (default : Option (Bor (List ℕ))) (sought : Sought) (P : Result B ErrorKind → CallAt → Tree → Type 0) (c : CallAt) → IsPlace c.old.words c.segment c.at → ((bytes : List ℕ) → IsOf bytes of_null) →
-    ((k : ErrorKind) → WhySo sought (P (Err k)) k) → ((t : Tree) → IsStored c.old.words c.segment c.at t → WithDefault (default_use of_null default t) c t (P result) result) →
-    ((word_at c.old.words c.segment c.at ≡ 0 → ⊥) → IfErr result (IsOpeningRefused sought c)) → IfErr result (Why sought c default)
-why_if (Ok x) of_null default sought P c there plain why found set = tt
-why_if {B} (Err k) of_null default sought P c there plain why found set = why_refused B k of_null default sought (P (Err k)) c there plain (why k) found set
+-- a place that is null stores null; for any other place the call says what it leaves
+never_if : {B : Type 0} (result : Result B ErrorKind) (of_null : DefaultUse) (default : Option (Bor (List ℕ))) (sought : Sought) (P : Result B ErrorKind → CallAt → Tree → Type 0) (c : CallAt) → IsPlace c.old.words c.segment c.at → ((k : ErrorKind) → NeverSo (P (Err k)) k) →
+    ((t : Tree) → IsStored c.old.words c.segment c.at t → WithDefault (default_use of_null default t) c t (P result) result) → ((IsStored c.old.words c.segment c.at Null → ⊥) → IfErr result (KeepsHeld sought c.old c.new)) →
+    IfErr result (λ k. k ≡ NoSuchPlace → c.new ≡ c.old)
+never_if (Ok x) of_null default sought P c there never found held = tt
+never_if {B} (Err k) of_null default sought P c there never found held = λ is. elim (cases_lt 0 (word_at c.old.words c.segment c.at)) [
+  | inl some ↦ never_held sought c k (held (λ stored. omega (arith, some, stored.means.2.0))) is
+  | inr none ↦ never_used B k (default_use of_null default Null) (P (Err k)) c Null (never k) (found Null (null_stored c.old.words c.segment c.at there (omega (arith, none)))) is
+]
 
--- why a call is refused at a place that isn't null
-set_struct : {B : Type 0} (result : Result B ErrorKind) (c : CallAt) (size : StructSize) → IfErr result (IsNoWider size c) → IfErr result (IsOpeningRefused (ForStruct size) c)
+-- what a call leaves at a place that isn't null
+set_struct : {B : Type 0} (result : Result B ErrorKind) (c : CallAt) (size : StructSize) → IfErr result (IsNoWider size c) → IfErr result (KeepsHeld (ForStruct size) c.old c.new)
 set_struct (Ok x) c size h = tt
 set_struct (Err k) c size (inl h) = inl h.1
-set_struct (Err k) c size (inr h) = inr h
+set_struct (Err k) c size (inr h) = inr (h.name, h.memory)
 
-set_structs : {B : Type 0} (result : Result B ErrorKind) (c : CallAt) (size : StructSize) → IfErr result (RefusesWider (IsStored c.old.words c.segment c.at) size c.old c.new) → IfErr result (IsOpeningRefused (ForStructs size) c)
+set_structs : {B : Type 0} (result : Result B ErrorKind) (c : CallAt) (size : StructSize) → IfErr result (RefusesWider (IsStored c.old.words c.segment c.at) size c.old c.new) → IfErr result (KeepsHeld (ForStructs size) c.old c.new)
 set_structs (Ok x) c size h = tt
 set_structs (Err k) c size (inl h) = inl h.0
-set_structs (Err k) c size (inr h) = inr h
+set_structs (Err k) c size (inr h) = inr (h.name, h.memory)
 
-set_same : {B : Type 0} (result : Result B ErrorKind) (sought : Sought) (c : CallAt) → c.new ≡ c.old → IfErr result (IsOpeningRefused sought c)
-set_same (Ok x) sought c same = tt
-set_same (Err k) sought c same = unopened sought c k same
+set_same : {B : Type 0} (result : Result B ErrorKind) (c : CallAt) → c.new ≡ c.old → IfErr result (λ k. c.new ≡ c.old)
+set_same (Ok x) c same = tt
+set_same (Err k) c same = same
 
 -- the calls
 pub struct_sought : (result : Result StructPlace ErrorKind) (size : StructSize) (default : Option (Bor (List ℕ))) (c : CallAt) → IsPlace c.old.words c.segment c.at →
@@ -525,7 +435,7 @@ pub struct_sought : (result : Result StructPlace ErrorKind) (size : StructSize) 
 struct_sought result size default c there found set granted memory fits empty =
     search_done result (ForStruct size) default c
     (λ t stored. with_does result ignored default (looked_for (ForStruct size)) (OpensStruct IsStructGiven size result) c t stored (struct_so result size) (found t stored)) granted memory
-    (why_if result ignored default (ForStruct size) (OpensStruct IsStructGiven size) c there (λ b. tt) (struct_why size) found (λ some. set_struct result c size (set some))) (λ none. set_struct result c size (set (not_null c there none))) (λ room. never_refused result (fits (struct_room size default c.old (place_in c) room)))
+    (never_if result ignored default (ForStruct size) (OpensStruct IsStructGiven size) c there (struct_never size) found (λ none. set_struct result c size (set (not_null c there none)))) (λ none. set_struct result c size (set (not_null c there none))) (λ room. never_refused result (fits (struct_room size default c.old (place_in c) room)))
     (λ t stored. by_outcome result (object_default default t) (OpensStruct IsStructGiven size result) (FindsSought (ForStruct size) (refusal_of result)) c t (λ d u. opens_so result size IsStructGiven d u (struct_opened size u)) (found t stored))
     (opens_there result c size default empty)
 
@@ -536,7 +446,7 @@ pub structs_sought : (result : Result ListPlace ErrorKind) (size : StructSize) (
 structs_sought result size default c there found set granted memory fits =
     search_done result (ForStructs size) default c
     (λ t stored. with_does result ignored default (looked_for (ForStructs size)) (OpensList size result) c t stored (structs_so result size) (found t stored)) granted memory
-    (why_if result ignored default (ForStructs size) (OpensList size) c there (λ b. tt) (structs_why size) found (λ some. set_structs result c size (set some))) (λ none. set_structs result c size (set (not_null c there none))) (λ room. never_refused result (fits room))
+    (never_if result ignored default (ForStructs size) (OpensList size) c there (structs_never size) found (λ none. set_structs result c size (set (not_null c there none)))) (λ none. set_structs result c size (set (not_null c there none))) (λ room. never_refused result (fits room))
     (λ t stored. by_outcome result (object_default default t) (OpensList size result) (FindsSought (ForStructs size) (refusal_of result)) c t (structs_found result size) (found t stored)) tt
 
 pub list_sought : (result : Result ListPlace ErrorKind) (size : ElementSize) (default : Option (Bor (List ℕ))) (c : CallAt) → IsPlace c.old.words c.segment c.at →
@@ -545,7 +455,7 @@ pub list_sought : (result : Result ListPlace ErrorKind) (size : ElementSize) (de
 list_sought result size default c there found set granted memory =
     search_done result (ForList size) default c
     (λ t stored. with_does result ignored default (looked_for (ForList size)) (GivesFoundList size result) c t stored (list_so result size) (found t stored)) granted memory
-    (why_if result ignored default (ForList size) (GivesFoundList size) c there (λ b. tt) (list_why size) found (λ some. set_same result (ForList size) c (set some).0)) (λ none. set_same result (ForList size) c (set (not_null c there none)).0)
+    (never_if result ignored default (ForList size) (GivesFoundList size) c there (list_never size) found (λ none. set_same result c (set (not_null c there none)).0)) (λ none. set_same result c (set (not_null c there none)).0)
     (λ room. found_fits result ignored default (GivesFoundList size) c there (λ b. tt) (list_name size) found (λ some. (set some).1) room)
     (λ t stored. by_outcome result (object_default default t) (GivesFoundList size result) (FindsSought (ForList size) (refusal_of result)) c t (list_found result size) (found t stored)) tt
 
@@ -556,7 +466,7 @@ data_sought result default c there found set granted memory =
     let of_null : DefaultUse = is_denied_by ExistingPointerIsNotAList in
     search_done result ForData default c
     (λ t stored. with_does result of_null default (looked_for ForData) (GivesFoundBytes data_in result) c t stored (data_so result) (found t stored)) granted memory
-    (why_if result of_null default ForData (GivesFoundBytes data_in) c there (λ b. tt) data_why found (λ some. set_same result ForData c (set some).0)) (λ none. set_same result ForData c (set (not_null c there none)).0)
+    (never_if result of_null default ForData (GivesFoundBytes data_in) c there data_never found (λ none. set_same result c (set (not_null c there none)).0)) (λ none. set_same result c (set (not_null c there none)).0)
     (λ room. found_fits result of_null default (GivesFoundBytes data_in) c there (λ b. refl) data_name found (λ some. (set some).1) room)
     (λ t stored. by_outcome result (blob_default default t) (GivesFoundBytes data_in result) (FindsSought ForData (refusal_of result)) c t (data_found result) (found t stored)) tt
 
@@ -567,7 +477,7 @@ text_sought result default c there found set granted memory =
     let of_null : DefaultUse = is_denied_by ExistingPointerIsNotAList in
     search_done result ForText default c
     (λ t stored. with_does result of_null default (looked_for ForText) (GivesFoundBytes text_in result) c t stored (text_so result) (found t stored)) granted memory
-    (why_if result of_null default ForText (GivesFoundBytes text_in) c there (λ b. tt) text_why found (λ some. set_same result ForText c (set some).0)) (λ none. set_same result ForText c (set (not_null c there none)).0)
+    (never_if result of_null default ForText (GivesFoundBytes text_in) c there text_never found (λ none. set_same result c (set (not_null c there none)).0)) (λ none. set_same result c (set (not_null c there none)).0)
     (λ room. found_fits result of_null default (GivesFoundBytes text_in) c there (λ b. refl) text_name found (λ some. (set some).1) room)
     (λ t stored. by_outcome result (blob_default default t) (GivesFoundBytes text_in result) (FindsSought ForText (refusal_of result)) c t (text_found result) (found t stored)) tt
 

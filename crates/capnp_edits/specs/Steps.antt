@@ -51,6 +51,9 @@ use Rattle.capnp_edits.specs.declared.edit.tasks.StructChange.TheVariants.{Bits,
 use Rattle.capnp_edits.specs.declared.edit.tasks.Sought.{Sought}
 use Rattle.capnp_edits.specs.declared.edit.tasks.Sought.TheVariants.{Struct as ForStruct}
 use Rattle.capnp_edits.specs.declared.edit.tasks.Sought.TheVariants.{StructList as ForStructs}
+use Rattle.capnp_edits.specs.declared.edit.tasks.Sought.TheVariants.{List as ForList}
+use Rattle.capnp_edits.specs.declared.edit.tasks.Sought.TheVariants.{Text as ForText}
+use Rattle.capnp_edits.specs.declared.edit.tasks.Sought.TheVariants.{Data as ForData}
 use Rattle.capnp_edits.specs.Tasks.{task_of}
 use Rattle.capnp_edits.specs.declared.edit.path.PathEnd.{PathEnd}
 use Rattle.capnp_edits.specs.declared.edit.path.PathEnd.TheVariants.{Pointer as AtPointer}
