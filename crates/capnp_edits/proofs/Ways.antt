@@ -1,7 +1,7 @@
 -- The ways in which an edit ends, one by one; and what an operation makes, by its task.
 use Rattle.std.proofs.Common.{◌≡◌, ◌⊎◌, inl, inr, ℕ, true, ◌*◌, ◌<◌, min, List, length, Option, Some, None, unwrap_or, refl, sym, subst, map}
 use Rattle.std.specs.Option.{option_map_or}
-use Rattle.std.specs.Prelude.{MatchOption, Result, Ok, Err}
+use Rattle.std.specs.Prelude.{MatchOption, Ok, Err}
 use Rattle.capnp_words.specs.declared.error.ErrorKind.{ErrorKind}
 use Rattle.capnp_words.specs.declared.error.ErrorKind.TheVariants.{NoSuchPlace}
 use Rattle.capnp_format.specs.Canonical.{HasNoCapabilities}

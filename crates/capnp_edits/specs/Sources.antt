@@ -9,7 +9,7 @@ use Rattle.capnp_words.specs.declared.error.ErrorKind.TheVariants.{MessageContai
 use Rattle.capnp_words.specs.declared.error.ErrorKind.TheVariants.{ReadLimitExceeded}
 use Rattle.capnp_words.specs.declared.wire_pointer.ElementSize.TheVariants.{Void}
 use Rattle.capnp_format.specs.Bytes.{message, words_of}
-use Rattle.capnp_format.specs.Segments.{Target, segment, words_at}
+use Rattle.capnp_format.specs.Segments.{Target, words_at}
 use Rattle.capnp_format.specs.Tree.{Tree, Null, Struct, Flat, Pointers, Structs, Trees, no_trees}
 use Rattle.capnp_format.specs.Tree.{count}
 use Rattle.capnp_format.specs.Word.{kind, offset_bits, data_words, pointer_count, element_size, list_count}

@@ -5,7 +5,6 @@ use Rattle.capnp_edits.specs.declared.edit.copying.Wanted.TheVariants.{Struct as
 use Rattle.capnp_edits.specs.Edits.{refusal_of, refusals_after}
 use Rattle.capnp_edits.specs.Steps.{FillsAt}
 use Rattle.capnp_edits.proofs.Copied.{unread_counted, struct_unread}
-use Rattle.capnp_builders.specs.Places.{struct_place}
 use Rattle.capnp_edits.proofs.Filled.{ContentFitsBehind, FillsPlace, fills_struct, fill_done, fill_counted, fill_nothing, fill_unread, fill_fits}
 use Rattle.capnp_edits.proofs.edit.filling.copy_content.Goals as goal
 
