@@ -1,6 +1,6 @@
 -- Searches: what they leave, with a default or without one.
 use Rattle.std.proofs.Common.{◌≡◌, ◌⊎◌, inl, inr, ℕ, ◌+◌, ◌-◌, ◌*◌, ◌/◌, ◌^◌, ◌<◌, ◌≤◌, Bool, true, false, cond, ◌&&◌, nat_eq, nat_le, nat_lt, List, [], ◌∷◌, length, Option, Some, None, unwrap_or, Result, Ok, Err, IsOk, IfErr, OnOk, refl, sym, ap, ◌∙◌, subst, arith}
-use Rattle.std.specs.Prelude.{MatchOption, ⊤}
+use Rattle.std.specs.Prelude.{IsTrue, MatchOption, is_some, ⊤}
 use Rattle.std.proofs.lemmas.List.{length-replicate}
 use Rattle.std.proofs.lemmas.Bool.{cases_lt}
 use Rattle.std.proofs.lemmas.Bool.Decides.{nat_tests}
@@ -58,7 +58,7 @@ use Rattle.capnp_edits.specs.Tasks.{is_small_default, is_in_range}
 use Rattle.capnp_edits.specs.Edits.{refusal_of, Effect, gives, elements_of, data_length, text_length, looked_for, defaults, default_for, is_of_path, HasEffect}
 use Rattle.capnp_builders.proofs.FoundLists.{GivesFoundList}
 use Rattle.capnp_builders.proofs.FoundBytes.{GivesFoundBytes}
-use Rattle.capnp_edits.specs.Steps.{FitsAt, FindsSought, KeepsHeld, OpeningHasRoom, LeadsThere, IsDoneAt, result_of}
+use Rattle.capnp_edits.specs.Steps.{FitsAt, FindsSought, opening, LeadsThere, IsDoneAt, result_of}
 use Rattle.capnp_edits.proofs.Applied.{Does, never_refused, of_allocation, of_no_place}
 use Rattle.capnp_edits.proofs.Contents.{list_refusal_of, data_refusal_of, text_refusal_of}
 use Rattle.capnp_edits.proofs.Names.{is_nowhere, unfound_of_path, elsewhere, struct_elsewhere, structs_elsewhere, list_elsewhere, data_elsewhere, text_elsewhere, fault_elsewhere, unfound_name, list_unfound, data_unfound, text_unfound}
@@ -244,12 +244,12 @@ never_used B k (is_copied_from bytes) P c t never (inr drops) is = absurd (elim 
   | inr fault ↦ fault_elsewhere of_default (subst (HasFault of_default (default_root bytes)) is fault)
 ])
 
+abbrev KeepsHeld : Sought → View → View → ErrorKind → Type 0
+KeepsHeld sought old new k = (new ≡ old) ⊎ (IsTrue (is_some (opening sought)) × IsTrue (is_allocation_name k) × SpendsMemory old new k)
+
 never_held : (sought : Sought) (c : CallAt) (k : ErrorKind) → KeepsHeld sought c.old c.new k → k ≡ NoSuchPlace → c.new ≡ c.old
-never_held (ForStruct size) c k (inl same) is = same
-never_held (ForStruct size) c k (inr h) is = absurd (of_no_place k h.0 is)
-never_held (ForStructs size) c k (inl same) is = same
-never_held (ForStructs size) c k (inr h) is = absurd (of_no_place k h.0 is)
-never_held sought c k same is = same
+never_held sought c k (inl same) is = same
+never_held sought c k (inr h) is = absurd (of_no_place k h.1 is)
 
 -- A search finds what is sought, by its outcome r.
 abbrev FindsThere : Sought → Option (Bor (List ℕ)) → Option ErrorKind → CallAt → Tree → Type 0
@@ -312,7 +312,7 @@ opened_fits v s p size (Flat z ns) u stored is room = absurd (cc)
 opened_fits v s p size (Pointers ts) u stored is room = absurd (cc)
 opened_fits v s p size (Structs d q es) u stored is room = absurd (cc)
 
-struct_room : (size : StructSize) (default : Option (Bor (List ℕ))) (v : View) (place : PointerPlace) → OpeningHasRoom (struct_opened size) default v place → StructFindFits size default v place.segment place.word
+struct_room : (size : StructSize) (default : Option (Bor (List ℕ))) (v : View) (place : PointerPlace) → FitsAt v (Search (ForStruct size) default) (AtPointer place) → StructFindFits size default v place.segment place.word
 struct_room size default v place (t, stored, fits) =
     (t, stored, fits_with (object_default default t) v place.segment place.word _ (λ m. OpeningFits m place.segment place.word size) (λ m h. opened_fits m place.segment place.word size h.0 h.1 h.2 h.3 h.4) fits)
 
@@ -415,16 +415,16 @@ never_if {B} (Err k) of_null default sought P c there never found held = λ is. 
 set_struct : {B : Type 0} (result : Result B ErrorKind) (c : CallAt) (size : StructSize) → IfErr result (IsNoWider size c) → IfErr result (KeepsHeld (ForStruct size) c.old c.new)
 set_struct (Ok x) c size h = tt
 set_struct (Err k) c size (inl h) = inl h.1
-set_struct (Err k) c size (inr h) = inr (h.name, h.memory)
+set_struct (Err k) c size (inr h) = inr (refl, h.name, h.memory)
 
 set_structs : {B : Type 0} (result : Result B ErrorKind) (c : CallAt) (size : StructSize) → IfErr result (RefusesWider (IsStored c.old.words c.segment c.at) size c.old c.new) → IfErr result (KeepsHeld (ForStructs size) c.old c.new)
 set_structs (Ok x) c size h = tt
 set_structs (Err k) c size (inl h) = inl h.0
-set_structs (Err k) c size (inr h) = inr (h.name, h.memory)
+set_structs (Err k) c size (inr h) = inr (refl, h.name, h.memory)
 
-set_same : {B : Type 0} (result : Result B ErrorKind) (c : CallAt) → c.new ≡ c.old → IfErr result (λ k. c.new ≡ c.old)
-set_same (Ok x) c same = tt
-set_same (Err k) c same = same
+set_same : {B : Type 0} (result : Result B ErrorKind) (sought : Sought) (c : CallAt) → c.new ≡ c.old → IfErr result (KeepsHeld sought c.old c.new)
+set_same (Ok x) sought c same = tt
+set_same (Err k) sought c same = inl same
 
 -- the calls
 pub struct_sought : (result : Result StructPlace ErrorKind) (size : StructSize) (default : Option (Bor (List ℕ))) (c : CallAt) → IsPlace c.old.words c.segment c.at →
@@ -455,7 +455,7 @@ pub list_sought : (result : Result ListPlace ErrorKind) (size : ElementSize) (de
 list_sought result size default c there found set granted memory =
     search_done result (ForList size) default c
     (λ t stored. with_does result ignored default (looked_for (ForList size)) (GivesFoundList size result) c t stored (list_so result size) (found t stored)) granted memory
-    (never_if result ignored default (ForList size) (GivesFoundList size) c there (list_never size) found (λ none. set_same result c (set (not_null c there none)).0)) (λ none. set_same result c (set (not_null c there none)).0)
+    (never_if result ignored default (ForList size) (GivesFoundList size) c there (list_never size) found (λ none. set_same result (ForList size) c (set (not_null c there none)).0)) (λ none. set_same result (ForList size) c (set (not_null c there none)).0)
     (λ room. found_fits result ignored default (GivesFoundList size) c there (λ b. tt) (list_name size) found (λ some. (set some).1) room)
     (λ t stored. by_outcome result (object_default default t) (GivesFoundList size result) (FindsSought (ForList size) (refusal_of result)) c t (list_found result size) (found t stored)) tt
 
@@ -466,7 +466,7 @@ data_sought result default c there found set granted memory =
     let of_null : DefaultUse = is_denied_by ExistingPointerIsNotAList in
     search_done result ForData default c
     (λ t stored. with_does result of_null default (looked_for ForData) (GivesFoundBytes data_in result) c t stored (data_so result) (found t stored)) granted memory
-    (never_if result of_null default ForData (GivesFoundBytes data_in) c there data_never found (λ none. set_same result c (set (not_null c there none)).0)) (λ none. set_same result c (set (not_null c there none)).0)
+    (never_if result of_null default ForData (GivesFoundBytes data_in) c there data_never found (λ none. set_same result ForData c (set (not_null c there none)).0)) (λ none. set_same result ForData c (set (not_null c there none)).0)
     (λ room. found_fits result of_null default (GivesFoundBytes data_in) c there (λ b. refl) data_name found (λ some. (set some).1) room)
     (λ t stored. by_outcome result (blob_default default t) (GivesFoundBytes data_in result) (FindsSought ForData (refusal_of result)) c t (data_found result) (found t stored)) tt
 
@@ -477,7 +477,7 @@ text_sought result default c there found set granted memory =
     let of_null : DefaultUse = is_denied_by ExistingPointerIsNotAList in
     search_done result ForText default c
     (λ t stored. with_does result of_null default (looked_for ForText) (GivesFoundBytes text_in result) c t stored (text_so result) (found t stored)) granted memory
-    (never_if result of_null default ForText (GivesFoundBytes text_in) c there text_never found (λ none. set_same result c (set (not_null c there none)).0)) (λ none. set_same result c (set (not_null c there none)).0)
+    (never_if result of_null default ForText (GivesFoundBytes text_in) c there text_never found (λ none. set_same result ForText c (set (not_null c there none)).0)) (λ none. set_same result ForText c (set (not_null c there none)).0)
     (λ room. found_fits result of_null default (GivesFoundBytes text_in) c there (λ b. refl) text_name found (λ some. (set some).1) room)
     (λ t stored. by_outcome result (blob_default default t) (GivesFoundBytes text_in result) (FindsSought ForText (refusal_of result)) c t (text_found result) (found t stored)) tt
 

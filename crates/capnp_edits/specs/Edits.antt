@@ -124,8 +124,8 @@ elements_of size (Structs d q es) =
     option_map_or Err (structs_misfit size d q) (Ok (element_count es))
 elements_of size t = Err ExistingPointerIsNotAList
 
--- What `count_of` says of the bytes of the list t; or with which error looking for data or a text
--- is refused. Null has none.
+-- The result of `count_of` for the bytes of the list t; or with which error looking for data or a
+-- text is refused. Null has none.
 abbrev pub count_in : (List ℕ → Result ℕ ErrorKind) → Tree → Result ℕ ErrorKind
 count_in count_of Null = Ok 0
 count_in count_of (Flat size ns) =

@@ -1,5 +1,5 @@
 -- Steps: what one edit does with a message and the arena that holds it, and edits in order.
-use Rattle.std.specs.Prelude.{MatchOption, ◌≡◌, ◌⊎◌, ⊤, ℕ, min, ◌<◌, ◌≤◌, ◌+◌, ◌-◌, ◌*◌, ◌^◌, true, List, []}
+use Rattle.std.specs.Prelude.{IsTrue, MatchOption, is_some, ◌≡◌, ◌⊎◌, ⊤, ℕ, min, ◌<◌, ◌≤◌, ◌+◌, ◌-◌, ◌*◌, ◌^◌, true, List, []}
 use Rattle.std.specs.Prelude.{◌∷◌, length, map, Option, Some, None, IfSome, IsSomeAnd, Result, Ok, Err}
 use Rattle.std.specs.Option.{option_map_or}
 use Rattle.std.specs.Borrow.{Bor}
@@ -51,9 +51,6 @@ use Rattle.capnp_edits.specs.declared.edit.tasks.StructChange.TheVariants.{Bits,
 use Rattle.capnp_edits.specs.declared.edit.tasks.Sought.{Sought}
 use Rattle.capnp_edits.specs.declared.edit.tasks.Sought.TheVariants.{Struct as ForStruct}
 use Rattle.capnp_edits.specs.declared.edit.tasks.Sought.TheVariants.{StructList as ForStructs}
-use Rattle.capnp_edits.specs.declared.edit.tasks.Sought.TheVariants.{List as ForList}
-use Rattle.capnp_edits.specs.declared.edit.tasks.Sought.TheVariants.{Text as ForText}
-use Rattle.capnp_edits.specs.declared.edit.tasks.Sought.TheVariants.{Data as ForData}
 use Rattle.capnp_edits.specs.Tasks.{task_of}
 use Rattle.capnp_edits.specs.declared.edit.path.PathEnd.{PathEnd}
 use Rattle.capnp_edits.specs.declared.edit.path.PathEnd.TheVariants.{Pointer as AtPointer}
@@ -132,21 +129,18 @@ FillsAt old new e source r =
 
 -- Room.
 
--- The place stores some value. There is room for its default, if it takes that, and then for what
--- `opened` makes of the value that is there.
-abbrev pub OpeningHasRoom : (Tree → Result Tree ErrorKind) → Option (Bor (List ℕ)) → View →
-    PointerPlace → Type 0
-OpeningHasRoom opened default old place =
-    (t : Tree) × IsStored old.words place.segment place.word t ×
-    FitsWithDefault (default_use ignored default t) old place.segment place.word
-    (λ v. (x : Tree) × (u : Tree) × IsStored v.words place.segment place.word x × (opened x ≡ Ok u) ×
-    HasRoomFor v place.segment place.word x u)
+-- What becomes of a value that a search opens, a struct or a list of structs; None if the search
+-- only looks for a list, a text or data.
+abbrev pub opening : Sought → Option (Tree → Result Tree ErrorKind)
+opening (ForStruct size) = Some (struct_opened size)
+opening (ForStructs size) = Some (list_widened size.data_words size.pointers)
+opening sought = None
 
 -- There is room for what a task makes at its place, like the builder's call requires:
 -- - `Make`: for the words of the object.
 -- - `Content`: for what the pointers mean that are copied over the struct.
--- - `Search`: for the default's value, and for what becomes of a struct or a list of structs that
---   is opened.
+-- - `Search`: for the default's value, if there is one. If the search opens what is there, its
+--   place also stores some value, and there is room for what becomes of that, or of the default's.
 -- - `CopyRoot`: for what the copy keeps. For a list, the words of the source are also below 2^64,
 --   as the words of bytes are.
 -- - A task that takes no words requires no room.
@@ -155,12 +149,12 @@ FitsAt old (Make object) (AtPointer place) = HasRoom old place.segment (word_cou
 FitsAt old (InStruct (Content source)) there = (e : ExistingStruct) → IsStructAt old.words there e →
     (all : ContentRead source) × (count all.children ≡ min e.size.pointers all.from.pointers) ×
     HasOwnRoom old e.segment (word_count_all all.children)
-FitsAt old (Search (ForStruct size) default) (AtPointer place) =
-    OpeningHasRoom (struct_opened size) default old place
-FitsAt old (Search (ForStructs size) default) (AtPointer place) =
-    OpeningHasRoom (list_widened size.data_words size.pointers) default old place
-FitsAt old (Search sought default) (AtPointer place) =
-    IfSome default (λ d. (8 ≤ length d.now) × DefaultCopyFits d.now old place.segment)
+FitsAt old (Search sought default) (AtPointer place) = MatchOption (opening sought)
+    (IfSome default (λ d. (8 ≤ length d.now) × DefaultCopyFits d.now old place.segment))
+    (λ opened. (t : Tree) × IsStored old.words place.segment place.word t ×
+    FitsWithDefault (default_use ignored default t) old place.segment place.word
+    (λ v. (x : Tree) × (u : Tree) × IsStored v.words place.segment place.word x ×
+    (opened x ≡ Ok u) × HasRoomFor v place.segment place.word x u))
 FitsAt old (CopyRoot c) (AtPointer place) =
     (u : Tree) × Copies c u ×
     (c.wanted ≡ AList → (s p : ℕ) → word_at (root_of c.source).segments s p < 2 ^ 64) ×
@@ -178,20 +172,13 @@ FindsSought (ForStructs size) r c t =
     Opens size (λ S s p u b. ⊤) c t (list_widened size.data_words size.pointers t) (result_of r)
 FindsSought sought r c t = (o : Option Tree) × HasEffect (looked_for sought t) r o × (c.new ≡ c.old)
 
--- From old to new a search whose place doesn't store null is refused with k: nothing is changed; or
--- memory is refused, for what becomes of a struct or a list of structs.
-abbrev pub KeepsHeld : Sought → View → View → ErrorKind → Type 0
-KeepsHeld (ForList size) old new k = new ≡ old
-KeepsHeld ForText old new k = new ≡ old
-KeepsHeld ForData old new k = new ≡ old
-KeepsHeld sought old new k = (new ≡ old) ⊎ ((is_allocation_name k ≡ true) × SpendsMemory old new k)
-
 -- From old to new a task ends with outcome r: it takes the words that the contract of the builder's
 -- call states for its place, or is refused as that call is.
 -- - `Make`: takes exactly the words of the object, which come after all words that were there; or
 --   it is refused, only because there is no memory or no room for them, and takes none.
--- - `Search`: if the place stores a value, finds what is looked for in it or in its default. If a
---   struct without words replaces null, its pointer has offset -1.
+-- - `Search`: if the place stores a value, finds what is looked for in it or in its default. If the
+--   place doesn't store null, a refusal changes nothing; or it is for memory, if the search opens
+--   what is there. If a struct without words replaces null, its pointer has offset -1.
 -- - A task that makes nothing and reads no other message takes no words. It is refused only for
 --   what its path leads to, and changes nothing then.
 abbrev pub EndsAt : View → View → Task → Option ErrorKind → PathEnd → Type 0
@@ -207,7 +194,8 @@ EndsAt old new (Search sought default) r (AtPointer place) =
     let c = call_at place.segment place.word old new in
     ((t : Tree) → IsStored old.words c.segment c.at t →
     WithDefault (default_for sought default t) c t (FindsSought sought r) (result_of r)) ×
-    ((IsStored old.words c.segment c.at Null → ⊥) → IfSome r (KeepsHeld sought old new)) ×
+    ((IsStored old.words c.segment c.at Null → ⊥) → IfSome r (λ k. (new ≡ old) ⊎
+    (IsTrue (is_some (opening sought)) × IsTrue (is_allocation_name k) × SpendsMemory old new k))) ×
     ((size : StructSize) → sought ≡ ForStruct size → word_at old.words c.segment c.at ≡ 0 →
     default_use ignored default Null ≡ ignored → r ≡ None → size.data_words + size.pointers ≡ 0 →
     LeadsThere c (ZeroStruct size))

@@ -34,8 +34,7 @@ use Rattle.capnp_edits.specs.declared.edit.tasks.Sought.TheVariants.{Data as For
 -- the size.
 abbrev pub is_number : ElementSize → ℕ → Bool
 is_number size v =
-    nat_le 1 (size_number size) && nat_le (size_number size) 5
-    && nat_lt v (2 ^ element_bits (size_number size))
+    let n = size_number size in nat_le 1 n && nat_le n 5 && nat_lt v (2 ^ element_bits n)
 
 -- A default has fewer than 2^32 words.
 abbrev pub is_small_default : Option (Bor (List ℕ)) → Bool
