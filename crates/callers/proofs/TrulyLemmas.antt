@@ -17,9 +17,9 @@ use Rattle.capnp_words.specs.Names.{is_allocation_name}
 use Rattle.capnp_edits.specs.declared.edit.Edit.{Edit}
 use Rattle.capnp_edits.specs.declared.edit.Op.{Op}
 use Rattle.capnp_edits.specs.declared.edit.Op.TheVariants.{InitData, InitList, InitStruct, InitStructList, InitText, SetData, SetText}
-use Rattle.capnp_edits.specs.Edits.{is_of_path, refusals_after}
+use Rattle.capnp_edits.specs.Edits.{InTurn, is_of_path, refusals_after}
 use Rattle.capnp_edits.specs.Paths.{step_of}
-use Rattle.capnp_edits.specs.Steps.{AreSteps, EndsAt, FitsAt, IsStep}
+use Rattle.capnp_edits.specs.Steps.{EndsAt, FitsAt, IsStep}
 use Rattle.capnp_edits.specs.Tasks.{task_of}
 use Rattle.capnp_edits.proofs.Stepped.{step_is_there}
 use Rattle.callers.specs.Truly.{AreRefusedTruly, IsRefusedTruly, object_made}
@@ -59,7 +59,7 @@ no_tree : (y : Tree) → None ≡ Some y → ⊥
 no_tree y e = cc
 
 -- an object that an edit makes is refused in the same way as its words
-asked_by : (old new : View) (e : Edit) (r : Option ErrorKind) (step : IsStep old new e r) (op : Op) → e.op ≡ op → (object t x : Tree) (s p : ℕ) (k : ErrorKind) → object_made op ≡ Some object → IsForest old.words t →
+asked_by : (old new : View) (e : Edit) (r : Option ErrorKind) (step : IsStep e r old new) (op : Op) → e.op ≡ op → (object t x : Tree) (s p : ℕ) (k : ErrorKind) → object_made op ≡ Some object → IsForest old.words t →
     PathLeads old.words (node 0 0 t) (map step_of e.path.now) (node s p x) → IsSomeAnd step.path_end (λ place. IsSomeAnd (task_of e.op) (λ task. EndsAt old new task (Some k) place)) → IsRefusedFor old new (word_count object) k
 asked_by old new e r step (InitStruct size) same object t x s p k is forest leads named =
     let there = step_is_there old new e r t x s p step forest leads in
@@ -105,7 +105,7 @@ asked_by old new e r step (SetData bytes) same object t x s p k is forest leads 
 asked_by old new e r step _ same object t x s p k is forest leads named = absurd (no_tree object is)
 
 -- and has room if its words have
-fits_by : (old new : View) (e : Edit) (r : Option ErrorKind) (step : IsStep old new e r) (op : Op) → e.op ≡ op → (object t x : Tree) (s p : ℕ) → object_made op ≡ Some object → IsForest old.words t →
+fits_by : (old new : View) (e : Edit) (r : Option ErrorKind) (step : IsStep e r old new) (op : Op) → e.op ≡ op → (object t x : Tree) (s p : ℕ) → object_made op ≡ Some object → IsForest old.words t →
     PathLeads old.words (node 0 0 t) (map step_of e.path.now) (node s p x) → length (segment old.words s) + word_count object ≤ old.room s →
     IfSome step.path_end (λ place. IfSome (task_of e.op) (λ task. FitsAt old task place))
 fits_by old new e r step (InitStruct size) same object t x s p is forest leads fits =
@@ -160,7 +160,7 @@ both_some None w P some has h = absurd (some refl)
 other_name : (n : ℕ) → Some (MessageTooLarge n) ≡ Some NoSuchPlace → ⊥
 other_name n e = cc
 
-step_truly : (old new : View) (e : Edit) (r : Option ErrorKind) → IsStep old new e r → IsRefusedTruly old new e r
+step_truly : (old new : View) (e : Edit) (r : Option ErrorKind) → IsStep e r old new → IsRefusedTruly old new e r
 step_truly old new e r step = record {
   counted = λ is. step.counted ∙ ap (λ (o : Option ErrorKind). refusals_after o old.refusals) is;
   others = λ other. step.counted ∙ uncounted r old.refusals other;
@@ -173,7 +173,7 @@ step_truly old new e r step = record {
       (asked_by old new e r step e.op refl object t x s p (MessageTooLarge n) is forest leads there).0);
 }
 
-pub steps_truly : (old new : View) (es : List Edit) (rs : List (Option ErrorKind)) → AreSteps old new es rs → AreRefusedTruly old new es rs
+pub steps_truly : (old new : View) (es : List Edit) (rs : List (Option ErrorKind)) → InTurn IsStep es rs old new → AreRefusedTruly old new es rs
 steps_truly old new [] [] steps = steps
 steps_truly old new [] (r ∷ rs) steps = absurd steps
 steps_truly old new (e ∷ es) [] steps = absurd steps

@@ -8,7 +8,7 @@ ghost use Rattle.capnp_builders.specs.Places.{IsStructOf};
 ghost use Rattle.capnp_making.specs.Stored.{Puts};
 ghost use Rattle.capnp_readers.specs.Readers.{IsStructPlace};
 ghost use Rattle.capnp_format.specs.Bytes.{message};
-ghost use Rattle.capnp_edits.specs.Edits.{EditsTake};
+ghost use Rattle.capnp_edits.specs.Edits.{EditTakes, InTurn};
 ghost use Rattle.capnp_format.specs.Forest.{IsForest};
 ghost use Rattle.capnp_format.specs.Means.{Means};
 ghost use Rattle.capnp_format.specs.Numbers.{words_for};
@@ -140,7 +140,7 @@ pub fn edit_and_read_back<'a, L: Allocator>(
     requires each { length outcomes.old ≡ length edits.now }
     ensures meant { IfOk result (λ r. (t : Tree)
         → IsForest (⟦<BuilderArenaImpl<L> as BuilderArena>⟧.view built.old).words t
-        → (u : Tree) × EditsTake edits.now outcomes.new t u × (n : ℕ) × (c : ℕ)
+        → (u : Tree) × InTurn EditTakes edits.now outcomes.new t u × (n : ℕ) × (c : ℕ)
         × Means (message (⟦<ReaderArenaImpl<OutputSegments<'a>> as ReaderArena>⟧.segments r))
         n 0 0 u c) }
     ensures refused { IfErr result (λ k. k ≡ AllocationFailed) }

@@ -24,8 +24,8 @@ ghost use Rattle.capnp_objects.specs.Spending.{Paid, pointers_in};
 ghost use Rattle.capnp_objects.specs.Wanted.{canonical};
 ghost use Rattle.capnp_objects.specs.Testing.{head_found, head_moved, test_value};
 ghost use Rattle.capnp_objects.specs.Pointers.{reading};
-ghost use Rattle.capnp_edits.specs.Edits.{IsApplied, EditsTake};
-ghost use Rattle.capnp_edits.specs.Steps.{AreSteps};
+ghost use Rattle.capnp_edits.specs.Edits.{EditTakes, InTurn, IsApplied};
+ghost use Rattle.capnp_edits.specs.Steps.{IsStep};
 ghost use Rattle.capnp_messages.specs.CanonicalMessages.{IsCanonicalMessage, IsCanonicalOf};
 ghost use Rattle.capnp_messages.specs.Check.{check, whole_result};
 ghost use Rattle.capnp_messages.specs.Commands.{form_bytes};
@@ -480,11 +480,11 @@ pub fn apply_edits<A: BuilderArena>(
     outcomes: &mut [Option<ErrorKind>],
 )
     requires each { length outcomes.old ≡ length edits.now }
-    ensures applied { IsApplied (EditsTake edits.now outcomes.new) (A.view arena.old).words
+    ensures applied { IsApplied (InTurn EditTakes edits.now outcomes.new) (A.view arena.old).words
         (A.view arena.new).words }
     ensures refused { AreRefusedTruly (A.view arena.old) (A.view arena.new) edits.now
         outcomes.new }
-    ensures steps { AreSteps (A.view arena.old) (A.view arena.new) edits.now outcomes.new }
+    ensures steps { InTurn IsStep edits.now outcomes.new (A.view arena.old) (A.view arena.new) }
 {
     apply_all(arena, edits, outcomes);
 }

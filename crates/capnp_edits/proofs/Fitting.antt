@@ -26,10 +26,10 @@ use Rattle.capnp_edits.specs.declared.edit.tasks.NewObject.{NewObject}
 use Rattle.capnp_edits.specs.declared.edit.tasks.Task.{Task}
 use Rattle.capnp_edits.specs.declared.edit.tasks.Task.TheVariants.{Make, Point, InStruct, Write, Search, CopyRoot}
 use Rattle.capnp_edits.specs.declared.edit.tasks.StructChange.TheVariants.{Bits, Content}
-use Rattle.capnp_edits.specs.Edits.{is_of_path, value_of}
+use Rattle.capnp_edits.specs.Edits.{InTurn, is_of_path, value_of}
 use Rattle.capnp_edits.specs.Fitting.{words_asked, AsksNoMore, AreInFirst, IsNoneOfMemory}
 use Rattle.capnp_edits.specs.Paths.{IsPathFound, step_of}
-use Rattle.capnp_edits.specs.Steps.{AreSteps, FitsAt, IsStep, EndsAt}
+use Rattle.capnp_edits.specs.Steps.{FitsAt, IsStep, EndsAt}
 use Rattle.capnp_edits.specs.Tasks.{task_of}
 use Rattle.capnp_contents.specs.declared.existing.ExistingStruct.{ExistingStruct}
 use Rattle.capnp_edits.specs.declared.edit.tasks.Part.{Part}
@@ -156,14 +156,14 @@ at_place old new there (Search sought default) r some first here asks fits f = a
 at_place old new there (CopyRoot c) r some first here asks fits f = absurd asks
 
 -- an edit without a place or a task
-nowhere_first : (old new : View) (edit : Edit) (r : Option ErrorKind) (n : ℕ) → AreInFirst old.words → IsStep old new edit r → r ≡ Some NoSuchPlace → IsNoneOfMemory r × StaysInFirst old new n
+nowhere_first : (old new : View) (edit : Edit) (r : Option ErrorKind) (n : ℕ) → AreInFirst old.words → IsStep edit r old new → r ≡ Some NoSuchPlace → IsNoneOfMemory r × StaysInFirst old new n
 nowhere_first old new edit r n first s e = (subst IsNoneOfMemory (sym e) (λ k is. ap is_of_path (same_name k is)), same_first old new n first (s.nowhere e))
   where
     same_name : (k : ErrorKind) → Some NoSuchPlace ≡ Some k → k ≡ NoSuchPlace
     same_name k is = cc
 
 -- one edit
-one_fits : (old new : View) (edit : Edit) (r : Option ErrorKind) (t : Tree) → IsForest old.words t → AreInFirst old.words → AsksNoMore (task_of edit.op) → length (segment old.words 0) + words_asked (task_of edit.op) ≤ old.room 0 → IsStep old new edit r →
+one_fits : (old new : View) (edit : Edit) (r : Option ErrorKind) (t : Tree) → IsForest old.words t → AreInFirst old.words → AsksNoMore (task_of edit.op) → length (segment old.words 0) + words_asked (task_of edit.op) ≤ old.room 0 → IsStep edit r old new →
     IsNoneOfMemory r × StaysInFirst old new (words_asked (task_of edit.op))
 one_fits old new edit r t forest first asks fits s = by_task s.path_end (task_of edit.op) refl refl asks fits
   where
@@ -193,7 +193,7 @@ abbrev all_asked : List Edit → ℕ
 all_asked edits = sum_by (λ e. words_asked (task_of e.op)) edits
 
 edits_fit : (old new : View) (edits : List Edit) (rs : List (Option ErrorKind)) (t : Tree) → IsForest old.words t → AreInFirst old.words → All (λ e. AsksNoMore (task_of e.op)) edits →
-    length (segment old.words 0) + all_asked edits ≤ old.room 0 → AreSteps old new edits rs → All IsNoneOfMemory rs × StaysInFirst old new (all_asked edits)
+    length (segment old.words 0) + all_asked edits ≤ old.room 0 → InTurn IsStep edits rs old new → All IsNoneOfMemory rs × StaysInFirst old new (all_asked edits)
 edits_fit old new [] [] t forest first asks fits same = (All-nil IsNoneOfMemory, same_first old new 0 first same)
 edits_fit old new [] (r ∷ rs) t forest first asks fits none = absurd none
 edits_fit old new (e ∷ es) [] t forest first asks fits none = absurd none
@@ -207,6 +207,6 @@ edits_fit old new (e ∷ es) (r ∷ rs) t forest first asks fits (mid, s, steps)
     )
 
 pub fitting_edits : (old new : View) (edits : List Edit) (rs : List (Option ErrorKind)) (t : Tree) → IsForest old.words t → AreInFirst old.words → All (λ e. AsksNoMore (task_of e.op)) edits →
-    length (segment old.words 0) + all_asked edits ≤ old.room 0 → AreSteps old new edits rs →
+    length (segment old.words 0) + all_asked edits ≤ old.room 0 → InTurn IsStep edits rs old new →
     All IsNoneOfMemory rs × (length (segment new.words 0) ≤ length (segment old.words 0) + all_asked edits) × AreInFirst new.words × (new.room 0 ≡ old.room 0) × (new.refusals ≡ old.refusals)
 fitting_edits old new edits rs t forest first asks fits steps = let (none, all) = edits_fit old new edits rs t forest first asks fits steps in (none, all.words, all.first, all.room, all.refusals)

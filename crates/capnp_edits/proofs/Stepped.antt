@@ -18,7 +18,7 @@ use Rattle.capnp_edits.specs.declared.edit.path.PathEnd.{PathEnd}
 use Rattle.capnp_edits.specs.declared.edit.path.PathEnd.TheVariants.{Pointer as AtPointer, Element as AtElement}
 use Rattle.capnp_edits.specs.Edits.{is_of_path, IsApplied, refusals_after, EditTakes}
 use Rattle.capnp_edits.specs.Paths.{PointerTo, ElementOf, found, IsPathFound, step_of}
-use Rattle.capnp_edits.specs.Steps.{DoesThere, FitsAt, EndsAt, IsStep, AreSteps}
+use Rattle.capnp_edits.specs.Steps.{DoesThere, FitsAt, EndsAt, IsStep}
 use Rattle.capnp_edits.specs.Tasks.{task_of}
 use Rattle.capnp_edits.proofs.Applied.{no_forest}
 use Rattle.capnp_edits.proofs.Steps.{first, same_some}
@@ -27,7 +27,7 @@ use Rattle.capnp_edits.proofs.Walks.{found-append, leads_value, list_end}
 -- an edit at its place
 pub step_at : (old new : View) (edit : Edit) (there : PathEnd) (task : Task) (r : Option ErrorKind) → task_of edit.op ≡ Some task → 1 ≤ length (segment old.words 0) → IsApplied (EditTakes edit r) old.words new.words → new.refusals ≡ refusals_after r old.refusals →
     ((t : Tree) → IsStored old.words 0 0 t → IsPathFound old.words (record { segment = 0; word = 0 }) t (map step_of edit.path.now) (Some there)) →
-    (FitsAt old task there → (k : ErrorKind) → r ≡ Some k → is_of_path k ≡ true) → (r ≡ Some NoSuchPlace → new ≡ old) → ((r ≡ Some NoSuchPlace → ⊥) → EndsAt old new task r there) → DoesThere old new there task r → IsStep old new edit r
+    (FitsAt old task there → (k : ErrorKind) → r ≡ Some k → is_of_path k ≡ true) → (r ≡ Some NoSuchPlace → new ≡ old) → ((r ≡ Some NoSuchPlace → ⊥) → EndsAt old new task r there) → DoesThere old new there task r → IsStep edit r old new
 step_at old new edit there task r is root applied counted leads fits nowhere ends done = record {
   applied = applied;
   counted = counted;
@@ -50,7 +50,7 @@ of_missing : (k : ErrorKind) → Some NoSuchPlace ≡ Some k → is_of_path k �
 of_missing k e = sym (ap is_of_path (same_some NoSuchPlace k e))
 
 pub nothing_done : (v : View) (edit : Edit) (place : Option PathEnd) → IsApplied (EditTakes edit (Some NoSuchPlace)) v.words v.words → ((t : Tree) → IsStored v.words 0 0 t → IsPathFound v.words (record { segment = 0; word = 0 }) t (map step_of edit.path.now) place) →
-    IfSome place (λ there. IfSome (task_of edit.op) (λ task. DoesThere v v there task (Some NoSuchPlace))) → IsStep v v edit (Some NoSuchPlace)
+    IfSome place (λ there. IfSome (task_of edit.op) (λ task. DoesThere v v there task (Some NoSuchPlace))) → IsStep edit (Some NoSuchPlace) v v
 nothing_done v edit place applied leads done = record {
   applied = applied;
   counted = refl;
@@ -69,23 +69,8 @@ nothing_done v edit place applied leads done = record {
 root_held : (S : Segments) (t : Tree) → IsStored S 0 0 t → 1 ≤ length (segment S 0)
 root_held S t stored = omega (arith, stored.inside 0 0 (omega (arith, times-first (word_interval 0 0) (cover S 0 0 t) 0 0, once_held 0 0)))
 
-pub rootless_done : (v : View) (edit : Edit) → (1 ≤ length (segment v.words 0) → ⊥) → IsStep v v edit (Some NoSuchPlace)
+pub rootless_done : (v : View) (edit : Edit) → (1 ≤ length (segment v.words 0) → ⊥) → IsStep edit (Some NoSuchPlace) v v
 rootless_done v edit empty = nothing_done v edit None (no_forest v.words edit (Some NoSuchPlace) empty) (λ t stored. absurd (empty (root_held v.words t stored))) tt
-
--- one step more
-steps_more : (a b c : View) (es : List Edit) (rs : List (Option ErrorKind)) (e : Edit) (r : Option ErrorKind) → AreSteps a b es rs → IsStep b c e r → AreSteps a c (es ++ e ∷ []) (rs ++ r ∷ [])
-steps_more a b c [] [] e r h k = (c, subst (λ x. IsStep x c e r) h k, refl)
-steps_more a b c (f ∷ es) (s ∷ rs) e r (mid, one, others) k = (mid, one, steps_more mid b c es rs e r others k)
-steps_more a b c [] (s ∷ rs) e r h k = absurd h
-steps_more a b c (f ∷ es) [] e r h k = absurd h
-
--- edit number i is done
-pub next_step : (a b c : View) (es : List Edit) (rs : List (Option ErrorKind)) (i : ℕ) (d : Edit) (q r : Option ErrorKind) → i < length es → length rs ≡ length es → q ≡ r → AreSteps a b (take i es) (take i rs) → IsStep b c (get_or es i d) q →
-    AreSteps a c (take (i + 1) es) (take (i + 1) (set rs i r))
-next_step a b c es rs i d q r l long same before one =
-    let less : i < length rs = rw long l in
-    let all = steps_more a b c (take i es) (take i rs) (get_or es i d) r before (subst (IsStep b c (get_or es i d)) same one) in
-    subst (λ xs. AreSteps a c xs (take (i + 1) (set rs i r))) (sym (take_more es i d l)) (subst (AreSteps a c (take i es ++ get_or es i d ∷ [])) (sym (take_more_set rs i r less)) all)
 
 -- a path leads to one place
 same_end : (S : Segments) (s p : ℕ) (t : Tree) (path : List Step) (u q : ℕ) (x : Tree) (v r : ℕ) (y : Tree) → PathLeads S (node s p t) path (node u q x) → PathLeads S (node s p t) path (node v r y) → (u ≡ v) × (q ≡ r)
@@ -106,7 +91,7 @@ no_element : (x y : Tree) → Some (PointerTo x) ≡ Some (ElementOf y) → ⊥
 no_element x y e = cc
 
 -- a step is done where its path leads
-pub step_is_there : (old new : View) (edit : Edit) (r : Option ErrorKind) (t x : Tree) (u q : ℕ) (s : IsStep old new edit r) → IsForest old.words t → PathLeads old.words (node 0 0 t) (map step_of edit.path.now) (node u q x) →
+pub step_is_there : (old new : View) (edit : Edit) (r : Option ErrorKind) (t x : Tree) (u q : ℕ) (s : IsStep edit r old new) → IsForest old.words t → PathLeads old.words (node 0 0 t) (map step_of edit.path.now) (node u q x) →
     s.path_end ≡ Some (AtPointer (record { segment = u; word = q }))
 step_is_there old new edit r t x u q s forest leads = go s.path_end (s.leads t (forest_stored old.words t forest))
   where

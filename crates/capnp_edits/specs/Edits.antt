@@ -320,8 +320,10 @@ EditTakes e r t u =
 abbrev pub IsApplied : (Tree → Tree → Type 0) → Segments → Segments → Type 0
 IsApplied P S R = (t : Tree) → IsForest S t → (u : Tree) × IsForest R u × P t u
 
--- The edits, in order and each with its outcome, take the value t of a message to u.
-abbrev pub EditsTake : List Edit → List (Option ErrorKind) → Tree → Tree → Type 0
-EditsTake [] [] t u = u ≡ t
-EditsTake (e ∷ es) (r ∷ rs) t u = (v : Tree) × EditTakes e r t v × EditsTake es rs v u
-EditsTake es rs t u = ⊥
+-- The edits, in order and each with its outcome, lead from x to y. `One` says what one edit with its
+-- outcome leads from, and to.
+abbrev pub InTurn : {A : Type 0} → (Edit → Option ErrorKind → A → A → Type 0) → List Edit →
+    List (Option ErrorKind) → A → A → Type 0
+InTurn One [] [] x y = y ≡ x
+InTurn {A} One (e ∷ es) (r ∷ rs) x y = (z : A) × One e r x z × InTurn One es rs z y
+InTurn One es rs x y = ⊥

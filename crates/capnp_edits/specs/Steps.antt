@@ -220,8 +220,7 @@ DoesThere old new (AtElement e) (InStruct (Bits n)) r =
     ((f.start < bits) × (f.start + f.bits ≤ bits) × (r ≡ None) ×
     (new.words ≡ with_field old.words e.segment (64 * e.start + f.start) f.bits f.value))
     ⊎ ((bits < f.start + f.bits) × (r ≡ Some NoSuchPlace) × (new.words ≡ old.words))
-DoesThere old new (AtElement e) (InStruct (Content source)) r =
-    FillsAt old new e source r
+DoesThere old new (AtElement e) (InStruct (Content source)) r = FillsAt old new e source r
 DoesThere old new (AtElement e) task r = new.words ≡ old.words
 
 -- From old to new a call does a task that is in range, at the end of a path, with outcome r. It
@@ -248,7 +247,7 @@ pub record IsDoneBy {A : Type 0} (view : A → View) (old new : PointerBuilder A
 -- NoSuchPlace, and changes nothing, if its path leads nowhere, its numbers are out of range, or the
 -- message has no root word. Otherwise it ends as the builder's call at the end of its path does,
 -- and isn't refused for memory if that has room.
-pub record IsStep (old new : View) (edit : Edit) (r : Option ErrorKind) : Type 0 where
+pub record IsStep (edit : Edit) (r : Option ErrorKind) (old new : View) : Type 0 where
   pub applied : IsApplied (EditTakes edit r) old.words new.words
   pub counted : new.refusals ≡ option_map_or (λ k. refusals_for k old.refusals) r old.refusals
   pub path_end : Option PathEnd
@@ -264,9 +263,3 @@ pub record IsStep (old new : View) (edit : Edit) (r : Option ErrorKind) : Type 0
       (k : ErrorKind) → r ≡ Some k → is_of_path k ≡ true
   pub ends : (r ≡ Some NoSuchPlace → ⊥) →
       IfSome path_end (λ there. IfSome (task_of edit.op) (λ task. EndsAt old new task r there))
-
--- From old to new the edits are such steps in order, each with its outcome.
-abbrev pub AreSteps : View → View → List Edit → List (Option ErrorKind) → Type 0
-AreSteps old new [] [] = new ≡ old
-AreSteps old new (e ∷ es) (r ∷ rs) = (mid : View) × IsStep old mid e r × AreSteps mid new es rs
-AreSteps old new es rs = ⊥

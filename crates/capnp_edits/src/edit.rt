@@ -1,8 +1,8 @@
 //! Edits: changes of a message being built, described as data. Each has a path from the root
 //! pointer, and an operation to do at the end of the path.
 ghost use Rattle.std.specs.Prelude.{◌≡◌, length};
-ghost use Rattle.capnp_edits.specs.Edits.{refusal_of, IsApplied, EditsTake};
-ghost use Rattle.capnp_edits.specs.Steps.{IsStep, AreSteps};
+ghost use Rattle.capnp_edits.specs.Edits.{refusal_of, EditTakes, InTurn, IsApplied};
+ghost use Rattle.capnp_edits.specs.Steps.{IsStep};
 
 mod copying;
 mod elements;
@@ -137,7 +137,7 @@ pub struct Edit<'a> {
 /// is of the wrong kind, or there is no memory to make it larger, that value stays, whether it is a
 /// copy of the default's or was there before.
 pub fn apply<A: BuilderArena>(arena: &mut A, edit: &Edit<'_>) -> Result<(), ErrorKind>
-    ensures { IsStep (A.view arena.old) (A.view arena.new) edit.now (refusal_of result) }
+    ensures { IsStep edit.now (refusal_of result) (A.view arena.old) (A.view arena.new) }
 {
     if !has_words(&*arena, 0, 1) {
         return Err(ErrorKind::NoSuchPlace);
@@ -166,8 +166,8 @@ pub fn apply_all<A: BuilderArena>(
     outcomes: &mut [Option<ErrorKind>],
 )
     requires { length outcomes.old ≡ length edits.now }
-    ensures steps { AreSteps (A.view arena.old) (A.view arena.new) edits.now outcomes.new }
-    ensures applied { IsApplied (EditsTake edits.now outcomes.new) (A.view arena.old).words
+    ensures steps { InTurn IsStep edits.now outcomes.new (A.view arena.old) (A.view arena.new) }
+    ensures applied { IsApplied (InTurn EditTakes edits.now outcomes.new) (A.view arena.old).words
         (A.view arena.new).words }
 {
     for (i, edit) in edits.iter().enumerate() {

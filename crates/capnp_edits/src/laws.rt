@@ -13,10 +13,11 @@ ghost use Rattle.capnp_edits.specs.declared.edit.Source.{Source};
 ghost use Rattle.capnp_edits.specs.declared.edit.copying.Copying.{Copying};
 ghost use Rattle.capnp_edits.specs.declared.edit.copying.Wanted.TheVariants.{Struct as AStruct};
 ghost use Rattle.capnp_edits.specs.declared.edit.path.PathEnd.TheVariants.{Pointer as AtPointer};
+ghost use Rattle.capnp_edits.specs.Edits.{InTurn};
 ghost use Rattle.capnp_edits.specs.Fitting.{AreInFirst, AsksNoMore, IsNoneOfMemory, words_asked};
 ghost use Rattle.capnp_edits.specs.Paths.{step_of};
 ghost use Rattle.capnp_edits.specs.Sources.{ContentRead, Copies, HasNothingToCopy, IsNextUnreadable, IsUnreadable};
-ghost use Rattle.capnp_edits.specs.Steps.{AreSteps, IsStep};
+ghost use Rattle.capnp_edits.specs.Steps.{IsStep};
 ghost use Rattle.capnp_edits.specs.Tasks.{task_of};
 
 /// If the value of another message's root can be copied, a copy of it is never refused because of
@@ -41,7 +42,7 @@ pub fn filled_or_refused()
 /// that the contract of `apply` is about.
 pub fn step_is_there()
     ensures { (old new : View) (edit : Edit) (r : Option ErrorKind) (t x : Tree) (u q : ℕ)
-        (s : IsStep old new edit r) → IsForest old.words t
+        (s : IsStep edit r old new) → IsForest old.words t
         → PathLeads old.words (node 0 0 t) (map step_of edit.path.now) (node u q x)
         → s.path_end ≡ Some (AtPointer (record { segment = u; word = q })) }
 {}
@@ -57,7 +58,7 @@ pub fn fitting_edits()
         → All (λ e. AsksNoMore (task_of e.op)) edits
         → length (segment old.words 0) + sum_by (λ e. words_asked (task_of e.op)) edits
         ≤ old.room 0
-        → AreSteps old new edits rs
+        → InTurn IsStep edits rs old new
         → All IsNoneOfMemory rs
         × (length (segment new.words 0)
         ≤ length (segment old.words 0) + sum_by (λ e. words_asked (task_of e.op)) edits)
