@@ -1,6 +1,6 @@
 -- Steps: one edit at its place, and edits one after another.
-use Rattle.std.proofs.Common.{◌≡◌, ℕ, ◌+◌, ◌*◌, ◌<◌, ◌≤◌, true, List, [], ◌∷◌, ◌++◌, length, take, get_or, set, Option, Some, None, IfSome, refl, sym, ap, ap₂, ◌∙◌, subst, arith, map}
-use Rattle.std.proofs.lemmas.List.{append-nil, take_more, take_more_set}
+use Rattle.std.proofs.Common.{◌≡◌, ℕ, ◌+◌, ◌*◌, ◌≤◌, true, List, [], ◌∷◌, length, Option, Some, None, IfSome, refl, sym, ap, ap₂, ◌∙◌, subst, arith, map}
+use Rattle.std.proofs.lemmas.List.{append-nil}
 use Rattle.capnp_words.specs.declared.error.ErrorKind.{ErrorKind}
 use Rattle.capnp_words.specs.declared.error.ErrorKind.TheVariants.{NoSuchPlace}
 use Rattle.capnp_arena_traits.specs.View.{View}

@@ -1,8 +1,7 @@
 -- Steps: what one edit does with a message and the arena that holds it, and edits in order.
 use Rattle.std.specs.Prelude.{IsTrue, MatchOption, is_some, ◌≡◌, ◌⊎◌, ⊤, ℕ, min, ◌<◌, ◌≤◌, ◌+◌, ◌-◌, ◌*◌, ◌^◌, true, List, []}
-use Rattle.std.specs.Prelude.{◌∷◌, length, map, Option, Some, None, IfSome, IsSomeAnd, Result, Ok, Err}
+use Rattle.std.specs.Prelude.{length, map, Option, Some, None, IfSome, IsSomeAnd, Result, Ok, Err}
 use Rattle.std.specs.Option.{option_map_or}
-use Rattle.std.specs.Borrow.{Bor}
 use Rattle.capnp_words.specs.Meter.{Meter}
 use Rattle.capnp_words.specs.declared.error.ErrorKind.{ErrorKind}
 use Rattle.capnp_words.specs.declared.error.ErrorKind.TheVariants.{NoSuchPlace}
@@ -23,7 +22,6 @@ use Rattle.capnp_making.specs.Near.{HasOwnRoom}
 use Rattle.capnp_making.specs.Stored.{IsReplaced, IsStored}
 use Rattle.capnp_making.specs.Zeroed.{IsPruned}
 use Rattle.capnp_contents.specs.declared.existing.ExistingStruct.{ExistingStruct}
-use Rattle.capnp_objects.specs.declared.pointers.PointerPlace.{PointerPlace}
 use Rattle.capnp_objects.specs.Wanted.{plain}
 use Rattle.capnp_copies.specs.Changes.{CopiesChildren, CopiesFirst, RefusesToCopy, copy_call}
 use Rattle.capnp_copies.specs.Forms.{form_of}
