@@ -1,5 +1,5 @@
 -- Messages that can be read whole are the same exactly if their lines are.
-use Rattle.std.proofs.Common.{◌≡◌, ◌≢◌, ◌↔◌, ℕ, List, [], ◌++◌, Option, Some, None, Result, Ok, Err, IfErr, refl, sym, ap, ◌∙◌, subst}
+use Rattle.std.proofs.Common.{◌≡◌, ◌≢◌, ◌↔◌, ℕ, List, [], ◌++◌, Option, Some, None, Result, IfErr, refl, sym, ap, ◌∙◌, subst}
 use Rattle.std.specs.Prelude.{codes, IsNone, IfSome, IsErrAnd}
 use Rattle.std.proofs.lemmas.List.{same_from_push}
 use Rattle.std.proofs.lemmas.Result.{err_from_is_err_and}
@@ -56,3 +56,7 @@ pub lacks_memory : {A : Type 0} {k : CompareFault} (r : Result A CompareFault) �
 lacks_memory {k = AllocationFailed} r h short works = let p = err_from_is_err_and r h in rw (p.1) p.2
 lacks_memory {k = TooLong} r h short works = absurd (short refl)
 lacks_memory {k = WriteFailed} r h short works = absurd (works refl)
+
+-- A refusal that isn't for a long line.
+pub not_long : {A : Type 0} {k : CompareFault} (r : Result A CompareFault) → IsErrAnd r (λ e. e ≡ k) → (k ≡ TooLong → ⊥) → IfErr r (λ e. e ≢ TooLong)
+not_long r h short = let p = err_from_is_err_and r h in rw (p.1) (λ is. short (sym p.2 ∙ is))

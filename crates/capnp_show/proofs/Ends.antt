@@ -1,5 +1,5 @@
 -- The end of a path that means a value within the limits is shown as the line of this value.
-use Rattle.std.proofs.Common.{◌≡◌, ℕ, ℤ, ◌+◌, ◌≤◌, true, List, [], ◌++◌, Result, Ok, refl, sym, ap, ap₂, ◌∙◌, subst, arith}
+use Rattle.std.proofs.Common.{◌≡◌, ℕ, ℤ, ◌+◌, ◌≤◌, true, List, [], ◌++◌, length, Result, Ok, Err, IfErr, length-append, refl, sym, ap, ap₂, ◌∙◌, subst, arith}
 use Rattle.std.specs.Prelude.{codes}
 use Rattle.capnp_words.specs.declared.error.ErrorKind.{ErrorKind}
 use Rattle.capnp_words.specs.Meter.{Affords, Meter, unused}
@@ -21,9 +21,11 @@ use Rattle.capnp_messages.specs.EndValues.{EndMeans, end_place}
 use Rattle.capnp_messages.specs.Parts.{PathEnd, part, to_element, to_pointer}
 use Rattle.capnp_show.specs.Line.{value_line}
 use Rattle.capnp_show.specs.Shown.{Shown, Shows, add, show_end, shown_json}
-use Rattle.capnp_show.specs.ShownParts.{IsShownPart}
+use Rattle.capnp_show.specs.Adding.{max_text}
+use Rattle.capnp_show.specs.ShownParts.{HasShortLine, IsShownPart}
 use Rattle.capnp_show.specs.declared.show.json.Json.{Json}
 use Rattle.capnp_show.specs.declared.show.text.Ended.{Ended}
+use Rattle.capnp_show.specs.declared.show.text.Ended.TheVariants.{Full}
 use Rattle.capnp_show.proofs.Steps.{shows_as}
 use Rattle.capnp_show.proofs.Told.{element_told, value_told}
 
@@ -84,3 +86,15 @@ line_written {res = res} S limits path d t z j0 j is nesting begins writes =
     let (m, told) = end_told d is.path_end (fresh is.left) t is.cost is.means is.covered is.deep in
     let line = ap (λ (s : Shown). add (codes "\n") (show_end d is.path_end (record s { lim = is.left }))) begins ∙ ap (add (codes "\n")) told in
     (m, shows_as line (writes is.path_end is.left leads))
+
+-- Then the call is refused as `Full` only if that line is too long.
+pub line_full : {A : Type 0} {res : Result A Ended} (S : Segments) (limits : ReaderOptions) (path : List ℕ) (d : ℕ) (t : Tree) (z : ℤ) (j0 j : Json) → IsShownPart S limits path d t → z ≡ limits.nesting_limit →
+    shown_json j0 ≡ fresh (unused limits.traversal_limit_in_words) →
+    ((e : PathEnd) (m : Meter) → part S (levels z) path j0.lim ≡ (Ok e, m) → Shows res j (add (codes "\n") (show_end d e (record (shown_json j0) { lim = m })))) →
+    IfErr res (λ e. e ≡ Full → HasShortLine t → ⊥)
+line_full {res = Ok x} S limits path d t z j0 j is nesting begins writes = tt
+line_full {res = Err k} S limits path d t z j0 j is nesting begins writes =
+    λ full short.
+    let long = (line_written S limits path d t z j0 j is nesting begins writes).1.full full in
+    let small : length (value_line t) + 1 ≤ max_text = short in
+    absurd (omega (arith, long, small, length-append (value_line t) (codes "\n")))

@@ -103,8 +103,3 @@ pub elements_opened : (below : ShowsArray) → ArrayLengthens below → (d q i k
 elements_opened below h d q i k r s whole e =
     let t : Shown = add (codes "{") (add (comma i) s) in
     omega (arith, elements_rest below h d q i k r s whole e, struct_longer below h d q r t)
-
-pub elements_begun : (below : ShowsArray) → ArrayLengthens below → (d q i k : ℕ) (r : Reading) (s whole : Shown) → whole ≡ show_elements below d q i (suc k) r s → Longer (add (comma i) s) whole
-elements_begun below h d q i k r s whole e =
-    let t : Shown = add (comma i) s in
-    omega (arith, elements_opened below h d q i k r s whole e, added_longer (codes "{") t)

@@ -1,5 +1,5 @@
 -- What is written of a value, by the length of its line.
-use Rattle.std.proofs.Common.{◌≡◌, ℕ, ◌+◌, ◌≤◌, ◌<◌, true, false, nat_le, List, ◌++◌, length, Result, Ok, Err, IfOk, refl, sym, ◌∙◌, arith, length-append, le-leb}
+use Rattle.std.proofs.Common.{◌≡◌, ◌+◌, ◌≤◌, ◌<◌, true, false, nat_le, ◌++◌, length, Result, Ok, Err, IfOk, refl, sym, ◌∙◌, arith, length-append, le-leb}
 use Rattle.std.proofs.lemmas.Bool.{lt-leb}
 use Rattle.std.specs.Prelude.{codes}
 use Rattle.capnp_format.specs.Tree.{Tree}

@@ -21,7 +21,7 @@ pub text_added : (j : Json) (t : Text) (xs : List ℕ) → t.bytes.items ≡ j.t
 text_added j t xs e = ap (λ zs. record (shown_json j) { text = zs }) e
 
 pub still_plain : (j : Json) (t : Text) → IsPlain j → IsPlain (record j { text = t })
-still_plain j t plain = record { no_places = plain.no_places; no_search = plain.no_search }
+still_plain j t plain = record { no_places = plain.no_places }
 
 -- Bytes are added to the text of a line.
 pub push_shows : {A : Type 0} {r : Result A Ended} {xs : List ℕ} (j : Json) (t : Text) → IsPlain j → Adds r j.text.bytes.items t.bytes.items xs → Shows r (record j { text = t }) (add xs (shown_json j))
@@ -76,14 +76,10 @@ place_begun d r s some =
     let e = place_read (array_within d) r s (read Value r s.lim).0 (read Value r s.lim).1 some refl in
     omega (arith, ap (λ z. length z.text) e, result_longer (array_within d) (within_longer d) r (read Value r s.lim).0 (read Value r s.lim).1 (add (codes "{") s))
 
--- A step that changes nothing.
-pub still_shows : {x : Unit {0}} {j : Json} {s : Shown} (r : Result (Unit {0}) Ended) (j' : Json) → (r ≡ Ok tt) × (j' ≡ j) → Shows (Ok x) j s → Shows r j' s
-still_shows {j = j} {s = s} r j' e h = rw (e.0, e.1) (let w : Shows {A = Unit {0}} (Ok tt) j s = record { plain = h.plain; written = h.written; full = tt } in w)
-
 -- ---- steps after each other
 
 pub lim_plain : {j : Json} (m : Meter) → IsPlain j → IsPlain (record j { lim = m })
-lim_plain m plain = record { no_places = plain.no_places; no_search = plain.no_search }
+lim_plain m plain = record { no_places = plain.no_places }
 
 -- After a step that changed nothing.
 pub plain_after : {j j1 : Json} → j1 ≡ j → IsPlain j → IsPlain j1
@@ -133,13 +129,6 @@ pub elements_first : (below : ShowsArray) (d q count k : ℕ) (r : Reading) (s :
 elements_first below d q count k r s all =
     ap₂ (λ n p. show_elements below d q 0 n (record r { at = p }) s) (let e : count ≡ k = omega arith in e) (let e : r.at ≡ r.at + 0 * (d + q) = omega arith in e)
 
--- A comma, a step on the path, a pointer, and the step back.
-pub each_shown : {A B : Type 0} {res : Result B Ended} {x : A} {j3 : Json} (d i : ℕ) (r q : Reading) (j j2 : Json) (t : Text) → IsPlain j → Adds (Ok x) j.text.bytes.items t.bytes.items (comma i) → j2 ≡ record j { text = t } → q ≡ place_past r i →
-    (IsPlain j2 → Shows res j3 (show_within d q (shown_json j2))) → Shows res j3 (show_within d (place_past r i) (add (comma i) (shown_json j)))
-each_shown d i r q j j2 t plain comma_added entered at h =
-    let with_comma = push_shows j t plain comma_added in
-    shows_as (ap (show_within d (place_past r i)) with_comma.written) (shows_after (show_within d) (place_past r i) q (record j { text = t }) j2 at entered with_comma.plain h)
-
 pub each_next : (f : Reading → Shown → Shown) (i count k : ℕ) (r : Reading) (s next whole : Shown) → ((n : ℕ) → i + n ≡ count → whole ≡ show_each f i n (place_past r i) s) → i + 1 + k ≡ count → next ≡ f (place_past r i) (add (comma i) s) →
     whole ≡ show_each f (i + 1) k (place_past r (i + 1)) next
 each_next f i count k r s next whole so_far e is =
@@ -147,13 +136,6 @@ each_next f i count k r s next whole so_far e is =
     ∙ ap₂ (λ n p. show_each f n k (record r { at = p }) next) (sym (add-one i)) (let e : r.at + i + 1 ≡ r.at + (i + 1) = omega arith in e)
 
 -- ---- the elements of a list of structs
-
--- A comma and the brace of an element.
-pub element_opened : {A B : Type 0} {res : Result B Ended} {x : A} (i : ℕ) (j j2 : Json) (t u : Text) → IsPlain j → Adds (Ok x) j.text.bytes.items t.bytes.items (comma i) → j2 ≡ record j { text = t } → Adds res j2.text.bytes.items u.bytes.items (codes "{") →
-    Shows res (record j2 { text = u }) (add (codes "{") (add (comma i) (shown_json j)))
-element_opened i j j2 t u plain comma_added entered brace =
-    let with_comma = push_shows j t plain comma_added in
-    shows_as (ap (add (codes "{")) with_comma.written) (push_after (record j { text = t }) j2 u entered with_comma.plain brace)
 
 pub elements_whole : (below : ShowsArray) (d q count i : ℕ) (r : Reading) (s0 s : Shown) → i < count →
     ((k : ℕ) → i + k ≡ count → show_elements below d q 0 count r s0 ≡ show_elements below d q i k (place_past r (i * (d + q))) s) →

@@ -1,5 +1,5 @@
 -- How the lines of two values are compared.
-use Rattle.std.specs.Prelude.{◌≡◌, ◌↔◌, ℕ, ◌++◌, codes, Option, Result, IsNone, MatchResult}
+use Rattle.std.specs.Prelude.{◌≡◌, ◌↔◌, ◌++◌, codes, Option, Result, IsNone, MatchResult}
 use Rattle.capnp_format.specs.Tree.{Tree}
 use Rattle.capnp_show.specs.Line.{value_line}
 use Rattle.capnp_show.specs.ShownParts.{HasShortLine}

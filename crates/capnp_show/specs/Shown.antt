@@ -1,7 +1,7 @@
 -- What is written of a line of JSON without places: the walk over the objects of a value as a
 -- function. If the value can be read, it writes `value_line` of the value.
 use Rattle.std.specs.Prelude.{◌≡◌, ℕ, zero, suc, ◌+◌, ◌<◌, Bool, true, false, if◌then◌else◌, nat_eq}
-use Rattle.std.specs.Prelude.{List, [], ◌++◌, codes, length, None, Result, Ok, Err, OnOk, IfErr}
+use Rattle.std.specs.Prelude.{List, [], ◌++◌, codes, length, Result, Ok, Err, OnOk, IfErr}
 use Rattle.std.specs.Fmt.{decimal}
 use Rattle.capnp_words.specs.declared.error.ErrorKind.{ErrorKind}
 use Rattle.capnp_words.specs.Meter.{Meter}
@@ -130,10 +130,9 @@ show_end d (to_element r n q) s = show_struct (array_within d) n q r (add (codes
 abbrev pub shown_json : Json → Shown
 shown_json json = record { text = json.text.bytes.items; lim = json.lim; sound = json.is_sound }
 
--- The line is without places, and nothing is looked for.
+-- The line is without places.
 pub record IsPlain (json : Json) : Type 0 where
   pub no_places : json.has_places ≡ false
-  pub no_search : json.search ≡ None
 
 -- A call has written s, and the line is still plain; or it was refused, as `Full` only if s is too
 -- long.

@@ -1,5 +1,5 @@
 //! Compares the values of two messages.
-ghost use Rattle.std.specs.Prelude.{◌≡◌, ◌≢◌, ◌≤◌, ◌↔◌, [], false, true, length, Ok, Err, IfSome, IsNone, IfOk, IfErr, OnOk};
+ghost use Rattle.std.specs.Prelude.{◌≡◌, ◌≢◌, ◌<◌, ◌↔◌, [], false, true, length, Ok, Err, IfSome, IsNone, IfOk, IfErr, OnOk};
 ghost use Rattle.capnp_format.specs.Bytes.{message};
 ghost use Rattle.capnp_format.specs.Segments.{AreWords};
 ghost use Rattle.capnp_format.specs.Tree.{Tree};
@@ -13,18 +13,20 @@ ghost use Rattle.capnp_show.specs.ShownParts.{HasShortLine, IsShownPart};
 
 use super::json::{Json, Search};
 use super::message::write_json;
-use super::text::{Ended, MOST_BYTES, Text, text_prefix};
+use super::path::push_path;
+use super::text::{CUT_LINE, Ended, MOST_BYTES, Text, text_prefix};
 use capnp_arena::arena::{ReaderArena, ReaderArenaImpl, ReaderOptions, ReaderSegments};
-use capnp_framing::devices::{DeviceFault, Output, write_all};
+use capnp_framing::devices::Output;
+use capnp_objects::nesting::levels_left;
 use capnp_words::read_limiter::ReadLimiter;
 use std::alloc::Global;
 
 /// Why two messages aren't compared.
-#[derive(Clone, Copy, Debug, PartialEq, Eq)]
+#[derive(Clone, Copy, Debug)]
 pub enum CompareFault {
     /// Memory ran out.
     AllocationFailed,
-    /// The line of one of the messages would have more than `MOST_BYTES` bytes.
+    /// The line of one of the messages would have more than 67,108,799 bytes.
     TooLong,
     /// Writing to the output failed.
     WriteFailed,
@@ -44,13 +46,14 @@ struct Difference {
 /// writes nothing and returns `true`. Otherwise writes three lines to `output` and returns `false`:
 /// `message`, `number` and the path to the first object whose text differs; `<` and its text in
 /// `left`; `>` and its text in `right`. Of a text, at most 1,024 bytes are written, and then two dots.
+/// If all this has more than `MOST_BYTES` bytes, it ends with a line that says so.
 ///
 /// A pointer that can't be read has the name of its refusal in the line. If both messages are sound
 /// (`validate` of `capnp_messages`), they are the same exactly if their values are equal.
 ///
 /// Refusals: `AllocationFailed` if memory runs out, and `TooLong` if a line would have more than
-/// `MOST_BYTES` bytes, and then nothing is written; `WriteFailed` if the output fails. Takes memory
-/// for two lines.
+/// 67,108,799 bytes, and then nothing is written; `WriteFailed` if the output fails. Takes memory for
+/// two lines.
 #[tactic(auto, using(crate::proofs::CompareLemmas::nothing_printed))]
 pub fn compare_messages<S: ReaderSegments + Drop, T: ReaderSegments + Drop, W: Output>(
     alloc: Global,
@@ -74,6 +77,9 @@ pub fn compare_messages<S: ReaderSegments + Drop, T: ReaderSegments + Drop, W: O
     ensures granted { (l : IsReadable (message (S.segments left)) limits)
         (r : IsReadable (message (T.segments right)) limits) → l.value ≡ r.value
         → HasShortLine l.value → IfErr result (λ e. e ≡ CompareFault.AllocationFailed) }
+    ensures short { (l : IsReadable (message (S.segments left)) limits)
+        (r : IsReadable (message (T.segments right)) limits) → HasShortLine l.value
+        → HasShortLine r.value → IfErr result (λ e. e ≢ CompareFault.TooLong) }
     ensures failed { result ≡ Err CompareFault.WriteFailed → W.has_failed output.new ≡ true }
     ensures unwritten { IfErr result (λ e. e ≢ CompareFault.WriteFailed
         → IsUnwritten W.Output output.old output.new) }
@@ -85,29 +91,9 @@ pub fn compare_messages<S: ReaderSegments + Drop, T: ReaderSegments + Drop, W: O
         None => Ok(true),
         Some(difference) => {
             let text = text_of_difference(alloc, limits, number, difference, &left, &right)?;
-            write_text(output, &text)?;
+            text.write(output, CompareFault::WriteFailed)?;
             Ok(false)
         }
-    }
-}
-
-/// Writes the text about a difference.
-fn write_text<W: Output>(output: &mut W, text: &Text) -> Result<(), CompareFault>
-    requires { W.has_failed output.old ≡ false }
-    ensures some { OnOk result (PrintsSome W.Output output.old output.new) }
-    ensures bounded { OnOk result (PrintsAtMost W.Output MOST_BYTES output.old output.new) }
-    ensures works { OnOk result (W.has_failed output.new ≡ false) }
-    ensures failed { result ≡ Err CompareFault.WriteFailed → W.has_failed output.new ≡ true }
-    ensures unwritten { IfErr result (λ e. e ≢ CompareFault.WriteFailed
-        → IsUnwritten W.Output output.old output.new) }
-{
-    let bytes = text.bytes();
-    if bytes.is_empty() {
-        return Err(CompareFault::TooLong);
-    }
-    match write_all(output, bytes) {
-        Ok(()) => Ok(()),
-        Err(DeviceFault) => Err(CompareFault::WriteFailed),
     }
 }
 
@@ -166,14 +152,6 @@ fn begins_object(line: &[u8], at: usize) -> bool {
     matches!(line.get(at), Some(b'n' | b'{'))
 }
 
-/// The number of levels that the nesting limit allows. No value that can be read is nested more
-/// deeply.
-fn levels_of(limits: ReaderOptions) -> u32
-    ensures { result ≡ levels limits.nesting_limit }
-{
-    limits.nesting_limit.max(0) as u32
-}
-
 /// The line of a message.
 fn line_of<S: ReaderSegments>(
     alloc: Global,
@@ -188,7 +166,14 @@ fn line_of<S: ReaderSegments>(
 {
     let lim = ReadLimiter::new(limits.traversal_limit_in_words);
     let mut json = Json::new(alloc, lim, false);
-    match write_json(arena, 0, 0, &[], levels_of(limits), &mut json) {
+    match write_json(
+        arena,
+        0,
+        0,
+        &[],
+        levels_left(limits.nesting_limit),
+        &mut json,
+    ) {
         Ok(()) => Ok(json),
         Err(Ended::Full) => Err(CompareFault::TooLong),
         Err(_) => Err(CompareFault::AllocationFailed),
@@ -202,12 +187,23 @@ fn line_to<S: ReaderSegments>(
     search: Search,
     arena: &ReaderArenaImpl<S>,
 ) -> Result<Json, CompareFault>
-    ensures { IfErr result (λ e. e ≢ CompareFault.WriteFailed) }
+    ensures line { (t : Tree) → arena.now.nesting_limit ≡ limits.nesting_limit
+        → IsShownPart (message (⟦<ReaderArenaImpl<S> as ReaderArena>⟧.segments arena.now)) limits
+        [] (levels limits.nesting_limit) t
+        → HasShortLine t → IfErr result (λ e. e ≢ CompareFault.TooLong) }
+    ensures refused { IfErr result (λ e. e ≢ CompareFault.WriteFailed) }
 {
     let lim = ReadLimiter::new(limits.traversal_limit_in_words);
     let mut json = Json::new(alloc, lim, false);
     json.search = Some(search);
-    match write_json(arena, 0, 0, &[], levels_of(limits), &mut json) {
+    match write_json(
+        arena,
+        0,
+        0,
+        &[],
+        levels_left(limits.nesting_limit),
+        &mut json,
+    ) {
         Ok(()) | Err(Ended::Found) => Ok(json),
         Err(Ended::Full) => Err(CompareFault::TooLong),
         Err(Ended::NoMemory) => Err(CompareFault::AllocationFailed),
@@ -223,27 +219,62 @@ fn text_of_difference<S: ReaderSegments, T: ReaderSegments>(
     left: &ReaderArenaImpl<S>,
     right: &ReaderArenaImpl<T>,
 ) -> Result<Text, CompareFault>
-    ensures { IfErr result (λ e. e ≢ CompareFault.WriteFailed) }
+    ensures some { IfOk result (λ text. 0 < length text.bytes.items) }
+    ensures short { (t u : Tree) → left.now.nesting_limit ≡ limits.nesting_limit
+        → right.now.nesting_limit ≡ limits.nesting_limit
+        → IsShownPart (message (⟦<ReaderArenaImpl<S> as ReaderArena>⟧.segments left.now)) limits
+        [] (levels limits.nesting_limit) t
+        → IsShownPart (message (⟦<ReaderArenaImpl<T> as ReaderArena>⟧.segments right.now)) limits
+        [] (levels limits.nesting_limit) u
+        → HasShortLine t → HasShortLine u → IfErr result (λ e. e ≢ CompareFault.TooLong) }
+    ensures refused { IfErr result (λ e. e ≢ CompareFault.WriteFailed) }
 {
     let Difference { at, latest } = difference;
     let left = line_to(alloc, limits, Search::new(alloc, at, latest), left)?;
     let right = line_to(alloc, limits, Search::new(alloc, at, latest), right)?;
+    difference_text(alloc, number, &left, &right)
+}
+
+/// The text about a difference of which each line ends with the object that differs. A text that
+/// would have more than `MOST_BYTES` bytes ends with a line that says so.
+fn difference_text(
+    alloc: Global,
+    number: u64,
+    left: &Json,
+    right: &Json,
+) -> Result<Text, CompareFault>
+    ensures some { IfOk result (λ text. 0 < length text.bytes.items) }
+    ensures refused { IfErr result (λ e. e ≡ CompareFault.AllocationFailed) }
+{
     let mut text = Text::new(alloc);
-    match push_difference(&mut text, number, &left, &right) {
+    match push_difference(&mut text, number, left, right) {
         Ok(()) => Ok(text),
-        Err(Ended::NoMemory) => Err(CompareFault::AllocationFailed),
-        Err(_) => Err(CompareFault::TooLong),
+        Err(Ended::Full) => cut_text(text),
+        Err(_) => Err(CompareFault::AllocationFailed),
+    }
+}
+
+/// Ends a text that is full with a line that says so.
+fn cut_text(mut text: Text) -> Result<Text, CompareFault>
+    ensures some { IfOk result (λ cut. 0 < length cut.bytes.items) }
+    ensures refused { IfErr result (λ e. e ≡ CompareFault.AllocationFailed) }
+{
+    match text.push_into_kept(CUT_LINE) {
+        Ok(()) => Ok(text),
+        Err(_) => Err(CompareFault::AllocationFailed),
     }
 }
 
 /// Adds the three lines about a difference.
-fn push_difference(text: &mut Text, number: u64, left: &Json, right: &Json) -> Result<(), Ended> {
+fn push_difference(text: &mut Text, number: u64, left: &Json, right: &Json) -> Result<(), Ended>
+    ensures { OnOk result (0 < length text.new.bytes.items) }
+{
     text.push(b"message ")?;
     text.push_number(number)?;
     text.push(b": ")?;
     match &left.search {
-        Some(search) if !search.path.is_root() => text.push(search.path.bytes())?,
-        _ => text.push(b"root")?,
+        Some(search) => push_path(text, search.path.as_slice())?,
+        None => push_path(text, &[])?,
     }
     text.push(b"\n<")?;
     push_found(text, left)?;

@@ -1,16 +1,16 @@
 //! A message as one line of JSON.
-ghost use Rattle.std.specs.Prelude.{◌≡◌, ◌+◌, ◌*◌, ◌≤◌, ◌≢◌, true, false, codes, length, [], None, Ok, OnOk};
+ghost use Rattle.std.specs.Prelude.{◌≡◌, ◌+◌, ◌*◌, ◌≤◌, true, false, codes, length, [], Ok, OnOk};
 ghost use Rattle.capnp_objects.specs.Enter.{object_shape};
 ghost use Rattle.capnp_objects.specs.Reading.{segment_read};
 ghost use Rattle.capnp_objects.specs.Pointers.{reading};
 ghost use Rattle.capnp_messages.specs.Parts.{PathEnd};
 ghost use Rattle.capnp_messages.specs.PathEnds.{IsObjectRead, end_read, end_result};
 ghost use Rattle.capnp_show.specs.Adding.{max_text};
-ghost use Rattle.capnp_show.specs.Shown.{IsPlain, Shows, add, array_within, show_elements, show_end};
+ghost use Rattle.capnp_show.specs.Shown.{IsPlain, Shows, add, array_within, comma, show_elements, show_end};
 ghost use Rattle.capnp_show.specs.Shown.{show_object, show_refusal, show_struct, show_structs, show_within, shown_json};
 
 use super::objects::{bytes_are_below_256, bytes_at, pointer_inside, pointer_past, read_object};
-use super::path::{PathStep, PathText};
+use super::path::{PathStep, enter};
 use super::text::{CUT_OBJECT, Ended, Text};
 use capnp_arena_traits::arena::ReaderArena;
 use capnp_messages::messages::{ElementPlace, Reached};
@@ -30,7 +30,7 @@ pub(super) struct Search {
     /// Where the text of the object begins at the latest.
     latest: usize,
     /// The path to the object that is being written; in the end, to the object that was found.
-    pub(super) path: PathText,
+    pub(super) path: Vec<PathStep>,
     /// Where the text of the object that was found begins; 0, where the root's does, until then.
     pub(super) start: usize,
 }
@@ -42,7 +42,7 @@ impl Search {
         Search {
             at,
             latest,
-            path: PathText::new(alloc),
+            path: Vec::new(alloc),
             start: 0,
         }
     }
@@ -66,7 +66,6 @@ impl Json {
     /// Makes an empty line.
     pub(super) fn new(alloc: Global, lim: ReadLimiter, has_places: bool) -> Self
         ensures places { result.has_places ≡ has_places }
-        ensures search { result.search ≡ None }
         ensures shown { shown_json result ≡ record { text = []; lim = lim; sound = true } }
     {
         Json {
@@ -78,29 +77,40 @@ impl Json {
         }
     }
 
-    /// Adds a step to the path, if something is looked for. Returns how long the path was before.
-    fn enter(&mut self, step: PathStep) -> Result<usize, Ended>
-        ensures { IsPlain self.old → (result ≡ Ok 0) × (self.new ≡ self.old) }
+    /// Begins piece `step.index` of an array: writes a comma before it, if it isn't the first one, and
+    /// adds the step to the path, if something is looked for.
+    fn begin_piece(&mut self, step: PathStep) -> Result<(), Ended>
+        ensures { IsPlain self.old
+            → Shows result self.new (add (comma step.index) (shown_json self.old)) }
+    {
+        self.text.push_comma(step.index)?;
+        self.enter(step)
+    }
+
+    /// Adds a step to the path, if something is looked for.
+    fn enter(&mut self, step: PathStep) -> Result<(), Ended>
+        ensures { IsPlain self.old → Shows result self.new (shown_json self.old) }
     {
         match &mut self.search {
-            Some(search) => search.path.enter(step),
-            None => Ok(0),
+            None => Ok(()),
+            Some(search) => enter(&mut search.path, step),
         }
     }
 
-    /// Takes back the steps since the path was `len` bytes long.
-    fn leave(&mut self, len: usize)
-        ensures { IsPlain self.old → self.new ≡ self.old }
+    /// Takes back the last step.
+    fn leave(&mut self)
+        ensures plain { IsPlain self.old → IsPlain self.new }
+        ensures same { shown_json self.new ≡ shown_json self.old }
     {
         if let Some(search) = &mut self.search {
-            search.path.leave(len);
+            let _ = search.path.pop();
         }
     }
 
     /// Ends the text of an object, which began at `start`. Ends the line, too, if this text has the
     /// byte that is looked for.
     fn end_object(&mut self, start: usize) -> Result<(), Ended>
-        ensures { IsPlain self.old → (result ≡ Ok tt) × (self.new ≡ self.old) }
+        ensures { IsPlain self.old → Shows result self.new (shown_json self.old) }
     {
         let end = self.text.len();
         match &mut self.search {
@@ -110,6 +120,29 @@ impl Json {
             }
             _ => Ok(()),
         }
+    }
+
+    /// Begins element `index` of a list of structs. Returns where its text begins.
+    fn begin_element(&mut self, index: u32) -> Result<usize, Ended>
+        ensures { IsPlain self.old
+            → Shows result self.new (add (codes "{") (add (comma index) (shown_json self.old))) }
+    {
+        self.begin_piece(PathStep {
+            is_element: true,
+            index,
+        })?;
+        let start = self.text.len();
+        self.text.push(b"{")?;
+        Ok(start)
+    }
+
+    /// Ends an element, whose text began at `start`.
+    fn end_element(&mut self, start: usize) -> Result<(), Ended>
+        ensures { IsPlain self.old → Shows result self.new (shown_json self.old) }
+    {
+        self.end_object(start)?;
+        self.leave();
+        Ok(())
     }
 
     /// Writes what comes before the root: the number of the message, and its size.
@@ -222,15 +255,6 @@ impl Json {
             | Object::Structs { start, .. } => self.write_start(start),
             Object::Null | Object::Capability(_) => Ok(()),
         }
-    }
-}
-
-/// The step to pointer `index` of a list, if `are_elements` is set, or of a struct.
-fn step_to(are_elements: bool, index: u32) -> PathStep {
-    if are_elements {
-        PathStep::Element(index)
-    } else {
-        PathStep::Pointer(index)
     }
 }
 
@@ -386,10 +410,12 @@ fn json_pointers<A: ReaderArena>(
     }
     json.text.push_array(are_elements)?;
     for i in 0..count {
-        json.text.push_comma(i)?;
-        let len = json.enter(step_to(are_elements, i))?;
+        json.begin_piece(PathStep {
+            is_element: are_elements,
+            index: i,
+        })?;
         json_pointer(pointer_past(first, i), depth - 1, json)?;
-        json.leave(len);
+        json.leave();
     }
     json.text.push(b"]}")
 }
@@ -434,14 +460,10 @@ fn json_elements<A: ReaderArena>(
         (reading A.ReaderArena first.entry) (shown_json json.old)) }
 {
     for i in 0..count {
-        json.text.push_comma(i)?;
-        let len = json.enter(PathStep::Element(i))?;
-        let start = json.text.len();
-        json.text.push(b"{")?;
+        let start = json.begin_element(i)?;
         let element = pointer_past(first, i * size.total());
         json_struct(element, size, depth, json)?;
-        json.end_object(start)?;
-        json.leave(len);
+        json.end_element(start)?;
     }
     Ok(())
 }

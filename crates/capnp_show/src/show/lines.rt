@@ -1,7 +1,7 @@
 //! A message as lines of text, one for each object.
 use super::message::Showing;
 use super::objects::{bytes_at, number_at, place_past, pointer_inside, pointer_past, read_object};
-use super::path::{PathStep, PathText};
+use super::path::{PathStep, enter, push_path};
 use super::text::{CUT_COLORED_LINE, CUT_LINE, Ended, Text, as_text, text_prefix};
 use capnp_arena_traits::arena::ReaderArena;
 use capnp_messages::messages::ElementPlace;
@@ -13,6 +13,9 @@ use std::alloc::Global;
 
 /// How many elements of a list are shown, and how many words of a data section.
 const MOST_ELEMENTS: u32 = 64;
+
+/// What says that only these elements are shown.
+const CUT_ELEMENTS: &[u8] = b"cut after 64 elements";
 
 /// A part of a line that has a color.
 #[derive(Clone, Copy)]
@@ -30,14 +33,14 @@ enum LinePart {
 }
 
 impl LinePart {
-    /// The control sequence of a terminal that begins the part.
-    fn color(self) -> &'static [u8] {
+    /// The number in the control sequence of a terminal that begins the part.
+    fn color(self) -> u64 {
         match self {
-            LinePart::Path => b"\x1b[1m",
-            LinePart::Place => b"\x1b[2m",
-            LinePart::Text => b"\x1b[32m",
-            LinePart::Refusal => b"\x1b[31m",
-            LinePart::Cut => b"\x1b[33m",
+            LinePart::Path => 1,
+            LinePart::Place => 2,
+            LinePart::Text => 32,
+            LinePart::Refusal => 31,
+            LinePart::Cut => 33,
         }
     }
 }
@@ -52,7 +55,7 @@ pub(super) struct Lines {
     pub(super) text: Text,
     /// Whether no line has a fault.
     pub(super) is_sound: bool,
-    path: PathText,
+    path: Vec<PathStep>,
     /// What is left of the traversal limit.
     pub(super) lim: ReadLimiter,
     has_places: bool,
@@ -67,7 +70,7 @@ impl Lines {
         Lines {
             text: Text::new(alloc),
             is_sound: true,
-            path: PathText::new(alloc),
+            path: Vec::new(alloc),
             lim,
             has_places: !showing.values,
             has_colors: showing.colors,
@@ -77,11 +80,11 @@ impl Lines {
 
     /// Begins a part of a line.
     fn begin(&mut self, part: LinePart) -> Result<(), Ended> {
-        if self.has_colors {
-            self.text.push(part.color())
-        } else {
-            Ok(())
+        if !self.has_colors {
+            return Ok(());
         }
+        self.text.push_keyed(b"\x1b[", part.color())?;
+        self.text.push(b"m")
     }
 
     /// Ends a part of a line.
@@ -93,10 +96,21 @@ impl Lines {
         }
     }
 
+    /// Writes a part of a line, which is in `bytes`.
+    fn write_part(&mut self, part: LinePart, bytes: &[u8]) -> Result<(), Ended> {
+        self.begin(part)?;
+        self.text.push(bytes)?;
+        self.end()
+    }
+
     /// Begins the path of each line with the indexes in `path`.
     pub(super) fn begin_path(&mut self, path: &[u32]) -> Result<(), Ended> {
         for index in path {
-            self.path.enter(PathStep::Pointer(*index))?;
+            let step = PathStep {
+                is_element: false,
+                index: *index,
+            };
+            enter(&mut self.path, step)?;
         }
         Ok(())
     }
@@ -108,13 +122,10 @@ impl Lines {
         segments: u64,
         words: u64,
     ) -> Result<(), Ended> {
-        self.text.push(b"message ")?;
-        self.text.push_number(number)?;
+        self.text.push_keyed(b"message ", number)?;
         if self.has_places {
-            self.text.push(b": segments ")?;
-            self.text.push_number(segments)?;
-            self.text.push(b", words ")?;
-            self.text.push_number(words)?;
+            self.text.push_keyed(b": segments ", segments)?;
+            self.text.push_keyed(b", words ", words)?;
         }
         self.text.push(b"\n")
     }
@@ -137,11 +148,7 @@ impl Lines {
     /// Writes the path with which each line begins.
     fn write_path(&mut self) -> Result<(), Ended> {
         self.begin(LinePart::Path)?;
-        if self.path.is_root() {
-            self.text.push(b"root")?;
-        } else {
-            self.text.push(self.path.bytes())?;
-        }
+        push_path(&mut self.text, self.path.as_slice())?;
         self.end()
     }
 
@@ -149,10 +156,8 @@ impl Lines {
     fn write_place(&mut self, segment: u64, word: u32) -> Result<(), Ended> {
         self.text.push(b" ")?;
         self.begin(LinePart::Place)?;
-        self.text.push(b"[")?;
-        self.text.push_number(segment)?;
-        self.text.push(b":")?;
-        self.text.push_number(u64::from(word))?;
+        self.text.push_keyed(b"[", segment)?;
+        self.text.push_keyed(b":", u64::from(word))?;
         self.text.push(b"]")?;
         self.end()
     }
@@ -199,20 +204,12 @@ impl Lines {
         self.text.push(b"\n")
     }
 
-    /// Writes a kind of object and a number.
-    fn write_kind(&mut self, kind: &str, count: u32) -> Result<(), Ended> {
-        self.text.push(b" ")?;
-        self.text.push(kind.as_bytes())?;
-        self.text.push(b" ")?;
-        self.text.push_number(u64::from(count))
-    }
-
     /// Writes the sizes of the two sections of a struct.
     fn write_sizes(&mut self, size: StructSize) -> Result<(), Ended> {
-        self.text.push(b", data ")?;
-        self.text.push_number(u64::from(size.data_words))?;
-        self.text.push(b", pointers ")?;
-        self.text.push_number(u64::from(size.pointers))
+        self.text
+            .push_keyed(b", data ", u64::from(size.data_words))?;
+        self.text
+            .push_keyed(b", pointers ", u64::from(size.pointers))
     }
 
     /// Writes the rest of the line for a struct.
@@ -226,20 +223,20 @@ impl Lines {
 
     /// Writes the rest of the line for a capability.
     fn write_capability(&mut self, index: u32) -> Result<(), Ended> {
-        self.write_kind("capability", index)?;
+        self.text.push_keyed(b" capability ", u64::from(index))?;
         self.text.push(b"\n")
     }
 
     /// Writes the rest of the line for a list of pointers.
     fn write_list(&mut self, start: Place, count: u32) -> Result<(), Ended> {
-        self.write_kind("pointers", count)?;
+        self.text.push_keyed(b" pointers ", u64::from(count))?;
         self.write_start(start)?;
         self.text.push(b"\n")
     }
 
     /// Writes the rest of the line for a list of structs.
     fn write_structs(&mut self, start: Place, size: StructSize, count: u32) -> Result<(), Ended> {
-        self.write_kind("structs", count)?;
+        self.text.push_keyed(b" structs ", u64::from(count))?;
         self.write_start(start)?;
         self.write_sizes(size)?;
         self.text.push(b"\n")
@@ -251,23 +248,16 @@ impl Lines {
             self.text.push(if i == 0 { b": 0x" } else { b" 0x" })?;
             self.text.push_hex_number(place_past(start, i).word().0)?;
         }
-        self.write_more(words)
+        self.write_dots(words > MOST_ELEMENTS)
     }
 
-    /// Writes two dots if there are more elements than are shown.
-    fn write_more(&mut self, count: u32) -> Result<(), Ended> {
-        if count > MOST_ELEMENTS {
-            self.write_dots()?;
+    /// Writes two dots if there is more than is shown.
+    fn write_dots(&mut self, is_cut: bool) -> Result<(), Ended> {
+        if !is_cut {
+            return Ok(());
         }
-        Ok(())
-    }
-
-    /// Writes two dots.
-    fn write_dots(&mut self) -> Result<(), Ended> {
         self.text.push(b" ")?;
-        self.begin(LinePart::Cut)?;
-        self.text.push(b"..")?;
-        self.end()
+        self.write_part(LinePart::Cut, b"..")
     }
 
     /// Writes the rest of the line for a list of bits or numbers.
@@ -277,7 +267,7 @@ impl Lines {
         size: ElementSize,
         count: u32,
     ) -> Result<(), Ended> {
-        self.write_kind(kind_of(size), count)?;
+        self.text.push_keyed(kind_of(size), u64::from(count))?;
         self.write_start(start)?;
         match size {
             ElementSize::Void => {}
@@ -293,7 +283,7 @@ impl Lines {
             self.text.push(if i == 0 { b": " } else { b" " })?;
             self.text.push_number(number_at(start, size, i))?;
         }
-        self.write_more(count)
+        self.write_dots(count > MOST_ELEMENTS)
     }
 
     /// Writes bytes: as text if they read as text, and otherwise as hex digits.
@@ -314,20 +304,14 @@ impl Lines {
         self.begin(LinePart::Text)?;
         self.text.push_quoted(front)?;
         self.end()?;
-        if front.len() < bytes.len() {
-            self.write_dots()?;
-        }
-        Ok(())
+        self.write_dots(front.len() < bytes.len())
     }
 
     /// Writes bytes as hex digits, two for each.
     fn write_hex(&mut self, bytes: &[u8]) -> Result<(), Ended> {
         let front = &bytes[..bytes.len().min(MOST_ELEMENTS as usize)];
         self.text.push_hex(front)?;
-        if front.len() < bytes.len() {
-            self.write_dots()?;
-        }
-        Ok(())
+        self.write_dots(front.len() < bytes.len())
     }
 
     /// Writes a line that says that only the first elements of a list are shown, if it has more.
@@ -337,11 +321,7 @@ impl Lines {
         }
         self.write_path()?;
         self.text.push(b" ")?;
-        self.begin(LinePart::Cut)?;
-        self.text.push(b"cut after ")?;
-        self.text.push_number(u64::from(MOST_ELEMENTS))?;
-        self.text.push(b" elements")?;
-        self.end()?;
+        self.write_part(LinePart::Cut, CUT_ELEMENTS)?;
         self.text.push(b"\n")
     }
 
@@ -350,22 +330,22 @@ impl Lines {
         self.write_path()?;
         self.text.push(b" ")?;
         self.begin(LinePart::Cut)?;
-        self.text.push(b"cut at depth ")?;
-        self.text.push_number(u64::from(self.depth))?;
+        self.text
+            .push_keyed(b"cut at depth ", u64::from(self.depth))?;
         self.end()?;
         self.text.push(b"\n")
     }
 }
 
-/// The name of a list of bits or numbers of this size.
-fn kind_of(size: ElementSize) -> &'static str {
+/// The name of a list of bits or numbers of this size, between spaces.
+fn kind_of(size: ElementSize) -> &'static [u8] {
     match size {
-        ElementSize::Void => "void",
-        ElementSize::Bit => "bits",
-        ElementSize::Byte => "bytes",
-        ElementSize::TwoBytes => "u16",
-        ElementSize::FourBytes => "u32",
-        _ => "u64",
+        ElementSize::Void => b" void ",
+        ElementSize::Bit => b" bits ",
+        ElementSize::Byte => b" bytes ",
+        ElementSize::TwoBytes => b" u16 ",
+        ElementSize::FourBytes => b" u32 ",
+        _ => b" u64 ",
     }
 }
 
@@ -448,14 +428,13 @@ fn show_pointers<A: ReaderArena>(
     for i in 0..count {
         let pointer = pointer_past(first, i);
         if !pointer.is_null() {
-            let step = if are_elements {
-                PathStep::Element(i)
-            } else {
-                PathStep::Pointer(i)
+            let step = PathStep {
+                is_element: are_elements,
+                index: i,
             };
-            let len = lines.path.enter(step)?;
+            enter(&mut lines.path, step)?;
             show_pointer(pointer, depth, lines)?;
-            lines.path.leave(len);
+            let _ = lines.path.pop();
         }
     }
     Ok(())
@@ -479,12 +458,16 @@ fn show_elements<A: ReaderArena>(
     }
     for i in 0..count.min(MOST_ELEMENTS) {
         let element = pointer_past(first, i.saturating_mul(size.total()));
-        let len = lines.path.enter(PathStep::Element(i))?;
+        let step = PathStep {
+            is_element: true,
+            index: i,
+        };
+        enter(&mut lines.path, step)?;
         lines.write_path()?;
         lines.write_struct(element.place, size)?;
         let pointers = pointer_past(element, u32::from(size.data_words));
         show_pointers(pointers, u32::from(size.pointers), false, depth - 1, lines)?;
-        lines.path.leave(len);
+        let _ = lines.path.pop();
     }
     lines.write_end_of_list(count)
 }

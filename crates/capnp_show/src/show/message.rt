@@ -16,13 +16,13 @@ use super::json::{Json, json_end};
 use super::lines::{Lines, show_element, show_pointer};
 use super::text::{Ended, MOST_BYTES};
 use capnp_arena::arena::{ReaderArena, ReaderArenaImpl, ReaderOptions, ReaderSegments};
-use capnp_framing::devices::{DeviceFault, Output, write_all};
+use capnp_framing::devices::Output;
 use capnp_messages::messages::{Reached, read_part};
 use capnp_words::read_limiter::ReadLimiter;
 use std::alloc::Global;
 
 /// How messages are shown.
-#[derive(Clone, Copy, Debug, PartialEq, Eq)]
+#[derive(Clone, Copy)]
 pub struct Showing {
     /// Whether each message is one line of JSON.
     pub json: bool,
@@ -35,7 +35,7 @@ pub struct Showing {
 }
 
 /// Why a message isn't shown.
-#[derive(Clone, Copy, Debug, PartialEq, Eq)]
+#[derive(Clone, Copy, Debug)]
 pub enum ShowFault {
     /// Memory ran out.
     AllocationFailed,
@@ -84,28 +84,12 @@ pub fn show_message<S: ReaderSegments + Drop, W: Output>(
     let arena = ReaderArenaImpl::new(segments, limits);
     if showing.json {
         let json = json_of(alloc, showing, limits, number, count, path, &arena)?;
-        write_text(output, json.text.bytes())?;
+        json.text.write(output, ShowFault::WriteFailed)?;
         Ok(json.is_sound)
     } else {
         let lines = lines_of(alloc, showing, limits, number, count, path, &arena)?;
-        write_text(output, lines.text.bytes())?;
+        lines.text.write(output, ShowFault::WriteFailed)?;
         Ok(lines.is_sound)
-    }
-}
-
-/// Writes the text of a message.
-fn write_text<W: Output>(output: &mut W, text: &[u8]) -> Result<(), ShowFault>
-    requires works { W.has_failed output.old ≡ false }
-    requires short { length text.now ≤ MOST_BYTES }
-    ensures written { OnOk result (Prints W.Output output.old output.new text.now) }
-    ensures bounded { OnOk result (PrintsAtMost W.Output MOST_BYTES output.old output.new) }
-    ensures works { OnOk result (W.has_failed output.new ≡ false) }
-    ensures refused { IfErr result (λ e. (e ≡ ShowFault.WriteFailed)
-        × (W.has_failed output.new ≡ true)) }
-{
-    match write_all(output, text) {
-        Ok(()) => Ok(()),
-        Err(DeviceFault) => Err(ShowFault::WriteFailed),
     }
 }
 

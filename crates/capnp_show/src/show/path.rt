@@ -1,60 +1,46 @@
-//! The path from the root of a message to what is shown.
+//! The path from the root of a message to what is shown, as text: `0.2.[7].1`, or `root` for the root.
+ghost use Rattle.std.specs.Prelude.{◌≡◌, IfErr};
 
 use super::text::{Ended, Text};
-use std::alloc::Global;
 
 /// A step from an object to one of its pointers or elements.
 #[derive(Clone, Copy)]
-pub(super) enum PathStep {
-    /// To a pointer of a struct.
-    Pointer(u32),
-    /// To an element of a list.
-    Element(u32),
+pub(super) struct PathStep {
+    /// Whether it is to an element of a list, and not to a pointer of a struct.
+    pub(super) is_element: bool,
+    /// The index of the pointer or the element.
+    pub(super) index: u32,
 }
 
-/// A path as text: `0.2.[7].1`; empty at the root.
-#[derive(Drop)]
-pub(super) struct PathText {
-    text: Text,
+/// Adds a step to a path.
+pub(super) fn enter(path: &mut Vec<PathStep>, step: PathStep) -> Result<(), Ended>
+    ensures { IfErr result (λ e. e ≡ Ended.NoMemory) }
+{
+    match path.push(step) {
+        Ok(()) => Ok(()),
+        Err(_) => Err(Ended::NoMemory),
+    }
 }
 
-impl PathText {
-    /// Makes the path of the root.
-    pub(super) fn new(alloc: Global) -> Self {
-        PathText {
-            text: Text::new(alloc),
+/// Adds the text of the path of these steps.
+pub(super) fn push_path(text: &mut Text, steps: &[PathStep]) -> Result<(), Ended> {
+    if steps.is_empty() {
+        return text.push(b"root");
+    }
+    for (i, step) in steps.iter().enumerate() {
+        if 0 < i {
+            text.push(b".")?;
         }
+        push_step(text, *step)?;
     }
+    Ok(())
+}
 
-    /// Whether the path is that of the root.
-    pub(super) fn is_root(&self) -> bool {
-        self.text.is_empty()
+/// Adds a step: the index, in brackets if it is that of an element.
+fn push_step(text: &mut Text, step: PathStep) -> Result<(), Ended> {
+    if !step.is_element {
+        return text.push_number(u64::from(step.index));
     }
-
-    /// The bytes of the path.
-    pub(super) fn bytes(&self) -> &[u8] {
-        self.text.bytes()
-    }
-
-    /// Adds a step, and returns how long the path was before, for `leave`.
-    pub(super) fn enter(&mut self, step: PathStep) -> Result<usize, Ended> {
-        let len = self.text.len();
-        if 0 < len {
-            self.text.push(b".")?;
-        }
-        match step {
-            PathStep::Pointer(index) => self.text.push_number(u64::from(index))?,
-            PathStep::Element(index) => {
-                self.text.push(b"[")?;
-                self.text.push_number(u64::from(index))?;
-                self.text.push(b"]")?;
-            }
-        }
-        Ok(len)
-    }
-
-    /// Takes back all steps since the path was `len` bytes long.
-    pub(super) fn leave(&mut self, len: usize) {
-        self.text.truncate(len);
-    }
+    text.push_keyed(b"[", u64::from(step.index))?;
+    text.push(b"]")
 }

@@ -2,10 +2,13 @@
 ghost use Rattle.std.specs.Prelude.{◌≡◌, ◌≤◌, ◌<◌, ◌+◌, ◌++◌, ◌∷◌, [], false, true, take, drop, vec_len, length, IfErr, MatchOption, OnOk};
 ghost use Rattle.std.specs.Fmt.{decimal};
 ghost use Rattle.hex.specs.Hex.{encode_lower};
+ghost use Rattle.capnp_framing.specs.Writing.{Writes};
 ghost use Rattle.capnp_show.specs.Adding.{Adds, max_text};
+ghost use Rattle.capnp_show.specs.Show.{PrintsAtMost};
 ghost use Rattle.capnp_show.specs.Line.{ends_control, escape, escaped, has_control_after, in_quotes};
 ghost use Rattle.capnp_show.specs.Line.{is_control, is_plain_text, reads_as_text, without_last};
 
+use capnp_framing::devices::{DeviceFault, Output, write_all};
 use std::alloc::Global;
 
 /// The most bytes that are written for one message: 67,108,864, which is 64 MiB.
@@ -25,6 +28,9 @@ const KEPT: usize = 64;
 
 /// The largest number of bytes that are written as hex digits at a time.
 const PIECE: usize = 512;
+
+/// The hex digits.
+const HEX_DIGITS: [u8; 16] = *b"0123456789abcdef";
 
 /// How many bytes of a text are shown.
 const MOST_TEXT: usize = 1024;
@@ -70,11 +76,6 @@ impl Text {
         self.bytes.len()
     }
 
-    /// Whether there are no bytes.
-    pub(super) fn is_empty(&self) -> bool {
-        self.bytes.is_empty()
-    }
-
     /// Removes the bytes from position `len` on.
     pub(super) fn truncate(&mut self, len: usize)
         ensures { self.new.bytes.items ≡ take len self.old.bytes.items }
@@ -115,8 +116,23 @@ impl Text {
     }
 
     /// Adds `bytes` to the end of the text, also to the bytes that were kept free.
-    pub(super) fn push_into_kept(&mut self, bytes: &[u8]) -> Result<(), Ended> {
+    pub(super) fn push_into_kept(&mut self, bytes: &[u8]) -> Result<(), Ended>
+        ensures { OnOk result (self.new.bytes.items ≡ self.old.bytes.items ++ bytes.now) }
+    {
         self.push_within(MOST_BYTES, bytes)
+    }
+
+    /// Writes the text to `output`. Refuses with `fault` if that fails.
+    pub(super) fn write<W: Output, E: Copy>(&self, output: &mut W, fault: E) -> Result<(), E>
+        requires { W.has_failed output.old ≡ false }
+        ensures writes { Writes W.Output result output.old output.new self.now.bytes.items }
+        ensures bounded { OnOk result (PrintsAtMost W.Output MOST_BYTES output.old output.new) }
+        ensures refused { IfErr result (λ e. e ≡ fault) }
+    {
+        match write_all(output, self.bytes()) {
+            Ok(()) => Ok(()),
+            Err(DeviceFault) => Err(fault),
+        }
     }
 
     /// Adds a number in decimal digits.
@@ -135,7 +151,7 @@ impl Text {
         if n >= 16 {
             self.push_hex_number(n / 16)?;
         }
-        self.push(&[hex_digit(n)])
+        self.push(&[HEX_DIGITS[(n % 16) as usize]])
     }
 
     /// Adds `bytes` in lower case hex digits, two for each byte.
@@ -178,49 +194,40 @@ impl Text {
         ensures { Adds result self.old.bytes.items self.new.bytes.items (escaped bytes.now) }
     {
         let mut rest = bytes;
-        while let Some((at, escape)) = first_escape(rest) {
+        while let Some((at, letter)) = first_escape(rest) {
             self.push(&rest[..at])?;
-            self.push(escape)?;
+            self.push(&[b'\\', letter])?;
             rest = &rest[at + 1..];
         }
         self.push(rest)
     }
 }
 
-/// The last hex digit of a number.
-fn hex_digit(n: u64) -> u8 {
-    let digit = (n % 16) as u8;
-    if digit < 10 {
-        b'0' + digit
-    } else {
-        b'a' + (digit - 10)
-    }
-}
-
-/// The position of the first byte of a text that JSON escapes, and its escape.
-fn first_escape(bytes: &[u8]) -> Option<(usize, &'static [u8])>
+/// The position of the first byte of a text that JSON escapes, and what follows the backslash of its
+/// escape.
+fn first_escape(bytes: &[u8]) -> Option<(usize, u8)>
     ensures { MatchOption result (escaped bytes.now ≡ bytes.now) (λ found.
         (found.0 < length bytes.now) × (escaped bytes.now
-        ≡ take found.0 bytes.now ++ (found.1.now ++ escaped (drop (found.0 + 1) bytes.now)))) }
+        ≡ take found.0 bytes.now
+        ++ ((92 ∷ found.1 ∷ []) ++ escaped (drop (found.0 + 1) bytes.now)))) }
 {
     for (at, byte) in bytes.iter().enumerate() {
-        if let Some(escape) = escape_of(*byte) {
-            return Some((at, escape));
+        if let Some(letter) = escape_of(*byte) {
+            return Some((at, letter));
         }
     }
     None
 }
 
-/// How JSON escapes a byte of a text, if it does.
-fn escape_of(byte: u8) -> Option<&'static [u8]>
-    ensures { MatchOption result (escape byte ≡ byte ∷ []) (λ escaped. escaped.now ≡ escape byte) }
+/// What follows the backslash if JSON escapes a byte of a text.
+fn escape_of(byte: u8) -> Option<u8>
+    ensures { MatchOption result (escape byte ≡ byte ∷ []) (λ letter. escape byte ≡ 92 ∷ letter ∷ []) }
 {
     match byte {
-        b'"' => Some(b"\\\""),
-        b'\\' => Some(b"\\\\"),
-        b'\t' => Some(b"\\t"),
-        b'\n' => Some(b"\\n"),
-        b'\r' => Some(b"\\r"),
+        b'"' | b'\\' => Some(byte),
+        b'\t' => Some(b't'),
+        b'\n' => Some(b'n'),
+        b'\r' => Some(b'r'),
         _ => None,
     }
 }

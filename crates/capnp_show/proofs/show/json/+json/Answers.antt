@@ -11,9 +11,9 @@ use Rattle.capnp_show.specs.Line.{data_member, in_quotes, member}
 use Rattle.capnp_show.specs.Shown.{add, array_begin, array_within, show_elements, show_struct, show_structs, show_within, shown_json}
 use Rattle.capnp_show.proofs.Adds.{adds_as}
 use Rattle.capnp_show.proofs.Elements.{struct_data}
-use Rattle.capnp_show.proofs.Grows.{elements_begun, elements_opened, elements_rest, structs_longer, within_longer}
+use Rattle.capnp_show.proofs.Grows.{elements_opened, elements_rest, structs_longer, within_longer}
 use Rattle.capnp_show.proofs.ObjectLemmas.{flat_room, flat_same, small_place}
-use Rattle.capnp_show.proofs.Steps.{array_begun, array_cut, array_opens, each_after, each_first, each_next, each_rest, each_shown, each_whole, element_opened, elements_first, elements_next, elements_whole, lim_plain, place_begun, place_null, place_written, plain_after, push_after, push_shows, push_stops, push_then, rows_begun, rows_blank, rows_longer, rows_opened, shows_after, shows_as, shows_stops, shows_then, still_plain, still_shows}
+use Rattle.capnp_show.proofs.Steps.{array_begun, array_cut, array_opens, each_after, each_first, each_next, each_rest, each_whole, elements_first, elements_next, elements_whole, lim_plain, place_begun, place_null, place_written, push_after, push_shows, push_stops, push_then, rows_begun, rows_blank, rows_longer, rows_opened, shows_after, shows_as, shows_stops, shows_then}
 use Rattle.capnp_show.proofs.show.json.+json.Goals as goal
 
 -- ---- a pointer
@@ -26,7 +26,7 @@ pub json_pointer-returns : goal.json_pointer-returns
 json_pointer-returns g t c =
     λ plain.
     let h = c.in_ok-json_place.ensures plain in
-    still_shows c.end_object.result c.end_object.new.self (c.end_object.ensures h.plain) h
+    shows_as h.written (c.end_object.ensures h.plain)
 
 pub json_place-returns-then-is_null : goal.json_place-returns-then-is_null
 json_place-returns-then-is_null g t c =
@@ -136,18 +136,14 @@ json_pointers-loop-i-init g t c =
     let begun = push_shows c.args.json.now c.push_array.new.self plain c.in_ok-push_array.ensures in
     (begun.plain, λ k e. each_first (show_within (c.args.depth - 1)) c.args.count k r (add (array_begin c.args.are_elements) (shown_json c.args.json.now)) _ e begun.written)
 
-pub json_pointers-returns-in_err-push_comma : goal.json_pointers-returns-in_err-push_comma
-json_pointers-returns-in_err-push_comma g t c =
+pub json_pointers-returns-in_err-begin_piece : goal.json_pointers-returns-in_err-begin_piece
+json_pointers-returns-in_err-begin_piece g t c =
     let r : Reading = reading g.A.ReaderArena c.args.first in
     let i : ℕ = c.loop-i.i in
     λ plain.
     let (kept, so_far) = c.loop-i.invariant plain in
     let whole = each_whole c.args.depth c.args.count i c.args.are_elements r (shown_json c.args.json.now) (shown_json c.loop-i.json) (omega (arith, c.if-depth-eq0.false)) c.loop-i-test.true so_far in
-    push_stops c.loop-i.json _ _ _ c.from_residual-in_err-push_comma.ensures.1 c.in_err-push_comma.ensures (each_rest (c.args.depth - 1) i (c.args.count - suc i) (place_past r i) (shown_json c.loop-i.json) _ whole)
-
-pub json_pointers-returns-in_err-len : goal.json_pointers-returns-in_err-len
-json_pointers-returns-in_err-len g t c =
-    λ plain. absurd (cc ((c.in_err-len.ensures (still_plain c.loop-i.json c.push_comma.new.self ((c.loop-i.invariant plain).0))).0))
+    shows_stops c.from_residual-in_err-begin_piece.result _ _ c.from_residual-in_err-begin_piece.ensures.1 (c.in_err-begin_piece.ensures kept) (each_rest (c.args.depth - 1) i (c.args.count - suc i) (place_past r i) (shown_json c.loop-i.json) _ whole)
 
 pub json_pointers-returns-in_err-json_pointer : goal.json_pointers-returns-in_err-json_pointer
 json_pointers-returns-in_err-json_pointer g t c =
@@ -157,8 +153,7 @@ json_pointers-returns-in_err-json_pointer g t c =
     λ plain.
     let (kept, so_far) = c.loop-i.invariant plain in
     let whole = each_whole c.args.depth c.args.count i c.args.are_elements r (shown_json c.args.json.now) (shown_json c.loop-i.json) (omega (arith, c.if-depth-eq0.false)) c.loop-i-test.true so_far in
-    let entered = (c.in_ok-len.ensures (still_plain c.loop-i.json c.push_comma.new.self kept)).1 in
-    let one = each_shown (c.args.depth - 1) i r _ c.loop-i.json c.enter.new.self c.push_comma.new.self kept c.in_ok-push_comma.ensures entered at c.in_err-json_pointer.ensures in
+    let one = shows_then (show_within (c.args.depth - 1)) (place_past r i) _ _ at (c.in_ok-begin_piece.ensures kept) c.in_err-json_pointer.ensures in
     shows_stops c.from_residual-in_err-json_pointer.result _ _ c.from_residual-in_err-json_pointer.ensures.1 one (each_after (c.args.depth - 1) i (c.args.count - suc i) (place_past r i) (shown_json c.loop-i.json) _ whole)
 
 pub json_pointers-loop-i-preserved : goal.json_pointers-loop-i-preserved
@@ -168,10 +163,8 @@ json_pointers-loop-i-preserved g t c =
     let at = c.pointer_past.ensures (omega (arith, c.loop-i-test.true, c.requires.inside, c.args.first.held.1, c.args.first.held.2)) in
     λ plain.
     let (kept, so_far) = c.loop-i.invariant plain in
-    let entered = (c.in_ok-len.ensures (still_plain c.loop-i.json c.push_comma.new.self kept)).1 in
-    let one = each_shown (c.args.depth - 1) i r _ c.loop-i.json c.enter.new.self c.push_comma.new.self kept c.in_ok-push_comma.ensures entered at c.in_ok-json_pointer.ensures in
-    let left = c.leave.ensures one.plain in
-    (plain_after left one.plain, λ k e. each_next (show_within (c.args.depth - 1)) i c.args.count k r (shown_json c.loop-i.json) (shown_json c.leave.new.self) _ so_far e (ap shown_json left ∙ one.written))
+    let one = shows_then (show_within (c.args.depth - 1)) (place_past r i) _ _ at (c.in_ok-begin_piece.ensures kept) c.in_ok-json_pointer.ensures in
+    (c.leave.ensures.plain one.plain, λ k e. each_next (show_within (c.args.depth - 1)) i c.args.count k r (shown_json c.loop-i.json) (shown_json c.leave.new.self) _ so_far e (c.leave.ensures.same ∙ one.written))
 
 pub json_pointers-returns : goal.json_pointers-returns
 json_pointers-returns g t c =
@@ -236,8 +229,8 @@ json_elements-loop-i-init g t c =
     let r : Reading = reading g.A.ReaderArena c.args.first in
     λ plain. (plain, λ k e. elements_first (array_within c.args.depth) c.args.size.data_words c.args.size.pointers c.args.count k r (shown_json c.args.json.now) e)
 
-pub json_elements-returns-in_err-push_comma : goal.json_elements-returns-in_err-push_comma
-json_elements-returns-in_err-push_comma g t c =
+pub json_elements-returns-in_err-start : goal.json_elements-returns-in_err-start
+json_elements-returns-in_err-start g t c =
     let r : Reading = reading g.A.ReaderArena c.args.first in
     let d : ℕ = c.args.size.data_words in
     let q : ℕ = c.args.size.pointers in
@@ -246,25 +239,7 @@ json_elements-returns-in_err-push_comma g t c =
     λ plain.
     let (kept, so_far) = c.loop-i.invariant plain in
     let whole = elements_whole below d q c.args.count i r (shown_json c.args.json.now) (shown_json c.loop-i.json) c.loop-i-test.true so_far in
-    push_stops c.loop-i.json _ _ _ c.from_residual.ensures.1 c.in_err-push_comma.ensures (elements_begun below (within_longer c.args.depth) d q i (c.args.count - suc i) (place_past r (i * (d + q))) (shown_json c.loop-i.json) _ whole)
-
-pub json_elements-returns-in_err-len : goal.json_elements-returns-in_err-len
-json_elements-returns-in_err-len g t c =
-    λ plain. absurd (cc ((c.in_err-len.ensures (still_plain c.loop-i.json c.push_comma.new.self ((c.loop-i.invariant plain).0))).0))
-
-pub json_elements-returns-in_err-push : goal.json_elements-returns-in_err-push
-json_elements-returns-in_err-push g t c =
-    let r : Reading = reading g.A.ReaderArena c.args.first in
-    let d : ℕ = c.args.size.data_words in
-    let q : ℕ = c.args.size.pointers in
-    let i : ℕ = c.loop-i.i in
-    let below = array_within c.args.depth in
-    λ plain.
-    let (kept, so_far) = c.loop-i.invariant plain in
-    let whole = elements_whole below d q c.args.count i r (shown_json c.args.json.now) (shown_json c.loop-i.json) c.loop-i-test.true so_far in
-    let entered = (c.in_ok-len.ensures (still_plain c.loop-i.json c.push_comma.new.self kept)).1 in
-    let opened = element_opened i c.loop-i.json c.enter.new.self c.push_comma.new.self c.push.new.self kept c.in_ok-push_comma.ensures entered c.in_err-push.ensures in
-    shows_stops c.from_residual-in_err-push.result _ _ c.from_residual-in_err-push.ensures.1 opened (elements_opened below (within_longer c.args.depth) d q i (c.args.count - suc i) (place_past r (i * (d + q))) (shown_json c.loop-i.json) _ whole)
+    shows_stops c.from_residual.result _ _ c.from_residual.ensures.1 (c.in_err-start.ensures kept) (elements_opened below (within_longer c.args.depth) d q i (c.args.count - suc i) (place_past r (i * (d + q))) (shown_json c.loop-i.json) _ whole)
 
 pub json_elements-returns-in_err-json_struct : goal.json_elements-returns-in_err-json_struct
 json_elements-returns-in_err-json_struct g t c =
@@ -278,18 +253,23 @@ json_elements-returns-in_err-json_struct g t c =
     λ plain.
     let (kept, so_far) = c.loop-i.invariant plain in
     let whole = elements_whole below d q c.args.count i r (shown_json c.args.json.now) (shown_json c.loop-i.json) c.loop-i-test.true so_far in
-    let entered = (c.in_ok-len.ensures (still_plain c.loop-i.json c.push_comma.new.self kept)).1 in
-    let opened = element_opened i c.loop-i.json c.enter.new.self c.push_comma.new.self c.push.new.self kept c.in_ok-push_comma.ensures entered c.in_ok-push.ensures in
-    let one = shows_then (show_struct below d q) (place_past r (i * (d + q))) _ _ at opened c.in_err-json_struct.ensures in
+    let one = shows_then (show_struct below d q) (place_past r (i * (d + q))) _ _ at (c.in_ok-start.ensures kept) c.in_err-json_struct.ensures in
     shows_stops c.from_residual-in_err-json_struct.result _ _ c.from_residual-in_err-json_struct.ensures.1 one (elements_rest below (within_longer c.args.depth) d q i (c.args.count - suc i) (place_past r (i * (d + q))) (shown_json c.loop-i.json) _ whole)
 
-pub json_elements-returns-in_err-end_object : goal.json_elements-returns-in_err-end_object
-json_elements-returns-in_err-end_object g t c =
+pub json_elements-returns-in_err-end_element : goal.json_elements-returns-in_err-end_element
+json_elements-returns-in_err-end_element g t c =
+    let r : Reading = reading g.A.ReaderArena c.args.first in
+    let d : ℕ = c.args.size.data_words in
+    let q : ℕ = c.args.size.pointers in
+    let i : ℕ = c.loop-i.i in
+    let below = array_within c.args.depth in
+    let room = row_inside c.args.first.place.at c.args.count i c.total.result d q _ c.requires.inside c.loop-i-test.true c.total.ensures in
+    let at = c.pointer_past-element.ensures (omega (arith, room, c.args.first.held.1, c.args.first.held.2)) ∙ ap (λ w. place_past r (i * w)) c.total.ensures in
     λ plain.
-    let kept = (c.loop-i.invariant plain).0 in
-    let entered = (c.in_ok-len.ensures (still_plain c.loop-i.json c.push_comma.new.self kept)).1 in
-    let opened = element_opened c.loop-i.i c.loop-i.json c.enter.new.self c.push_comma.new.self c.push.new.self kept c.in_ok-push_comma.ensures entered c.in_ok-push.ensures in
-    absurd (cc ((c.in_err-end_object.ensures (c.in_ok-json_struct.ensures opened.plain).plain).0))
+    let (kept, so_far) = c.loop-i.invariant plain in
+    let whole = elements_whole below d q c.args.count i r (shown_json c.args.json.now) (shown_json c.loop-i.json) c.loop-i-test.true so_far in
+    let one = shows_then (show_struct below d q) (place_past r (i * (d + q))) _ _ at (c.in_ok-start.ensures kept) c.in_ok-json_struct.ensures in
+    shows_stops c.from_residual-in_err-end_element.result _ _ c.from_residual-in_err-end_element.ensures.1 (shows_as one.written (c.in_err-end_element.ensures one.plain)) (elements_rest below (within_longer c.args.depth) d q i (c.args.count - suc i) (place_past r (i * (d + q))) (shown_json c.loop-i.json) _ whole)
 
 pub json_elements-loop-i-preserved : goal.json_elements-loop-i-preserved
 json_elements-loop-i-preserved g t c =
@@ -302,13 +282,9 @@ json_elements-loop-i-preserved g t c =
     let at = c.pointer_past-element.ensures (omega (arith, room, c.args.first.held.1, c.args.first.held.2)) ∙ ap (λ w. place_past r (i * w)) c.total.ensures in
     λ plain.
     let (kept, so_far) = c.loop-i.invariant plain in
-    let entered = (c.in_ok-len.ensures (still_plain c.loop-i.json c.push_comma.new.self kept)).1 in
-    let opened = element_opened i c.loop-i.json c.enter.new.self c.push_comma.new.self c.push.new.self kept c.in_ok-push_comma.ensures entered c.in_ok-push.ensures in
-    let one = shows_then (show_struct below d q) (place_past r (i * (d + q))) _ _ at opened c.in_ok-json_struct.ensures in
-    let ended = (c.in_ok-end_object.ensures one.plain).1 in
-    let left = c.leave.ensures (plain_after ended one.plain) in
-    let same = left ∙ ended in
-    (plain_after same one.plain, λ k e. elements_next below d q i c.args.count k r (shown_json c.loop-i.json) (shown_json c.leave.new.self) _ so_far e (ap shown_json same ∙ one.written))
+    let one = shows_then (show_struct below d q) (place_past r (i * (d + q))) _ _ at (c.in_ok-start.ensures kept) c.in_ok-json_struct.ensures in
+    let ended = shows_as one.written (c.in_ok-end_element.ensures one.plain) in
+    (ended.plain, λ k e. elements_next below d q i c.args.count k r (shown_json c.loop-i.json) (shown_json c.end_element.new.self) _ so_far e ended.written)
 
 pub json_elements-json_struct-requires : goal.json_elements-json_struct-requires
 json_elements-json_struct-requires g t c κs within =

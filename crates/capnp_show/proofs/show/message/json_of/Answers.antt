@@ -9,7 +9,7 @@ use Rattle.capnp_show.proofs.show.message.json_of.Goals as goal
 pub returns-in-Ok-clause-shown : goal.returns-in-Ok-clause-shown
 returns-in-Ok-clause-shown g c =
     λ t values part nest.
-    let plain : IsPlain c.new-json.result = record { no_places = rw values at c.new-json.ensures.places; no_search = c.new-json.ensures.search } in
+    let plain : IsPlain c.new-json.result = record { no_places = rw values at c.new-json.ensures.places } in
     let begins = c.new-json.ensures.shown ∙ ap fresh c.new-lim.ensures in
     let (m, shows) = line_written _ c.args.limits c.args.path.now c.args.showing.depth t _ c.new-json.result c.write_json.new.json part nest begins (λ e n is. c.in-Ok.ensures.shows e n plain is) in
     let text = ap (λ (s : Shown). s.text) shows.written in
@@ -18,7 +18,7 @@ returns-in-Ok-clause-shown g c =
 pub returns-in-Err-Full-clause-shown : goal.returns-in-Err-Full-clause-shown
 returns-in-Err-Full-clause-shown g c =
     λ t values part nest.
-    let plain : IsPlain c.new-json.result = record { no_places = rw values at c.new-json.ensures.places; no_search = c.new-json.ensures.search } in
+    let plain : IsPlain c.new-json.result = record { no_places = rw values at c.new-json.ensures.places } in
     let begins = c.new-json.ensures.shown ∙ ap fresh c.new-lim.ensures in
     let (m, shows) = line_written _ c.args.limits c.args.path.now c.args.showing.depth t _ c.new-json.result c.write_json.new.json part nest begins (λ e n is. c.in-Err-Full.ensures.shows e n plain is) in
     let long = shows.full c.in-Err-Full.field-0-is in

@@ -9,7 +9,7 @@ returns-then-showing-clause-value g c =
     λ t json values part.
     let there = subst (λ (S : Segments). IsShownPart S c.args.limits c.args.path.now c.args.showing.depth t) (sym c.new-arena.ensures.words) part in
     let line = c.in_ok-json.ensures.shown t values there c.new-arena.ensures.nesting in
-    subst (λ (xs : List ℕ). Prints g.W.Output c.args.output.now c.write_text.new.output xs) (c.bytes.ensures.value ∙ line.0) c.in_ok-write_text.ensures.written
+    subst (λ (xs : List ℕ). Prints g.W.Output c.args.output.now c.write.new.output xs) line.0 c.in_ok-write.ensures.writes.written
 
 pub returns-then-showing-clause-sound : goal.returns-then-showing-clause-sound
 returns-then-showing-clause-sound g c =
