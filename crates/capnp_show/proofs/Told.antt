@@ -8,11 +8,11 @@ use Rattle.capnp_words.specs.declared.error.ErrorKind.{ErrorKind}
 use Rattle.capnp_words.specs.Meter.{Meter}
 use Rattle.capnp_format.specs.Word.{kind, data_words, pointer_count, element_size, list_count, offset_bits, upper_half}
 use Rattle.capnp_format.specs.Numbers.{words_for, unpacked}
-use Rattle.capnp_format.specs.Segments.{Target}
+use Rattle.capnp_format.specs.Segments.{Segments, Target}
 use Rattle.capnp_format.specs.Tree.{Tree, Null, Capability, Struct, Pointers, Structs, Trees, no_trees, tree, Elements, no_elements, element, element_count, depth, depth_all, depth_elements}
 use Rattle.capnp_objects.specs.declared.object.Purpose.TheVariants.{Value}
 use Rattle.capnp_objects.specs.Demands.{tag}
-use Rattle.capnp_objects.specs.Enter.{Shape, nothing, capability, struct, pointers, structs, shape, read}
+use Rattle.capnp_objects.specs.Enter.{Shape, nothing, capability, struct, flat, pointers, structs, shape, read}
 use Rattle.capnp_objects.specs.Metered.{Metered, answer, onward}
 use Rattle.capnp_objects.specs.Reading.{Reading, place_past, word_of, words_from}
 use Rattle.capnp_objects.specs.Spending.{after_charge}
@@ -237,26 +237,35 @@ structs_tell d r s m g p n q k below = elim (same_or_not (n + q) 0) [
   | inr some ↦ let b : nat_eq (n + q) 0 ≡ false = ne_eqb _ _ some in rw b (rows_tell d r s m g p n q k below b)
 ]
 
-object_tells : (d : ℕ) (r : Reading) (s : Shown) (m : Meter) (a : Target) → ((e : ℕ) → d ≡ suc e → Below e r) → Tells d s (contents r (shape r.segments a) m) (show_object (array_within d) r (shape r.segments a) (begun s m))
-object_tells d r s m a below = elim (same_or_not (kind a.word) 0) [
-  | inl k ↦
-      let is_struct : nat_eq (kind a.word) 0 ≡ true = eq-eqb _ _ k in
-      rw is_struct (struct_object_tells d r s m a.segment a.start (data_words a.word) (pointer_count a.word) below)
-  | inr other ↦
-      let list : nat_eq (kind a.word) 0 ≡ false = ne_eqb _ _ other in
-      elim (same_or_not (element_size a.word) 7) [
-        | inl seven ↦ let is_seven : nat_eq (element_size a.word) 7 ≡ true = eq-eqb _ _ seven in rw (list, is_seven) (structs_tell d r s m a.segment (a.start + 1) (data_words (tag r.segments a)) (pointer_count (tag r.segments a)) (offset_bits (tag r.segments a)) below)
-        | inr no_structs ↦
-            let not_seven : nat_eq (element_size a.word) 7 ≡ false = ne_eqb _ _ no_structs in
-            elim (same_or_not (element_size a.word) 6) [
-              | inl six ↦ let is_six : nat_eq (element_size a.word) 6 ≡ true = eq-eqb _ _ six in rw (list, not_seven, is_six) (pointers_object_tells d r s m a.segment a.start (list_count a.word) below)
-              | inr no_pointers ↦
-                  let not_six : nat_eq (element_size a.word) 6 ≡ false = ne_eqb _ _ no_pointers in
-                  let ns : List ℕ = unpacked (element_size a.word) (list_count a.word) (words_from (inside r a.segment a.start) (words_for (element_size a.word) (list_count a.word))) in
-                  rw (list, not_seven, not_six) (λ deep. ap (λ xs. record s { text = xs; lim = m }) (one_text s.text (flat_member (element_size a.word) ns)))
-            ]
-      ]
-]
+-- The pointer isn't null.
+abbrev IsThere : Shape → Type 0
+IsThere nothing = ⊥
+IsThere (capability i) = ⊤
+IsThere (struct g p n q) = ⊤
+IsThere (flat g p size n) = ⊤
+IsThere (pointers g p n) = ⊤
+IsThere (structs g p n q k) = ⊤
+
+either_there : (b : Bool) (o x : Shape) → IsThere o → IsThere x → IsThere (if b then o else x)
+either_there true o x first second = first
+either_there false o x first second = second
+
+shape_there : (S : Segments) (a : Target) → IsThere (shape S a)
+shape_there S a =
+    let last : Shape = flat a.segment a.start (element_size a.word) (list_count a.word) in
+    let list : Shape = pointers a.segment a.start (list_count a.word) in
+    let rows : Shape = structs a.segment (a.start + 1) (data_words (tag S a)) (pointer_count (tag S a)) (offset_bits (tag S a)) in
+    let one = either_there (nat_eq (element_size a.word) 6) list last tt tt in
+    let two = either_there (nat_eq (element_size a.word) 7) rows (if nat_eq (element_size a.word) 6 then list else last) tt one in
+    either_there (nat_eq (kind a.word) 0) (struct a.segment a.start (data_words a.word) (pointer_count a.word)) (if nat_eq (element_size a.word) 7 then rows else if nat_eq (element_size a.word) 6 then list else last) tt two
+
+object_tells : (d : ℕ) (r : Reading) (s : Shown) (m : Meter) (o : Shape) → IsThere o → ((e : ℕ) → d ≡ suc e → Below e r) → Tells d s (contents r o m) (show_object (array_within d) r o (begun s m))
+object_tells d r s m nothing there below = absurd there
+object_tells d r s m (capability i) there below = λ deep. ap (λ xs. record s { text = xs; lim = m }) (one_text s.text (member (codes "capability") (decimal i)))
+object_tells d r s m (struct g p n q) there below = struct_object_tells d r s m g p n q below
+object_tells d r s m (flat g p size n) there below = λ deep. ap (λ xs. record s { text = xs; lim = m }) (one_text s.text (flat_member size (unpacked size n (words_from (inside r g p) (words_for size n)))))
+object_tells d r s m (pointers g p n) there below = pointers_object_tells d r s m g p n below
+object_tells d r s m (structs g p n q k) there below = structs_tell d r s m g p n q k below
 
 -- ---- a place
 
@@ -285,7 +294,7 @@ place_tells d r s below = elim (same_or_not (word_of r) 0) [
         let e = entering_is Value r s.lim m1 a o in
         let whole = value_is plain r.levels r s.lim m1 (shape r.segments a) e o.meets.levels in
         subst (λ (y : Outcome Tree). Tells d s y (show_within d r s)) (sym whole)
-        (subst (Tells d s (contents r (shape r.segments a) m1)) (sym (read_shown d r s (Ok (shape r.segments a)) m1 some e)) (object_tells d r s m1 a (below o.meets.levels)))
+        (subst (Tells d s (contents r (shape r.segments a) m1)) (sym (read_shown d r s (Ok (shape r.segments a)) m1 some e)) (object_tells d r s m1 (shape r.segments a) (shape_there r.segments a) (below o.meets.levels)))
     go some (refused k m1 stopped) =
         let whole = refusal_is plain r.levels r s.lim m1 k (stopped_is Value r s.lim m1 k (λ e. absurd (cc e)) stopped) in
         subst (λ (y : Outcome Tree). Tells d s y (show_within d r s)) (sym whole) tt

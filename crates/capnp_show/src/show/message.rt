@@ -107,11 +107,8 @@ fn lines_of<S: ReaderSegments>(
 {
     let lim = ReadLimiter::new(limits.traversal_limit_in_words);
     let mut lines = Lines::new(alloc, lim, showing);
-    let ended = match write_lines(arena, number, count, path, &mut lines) {
-        Err(Ended::Full) => lines.write_cut(),
-        ended => ended,
-    };
-    match ended {
+    write_lines(arena, number, count, path, &mut lines);
+    match lines.finish() {
         Ok(()) => Ok(lines),
         Err(_) => Err(ShowFault::AllocationFailed),
     }
@@ -124,9 +121,9 @@ fn write_lines<S: ReaderSegments>(
     count: u64,
     path: &[u32],
     lines: &mut Lines,
-) -> Result<(), Ended> {
-    lines.write_head(number, count, arena.size_in_words() as u64)?;
-    lines.begin_path(path)?;
+) {
+    lines.write_head(number, count, arena.size_in_words() as u64);
+    lines.begin_path(path);
     match read_part(arena, path, &mut lines.lim) {
         Ok(Reached::Pointer(root)) => show_pointer(root, lines.depth, lines),
         Ok(Reached::Element(element)) => show_element(element, lines.depth, lines),
