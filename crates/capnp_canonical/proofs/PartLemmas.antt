@@ -22,7 +22,7 @@ use Rattle.capnp_canonical.proofs.PartSizeLemmas.{part_words}
 
 pub part_out_of_memory : (limits : ReaderOptions) (path : List ℕ) {r : Refusal} (S : Segments) → RefusesPartOf limits path S r → HasPart limits path S → answer_number r ≡ 32
 part_out_of_memory limits path S (k, named, inl memory) has = ap answer_number (named ∙ ap Layout memory)
-part_out_of_memory limits path S (k, named, inr refused) (t, value, fits) = absurd (part_granted S limits path t value fits refused)
+part_out_of_memory limits path S (k, named, inr refused) (t, value, fits) = absurd (part_granted S limits path t k value fits refused)
 
 pub part_room_granted : (limits : ReaderOptions) (path : List ℕ) (room : ℕ) {r : Refusal} (S : Segments) → RefusesPartRoom limits path room S r → HasPart limits path S → IsGranted (answer_number r)
 part_room_granted limits path room S (inl refused) has = inr (inr (part_out_of_memory limits path S refused has))
