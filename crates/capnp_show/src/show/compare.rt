@@ -86,11 +86,11 @@ pub fn compare_messages<S: ReaderSegments + Drop, T: ReaderSegments + Drop, W: O
 {
     let left = ReaderArenaImpl::new(left, limits);
     let right = ReaderArenaImpl::new(right, limits);
-    let found = difference_of(alloc, limits, &left, &right)?;
+    let found = find_difference(alloc, limits, &left, &right)?;
     match found {
         None => Ok(true),
         Some(difference) => {
-            let text = text_of_difference(alloc, limits, number, difference, &left, &right)?;
+            let text = make_difference_text(alloc, limits, number, difference, &left, &right)?;
             text.write(output, CompareFault::WriteFailed)?;
             Ok(false)
         }
@@ -98,7 +98,7 @@ pub fn compare_messages<S: ReaderSegments + Drop, T: ReaderSegments + Drop, W: O
 }
 
 /// Where the lines of the two messages differ; `None` if they are equal.
-fn difference_of<S: ReaderSegments, T: ReaderSegments>(
+fn find_difference<S: ReaderSegments, T: ReaderSegments>(
     alloc: Global,
     limits: ReaderOptions,
     left: &ReaderArenaImpl<S>,
@@ -113,8 +113,8 @@ fn difference_of<S: ReaderSegments, T: ReaderSegments>(
         → ComparesLines result t u }
     ensures refused { IfErr result (λ e. e ≢ CompareFault.WriteFailed) }
 {
-    let left = line_of(alloc, limits, left)?;
-    let right = line_of(alloc, limits, right)?;
+    let left = make_line(alloc, limits, left)?;
+    let right = make_line(alloc, limits, right)?;
     Ok(compare_lines(left.text.bytes(), right.text.bytes()))
 }
 
@@ -153,7 +153,7 @@ fn begins_object(line: &[u8], at: usize) -> bool {
 }
 
 /// The line of a message.
-fn line_of<S: ReaderSegments>(
+fn make_line<S: ReaderSegments>(
     alloc: Global,
     limits: ReaderOptions,
     arena: &ReaderArenaImpl<S>,
@@ -181,7 +181,7 @@ fn line_of<S: ReaderSegments>(
 }
 
 /// The line of a message up to the end of the object that `search` finds.
-fn line_to<S: ReaderSegments>(
+fn make_line_up_to<S: ReaderSegments>(
     alloc: Global,
     limits: ReaderOptions,
     search: Search,
@@ -211,7 +211,7 @@ fn line_to<S: ReaderSegments>(
 }
 
 /// Makes the text about a difference.
-fn text_of_difference<S: ReaderSegments, T: ReaderSegments>(
+fn make_difference_text<S: ReaderSegments, T: ReaderSegments>(
     alloc: Global,
     limits: ReaderOptions,
     number: u64,
@@ -230,8 +230,8 @@ fn text_of_difference<S: ReaderSegments, T: ReaderSegments>(
     ensures refused { IfErr result (λ e. e ≢ CompareFault.WriteFailed) }
 {
     let Difference { at, latest } = difference;
-    let left = line_to(alloc, limits, Search::new(alloc, at, latest), left)?;
-    let right = line_to(alloc, limits, Search::new(alloc, at, latest), right)?;
+    let left = make_line_up_to(alloc, limits, Search::new(alloc, at, latest), left)?;
+    let right = make_line_up_to(alloc, limits, Search::new(alloc, at, latest), right)?;
     difference_text(alloc, number, &left, &right)
 }
 

@@ -83,7 +83,7 @@ impl Json {
         ensures { IsPlain self.old
             → Shows result self.new (add (comma step.index) (shown_json self.old)) }
     {
-        self.text.push_comma(step.index)?;
+        self.text.push_comma_unless_first(step.index)?;
         self.enter(step)
     }
 
@@ -109,7 +109,7 @@ impl Json {
 
     /// Ends the text of an object, which began at `start`. Ends the line, too, if this text has the
     /// byte that is looked for.
-    fn end_object(&mut self, start: usize) -> Result<(), Ended>
+    fn stop_if_found(&mut self, start: usize) -> Result<(), Ended>
         ensures { IsPlain self.old → Shows result self.new (shown_json self.old) }
     {
         let end = self.text.len();
@@ -140,7 +140,7 @@ impl Json {
     fn end_element(&mut self, start: usize) -> Result<(), Ended>
         ensures { IsPlain self.old → Shows result self.new (shown_json self.old) }
     {
-        self.end_object(start)?;
+        self.stop_if_found(start)?;
         self.leave();
         Ok(())
     }
@@ -260,7 +260,7 @@ impl Json {
 
 /// Writes what is at the end of a path, and what is at most `depth` pointers below it; or why there
 /// is nothing.
-pub(super) fn json_end<A: ReaderArena>(
+pub(super) fn write_path_end<A: ReaderArena>(
     end: Result<Reached<'_, A>, ErrorKind>,
     depth: u32,
     json: &mut Json,
@@ -269,13 +269,13 @@ pub(super) fn json_end<A: ReaderArena>(
         → Shows result json.new (show_end depth e (shown_json json.old)) }
 {
     match end {
-        Ok(reached) => json_reached(reached, depth, json),
+        Ok(reached) => write_reached(reached, depth, json),
         Err(kind) => json.write_no_root(kind.name()),
     }
 }
 
 /// Writes what a path leads to, and what is at most `depth` pointers below it.
-fn json_reached<A: ReaderArena>(
+fn write_reached<A: ReaderArena>(
     reached: Reached<'_, A>,
     depth: u32,
     json: &mut Json,
@@ -284,13 +284,13 @@ fn json_reached<A: ReaderArena>(
         (show_end depth (end_read A.ReaderArena reached.entry) (shown_json json.old)) }
 {
     match reached {
-        Reached::Pointer(root) => json_pointer(root, depth, json),
-        Reached::Element(element) => json_element(element, depth, json),
+        Reached::Pointer(root) => write_pointed_value(root, depth, json),
+        Reached::Element(element) => write_element(element, depth, json),
     }
 }
 
 /// Writes `element`, and what its pointers lead to, at most `depth` pointers below it.
-fn json_element<A: ReaderArena>(
+fn write_element<A: ReaderArena>(
     element: ElementPlace<'_, A>,
     depth: u32,
     json: &mut Json,
@@ -301,12 +301,12 @@ fn json_element<A: ReaderArena>(
 {
     json.text.push(b"{")?;
     json.write_start(element.first.place)?;
-    json_struct(element.first, element.size, depth, json)
+    write_sections(element.first, element.size, depth, json)
 }
 
 /// Writes what the pointer `from` leads to, at most `depth` pointers below it.
 #[cycle(json)]
-pub(super) fn json_pointer<A: ReaderArena>(
+pub(super) fn write_pointed_value<A: ReaderArena>(
     from: Pointer<'_, A>,
     depth: u32,
     json: &mut Json,
@@ -315,13 +315,13 @@ pub(super) fn json_pointer<A: ReaderArena>(
         (show_within depth (reading A.ReaderArena from.entry) (shown_json json.old)) }
 {
     let start = json.text.len();
-    json_place(from, depth, json)?;
-    json.end_object(start)
+    write_null_or_object(from, depth, json)?;
+    json.stop_if_found(start)
 }
 
 /// Writes the text of what the pointer `from` leads to.
 #[cycle(json)]
-fn json_place<A: ReaderArena>(
+fn write_null_or_object<A: ReaderArena>(
     from: Pointer<'_, A>,
     depth: u32,
     json: &mut Json,
@@ -334,14 +334,14 @@ fn json_place<A: ReaderArena>(
     }
     json.write_pointer(from.place)?;
     match read_object(from, &mut json.lim) {
-        Ok(object) => json_object(from, object, depth, json),
+        Ok(object) => write_object(from, object, depth, json),
         Err(kind) => json.write_refusal(kind.name()),
     }
 }
 
 /// Writes the rest of the text of `object`, which was read from the pointer `from`.
 #[cycle(json)]
-fn json_object<A: ReaderArena>(
+fn write_object<A: ReaderArena>(
     from: Pointer<'_, A>,
     object: Object<'_>,
     depth: u32,
@@ -358,20 +358,20 @@ fn json_object<A: ReaderArena>(
         Object::Capability(index) => json.text.push_capability(index),
         Object::Flat { start, size, count } => json.text.push_primitive_list(start, size, count),
         Object::Struct { start, size } => {
-            json_struct(pointer_inside(from, start, 0), size, depth, json)
+            write_sections(pointer_inside(from, start, 0), size, depth, json)
         }
         Object::Pointers { start, count } => {
-            json_pointers(true, pointer_inside(from, start, 0), count, depth, json)
+            write_pointer_array(true, pointer_inside(from, start, 0), count, depth, json)
         }
         Object::Structs { start, size, count } => {
-            json_structs(pointer_inside(from, start, 0), size, count, depth, json)
+            write_struct_list(pointer_inside(from, start, 0), size, count, depth, json)
         }
     }
 }
 
 /// Writes the two sections of a struct that starts at `start`, and ends the object.
 #[cycle(json)]
-fn json_struct<A: ReaderArena>(
+fn write_sections<A: ReaderArena>(
     start: Pointer<'_, A>,
     size: StructSize,
     depth: u32,
@@ -386,15 +386,15 @@ fn json_struct<A: ReaderArena>(
     let words = u32::from(size.data_words);
     let data = bytes_at(start.place, 8 * words as usize);
     bytes_are_below_256(data);
-    json.text.push_data(data)?;
+    json.text.push_data_member(data)?;
     let first = pointer_past(start, words);
-    json_pointers(false, first, u32::from(size.pointers), depth, json)
+    write_pointer_array(false, first, u32::from(size.pointers), depth, json)
 }
 
 /// Writes the key and the array of what `count` pointers of a struct lead to, or of a list if
 /// `are_elements` is set, `first` the first of them, and ends the object.
 #[cycle(json)]
-fn json_pointers<A: ReaderArena>(
+fn write_pointer_array<A: ReaderArena>(
     are_elements: bool,
     first: Pointer<'_, A>,
     count: u32,
@@ -406,15 +406,15 @@ fn json_pointers<A: ReaderArena>(
         (array_within depth are_elements count (reading A.ReaderArena first.entry) (shown_json json.old)) }
 {
     if depth == 0 {
-        return json.text.push_cut(are_elements, count);
+        return json.text.push_unfollowed_pointers(are_elements, count);
     }
-    json.text.push_array(are_elements)?;
+    json.text.push_array_start(are_elements)?;
     for i in 0..count {
         json.begin_piece(PathStep {
             is_element: are_elements,
             index: i,
         })?;
-        json_pointer(pointer_past(first, i), depth - 1, json)?;
+        write_pointed_value(pointer_past(first, i), depth - 1, json)?;
         json.leave();
     }
     json.text.push(b"]}")
@@ -422,7 +422,7 @@ fn json_pointers<A: ReaderArena>(
 
 /// Writes the rest of the text of a list of structs, whose elements start at `first`.
 #[cycle(json)]
-fn json_structs<A: ReaderArena>(
+fn write_struct_list<A: ReaderArena>(
     first: Pointer<'_, A>,
     size: StructSize,
     count: u32,
@@ -440,13 +440,13 @@ fn json_structs<A: ReaderArena>(
         return json.text.push_count(count);
     }
     json.text.push(b"\"structs\":[")?;
-    json_elements(first, size, count, depth, json)?;
+    write_struct_elements(first, size, count, depth, json)?;
     json.text.push(b"]}")
 }
 
 /// Writes the elements of a list of structs, which start at `first`.
 #[cycle(json)]
-fn json_elements<A: ReaderArena>(
+fn write_struct_elements<A: ReaderArena>(
     first: Pointer<'_, A>,
     size: StructSize,
     count: u32,
@@ -462,7 +462,7 @@ fn json_elements<A: ReaderArena>(
     for i in 0..count {
         let start = json.begin_element(i)?;
         let element = pointer_past(first, i * size.total());
-        json_struct(element, size, depth, json)?;
+        write_sections(element, size, depth, json)?;
         json.end_element(start)?;
     }
     Ok(())

@@ -360,7 +360,7 @@ impl Lines {
     }
 
     /// Writes a line that says that only the first elements of a list are shown, if `is_cut` is set.
-    fn write_end_of_list(&mut self, is_cut: bool) {
+    fn write_list_cut(&mut self, is_cut: bool) {
         if is_cut {
             self.write_path();
             self.push(b" ");
@@ -371,7 +371,7 @@ impl Lines {
 
     /// Writes a line that says that the `count` pointers or elements of an object aren't followed, if
     /// there are any.
-    fn write_deeper(&mut self, count: u32) {
+    fn write_depth_cut(&mut self, count: u32) {
         if count > 0 {
             self.write_path();
             self.push(b" ");
@@ -463,7 +463,7 @@ fn show_pointers<A: ReaderArena>(
     lines: &mut Lines,
 ) {
     if depth == 0 {
-        lines.write_deeper(count);
+        lines.write_depth_cut(count);
         return;
     }
     let is_cut = are_elements && count > MOST_ELEMENTS;
@@ -475,7 +475,7 @@ fn show_pointers<A: ReaderArena>(
         };
         show_step(pointer_past(first, i), step, depth - 1, lines);
     }
-    lines.write_end_of_list(is_cut);
+    lines.write_list_cut(is_cut);
 }
 
 /// Writes the line of a pointer to which `step` leads, and the lines of what it leads to. A null pointer
@@ -509,7 +509,7 @@ fn show_elements<A: ReaderArena>(
         return;
     }
     if depth == 0 {
-        lines.write_deeper(count);
+        lines.write_depth_cut(count);
         return;
     }
     for i in 0..count.min(MOST_ELEMENTS) {
@@ -519,5 +519,5 @@ fn show_elements<A: ReaderArena>(
         show_pointers(pointers, u32::from(size.pointers), false, depth, lines);
         lines.leave();
     }
-    lines.write_end_of_list(count > MOST_ELEMENTS);
+    lines.write_list_cut(count > MOST_ELEMENTS);
 }

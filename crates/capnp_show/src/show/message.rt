@@ -12,7 +12,7 @@ ghost use Rattle.capnp_show.specs.Show.{PrintsAtMost};
 ghost use Rattle.capnp_show.specs.Shown.{IsPlain, Shows, add, show_end, shown_json};
 ghost use Rattle.capnp_show.specs.ShownParts.{HasShortLine, IsShownPart, shown_line};
 
-use super::json::{Json, json_end};
+use super::json::{Json, write_path_end};
 use super::lines::{Lines, show_element, show_pointer};
 use super::text::{Ended, MOST_BYTES};
 use capnp_arena::arena::{ReaderArena, ReaderArenaImpl, ReaderOptions, ReaderSegments};
@@ -83,18 +83,18 @@ pub fn show_message<S: ReaderSegments + Drop, W: Output>(
     let count = segments.len() as u64;
     let arena = ReaderArenaImpl::new(segments, limits);
     if showing.json {
-        let json = json_of(alloc, showing, limits, number, count, path, &arena)?;
+        let json = make_json(alloc, showing, limits, number, count, path, &arena)?;
         json.text.write(output, ShowFault::WriteFailed)?;
         Ok(json.is_sound)
     } else {
-        let lines = lines_of(alloc, showing, limits, number, count, path, &arena)?;
+        let lines = make_lines(alloc, showing, limits, number, count, path, &arena)?;
         lines.text.write(output, ShowFault::WriteFailed)?;
         Ok(lines.is_sound)
     }
 }
 
 /// Returns the lines of a message of `count` segments.
-fn lines_of<S: ReaderSegments>(
+fn make_lines<S: ReaderSegments>(
     alloc: Global,
     showing: Showing,
     limits: ReaderOptions,
@@ -132,7 +132,7 @@ fn write_lines<S: ReaderSegments>(
 }
 
 /// Returns the line of JSON of a message of `count` segments.
-fn json_of<S: ReaderSegments>(
+fn make_json<S: ReaderSegments>(
     alloc: Global,
     showing: Showing,
     limits: ReaderOptions,
@@ -186,6 +186,6 @@ pub(super) fn write_json<S: ReaderSegments>(
 {
     json.write_head(number, count, arena.size_in_words() as u64)?;
     let end = read_part(arena, path, &mut json.lim);
-    json_end(end, depth, json)?;
+    write_path_end(end, depth, json)?;
     json.write_tail()
 }

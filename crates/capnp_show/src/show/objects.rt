@@ -100,14 +100,14 @@ pub(super) fn number_at(start: Place, size: ElementSize, index: u32) -> u64
         (slice_index (words_of start.entry.bytes.now) (start.entry.at + word_index size index)) }
 {
     element_in_word(
-        place_past(start, word_of_element(size, index)).word().0,
+        place_past(start, word_index(size, index)).word().0,
         size,
         index,
     )
 }
 
 /// The word that element `index` of such a list is in, counted from the start of the list.
-fn word_of_element(size: ElementSize, index: u32) -> u32
+fn word_index(size: ElementSize, index: u32) -> u32
     ensures { result ≡ word_index size index }
 {
     match size {

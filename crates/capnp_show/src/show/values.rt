@@ -20,7 +20,7 @@ use capnp_words::wire_pointer::{ElementSize, StructSize};
 
 impl Text {
     /// Adds what comes before piece `index` of an array: a comma, if it isn't the first one.
-    pub(super) fn push_comma(&mut self, index: u32) -> Result<(), Ended>
+    pub(super) fn push_comma_unless_first(&mut self, index: u32) -> Result<(), Ended>
         ensures { Adds result self.old.bytes.items self.new.bytes.items (comma index) }
     {
         if index == 0 {
@@ -30,7 +30,7 @@ impl Text {
     }
 
     /// Adds what begins the array of what the pointers of a list lead to, or those of a struct.
-    pub(super) fn push_array(&mut self, are_elements: bool) -> Result<(), Ended>
+    pub(super) fn push_array_start(&mut self, are_elements: bool) -> Result<(), Ended>
         ensures { Adds result self.old.bytes.items self.new.bytes.items
             (array_begin are_elements) }
     {
@@ -41,14 +41,18 @@ impl Text {
     }
 
     /// Adds the array of `count` pointers if none may be followed, and ends the object.
-    pub(super) fn push_cut(&mut self, are_elements: bool, count: u32) -> Result<(), Ended>
+    pub(super) fn push_unfollowed_pointers(
+        &mut self,
+        are_elements: bool,
+        count: u32,
+    ) -> Result<(), Ended>
         ensures { Adds result self.old.bytes.items self.new.bytes.items
             (cut_text are_elements count) }
     {
         if count > 0 {
             return self.push(b"\"cut\":\"depth\"}");
         }
-        self.push_array(are_elements)?;
+        self.push_array_start(are_elements)?;
         self.push(b"]}")
     }
 
@@ -61,7 +65,7 @@ impl Text {
     }
 
     /// Adds a key and a number, which end an object.
-    fn push_last(&mut self, key: &[u8], n: u64) -> Result<(), Ended>
+    fn push_last_number(&mut self, key: &[u8], n: u64) -> Result<(), Ended>
         ensures { Adds result self.old.bytes.items self.new.bytes.items
             (key.now ++ (decimal n ++ codes "}")) }
     {
@@ -75,7 +79,7 @@ impl Text {
         ensures { Adds result self.old.bytes.items self.new.bytes.items
             (member (codes "capability") (decimal index) ++ codes "}") }
     {
-        self.push_last(b"\"capability\":", u64::from(index))
+        self.push_last_number(b"\"capability\":", u64::from(index))
     }
 
     /// Adds why a pointer can't be read, and ends the object.
@@ -88,7 +92,7 @@ impl Text {
     }
 
     /// Adds the bytes of a data section in hex digits.
-    pub(super) fn push_data(&mut self, bytes: &[u8]) -> Result<(), Ended>
+    pub(super) fn push_data_member(&mut self, bytes: &[u8]) -> Result<(), Ended>
         ensures { Adds result self.old.bytes.items self.new.bytes.items
             (member (codes "data") (in_quotes (encode_lower bytes.now)) ++ codes ",") }
     {
@@ -111,26 +115,26 @@ impl Text {
     {
         bytes_are_below_256(start.bytes);
         match size {
-            ElementSize::Void => self.push_last(b"\"void\":", u64::from(count)),
-            ElementSize::Byte => self.push_bytes(bytes_at(start, count as usize)),
-            _ => self.push_numbers(start, size, count),
+            ElementSize::Void => self.push_last_number(b"\"void\":", u64::from(count)),
+            ElementSize::Byte => self.push_bytes_member(bytes_at(start, count as usize)),
+            _ => self.push_numbers_member(start, size, count),
         }
     }
 
     /// Adds the rest of the object of a list of bytes: as text if they read as text, and otherwise
     /// in hex digits.
-    fn push_bytes(&mut self, bytes: &[u8]) -> Result<(), Ended>
+    fn push_bytes_member(&mut self, bytes: &[u8]) -> Result<(), Ended>
         ensures { Adds result self.old.bytes.items self.new.bytes.items
             (bytes_member bytes.now ++ codes "}") }
     {
         match as_text(bytes) {
-            Some(text) => self.push_text(text.as_bytes()),
+            Some(text) => self.push_text_member(text.as_bytes()),
             None => self.push_hex_member(bytes),
         }
     }
 
     /// Adds the rest of the object of a list of bytes that reads as this text.
-    fn push_text(&mut self, text: &[u8]) -> Result<(), Ended>
+    fn push_text_member(&mut self, text: &[u8]) -> Result<(), Ended>
         ensures { Adds result self.old.bytes.items self.new.bytes.items
             (member (codes "text") (in_quotes (escaped text.now)) ++ codes "}") }
     {
@@ -150,7 +154,12 @@ impl Text {
     }
 
     /// Adds the rest of the object of a list of bits, or of numbers of two, four or eight bytes.
-    fn push_numbers(&mut self, start: Place, size: ElementSize, count: u32) -> Result<(), Ended>
+    fn push_numbers_member(
+        &mut self,
+        start: Place,
+        size: ElementSize,
+        count: u32,
+    ) -> Result<(), Ended>
         requires at_hand { IsAtHand (ObjectFlat start size count) }
         requires small { length start.bytes.now < 8 * 2 ^ 32 }
         requires some { size ≢ ElementSize.Void }
@@ -174,7 +183,7 @@ impl Text {
             (join_with_byte 44 (map (number_text size) (flat_numbers start.entry size count))) }
     {
         for i in 0..count {
-            self.push_comma(i)?;
+            self.push_comma_unless_first(i)?;
             self.push_element(size, number_at(start, size, i))?;
         }
         Ok(())
@@ -217,7 +226,7 @@ impl Text {
         ensures { Adds result self.old.bytes.items self.new.bytes.items
             (member (codes "count") (decimal count) ++ codes "}") }
     {
-        self.push_last(b"\"count\":", u64::from(count))
+        self.push_last_number(b"\"count\":", u64::from(count))
     }
 }
 

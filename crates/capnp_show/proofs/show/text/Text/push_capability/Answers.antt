@@ -7,4 +7,4 @@ use Rattle.capnp_show.proofs.Adds.{adds_as}
 use Rattle.capnp_show.proofs.show.text.Text.push_capability.Goals as goal
 
 pub returns : goal.returns
-returns c = adds_as (ap (λ n. member (codes "capability") (decimal n) ++ codes "}") c.from.ensures) c.push_last.ensures
+returns c = adds_as (ap (λ n. member (codes "capability") (decimal n) ++ codes "}") c.from.ensures) c.push_last_number.ensures

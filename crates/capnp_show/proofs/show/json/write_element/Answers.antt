@@ -5,7 +5,7 @@ use Rattle.capnp_objects.specs.Pointers.{reading}
 use Rattle.capnp_show.specs.Shown.{add, array_within, show_struct, shown_json}
 use Rattle.capnp_show.proofs.Grows.{struct_longer, within_longer}
 use Rattle.capnp_show.proofs.Steps.{push_shows, push_stops, shows_after, shows_as}
-use Rattle.capnp_show.proofs.show.json.json_element.Goals as goal
+use Rattle.capnp_show.proofs.show.json.write_element.Goals as goal
 
 pub returns-in_err-push : goal.returns-in_err-push
 returns-in_err-push g c =
@@ -20,8 +20,8 @@ returns-in_err-write_start g c =
     let begun = push_shows c.args.json.now c.push.new.self plain c.in_ok-push.ensures in
     absurd (cc ((c.in_err-write_start.ensures begun.plain).0))
 
-pub json_struct-requires : goal.json_struct-requires
-json_struct-requires g c = record { inside = c.args.element.there.inside }
+pub write_sections-requires : goal.write_sections-requires
+write_sections-requires g c = record { inside = c.args.element.there.inside }
 
 pub returns : goal.returns
 returns g c =
@@ -30,4 +30,4 @@ returns g c =
     λ plain.
     let begun = push_shows c.args.json.now c.push.new.self plain c.in_ok-push.ensures in
     let same = (c.in_ok-write_start.ensures begun.plain).1 in
-    shows_as (ap (f r) begun.written) (shows_after f r r (record c.args.json.now { text = c.push.new.self }) c.write_start.new.self refl same begun.plain c.json_struct.ensures)
+    shows_as (ap (f r) begun.written) (shows_after f r r (record c.args.json.now { text = c.push.new.self }) c.write_start.new.self refl same begun.plain c.write_sections.ensures)

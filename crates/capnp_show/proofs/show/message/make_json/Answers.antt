@@ -4,7 +4,7 @@ use Rattle.capnp_show.specs.Adding.{max_text}
 use Rattle.capnp_show.specs.Shown.{IsPlain, Shown}
 use Rattle.capnp_show.proofs.Ends.{fresh, line_written}
 use Rattle.capnp_show.proofs.ShownLines.{shown_cut, shown_short}
-use Rattle.capnp_show.proofs.show.message.json_of.Goals as goal
+use Rattle.capnp_show.proofs.show.message.make_json.Goals as goal
 
 pub returns-in-Ok-clause-shown : goal.returns-in-Ok-clause-shown
 returns-in-Ok-clause-shown g c =

@@ -2,7 +2,7 @@ use Rattle.std.proofs.Common.{◌++◌, refl}
 use Rattle.std.specs.Prelude.{codes}
 use Rattle.capnp_show.specs.Line.{escaped, in_quotes}
 use Rattle.capnp_show.proofs.Adds.{adds_as, adds_stops, adds_then, adds_three}
-use Rattle.capnp_show.proofs.show.text.Text.push_text.Goals as goal
+use Rattle.capnp_show.proofs.show.text.Text.push_text_member.Goals as goal
 
 pub returns-in_err-push : goal.returns-in_err-push
 returns-in_err-push c = adds_as (refl) (adds_stops c.from_residual.result _ (in_quotes (escaped c.args.text.now) ++ codes "}") c.from_residual.ensures.1 c.in_err-push.ensures)

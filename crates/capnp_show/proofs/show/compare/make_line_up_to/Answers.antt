@@ -7,7 +7,7 @@ use Rattle.capnp_show.specs.Shown.{IsPlain}
 use Rattle.capnp_show.specs.declared.show.json.Json.{Json}
 use Rattle.capnp_show.proofs.ComparedLines.{to_depth}
 use Rattle.capnp_show.proofs.Ends.{fresh, line_full}
-use Rattle.capnp_show.proofs.show.compare.line_to.Goals as goal
+use Rattle.capnp_show.proofs.show.compare.make_line_up_to.Goals as goal
 
 pub returns-in-Err-Full-clause-line : goal.returns-in-Err-Full-clause-line
 returns-in-Err-Full-clause-line g c =

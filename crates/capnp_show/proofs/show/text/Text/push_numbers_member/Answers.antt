@@ -3,7 +3,7 @@ use Rattle.std.specs.Prelude.{codes}
 use Rattle.std.specs.List.{join_with_byte}
 use Rattle.capnp_show.specs.Numbers.{flat_numbers, number_text}
 use Rattle.capnp_show.proofs.Adds.{adds_as, adds_stops, adds_then, adds_three}
-use Rattle.capnp_show.proofs.show.text.Text.push_numbers.Goals as goal
+use Rattle.capnp_show.proofs.show.text.Text.push_numbers_member.Goals as goal
 
 pub returns-in_err-push : goal.returns-in_err-push
 returns-in_err-push c =

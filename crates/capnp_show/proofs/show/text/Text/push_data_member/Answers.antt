@@ -3,7 +3,7 @@ use Rattle.std.specs.Prelude.{codes}
 use Rattle.hex.specs.Hex.{encode_lower}
 use Rattle.capnp_show.specs.Line.{in_quotes, member}
 use Rattle.capnp_show.proofs.Adds.{adds_as, adds_stops, adds_then, adds_three}
-use Rattle.capnp_show.proofs.show.text.Text.push_data.Goals as goal
+use Rattle.capnp_show.proofs.show.text.Text.push_data_member.Goals as goal
 
 whole : (hex : List ℕ) → codes "\"data\":\"" ++ (hex ++ codes "\",") ≡ member (codes "data") (in_quotes hex) ++ codes ","
 whole hex = ap (λ zs. codes "\"data\":\"" ++ zs) (sym (append_assoc hex (34 ∷ []) (44 ∷ [])))

@@ -1,6 +1,6 @@
 use Rattle.std.proofs.Common.{◌∙◌}
 use Rattle.capnp_show.proofs.ComparedLines.{lines_compared}
-use Rattle.capnp_show.proofs.show.compare.difference_of.Goals as goal
+use Rattle.capnp_show.proofs.show.compare.find_difference.Goals as goal
 
 pub returns-clause-lines : goal.returns-clause-lines
 returns-clause-lines g c =

@@ -5,7 +5,7 @@ use Rattle.capnp_objects.specs.Source.{levels}
 use Rattle.capnp_show.specs.Shown.{IsPlain, Shown}
 use Rattle.capnp_show.proofs.ComparedLines.{to_depth}
 use Rattle.capnp_show.proofs.Ends.{fresh, line_full, line_written}
-use Rattle.capnp_show.proofs.show.compare.line_of.Goals as goal
+use Rattle.capnp_show.proofs.show.compare.make_line.Goals as goal
 
 pub returns-in-Ok-clause-line : goal.returns-in-Ok-clause-line
 returns-in-Ok-clause-line g c =
