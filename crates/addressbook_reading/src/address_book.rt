@@ -49,8 +49,10 @@ impl<'a, A: ReaderArena> Reader<'a, A> {
             → Holds S 0 0 1 → IsStructOrNull t → Means S (levels (A.nesting arena.now)) 0 0 t c
             → Affords (A.charging arena.now) lim.old (1 + c) → IsOk result }
     {
-        let reader = value::root(arena, lim)?;
-        Ok(Reader { reader })
+        match value::root(arena, lim) {
+            Ok(reader) => Ok(Reader { reader }),
+            Err(k) => Err(k),
+        }
     }
 
     /// people @0 :List(Person)
@@ -64,8 +66,10 @@ impl<'a, A: ReaderArena> Reader<'a, A> {
             → Affords start.charging lim.old (child_cost A.ReaderArena shows 0)
             → IsOk result }
     {
-        let list = list::get_structs(&self.reader, 0, lim)?;
-        Ok(person::Readers { list })
+        match list::get_structs(&self.reader, 0, lim) {
+            Ok(list) => Ok(person::Readers { list }),
+            Err(k) => Err(k),
+        }
     }
 
     /// Whether the pointer of people is not null.

@@ -1,17 +1,14 @@
 //! Generates builders.
 
 use crate::calls::write_call;
-use crate::fields::{is_in_data, push_skip_comment, type_of};
-use crate::imports::Kind;
-use crate::model::{
-    Base, Default, Field, FieldKind, NO_DISCRIMINANT, Node, NodeKind, Slot, Struct,
-};
+use crate::fields::{begin_comment, lacking, push_skip_comment, put_declared, put_slot, type_of};
+use crate::forms::BaseKind;
+use crate::imports::BUILDERS;
+use crate::model::{Default, Field, FieldKind, NO_DISCRIMINANT, Node, NodeKind, Slot, Struct};
 use crate::names::{BUILDER_WORDS, VARIANT_WORDS, capitalized};
 use crate::output::{File, Output};
-use crate::setters::{
-    access, begin_call, put_enum, put_number, write_copy, write_group, write_making,
-};
-use crate::slots::add_fields;
+use crate::parts::part;
+use crate::slots::{add_fields, slot_items, slot_list};
 use crate::text::{Names, Text, Values};
 use crate::writing::Module;
 use crate::{building as templates, calls};
@@ -34,7 +31,7 @@ impl<'m> Builders<'m> {
     pub fn new(alloc: Global, name: &'m str, reading: &'m str, nodes: &'m [Node]) -> Self {
         Builders {
             alloc,
-            output: Output::new(alloc, name, reading, nodes, Kind::Builders),
+            output: Output::new(alloc, name, reading, nodes, BUILDERS),
             reading,
             sizes: Text::new(alloc),
         }
@@ -44,7 +41,7 @@ impl<'m> Builders<'m> {
     /// ending.
     pub fn write(mut self, stem: &str) -> Result<Vec<File>, AllocError> {
         self.sizes.push(templates::SIZE_DEFINITIONS);
-        let nodes = self.output.nodes();
+        let nodes = self.output.nodes;
         for node in nodes {
             match &node.kind {
                 NodeKind::Struct(it) => self.write_module(node, it),
@@ -99,7 +96,7 @@ impl<'m> Builders<'m> {
     // The struct that a struct or a group is in.
     fn owner(&self, node: &'m Node) -> &'m Node {
         let mut at = node;
-        for _ in 0..self.output.nodes().len() {
+        for _ in 0..self.output.nodes.len() {
             match (&at.kind, self.output.node(at.scope)) {
                 (NodeKind::Struct(it), Some(outer)) if it.is_group => at = outer,
                 _ => break,
@@ -117,7 +114,7 @@ impl<'m> Builders<'m> {
             put_tag(field, it, &mut values);
             self.write_field(module, field, &mut values);
         }
-        self.output.note(names.has_failed());
+        self.output.note(names.has_failed);
         if it.members > 0 {
             let mut values = self.values_of(node);
             values.put("spec", it.tag.as_str());
@@ -160,7 +157,7 @@ impl<'m> Builders<'m> {
         let mut values = Values::new(self.alloc);
         values.put("reading", self.reading);
         values.put("module", node.module.as_str());
-        values.put_text("type", type_of(self.alloc, node));
+        values.put_text("enum", type_of(self.alloc, node));
         put_arms(self.alloc, names, &mut values);
         module.push_filled(templates::NUMBER, &values);
         self.output.finish(&mut module, node.full.as_str());
@@ -171,7 +168,7 @@ impl<'m> Builders<'m> {
         match &field.kind {
             FieldKind::Group(id) => self.write_group_calls(module, *id, values),
             FieldKind::Slot(slot) => {
-                let why = self.unwritable(slot);
+                let why = lacking(&self.output, slot);
                 if !why.is_empty() {
                     push_skip_comment(module, why, values);
                 } else {
@@ -179,22 +176,6 @@ impl<'m> Builders<'m> {
                 }
             }
             FieldKind::Unknown => push_skip_comment(module, "its type is unknown", values),
-        }
-    }
-
-    // Why a field has no calls; empty if it has some.
-    fn unwritable(&self, slot: &Slot) -> &'static str {
-        if let Default::Unknown = &slot.default {
-            return "its default value is unknown";
-        }
-        match (slot.of.base, self.output.node(slot.of.id)) {
-            (Base::Struct, None) => "its struct is unknown",
-            (Base::Enum, None) => "its enum is unknown",
-            (Base::Enum, Some(node)) => match &node.kind {
-                NodeKind::Enum(names) if !names.is_empty() => "",
-                _ => "its enum has no names",
-            },
-            _ => "",
         }
     }
 
@@ -207,13 +188,18 @@ impl<'m> Builders<'m> {
         module.put_path(node.module.as_str(), values);
         let mut slots = Names::new(self.alloc);
         self.add_slots(id, &mut slots);
-        self.output.note(slots.has_failed());
-        write_group(module, &slots, values);
+        self.output.note(slots.has_failed);
+        values.put_text("slots", slot_list(self.alloc, &slots));
+        values.put_text("items", slot_items(self.alloc, &slots));
+        let is_empty = slots.as_slice().is_empty();
+        values.put("array", if is_empty { "&[]" } else { "&slots" });
+        write_call(module, calls::GET_GROUP, values);
+        write_call(module, calls::INIT_GROUP, values);
     }
 
     // Adds the parts of the struct that the fields of a group are, and those of the groups in it.
     fn add_slots(&self, id: u64, slots: &mut Names) {
-        let nodes = self.output.nodes();
+        let nodes = self.output.nodes;
         for node in nodes {
             if let NodeKind::Struct(it) = &node.kind
                 && it.is_group
@@ -227,7 +213,7 @@ impl<'m> Builders<'m> {
     // Whether a group is this one, or in it.
     fn is_inside(&self, node: &'m Node, id: u64) -> bool {
         let mut at = node;
-        for _ in 0..self.output.nodes().len() {
+        for _ in 0..self.output.nodes.len() {
             if at.id == id {
                 return true;
             }
@@ -241,57 +227,50 @@ impl<'m> Builders<'m> {
 
     // Writes the calls of a field that isn't a group.
     fn write_slot(&mut self, module: &mut Module, field: &Field, slot: &Slot, values: &mut Values) {
-        values.put_text("of", self.output.type_name(slot.of));
-        values.put_number("index", u64::from(slot.offset));
-        let is_void = slot.of.lists == 0 && slot.of.base == Base::Void;
-        if is_void && field.discriminant == NO_DISCRIMINANT {
+        if slot.of.is_void() && field.discriminant == NO_DISCRIMINANT {
             return;
         }
-        begin_call(module, field.ordinal, slot.of, values);
-        if is_void {
-            write_call(module, calls::SET_VOID, values);
-        } else if is_in_data(slot.of) {
-            self.write_data(module, slot, values);
-        } else {
-            self.write_pointer(module, slot, values);
+        let form = slot.of.form();
+        let has_default = !matches!(slot.default, Default::Zero);
+        put_slot(&self.output, slot, values);
+        if slot.of.lists > 0 || !matches!(slot.of.base.kind, BaseKind::Pointer) {
+            module.begin();
+            begin_comment(module, field.ordinal, values);
         }
-    }
-
-    // Writes the calls of a number, a bit or an enum.
-    fn write_data(&self, module: &mut Module, slot: &Slot, values: &mut Values) {
-        module.specs.add(self.alloc, values.get("spec"));
-        put_number(slot, values);
-        if let Some(node) = self.output.node(slot.of.id) {
-            put_enum(module, node, values);
-        }
-        values.put_lines(access(slot));
-        write_call(module, calls::SET_NUMBER, values);
-        write_call(module, calls::GET_NUMBER, values);
-    }
-
-    // Writes the calls of a pointer.
-    fn write_pointer(&self, module: &mut Module, slot: &Slot, values: &mut Values) {
-        let of = slot.of;
-        if of.lists <= 1
-            && of.base == Base::Struct
-            && let Some(node) = self.output.node(of.id)
+        if form.is_declared
+            && let Some(node) = self.output.node(slot.of.id)
         {
             self.put_inner(module, node, values);
         }
-        write_making(module, slot, values);
-        write_copy(module, of, values);
-        write_call(module, calls::HAS, values);
+        if !form.is_pointer && !slot.of.is_void() {
+            module.specs.add(self.alloc, field.spec.as_str());
+        }
+        values.put_lines(if has_default {
+            form.build_or
+        } else {
+            form.build
+        });
+        for lines in if has_default {
+            form.calls_or
+        } else {
+            form.calls
+        } {
+            write_call(module, lines, values);
+        }
     }
 
-    // Puts what the calls of a struct, or of a list of structs, have in their contracts.
+    // Puts what the calls of a struct, of a list of structs, or of an enum have in their contracts. Of an
+    // enum, writes what the prover needs for the first of them.
     fn put_inner(&self, module: &mut Module, node: &Node, values: &mut Values) {
-        if let NodeKind::Struct(inner) = &node.kind {
-            module.put_path(node.module.as_str(), values);
-            values.put("inner", node.module.as_str());
-            let mut size = Text::new(self.alloc);
-            size.push_all(&[node.module.as_str(), "_size"]);
-            module.sizes.note(self.alloc, size.as_str());
-            put_sections(inner, values);
+        put_declared(module, node, values);
+        match &node.kind {
+            NodeKind::Struct(inner) => {
+                let mut size = Text::new(self.alloc);
+                size.push_all(&[node.module.as_str(), "_size"]);
+                module.sizes.note(self.alloc, size.as_str());
+                put_sections(inner, values);
+            }
+            _ => module.push_filled(part(values.get("of_call")), values),
         }
     }
 }
@@ -304,16 +283,11 @@ fn put_sections(it: &Struct, values: &mut Values) {
     values.put_number("data", data);
     values.put_number("pointers", pointers);
     values.put_number("words", words);
-    values.put_filled("few_structs", few_structs(words));
-}
-
-// What a list of structs that have this many words each needs.
-fn few_structs(words: u64) -> &'static str {
-    if words == 0 {
-        "count < 2 ^ 30"
+    values.put_lines(if words == 0 {
+        calls::NO_WORDS
     } else {
-        "count * ~words~ < 2 ^ 29"
-    }
+        calls::WORDS
+    });
 }
 
 // Puts what the calls of a member of a union have that another field's calls don't have.
@@ -333,14 +307,16 @@ fn put_tag(field: &Field, it: &Struct, values: &mut Values) {
 fn put_arms(alloc: Global, names: &[String], values: &mut Values) {
     let mut taken = Names::new(alloc);
     let mut arms = Text::new(alloc);
-    for (i, name) in names.iter().enumerate() {
+    let mut number = 0u64;
+    for name in names {
         let mut variant = capitalized(alloc, name.as_str());
         taken.push_unique(alloc, VARIANT_WORDS, &mut variant);
         let mut row = Values::new(alloc);
         row.put_text("variant", variant);
-        row.put("type", values.get("type"));
-        row.put_number("number", i as u64);
-        arms.push_filled("        ~type~::~variant~ => ~number~,\n", &row);
+        row.put("enum", values.get("enum"));
+        row.put_number("number", number);
+        arms.push_filled("        ~enum~::~variant~ => ~number~,\n", &row);
+        number = number.saturating_add(1);
     }
     values.put_text("arms", arms);
 }

@@ -77,10 +77,10 @@ pub const READS: &str = "(x : Holder) (ws : List ℕ) (ts : Trees)
             → ";
 
 /// An enum: the number of each name.
-pub const NUMBER: &str = "pub use ~reading~::~module~::{~type~, of_number};
+pub const NUMBER: &str = "pub use ~reading~::~module~::{~enum~, of_number};
 
 /// Returns the number of `value`.
-pub fn number(value: ~type~) -> u16
+pub fn number(value: ~enum~) -> u16
     ensures { result ≡ ~module~_number value }
 {
     match value {

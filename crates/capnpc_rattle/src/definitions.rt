@@ -1,6 +1,6 @@
 //! Names the fields of structs, and the definitions of what readers return of them.
 
-use crate::model::{Base, Default, Field, FieldKind, Node, NodeKind, Slot};
+use crate::model::{Default, Field, FieldKind, Node, NodeKind};
 use crate::names::{SPEC_WORDS, snake_case};
 use crate::noted::Noted;
 use crate::text::{Names, Text};
@@ -8,14 +8,14 @@ use std::alloc::Global;
 
 /// Names the fields of each struct, and the definitions.
 pub fn name_definitions(nodes: &mut Vec<Node>, noted: &mut Noted) {
-    let mut taken = Names::new(noted.alloc());
+    let mut taken = Names::new(noted.alloc);
     for node in nodes.iter() {
-        reserve_own_names(noted.alloc(), node, &mut taken);
+        reserve_own_names(noted.alloc, node, &mut taken);
     }
     for node in nodes.iter_mut() {
         name_struct(node, &mut taken, noted);
     }
-    noted.note(taken.has_failed());
+    noted.note(taken.has_failed);
 }
 
 // Takes the names of the definitions of a declaration itself: of a struct, its sections; of an enum
@@ -47,18 +47,18 @@ fn name_struct(node: &mut Node, taken: &mut Names, noted: &mut Noted) {
     if let NodeKind::Struct(it) = &mut node.kind {
         name_fields(node.snake.as_str(), &mut it.fields, taken, noted);
         if it.members > 0 {
-            it.tag = unique_definition_name(node.snake.as_str(), "_tag", taken, noted);
+            it.tag = noted.unique_name(node.snake.as_str(), "_tag", SPEC_WORDS, taken);
         }
     }
 }
 
 // Names fields. `node` is the name of their struct in snake case.
 fn name_fields(node: &str, fields: &mut Vec<Field>, taken: &mut Names, noted: &mut Noted) {
-    let mut names = Names::new(noted.alloc());
+    let mut names = Names::new(noted.alloc);
     for field in fields.iter_mut() {
         name_field(node, field, &mut names, taken, noted);
     }
-    noted.note(names.has_failed());
+    noted.note(names.has_failed);
 }
 
 // Names a field. `names` are those of the fields before it.
@@ -69,34 +69,23 @@ fn name_field(
     taken: &mut Names,
     noted: &mut Noted,
 ) {
-    let mut name = snake_case(noted.alloc(), field.name.as_str());
-    names.push_unique(noted.alloc(), &[], &mut name);
-    let mut end = Text::new(noted.alloc());
+    let mut name = snake_case(noted.alloc, field.name.as_str());
+    names.push_unique(noted.alloc, &[], &mut name);
+    let mut end = Text::new(noted.alloc);
     end.push("_");
     end.append(&name);
     field.snake = noted.string_or_note(name);
     let (has_spec, has_default) = match &field.kind {
-        FieldKind::Slot(slot) => (has_value(slot), matches!(slot.default, Default::Words(_))),
+        FieldKind::Slot(slot) => (
+            !slot.of.is_void(),
+            matches!(slot.default, Default::Words(_)),
+        ),
         _ => (false, false),
     };
     if has_spec {
-        field.spec = unique_definition_name(node, end.as_str(), taken, noted);
+        field.spec = noted.unique_name(node, end.as_str(), SPEC_WORDS, taken);
     }
     if has_default {
-        let default = unique_definition_name(field.spec.as_str(), "_default", taken, noted);
-        field.default_spec = default;
+        field.default_spec = noted.unique_name(field.spec.as_str(), "_default", SPEC_WORDS, taken);
     }
-}
-
-// Whether readers return something of a field.
-fn has_value(slot: &Slot) -> bool {
-    slot.of.lists > 0 || slot.of.base != Base::Void
-}
-
-// Returns the name of a definition that no other has: `start`, `end`, and as many `_` as that takes.
-fn unique_definition_name(start: &str, end: &str, taken: &mut Names, noted: &mut Noted) -> String {
-    let mut name = Text::new(noted.alloc());
-    name.push_all(&[start, end]);
-    taken.push_unique(noted.alloc(), SPEC_WORDS, &mut name);
-    noted.string_or_note(name)
 }

@@ -1,14 +1,67 @@
 //! What readers and builders of a field have in common.
 
-use crate::model::{Base, Node, Type};
+use crate::forms::BaseKind;
+use crate::model::{Default, Node, NodeKind, Slot};
 use crate::names::{ENUM_WORDS, VARIANT_WORDS, capitalized};
+use crate::output::Output;
 use crate::text::{Text, Values};
 use crate::writing::Module;
 use std::alloc::Global;
 
-/// Whether a field is in its struct's data section.
-pub fn is_in_data(of: Type) -> bool {
-    of.lists == 0 && of.base.bits() > 0
+/// Why a field has no calls; empty if it has some.
+pub fn lacking(output: &Output<'_>, slot: &Slot) -> &'static str {
+    if let Default::Unknown = &slot.default {
+        return "its default value is unknown";
+    }
+    match (&slot.of.base.kind, output.node(slot.of.id)) {
+        (BaseKind::Struct, None) => "its struct is unknown",
+        (BaseKind::Enum, None) => "its enum is unknown",
+        (BaseKind::Enum, Some(node)) => match &node.kind {
+            NodeKind::Enum(names) if !names.is_empty() => "",
+            _ => "its enum has no names",
+        },
+        _ => "",
+    }
+}
+
+/// Puts what the calls of a field have in common: its type and its place, and its default value.
+pub fn put_slot(output: &Output<'_>, slot: &Slot, values: &mut Values) {
+    let base = slot.of.base;
+    let offset = u64::from(slot.offset);
+    values.put_text("of", output.type_name(slot.of));
+    values.put_number("index", offset);
+    values.put_number("bits", base.bits);
+    values.put_number("bit", offset.saturating_mul(base.bits));
+    values.put("rust", base.rust);
+    let element = slot.of.element();
+    values.put_lines(element.size);
+    values.put_lines(element.list);
+    match &slot.default {
+        Default::Number { literal, bits } => {
+            values.put("literal", literal.as_str());
+            values.put_number("mask", *bits);
+        }
+        Default::Bytes(bytes) | Default::Words(bytes) => {
+            values.put_text("numbers", list_of_bytes(output.alloc, bytes.as_slice()));
+            values.put_text(
+                "literal",
+                byte_string_literal(output.alloc, bytes.as_slice()),
+            );
+        }
+        Default::Zero | Default::Unknown => {}
+    }
+}
+
+/// Puts what names the declaration of a struct or an enum, and notes that the module does.
+pub fn put_declared(module: &mut Module, node: &Node, values: &mut Values) {
+    let of = node.module.as_str();
+    module.put_path(of, values);
+    values.put("module", of);
+    if let NodeKind::Enum(names) = &node.kind {
+        module.numbers.note(module.alloc, of);
+        values.put_text("enum", type_of(module.alloc, node));
+        values.put_number("count", names.len() as u64);
+    }
 }
 
 /// Writes the comment of a call.
@@ -31,38 +84,36 @@ pub fn push_skip_comment(module: &mut Module, why: &str, values: &mut Values) {
         .push_filled("    // ~name~ isn't written: ~why~.\n", values);
 }
 
-/// The element size of a list.
-pub fn element_size(of: Type) -> &'static str {
-    if of.lists == 1 {
-        of.base.element_size()
-    } else {
-        "Pointer"
-    }
-}
-
 /// The name of an enum: the last part of its full name.
 pub fn type_of(alloc: Global, node: &Node) -> Text {
     let full = node.full.as_str();
-    let mut name = match full.rsplit_once('.') {
-        Some((_, last)) => capitalized(alloc, last),
-        None => capitalized(alloc, full),
-    };
+    let (_, last) = full.rsplit_once('.').unwrap_or(("", full));
+    let mut name = capitalized(alloc, last);
     if VARIANT_WORDS.contains(&name.as_str()) || ENUM_WORDS.contains(&name.as_str()) {
         name.push_char('_');
     }
     name
 }
 
-/// The function of `typed_reading` that reads a list, and the type that it returns.
-pub fn list_kind(of: Type) -> (&'static str, &'static str) {
-    if of.lists > 1 {
-        return ("get_pointers", "PointersReader");
+// Bytes as a list of the prover's.
+fn list_of_bytes(alloc: Global, bytes: &[u8]) -> Text {
+    let mut numbers = Text::new(alloc);
+    for byte in bytes {
+        numbers.push_number(u64::from(*byte));
+        numbers.push(" ∷ ");
     }
-    match of.base {
-        Base::Struct => ("get_structs", "StructsReader"),
-        Base::Text => ("get_texts", "TextsReader"),
-        Base::Data => ("get_data_list", "DataListReader"),
-        Base::Interface | Base::AnyPointer => ("get_pointers", "PointersReader"),
-        _ => ("get_numbers", "NumbersReader"),
+    numbers.push("[]");
+    numbers
+}
+
+// Bytes as a literal of Rust's, in the layout of `rt fmt` after `let default =`.
+fn byte_string_literal(alloc: Global, bytes: &[u8]) -> Text {
+    let mut literal = Text::new(alloc);
+    let fits = bytes.len() <= 18;
+    literal.push(if fits { " b\"" } else { "\n            b\"" });
+    for byte in bytes {
+        literal.push_byte(*byte);
     }
+    literal.push("\"");
+    literal
 }

@@ -3,47 +3,32 @@
 //! text that needs a name of the module, a `|`, and this name.
 
 /// What a generated crate has.
-#[derive(Clone, Copy, Debug, PartialEq, Eq)]
-pub enum Kind {
-    /// Readers.
-    Readers,
-    /// Builders.
-    Builders,
-}
-
-impl Kind {
+pub struct Kind {
     /// What the comment of its root module says that it has.
-    pub fn about(self) -> &'static str {
-        match self {
-            Kind::Readers => "Readers",
-            Kind::Builders => "Builders",
-        }
-    }
-
+    pub about: &'static str,
     /// The file of its first definitions.
-    pub fn definitions(self) -> &'static str {
-        match self {
-            Kind::Readers => "Schema",
-            Kind::Builders => "Sizes",
-        }
-    }
-
+    pub definitions: &'static str,
     /// The table of what its modules import for clauses.
-    pub fn ghost_imports(self) -> &'static str {
-        match self {
-            Kind::Readers => GHOST_IMPORTS,
-            Kind::Builders => BUILDER_GHOST_IMPORTS,
-        }
-    }
-
+    pub ghost_imports: &'static str,
     /// The table of what its modules import for code.
-    pub fn imports(self) -> &'static str {
-        match self {
-            Kind::Readers => IMPORTS,
-            Kind::Builders => BUILDER_IMPORTS,
-        }
-    }
+    pub imports: &'static str,
 }
+
+/// Readers.
+pub const READERS: &Kind = &Kind {
+    about: "Readers",
+    definitions: "Schema",
+    ghost_imports: GHOST_IMPORTS,
+    imports: IMPORTS,
+};
+
+/// Builders.
+pub const BUILDERS: &Kind = &Kind {
+    about: "Builders",
+    definitions: "Sizes",
+    ghost_imports: BUILDER_GHOST_IMPORTS,
+    imports: BUILDER_IMPORTS,
+};
 
 // Names of clauses of readers.
 const GHOST_IMPORTS: &str = "Rattle.std.specs.Prelude

@@ -1,6 +1,6 @@
 //! The program `capnpc-rattle`, a plug-in of the schema compiler, `capnp compile`: reads the compiler's
-//! request from standard input, and writes a crate of readers into the working directory. The crate
-//! needs no proof of its own.
+//! request from standard input, and writes a crate of readers and one of builders into the working
+//! directory. The crates need no proof of their own.
 #![tactic(auto)]
 
 mod builders;
@@ -9,6 +9,7 @@ mod calls;
 mod defaults;
 mod definitions;
 mod fields;
+mod forms;
 mod imports;
 mod model;
 mod modules;
@@ -18,7 +19,6 @@ mod output;
 mod parts;
 mod readers;
 mod request;
-mod setters;
 mod slots;
 mod templates;
 mod text;
@@ -74,14 +74,9 @@ fn read_named_request<A: ReaderArena>(
 
 /// The name of a file without its folders and its ending.
 fn stem(file: &str) -> &str {
-    let name = match file.rsplit_once('/') {
-        Some((_, name)) => name,
-        None => file,
-    };
-    match name.split_once('.') {
-        Some((stem, _)) => stem,
-        None => name,
-    }
+    let (_, name) = file.rsplit_once('/').unwrap_or(("", file));
+    let (stem, _) = name.split_once('.').unwrap_or((name, ""));
+    stem
 }
 
 /// Returns the files of the crate of readers.

@@ -1,113 +1,40 @@
 //! What the generator knows of a schema.
-ghost use Rattle.std.specs.Prelude.{◌≤◌};
 
-/// A type of the schema language; of a list, what its innermost elements are.
-#[derive(Clone, Copy, Debug, PartialEq, Eq)]
-pub enum Base {
-    Void,
-    Bool,
-    Int8,
-    Int16,
-    Int32,
-    Int64,
-    UInt8,
-    UInt16,
-    UInt32,
-    UInt64,
-    Float32,
-    Float64,
-    Text,
-    Data,
-    Enum,
-    Struct,
-    Interface,
-    AnyPointer,
-}
-
-impl Base {
-    /// The size of a value in a data section, in bits; 0 if it has none there.
-    pub fn bits(self) -> u64
-        ensures { result ≤ 64 }
-    {
-        match self {
-            Base::Bool => 1,
-            Base::Int8 | Base::UInt8 => 8,
-            Base::Int16 | Base::UInt16 | Base::Enum => 16,
-            Base::Int32 | Base::UInt32 | Base::Float32 => 32,
-            Base::Int64 | Base::UInt64 | Base::Float64 => 64,
-            _ => 0,
-        }
-    }
-
-    /// The Rust type that a value is returned as, if it is a number, a bit or nothing. Floats are
-    /// returned as their bits, and enums in lists as their numbers.
-    pub fn rust_type(self) -> Option<&'static str> {
-        match self {
-            Base::Void => Some("()"),
-            Base::Bool => Some("bool"),
-            Base::Int8 => Some("i8"),
-            Base::Int16 => Some("i16"),
-            Base::Int32 => Some("i32"),
-            Base::Int64 => Some("i64"),
-            Base::UInt8 => Some("u8"),
-            Base::UInt16 | Base::Enum => Some("u16"),
-            Base::UInt32 | Base::Float32 => Some("u32"),
-            Base::UInt64 | Base::Float64 => Some("u64"),
-            _ => None,
-        }
-    }
-
-    /// Whether a value is a number with a sign.
-    pub fn has_sign(self) -> bool {
-        matches!(self, Base::Int8 | Base::Int16 | Base::Int32 | Base::Int64)
-    }
-
-    /// The name of the element size of a list.
-    pub fn element_size(self) -> &'static str {
-        match self {
-            Base::Void => "Void",
-            Base::Bool => "Bit",
-            Base::Int8 | Base::UInt8 => "Byte",
-            Base::Int16 | Base::UInt16 | Base::Enum => "TwoBytes",
-            Base::Int32 | Base::UInt32 | Base::Float32 => "FourBytes",
-            Base::Int64 | Base::UInt64 | Base::Float64 => "EightBytes",
-            Base::Struct => "InlineComposite",
-            Base::Text | Base::Data | Base::Interface | Base::AnyPointer => "Pointer",
-        }
-    }
-
-    /// The type's name in a schema, if it isn't declared there.
-    pub fn name(self) -> Option<&'static str> {
-        match self {
-            Base::Void => Some("Void"),
-            Base::Bool => Some("Bool"),
-            Base::Int8 => Some("Int8"),
-            Base::Int16 => Some("Int16"),
-            Base::Int32 => Some("Int32"),
-            Base::Int64 => Some("Int64"),
-            Base::UInt8 => Some("UInt8"),
-            Base::UInt16 => Some("UInt16"),
-            Base::UInt32 => Some("UInt32"),
-            Base::UInt64 => Some("UInt64"),
-            Base::Float32 => Some("Float32"),
-            Base::Float64 => Some("Float64"),
-            Base::Text => Some("Text"),
-            Base::Data => Some("Data"),
-            Base::AnyPointer => Some("AnyPointer"),
-            Base::Enum | Base::Struct | Base::Interface => None,
-        }
-    }
-}
+use crate::forms::{ANY_POINTER, Base, BaseKind, Form};
 
 /// A type of a field: `base`, or a list of it, or a list of lists of it, and so on.
-#[derive(Clone, Copy, Debug)]
+#[derive(Clone, Copy)]
 pub struct Type {
     /// How many lists are around the base type.
     pub lists: u32,
     /// The base type.
-    pub base: Base,
+    pub base: &'static Base,
     /// The id of the base type's declaration, if it has one.
     pub id: u64,
+}
+
+impl Type {
+    /// What generated code does with a field of the type.
+    pub fn form(self) -> &'static Form {
+        match self.lists {
+            0 => self.base.kind.form(),
+            1 => self.base.kind.list_form(),
+            _ => ANY_POINTER.kind.list_form(),
+        }
+    }
+
+    /// The base type; any pointer for a list of lists, which has pointers as elements.
+    pub fn element(self) -> &'static Base {
+        if self.lists > 1 {
+            return ANY_POINTER;
+        }
+        self.base
+    }
+
+    /// Whether a field of the type has no value.
+    pub fn is_void(self) -> bool {
+        self.lists == 0 && matches!(self.base.kind, BaseKind::Void)
+    }
 }
 
 /// The default value of a field.

@@ -2,7 +2,7 @@
 //! that reads the request is without a branch at each call.
 
 use crate::names::snake_case;
-use crate::text::Text;
+use crate::text::{Names, Text};
 use anyhow::{Result, anyhow};
 use capnp_words::error::ErrorKind;
 use std::alloc::{AllocError, Global};
@@ -11,7 +11,8 @@ use std::str;
 /// What was refused so far.
 #[derive(Drop)]
 pub struct Noted {
-    alloc: Global,
+    /// The allocator.
+    pub alloc: Global,
     // The first refusal of a reader.
     refusal: Option<ErrorKind>,
     // Whether a text wasn't UTF-8.
@@ -29,11 +30,6 @@ impl Noted {
             has_bad_text: false,
             has_failed: false,
         }
-    }
-
-    /// The allocator.
-    pub fn alloc(&self) -> Global {
-        self.alloc
     }
 
     /// Refuses what was read if something is noted.
@@ -94,6 +90,21 @@ impl Noted {
     pub fn snake_case(&mut self, name: &str) -> String {
         let snake = snake_case(self.alloc, name);
         self.string_or_note(snake)
+    }
+
+    /// Returns a name that isn't taken, and is none of these words: `start`, `end`, and as many `_` as
+    /// that takes. Takes it.
+    pub fn unique_name(
+        &mut self,
+        start: &str,
+        end: &str,
+        words: &[&'static str],
+        taken: &mut Names,
+    ) -> String {
+        let mut name = Text::new(self.alloc);
+        name.push_all(&[start, end]);
+        taken.push_unique(self.alloc, words, &mut name);
+        self.string_or_note(name)
     }
 
     /// Returns a text; an empty one if memory was lacking for a part of it.

@@ -19,15 +19,16 @@ pub struct File {
 /// A crate as it is generated.
 #[derive(Drop)]
 pub struct Output<'m> {
-    alloc: Global,
-    // The name of the crate.
-    name: &'m str,
+    /// Where memory comes from.
+    pub alloc: Global,
+    /// The name of the crate.
+    pub name: &'m str,
     // The name of the crate of readers of the same schema.
     reading: &'m str,
-    // All declarations.
-    nodes: &'m [Node],
+    /// All declarations.
+    pub nodes: &'m [Node],
     // What it has.
-    kind: Kind,
+    kind: &'static Kind,
     // The names of the modules.
     modules: Names,
     // The files of definitions of numbers.
@@ -45,7 +46,7 @@ impl<'m> Output<'m> {
         name: &'m str,
         reading: &'m str,
         nodes: &'m [Node],
-        kind: Kind,
+        kind: &'static Kind,
     ) -> Self {
         Output {
             alloc,
@@ -60,25 +61,14 @@ impl<'m> Output<'m> {
         }
     }
 
-    /// Where memory comes from.
-    pub fn alloc(&self) -> Global {
-        self.alloc
-    }
-
-    /// The name of the crate.
-    pub fn name(&self) -> &'m str {
-        self.name
-    }
-
-    /// All declarations.
-    pub fn nodes(&self) -> &'m [Node] {
-        self.nodes
-    }
-
     /// The declaration with this id.
     pub fn node(&self, id: u64) -> Option<&'m Node> {
-        let nodes = self.nodes;
-        nodes.iter().find(|node| node.id == id)
+        for node in self.nodes {
+            if node.id == id {
+                return Some(node);
+            }
+        }
+        None
     }
 
     /// The name of a type in the schema.
@@ -87,12 +77,12 @@ impl<'m> Output<'m> {
         for _ in 0..of.lists {
             name.push("List(");
         }
-        match of.base.name() {
-            Some(known) => name.push(known),
-            None => match self.node(of.id) {
-                Some(node) => name.push(node.full.as_str()),
-                None => name.push("unknown"),
-            },
+        if !of.base.name.is_empty() {
+            name.push(of.base.name);
+        } else if let Some(node) = self.node(of.id) {
+            name.push(node.full.as_str());
+        } else {
+            name.push("unknown");
         }
         for _ in 0..of.lists {
             name.push(")");
@@ -102,7 +92,7 @@ impl<'m> Output<'m> {
 
     /// Returns the files that are written.
     pub fn files(self) -> Result<Vec<File>, AllocError> {
-        if self.has_failed || self.modules.has_failed() || self.numbers.has_failed() {
+        if self.has_failed || self.modules.has_failed || self.numbers.has_failed {
             return Err(AllocError);
         }
         Ok(self.files)
@@ -135,7 +125,7 @@ impl<'m> Output<'m> {
     /// schema's file, without its ending, and `definitions` are those of the fields.
     pub fn finish_crate(&mut self, stem: &str, definitions: Text) {
         self.write_lib(stem);
-        let first = self.kind.definitions();
+        let first = self.kind.definitions;
         let mut text = Text::new(self.alloc);
         text.push_all(&["pub mod ", first, "\n"]);
         self.numbers.sort();
@@ -167,7 +157,7 @@ impl<'m> Output<'m> {
 
     // Writes the root module.
     fn write_lib(&mut self, stem: &str) {
-        let mut text = first_line(self.alloc, self.kind.about(), stem);
+        let mut text = first_line(self.alloc, self.kind.about, stem);
         let nodes = self.nodes;
         for node in nodes {
             write_unwritten(&mut text, node);

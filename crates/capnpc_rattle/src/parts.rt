@@ -85,7 +85,7 @@ const PARTS: &str = "@there: What each call that writes needs and that has no ot
             ~copy~ }
 @struct_there: What the call of a struct ensures of the place that it returns.
         ensures there { IfOk result (λ b.
-            HasStructPlace (A.view arena.new).words ~inner~_size b.place) }
+            HasStructPlace (A.view arena.new).words ~module~_size b.place) }
 @struct_made: What the call of a struct ensures of the struct that is made.
         ensures made { (x : Holder) (ws : List ℕ) (ts : Trees)
             → HasStruct (A.view arena.old).words x self.place ws ts
@@ -94,14 +94,14 @@ const PARTS: &str = "@there: What each call that writes needs and that has no ot
             (words_of_zero ~data~) (nulls ~pointers~)) }
 @structs_there: What the call of a list of structs ensures of the place that it returns.
         ensures there { IfOk result (λ list.
-            HasStructsPlace (A.view arena.new).words ~inner~_size list.place) }
+            HasStructsPlace (A.view arena.new).words ~module~_size list.place) }
         ensures count { IfOk result (λ list. list.place.count ≡ count) }
 @structs_made: What the call of a list of structs ensures of the structs that are made.
         ensures made { (x : Holder) (ws : List ℕ) (ts : Trees) (i : ℕ) → i < count
             → HasStruct (A.view arena.old).words x self.place ws ts
             → IfOk result (λ list. HasStruct (A.view arena.new).words
             (element_of self.place.segment (self.place.pointers_at + ~index~)
-            ~inner~_size (zero_elements ~data~ ~pointers~ count) i)
+            ~module~_size (zero_elements ~data~ ~pointers~ count) i)
             (element_place list.place.size list.place i)
             (words_of_zero ~data~) (nulls ~pointers~)) }
 @list_there: What the call of another list ensures of the place that it returns.
@@ -126,21 +126,21 @@ const PARTS: &str = "@there: What each call that writes needs and that has no ot
     /// Null is a list without elements.
 @open_struct: What the call ensures that opens a struct.
         ensures fits { OpeningFits (A.view arena.old) self.place.segment
-            (self.place.pointers_at + ~index~) ~inner~_size
+            (self.place.pointers_at + ~index~) ~module~_size
             → IsOk result }
         ensures child { OpensChild result
             (call_in self.place (A.view arena.old).words (A.view arena.new).words) ~index~
-            (opened_struct ~inner~_size) }
+            (opened_struct ~module~_size) }
         ensures there { (x : Holder) (ws : List ℕ) (ts : Trees)
             → HasStruct (A.view arena.old).words x self.place ws ts
             → IfOk result (λ b.
-            HasStructPlace (A.view arena.new).words ~inner~_size b.place) }
+            HasStructPlace (A.view arena.new).words ~module~_size b.place) }
         ensures made { (x : Holder) (ws : List ℕ) (ts : Trees)
             → HasStruct (A.view arena.old).words x self.place ws ts
             → IfOk result (λ b. HasStruct (A.view arena.new).words
             (pointer_to self.place.segment (self.place.pointers_at + ~index~)) b.place
-            (struct_data (opened_struct ~inner~_size (tree_at ts ~index~)))
-            (struct_children (opened_struct ~inner~_size (tree_at ts ~index~)))) }
+            (struct_data (opened_struct ~module~_size (tree_at ts ~index~)))
+            (struct_children (opened_struct ~module~_size (tree_at ts ~index~)))) }
         ensures grows { (x : Holder) (ws : List ℕ) (ts : Trees)
             → HasStruct (A.view arena.old).words x self.place ws ts
             → Grows (A.view arena.old).words (A.view arena.new).words }
@@ -148,19 +148,19 @@ const PARTS: &str = "@there: What each call that writes needs and that has no ot
         ensures fits { WiderListFits
             (IsStored (A.view arena.old).words self.place.segment (self.place.pointers_at + ~index~))
             (A.view arena.old) self.place.segment (self.place.pointers_at + ~index~)
-            ~inner~_size
+            ~module~_size
             → IsOk result }
         ensures child { OpensChild result
             (call_in self.place (A.view arena.old).words (A.view arena.new).words) ~index~
-            (opened_list ~inner~_size) }
+            (opened_list ~module~_size) }
         ensures there { (x : Holder) (ws : List ℕ) (ts : Trees)
             → HasStruct (A.view arena.old).words x self.place ws ts
             → IfOk result (λ list.
-            HasStructsPlace (A.view arena.new).words ~inner~_size list.place) }
+            HasStructsPlace (A.view arena.new).words ~module~_size list.place) }
         ensures made { (x : Holder) (ws : List ℕ) (ts : Trees) (d q : ℕ) (es : Elements) (i : ℕ)
             (vs : List ℕ) (us : Trees)
             → HasStruct (A.view arena.old).words x self.place ws ts
-            → opened_list ~inner~_size (tree_at ts ~index~)
+            → opened_list ~module~_size (tree_at ts ~index~)
             ≡ Structs d q es
             → i < element_count es → struct_at es i ≡ Struct vs us
             → IfOk result (λ list. HasStruct (A.view arena.new).words

@@ -1,11 +1,9 @@
 //! Generates readers.
-ghost use Rattle.std.specs.Prelude.{◌≤◌};
 
-use crate::fields::{
-    begin_comment, element_size, is_in_data, list_kind, push_skip_comment, type_of,
-};
-use crate::imports::Kind;
-use crate::model::{Base, Default, Field, FieldKind, Node, NodeKind, Slot, Struct, Type};
+use crate::fields::{begin_comment, lacking, push_skip_comment, put_declared, put_slot, type_of};
+use crate::forms::BaseKind;
+use crate::imports::READERS;
+use crate::model::{Default, Field, FieldKind, Node, NodeKind, Slot, Struct};
 use crate::names::{VARIANT_WORDS, capitalized};
 use crate::output::{File, Output};
 use crate::templates;
@@ -28,7 +26,7 @@ impl<'m> Readers<'m> {
     pub fn new(alloc: Global, name: &'m str, nodes: &'m [Node]) -> Self {
         Readers {
             alloc,
-            output: Output::new(alloc, name, name, nodes, Kind::Readers),
+            output: Output::new(alloc, name, name, nodes, READERS),
             definitions: Text::new(alloc),
         }
     }
@@ -37,7 +35,7 @@ impl<'m> Readers<'m> {
     /// ending.
     pub fn write(mut self, stem: &str) -> Result<Vec<File>, AllocError> {
         self.definitions.push(templates::DEFINITIONS);
-        let nodes = self.output.nodes();
+        let nodes = self.output.nodes;
         for node in nodes {
             match &node.kind {
                 NodeKind::Struct(it) => self.write_struct(node, it),
@@ -89,7 +87,7 @@ impl<'m> Readers<'m> {
         let mut about = Text::new(self.alloc);
         about.push_all(&["Which member of ", node.full.as_str(), " is set"]);
         let members = member_names(self.alloc, it);
-        self.output.note(about.has_failed() || members.has_failed());
+        self.output.note(about.has_failed || members.has_failed);
         self.write_names(
             it.which.as_str(),
             "Which",
@@ -106,6 +104,8 @@ impl<'m> Readers<'m> {
             values.put("name", field.name.as_str());
             values.put("snake", field.snake.as_str());
             values.put("spec", field.spec.as_str());
+            values.put("line", "\n        ");
+            values.put_lines(templates::ANY);
             self.write_field(module, field, &mut values);
         }
     }
@@ -113,19 +113,21 @@ impl<'m> Readers<'m> {
     // Writes the call that says which member of a union is set.
     fn write_which(&mut self, module: &mut Module, node: &Node, it: &Struct) {
         let mut values = Values::new(self.alloc);
+        let offset = u64::from(it.tag_offset);
         values.put("full", node.full.as_str());
         values.put("spec", it.tag.as_str());
-        values.put_text(
-            "value",
-            field_bits_definition(self.alloc, it.tag_offset, 16),
-        );
-        values.put_number("index", u64::from(it.tag_offset));
+        values.put("module", it.which.as_str());
+        values.put_number("bit", offset.saturating_mul(16));
+        values.put_number("index", offset);
         values.put_number("count", u64::from(it.members));
+        module.put_path(it.which.as_str(), &mut values);
+        module.numbers.note(self.alloc, it.which.as_str());
+        values.put_lines(templates::ANY);
         values.put_lines(templates::WHICH);
         self.define(module, templates::DEFINITION, &values);
         module.begin();
         module.body.push("    /// Returns which member is set.\n");
-        write_enum_getter_named(self.alloc, module, it.which.as_str(), "Which", &mut values);
+        push_getter(module, templates::ENUM, &values);
     }
 
     // Writes the module of an enum.
@@ -150,7 +152,7 @@ impl<'m> Readers<'m> {
         values.put("full", about);
         values.put("type", of);
         values.put("module", name);
-        values.put("crate", self.output.name());
+        values.put("crate", self.output.name);
         values.put_number("count", names.len() as u64);
         put_variants(self.alloc, names, &mut values);
         module.body.push_filled(templates::NAMES, &values);
@@ -168,7 +170,7 @@ impl<'m> Readers<'m> {
                 let why = self.unreadable(slot);
                 if !why.is_empty() {
                     push_skip_comment(module, why, values);
-                } else if slot.of.lists > 0 || slot.of.base != Base::Void {
+                } else if !slot.of.is_void() {
                     self.write_slot(module, field, slot, values);
                 }
             }
@@ -185,118 +187,64 @@ impl<'m> Readers<'m> {
         module.begin();
         module.body.push_filled("    /// ~name~ :group\n", values);
         module.put_path(node.module.as_str(), values);
-        values.put_filled("call", "get_~snake~");
-        values.put_filled("gives", "~path~Reader<'a, A>");
-        module.push_signature(false, values);
-        module.body.push_filled(templates::GROUP, values);
+        values.put_lines(templates::GROUP_PARTS);
+        push_getter(module, templates::GROUP, values);
     }
 
     // Why a field has no getter; empty if it has one.
     fn unreadable(&self, slot: &Slot) -> &'static str {
-        match &slot.default {
-            Default::Unknown => return "its default value is unknown",
-            Default::Words(_) if slot.of.lists == 0 && slot.of.base != Base::Struct => {
-                return "it has a default value, and can lead to anything";
-            }
-            _ => {}
+        if matches!(slot.default, Default::Words(_))
+            && slot.of.lists == 0
+            && !matches!(slot.of.base.kind, BaseKind::Struct)
+        {
+            return "it has a default value, and can lead to anything";
         }
-        match (slot.of.base, self.output.node(slot.of.id)) {
-            (Base::Struct, None) => "its struct is unknown",
-            (Base::Enum, None) => "its enum is unknown",
-            (Base::Enum, Some(node)) => match &node.kind {
-                NodeKind::Enum(names) if !names.is_empty() => "",
-                _ => "its enum has no names",
-            },
-            _ => "",
-        }
+        lacking(&self.output, slot)
     }
 
-    // Writes the getter of a field that isn't a group.
+    // Writes the getter of a field that isn't a group, and of a pointer the call that says whether it is
+    // null.
     fn write_slot(&mut self, module: &mut Module, field: &Field, slot: &Slot, values: &mut Values) {
-        values.put_text("of", self.output.type_name(slot.of));
-        values.put_filled("about", "~full~.~name~");
-        values.put_filled("call", "get_~snake~");
-        values.put_number("index", u64::from(slot.offset));
+        let form = slot.of.form();
+        let has_default = !matches!(slot.default, Default::Zero);
+        put_slot(&self.output, slot, values);
         module.begin();
         begin_comment(module, field.ordinal, values);
-        if is_in_data(slot.of) {
-            put_number_field(self.alloc, slot, values);
-        } else {
-            put_pointer_field(self.alloc, slot, values);
-        }
-        self.define(module, templates::DEFINITION, values);
-        if is_in_data(slot.of) {
-            self.write_number(module, slot.of, values);
-            return;
-        }
-        if let Default::Words(words) = &slot.default {
-            let spec = field.default_spec.as_str();
-            self.define_default(module, spec, words.as_slice(), values);
-        }
-        self.write_pointer(module, slot.of, values);
-    }
-
-    // Adds the definition of the default value of a struct or a list. Puts its name as `default`, and
-    // the bytes as `literal`.
-    fn define_default(
-        &mut self,
-        module: &mut Module,
-        spec: &str,
-        words: &[u8],
-        values: &mut Values,
-    ) {
-        let mut default = Values::new(self.alloc);
-        default.put("spec", spec);
-        default.put("about", values.get("about"));
-        default.put_text("value", list_of_bytes(self.alloc, words));
-        self.define(module, templates::DEFAULT, &default);
-        values.put("default", spec);
-        values.put_text("literal", byte_string_literal(self.alloc, words));
-    }
-
-    // Writes the getter of a number, a bit or an enum, from its name on.
-    fn write_number(&self, module: &mut Module, of: Type, values: &mut Values) {
-        if of.base == Base::Enum {
-            if let Some(node) = self.output.node(of.id) {
-                if let NodeKind::Enum(names) = &node.kind {
-                    values.put_number("count", names.len() as u64);
-                }
-                let name = type_of(self.alloc, node);
-                write_enum_getter_named(
-                    self.alloc,
-                    module,
-                    node.module.as_str(),
-                    name.as_str(),
-                    values,
-                );
-            }
-            return;
-        }
-        values.put("gives", of.base.rust_type().unwrap_or("()"));
-        module.push_signature(false, values);
-        module
-            .body
-            .push_filled(number_getter_template(of.base), values);
-    }
-
-    // Writes the getter of a pointer, from its name on, and the call that says whether it is null.
-    fn write_pointer(&self, module: &mut Module, of: Type, values: &mut Values) {
-        if of.lists <= 1
-            && of.base == Base::Struct
-            && let Some(node) = self.output.node(of.id)
+        if form.is_declared
+            && let Some(node) = self.output.node(slot.of.id)
         {
-            module.put_path(node.module.as_str(), values);
+            put_declared(module, node, values);
         }
-        if of.lists > 0 {
-            write_list(module, of, values);
+        values.put_lines(if has_default { form.read_or } else { form.read });
+        self.define(module, templates::DEFINITION, values);
+        self.define_default(module, field.default_spec.as_str(), values);
+        let getter = if has_default {
+            form.getter_or
         } else {
-            write_pointer_getter(module, of.base, values);
+            form.getter
+        };
+        push_getter(module, getter, values);
+        if form.is_pointer {
+            values.put_lines(templates::HAS_PARTS);
+            module.body.push_filled(templates::HAS_ABOUT, values);
+            push_getter(module, templates::HAS, values);
         }
-        values.put_lines(templates::HAS_PARTS);
-        module.body.push_filled(templates::HAS_ABOUT, values);
-        module.push_signature(false, values);
-        module.body.push_filled(templates::HAS, values);
     }
+
+    // Adds the definition of the default value of a struct or a list, if there is one.
+    fn define_default(&mut self, module: &mut Module, spec: &str, values: &mut Values) {
+        values.put("default", spec);
+        if !spec.is_empty() {
+            module.specs.add(self.alloc, spec);
+            self.definitions.push_filled(templates::DEFAULT, values);
+        }
+    }
+}
+
+// Writes a call from its name on: `template` has its clauses and its body.
+fn push_getter(module: &mut Module, template: &str, values: &Values) {
+    module.push_signature("pub fn ~call~(", ") -> ~gives~\n", values);
+    module.body.push_filled(template, values);
 }
 
 // Puts the variants of an enum, what reads them, and their numbers. `values` has the enum's type and
@@ -306,11 +254,13 @@ fn put_variants(alloc: Global, names: &[String], values: &mut Values) {
     let mut variants = Text::new(alloc);
     let mut arms = Text::new(alloc);
     let mut numbers = Text::new(alloc);
-    for (i, name) in names.iter().enumerate() {
-        let row = variant_of(alloc, name.as_str(), i as u64, &mut taken, values);
+    let mut number = 0u64;
+    for name in names {
+        let row = variant_of(alloc, name.as_str(), number, &mut taken, values);
         variants.push_filled("    /// ~name~ @~number~\n    ~variant~,\n", &row);
         arms.push_filled("        ~number~ => Ok(~type~::~variant~),\n", &row);
         numbers.push_filled("~module~_number ~variant~ = ~number~\n", &row);
+        number = number.saturating_add(1);
     }
     values.put_text("variants", variants);
     values.put_text("arms", arms);
@@ -340,217 +290,21 @@ fn variant_of(
     row
 }
 
-// Puts the type and the definition of a field of a data section, and what reads it.
-fn put_number_field(alloc: Global, slot: &Slot, values: &mut Values) {
-    let base = slot.of.base;
-    values.put_number("bits", base.bits());
-    values.put_text(
-        "stored",
-        field_bits_definition(alloc, slot.offset, base.bits()),
-    );
-    values.put("rust", base.rust_type().unwrap_or("()"));
-    if let Default::Number { literal, bits } = &slot.default {
-        values.put("literal", literal.as_str());
-        values.put_number("mask", *bits);
-    }
-    values.put_lines(number_parts(slot));
-}
-
-// The parts of a field of a data section.
-fn number_parts(slot: &Slot) -> &'static str {
-    let is_bool = slot.of.base == Base::Bool;
-    let has_default = matches!(slot.default, Default::Number { .. });
-    match (is_bool, has_default) {
-        (true, true) => templates::BOOL_OR,
-        (true, false) => templates::BOOL_PARTS,
-        (false, true) => templates::NUMBER_OR,
-        (false, false) => templates::NUMBER_PARTS,
-    }
-}
-
-// The template of a number, or a bit.
-fn number_getter_template(base: Base) -> &'static str {
-    if base == Base::Bool {
-        return templates::BOOL;
-    }
-    if base.has_sign() {
-        return templates::SIGNED;
-    }
-    templates::UNSIGNED
-}
-
-// Puts the type and the definition of a field of a pointer section; of a text or data also what
-// reads it.
-fn put_pointer_field(alloc: Global, slot: &Slot, values: &mut Values) {
-    if let Default::Bytes(bytes) = &slot.default {
-        values.put_text("numbers", list_of_bytes(alloc, bytes.as_slice()));
-        values.put_text("literal", byte_string_literal(alloc, bytes.as_slice()));
-    }
-    let has_default = matches!(slot.default, Default::Bytes(_));
-    values.put_lines(pointer_parts(slot.of, has_default));
-    values.put_filled("read", bytes_read(has_default));
-}
-
-// The parts of a field of a pointer section.
-fn pointer_parts(of: Type, has_default: bool) -> &'static str {
-    match (of.lists, of.base, has_default) {
-        (0, Base::Text, true) => templates::TEXT_OR,
-        (0, Base::Text, false) => templates::TEXT_PARTS,
-        (0, Base::Data, true) => templates::DATA_OR,
-        (0, Base::Data, false) => templates::DATA_PARTS,
-        _ => templates::TREE_PARTS,
-    }
-}
-
-// What reads a text or data.
-fn bytes_read(has_default: bool) -> &'static str {
-    if has_default {
-        templates::BYTES_OR
-    } else {
-        templates::BYTES
-    }
-}
-
 // The names of a union's members, by their numbers.
 fn member_names(alloc: Global, it: &Struct) -> Names {
     let mut names = Names::new(alloc);
     for number in 0..it.members {
-        if let Some(field) = it.fields.iter().find(|field| field.discriminant == number) {
-            names.add(alloc, field.name.as_str());
-        }
+        add_member(alloc, it, number, &mut names);
     }
     names
 }
 
-// The definition of a field of a data section: `width` bits, from the field at `offset` on.
-fn field_bits_definition(alloc: Global, offset: u32, width: u64) -> Text
-    requires { width ≤ 64 }
-{
-    let mut text = Text::new(alloc);
-    text.push("bits_in ");
-    text.push_number(u64::from(offset) * width);
-    text.push(" ");
-    text.push_number(width);
-    text.push(" t");
-    text
-}
-
-// Writes the getter of the enum `name` of the module `of`, from the getter's name on.
-fn write_enum_getter_named(
-    alloc: Global,
-    module: &mut Module,
-    of: &str,
-    name: &str,
-    values: &mut Values,
-) {
-    module.numbers.note(alloc, of);
-    module.put_path(of, values);
-    values.put("module", of);
-    values.put("enum", name);
-    values.put_filled("gives", "Result<~path~~enum~, NotInSchema>");
-    module.push_signature(false, values);
-    module.body.push_filled(templates::ENUM, values);
-}
-
-// Writes the getter of a text, data, a struct, a capability, or any pointer, from its name on.
-fn write_pointer_getter(module: &mut Module, base: Base, values: &mut Values) {
-    values.put_filled("gives", pointer_getter_result(base));
-    module.push_signature(
-        matches!(base, Base::Text | Base::Data | Base::Struct),
-        values,
-    );
-    let has_default = !values.get("default").is_empty();
-    module
-        .body
-        .push_filled(pointer_getter_template(base, has_default), values);
-}
-
-// What such a getter returns.
-fn pointer_getter_result(base: Base) -> &'static str {
-    match base {
-        Base::Text | Base::Data => "Result<&'a [u8], ErrorKind>",
-        Base::Struct => "Result<~path~Reader<'a, A>, ErrorKind>",
-        Base::Interface => "Result<u32, ErrorKind>",
-        _ => "PointerReader<'a, A>",
+// Adds the name of the member of a union with this number.
+fn add_member(alloc: Global, it: &Struct, number: u16, names: &mut Names) {
+    for field in it.fields.iter() {
+        if field.discriminant == number {
+            names.add(alloc, field.name.as_str());
+            return;
+        }
     }
-}
-
-// The template of such a getter.
-fn pointer_getter_template(base: Base, has_default: bool) -> &'static str {
-    match base {
-        Base::Struct if has_default => templates::STRUCT_OR,
-        Base::Text => templates::TEXT,
-        Base::Data => templates::DATA,
-        Base::Struct => templates::STRUCT,
-        Base::Interface => templates::CAPABILITY,
-        _ => templates::POINTER,
-    }
-}
-
-// Writes the getter of a list, from its name on.
-fn write_list(module: &mut Module, of: Type, values: &mut Values) {
-    let (function, reader) = list_kind(of);
-    values.put("size", element_size(of));
-    values.put("get", function);
-    values.put("reader", reader);
-    values.put("element", of.base.rust_type().unwrap_or("()"));
-    values.put_lines(list_parts(function));
-    let has_default = !values.get("default").is_empty();
-    values.put_filled(
-        "end",
-        list_getter_end(function == "get_structs", has_default),
-    );
-    module.push_signature(true, values);
-    module.body.push_filled(list_template(has_default), values);
-}
-
-// The template of such a getter.
-fn list_template(has_default: bool) -> &'static str {
-    if has_default {
-        templates::LIST_OR
-    } else {
-        templates::LIST
-    }
-}
-
-// How such a getter ends.
-fn list_getter_end(of_structs: bool, has_default: bool) -> &'static str {
-    match (of_structs, has_default) {
-        (true, false) => templates::STRUCT_LIST,
-        (true, true) => templates::STRUCT_LIST_OR,
-        (false, false) => templates::OTHER_LIST,
-        (false, true) => templates::OTHER_LIST_OR,
-    }
-}
-
-// What the getter of a list returns, and how that names the list.
-fn list_parts(function: &str) -> &'static str {
-    match function {
-        "get_structs" => templates::STRUCTS_PARTS,
-        "get_numbers" => templates::NUMBERS_PARTS,
-        _ => templates::POINTERS_PARTS,
-    }
-}
-
-// Bytes as a list of the prover's.
-fn list_of_bytes(alloc: Global, bytes: &[u8]) -> Text {
-    let mut numbers = Text::new(alloc);
-    for byte in bytes {
-        numbers.push_number(u64::from(*byte));
-        numbers.push(" ∷ ");
-    }
-    numbers.push("[]");
-    numbers
-}
-
-// Bytes as a literal of Rust's, in the layout of `rt fmt` after `let default =`.
-fn byte_string_literal(alloc: Global, bytes: &[u8]) -> Text {
-    let mut literal = Text::new(alloc);
-    let fits = bytes.len() <= 18;
-    literal.push(if fits { " b\"" } else { "\n            b\"" });
-    for byte in bytes {
-        literal.push_byte(*byte);
-    }
-    literal.push("\"");
-    literal
 }

@@ -1,7 +1,8 @@
 //! Reads the schema compiler's request, a `CodeGeneratorRequest`, by generated readers.
 
 use crate::defaults::copied;
-use crate::model::{Base, Default, Field, FieldKind, Node, NodeKind, Slot, Struct, Type};
+use crate::forms::{BaseKind, base_of};
+use crate::model::{Default, Field, FieldKind, Node, NodeKind, Slot, Struct, Type};
 use crate::noted::Noted;
 use crate::text::Text;
 use capnp_arena_traits::arena::ReaderArena;
@@ -11,7 +12,7 @@ use capnp_words::read_limiter::ReadLimiter;
 use schema_reading::{
     code_generator_request, code_generator_request_requested_file, enumerant, field, field_ordinal,
     field_ordinal_which, field_slot, field_which, node, node_struct, node_which, type_, type_which,
-    value_, value_which,
+    value_,
 };
 
 /// The most lists of lists that a type is read of.
@@ -32,11 +33,11 @@ pub fn read_request<A: ReaderArena>(
     lim: &mut ReadLimiter,
     noted: &mut Noted,
 ) -> Request {
-    let mut file = String::new(noted.alloc());
+    let mut file = String::new(noted.alloc);
     if let Some(files) = noted.ok_or_note(from.get_requested_files(lim)) {
         file = read_file(files, lim, noted);
     }
-    let mut nodes = Vec::new(noted.alloc());
+    let mut nodes = Vec::new(noted.alloc);
     if let Some(declared) = noted.ok_or_note(from.get_nodes(lim)) {
         read_nodes(declared, &mut nodes, lim, noted);
     }
@@ -50,7 +51,7 @@ fn read_file<A: ReaderArena>(
     noted: &mut Noted,
 ) -> String {
     if files.len() == 0 {
-        return String::new(noted.alloc());
+        return String::new(noted.alloc);
     }
     let name = noted.text_or_note(files.get(0).get_filename(lim));
     noted.copy_text(name)
@@ -82,7 +83,7 @@ fn read_node<A: ReaderArena>(
         scope: from.get_scope_id(),
         full: noted.copy_text(full),
         snake: noted.snake_case(full),
-        module: String::new(noted.alloc()),
+        module: String::new(noted.alloc),
         kind,
     }
 }
@@ -122,7 +123,7 @@ fn read_enum<A: ReaderArena>(
     lim: &mut ReadLimiter,
     noted: &mut Noted,
 ) -> Vec<String> {
-    let mut names = Vec::new(noted.alloc());
+    let mut names = Vec::new(noted.alloc);
     if let Some(enumerants) = noted.ok_or_note(from.get_enum().get_enumerants(lim)) {
         read_enumerants(enumerants, &mut names, lim, noted);
     }
@@ -149,7 +150,7 @@ fn read_struct<A: ReaderArena>(
     lim: &mut ReadLimiter,
     noted: &mut Noted,
 ) -> Struct {
-    let mut fields = Vec::new(noted.alloc());
+    let mut fields = Vec::new(noted.alloc);
     if let Some(declared) = noted.ok_or_note(from.get_fields(lim)) {
         read_fields(declared, &mut fields, lim, noted);
     }
@@ -159,8 +160,8 @@ fn read_struct<A: ReaderArena>(
         pointers: from.get_pointer_count(),
         members: from.get_discriminant_count(),
         tag_offset: from.get_discriminant_offset(),
-        which: String::new(noted.alloc()),
-        tag: String::new(noted.alloc()),
+        which: String::new(noted.alloc),
+        tag: String::new(noted.alloc),
         fields,
     }
 }
@@ -188,9 +189,9 @@ fn read_field<A: ReaderArena>(
     let kind = read_field_kind(from, lim, noted);
     Field {
         name: noted.copy_text(name),
-        snake: String::new(noted.alloc()),
-        spec: String::new(noted.alloc()),
-        default_spec: String::new(noted.alloc()),
+        snake: String::new(noted.alloc),
+        spec: String::new(noted.alloc),
+        default_spec: String::new(noted.alloc),
         ordinal: ordinal_of(from.get_ordinal()),
         discriminant: from.get_discriminant_value(),
         kind,
@@ -228,7 +229,7 @@ fn read_slot<A: ReaderArena>(
         return FieldKind::Unknown;
     };
     let default = match noted.ok_or_note(from.get_default_value(lim)) {
-        Some(value) => read_default(value, lim, noted),
+        Some(value) => read_default(value, of, lim, noted),
         None => Default::Zero,
     };
     FieldKind::Slot(Slot {
@@ -258,108 +259,83 @@ fn read_type<A: ReaderArena>(
     for lists in 0..MAX_LISTS {
         let which = inner.which().ok()?;
         if !matches!(which, type_which::Which::List) {
-            let base = base_of(which);
-            let id = type_id(inner, base);
-            return Some(Type { lists, base, id });
+            return Some(type_of(inner, which, lists));
         }
         inner = noted.ok_or_note(inner.get_list().get_element_type(lim))?;
     }
     None
 }
 
-// The base type that `which` names.
-fn base_of(which: type_which::Which) -> Base {
-    match which {
-        type_which::Which::Void => Base::Void,
-        type_which::Which::Bool => Base::Bool,
-        type_which::Which::Int8 => Base::Int8,
-        type_which::Which::Int16 => Base::Int16,
-        type_which::Which::Int32 => Base::Int32,
-        type_which::Which::Int64 => Base::Int64,
-        type_which::Which::Uint8 => Base::UInt8,
-        type_which::Which::Uint16 => Base::UInt16,
-        type_which::Which::Uint32 => Base::UInt32,
-        type_which::Which::Uint64 => Base::UInt64,
-        type_which::Which::Float32 => Base::Float32,
-        type_which::Which::Float64 => Base::Float64,
-        type_which::Which::Text => Base::Text,
-        type_which::Which::Data => Base::Data,
-        type_which::Which::Enum => Base::Enum,
-        type_which::Which::Struct => Base::Struct,
-        type_which::Which::Interface => Base::Interface,
-        type_which::Which::List | type_which::Which::AnyPointer => Base::AnyPointer,
+// The type that `which` names, in this many lists.
+fn type_of<A: ReaderArena>(
+    from: type_::Reader<'_, A>,
+    which: type_which::Which,
+    lists: u32,
+) -> Type {
+    Type {
+        lists,
+        base: base_of(which as usize),
+        id: type_id(from, which),
     }
 }
 
 // The id of a type's declaration; 0 if it has none.
-fn type_id<A: ReaderArena>(from: type_::Reader<'_, A>, base: Base) -> u64 {
-    match base {
-        Base::Enum => from.get_enum().get_type_id(),
-        Base::Struct => from.get_struct().get_type_id(),
-        Base::Interface => from.get_interface().get_type_id(),
+fn type_id<A: ReaderArena>(from: type_::Reader<'_, A>, which: type_which::Which) -> u64 {
+    match which {
+        type_which::Which::Enum => from.get_enum().get_type_id(),
+        type_which::Which::Struct => from.get_struct().get_type_id(),
+        type_which::Which::Interface => from.get_interface().get_type_id(),
         _ => 0,
     }
 }
 
-// Reads a default value.
+// Reads the default value of a field of this type.
 fn read_default<A: ReaderArena>(
     from: value_::Reader<'_, A>,
+    of: Type,
     lim: &mut ReadLimiter,
     noted: &mut Noted,
 ) -> Default {
-    match from.which() {
-        Ok(value_which::Which::Text) => bytes_default(from.get_text(lim), noted),
-        Ok(value_which::Which::Data) => bytes_default(from.get_data(lim), noted),
-        Ok(value_which::Which::List) => words_default(from.get_list(), lim, noted),
-        Ok(value_which::Which::Struct) => words_default(from.get_struct(), lim, noted),
-        Ok(value_which::Which::AnyPointer) => words_default(from.get_any_pointer(), lim, noted),
-        Ok(which) => number_default(value_bits(from, which), signed_value(from, which), noted),
-        Err(_) => Default::Unknown,
+    if from.which().is_err() {
+        return Default::Unknown;
+    }
+    if of.lists > 0 {
+        return words_default(from.get_list(), lim, noted);
+    }
+    match of.base.kind {
+        BaseKind::Text => bytes_default(from.get_text(lim), noted),
+        BaseKind::Data => bytes_default(from.get_data(lim), noted),
+        BaseKind::Struct => words_default(from.get_struct(), lim, noted),
+        BaseKind::Pointer => words_default(from.get_any_pointer(), lim, noted),
+        _ => number_default(value_bits(from, of.base.bits), of.base.largest, noted),
     }
 }
 
-// The bits of a number; 1 for `true`.
-fn value_bits<A: ReaderArena>(from: value_::Reader<'_, A>, which: value_which::Which) -> u64 {
-    match which {
-        value_which::Which::Bool => u64::from(from.get_bool()),
-        value_which::Which::Int8 => u64::from(from.get_int8().cast_unsigned()),
-        value_which::Which::Int16 => u64::from(from.get_int16().cast_unsigned()),
-        value_which::Which::Int32 => u64::from(from.get_int32().cast_unsigned()),
-        value_which::Which::Int64 => from.get_int64().cast_unsigned(),
-        value_which::Which::Uint8 => u64::from(from.get_uint8()),
-        value_which::Which::Uint16 => u64::from(from.get_uint16()),
-        value_which::Which::Uint32 => u64::from(from.get_uint32()),
-        value_which::Which::Uint64 => from.get_uint64(),
-        value_which::Which::Float32 => u64::from(from.get_float32()),
-        value_which::Which::Float64 => from.get_float64(),
-        value_which::Which::Enum => u64::from(from.get_enum()),
+// The bits of a number of this many bits; 1 for `true`. Members of a union that have the same size are in
+// the same place.
+fn value_bits<A: ReaderArena>(from: value_::Reader<'_, A>, bits: u64) -> u64 {
+    match bits {
+        1 => u64::from(from.get_bool()),
+        8 => u64::from(from.get_uint8()),
+        16 => u64::from(from.get_uint16()),
+        32 => u64::from(from.get_uint32()),
+        64 => from.get_uint64(),
         _ => 0,
     }
 }
 
-// A number that has a sign.
-fn signed_value<A: ReaderArena>(
-    from: value_::Reader<'_, A>,
-    which: value_which::Which,
-) -> Option<i64> {
-    match which {
-        value_which::Which::Int8 => Some(i64::from(from.get_int8())),
-        value_which::Which::Int16 => Some(i64::from(from.get_int16())),
-        value_which::Which::Int32 => Some(i64::from(from.get_int32())),
-        value_which::Which::Int64 => Some(from.get_int64()),
-        _ => None,
-    }
-}
-
-// The default of a number with these bits.
-fn number_default(bits: u64, signed: Option<i64>, noted: &mut Noted) -> Default {
+// The default of a number with these bits. One above the largest number is below zero.
+fn number_default(bits: u64, largest: u64, noted: &mut Noted) -> Default {
     if bits == 0 {
         return Default::Zero;
     }
-    let mut literal = Text::new(noted.alloc());
-    match signed {
-        Some(value) => literal.push_signed(value),
-        None => literal.push_number(bits),
+    let mut literal = Text::new(noted.alloc);
+    if bits > largest {
+        let all = largest.saturating_mul(2).saturating_add(1);
+        literal.push("-");
+        literal.push_number(bits.wrapping_neg() & all);
+    } else {
+        literal.push_number(bits);
     }
     let literal = noted.string_or_note(literal);
     Default::Number { literal, bits }
@@ -383,7 +359,7 @@ fn words_default<A: ReaderArena>(
     if from.is_null() {
         return Default::Zero;
     }
-    match noted.ok_or_note(copied(noted.alloc(), from, lim)) {
+    match noted.ok_or_note(copied(noted.alloc, from, lim)) {
         Some(words) => Default::Words(words),
         None => Default::Zero,
     }

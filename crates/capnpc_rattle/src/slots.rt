@@ -1,6 +1,6 @@
 //! The parts of a struct that the fields of a group are.
 
-use crate::model::{Base, FieldKind, Struct, Type};
+use crate::model::{FieldKind, Struct, Type};
 use crate::text::{Names, Text};
 use std::alloc::Global;
 
@@ -30,19 +30,19 @@ fn note_slot(alloc: Global, kind: &str, offset: u32, slots: &mut Names) {
 
 // What the prover calls the part of a struct that a field is; nothing for one without a place.
 fn slot_kind(of: Type) -> &'static str {
+    if of.is_void() {
+        return "";
+    }
     if of.lists > 0 {
         return "Pointer";
     }
-    match of.base {
-        Base::Void => "",
-        base => match base.bits() {
-            1 => "Bit",
-            8 => "Byte",
-            16 => "TwoBytes",
-            32 => "FourBytes",
-            64 => "EightBytes",
-            _ => "Pointer",
-        },
+    match of.base.bits {
+        1 => "Bit",
+        8 => "Byte",
+        16 => "TwoBytes",
+        32 => "FourBytes",
+        64 => "EightBytes",
+        _ => "Pointer",
     }
 }
 
@@ -69,13 +69,13 @@ pub fn slot_list(alloc: Global, slots: &Names) -> Text {
     list
 }
 
-/// The parts of a struct as the items of an array.
+/// The parts of a struct as the items of an array, with a `;` between them.
 pub fn slot_items(alloc: Global, slots: &Names) -> Text {
     let mut items = Text::new(alloc);
     for slot in slots.as_slice() {
         let (kind, offset) = slot.split_once(' ').unwrap_or((slot.as_str(), ""));
         if !items.as_str().is_empty() {
-            items.push(", ");
+            items.push(";");
         }
         items.push_all(&["Slot::", kind, "(", offset, ")"]);
     }

@@ -1,4 +1,6 @@
-//! The text of generated readers. A word between two `~` stands for what `fill` puts there.
+//! The text of generated readers. A word between two `~` stands for what `push_filled` puts there.
+
+use crate::text::Lines;
 
 /// What each struct and group has.
 pub const READER: &str = "/// ~full~.
@@ -30,8 +32,10 @@ pub const ROOT: &str = "    /// Returns the root of a message.
             → Holds S 0 0 1 → IsStructOrNull t → Means S (levels (A.nesting arena.now)) 0 0 t c
             → Affords (A.charging arena.now) lim.old (1 + c) → IsOk result }
     {
-        let reader = value::root(arena, lim)?;
-        Ok(Reader { reader })
+        match value::root(arena, lim) {
+            Ok(reader) => Ok(Reader { reader }),
+            Err(k) => Err(k),
+        }
     }
 ";
 
@@ -97,72 +101,25 @@ pub const SIGNED: &str =
     }
 ";
 
-/// What a number puts.
-pub const NUMBER_PARTS: &str = "type=ℕ
-value=~stored~
-read=value::get_number(&self.reader, ~index~)";
+/// What each call puts.
+pub const ANY: Lines = "about=~full~.~name~
+call=get_~snake~
+params=&self";
 
-/// What a number with a default value puts.
-pub const NUMBER_OR: &str = "type=ℕ
-value=bit_xor (~stored~) ~mask~
-read=value::get_number_or::<A, ~rust~>(&self.reader, ~index~, ~literal~)";
-
-/// What a bit puts.
-pub const BOOL_PARTS: &str = "type=ℕ
-sense=≡
-value=~stored~
-read=value::get_bool(&self.reader, ~index~)";
-
-/// What a bit that is set by default puts.
-pub const BOOL_OR: &str = "type=ℕ
-sense=≢
-value=~stored~
-read=value::get_bool_or(&self.reader, ~index~, true)";
-
-/// What a text puts.
-pub const TEXT_PARTS: &str = "type=List ℕ
-kind=text
-value=text_bytes (child ~index~ t)";
-
-/// What a text with a default value puts.
-pub const TEXT_OR: &str = "type=List ℕ
-kind=text
-value=text_or (~numbers~) (child ~index~ t)";
-
-/// What data puts.
-pub const DATA_PARTS: &str = "type=List ℕ
-kind=data
-value=list_numbers (child ~index~ t)";
-
-/// What data with a default value puts.
-pub const DATA_OR: &str = "type=List ℕ
-kind=data
-value=data_or (~numbers~) (child ~index~ t)";
-
-/// What another pointer puts.
-pub const TREE_PARTS: &str = "type=Tree
-value=child ~index~ t";
-
-/// What a list of structs puts.
-pub const STRUCTS_PARTS: &str = "list=r.list.reader
-gives=Result<~path~Readers<'a, A>, ErrorKind>";
-
-/// What a list of numbers puts.
-pub const NUMBERS_PARTS: &str = "list=r.reader
-gives=Result<~reader~<'a, A, ~element~>, ErrorKind>";
-
-/// What another list puts.
-pub const POINTERS_PARTS: &str = "list=r.reader
-gives=Result<~reader~<'a, A>, ErrorKind>";
+/// What a group puts.
+pub const GROUP_PARTS: Lines = "gives=~path~Reader<'a, A>";
 
 /// What the call puts that says which member of a union is set.
-pub const WHICH: &str = "about=Which member of ~full~ is set.
+pub const WHICH: Lines = "about=Which member of ~full~ is set.
 type=ℕ
+value=bits_in ~bit~ 16 t
 read=value::get_number(&self.reader, ~index~)
-call=which";
+call=which
+gives=Result<~path~Which, NotInSchema>";
 
 /// What the call puts that says whether a pointer is set.
-pub const HAS_PARTS: &str = "call=has_~snake~
+pub const HAS_PARTS: Lines = "call=has_~snake~
+params=&self
 gives=bool";
 
 /// The comment of this call.
@@ -210,7 +167,8 @@ pub const TEXT: &str =
             → Affords start.charging lim.old (child_cost A.ReaderArena shows ~index~)
             → IsOk result }
     {
-~read~    }
+        ~read~
+    }
 ";
 
 /// Data.
@@ -223,16 +181,8 @@ pub const DATA: &str =
             → Affords start.charging lim.old (child_cost A.ReaderArena shows ~index~)
             → IsOk result }
     {
-~read~    }
-";
-
-/// How a text or data is returned.
-pub const BYTES: &str = "        value::get_~kind~(&self.reader, ~index~, lim)
-";
-
-/// How a text or data with a default value is returned.
-pub const BYTES_OR: &str = "        let default =~literal~;
-        value::get_~kind~_or(&self.reader, ~index~, default, lim)
+        ~read~
+    }
 ";
 
 /// A struct.
@@ -246,8 +196,10 @@ pub const STRUCT: &str =
             → Affords start.charging lim.old (child_cost A.ReaderArena shows ~index~)
             → IsOk result }
     {
-        let reader = value::get_struct(&self.reader, ~index~, lim)?;
-        Ok(~path~Reader { reader })
+        match value::get_struct(&self.reader, ~index~, lim) {
+            Ok(reader) => Ok(~path~Reader { reader }),
+            Err(k) => Err(k),
+        }
     }
 ";
 
@@ -300,19 +252,7 @@ pub const LIST_OR: &str =
             → FitsSize ~size~ d → IsOk result }
     {
         let default =~literal~;
-~end~";
-
-/// How a list of structs with a default value is returned.
-pub const STRUCT_LIST_OR: &str =
-    "        match list::get_structs_or(&self.reader, ~index~, default, lim) {
-            Ok(list) => Ok(~path~Readers { list }),
-            Err(k) => Err(k),
-        }
-    }
-";
-
-/// How another list with a default value is returned.
-pub const OTHER_LIST_OR: &str = "        list::~get~_or(&self.reader, ~index~, default, lim)
+        ~read~
     }
 ";
 
@@ -327,16 +267,7 @@ pub const LIST: &str =
             → Affords start.charging lim.old (child_cost A.ReaderArena shows ~index~)
             → IsOk result }
     {
-~end~";
-
-/// How a list of structs is returned.
-pub const STRUCT_LIST: &str = "        let list = list::get_structs(&self.reader, ~index~, lim)?;
-        Ok(~path~Readers { list })
-    }
-";
-
-/// How another list is returned.
-pub const OTHER_LIST: &str = "        list::~get~(&self.reader, ~index~, lim)
+        ~read~
     }
 ";
 
@@ -402,8 +333,8 @@ abbrev pub ~spec~ : Tree → ~type~
 /// The definition of the default value of a struct or a list.
 pub const DEFAULT: &str = "
 -- The default value of ~about~, as a message
-abbrev pub ~spec~ : List ℕ
-~spec~ = ~value~
+abbrev pub ~default~ : List ℕ
+~default~ = ~numbers~
 ";
 
 /// What is before the definitions of the fields.

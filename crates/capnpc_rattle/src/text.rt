@@ -3,11 +3,15 @@
 
 use std::alloc::{AllocError, Global};
 
+/// Words, and a template for what each stands for: in each line a word, `=`, and its template.
+pub type Lines = &'static str;
+
 /// A text as it grows.
 #[derive(Drop)]
 pub struct Text {
     text: String,
-    has_failed: bool,
+    /// Whether memory was lacking for a part of it.
+    pub has_failed: bool,
 }
 
 impl Text {
@@ -53,13 +57,6 @@ impl Text {
         }
     }
 
-    /// Appends the digits of a number, and its sign if that is `-`.
-    pub fn push_signed(&mut self, number: i64) {
-        if write!(self.text, "{number}").is_err() {
-            self.has_failed = true;
-        }
-    }
-
     /// Appends `\x` and the two digits of a byte.
     pub fn push_byte(&mut self, byte: u8) {
         if write!(self.text, "\\x{byte:02x}").is_err() {
@@ -79,14 +76,21 @@ impl Text {
         self.note(values.has_failed);
     }
 
+    /// Appends items, which have a `;` between them, with commas in its place.
+    pub fn push_joined(&mut self, items: &str) {
+        let mut is_first = true;
+        for item in items.split(';') {
+            if !is_first {
+                self.push(", ");
+            }
+            self.push(item);
+            is_first = false;
+        }
+    }
+
     /// Notes that memory was lacking elsewhere.
     pub fn note(&mut self, has_failed: bool) {
         self.has_failed = self.has_failed || has_failed;
-    }
-
-    /// Whether memory was lacking for a part of it.
-    pub fn has_failed(&self) -> bool {
-        self.has_failed
     }
 
     /// The text.
@@ -108,7 +112,7 @@ impl Text {
 #[derive(Drop)]
 struct Value {
     word: &'static str,
-    text: String,
+    text: Text,
 }
 
 /// What stands for the words of templates.
@@ -131,13 +135,9 @@ impl Values {
 
     /// Adds a word that stands for what is in `text`, from now on.
     pub fn put_text(&mut self, word: &'static str, text: Text) {
-        match text.into_string() {
-            Ok(text) => {
-                if self.values.push(Value { word, text }).is_err() {
-                    self.has_failed = true;
-                }
-            }
-            Err(AllocError) => self.has_failed = true,
+        let has_failed = text.has_failed;
+        if self.values.push(Value { word, text }).is_err() || has_failed {
+            self.has_failed = true;
         }
     }
 
@@ -155,28 +155,25 @@ impl Values {
         self.put_text(word, text);
     }
 
-    /// Adds a word that stands for a template, filled with the words before it.
-    pub fn put_filled(&mut self, word: &'static str, template: &str) {
-        let mut text = Text::new(self.alloc);
-        text.push_filled(template, self);
-        self.put_text(word, text);
-    }
-
-    /// Adds words: each line is a word, `=`, and a template, which is filled with the words before it.
-    pub fn put_lines(&mut self, lines: &'static str) {
+    /// Adds words. Each template is filled with the words before it.
+    pub fn put_lines(&mut self, lines: Lines) {
         for line in lines.lines() {
             if let Some((word, template)) = line.split_once('=') {
-                self.put_filled(word, template);
+                let mut text = Text::new(self.alloc);
+                text.push_filled(template, self);
+                self.put_text(word, text);
             }
         }
     }
 
     /// What stands for a word; nothing if it isn't there.
     pub fn get(&self, word: &str) -> &str {
-        match self.values.iter().rev().find(|it| it.word == word) {
-            Some(value) => value.text.as_str(),
-            None => "",
+        for value in self.values.iter().rev() {
+            if value.word == word {
+                return value.text.as_str();
+            }
         }
+        ""
     }
 }
 
@@ -184,7 +181,8 @@ impl Values {
 #[derive(Drop)]
 pub struct Names {
     names: Vec<String>,
-    has_failed: bool,
+    /// Whether memory was lacking for a name.
+    pub has_failed: bool,
 }
 
 impl Names {
@@ -196,11 +194,6 @@ impl Names {
         }
     }
 
-    /// Whether memory was lacking for a name.
-    pub fn has_failed(&self) -> bool {
-        self.has_failed
-    }
-
     /// The names.
     pub fn as_slice(&self) -> &[String] {
         self.names.as_slice()
@@ -208,20 +201,23 @@ impl Names {
 
     /// Whether a name is in the list.
     pub fn contains(&self, name: &str) -> bool {
-        self.names.iter().any(|it| it.as_str() == name)
+        for known in self.names.iter() {
+            if known.as_str() == name {
+                return true;
+            }
+        }
+        false
     }
 
     /// Adds a name.
     pub fn add(&mut self, alloc: Global, name: &str) {
-        let mut text = Text::new(alloc);
-        text.push(name);
-        match text.into_string() {
+        match String::from_str(alloc, name) {
             Ok(name) => {
                 if self.names.push(name).is_err() {
                     self.has_failed = true;
                 }
             }
-            Err(AllocError) => self.has_failed = true,
+            Err(_) => self.has_failed = true,
         }
     }
 
@@ -252,11 +248,13 @@ impl Names {
 
     /// Appends the names to a text, with commas between them.
     pub fn list(&self, to: &mut Text) {
-        for (i, name) in self.names.iter().enumerate() {
-            if i > 0 {
+        let mut is_first = true;
+        for name in self.names.iter() {
+            if !is_first {
                 to.push(", ");
             }
             to.push(name.as_str());
+            is_first = false;
         }
         to.note(self.has_failed);
     }
@@ -264,5 +262,10 @@ impl Names {
 
 // Whether a name is one of these words.
 fn is_word(words: &[&'static str], name: &str) -> bool {
-    words.iter().any(|word| *word == name)
+    for word in words {
+        if *word == name {
+            return true;
+        }
+    }
+    false
 }

@@ -12,7 +12,8 @@ const BOTH: &str = "use typed_reading::list;\nuse typed_reading::value;\n";
 /// A module as it grows.
 #[derive(Drop)]
 pub struct Module {
-    alloc: Global,
+    /// Where memory comes from.
+    pub alloc: Global,
     /// Its name.
     pub name: Text,
     /// Its text, without its imports.
@@ -50,83 +51,54 @@ impl Module {
         }
     }
 
-    /// Appends the first line of a call, or its first lines if one would have over 100 columns.
-    /// `values` has the name of the call, `call`, and what it returns, `gives`.
-    pub fn push_signature(&mut self, has_limiter: bool, values: &Values) {
+    /// Appends the first line of a call, or its first lines if one would have over 100 columns: `params`
+    /// in `values`, with a `;` between them, and around them what these templates say.
+    pub fn push_signature(&mut self, start: &str, end: &str, values: &Values) {
+        self.push_items("    ", start, "params", end, 100, values);
+    }
+
+    /// Appends a statement of a body: the items that a word of `values` stands for, with a `;` between
+    /// them, and around them what these templates say.
+    pub fn push_statement(&mut self, start: &str, word: &str, end: &str, values: &Values) {
+        self.push_items("        ", start, word, end, 60, values);
+    }
+
+    // Appends such items: in one line if they have at most `width` columns and the line has at most 100,
+    // and otherwise a line for each.
+    fn push_items(
+        &mut self,
+        indent: &str,
+        start: &str,
+        word: &str,
+        end: &str,
+        width: usize,
+        values: &Values,
+    ) {
+        let items = values.get(word);
         let mut line = Text::new(self.alloc);
-        line.push_filled(signature_template(has_limiter), values);
-        if line.as_str().len() <= 101 {
-            self.body.push(line.as_str());
-        } else {
-            self.body
-                .push_filled(wrapped_signature_template(has_limiter), values);
-        }
-    }
-
-    /// Appends the first line of a builder's call, with these parameters. `values` has its `start` and
-    /// its `end`.
-    pub fn push_builder_signature(&mut self, params: &str, values: &Values) {
-        let mut start = Text::new(self.alloc);
-        start.push_filled("~start~", values);
-        let mut end = Text::new(self.alloc);
-        end.push_filled("~end~", values);
-        end.push("\n");
-        self.push_items("    ", start.as_str(), params, end.as_str(), 100);
-    }
-
-    /// Appends a call, which is a statement of a body: what is before it, the function, the arguments
-    /// with `, ` between them, and what is after it.
-    pub fn push_call(&mut self, before: &str, function: &str, args: &str, after: &str) {
-        let mut start = Text::new(self.alloc);
-        start.push(before);
-        start.push(function);
-        self.push_items("        ", start.as_str(), args, after, 60);
-    }
-
-    // Appends items in parentheses: in one line if they have at most `width` columns and the line has at
-    // most 100, and otherwise a line for each.
-    fn push_items(&mut self, indent: &str, start: &str, items: &str, end: &str, width: usize) {
-        let mut line = Text::new(self.alloc);
-        line.push_all(&[indent, start, "(", items, ")", end]);
-        let first = line.as_str().lines().next().unwrap_or("");
-        if items.len() <= width && first.len() <= 100 {
+        line.push(indent);
+        line.push_filled(start, values);
+        let head = line.as_str().len();
+        line.push_joined(items);
+        let joined = line.as_str().len().saturating_sub(head);
+        line.push_filled(end, values);
+        if joined <= width && line.as_str().len() <= 101 {
             self.body.append(&line);
             return;
         }
-        self.body.push_all(&[indent, start, "(\n"]);
+        self.body.push(indent);
+        self.body.push_filled(start, values);
         self.push_item_lines(indent, items);
-        self.body.push_all(&[indent, ")", end]);
+        self.body.push(indent);
+        self.body.push_filled(end, values);
     }
 
-    // Appends a line for each item. A `, ` between `<` and `>` doesn't end an item.
+    // Ends a line, and appends a line for each item.
     fn push_item_lines(&mut self, indent: &str, items: &str) {
-        let mut is_inside = false;
-        for (i, item) in items.split(", ").enumerate() {
-            if is_inside {
-                self.body.push(", ");
-            } else {
-                self.body.push(if i == 0 { "" } else { ",\n" });
-                self.body.push(indent);
-                self.body.push("    ");
-            }
-            is_inside = !item.contains('>') && (is_inside || item.contains('<'));
-            self.body.push(item);
+        self.body.push("\n");
+        for item in items.split(';') {
+            self.body.push_all(&[indent, "    ", item, ",\n"]);
         }
-        self.body.push(",\n");
-    }
-
-    /// Appends a statement that makes an array: what is before it, and its items with `, ` between
-    /// them.
-    pub fn push_array(&mut self, before: &str, items: &str) {
-        self.body.push("        ");
-        self.body.push(before);
-        if items.len() <= 60 {
-            self.body.push_all(&["[", items, "];\n"]);
-            return;
-        }
-        self.body.push("[\n");
-        self.push_item_lines("        ", items);
-        self.body.push("        ];\n");
     }
 
     /// Appends `template`, filled. A line with over 100 columns is broken after its first
@@ -142,12 +114,7 @@ impl Module {
                 _ => self.body.push(line),
             }
         }
-        self.body.note(filled.has_failed());
-    }
-
-    /// Where memory comes from.
-    pub fn alloc(&self) -> Global {
-        self.alloc
+        self.body.note(filled.has_failed);
     }
 
     /// Takes the text, and leaves none.
@@ -179,7 +146,7 @@ impl Module {
     }
 
     /// Returns the text of the module's file.
-    pub fn file_text(&mut self, about: &str, crate_name: &str, reading: &str, kind: Kind) -> Text {
+    pub fn file_text(&mut self, about: &str, crate_name: &str, reading: &str, kind: &Kind) -> Text {
         let alloc = self.alloc;
         let mut text = Text::new(alloc);
         let mut values = Values::new(alloc);
@@ -191,7 +158,7 @@ impl Module {
             alloc,
             &mut text,
             self.body.as_str(),
-            kind.ghost_imports(),
+            kind.ghost_imports,
             "ghost use ",
             ".",
         );
@@ -204,7 +171,7 @@ impl Module {
             alloc,
             &mut uses,
             self.body.as_str(),
-            kind.imports(),
+            kind.imports,
             "use ",
             "::",
         );
@@ -227,7 +194,7 @@ impl Module {
             row.put_text("file", joined(self.alloc, module.as_str()));
             text.push_filled(templates::NUMBERS_IMPORT, &row);
         }
-        text.note(self.numbers.has_failed());
+        text.note(self.numbers.has_failed);
     }
 
     // Appends an import of some definitions, if there are any.
@@ -238,24 +205,6 @@ impl Module {
             values.put_text("specs", specs);
             text.push_filled(template, values);
         }
-    }
-}
-
-// The first line of a call.
-fn signature_template(has_limiter: bool) -> &'static str {
-    if has_limiter {
-        "    pub fn ~call~(&self, lim: &mut ReadLimiter) -> ~gives~\n"
-    } else {
-        "    pub fn ~call~(&self) -> ~gives~\n"
-    }
-}
-
-// The first lines of a call, if one line would be too long.
-fn wrapped_signature_template(has_limiter: bool) -> &'static str {
-    if has_limiter {
-        "    pub fn ~call~(\n        &self,\n        lim: &mut ReadLimiter,\n    ) -> ~gives~\n"
-    } else {
-        "    pub fn ~call~(\n        &self,\n    ) -> ~gives~\n"
     }
 }
 
@@ -308,50 +257,40 @@ fn push_imports(alloc: Global, to: &mut Text, body: &str, table: &str, start: &s
     for block in table.split("\n\n") {
         if let Some((module, rows)) = block.split_once('\n') {
             let mut found = Text::new(alloc);
-            let count = push_needed_names(&mut found, body, rows);
-            if count > 0 {
+            push_needed_names(&mut found, body, rows);
+            if !found.as_str().is_empty() {
                 to.push_all(&[start, module]);
-                push_import_end(to, found.as_str(), count, dot);
+                push_import_end(to, found.as_str(), dot);
             }
         }
     }
 }
 
-// Appends the names of the rows whose text is in `body`, with commas between them, and returns how
-// many.
-fn push_needed_names(to: &mut Text, body: &str, rows: &str) -> u64 {
-    let mut count = 0u64;
+// Appends the names of the rows whose text is in `body`, with commas between them.
+fn push_needed_names(to: &mut Text, body: &str, rows: &str) {
     for row in rows.lines() {
         if let Some((text, name)) = row.split_once('|')
             && body.contains(text)
             && !to.as_str().ends_with(name)
         {
-            if count > 0 {
+            if !to.as_str().is_empty() {
                 to.push(", ");
             }
             to.push(name);
-            count = count.saturating_add(1);
         }
     }
-    count
 }
 
 // Appends the end of an import of these names.
-fn push_import_end(to: &mut Text, names: &str, count: u64, dot: &str) {
+fn push_import_end(to: &mut Text, names: &str, dot: &str) {
+    let is_code = dot == "::";
     if names == "self" {
         to.push(";\n");
-        return;
-    }
-    to.push(dot);
-    if count == 1 && dot == "::" {
-        to.push(names);
-        to.push(";\n");
-        return;
-    }
-    let breaks = dot == "::" && names.len() > 72;
-    if breaks {
-        to.push_all(&["{\n    ", names, ",\n};\n"]);
+    } else if is_code && !names.contains(", ") {
+        to.push_all(&[dot, names, ";\n"]);
+    } else if is_code && names.len() > 72 {
+        to.push_all(&[dot, "{\n    ", names, ",\n};\n"]);
     } else {
-        to.push_all(&["{", names, "};\n"]);
+        to.push_all(&[dot, "{", names, "};\n"]);
     }
 }

@@ -50,8 +50,10 @@ impl<'a, A: ReaderArena> Reader<'a, A> {
             → Holds S 0 0 1 → IsStructOrNull t → Means S (levels (A.nesting arena.now)) 0 0 t c
             → Affords (A.charging arena.now) lim.old (1 + c) → IsOk result }
     {
-        let reader = value::root(arena, lim)?;
-        Ok(Reader { reader })
+        match value::root(arena, lim) {
+            Ok(reader) => Ok(Reader { reader }),
+            Err(k) => Err(k),
+        }
     }
 
     /// type @1 :Type
@@ -65,8 +67,10 @@ impl<'a, A: ReaderArena> Reader<'a, A> {
             → Affords start.charging lim.old (child_cost A.ReaderArena shows 0)
             → IsOk result }
     {
-        let reader = value::get_struct(&self.reader, 0, lim)?;
-        Ok(type_::Reader { reader })
+        match value::get_struct(&self.reader, 0, lim) {
+            Ok(reader) => Ok(type_::Reader { reader }),
+            Err(k) => Err(k),
+        }
     }
 
     /// Whether the pointer of type is not null.

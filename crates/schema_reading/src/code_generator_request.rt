@@ -49,8 +49,10 @@ impl<'a, A: ReaderArena> Reader<'a, A> {
             → Holds S 0 0 1 → IsStructOrNull t → Means S (levels (A.nesting arena.now)) 0 0 t c
             → Affords (A.charging arena.now) lim.old (1 + c) → IsOk result }
     {
-        let reader = value::root(arena, lim)?;
-        Ok(Reader { reader })
+        match value::root(arena, lim) {
+            Ok(reader) => Ok(Reader { reader }),
+            Err(k) => Err(k),
+        }
     }
 
     /// nodes @0 :List(Node)
@@ -64,8 +66,10 @@ impl<'a, A: ReaderArena> Reader<'a, A> {
             → Affords start.charging lim.old (child_cost A.ReaderArena shows 0)
             → IsOk result }
     {
-        let list = list::get_structs(&self.reader, 0, lim)?;
-        Ok(node::Readers { list })
+        match list::get_structs(&self.reader, 0, lim) {
+            Ok(list) => Ok(node::Readers { list }),
+            Err(k) => Err(k),
+        }
     }
 
     /// Whether the pointer of nodes is not null.
@@ -90,8 +94,10 @@ impl<'a, A: ReaderArena> Reader<'a, A> {
             → Affords start.charging lim.old (child_cost A.ReaderArena shows 1)
             → IsOk result }
     {
-        let list = list::get_structs(&self.reader, 1, lim)?;
-        Ok(code_generator_request_requested_file::Readers { list })
+        match list::get_structs(&self.reader, 1, lim) {
+            Ok(list) => Ok(code_generator_request_requested_file::Readers { list }),
+            Err(k) => Err(k),
+        }
     }
 
     /// Whether the pointer of requestedFiles is not null.
@@ -116,8 +122,10 @@ impl<'a, A: ReaderArena> Reader<'a, A> {
             → Affords start.charging lim.old (child_cost A.ReaderArena shows 2)
             → IsOk result }
     {
-        let reader = value::get_struct(&self.reader, 2, lim)?;
-        Ok(capnp_version::Reader { reader })
+        match value::get_struct(&self.reader, 2, lim) {
+            Ok(reader) => Ok(capnp_version::Reader { reader }),
+            Err(k) => Err(k),
+        }
     }
 
     /// Whether the pointer of capnpVersion is not null.
@@ -142,8 +150,10 @@ impl<'a, A: ReaderArena> Reader<'a, A> {
             → Affords start.charging lim.old (child_cost A.ReaderArena shows 3)
             → IsOk result }
     {
-        let list = list::get_structs(&self.reader, 3, lim)?;
-        Ok(node_source_info::Readers { list })
+        match list::get_structs(&self.reader, 3, lim) {
+            Ok(list) => Ok(node_source_info::Readers { list }),
+            Err(k) => Err(k),
+        }
     }
 
     /// Whether the pointer of sourceInfo is not null.

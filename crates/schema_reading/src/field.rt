@@ -52,8 +52,10 @@ impl<'a, A: ReaderArena> Reader<'a, A> {
             → Holds S 0 0 1 → IsStructOrNull t → Means S (levels (A.nesting arena.now)) 0 0 t c
             → Affords (A.charging arena.now) lim.old (1 + c) → IsOk result }
     {
-        let reader = value::root(arena, lim)?;
-        Ok(Reader { reader })
+        match value::root(arena, lim) {
+            Ok(reader) => Ok(Reader { reader }),
+            Err(k) => Err(k),
+        }
     }
 
     /// name @0 :Text
@@ -99,8 +101,10 @@ impl<'a, A: ReaderArena> Reader<'a, A> {
             → Affords start.charging lim.old (child_cost A.ReaderArena shows 1)
             → IsOk result }
     {
-        let list = list::get_structs(&self.reader, 1, lim)?;
-        Ok(annotation::Readers { list })
+        match list::get_structs(&self.reader, 1, lim) {
+            Ok(list) => Ok(annotation::Readers { list }),
+            Err(k) => Err(k),
+        }
     }
 
     /// Whether the pointer of annotations is not null.

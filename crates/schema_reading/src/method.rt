@@ -50,8 +50,10 @@ impl<'a, A: ReaderArena> Reader<'a, A> {
             → Holds S 0 0 1 → IsStructOrNull t → Means S (levels (A.nesting arena.now)) 0 0 t c
             → Affords (A.charging arena.now) lim.old (1 + c) → IsOk result }
     {
-        let reader = value::root(arena, lim)?;
-        Ok(Reader { reader })
+        match value::root(arena, lim) {
+            Ok(reader) => Ok(Reader { reader }),
+            Err(k) => Err(k),
+        }
     }
 
     /// name @0 :Text
@@ -113,8 +115,10 @@ impl<'a, A: ReaderArena> Reader<'a, A> {
             → Affords start.charging lim.old (child_cost A.ReaderArena shows 1)
             → IsOk result }
     {
-        let list = list::get_structs(&self.reader, 1, lim)?;
-        Ok(annotation::Readers { list })
+        match list::get_structs(&self.reader, 1, lim) {
+            Ok(list) => Ok(annotation::Readers { list }),
+            Err(k) => Err(k),
+        }
     }
 
     /// Whether the pointer of annotations is not null.
@@ -136,8 +140,10 @@ impl<'a, A: ReaderArena> Reader<'a, A> {
             → Affords start.charging lim.old (child_cost A.ReaderArena shows 2)
             → IsOk result }
     {
-        let reader = value::get_struct(&self.reader, 2, lim)?;
-        Ok(brand::Reader { reader })
+        match value::get_struct(&self.reader, 2, lim) {
+            Ok(reader) => Ok(brand::Reader { reader }),
+            Err(k) => Err(k),
+        }
     }
 
     /// Whether the pointer of paramBrand is not null.
@@ -159,8 +165,10 @@ impl<'a, A: ReaderArena> Reader<'a, A> {
             → Affords start.charging lim.old (child_cost A.ReaderArena shows 3)
             → IsOk result }
     {
-        let reader = value::get_struct(&self.reader, 3, lim)?;
-        Ok(brand::Reader { reader })
+        match value::get_struct(&self.reader, 3, lim) {
+            Ok(reader) => Ok(brand::Reader { reader }),
+            Err(k) => Err(k),
+        }
     }
 
     /// Whether the pointer of resultBrand is not null.
@@ -185,8 +193,10 @@ impl<'a, A: ReaderArena> Reader<'a, A> {
             → Affords start.charging lim.old (child_cost A.ReaderArena shows 4)
             → IsOk result }
     {
-        let list = list::get_structs(&self.reader, 4, lim)?;
-        Ok(node_parameter::Readers { list })
+        match list::get_structs(&self.reader, 4, lim) {
+            Ok(list) => Ok(node_parameter::Readers { list }),
+            Err(k) => Err(k),
+        }
     }
 
     /// Whether the pointer of implicitParameters is not null.

@@ -55,8 +55,10 @@ impl<'a, A: ReaderArena> Reader<'a, A> {
             → Holds S 0 0 1 → IsStructOrNull t → Means S (levels (A.nesting arena.now)) 0 0 t c
             → Affords (A.charging arena.now) lim.old (1 + c) → IsOk result }
     {
-        let reader = value::root(arena, lim)?;
-        Ok(Reader { reader })
+        match value::root(arena, lim) {
+            Ok(reader) => Ok(Reader { reader }),
+            Err(k) => Err(k),
+        }
     }
 
     /// id @0 :UInt64
@@ -118,8 +120,10 @@ impl<'a, A: ReaderArena> Reader<'a, A> {
             → Affords start.charging lim.old (child_cost A.ReaderArena shows 1)
             → IsOk result }
     {
-        let list = list::get_structs(&self.reader, 1, lim)?;
-        Ok(node_nested_node::Readers { list })
+        match list::get_structs(&self.reader, 1, lim) {
+            Ok(list) => Ok(node_nested_node::Readers { list }),
+            Err(k) => Err(k),
+        }
     }
 
     /// Whether the pointer of nestedNodes is not null.
@@ -144,8 +148,10 @@ impl<'a, A: ReaderArena> Reader<'a, A> {
             → Affords start.charging lim.old (child_cost A.ReaderArena shows 2)
             → IsOk result }
     {
-        let list = list::get_structs(&self.reader, 2, lim)?;
-        Ok(annotation::Readers { list })
+        match list::get_structs(&self.reader, 2, lim) {
+            Ok(list) => Ok(annotation::Readers { list }),
+            Err(k) => Err(k),
+        }
     }
 
     /// Whether the pointer of annotations is not null.
@@ -215,8 +221,10 @@ impl<'a, A: ReaderArena> Reader<'a, A> {
             → Affords start.charging lim.old (child_cost A.ReaderArena shows 5)
             → IsOk result }
     {
-        let list = list::get_structs(&self.reader, 5, lim)?;
-        Ok(node_parameter::Readers { list })
+        match list::get_structs(&self.reader, 5, lim) {
+            Ok(list) => Ok(node_parameter::Readers { list }),
+            Err(k) => Err(k),
+        }
     }
 
     /// Whether the pointer of parameters is not null.

@@ -45,8 +45,10 @@ impl<'a, A: ReaderArena> Reader<'a, A> {
             → Affords start.charging lim.old (child_cost A.ReaderArena shows 3)
             → IsOk result }
     {
-        let reader = value::get_struct(&self.reader, 3, lim)?;
-        Ok(type_::Reader { reader })
+        match value::get_struct(&self.reader, 3, lim) {
+            Ok(reader) => Ok(type_::Reader { reader }),
+            Err(k) => Err(k),
+        }
     }
 
     /// Whether the pointer of type is not null.

@@ -49,8 +49,10 @@ impl<'a, A: ReaderArena> Reader<'a, A> {
             → Affords start.charging lim.old (child_cost A.ReaderArena shows 3)
             → IsOk result }
     {
-        let list = list::get_structs(&self.reader, 3, lim)?;
-        Ok(enumerant::Readers { list })
+        match list::get_structs(&self.reader, 3, lim) {
+            Ok(list) => Ok(enumerant::Readers { list }),
+            Err(k) => Err(k),
+        }
     }
 
     /// Whether the pointer of enumerants is not null.

@@ -46,8 +46,10 @@ impl<'a, A: ReaderArena> Reader<'a, A> {
             → Affords start.charging lim.old (child_cost A.ReaderArena shows 3)
             → IsOk result }
     {
-        let list = list::get_structs(&self.reader, 3, lim)?;
-        Ok(method::Readers { list })
+        match list::get_structs(&self.reader, 3, lim) {
+            Ok(list) => Ok(method::Readers { list }),
+            Err(k) => Err(k),
+        }
     }
 
     /// Whether the pointer of methods is not null.
@@ -72,8 +74,10 @@ impl<'a, A: ReaderArena> Reader<'a, A> {
             → Affords start.charging lim.old (child_cost A.ReaderArena shows 4)
             → IsOk result }
     {
-        let list = list::get_structs(&self.reader, 4, lim)?;
-        Ok(superclass::Readers { list })
+        match list::get_structs(&self.reader, 4, lim) {
+            Ok(list) => Ok(superclass::Readers { list }),
+            Err(k) => Err(k),
+        }
     }
 
     /// Whether the pointer of superclasses is not null.

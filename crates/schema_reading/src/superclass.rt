@@ -48,8 +48,10 @@ impl<'a, A: ReaderArena> Reader<'a, A> {
             → Holds S 0 0 1 → IsStructOrNull t → Means S (levels (A.nesting arena.now)) 0 0 t c
             → Affords (A.charging arena.now) lim.old (1 + c) → IsOk result }
     {
-        let reader = value::root(arena, lim)?;
-        Ok(Reader { reader })
+        match value::root(arena, lim) {
+            Ok(reader) => Ok(Reader { reader }),
+            Err(k) => Err(k),
+        }
     }
 
     /// id @0 :UInt64
@@ -71,8 +73,10 @@ impl<'a, A: ReaderArena> Reader<'a, A> {
             → Affords start.charging lim.old (child_cost A.ReaderArena shows 0)
             → IsOk result }
     {
-        let reader = value::get_struct(&self.reader, 0, lim)?;
-        Ok(brand::Reader { reader })
+        match value::get_struct(&self.reader, 0, lim) {
+            Ok(reader) => Ok(brand::Reader { reader }),
+            Err(k) => Err(k),
+        }
     }
 
     /// Whether the pointer of brand is not null.
