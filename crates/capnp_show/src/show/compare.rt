@@ -235,7 +235,7 @@ fn make_difference_text<S: ReaderSegments, T: ReaderSegments>(
     difference_text(alloc, number, &left, &right)
 }
 
-/// The text about a difference of which each line ends with the object that differs. A text that
+/// The text about a difference. Each of its lines ends with the object that differs. A text that
 /// would have more than `MOST_BYTES` bytes ends with a line that says so.
 fn difference_text(
     alloc: Global,

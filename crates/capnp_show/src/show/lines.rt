@@ -240,8 +240,8 @@ impl Lines {
             Object::Capability(index) => self.push_keyed(b" capability ", u64::from(index)),
             Object::Flat { start, size, count } => self.write_primitive_list(start, size, count),
             Object::Struct { start, size } => self.write_struct(start, size),
-            Object::Pointers { start, count } => self.write_list(start, count),
-            Object::Structs { start, size, count } => self.write_structs(start, size, count),
+            Object::Pointers { start, count } => self.write_pointer_list(start, count),
+            Object::Structs { start, size, count } => self.write_struct_list(start, size, count),
         }
         self.push(b"\n");
     }
@@ -263,7 +263,7 @@ impl Lines {
         self.push_keyed(b", pointers ", u64::from(size.pointers));
     }
 
-    /// Writes what its line says of a struct.
+    /// Writes the rest of the line of a struct.
     fn write_struct(&mut self, start: Place, size: StructSize) {
         self.push(b" struct");
         self.write_start(start);
@@ -271,14 +271,14 @@ impl Lines {
         self.write_data(start, u32::from(size.data_words));
     }
 
-    /// Writes what its line says of a list of pointers.
-    fn write_list(&mut self, start: Place, count: u32) {
+    /// Writes the rest of the line of a list of pointers.
+    fn write_pointer_list(&mut self, start: Place, count: u32) {
         self.push_keyed(b" pointers ", u64::from(count));
         self.write_start(start);
     }
 
-    /// Writes what its line says of a list of structs.
-    fn write_structs(&mut self, start: Place, size: StructSize, count: u32) {
+    /// Writes the rest of the line of a list of structs.
+    fn write_struct_list(&mut self, start: Place, size: StructSize, count: u32) {
         self.push_keyed(b" structs ", u64::from(count));
         self.write_start(start);
         self.write_sizes(size);
@@ -308,9 +308,9 @@ impl Lines {
         }
     }
 
-    /// Writes what its line says of a list of bits or numbers.
+    /// Writes the rest of the line of a list of bits or numbers.
     fn write_primitive_list(&mut self, start: Place, size: ElementSize, count: u32) {
-        self.push_keyed(kind_of(size), u64::from(count));
+        self.push_keyed(list_kind_name(size), u64::from(count));
         self.write_start(start);
         match size {
             ElementSize::Void => {}
@@ -384,7 +384,7 @@ impl Lines {
 }
 
 /// The name of a list of bits or numbers of this size, between spaces.
-fn kind_of(size: ElementSize) -> &'static [u8] {
+fn list_kind_name(size: ElementSize) -> &'static [u8] {
     match size {
         ElementSize::Void => b" void ",
         ElementSize::Bit => b" bits ",
