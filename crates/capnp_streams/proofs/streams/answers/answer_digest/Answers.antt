@@ -1,4 +1,5 @@
 use Rattle.std.proofs.Common.{◌≡◌, Some, refl, rules}
+use Rattle.capnp_format.specs.Bytes.{message}
 use Rattle.capnp_messages.specs.declared.messages.command.Command.TheVariants.{Digest}
 use Rattle.capnp_streams.specs.Paths.{path_indexes}
 use Rattle.capnp_streams.specs.Streams.{hex_line}
@@ -27,5 +28,5 @@ returns-in-Err-clause-memory g c =
     record {
       there = refl;
       kept = tt;
-      counted = rw here (copy_counted _ c.args.task.limits (path_indexes c.args.task.path) (rw c.in-Err.is at c.digest_for_task-digest.ensures.refused));
+      counted = rw here (copy_counted (message (g.S.ReaderSegments.segments c.args.segments)) c.args.task.limits (path_indexes c.args.task.path) (rw c.in-Err.is at c.digest_for_task-digest.ensures.refused));
     }

@@ -1,8 +1,9 @@
-use Rattle.std.proofs.Common.{◌≡◌, ◌≤◌, ◌∙◌, [], ◌∷◌, Some, ap, arith, length, refl, rules, sym}
-use Rattle.capnp_format.specs.Bytes.{words_of}
+use Rattle.std.proofs.Common.{◌≡◌, ◌≤◌, ◌∙◌, [], ◌∷◌, Some, ap, arith, length, refl, rules, sym, map}
+use Rattle.capnp_format.specs.Bytes.{message, words_of}
 use Rattle.capnp_format.specs.Canonical.{encoding, trim}
 use Rattle.capnp_format.proofs.WordsOf.{words}
 use Rattle.capnp_arena_traits.specs.Allocations.{max_segment_words}
+use Rattle.capnp_arena_traits.specs.Limits.{whole}
 use Rattle.capnp_messages.specs.declared.messages.command.Command.TheVariants.{Canon}
 use Rattle.capnp_streams.specs.Paths.{path_indexes}
 use Rattle.capnp_streams.specs.Streams.{written_words}
@@ -35,5 +36,5 @@ returns-in-Err-clause-memory g c =
     record {
       there = refl;
       kept = tt;
-      counted = rw here (copy_counted _ c.args.task.limits (path_indexes c.args.task.path) (rw c.requires.nesting at c.in-Err.ensures.refused));
+      counted = rw here (copy_counted (message (map whole (g.S.ReaderSegments.segments c.args.source.now.segments))) c.args.task.limits (path_indexes c.args.task.path) (rw c.requires.nesting at c.in-Err.ensures.refused));
     }

@@ -18,7 +18,7 @@ returns-then-is_empty-clause-digest g c =
 pub returns-then-is_empty-clause-refused : goal.returns-then-is_empty-clause-refused
 returns-then-is_empty-clause-refused g c =
     let none : length (path_indexes c.args.task.path) ≡ 0 = search rules in
-    IfErr-weaker c.digest.result.0 _ _ (λ k no. refused_whole _ c.args.task.limits (path_indexes c.args.task.path) _ _ _ none no)
+    IfErr-weaker c.digest.result.0 _ _ (λ k no. refused_whole (message (g.S.ReaderSegments.segments c.args.segments)) c.args.task.limits (path_indexes c.args.task.path) _ _ _ none no)
     (rw (c.new-source.ensures.words, c.new-source.ensures.nesting) at c.digest.ensures.refused)
 
 pub returns-clause-digest : goal.returns-clause-digest
@@ -33,5 +33,5 @@ pub returns-clause-refused : goal.returns-clause-refused
 returns-clause-refused g c =
     let here : 0 < length c.indexes-path.result.now = search rules in
     let some = rw c.indexes-path.ensures at here in
-    IfErr-weaker c.digest_of_part.result.0 _ _ (λ k no. refused_part _ c.args.task.limits (path_indexes c.args.task.path) _ _ _ some no)
+    IfErr-weaker c.digest_of_part.result.0 _ _ (λ k no. refused_part (message (g.S.ReaderSegments.segments c.args.segments)) c.args.task.limits (path_indexes c.args.task.path) _ _ _ some no)
     (rw (c.indexes-path.ensures, c.new-source.ensures.words, c.new-source.ensures.nesting) at c.digest_of_part.ensures.refused)
