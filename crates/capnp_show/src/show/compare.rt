@@ -22,7 +22,7 @@ use capnp_words::read_limiter::ReadLimiter;
 use std::alloc::Global;
 
 /// Why two messages aren't compared.
-#[derive(Clone, Copy, Debug)]
+#[derive(Clone, Copy, Debug, PartialEq, Eq)]
 pub enum CompareFault {
     /// Memory ran out.
     AllocationFailed,

@@ -22,7 +22,7 @@ use capnp_words::read_limiter::ReadLimiter;
 use std::alloc::Global;
 
 /// How messages are shown.
-#[derive(Clone, Copy)]
+#[derive(Clone, Copy, Debug, PartialEq, Eq)]
 pub struct Showing {
     /// Whether each message is one line of JSON.
     pub json: bool,
@@ -35,7 +35,7 @@ pub struct Showing {
 }
 
 /// Why a message isn't shown.
-#[derive(Clone, Copy, Debug)]
+#[derive(Clone, Copy, Debug, PartialEq, Eq)]
 pub enum ShowFault {
     /// Memory ran out.
     AllocationFailed,
