@@ -266,26 +266,23 @@ fn read_type<A: ReaderArena>(
     None
 }
 
-// The type that `which` names, in this many lists.
+// The type that `which` names, in this many lists. The id of a declaration is in the same place for an
+// enum, a struct and an interface.
 fn type_of<A: ReaderArena>(
     from: type_::Reader<'_, A>,
     which: type_which::Which,
     lists: u32,
 ) -> Type {
+    let base = base_of(which as usize);
+    let is_declared = base.name.is_empty();
     Type {
         lists,
-        base: base_of(which as usize),
-        id: type_id(from, which),
-    }
-}
-
-// The id of a type's declaration; 0 if it has none.
-fn type_id<A: ReaderArena>(from: type_::Reader<'_, A>, which: type_which::Which) -> u64 {
-    match which {
-        type_which::Which::Enum => from.get_enum().get_type_id(),
-        type_which::Which::Struct => from.get_struct().get_type_id(),
-        type_which::Which::Interface => from.get_interface().get_type_id(),
-        _ => 0,
+        base,
+        id: if is_declared {
+            from.get_struct().get_type_id()
+        } else {
+            0
+        },
     }
 }
 
