@@ -8,6 +8,7 @@ pub mod groups;
 pub mod laws;
 pub mod list;
 pub mod opening;
+pub mod places;
 pub mod reading;
 pub mod slots;
 pub mod tag;
