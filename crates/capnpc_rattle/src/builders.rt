@@ -77,6 +77,9 @@ impl<'m> Builders<'m> {
             module.push_filled(templates::SIZE, &values);
         }
         module.push_filled(templates::BUILDER, &values);
+        if !it.is_group {
+            module.push_filled(templates::FROM_PLACE, &values);
+        }
         module.push_impl("impl Builder {\n", &methods);
         if !it.is_group {
             module.push_filled(templates::BUILDERS, &values);

@@ -18,6 +18,19 @@ pub struct Builder {
 }
 ";
 
+/// What each struct has, so that calls that return its place return its builder.
+pub const FROM_PLACE: &str = "
+impl FromStructPlace for Builder {
+    ghost place_of = { λ b. b.place };
+
+    fn from_place(place: StructPlace) -> Self
+        ensures { result.place ≡ place }
+    {
+        Builder { place }
+    }
+}
+";
+
 /// The root of a message, which can be a struct, and no group.
 pub const ROOT: &str = "    /// Makes the root of a message a struct ~full~.
     ///
@@ -33,10 +46,7 @@ pub const ROOT: &str = "    /// Makes the root of a message a struct ~full~.
             → IfOk result (λ b. HasStruct (A.view arena.new).words (pointer_to 0 0) b.place
             (words_of_zero ~data~) (nulls ~pointers~)) }
     {
-        match value::init_root(arena, SIZE) {
-            Ok(place) => Ok(Builder { place }),
-            Err(k) => Err(k),
-        }
+        places::init_root(arena, SIZE)
     }
 ";
 
@@ -47,6 +57,16 @@ pub const BUILDERS: &str = "
 pub struct Builders {
     /// The place of the list.
     pub place: ListPlace,
+}
+
+impl FromListPlace for Builders {
+    ghost place_of = { λ b. b.place };
+
+    fn from_place(place: ListPlace) -> Self
+        ensures { result.place ≡ place }
+    {
+        Builders { place }
+    }
 }
 
 impl Builders {

@@ -126,32 +126,24 @@ args=arena;self.place;~tag_arg~~index~;capability
 after=;";
 
 /// Makes a new struct.
-pub const INIT_STRUCT: Lines = "builder=Builder
-tree=zero_struct ~module~_size
+pub const INIT_STRUCT: Lines = "tree=zero_struct ~module~_size
 all_words=~words~
 start=pub fn init_~snake~<A: BuilderArena>
 end= -> Result<~path~Builder, ErrorKind>
 clauses=there ~object~ grows struct_there struct_made ~child~
-call=value::init_struct~suffix~
-args=arena;self.place;~tag_arg~~index~;~path~SIZE
-before=match\x20
-after= {
-close=built";
+call=places::init_struct~suffix~
+args=arena;self.place;~tag_arg~~index~;~path~SIZE";
 
 /// Makes a new list of structs.
-pub const INIT_STRUCTS: Lines = "builder=Builders
-tree=zero_structs count ~module~_size
+pub const INIT_STRUCTS: Lines = "tree=zero_structs count ~module~_size
 few=~few_structs~
 all_words=(1 + count * ~words~)
 start=pub fn init_~snake~<A: BuilderArena>
 params=self;arena: &mut A;count: u32
 end= -> Result<~path~Builders, ErrorKind>
 clauses=there_and_few ~object~ grows structs_there structs_made ~child~
-call=value::init_struct_list~suffix~
-args=arena;self.place;~tag_arg~~index~;count;~path~SIZE
-before=match\x20
-after= {
-close=built";
+call=places::init_struct_list~suffix~
+args=arena;self.place;~tag_arg~~index~;count;~path~SIZE";
 
 /// Makes a new list whose elements aren't structs.
 pub const INIT_LIST: Lines = "few=count < 2 ^ 29
@@ -214,11 +206,8 @@ start=pub fn get_~snake~<A: BuilderArena>
 end= -> Result<~path~Builder, ErrorKind>
 clauses=there open_struct
 let=
-call=opening::get_struct
-args=arena;self.place;~index~;~path~SIZE
-before=match\x20
-after= {
-close=built";
+call=places::get_struct
+args=arena;self.place;~index~;~path~SIZE";
 
 /// Opens a list of structs.
 pub const OPEN_STRUCTS: Lines = "comment=open_structs_about
@@ -226,11 +215,8 @@ start=pub fn get_~snake~<A: BuilderArena>
 end= -> Result<~path~Builders, ErrorKind>
 clauses=there open_structs
 let=
-call=opening::get_struct_list
-args=arena;self.place;~index~;~path~SIZE
-before=match\x20
-after= {
-close=built";
+call=places::get_struct_list
+args=arena;self.place;~index~;~path~SIZE";
 
 /// Returns a list whose elements aren't structs.
 pub const OPEN_LIST: Lines = "comment=open_list_about

@@ -349,6 +349,10 @@ capnp_words::wire_pointer
             ElementSize::|ElementSize
 : StructSize =|StructSize
 
+typed_building::places
+impl FromListPlace |FromListPlace
+impl FromStructPlace |FromStructPlace
+
 typed_building::slots
 [Slot::|Slot
             Slot::|Slot
@@ -361,6 +365,7 @@ typed_building
  groups::zero|groups
  list::element(|list
  opening::get_|opening
+ places::|places
 reading::get_|reading
  reading::has|reading
  value::|value

@@ -11,7 +11,7 @@ pub const MODULE_WORDS: &[&str] = &[
     "while", "async", "await", "dyn", "abstract", "become", "box", "do", "final", "macro",
     "override", "priv", "typeof", "unsized", "virtual", "yield", "try", "gen", "ghost", "requires",
     "ensures", "result", "lib", "std", "core", "main", "value", "list", "syntax", "prim",
-    "copying", "groups", "opening", "reading",
+    "copying", "groups", "opening", "places", "reading",
 ];
 
 /// Names that an enum and its variants can't have.

@@ -209,11 +209,6 @@ const PARTS: &str = "@there: What each call that writes needs and that has no ot
             offset: ~tag_offset~,
             number: ~tag~,
         };
-@built: How the place of a struct or of a list of structs is returned.
-            Ok(place) => Ok(~path~~builder~ { place }),
-            Err(k) => Err(k),
-        }
-    }
 @member_of_call: What the prover needs for a number that another call returns, in a member of a union.
     #[tactic(auto, using(typed_building::proofs::Sets::sets_member_as, typed_building::proofs::Sets::replaces_member_as))]
 @number_of_call: What the prover needs for a number that another call returns.
