@@ -1,15 +1,17 @@
 //! Generates builders.
 
 use crate::calls::write_call;
-use crate::fields::{begin_comment, lacking, push_skip_comment, put_declared, put_slot, type_of};
+use crate::fields::{
+    enum_type_name, lacking, push_field_comment, push_skip_comment, put_declared, put_slot,
+};
 use crate::forms::BaseKind;
 use crate::imports::BUILDERS;
 use crate::model::{Default, Field, FieldKind, NO_DISCRIMINANT, Node, NodeKind, Slot, Struct};
-use crate::names::{BUILDER_WORDS, VARIANT_WORDS, capitalized};
+use crate::names::{BUILDER_WORDS, Names, VARIANT_WORDS, capitalized};
 use crate::output::{File, Output};
-use crate::parts::part;
-use crate::slots::{add_fields, slot_items, slot_list};
-use crate::text::{Names, Text, Values};
+use crate::parts::builder_template;
+use crate::slots::{add_field_slots, slot_items, slot_list};
+use crate::text::{Text, Values};
 use crate::writing::Module;
 use crate::{building as templates, calls};
 use std::alloc::{AllocError, Global};
@@ -37,14 +39,14 @@ impl<'m> Builders<'m> {
         }
     }
 
-    /// Writes all files, and returns them. `stem` is the name of the schema's file, without its
+    /// Generates all files, and returns them. `stem` is the name of the schema's file, without its
     /// ending.
-    pub fn write(mut self, stem: &str) -> Result<Vec<File>, AllocError> {
+    pub fn generate(mut self, stem: &str) -> Result<Vec<File>, AllocError> {
         self.sizes.push(templates::SIZE_DEFINITIONS);
         let nodes = self.output.nodes;
         for node in nodes {
             match &node.kind {
-                NodeKind::Struct(it) => self.write_module(node, it),
+                NodeKind::Struct(it) => self.write_struct(node, it),
                 NodeKind::Enum(names) => self.write_enum(node, names.as_slice()),
                 NodeKind::File | NodeKind::Other(_) => {}
             }
@@ -55,11 +57,11 @@ impl<'m> Builders<'m> {
             ..
         } = self;
         output.finish_crate(stem, sizes);
-        output.files()
+        output.into_files()
     }
 
     // Writes the module of a struct or a group.
-    fn write_module(&mut self, node: &'m Node, it: &Struct) {
+    fn write_struct(&mut self, node: &'m Node, it: &Struct) {
         let mut module = Module::new(self.alloc, node.module.as_str());
         let mut values = Values::new(self.alloc);
         values.put("full", node.full.as_str());
@@ -72,7 +74,7 @@ impl<'m> Builders<'m> {
         }
         self.write_calls(&mut module, node, it);
         let methods = module.take_body();
-        self.note_size(&mut module, self.owner(node), &methods);
+        self.add_size_if_named(&mut module, self.owner(node), &methods);
         if !it.is_group {
             module.push_filled(templates::SIZE, &values);
         }
@@ -84,15 +86,17 @@ impl<'m> Builders<'m> {
         if !it.is_group {
             module.push_filled(templates::BUILDERS, &values);
         }
-        self.output.finish(&mut module, node.full.as_str());
+        self.output.add_module(&mut module, node.full.as_str());
     }
 
-    // Notes the sections of a struct, if its text names them.
-    fn note_size(&self, module: &mut Module, node: &Node, body: &Text) {
+    // Adds the definition of a struct's sections to those that the module names, if its text names it.
+    fn add_size_if_named(&self, module: &mut Module, node: &Node, body: &Text) {
         let mut size = Text::new(self.alloc);
         size.push_all(&[" ", node.module.as_str(), "_size"]);
         if body.as_str().contains(size.as_str()) {
-            module.sizes.note(self.alloc, size.as_str().trim_start());
+            module
+                .sizes
+                .add_once(self.alloc, size.as_str().trim_start());
         }
     }
 
@@ -112,26 +116,26 @@ impl<'m> Builders<'m> {
     fn write_calls(&mut self, module: &mut Module, node: &'m Node, it: &Struct) {
         let mut names = Names::new(self.alloc);
         for field in it.fields.iter() {
-            let mut values = self.values_of(node);
-            self.put_name(field, &mut names, &mut values);
+            let mut values = self.common_values(node);
+            self.put_field_names(field, &mut names, &mut values);
             put_tag(field, it, &mut values);
-            self.write_field(module, field, &mut values);
+            self.write_field_calls(module, field, &mut values);
         }
-        self.output.note(names.has_failed);
+        self.output.note_if_failed(names.has_failed);
         if it.members > 0 {
-            let mut values = self.values_of(node);
+            let mut values = self.common_values(node);
             values.put("spec", it.tag.as_str());
             values.put("module", it.which.as_str());
             values.put_number("index", u64::from(it.tag_offset));
             values.put_number("count", u64::from(it.members));
             module.specs.add(self.alloc, it.tag.as_str());
-            module.numbers.note(self.alloc, it.which.as_str());
+            module.numbers.add_once(self.alloc, it.which.as_str());
             write_call(module, calls::WHICH, &mut values);
         }
     }
 
     // What the calls of a struct's fields have in common.
-    fn values_of(&self, node: &'m Node) -> Values {
+    fn common_values(&self, node: &'m Node) -> Values {
         let mut values = Values::new(self.alloc);
         values.put("full", node.full.as_str());
         values.put("owner", self.owner(node).module.as_str());
@@ -141,10 +145,10 @@ impl<'m> Builders<'m> {
     }
 
     // Puts the names of a field. `names` are those of the fields before it.
-    fn put_name(&self, field: &Field, names: &mut Names, values: &mut Values) {
+    fn put_field_names(&self, field: &Field, names: &mut Names, values: &mut Values) {
         let mut name = Text::new(self.alloc);
         name.push(field.snake.as_str());
-        names.push_unique(self.alloc, BUILDER_WORDS, &mut name);
+        names.make_unique_and_add(self.alloc, BUILDER_WORDS, &mut name);
         values.put("name", field.name.as_str());
         values.put_text("snake", name);
         values.put("spec", field.spec.as_str());
@@ -160,14 +164,14 @@ impl<'m> Builders<'m> {
         let mut values = Values::new(self.alloc);
         values.put("reading", self.reading);
         values.put("module", node.module.as_str());
-        values.put_text("enum", type_of(self.alloc, node));
+        values.put_text("enum", enum_type_name(self.alloc, node));
         put_arms(self.alloc, names, &mut values);
         module.push_filled(templates::NUMBER, &values);
-        self.output.finish(&mut module, node.full.as_str());
+        self.output.add_module(&mut module, node.full.as_str());
     }
 
     // Writes the calls of a field.
-    fn write_field(&mut self, module: &mut Module, field: &Field, values: &mut Values) {
+    fn write_field_calls(&mut self, module: &mut Module, field: &Field, values: &mut Values) {
         match &field.kind {
             FieldKind::Group(id) => self.write_group_calls(module, *id, values),
             FieldKind::Slot(slot) => {
@@ -175,7 +179,7 @@ impl<'m> Builders<'m> {
                 if !why.is_empty() {
                     push_skip_comment(module, why, values);
                 } else {
-                    self.write_slot(module, field, slot, values);
+                    self.write_slot_calls(module, field, slot, values);
                 }
             }
             FieldKind::Unknown => push_skip_comment(module, "its type is unknown", values),
@@ -191,7 +195,7 @@ impl<'m> Builders<'m> {
         module.put_path(node.module.as_str(), values);
         let mut slots = Names::new(self.alloc);
         self.add_slots(id, &mut slots);
-        self.output.note(slots.has_failed);
+        self.output.note_if_failed(slots.has_failed);
         values.put_text("slots", slot_list(self.alloc, &slots));
         values.put_text("items", slot_items(self.alloc, &slots));
         let is_empty = slots.as_slice().is_empty();
@@ -208,7 +212,7 @@ impl<'m> Builders<'m> {
                 && it.is_group
                 && self.is_inside(node, id)
             {
-                add_fields(self.alloc, it, slots);
+                add_field_slots(self.alloc, it, slots);
             }
         }
     }
@@ -229,7 +233,13 @@ impl<'m> Builders<'m> {
     }
 
     // Writes the calls of a field that isn't a group.
-    fn write_slot(&mut self, module: &mut Module, field: &Field, slot: &Slot, values: &mut Values) {
+    fn write_slot_calls(
+        &mut self,
+        module: &mut Module,
+        field: &Field,
+        slot: &Slot,
+        values: &mut Values,
+    ) {
         if slot.of.is_void() && field.discriminant == NO_DISCRIMINANT {
             return;
         }
@@ -237,8 +247,8 @@ impl<'m> Builders<'m> {
         let has_default = !matches!(slot.default, Default::Zero);
         put_slot(&self.output, slot, values);
         if slot.of.lists > 0 || !matches!(slot.of.base.kind, BaseKind::Pointer) {
-            module.begin();
-            begin_comment(module, field.ordinal, values);
+            module.begin_item();
+            push_field_comment(module, field.ordinal, values);
         }
         if form.is_declared
             && let Some(node) = self.output.node(slot.of.id)
@@ -270,10 +280,10 @@ impl<'m> Builders<'m> {
             NodeKind::Struct(inner) => {
                 let mut size = Text::new(self.alloc);
                 size.push_all(&[node.module.as_str(), "_size"]);
-                module.sizes.note(self.alloc, size.as_str());
+                module.sizes.add_once(self.alloc, size.as_str());
                 put_sections(inner, values);
             }
-            _ => module.push_filled(part(values.get("of_call")), values),
+            _ => module.push_filled(builder_template(values.get("of_call")), values),
         }
     }
 }
@@ -313,7 +323,7 @@ fn put_arms(alloc: Global, names: &[String], values: &mut Values) {
     let mut number = 0u64;
     for name in names {
         let mut variant = capitalized(alloc, name.as_str());
-        taken.push_unique(alloc, VARIANT_WORDS, &mut variant);
+        taken.make_unique_and_add(alloc, VARIANT_WORDS, &mut variant);
         let mut row = Values::new(alloc);
         row.put_text("variant", variant);
         row.put("enum", values.get("enum"));

@@ -1,7 +1,7 @@
 //! What the calls of generated builders are made of. Each call has lines for `Values::put_lines`, in
 //! place of some of those of `ANY`, and is written by `write_call`.
 
-use crate::parts::part;
+use crate::parts::builder_template;
 use crate::text::{Lines, Values};
 use crate::writing::Module;
 
@@ -10,7 +10,7 @@ pub fn write_call(module: &mut Module, lines: Lines, values: &mut Values) {
     values.put_lines(ANY);
     values.put_lines(lines);
     if !values.get("comment").is_empty() {
-        module.begin();
+        module.begin_item();
     }
     write_parts(module, "comment", values);
     module.push_signature("~start~(", ")~end~\n", values);
@@ -34,7 +34,7 @@ fn write_body(module: &mut Module, values: &Values) {
 // Writes the parts that a word names. Their names have a space between them.
 fn write_parts(module: &mut Module, word: &str, values: &Values) {
     for name in values.get(word).split(' ') {
-        module.push_filled(part(name), values);
+        module.push_filled(builder_template(name), values);
     }
 }
 

@@ -16,7 +16,7 @@ use std::alloc::Global;
 type Built = BuilderArenaImpl<HeapAllocator>;
 
 /// Returns the words of a value in canonical form: one segment, with its pointer in the first word.
-pub fn copied<A: ReaderArena>(
+pub fn canonical_words<A: ReaderArena>(
     alloc: Global,
     from: PointerReader<'_, A>,
     lim: &mut ReadLimiter,

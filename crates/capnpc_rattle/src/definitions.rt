@@ -1,9 +1,9 @@
 //! Names the fields of structs, and the definitions of what readers return of them.
 
 use crate::model::{Default, Field, FieldKind, Node, NodeKind};
-use crate::names::{SPEC_WORDS, snake_case};
+use crate::names::{Names, SPEC_WORDS, snake_case};
 use crate::noted::Noted;
-use crate::text::{Names, Text};
+use crate::text::Text;
 use std::alloc::Global;
 
 /// Names the fields of each struct, and the definitions.
@@ -13,9 +13,9 @@ pub fn name_definitions(nodes: &mut Vec<Node>, noted: &mut Noted) {
         reserve_own_names(noted.alloc, node, &mut taken);
     }
     for node in nodes.iter_mut() {
-        name_struct(node, &mut taken, noted);
+        name_struct_definitions(node, &mut taken, noted);
     }
-    noted.note(taken.has_failed);
+    noted.note_if_failed(taken.has_failed);
 }
 
 // Takes the names of the definitions of a declaration itself: of a struct, its sections; of an enum
@@ -39,11 +39,11 @@ fn reserve_own_names(alloc: Global, node: &Node, taken: &mut Names) {
 fn reserve_name(alloc: Global, start: &str, end: &str, taken: &mut Names) {
     let mut name = Text::new(alloc);
     name.push_all(&[start, end]);
-    taken.note(alloc, name.as_str());
+    taken.add_once(alloc, name.as_str());
 }
 
 // Names the fields of a struct, and the definition of the tag of its union.
-fn name_struct(node: &mut Node, taken: &mut Names, noted: &mut Noted) {
+fn name_struct_definitions(node: &mut Node, taken: &mut Names, noted: &mut Noted) {
     if let NodeKind::Struct(it) = &mut node.kind {
         name_fields(node.snake.as_str(), &mut it.fields, taken, noted);
         if it.members > 0 {
@@ -58,7 +58,7 @@ fn name_fields(node: &str, fields: &mut Vec<Field>, taken: &mut Names, noted: &m
     for field in fields.iter_mut() {
         name_field(node, field, &mut names, taken, noted);
     }
-    noted.note(names.has_failed);
+    noted.note_if_failed(names.has_failed);
 }
 
 // Names a field. `names` are those of the fields before it.
@@ -70,7 +70,7 @@ fn name_field(
     noted: &mut Noted,
 ) {
     let mut name = snake_case(noted.alloc, field.name.as_str());
-    names.push_unique(noted.alloc, &[], &mut name);
+    names.make_unique_and_add(noted.alloc, &[], &mut name);
     let mut end = Text::new(noted.alloc);
     end.push("_");
     end.append(&name);

@@ -42,7 +42,7 @@ pub fn put_slot(output: &Output<'_>, slot: &Slot, values: &mut Values) {
             values.put_number("mask", *bits);
         }
         Default::Bytes(bytes) | Default::Words(bytes) => {
-            values.put_text("numbers", list_of_bytes(output.alloc, bytes.as_slice()));
+            values.put_text("numbers", byte_list_literal(output.alloc, bytes.as_slice()));
             values.put_text(
                 "literal",
                 byte_string_literal(output.alloc, bytes.as_slice()),
@@ -58,14 +58,14 @@ pub fn put_declared(module: &mut Module, node: &Node, values: &mut Values) {
     module.put_path(of, values);
     values.put("module", of);
     if let NodeKind::Enum(names) = &node.kind {
-        module.numbers.note(module.alloc, of);
-        values.put_text("enum", type_of(module.alloc, node));
+        module.numbers.add_once(module.alloc, of);
+        values.put_text("enum", enum_type_name(module.alloc, node));
         values.put_number("count", names.len() as u64);
     }
 }
 
-/// Writes the comment of a call.
-pub fn begin_comment(module: &mut Module, ordinal: Option<u16>, values: &Values) {
+/// Writes the comment of a field's call.
+pub fn push_field_comment(module: &mut Module, ordinal: Option<u16>, values: &Values) {
     module.body.push_filled("    /// ~name~ ", values);
     if let Some(ordinal) = ordinal {
         module.body.push("@");
@@ -78,14 +78,14 @@ pub fn begin_comment(module: &mut Module, ordinal: Option<u16>, values: &Values)
 /// Writes a comment in place of a call.
 pub fn push_skip_comment(module: &mut Module, why: &str, values: &mut Values) {
     values.put("why", why);
-    module.begin();
+    module.begin_item();
     module
         .body
         .push_filled("    // ~name~ isn't written: ~why~.\n", values);
 }
 
 /// The name of an enum: the last part of its full name.
-pub fn type_of(alloc: Global, node: &Node) -> Text {
+pub fn enum_type_name(alloc: Global, node: &Node) -> Text {
     let full = node.full.as_str();
     let (_, last) = full.rsplit_once('.').unwrap_or(("", full));
     let mut name = capitalized(alloc, last);
@@ -96,7 +96,7 @@ pub fn type_of(alloc: Global, node: &Node) -> Text {
 }
 
 // Bytes as a list of the prover's.
-fn list_of_bytes(alloc: Global, bytes: &[u8]) -> Text {
+fn byte_list_literal(alloc: Global, bytes: &[u8]) -> Text {
     let mut numbers = Text::new(alloc);
     for byte in bytes {
         numbers.push_number(u64::from(*byte));
@@ -112,7 +112,7 @@ fn byte_string_literal(alloc: Global, bytes: &[u8]) -> Text {
     let fits = bytes.len() <= 18;
     literal.push(if fits { " b\"" } else { "\n            b\"" });
     for byte in bytes {
-        literal.push_byte(*byte);
+        literal.push_escaped_byte(*byte);
     }
     literal.push("\"");
     literal

@@ -32,7 +32,7 @@ use capnp_framing::framing::read;
 use capnp_words::read_limiter::ReadLimiter;
 use definitions::name_definitions;
 use modules::name_modules;
-use names::snake_case;
+use names::crate_name;
 use noted::Noted;
 use output::File;
 use readers::Readers;
@@ -80,26 +80,19 @@ fn stem(file: &str) -> &str {
 }
 
 /// Returns the files of the crate of readers.
-fn write_readers(alloc: Global, request: &Request) -> Result<Vec<File>, AllocError> {
+fn generate_readers(alloc: Global, request: &Request) -> Result<Vec<File>, AllocError> {
     let stem = stem(request.file.as_str());
     let name = crate_name(alloc, stem, "_reading")?;
-    Readers::new(alloc, name.as_str(), request.nodes.as_slice()).write(stem)
+    Readers::new(alloc, name.as_str(), request.nodes.as_slice()).generate(stem)
 }
 
 /// Returns the files of the crate of builders.
-fn write_builders(alloc: Global, request: &Request) -> Result<Vec<File>, AllocError> {
+fn generate_builders(alloc: Global, request: &Request) -> Result<Vec<File>, AllocError> {
     let stem = stem(request.file.as_str());
     let name = crate_name(alloc, stem, "_building")?;
     let reading = crate_name(alloc, stem, "_reading")?;
     let nodes = request.nodes.as_slice();
-    Builders::new(alloc, name.as_str(), reading.as_str(), nodes).write(stem)
-}
-
-/// The name of a crate.
-fn crate_name(alloc: Global, stem: &str, end: &str) -> Result<String, AllocError> {
-    let mut name = snake_case(alloc, stem);
-    name.push(end);
-    name.into_string()
+    Builders::new(alloc, name.as_str(), reading.as_str(), nodes).generate(stem)
 }
 
 /// Writes a file, and makes its folder.
@@ -121,8 +114,8 @@ fn write_files<R: Files>(rt: &R, files: &[File]) -> io::Result<()> {
 
 fn main(rt: HostRuntime) -> Result<()> {
     let request = read_standard_input(&rt)?;
-    let readers = write_readers(rt.alloc(), &request)?;
-    let builders = write_builders(rt.alloc(), &request)?;
+    let readers = generate_readers(rt.alloc(), &request)?;
+    let builders = generate_builders(rt.alloc(), &request)?;
     write_files(&rt, readers.as_slice())?;
     write_files(&rt, builders.as_slice())?;
     Ok(())

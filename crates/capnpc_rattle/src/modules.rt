@@ -1,9 +1,8 @@
 //! Names the modules of a generated crate.
 
 use crate::model::{Node, NodeKind};
-use crate::names::MODULE_WORDS;
+use crate::names::{MODULE_WORDS, Names};
 use crate::noted::Noted;
-use crate::text::Names;
 
 /// Names the module of each declaration that is written, and then the modules of unions.
 pub fn name_modules(nodes: &mut Vec<Node>, noted: &mut Noted) {
@@ -12,9 +11,9 @@ pub fn name_modules(nodes: &mut Vec<Node>, noted: &mut Noted) {
         name_module(node, &mut taken, noted);
     }
     for node in nodes.iter_mut() {
-        name_which(node, &mut taken, noted);
+        name_union_module(node, &mut taken, noted);
     }
-    noted.note(taken.has_failed);
+    noted.note_if_failed(taken.has_failed);
 }
 
 // Names the module of a declaration.
@@ -25,7 +24,7 @@ fn name_module(node: &mut Node, taken: &mut Names, noted: &mut Noted) {
 }
 
 // Names the module of the members of a struct's union.
-fn name_which(node: &mut Node, taken: &mut Names, noted: &mut Noted) {
+fn name_union_module(node: &mut Node, taken: &mut Names, noted: &mut Noted) {
     if let NodeKind::Struct(it) = &mut node.kind {
         if it.members > 0 {
             it.which = noted.unique_name(node.snake.as_str(), "_which", MODULE_WORDS, taken);

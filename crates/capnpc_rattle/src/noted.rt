@@ -1,8 +1,8 @@
 //! Notes what is refused while the request is read, and goes on with an empty value. So the code
 //! that reads the request is without a branch at each call.
 
-use crate::names::snake_case;
-use crate::text::{Names, Text};
+use crate::names::{Names, snake_case};
+use crate::text::Text;
 use anyhow::{Result, anyhow};
 use capnp_words::error::ErrorKind;
 use std::alloc::{AllocError, Global};
@@ -51,7 +51,7 @@ impl Noted {
         match read {
             Ok(value) => Some(value),
             Err(refusal) => {
-                self.refuse(refusal);
+                self.note_refusal(refusal);
                 None
             }
         }
@@ -62,7 +62,7 @@ impl Noted {
         match read {
             Ok(bytes) => bytes,
             Err(refusal) => {
-                self.refuse(refusal);
+                self.note_refusal(refusal);
                 &[]
             }
         }
@@ -103,7 +103,7 @@ impl Noted {
     ) -> String {
         let mut name = Text::new(self.alloc);
         name.push_all(&[start, end]);
-        taken.push_unique(self.alloc, words, &mut name);
+        taken.make_unique_and_add(self.alloc, words, &mut name);
         self.string_or_note(name)
     }
 
@@ -136,13 +136,13 @@ impl Noted {
         }
     }
 
-    /// Notes that memory was lacking elsewhere.
-    pub fn note(&mut self, has_failed: bool) {
+    /// Notes that memory was lacking elsewhere, if it was.
+    pub fn note_if_failed(&mut self, has_failed: bool) {
         self.has_failed = self.has_failed || has_failed;
     }
 
     // Notes a refusal, if it is the first.
-    fn refuse(&mut self, refusal: ErrorKind) {
+    fn note_refusal(&mut self, refusal: ErrorKind) {
         if self.refusal.is_none() {
             self.refusal = Some(refusal);
         }

@@ -1,7 +1,7 @@
 //! The parts of the calls of generated builders: comments, clauses and bodies.
 
-/// Returns the part with this name; nothing if there is none.
-pub fn part(name: &str) -> &'static str {
+/// Returns the template of the part with this name; nothing if there is none.
+pub fn builder_template(name: &str) -> &'static str {
     for part in PARTS.split('@') {
         if let Some((head, text)) = part.split_once('\n')
             && let Some((known, _)) = head.split_once(':')

@@ -1,13 +1,15 @@
 //! Generates readers.
 
-use crate::fields::{begin_comment, lacking, push_skip_comment, put_declared, put_slot, type_of};
+use crate::fields::{
+    enum_type_name, lacking, push_field_comment, push_skip_comment, put_declared, put_slot,
+};
 use crate::forms::BaseKind;
 use crate::imports::READERS;
 use crate::model::{Default, Field, FieldKind, Node, NodeKind, Slot, Struct};
-use crate::names::{VARIANT_WORDS, capitalized};
+use crate::names::{Names, VARIANT_WORDS, capitalized};
 use crate::output::{File, Output};
 use crate::templates;
-use crate::text::{Names, Text, Values};
+use crate::text::{Text, Values};
 use crate::writing::Module;
 use std::alloc::{AllocError, Global};
 
@@ -31,9 +33,9 @@ impl<'m> Readers<'m> {
         }
     }
 
-    /// Writes all files, and returns them. `stem` is the name of the schema's file, without its
+    /// Generates all files, and returns them. `stem` is the name of the schema's file, without its
     /// ending.
-    pub fn write(mut self, stem: &str) -> Result<Vec<File>, AllocError> {
+    pub fn generate(mut self, stem: &str) -> Result<Vec<File>, AllocError> {
         self.definitions.push(templates::DEFINITIONS);
         let nodes = self.output.nodes;
         for node in nodes {
@@ -49,7 +51,7 @@ impl<'m> Readers<'m> {
             ..
         } = self;
         output.finish_crate(stem, definitions);
-        output.files()
+        output.into_files()
     }
 
     // Adds a definition: `values` has its name, `spec`, what it is about, its type, and its value.
@@ -76,19 +78,20 @@ impl<'m> Readers<'m> {
         if !it.is_group {
             module.body.push_filled(templates::READERS, &values);
         }
-        self.output.finish(&mut module, node.full.as_str());
+        self.output.add_module(&mut module, node.full.as_str());
         if it.members > 0 {
-            self.write_members(node, it);
+            self.write_union_module(node, it);
         }
     }
 
     // Writes the module of a union's members.
-    fn write_members(&mut self, node: &Node, it: &Struct) {
+    fn write_union_module(&mut self, node: &Node, it: &Struct) {
         let mut about = Text::new(self.alloc);
         about.push_all(&["Which member of ", node.full.as_str(), " is set"]);
         let members = member_names(self.alloc, it);
-        self.output.note(about.has_failed || members.has_failed);
-        self.write_names(
+        self.output
+            .note_if_failed(about.has_failed || members.has_failed);
+        self.write_enum_module(
             it.which.as_str(),
             "Which",
             about.as_str(),
@@ -106,7 +109,7 @@ impl<'m> Readers<'m> {
             values.put("spec", field.spec.as_str());
             values.put("line", "\n        ");
             values.put_lines(templates::ANY);
-            self.write_field(module, field, &mut values);
+            self.write_field_calls(module, field, &mut values);
         }
     }
 
@@ -121,11 +124,11 @@ impl<'m> Readers<'m> {
         values.put_number("index", offset);
         values.put_number("count", u64::from(it.members));
         module.put_path(it.which.as_str(), &mut values);
-        module.numbers.note(self.alloc, it.which.as_str());
+        module.numbers.add_once(self.alloc, it.which.as_str());
         values.put_lines(templates::ANY);
         values.put_lines(templates::WHICH);
         self.define(module, templates::DEFINITION, &values);
-        module.begin();
+        module.begin_item();
         module.body.push("    /// Returns which member is set.\n");
         push_getter(module, templates::ENUM, &values);
     }
@@ -135,8 +138,8 @@ impl<'m> Readers<'m> {
         if names.is_empty() {
             return;
         }
-        let name = type_of(self.alloc, node);
-        self.write_names(
+        let name = enum_type_name(self.alloc, node);
+        self.write_enum_module(
             node.module.as_str(),
             name.as_str(),
             node.full.as_str(),
@@ -145,7 +148,7 @@ impl<'m> Readers<'m> {
     }
 
     // Writes the module of an enum, or of the members of a union.
-    fn write_names(&mut self, name: &str, of: &str, about: &str, names: &[String]) {
+    fn write_enum_module(&mut self, name: &str, of: &str, about: &str, names: &[String]) {
         let mut module = Module::new(self.alloc, name);
         module.numbers.add(self.alloc, name);
         let mut values = Values::new(self.alloc);
@@ -158,20 +161,20 @@ impl<'m> Readers<'m> {
         module.body.push_filled(templates::NAMES, &values);
         let mut text = Text::new(self.alloc);
         text.push_filled(templates::NUMBERS, &values);
-        self.output.add_numbers(name, text);
-        self.output.finish(&mut module, about);
+        self.output.add_numbers_file(name, text);
+        self.output.add_module(&mut module, about);
     }
 
-    // Writes the getter of a field.
-    fn write_field(&mut self, module: &mut Module, field: &Field, values: &mut Values) {
+    // Writes the calls of a field.
+    fn write_field_calls(&mut self, module: &mut Module, field: &Field, values: &mut Values) {
         match &field.kind {
-            FieldKind::Group(id) => self.write_group(module, *id, values),
+            FieldKind::Group(id) => self.write_group_getter(module, *id, values),
             FieldKind::Slot(slot) => {
-                let why = self.unreadable(slot);
+                let why = self.skip_reason(slot);
                 if !why.is_empty() {
                     push_skip_comment(module, why, values);
                 } else if !slot.of.is_void() {
-                    self.write_slot(module, field, slot, values);
+                    self.write_slot_calls(module, field, slot, values);
                 }
             }
             FieldKind::Unknown => push_skip_comment(module, "its type is unknown", values),
@@ -179,12 +182,12 @@ impl<'m> Readers<'m> {
     }
 
     // Writes the getter of a group.
-    fn write_group(&mut self, module: &mut Module, id: u64, values: &mut Values) {
+    fn write_group_getter(&mut self, module: &mut Module, id: u64, values: &mut Values) {
         let Some(node) = self.output.node(id) else {
             push_skip_comment(module, "its group is unknown", values);
             return;
         };
-        module.begin();
+        module.begin_item();
         module.body.push_filled("    /// ~name~ :group\n", values);
         module.put_path(node.module.as_str(), values);
         values.put_lines(templates::GROUP_PARTS);
@@ -192,7 +195,7 @@ impl<'m> Readers<'m> {
     }
 
     // Why a field has no getter; empty if it has one.
-    fn unreadable(&self, slot: &Slot) -> &'static str {
+    fn skip_reason(&self, slot: &Slot) -> &'static str {
         if matches!(slot.default, Default::Words(_))
             && slot.of.lists == 0
             && !matches!(slot.of.base.kind, BaseKind::Struct)
@@ -204,12 +207,18 @@ impl<'m> Readers<'m> {
 
     // Writes the getter of a field that isn't a group, and of a pointer the call that says whether it is
     // null.
-    fn write_slot(&mut self, module: &mut Module, field: &Field, slot: &Slot, values: &mut Values) {
+    fn write_slot_calls(
+        &mut self,
+        module: &mut Module,
+        field: &Field,
+        slot: &Slot,
+        values: &mut Values,
+    ) {
         let form = slot.of.form();
         let has_default = !matches!(slot.default, Default::Zero);
         put_slot(&self.output, slot, values);
-        module.begin();
-        begin_comment(module, field.ordinal, values);
+        module.begin_item();
+        push_field_comment(module, field.ordinal, values);
         if form.is_declared
             && let Some(node) = self.output.node(slot.of.id)
         {
@@ -256,7 +265,7 @@ fn put_variants(alloc: Global, names: &[String], values: &mut Values) {
     let mut numbers = Text::new(alloc);
     let mut number = 0u64;
     for name in names {
-        let row = variant_of(alloc, name.as_str(), number, &mut taken, values);
+        let row = variant_values(alloc, name.as_str(), number, &mut taken, values);
         variants.push_filled("    /// ~name~ @~number~\n    ~variant~,\n", &row);
         arms.push_filled("        ~number~ => Ok(~type~::~variant~),\n", &row);
         numbers.push_filled("~module~_number ~variant~ = ~number~\n", &row);
@@ -266,13 +275,13 @@ fn put_variants(alloc: Global, names: &[String], values: &mut Values) {
     values.put_text("arms", arms);
     values.put_text("numbers", numbers);
     let mut list = Text::new(alloc);
-    taken.list(&mut list);
+    taken.join_into(&mut list);
     values.put_text("names", list);
 }
 
 // The words of a variant. `taken` are the variants before it, and `values` has the enum's type and
 // module.
-fn variant_of(
+fn variant_values(
     alloc: Global,
     name: &str,
     number: u64,
@@ -280,7 +289,7 @@ fn variant_of(
     values: &Values,
 ) -> Values {
     let mut variant = capitalized(alloc, name);
-    taken.push_unique(alloc, VARIANT_WORDS, &mut variant);
+    taken.make_unique_and_add(alloc, VARIANT_WORDS, &mut variant);
     let mut row = Values::new(alloc);
     row.put("name", name);
     row.put_text("variant", variant);

@@ -1,6 +1,6 @@
 //! Reads the schema compiler's request, a `CodeGeneratorRequest`, by generated readers.
 
-use crate::defaults::copied;
+use crate::defaults::canonical_words;
 use crate::forms::{BaseKind, base_of};
 use crate::model::{Default, Field, FieldKind, Node, NodeKind, Slot, Struct, Type};
 use crate::noted::Noted;
@@ -35,7 +35,7 @@ pub fn read_request<A: ReaderArena>(
 ) -> Request {
     let mut file = String::new(noted.alloc);
     if let Some(files) = noted.ok_or_note(from.get_requested_files(lim)) {
-        file = read_file(files, lim, noted);
+        file = read_first_file_name(files, lim, noted);
     }
     let mut nodes = Vec::new(noted.alloc);
     if let Some(declared) = noted.ok_or_note(from.get_nodes(lim)) {
@@ -45,7 +45,7 @@ pub fn read_request<A: ReaderArena>(
 }
 
 // Reads the name of the first file.
-fn read_file<A: ReaderArena>(
+fn read_first_file_name<A: ReaderArena>(
     files: code_generator_request_requested_file::Readers<'_, A>,
     lim: &mut ReadLimiter,
     noted: &mut Noted,
@@ -76,8 +76,8 @@ fn read_node<A: ReaderArena>(
     lim: &mut ReadLimiter,
     noted: &mut Noted,
 ) -> Node {
-    let full = without_file(noted.text_or_note(from.get_display_name(lim)));
-    let kind = read_kind(from, lim, noted);
+    let full = strip_file_name(noted.text_or_note(from.get_display_name(lim)));
+    let kind = read_node_kind(from, lim, noted);
     Node {
         id: from.get_id(),
         scope: from.get_scope_id(),
@@ -88,8 +88,8 @@ fn read_node<A: ReaderArena>(
     }
 }
 
-// The name of a declaration in its file.
-fn without_file(shown: &str) -> &str {
+// The name of a declaration in its file, without the file's name before it.
+fn strip_file_name(shown: &str) -> &str {
     match shown.split_once(':') {
         Some((_, full)) => full,
         None => shown,
@@ -97,7 +97,7 @@ fn without_file(shown: &str) -> &str {
 }
 
 // Reads what a declaration is.
-fn read_kind<A: ReaderArena>(
+fn read_node_kind<A: ReaderArena>(
     from: node::Reader<'_, A>,
     lim: &mut ReadLimiter,
     noted: &mut Noted,
@@ -225,7 +225,7 @@ fn read_slot<A: ReaderArena>(
     lim: &mut ReadLimiter,
     noted: &mut Noted,
 ) -> FieldKind {
-    let Some(of) = slot_type(from, lim, noted) else {
+    let Some(of) = read_slot_type(from, lim, noted) else {
         return FieldKind::Unknown;
     };
     let default = match noted.ok_or_note(from.get_default_value(lim)) {
@@ -240,7 +240,7 @@ fn read_slot<A: ReaderArena>(
 }
 
 // Reads the type of a field; `None` if it is of an unknown kind.
-fn slot_type<A: ReaderArena>(
+fn read_slot_type<A: ReaderArena>(
     from: field_slot::Reader<'_, A>,
     lim: &mut ReadLimiter,
     noted: &mut Noted,
@@ -356,7 +356,7 @@ fn words_default<A: ReaderArena>(
     if from.is_null() {
         return Default::Zero;
     }
-    match noted.ok_or_note(copied(noted.alloc, from, lim)) {
+    match noted.ok_or_note(canonical_words(noted.alloc, from, lim)) {
         Some(words) => Default::Words(words),
         None => Default::Zero,
     }

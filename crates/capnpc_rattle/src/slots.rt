@@ -1,31 +1,32 @@
 //! The parts of a struct that the fields of a group are.
 
 use crate::model::{FieldKind, Struct, Type};
-use crate::text::{Names, Text};
+use crate::names::Names;
+use crate::text::Text;
 use std::alloc::Global;
 
 /// Adds the fields of a group as parts of a struct: what the prover calls each, such as `TwoBytes 3`.
-pub fn add_fields(alloc: Global, it: &Struct, slots: &mut Names) {
+pub fn add_field_slots(alloc: Global, it: &Struct, slots: &mut Names) {
     if it.members > 0 {
-        note_slot(alloc, "TwoBytes", it.tag_offset, slots);
+        add_slot_once(alloc, "TwoBytes", it.tag_offset, slots);
     }
     for field in it.fields.iter() {
         if let FieldKind::Slot(slot) = &field.kind {
             let kind = slot_kind(slot.of);
             if !kind.is_empty() {
-                note_slot(alloc, kind, slot.offset, slots);
+                add_slot_once(alloc, kind, slot.offset, slots);
             }
         }
     }
 }
 
 // Adds a part of a struct, unless it is there.
-fn note_slot(alloc: Global, kind: &str, offset: u32, slots: &mut Names) {
+fn add_slot_once(alloc: Global, kind: &str, offset: u32, slots: &mut Names) {
     let mut slot = Text::new(alloc);
     slot.push(kind);
     slot.push(" ");
     slot.push_number(u64::from(offset));
-    slots.note(alloc, slot.as_str());
+    slots.add_once(alloc, slot.as_str());
 }
 
 // What the prover calls the part of a struct that a field is; nothing for one without a place.

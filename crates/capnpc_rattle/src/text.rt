@@ -1,4 +1,4 @@
-//! Texts, names and templates. A call that finds no memory notes that, and goes on; who takes the
+//! Texts and templates. A call that finds no memory notes that, and goes on; who takes the
 //! result learns it. So the code that writes files is without a branch at each call.
 
 use std::alloc::{AllocError, Global};
@@ -47,7 +47,7 @@ impl Text {
     /// Appends another text.
     pub fn append(&mut self, other: &Text) {
         self.push(other.as_str());
-        self.note(other.has_failed);
+        self.note_if_failed(other.has_failed);
     }
 
     /// Appends the digits of a number.
@@ -58,7 +58,7 @@ impl Text {
     }
 
     /// Appends `\x` and the two digits of a byte.
-    pub fn push_byte(&mut self, byte: u8) {
+    pub fn push_escaped_byte(&mut self, byte: u8) {
         if write!(self.text, "\\x{byte:02x}").is_err() {
             self.has_failed = true;
         }
@@ -73,7 +73,7 @@ impl Text {
                 self.push(values.get(piece));
             }
         }
-        self.note(values.has_failed);
+        self.note_if_failed(values.has_failed);
     }
 
     /// Appends items, which have a `;` between them, with commas in its place.
@@ -88,8 +88,8 @@ impl Text {
         }
     }
 
-    /// Notes that memory was lacking elsewhere.
-    pub fn note(&mut self, has_failed: bool) {
+    /// Notes that memory was lacking elsewhere, if it was.
+    pub fn note_if_failed(&mut self, has_failed: bool) {
         self.has_failed = self.has_failed || has_failed;
     }
 
@@ -175,97 +175,4 @@ impl Values {
         }
         ""
     }
-}
-
-/// Names in a list.
-#[derive(Drop)]
-pub struct Names {
-    names: Vec<String>,
-    /// Whether memory was lacking for a name.
-    pub has_failed: bool,
-}
-
-impl Names {
-    /// Returns an empty list.
-    pub fn new(alloc: Global) -> Self {
-        Names {
-            names: Vec::new(alloc),
-            has_failed: false,
-        }
-    }
-
-    /// The names.
-    pub fn as_slice(&self) -> &[String] {
-        self.names.as_slice()
-    }
-
-    /// Whether a name is in the list.
-    pub fn contains(&self, name: &str) -> bool {
-        for known in self.names.iter() {
-            if known.as_str() == name {
-                return true;
-            }
-        }
-        false
-    }
-
-    /// Adds a name.
-    pub fn add(&mut self, alloc: Global, name: &str) {
-        match String::from_str(alloc, name) {
-            Ok(name) => {
-                if self.names.push(name).is_err() {
-                    self.has_failed = true;
-                }
-            }
-            Err(_) => self.has_failed = true,
-        }
-    }
-
-    /// Adds a name, unless it is in the list.
-    pub fn note(&mut self, alloc: Global, name: &str) {
-        if !self.contains(name) {
-            self.add(alloc, name);
-        }
-    }
-
-    /// Appends as many `_` to `name` as make it new, and none of these words, and adds it.
-    pub fn push_unique(&mut self, alloc: Global, words: &[&'static str], name: &mut Text) {
-        for _ in 0..u32::MAX {
-            if !is_word(words, name.as_str()) && !self.contains(name.as_str()) {
-                break;
-            }
-            name.push_char('_');
-        }
-        self.add(alloc, name.as_str());
-    }
-
-    /// Sorts the names.
-    pub fn sort(&mut self) {
-        if self.names.sort().is_err() {
-            self.has_failed = true;
-        }
-    }
-
-    /// Appends the names to a text, with commas between them.
-    pub fn list(&self, to: &mut Text) {
-        let mut is_first = true;
-        for name in self.names.iter() {
-            if !is_first {
-                to.push(", ");
-            }
-            to.push(name.as_str());
-            is_first = false;
-        }
-        to.note(self.has_failed);
-    }
-}
-
-// Whether a name is one of these words.
-fn is_word(words: &[&'static str], name: &str) -> bool {
-    for word in words {
-        if *word == name {
-            return true;
-        }
-    }
-    false
 }

@@ -1,9 +1,9 @@
 //! Writes the text of generated files.
 
 use crate::imports::Kind;
-use crate::names::joined;
+use crate::names::{Names, upper_camel_case};
 use crate::templates;
-use crate::text::{Names, Text, Values};
+use crate::text::{Text, Values};
 use std::alloc::Global;
 
 // Two imports that `rt fmt` makes one of. They are the last of a module of readers.
@@ -45,7 +45,7 @@ impl Module {
     }
 
     /// Begins an item of an `impl` block, with an empty line unless it is the first of the text.
-    pub fn begin(&mut self) {
+    pub fn begin_item(&mut self) {
         if !self.body.as_str().is_empty() {
             self.body.push("\n");
         }
@@ -114,7 +114,7 @@ impl Module {
                 _ => self.body.push(line),
             }
         }
-        self.body.note(filled.has_failed);
+        self.body.note_if_failed(filled.has_failed);
     }
 
     /// Takes the text, and leaves none.
@@ -139,7 +139,7 @@ impl Module {
             values.put("path", "");
             return;
         }
-        self.modules.note(self.alloc, other);
+        self.modules.add_once(self.alloc, other);
         let mut path = Text::new(self.alloc);
         path.push_all(&[other, "::"]);
         values.put_text("path", path);
@@ -191,17 +191,17 @@ impl Module {
             let mut row = Values::new(self.alloc);
             row.put("reading", values.get("reading"));
             row.put("module", module.as_str());
-            row.put_text("file", joined(self.alloc, module.as_str()));
+            row.put_text("file", upper_camel_case(self.alloc, module.as_str()));
             text.push_filled(templates::NUMBERS_IMPORT, &row);
         }
-        text.note(self.numbers.has_failed);
+        text.note_if_failed(self.numbers.has_failed);
     }
 
     // Appends an import of some definitions, if there are any.
     fn push_own_import(&self, template: &str, names: &Names, text: &mut Text, values: &mut Values) {
         if !names.as_slice().is_empty() {
             let mut specs = Text::new(self.alloc);
-            names.list(&mut specs);
+            names.join_into(&mut specs);
             values.put_text("specs", specs);
             text.push_filled(template, values);
         }
@@ -222,7 +222,7 @@ fn push_joined_imports(text: &mut Text, uses: &str) {
 // Appends the import of modules of the crate, in the layout of `rt fmt`.
 fn push_module_imports(alloc: Global, to: &mut Text, modules: &Names) {
     let mut all = Text::new(alloc);
-    modules.list(&mut all);
+    modules.join_into(&mut all);
     let mut values = Values::new(alloc);
     values.put_text("all", all);
     let count = modules.as_slice().len();
