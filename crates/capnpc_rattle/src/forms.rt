@@ -98,7 +98,7 @@ macro_rules! base {
     };
 }
 
-/// The type with this number in `schema.capnp`. What isn't there, as a list, is any pointer.
+/// The type with this number in `schema.capnp`. Lists and unknown types are any pointer.
 pub fn base_of(number: usize) -> &'static Base {
     match BASES.get(number) {
         Some(base) => base,
