@@ -92,8 +92,8 @@ impl Noted {
         self.string_or_note(snake)
     }
 
-    /// Returns a name that isn't taken, and isn't one of these words: `start`, `end`, and as many `_` as
-    /// that takes. Takes it.
+    /// Returns a name that isn't taken, and isn't one of these words: `start`, `end`, and as many
+    /// `_` as that takes. Takes it.
     pub fn unique_name(
         &mut self,
         start: &str,
