@@ -26,7 +26,8 @@ use capnp_readers::readers::{ListPlace, StructPlace};
 use capnp_words::error::ErrorKind;
 use capnp_words::read_limiter::ReadLimiter;
 use capnp_words::wire_pointer::StructSize;
-use typed_building::{copying, list, opening, reading, value};
+use typed_building::places::{FromListPlace, FromStructPlace};
+use typed_building::{copying, list, places, reading};
 
 /// The sections of a struct AddressBook.
 pub const SIZE: StructSize = StructSize {
@@ -39,6 +40,16 @@ pub const SIZE: StructSize = StructSize {
 pub struct Builder {
     /// The place of the struct.
     pub place: StructPlace,
+}
+
+impl FromStructPlace for Builder {
+    ghost place_of = { λ b. b.place };
+
+    fn from_place(place: StructPlace) -> Self
+        ensures { result.place ≡ place }
+    {
+        Builder { place }
+    }
 }
 
 impl Builder {
@@ -56,10 +67,7 @@ impl Builder {
             → IfOk result (λ b. HasStruct (A.view arena.new).words (pointer_to 0 0) b.place
             (words_of_zero 0) (nulls 1)) }
     {
-        match value::init_root(arena, SIZE) {
-            Ok(place) => Ok(Builder { place }),
-            Err(k) => Err(k),
-        }
+        places::init_root(arena, SIZE)
     }
 
     /// people @0 :List(Person)
@@ -88,10 +96,7 @@ impl Builder {
             (call_in self.place (A.view arena.old).words (A.view arena.new).words) 0
             (zero_structs count person_size) }
     {
-        match value::init_struct_list(arena, self.place, 0, count, person::SIZE) {
-            Ok(place) => Ok(person::Builders { place }),
-            Err(k) => Err(k),
-        }
+        places::init_struct_list(arena, self.place, 0, count, person::SIZE)
     }
 
     /// Returns people, for writing.
@@ -124,10 +129,7 @@ impl Builder {
             → HasStruct (A.view arena.old).words x self.place ws ts
             → Grows (A.view arena.old).words (A.view arena.new).words }
     {
-        match opening::get_struct_list(arena, self.place, 0, person::SIZE) {
-            Ok(place) => Ok(person::Builders { place }),
-            Err(k) => Err(k),
-        }
+        places::get_struct_list(arena, self.place, 0, person::SIZE)
     }
 
     /// Sets people to a copy of `from`.
@@ -169,6 +171,16 @@ impl Builder {
 pub struct Builders {
     /// The place of the list.
     pub place: ListPlace,
+}
+
+impl FromListPlace for Builders {
+    ghost place_of = { λ b. b.place };
+
+    fn from_place(place: ListPlace) -> Self
+        ensures { result.place ≡ place }
+    {
+        Builders { place }
+    }
 }
 
 impl Builders {

@@ -31,8 +31,9 @@ use capnp_readers::readers::{ListPlace, StructPlace};
 use capnp_words::error::ErrorKind;
 use capnp_words::read_limiter::ReadLimiter;
 use capnp_words::wire_pointer::StructSize;
+use typed_building::places::{FromListPlace, FromStructPlace};
 use typed_building::slots::Slot;
-use typed_building::{copying, groups, list, opening, reading, value};
+use typed_building::{copying, groups, list, places, reading, value};
 
 /// The sections of a struct Person.
 pub const SIZE: StructSize = StructSize {
@@ -45,6 +46,16 @@ pub const SIZE: StructSize = StructSize {
 pub struct Builder {
     /// The place of the struct.
     pub place: StructPlace,
+}
+
+impl FromStructPlace for Builder {
+    ghost place_of = { λ b. b.place };
+
+    fn from_place(place: StructPlace) -> Self
+        ensures { result.place ≡ place }
+    {
+        Builder { place }
+    }
 }
 
 impl Builder {
@@ -62,10 +73,7 @@ impl Builder {
             → IfOk result (λ b. HasStruct (A.view arena.new).words (pointer_to 0 0) b.place
             (words_of_zero 1) (nulls 4)) }
     {
-        match value::init_root(arena, SIZE) {
-            Ok(place) => Ok(Builder { place }),
-            Err(k) => Err(k),
-        }
+        places::init_root(arena, SIZE)
     }
 
     /// id @0 :UInt32
@@ -169,10 +177,7 @@ impl Builder {
             (call_in self.place (A.view arena.old).words (A.view arena.new).words) 2
             (zero_structs count person_phone_number_size) }
     {
-        match value::init_struct_list(arena, self.place, 2, count, person_phone_number::SIZE) {
-            Ok(place) => Ok(person_phone_number::Builders { place }),
-            Err(k) => Err(k),
-        }
+        places::init_struct_list(arena, self.place, 2, count, person_phone_number::SIZE)
     }
 
     /// Returns phones, for writing.
@@ -208,10 +213,7 @@ impl Builder {
             → HasStruct (A.view arena.old).words x self.place ws ts
             → Grows (A.view arena.old).words (A.view arena.new).words }
     {
-        match opening::get_struct_list(arena, self.place, 2, person_phone_number::SIZE) {
-            Ok(place) => Ok(person_phone_number::Builders { place }),
-            Err(k) => Err(k),
-        }
+        places::get_struct_list(arena, self.place, 2, person_phone_number::SIZE)
     }
 
     /// Sets phones to a copy of `from`.
@@ -278,6 +280,16 @@ impl Builder {
 pub struct Builders {
     /// The place of the list.
     pub place: ListPlace,
+}
+
+impl FromListPlace for Builders {
+    ghost place_of = { λ b. b.place };
+
+    fn from_place(place: ListPlace) -> Self
+        ensures { result.place ≡ place }
+    {
+        Builders { place }
+    }
 }
 
 impl Builders {

@@ -20,7 +20,8 @@ use capnp_arena_traits::arena::BuilderArena;
 use capnp_readers::readers::{ListPlace, StructPlace};
 use capnp_words::error::ErrorKind;
 use capnp_words::wire_pointer::StructSize;
-use typed_building::{list, reading, value};
+use typed_building::places::{FromListPlace, FromStructPlace};
+use typed_building::{list, places, reading, value};
 use typed_reading::error::NotInSchema;
 
 /// The sections of a struct Person.PhoneNumber.
@@ -34,6 +35,16 @@ pub const SIZE: StructSize = StructSize {
 pub struct Builder {
     /// The place of the struct.
     pub place: StructPlace,
+}
+
+impl FromStructPlace for Builder {
+    ghost place_of = { λ b. b.place };
+
+    fn from_place(place: StructPlace) -> Self
+        ensures { result.place ≡ place }
+    {
+        Builder { place }
+    }
 }
 
 impl Builder {
@@ -51,10 +62,7 @@ impl Builder {
             → IfOk result (λ b. HasStruct (A.view arena.new).words (pointer_to 0 0) b.place
             (words_of_zero 1) (nulls 1)) }
     {
-        match value::init_root(arena, SIZE) {
-            Ok(place) => Ok(Builder { place }),
-            Err(k) => Err(k),
-        }
+        places::init_root(arena, SIZE)
     }
 
     /// number @0 :Text
@@ -129,6 +137,16 @@ impl Builder {
 pub struct Builders {
     /// The place of the list.
     pub place: ListPlace,
+}
+
+impl FromListPlace for Builders {
+    ghost place_of = { λ b. b.place };
+
+    fn from_place(place: ListPlace) -> Self
+        ensures { result.place ≡ place }
+    {
+        Builders { place }
+    }
 }
 
 impl Builders {
