@@ -425,10 +425,10 @@ static NEVER u8 capnp_objects_pointers_sizes_add_object_70170357b7303457(u8 *a_1
 static NEVER void capnp_objects_source_Source_measure_object_70170357b7303457(u8 *a_1, u8 *a_2, u8 *a_3, u32 a_4, u8 *a_5);
 static NEVER u8 capnp_objects_pointers_sizes_add_pointers_70170357b7303457(u8 *a_1, u32 a_2, u32 a_3, u32 a_4, u8 *a_5);
 static u8 capnp_messages_text_write_number_05c50f83f81b9c23(u8 *a_1, u64 a_2);
-static u8 capnp_layout_tool_frames_write_number_05c50f83f81b9c23(u8 *a_1, u32 a_2);
-static u8 capnp_layout_tool_writing_write_digits_05c50f83f81b9c23(u8 *a_1, u8 *a_2, u64 a_3);
+static u8 capnp_layout_tool_frames_write_hex_u32_05c50f83f81b9c23(u8 *a_1, u32 a_2);
+static u8 capnp_layout_tool_writing_write_hex_digits_05c50f83f81b9c23(u8 *a_1, u8 *a_2, u64 a_3);
 static void capnp_layout_tool_framed_read_frame(u8 *a_1, u8 *a_2);
-static void capnp_layout_tool_engine_canon_8738c8d4622c75c1(u8 *a_1, u8 *a_2, u8 *a_3, u8 *a_4, u8 a_5, u8 *a_6);
+static void capnp_layout_tool_engine_answer_canon_8738c8d4622c75c1(u8 *a_1, u8 *a_2, u8 *a_3, u8 *a_4, u8 a_5, u8 *a_6);
 static NEVER COLD u8 std_alloc_vec_Vec_grow_amortized_044c3d3b74b9c55e(u8 *a_1, u64 a_2);
 static NEVER COLD void capnp_messages_messages_copy_memory_CopySegment_zero_up_to(u8 *a_1, u64 a_2);
 static NEVER COLD struct s_i8_i32 capnp_arena_arena_rows_allocate_in_4426f83c3c99ca57(u8 *a_1, u64 a_2, u32 a_3);
@@ -3515,8 +3515,8 @@ l_return_ri:;
     return r_fk;
 }
 
-/* capnp_layout::tool::frames::write_number::<#05c50f83f81b9c23> */
-static u8 capnp_layout_tool_frames_write_number_05c50f83f81b9c23(u8 *a_1, u32 a_2)
+/* capnp_layout::tool::frames::write_hex_u32::<#05c50f83f81b9c23> */
+static u8 capnp_layout_tool_frames_write_hex_u32_05c50f83f81b9c23(u8 *a_1, u32 a_2)
 {
     A(8) u8 slot_1[96];
     A(8) u8 slot_2[8];
@@ -3593,8 +3593,8 @@ l_capnp_ri:;
     return r_fk;
 }
 
-/* capnp_layout::tool::writing::write_digits::<#05c50f83f81b9c23> */
-static u8 capnp_layout_tool_writing_write_digits_05c50f83f81b9c23(u8 *a_1, u8 *a_2, u64 a_3)
+/* capnp_layout::tool::writing::write_hex_digits::<#05c50f83f81b9c23> */
+static u8 capnp_layout_tool_writing_write_hex_digits_05c50f83f81b9c23(u8 *a_1, u8 *a_2, u64 a_3)
 {
     A(8) u8 slot_1[96];
     A(1) u8 slot_2[16];
@@ -3778,8 +3778,8 @@ l_join_s8:;
     goto l_common_68;
 }
 
-/* capnp_layout::tool::engine::canon::<#8738c8d4622c75c1> */
-static void capnp_layout_tool_engine_canon_8738c8d4622c75c1(u8 *a_1, u8 *a_2, u8 *a_3, u8 *a_4, u8 a_5, u8 *a_6)
+/* capnp_layout::tool::engine::answer_canon::<#8738c8d4622c75c1> */
+static void capnp_layout_tool_engine_answer_canon_8738c8d4622c75c1(u8 *a_1, u8 *a_2, u8 *a_3, u8 *a_4, u8 a_5, u8 *a_6)
 {
     A(8) u8 slot_1[1];
     A(8) u8 slot_2[96];
@@ -4605,9 +4605,9 @@ l_after_64:;
     UNREACHABLE();
 l_capnp_gl:;
     r_um_2 = ((u64)(r_lg << 3ull) & 0x7fffffff8ull);
-    if (!(u8)(a_5 & 1)) goto l_capnp_t2;
-    u8 r_07 = capnp_layout_tool_writing_write_digits_05c50f83f81b9c23(a_6, r_np, r_um_2);
-    if ((u8)(r_07 & 1)) { r_3i = 3u; goto l_then_33; }
+    if (!(u8)(a_5 & 1)) goto l_capnp_ak;
+    u8 r_f9_3 = capnp_layout_tool_writing_write_hex_digits_05c50f83f81b9c23(a_6, r_np, r_um_2);
+    if ((u8)(r_f9_3 & 1)) { r_3i = 3u; goto l_then_33; }
     r_rq_1 = away(a_6, 8ull);
     r_xz = away(a_6, 24ull);
     r_08_1 = away(a_6, 16ull);
@@ -4648,13 +4648,13 @@ l_arm_mz:;
     r_7u = r_9;
     r_j3 = r_10;
     goto l_join_c8;
-l_capnp_t2:;
-    u8 r_et = capnp_layout_tool_frames_write_number_05c50f83f81b9c23(a_6, 0u);
-    if ((u8)(r_et & 1)) { r_3i = 3u; goto l_then_33; }
-    u8 r_k3 = capnp_layout_tool_frames_write_number_05c50f83f81b9c23(a_6, r_wt);
-    if ((u8)(r_k3 & 1)) { r_3i = 3u; goto l_then_33; }
-    u8 r_07_1 = capnp_layout_tool_writing_write_digits_05c50f83f81b9c23(a_6, r_np, r_um_2);
-    if ((u8)(r_07_1 & 1)) { r_3i = 3u; goto l_then_33; }
+l_capnp_ak:;
+    u8 r_u7 = capnp_layout_tool_frames_write_hex_u32_05c50f83f81b9c23(a_6, 0u);
+    if ((u8)(r_u7 & 1)) { r_3i = 3u; goto l_then_33; }
+    u8 r_od = capnp_layout_tool_frames_write_hex_u32_05c50f83f81b9c23(a_6, r_wt);
+    if ((u8)(r_od & 1)) { r_3i = 3u; goto l_then_33; }
+    u8 r_f9_4 = capnp_layout_tool_writing_write_hex_digits_05c50f83f81b9c23(a_6, r_np, r_um_2);
+    if ((u8)(r_f9_4 & 1)) { r_3i = 3u; goto l_then_33; }
     r_rq_2 = away(a_6, 8ull);
     r_xz_1 = away(a_6, 24ull);
     r_08_2 = away(a_6, 16ull);
@@ -10702,8 +10702,8 @@ int main(int count, char **words)
     u32 r_12_3;
     u64 indvars_ez;
     u64 indvars_3k;
-    u64 r_sm;
-    u8 *r_34;
+    u64 r_g2;
+    u8 *r_15_1;
     u8 *r_x5_43;
     u8 *r_7u_5;
     u64 r_j3_5;
@@ -10746,8 +10746,8 @@ int main(int count, char **words)
     u64 r_rx_1;
     u64 r_6u;
     u64 r_j7;
-    u64 r_fc;
-    u8 *r_lv_2;
+    u64 r_hl;
+    u8 *r_a5;
     u8 *r_7u_6;
     u64 r_j3_6;
     u64 r_52_36;
@@ -11769,7 +11769,7 @@ l_arm_oq:;
     stp(slot_12, r_69);
     st64((slot_12 + 8), r_jc);
     st64((slot_12 + 16), r_6q_1);
-    capnp_layout_tool_engine_canon_8738c8d4622c75c1(slot_10, slot_11, slot_12, slot_8, 1u, slot_17);
+    capnp_layout_tool_engine_answer_canon_8738c8d4622c75c1(slot_10, slot_11, slot_12, slot_8, 1u, slot_17);
     goto l_capnp_oa;
 l_arm_hk:;
     if (r_jc < 0x100000000ull) { r_5a = r_69; r_2l = r_jc; goto l_loop_7z; }
@@ -12381,8 +12381,8 @@ l_join_4p:;
     if (r_jc == 0ull) { r_74 = 1ull; r_y0 = 0u; r_0o_1 = 0ull; goto l_arm_1h; }
     if (r_jc > 512ull) { r_74 = 1ull; r_y0 = 1u; r_0o_1 = r_jc; goto l_arm_1h; }
     r_12_3 = (u32)r_jc;
-    u8 r_eq = capnp_layout_tool_frames_write_number_05c50f83f81b9c23(slot_17, (r_12_3 + 0xffffffffu));
-    if ((u8)(r_eq & 1)) { r_bk_5 = 3u; goto l_capnp_qu; }
+    u8 r_sx_1 = capnp_layout_tool_frames_write_hex_u32_05c50f83f81b9c23(slot_17, (r_12_3 + 0xffffffffu));
+    if ((u8)(r_sx_1 & 1)) { r_bk_5 = 3u; goto l_capnp_qu; }
     indvars_ez = 0ull;
     goto l_capnp_ti;
 l_loop_51:;
@@ -12390,13 +12390,13 @@ l_loop_51:;
     if (indvars_r7 == r_jc) goto l_arm_ig;
     indvars_ez = indvars_r7;
 l_capnp_ti:;
-    u8 r_wl = capnp_layout_tool_frames_write_number_05c50f83f81b9c23(slot_17, (u32)(u64)(ld64(away(away(r_69, (indvars_ez * 24ull)), 8ull)) >> 3ull));
-    if ((u8)(r_wl & 1)) { r_bk_5 = 3u; goto l_capnp_qu; }
+    u8 r_ai = capnp_layout_tool_frames_write_hex_u32_05c50f83f81b9c23(slot_17, (u32)(u64)(ld64(away(away(r_69, (indvars_ez * 24ull)), 8ull)) >> 3ull));
+    if ((u8)(r_ai & 1)) { r_bk_5 = 3u; goto l_capnp_qu; }
     goto l_loop_51;
 l_arm_ig:;
     if (!((r_12_3 & 1u) == 0u)) goto l_join_qu_4;
-    u8 r_2a = capnp_layout_tool_frames_write_number_05c50f83f81b9c23(slot_17, 0u);
-    if ((u8)(r_2a & 1)) { r_bk_5 = 3u; goto l_capnp_qu; }
+    u8 r_m3_1 = capnp_layout_tool_frames_write_hex_u32_05c50f83f81b9c23(slot_17, 0u);
+    if ((u8)(r_m3_1 & 1)) { r_bk_5 = 3u; goto l_capnp_qu; }
 l_join_qu_4:;
     indvars_3k = 0ull;
     goto l_join_53;
@@ -12405,13 +12405,13 @@ l_loop_vv:;
     if (indvars_r7_1 == r_jc) goto l_arm_qn_2;
     indvars_3k = indvars_r7_1;
 l_join_53:;
-    if (!(r_jc > indvars_3k)) { r_sm = 0ull; r_34 = ((u8 *)g_static_5); goto l_capnp_vx; }
+    if (!(r_jc > indvars_3k)) { r_g2 = 0ull; r_15_1 = ((u8 *)g_static_5); goto l_capnp_1p; }
     u8 *r_2b_16 = away(r_69, (indvars_3k * 24ull));
-    r_sm = ld64(away(r_2b_16, 8ull));
-    r_34 = ldp(r_2b_16);
-l_capnp_vx:;
-    u8 r_yy = capnp_layout_tool_writing_write_digits_05c50f83f81b9c23(slot_17, r_34, r_sm);
-    if ((u8)(r_yy & 1)) { r_bk_5 = 3u; goto l_capnp_qu; }
+    r_g2 = ld64(away(r_2b_16, 8ull));
+    r_15_1 = ldp(r_2b_16);
+l_capnp_1p:;
+    u8 r_48 = capnp_layout_tool_writing_write_hex_digits_05c50f83f81b9c23(slot_17, r_15_1, r_g2);
+    if ((u8)(r_48 & 1)) { r_bk_5 = 3u; goto l_capnp_qu; }
     goto l_loop_vv;
 l_arm_qn_2:;
     r_x5_43 = (slot_2 + 8);
@@ -12520,7 +12520,7 @@ l_join_e4:;
     r_xw_21 = ldp((slot_4 + 24));
     indvars_rl = 0ull;
 l_join_6x:;
-    if (!(r_52_33 > indvars_rl)) { r_fc = 0ull; r_lv_2 = ((u8 *)g_static_5); goto l_capnp_bq; }
+    if (!(r_52_33 > indvars_rl)) { r_hl = 0ull; r_a5 = ((u8 *)g_static_5); goto l_capnp_7n; }
     r_a0_1 = (indvars_rl & 0xffffffe0ull);
     r_we = (r_a0_1 + 32ull);
     r_9r = ((u64)(indvars_rl >> 2ull) & 0x3ffffff8ull);
@@ -12554,11 +12554,11 @@ l_join_rl_1:;
 l_capnp_mx:;
     r_j7 = (r_6u + r_52_35);
 l_capnp_oz:;
-    r_fc = (u64)((u64)ld32((r_xw_20 + (i64)((u64)(indvars_rl << 2ull)))) << 3ull);
-    r_lv_2 = away(r_xw_21, (u64)(r_j7 << 3ull));
-l_capnp_bq:;
-    u8 r_u5 = capnp_layout_tool_writing_write_digits_05c50f83f81b9c23(slot_17, r_lv_2, r_fc);
-    if ((u8)(r_u5 & 1)) { r_2c_2 = 3u; goto l_capnp_2x; }
+    r_hl = (u64)((u64)ld32((r_xw_20 + (i64)((u64)(indvars_rl << 2ull)))) << 3ull);
+    r_a5 = away(r_xw_21, (u64)(r_j7 << 3ull));
+l_capnp_7n:;
+    u8 r_xh = capnp_layout_tool_writing_write_hex_digits_05c50f83f81b9c23(slot_17, r_a5, r_hl);
+    if ((u8)(r_xh & 1)) { r_2c_2 = 3u; goto l_capnp_2x; }
     r_7u_6 = ((u8 *)g_static_6);
     r_j3_6 = 1ull;
 l_join_c8_6:;
@@ -12638,7 +12638,7 @@ l_arm_oq_1:;
     stp(slot_14, r_69);
     st64((slot_14 + 8), r_jc);
     st64((slot_14 + 16), r_6q_1);
-    capnp_layout_tool_engine_canon_8738c8d4622c75c1(slot_10, slot_13, slot_14, slot_9, 0u, slot_17);
+    capnp_layout_tool_engine_answer_canon_8738c8d4622c75c1(slot_10, slot_13, slot_14, slot_9, 0u, slot_17);
     goto l_capnp_oa;
 l_arm_os:;
     memset(slot_7, 0u, 24);

@@ -453,12 +453,12 @@ static const u64 switch_table_capnp_copies_copy_copy_object_f743e1513b93edc7[7] 
 static const u64 switch_table_capnp_refusals_refusals_search_search_obj_02795f29[5] = { 1u, 8u, 16u, 32u, 64u };
 static const u64 switch_table_capnp_streams_streams_answers_answer_daa9_dec72aec[14] = { 35u, 33u, 13u, 12u, 28u, 57u, 56u, 31u, 38u, 44u, 72u, 61u, 59u, 21u };
 static const struct place switch_table_capnp_streams_streams_answers_answer_daa9_d136af1c[14] = { PLACE(g_static_46), PLACE(g_static_47), PLACE(g_static_48), PLACE(g_static_49), PLACE(g_static_50), PLACE(g_static_51), PLACE(g_static_52), PLACE(g_static_53), PLACE(g_static_54), PLACE(g_static_55), PLACE(g_static_56), PLACE(g_static_57), PLACE(g_static_58), PLACE(g_static_59) };
-static const struct place switch_table_stream_runs_run_told[7] = { PLACE(g_static_78), PLACE(g_static_79), PLACE(g_static_80), PLACE(g_static_81), PLACE(g_static_82), PLACE(g_static_83), PLACE(g_static_84) };
-static const u64 switch_table_stream_runs_run_told_25[7] = { 10u, 15u, 14u, 9u, 10u, 11u, 16u };
-static const struct place switch_table_stream_runs_run_told_26[35] = { PLACE(g_static_84), PLACE(g_static_85), PLACE(g_static_86), PLACE(g_static_87), PLACE(g_static_88), PLACE(g_static_89), PLACE(g_static_90), PLACE(g_static_91), PLACE(g_static_92), PLACE(g_static_93), PLACE(g_static_94), PLACE(g_static_95), PLACE(g_static_96), PLACE(g_static_97), PLACE(g_static_98), PLACE(g_static_99), PLACE(g_static_100), PLACE(g_static_101), PLACE(g_static_102), PLACE(g_static_103), PLACE(g_static_104), PLACE(g_static_105), PLACE(g_static_106), PLACE(g_static_107), PLACE(g_static_108), PLACE(g_static_109), PLACE(g_static_110), PLACE(g_static_111), PLACE(g_static_112), PLACE(g_static_113), PLACE(g_static_114), PLACE(g_static_115), PLACE(g_static_116), PLACE(g_static_117), PLACE(g_static_118) };
-static const u64 switch_table_stream_runs_run_told_27[35] = { 16u, 44u, 34u, 33u, 47u, 25u, 48u, 53u, 38u, 38u, 47u, 50u, 16u, 25u, 56u, 56u, 46u, 68u, 49u, 56u, 49u, 60u, 36u, 33u, 41u, 24u, 40u, 15u, 20u, 11u, 17u, 28u, 24u, 20u, 18u };
+static const struct place switch_table_stream_runs_run_format_outcome[7] = { PLACE(g_static_78), PLACE(g_static_79), PLACE(g_static_80), PLACE(g_static_81), PLACE(g_static_82), PLACE(g_static_83), PLACE(g_static_84) };
+static const u64 switch_table_stream_runs_run_format_outcome_25[7] = { 10u, 15u, 14u, 9u, 10u, 11u, 16u };
+static const struct place switch_table_stream_runs_run_format_outcome_26[35] = { PLACE(g_static_84), PLACE(g_static_85), PLACE(g_static_86), PLACE(g_static_87), PLACE(g_static_88), PLACE(g_static_89), PLACE(g_static_90), PLACE(g_static_91), PLACE(g_static_92), PLACE(g_static_93), PLACE(g_static_94), PLACE(g_static_95), PLACE(g_static_96), PLACE(g_static_97), PLACE(g_static_98), PLACE(g_static_99), PLACE(g_static_100), PLACE(g_static_101), PLACE(g_static_102), PLACE(g_static_103), PLACE(g_static_104), PLACE(g_static_105), PLACE(g_static_106), PLACE(g_static_107), PLACE(g_static_108), PLACE(g_static_109), PLACE(g_static_110), PLACE(g_static_111), PLACE(g_static_112), PLACE(g_static_113), PLACE(g_static_114), PLACE(g_static_115), PLACE(g_static_116), PLACE(g_static_117), PLACE(g_static_118) };
+static const u64 switch_table_stream_runs_run_format_outcome_27[35] = { 16u, 44u, 34u, 33u, 47u, 25u, 48u, 53u, 38u, 38u, 47u, 50u, 16u, 25u, 56u, 56u, 46u, 68u, 49u, 56u, 49u, 60u, 36u, 33u, 41u, 24u, 40u, 15u, 20u, 11u, 17u, 28u, 24u, 20u, 18u };
 
-static void test_support_lines_respond_c2e21d39fa0b5a16(u8 *a_1, u8 *a_2);
+static void test_support_lines_try_answer_lines_c2e21d39fa0b5a16(u8 *a_1, u8 *a_2);
 static NEVER COLD u8 std_alloc_vec_Vec_grow_amortized_a0db22a8cd3e9023(u8 *a_1, u64 a_2);
 static void std_io_stdio_LockedStdinRead_read(u8 *a_1, u8 *a_2, u8 *a_3, u64 a_4);
 static void std_io_io_error_Error_from_raw_os_error(u8 *a_1, u32 a_2);
@@ -470,14 +470,14 @@ static void core_iter_pattern_CharPattern_first_in(u8 *a_1, u8 *a_2, u8 *a_3, u6
 static NEVER COLD u8 std_alloc_vec_Vec_grow_amortized_9b6ded5b4b55f6ec(u8 *a_1);
 static NEVER COLD u8 std_alloc_vec_Vec_grow_amortized_07b8a0e284928e0f(u8 *a_1);
 static void capnp_streams_streams_arguments_ParsedArguments_parse_argument(u8 *a_1, u8 *a_2, u8 *a_3, u64 a_4);
-static void capnp_streams_streams_arguments_ParsedArguments_parse_value_or(u8 *a_1, u8 *a_2, u8 a_3, u8 *a_4, u64 a_5, u8 *a_6);
+static void capnp_streams_streams_arguments_ParsedArguments_apply_value(u8 *a_1, u8 *a_2, u8 a_3, u8 *a_4, u64 a_5, u8 *a_6);
 static void capnp_streams_streams_path_Path_with_parsed_index(u8 *a_1, u8 *a_2, u8 *a_3, u64 a_4);
-static struct s_i8_i32 capnp_streams_streams_arguments_parse_levels(u8 *a_1, u64 a_2);
+static struct s_i8_i32 capnp_streams_streams_arguments_parse_i32(u8 *a_1, u64 a_2);
 static void capnp_streams_streams_arguments_parse_number_or_none(u8 *a_1, u8 *a_2, u64 a_3);
 static u8 core_cmp_text_RefStrPartialEq_eq(u8 *a_1, u8 *a_2);
-static void capnp_streams_streams_arguments_ParsedArguments_check__18972e76(u8 *a_1, u8 *a_2);
+static void capnp_streams_streams_arguments_ParsedArguments_into_c_2f209205(u8 *a_1, u8 *a_2);
 static NEVER COLD u8 std_alloc_vec_Vec_grow_amortized_4bfbfd015d35923a(u8 *a_1);
-static struct s_i8_i64 test_support_lines_limit(u8 *a_1, u64 a_2);
+static struct s_i8_i64 test_support_lines_parse_limit(u8 *a_1, u64 a_2);
 static void capnp_framing_framing_reading_read_into_with_c64c2ae8153823eb(u8 *a_1, u8 *a_2, u8 *a_3, u64 a_4, u8 *a_5);
 static struct s_i8_i64 capnp_packing_packing_unpacking_input_UnpackingInput_u_4e0d495e(u8 *a_1, u8 *a_2, u64 a_3);
 static void capnp_packing_packing_place_within_word(u8 *a_1, u8 a_2, u8 a_3);
@@ -572,7 +572,7 @@ static u8 capnp_streams_streams_writing_write_canonical_words_8f_05990e18(u8 *a_
 static u8 capnp_framing_devices_writing_write_all_8f96f6ec7b627d06(u8 *a_1, u8 *a_2, u64 a_3);
 static u8 capnp_messages_text_write_number_8f96f6ec7b627d06(u8 *a_1, u64 a_2);
 static u8 capnp_packing_packing_packing_output_PackingOutput_wri_d9211852(u8 *a_1);
-static void stream_runs_run_told(u8 *a_1, u8 *a_2, u8 *a_3, u64 a_4);
+static void stream_runs_run_format_outcome(u8 *a_1, u8 *a_2, u8 *a_3, u64 a_4);
 static u8 core_fmt_formatter_Formatter_write_piece_4f578d6f74133897(u8 *a_1, u8 *a_2);
 static NEVER COLD u8 std_alloc_vec_Vec_grow_amortized_c5f2a4b38a10dd8f(u8 *a_1, u64 a_2);
 static NEVER COLD u8 core_fmt_formatter_Formatter_write_indented_ea071c521f3f30b4(u8 *a_1, u8 *a_2, u64 a_3);
@@ -581,8 +581,8 @@ static NEVER COLD void std_io_buffered_BufWriter_write_all_cold_ad0c09b9bd0862cc
 static void std_io_buffered_BufWriter_flush_buf_ad0c09b9bd0862cc(u8 *a_1, u8 *a_2);
 static void std_io_buffered_BufWriter_drop_ad0c09b9bd0862cc(u8 *a_1);
 
-/* test_support::lines::respond::<#c2e21d39fa0b5a16> */
-static void test_support_lines_respond_c2e21d39fa0b5a16(u8 *a_1, u8 *a_2)
+/* test_support::lines::try_answer_lines::<#c2e21d39fa0b5a16> */
+static void test_support_lines_try_answer_lines_c2e21d39fa0b5a16(u8 *a_1, u8 *a_2)
 {
     A(8) u8 slot_1[1];
     A(8) u8 slot_2[8240];
@@ -1609,14 +1609,14 @@ static void test_support_lines_respond_c2e21d39fa0b5a16(u8 *a_1, u8 *a_2)
     u64 r_qw_9;
     u64 r_38_84;
     u64 r_h9;
-    struct s_i8_i64 r_k6_3;
+    struct s_i8_i64 r_op_1;
     u8 t_7q;
     u64 r_uw;
     u64 r_2u_1;
     u8 *r_rv_10;
     u64 r_qw_10;
     u64 r_38_86;
-    struct s_i8_i64 r_k6_4;
+    struct s_i8_i64 r_op_2;
     u64 r_o2_1;
     u64 r_7d;
     u64 r_2l;
@@ -3904,9 +3904,9 @@ l_arm_e2:;
     core_iter_pattern_CharPattern_first_in(slot_3, slot_2, r_rv_9, r_qw_9);
     if (!(ld8(slot_3) == 1u)) goto l_arm_lc;
     r_38_84 = ld64(r_zd_17);
-    struct s_i8_i64 r_k6_2 = test_support_lines_limit(r_rv_9, ld64(r_x5_19));
-    r_h9 = r_k6_2.f1;
-    if (r_k6_2.f0 == 1u) goto l_arm_a0;
+    struct s_i8_i64 r_op = test_support_lines_parse_limit(r_rv_9, ld64(r_x5_19));
+    r_h9 = r_op.f1;
+    if (r_op.f0 == 1u) goto l_arm_g0;
     t_7q = 0u;
     r_uw = 0ull;
     r_2u_1 = 0ull;
@@ -3916,12 +3916,12 @@ l_arm_lc:;
     r_uw = 0ull;
     r_2u_1 = 0ull;
     goto l_stream_dq;
-l_arm_a0:;
-    r_k6_3 = test_support_lines_limit(away(r_rv_9, r_38_84), (r_qw_9 - r_38_84));
-    if (!(r_k6_3.f0 == 1u)) { t_7q = 0u; r_uw = 0ull; r_2u_1 = 0ull; goto l_stream_dq; }
+l_arm_g0:;
+    r_op_1 = test_support_lines_parse_limit(away(r_rv_9, r_38_84), (r_qw_9 - r_38_84));
+    if (!(r_op_1.f0 == 1u)) { t_7q = 0u; r_uw = 0ull; r_2u_1 = 0ull; goto l_stream_dq; }
     t_7q = 1u;
     r_uw = r_h9;
-    r_2u_1 = r_k6_3.f1;
+    r_2u_1 = r_op_1.f1;
 l_stream_dq:;
     r_rv_10 = ldp(r_9j);
     r_qw_10 = ld64(away(r_xw_6, 40ull));
@@ -3930,14 +3930,14 @@ l_stream_dq:;
     core_iter_pattern_CharPattern_first_in(slot_3, slot_2, r_rv_10, r_qw_10);
     if (!(ld8(slot_3) == 1u)) goto l_arm_in;
     r_38_86 = ld64(r_zd_18);
-    r_k6_4 = test_support_lines_limit(r_rv_10, ld64(r_x5_20));
-    if (r_k6_4.f0 == 1u) goto l_arm_ro;
+    r_op_2 = test_support_lines_parse_limit(r_rv_10, ld64(r_x5_20));
+    if (r_op_2.f0 == 1u) goto l_arm_1g;
     goto l_after_8o;
 l_arm_in:;
     goto l_after_8o;
-l_arm_ro:;
-    struct s_i8_i64 r_k6_5 = test_support_lines_limit(away(r_rv_10, r_38_86), (r_qw_10 - r_38_86));
-    if ((u8)((u8)t_7q & (u8)(r_k6_5.f0 == 1u))) { r_o2_1 = r_uw; r_7d = r_2u_1; r_2l = r_k6_4.f1; r_kd_1 = r_k6_5.f1; r_5d_7 = r_e2; r_81 = r_o2; r_gn = r_we; r_17 = r_t7_2; r_l1_6 = r_pg; r_c0_1 = r_gx; r_kz = r_4m; r_1c = r_fl_1; r_tp_1 = r_cd; r_p7_1 = r_7h_1; r_6j = r_xi; r_w0 = r_eq; r_52_9 = r_b1; r_qr = r_ym; r_l1_7 = r_kh; r_1d = r_j0; r_x3 = r_tf; r_tq = r_oj_2; r_y8_1 = r_5i; r_mn_1 = r_df; r_jm = r_0i_1; r_4f = r_id; r_he_2 = r_xv; r_cz = r_tm; r_i5 = r_30; r_d0 = r_j3_2; r_oy_1 = r_de; r_kn = r_2w; r_7s = r_zl; r_ln_2 = r_dw; r_3b = r_vu_2; r_h9_4 = r_c0; r_eh_1 = r_h5_3; r_7j = r_cg; r_5a = r_6n_1; r_fc = r_uf; r_q3 = r_fa; r_4n = r_fv; r_1d_1 = r_aa; r_tw_1 = r_ev; r_m5 = r_9c; t_n9 = 1u; goto l_after_h4; }
+l_arm_1g:;
+    struct s_i8_i64 r_op_3 = test_support_lines_parse_limit(away(r_rv_10, r_38_86), (r_qw_10 - r_38_86));
+    if ((u8)((u8)t_7q & (u8)(r_op_3.f0 == 1u))) { r_o2_1 = r_uw; r_7d = r_2u_1; r_2l = r_op_2.f1; r_kd_1 = r_op_3.f1; r_5d_7 = r_e2; r_81 = r_o2; r_gn = r_we; r_17 = r_t7_2; r_l1_6 = r_pg; r_c0_1 = r_gx; r_kz = r_4m; r_1c = r_fl_1; r_tp_1 = r_cd; r_p7_1 = r_7h_1; r_6j = r_xi; r_w0 = r_eq; r_52_9 = r_b1; r_qr = r_ym; r_l1_7 = r_kh; r_1d = r_j0; r_x3 = r_tf; r_tq = r_oj_2; r_y8_1 = r_5i; r_mn_1 = r_df; r_jm = r_0i_1; r_4f = r_id; r_he_2 = r_xv; r_cz = r_tm; r_i5 = r_30; r_d0 = r_j3_2; r_oy_1 = r_de; r_kn = r_2w; r_7s = r_zl; r_ln_2 = r_dw; r_3b = r_vu_2; r_h9_4 = r_c0; r_eh_1 = r_h5_3; r_7j = r_cg; r_5a = r_6n_1; r_fc = r_uf; r_q3 = r_fa; r_4n = r_fv; r_1d_1 = r_aa; r_tw_1 = r_ev; r_m5 = r_9c; t_n9 = 1u; goto l_after_h4; }
     goto l_after_8o;
 l_arm_0p:;
     if (ld64(r_zd_8) == 0ull) goto l_arm_i0_2;
@@ -4511,7 +4511,7 @@ l_stream_3h:;
     st64(r_a8_13, r_qg);
     st64(r_c4_9, r_x2_1);
     mv32(r_6c_8, slot_15);
-    stream_runs_run_told(slot_16, slot_18, ldp(slot_17), ld64(r_x5_21));
+    stream_runs_run_format_outcome(slot_16, slot_18, ldp(slot_17), ld64(r_x5_21));
     if (ld64(r_zd_35) == 0ull) goto l_std_4k;
     rattle_dealloc(ldp(slot_17));
 l_std_4k:;
@@ -5051,7 +5051,7 @@ l_stream_3h_1:;
     r_38_143 = ld64(r_x5_55);
     r_38_144 = ld64(r_zd_53);
     if (!(r_r4 == 0u)) goto l_else_42;
-    stream_runs_run_told(slot_22, slot_20, r_xw_63, r_38_143);
+    stream_runs_run_format_outcome(slot_22, slot_20, r_xw_63, r_38_143);
     t_r5_1 = ld8(slot_22);
     if (r_38_144 == 0ull) goto l_std_5e;
     rattle_dealloc(r_xw_63);
@@ -6208,7 +6208,7 @@ static void capnp_streams_streams_arguments_ParsedArguments_parse_argument(u8 *a
     u8 r_dd = ld8((slot_19 + 217));
     st8(slot_21, 4u);
     st8((slot_21 + 1), r_dd);
-    capnp_streams_streams_arguments_ParsedArguments_parse_value_or(slot_20, slot_19, r_dd, a_3, a_4, slot_21);
+    capnp_streams_streams_arguments_ParsedArguments_apply_value(slot_20, slot_19, r_dd, a_3, a_4, slot_21);
     r_92 = ld8((slot_20 + 8));
     t_9y = ld8((slot_20 + 3));
     t_cr = ld8((slot_20 + 2));
@@ -6362,7 +6362,7 @@ l_arm_x3:;
     st8((slot_3 + 216), r_uz);
     st8((slot_3 + 217), r_dd_5);
     st8((slot_3 + 218), 0u);
-    capnp_streams_streams_arguments_ParsedArguments_check__18972e76(slot_1, slot_3);
+    capnp_streams_streams_arguments_ParsedArguments_into_c_2f209205(slot_1, slot_3);
     goto l_capnp_ur;
 l_arm_x3_1:;
     st16(slot_4, r_xv);
@@ -6388,7 +6388,7 @@ l_arm_x3_1:;
     st8((slot_4 + 216), r_uz);
     st8((slot_4 + 217), r_dd_5);
     st8((slot_4 + 218), 0u);
-    capnp_streams_streams_arguments_ParsedArguments_check__18972e76(slot_1, slot_4);
+    capnp_streams_streams_arguments_ParsedArguments_into_c_2f209205(slot_1, slot_4);
     goto l_capnp_ur;
 l_arm_x3_2:;
     st16(slot_5, r_xv);
@@ -6413,7 +6413,7 @@ l_arm_x3_2:;
     st64((slot_5 + 208), r_38_1);
     st8((slot_5 + 216), r_uz);
     st8((slot_5 + 217), r_dd_5);
-    capnp_streams_streams_arguments_ParsedArguments_check__18972e76(slot_1, slot_5);
+    capnp_streams_streams_arguments_ParsedArguments_into_c_2f209205(slot_1, slot_5);
     goto l_capnp_ur;
 l_arm_x3_3:;
     st16(slot_6, r_xv);
@@ -6438,7 +6438,7 @@ l_arm_x3_3:;
     st64((slot_6 + 208), r_38_1);
     st8((slot_6 + 216), r_uz);
     st8((slot_6 + 217), r_dd_5);
-    capnp_streams_streams_arguments_ParsedArguments_check__18972e76(slot_1, slot_6);
+    capnp_streams_streams_arguments_ParsedArguments_into_c_2f209205(slot_1, slot_6);
     goto l_capnp_ur;
 l_arm_x3_4:;
     st16(slot_7, r_xv);
@@ -6463,7 +6463,7 @@ l_arm_x3_4:;
     st64((slot_7 + 208), r_38_1);
     st8((slot_7 + 216), r_uz);
     st8((slot_7 + 217), r_dd_5);
-    capnp_streams_streams_arguments_ParsedArguments_check__18972e76(slot_1, slot_7);
+    capnp_streams_streams_arguments_ParsedArguments_into_c_2f209205(slot_1, slot_7);
     goto l_capnp_ur;
 l_arm_x3_5:;
     st16(slot_8, r_xv);
@@ -6488,7 +6488,7 @@ l_arm_x3_5:;
     st64((slot_8 + 208), r_38_1);
     st8((slot_8 + 216), r_uz);
     st8((slot_8 + 217), r_dd_5);
-    capnp_streams_streams_arguments_ParsedArguments_check__18972e76(slot_1, slot_8);
+    capnp_streams_streams_arguments_ParsedArguments_into_c_2f209205(slot_1, slot_8);
     goto l_capnp_ur;
 l_arm_x3_6:;
     st16(slot_9, r_xv);
@@ -6513,7 +6513,7 @@ l_arm_x3_6:;
     st64((slot_9 + 208), r_38_1);
     st8((slot_9 + 216), r_uz);
     st8((slot_9 + 217), r_dd_5);
-    capnp_streams_streams_arguments_ParsedArguments_check__18972e76(slot_1, slot_9);
+    capnp_streams_streams_arguments_ParsedArguments_into_c_2f209205(slot_1, slot_9);
     goto l_capnp_ur;
 l_arm_x3_7:;
     st16(slot_10, r_xv);
@@ -6538,7 +6538,7 @@ l_arm_x3_7:;
     st64((slot_10 + 208), r_38_1);
     st8((slot_10 + 216), r_uz);
     st8((slot_10 + 217), r_dd_5);
-    capnp_streams_streams_arguments_ParsedArguments_check__18972e76(slot_1, slot_10);
+    capnp_streams_streams_arguments_ParsedArguments_into_c_2f209205(slot_1, slot_10);
     goto l_capnp_ur;
 l_arm_x3_8:;
     st16(slot_11, r_xv);
@@ -6563,7 +6563,7 @@ l_arm_x3_8:;
     st64((slot_11 + 208), r_38_1);
     st8((slot_11 + 216), r_uz);
     st8((slot_11 + 217), r_dd_5);
-    capnp_streams_streams_arguments_ParsedArguments_check__18972e76(slot_1, slot_11);
+    capnp_streams_streams_arguments_ParsedArguments_into_c_2f209205(slot_1, slot_11);
     goto l_capnp_ur;
 l_arm_x3_9:;
     st16(slot_12, r_xv);
@@ -6588,7 +6588,7 @@ l_arm_x3_9:;
     st64((slot_12 + 208), r_38_1);
     st8((slot_12 + 216), r_uz);
     st8((slot_12 + 217), r_dd_5);
-    capnp_streams_streams_arguments_ParsedArguments_check__18972e76(slot_1, slot_12);
+    capnp_streams_streams_arguments_ParsedArguments_into_c_2f209205(slot_1, slot_12);
     goto l_capnp_ur;
 l_arm_89_1:;
     memcpy((slot_13 + 1), (a_2 + 40), 136);
@@ -6823,11 +6823,11 @@ l_capnp_6d:;
     goto l_capnp_ur_1;
 l_arm_kc:;
     switch (r_6i) {
-    case 11u: goto l_arm_hb;
-    case 12u: goto l_arm_v4;
-    case 15u: goto l_arm_4n;
-    case 18u: goto l_arm_oh;
-    case 20u: goto l_arm_9u;
+    case 11u: goto l_arm_c8;
+    case 12u: goto l_arm_rp;
+    case 15u: goto l_arm_em;
+    case 18u: goto l_arm_et;
+    case 20u: goto l_arm_1o;
     case 0u: goto l_arm_31;
     case 1u: goto l_arm_31;
     case 2u: goto l_arm_31;
@@ -6846,30 +6846,30 @@ l_arm_kc:;
     case 19u: goto l_arm_31;
     default: goto l_noarm_e1_1;
     }
-l_arm_hb:;
+l_arm_c8:;
     st8(slot_2, 5u);
     st8((slot_2 + 1), 0u);
-    capnp_streams_streams_arguments_ParsedArguments_parse_value_or(slot_1, slot_7, 0u, r_8z, r_0j, slot_2);
+    capnp_streams_streams_arguments_ParsedArguments_apply_value(slot_1, slot_7, 0u, r_8z, r_0j, slot_2);
     goto l_capnp_ur_1;
-l_arm_v4:;
+l_arm_rp:;
     st8(slot_3, 5u);
     st8((slot_3 + 1), 1u);
-    capnp_streams_streams_arguments_ParsedArguments_parse_value_or(slot_1, slot_7, 1u, r_8z, r_0j, slot_3);
+    capnp_streams_streams_arguments_ParsedArguments_apply_value(slot_1, slot_7, 1u, r_8z, r_0j, slot_3);
     goto l_capnp_ur_1;
-l_arm_4n:;
+l_arm_em:;
     st8(slot_4, 5u);
     st8((slot_4 + 1), 2u);
-    capnp_streams_streams_arguments_ParsedArguments_parse_value_or(slot_1, slot_7, 2u, r_8z, r_0j, slot_4);
+    capnp_streams_streams_arguments_ParsedArguments_apply_value(slot_1, slot_7, 2u, r_8z, r_0j, slot_4);
     goto l_capnp_ur_1;
-l_arm_oh:;
+l_arm_et:;
     st8(slot_5, 5u);
     st8((slot_5 + 1), 3u);
-    capnp_streams_streams_arguments_ParsedArguments_parse_value_or(slot_1, slot_7, 3u, r_8z, r_0j, slot_5);
+    capnp_streams_streams_arguments_ParsedArguments_apply_value(slot_1, slot_7, 3u, r_8z, r_0j, slot_5);
     goto l_capnp_ur_1;
-l_arm_9u:;
+l_arm_1o:;
     st8(slot_6, 5u);
     st8((slot_6 + 1), 4u);
-    capnp_streams_streams_arguments_ParsedArguments_parse_value_or(slot_1, slot_7, 4u, r_8z, r_0j, slot_6);
+    capnp_streams_streams_arguments_ParsedArguments_apply_value(slot_1, slot_7, 4u, r_8z, r_0j, slot_6);
     goto l_capnp_ur_1;
 l_arm_31:;
     st8(slot_1, 1u);
@@ -7011,7 +7011,7 @@ l_arm_x3_10:;
     st8((slot_2 + 216), r_uz);
     st8((slot_2 + 217), r_dd_12);
     st8((slot_2 + 218), (u8)(r_gm & 1u));
-    capnp_streams_streams_arguments_ParsedArguments_check__18972e76(slot_1, slot_2);
+    capnp_streams_streams_arguments_ParsedArguments_into_c_2f209205(slot_1, slot_2);
     r_9w = ld8((slot_1 + 8));
     t_1a = ld8((slot_1 + 3));
     t_au = ld8((slot_1 + 2));
@@ -7041,8 +7041,8 @@ l_join_8z:;
     return;
 }
 
-/* capnp_streams::streams::arguments::ParsedArguments::parse_value_or */
-static void capnp_streams_streams_arguments_ParsedArguments_parse_value_or(u8 *a_1, u8 *a_2, u8 a_3, u8 *a_4, u64 a_5, u8 *a_6)
+/* capnp_streams::streams::arguments::ParsedArguments::apply_value */
+static void capnp_streams_streams_arguments_ParsedArguments_apply_value(u8 *a_1, u8 *a_2, u8 a_3, u8 *a_4, u64 a_5, u8 *a_6)
 {
     A(4) u8 slot_1[4];
     A(8) u8 slot_2[24];
@@ -7103,7 +7103,7 @@ static void capnp_streams_streams_arguments_ParsedArguments_parse_value_or(u8 *a
     u8 t_dh;
     u8 t_dd;
     u8 t_dd_1;
-    struct s_i8_i32 r_mh;
+    struct s_i8_i32 r_z7;
     u8 *r_x5_1;
     u8 *r_zd_1;
     u8 *r_x5_2;
@@ -7112,7 +7112,7 @@ static void capnp_streams_streams_arguments_ParsedArguments_parse_value_or(u8 *a
     u64 r_38_1;
     u8 *r_er;
     u64 r_xm;
-    struct s_i8_i32 r_mh_1;
+    struct s_i8_i32 r_z7_1;
     u8 *r_23;
     u8 *r_0b;
     u8 *r_tp;
@@ -7197,16 +7197,16 @@ static void capnp_streams_streams_arguments_ParsedArguments_parse_value_or(u8 *a
     memset(slot_30, 0u, 5);
     memset(slot_31, 0u, 137);
     switch (a_3) {
-    case 0u: goto l_arm_w9;
+    case 0u: goto l_arm_h4;
     case 1u: goto l_arm_jo;
     case 2u: goto l_arm_e3;
-    case 3u: goto l_arm_w9_1;
+    case 3u: goto l_arm_h4_1;
     case 4u: goto l_arm_jo_1;
     default: goto l_noarm_e1;
     }
-l_arm_w9:;
-    r_mh = capnp_streams_streams_arguments_parse_levels(a_4, a_5);
-    if (!(r_mh.f0 == 1u)) { r_23 = slot_7; r_0b = slot_8; r_tp = slot_9; r_5q = 0u; r_09 = 0u; r_zx = 0u; r_ff = 0u; r_9b = 0u; r_2j = 0ull; r_ra = 0u; r_5p = 0u; r_y6 = 0u; r_h9 = 0u; r_j0 = 0u; r_2w = 0u; r_4x = 0u; r_ng_1 = 0u; r_61 = 0u; r_ob = 0u; r_jl = 0u; r_by = 0ull; r_n9 = 0u; r_m3 = 0u; r_4f = 0u; goto l_capnp_0w; }
+l_arm_h4:;
+    r_z7 = capnp_streams_streams_arguments_parse_i32(a_4, a_5);
+    if (!(r_z7.f0 == 1u)) { r_23 = slot_7; r_0b = slot_8; r_tp = slot_9; r_5q = 0u; r_09 = 0u; r_zx = 0u; r_ff = 0u; r_9b = 0u; r_2j = 0ull; r_ra = 0u; r_5p = 0u; r_y6 = 0u; r_h9 = 0u; r_j0 = 0u; r_2w = 0u; r_4x = 0u; r_ng_1 = 0u; r_61 = 0u; r_ob = 0u; r_jl = 0u; r_by = 0ull; r_n9 = 0u; r_m3 = 0u; r_4f = 0u; goto l_capnp_0w; }
     memcpy((slot_10 + 1), (a_2 + 40), 136);
     memcpy(slot_7, slot_10, 137);
     memset(slot_8, 0u, 3);
@@ -7230,7 +7230,7 @@ l_arm_w9:;
     r_ng_1 = (u8)(r_dd_3 & 1u);
     r_61 = (u8)(r_dd_2 & 1u);
     r_ob = (u8)(r_dd_1 & 1u);
-    r_jl = r_mh.f1;
+    r_jl = r_z7.f1;
     r_by = r_qw;
     r_n9 = r_dd;
     r_m3 = r_qc;
@@ -7357,16 +7357,16 @@ l_capnp_vv:;
     r_m3 = r_qc;
     r_4f = 1u;
     goto l_capnp_0w;
-l_arm_w9_1:;
-    r_mh_1 = capnp_streams_streams_arguments_parse_levels(a_4, a_5);
-    if (!(r_mh_1.f0 == 1u)) { r_23 = slot_23; r_0b = slot_24; r_tp = slot_25; r_5q = 0u; r_09 = 0u; r_zx = 0u; r_ff = 0u; r_9b = 0u; r_2j = 0ull; r_ra = 0u; r_5p = 0u; r_y6 = 0u; r_h9 = 0u; r_j0 = 0u; r_2w = 0u; r_4x = 0u; r_ng_1 = 0u; r_61 = 0u; r_ob = 0u; r_jl = 0u; r_by = 0ull; r_n9 = 0u; r_m3 = 0u; r_4f = 0u; goto l_capnp_0w; }
+l_arm_h4_1:;
+    r_z7_1 = capnp_streams_streams_arguments_parse_i32(a_4, a_5);
+    if (!(r_z7_1.f0 == 1u)) { r_23 = slot_23; r_0b = slot_24; r_tp = slot_25; r_5q = 0u; r_09 = 0u; r_zx = 0u; r_ff = 0u; r_9b = 0u; r_2j = 0ull; r_ra = 0u; r_5p = 0u; r_y6 = 0u; r_h9 = 0u; r_j0 = 0u; r_2w = 0u; r_4x = 0u; r_ng_1 = 0u; r_61 = 0u; r_ob = 0u; r_jl = 0u; r_by = 0ull; r_n9 = 0u; r_m3 = 0u; r_4f = 0u; goto l_capnp_0w; }
     memcpy((slot_26 + 1), (a_2 + 40), 136);
     memcpy(slot_23, slot_26, 137);
     r_23 = slot_23;
     r_0b = slot_24;
     r_tp = slot_25;
     r_5q = 1u;
-    r_09 = r_mh_1.f1;
+    r_09 = r_z7_1.f1;
     r_zx = (u8)(r_dd_11 & 1u);
     r_ff = r_dd_12;
     r_9b = r_dd_13;
@@ -7455,7 +7455,7 @@ l_capnp_0w:;
     st8((slot_32 + 217), 0u);
     st8((slot_32 + 218), r_ra);
     mv5((slot_32 + 219), slot_35);
-    capnp_streams_streams_arguments_ParsedArguments_check__18972e76(slot_36, slot_32);
+    capnp_streams_streams_arguments_ParsedArguments_into_c_2f209205(slot_36, slot_32);
     r_oc = (u64)ld8((slot_36 + 8));
     t_l3 = ld8((slot_36 + 3));
     t_u6 = ld8((slot_36 + 2));
@@ -7636,8 +7636,8 @@ l_join_71:;
     return;
 }
 
-/* capnp_streams::streams::arguments::parse_levels */
-static struct s_i8_i32 capnp_streams_streams_arguments_parse_levels(u8 *a_1, u64 a_2)
+/* capnp_streams::streams::arguments::parse_i32 */
+static struct s_i8_i32 capnp_streams_streams_arguments_parse_i32(u8 *a_1, u64 a_2)
 {
     u8 r_pe;
     u32 r_cf;
@@ -7897,8 +7897,8 @@ l_core_57:;
     return common_p7;
 }
 
-/* capnp_streams::streams::arguments::ParsedArguments::check_exclusions */
-static void capnp_streams_streams_arguments_ParsedArguments_check__18972e76(u8 *a_1, u8 *a_2)
+/* capnp_streams::streams::arguments::ParsedArguments::into_checked_step */
+static void capnp_streams_streams_arguments_ParsedArguments_into_c_2f209205(u8 *a_1, u8 *a_2)
 {
     A(2) u8 slot_1[30];
     A(1) u8 slot_2[129];
@@ -8194,8 +8194,8 @@ l_arm_m7:;
     goto l_common_57;
 }
 
-/* test_support::lines::limit */
-static struct s_i8_i64 test_support_lines_limit(u8 *a_1, u64 a_2)
+/* test_support::lines::parse_limit */
+static struct s_i8_i64 test_support_lines_parse_limit(u8 *a_1, u64 a_2)
 {
     A(8) u8 slot_1[16];
     A(8) u8 slot_2[16];
@@ -27893,8 +27893,8 @@ l_return_ri:;
     return r_fk;
 }
 
-/* stream_runs::run::told */
-static void stream_runs_run_told(u8 *a_1, u8 *a_2, u8 *a_3, u64 a_4)
+/* stream_runs::run::format_outcome */
+static void stream_runs_run_format_outcome(u8 *a_1, u8 *a_2, u8 *a_3, u64 a_4)
 {
     A(1) u8 slot_1[1];
     A(8) u8 slot_2[72];
@@ -28276,20 +28276,20 @@ l_std_rq:;
 l_arm_0f:;
     memcpy(slot_9, slot_6, 80);
     switch (ld8((slot_9 + 16))) {
-    case 0u: goto l_arm_g3;
-    case 1u: goto l_arm_j9;
+    case 0u: goto l_arm_ir;
+    case 1u: goto l_arm_lh;
     case 2u: { r_6s = ((u8 *)g_static_77); r_yu = 15ull; goto l_std_2m; }
     default: goto l_noarm_e1;
     }
-l_arm_g3:;
+l_arm_ir:;
     u8 r_uz_1 = ld8((slot_9 + 24));
-    r_6s = ldp((((u8 *)switch_table_stream_runs_run_told) + (i64)(8 * (u64)r_uz_1)));
-    r_yu = ld64((((u8 *)switch_table_stream_runs_run_told_25) + (i64)(8 * (u64)r_uz_1)));
+    r_6s = ldp((((u8 *)switch_table_stream_runs_run_format_outcome) + (i64)(8 * (u64)r_uz_1)));
+    r_yu = ld64((((u8 *)switch_table_stream_runs_run_format_outcome_25) + (i64)(8 * (u64)r_uz_1)));
     goto l_std_2m;
-l_arm_j9:;
+l_arm_lh:;
     u8 r_uz_2 = ld8((slot_9 + 24));
-    r_6s = ldp((((u8 *)switch_table_stream_runs_run_told_26) + (i64)(8 * (u64)r_uz_2)));
-    r_yu = ld64((((u8 *)switch_table_stream_runs_run_told_27) + (i64)(8 * (u64)r_uz_2)));
+    r_6s = ldp((((u8 *)switch_table_stream_runs_run_format_outcome_26) + (i64)(8 * (u64)r_uz_2)));
+    r_yu = ld64((((u8 *)switch_table_stream_runs_run_format_outcome_27) + (i64)(8 * (u64)r_uz_2)));
     goto l_std_2m;
 l_noarm_e1:;
     UNREACHABLE();
@@ -29380,6 +29380,6 @@ int main(int count, char **words)
     A(8) u8 slot_2[96];
     c_signal(13u, 1ull);
     memset(slot_2, 0u, 96);
-    test_support_lines_respond_c2e21d39fa0b5a16(slot_2, slot_1);
+    test_support_lines_try_answer_lines_c2e21d39fa0b5a16(slot_2, slot_1);
     return (u32)ld8(slot_2);
 }
