@@ -101,8 +101,13 @@ pub fn init_struct<A: BuilderArena, B: FromStructPlace>(
 }
 
 /// Sets the member of a union that is a struct: writes its tag, and makes pointer `index` lead to a
-/// new struct, all zero, whose place it returns, like `value::init_struct_member`. Precondition:
-/// tag and pointer are inside the struct.
+/// new struct, all zero, whose place it returns. Precondition: tag and pointer are inside the
+/// struct.
+///
+/// Refusals, if no segment has room: `AllocationFailed` if memory runs out;
+/// `MessageTooLarge(usize::MAX)` if the message already has 4,294,967,295 segments.
+/// After a refusal the tag is written, and the pointer is null.
+#[tactic(auto, using(crate::proofs::Sets::makes_member))]
 pub fn init_struct_member<A: BuilderArena, B: FromStructPlace>(
     arena: &mut A,
     place: StructPlace,
@@ -129,10 +134,8 @@ pub fn init_struct_member<A: BuilderArena, B: FromStructPlace>(
         (call_on place index (A.view arena.old) (A.view arena.new))
         (size.data_words + size.pointers) }
 {
-    match value::init_struct_member(arena, place, tag, index, size) {
-        Ok(inner) => Ok(B::from_place(inner)),
-        Err(k) => Err(k),
-    }
+    value::set_tag(arena, place, tag);
+    init_struct(arena, place, index, size)
 }
 
 /// Makes pointer `index` lead to a new list of `count` structs, all zero, and returns its place,
@@ -174,9 +177,13 @@ pub fn init_struct_list<A: BuilderArena, B: FromListPlace>(
 }
 
 /// Sets the member of a union that is a list of structs: writes its tag, and makes pointer `index`
-/// lead to a new list of `count` structs, all zero, whose place it returns, like
-/// `value::init_struct_list_member`. Preconditions: tag and pointer are inside the struct; the
-/// structs have fewer than 2^29 words.
+/// lead to a new list of `count` structs, all zero, whose place it returns. Preconditions: tag and
+/// pointer are inside the struct; the structs have fewer than 2^29 words.
+///
+/// Refusals, if no segment has room: `AllocationFailed` if memory runs out;
+/// `MessageTooLarge(usize::MAX)` if the message already has 4,294,967,295 segments.
+/// After a refusal the tag is written, and the pointer is null.
+#[tactic(auto, using(crate::proofs::Sets::makes_member))]
 pub fn init_struct_list_member<A: BuilderArena, B: FromListPlace>(
     arena: &mut A,
     place: StructPlace,
@@ -209,10 +216,8 @@ pub fn init_struct_list_member<A: BuilderArena, B: FromListPlace>(
         (call_on place index (A.view arena.old) (A.view arena.new))
         (1 + count * (size.data_words + size.pointers)) }
 {
-    match value::init_struct_list_member(arena, place, tag, index, count, size) {
-        Ok(inner) => Ok(B::from_place(inner)),
-        Err(k) => Err(k),
-    }
+    value::set_tag(arena, place, tag);
+    init_struct_list(arena, place, index, count, size)
 }
 
 /// Returns the struct that pointer `index` leads to, for writing, like `opening::get_struct`.

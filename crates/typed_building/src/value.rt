@@ -4,15 +4,15 @@ ghost use Rattle.capnp_format.specs.Numbers.{words_for};
 ghost use Rattle.capnp_format.specs.Segments.{Grows};
 ghost use Rattle.capnp_format.specs.Tree.{Capability, Flat, Null, Trees};
 ghost use Rattle.capnp_words.specs.Sizes.{size_number};
-ghost use Rattle.capnp_making.specs.Made.{list_words, nulls, words_of_zero, zero_elements, zero_list, zero_struct, zero_structs};
+ghost use Rattle.capnp_making.specs.Made.{list_words, zero_list};
 ghost use Rattle.capnp_making.specs.Makes.{Allocates};
 ghost use Rattle.capnp_contents.specs.Anew.{OnlyWrites};
 ghost use Rattle.capnp_readers.specs.Readers.{IsStructPlace};
 ghost use Rattle.capnp_readers.specs.Sections.{IsInside};
-ghost use Rattle.capnp_builders.specs.Held.{HasList, HasStruct, Holder, ReplacesChild, ReplacesField, SetsChild, SetsField, call_in, element_of, pointer_to};
-ghost use Rattle.capnp_builders.specs.Places.{IsAligned, element_place, field, number_field};
+ghost use Rattle.capnp_builders.specs.Held.{HasList, HasStruct, Holder, ReplacesChild, ReplacesField, SetsChild, SetsField, call_in};
+ghost use Rattle.capnp_builders.specs.Places.{IsAligned, field, number_field};
 ghost use Rattle.typed_building.specs.Members.{MakesMember, ReplacesChildMember, ReplacesMember, SetsChildMember, SetsMember, tag_field};
-ghost use Rattle.typed_building.specs.There.{HasStructsPlace, HasListPlace, HasStructPlace, call_on};
+ghost use Rattle.typed_building.specs.There.{HasListPlace, call_on};
 
 use crate::tag::UnionTag;
 use capnp_arena_traits::arena::BuilderArena;
@@ -26,7 +26,7 @@ use capnp_readers::readers::{ListPlace, StructPlace};
 use capnp_words::error::ErrorKind;
 use capnp_words::mask::Mask;
 use capnp_words::primitive::Primitive;
-use capnp_words::wire_pointer::{ElementSize, StructSize};
+use capnp_words::wire_pointer::ElementSize;
 use capnp_words::zero::Zero;
 
 /// Writes the number at `offset` of a struct's data, counted in numbers of type `T`, of a field
@@ -268,85 +268,6 @@ pub fn set_data_member<A: BuilderArena>(
 {
     set_tag(arena, place, tag);
     fields::set_data(arena, place, index, contents)
-}
-
-/// Sets the member of a union that is a struct: writes its tag, and makes pointer `index` lead to a
-/// new struct, all zero, whose place it returns. Precondition: tag and pointer are inside the
-/// struct.
-///
-/// Refusals, if no segment has room: `AllocationFailed` if memory runs out;
-/// `MessageTooLarge(usize::MAX)` if the message already has 4,294,967,295 segments.
-/// After a refusal the tag is written, and the pointer is null.
-#[tactic(auto, using(crate::proofs::Sets::makes_member))]
-pub fn init_struct_member<A: BuilderArena>(
-    arena: &mut A,
-    place: StructPlace,
-    tag: UnionTag,
-    index: usize,
-    size: StructSize,
-) -> Result<StructPlace, ErrorKind>
-    requires aligned { IsAligned place }
-    requires inside { IsStructPlace (A.view arena.old).words place }
-    requires tag { IsInside place.bits 16 tag.offset }
-    requires field { index < place.pointers }
-    ensures grows { Grows (A.view arena.old).words (A.view arena.new).words }
-    ensures there { IfOk result (HasStructPlace (A.view arena.new).words size) }
-    ensures made { (x : Holder) (ws : List ℕ) (ts : Trees)
-        → HasStruct (A.view arena.old).words x place ws ts
-        → IfOk result (λ inner. HasStruct (A.view arena.new).words
-        (pointer_to place.segment (place.pointers_at + index)) inner
-        (words_of_zero size.data_words) (nulls size.pointers)) }
-    ensures member { MakesMember result
-        (call_in place (A.view arena.old).words (A.view arena.new).words) tag index
-        (zero_struct size) }
-    ensures memory { Allocates result
-        (call_on place index (A.view arena.old) (A.view arena.new))
-        (size.data_words + size.pointers) }
-{
-    set_tag(arena, place, tag);
-    fields::init_struct(arena, place, index, size)
-}
-
-/// Sets the member of a union that is a list of structs: writes its tag, and makes pointer `index`
-/// lead to a new list of `count` structs, all zero, whose place it returns. Preconditions: tag and
-/// pointer are inside the struct; the structs have fewer than 2^29 words.
-///
-/// Refusals, if no segment has room: `AllocationFailed` if memory runs out;
-/// `MessageTooLarge(usize::MAX)` if the message already has 4,294,967,295 segments.
-/// After a refusal the tag is written, and the pointer is null.
-#[tactic(auto, using(crate::proofs::Sets::makes_member))]
-pub fn init_struct_list_member<A: BuilderArena>(
-    arena: &mut A,
-    place: StructPlace,
-    tag: UnionTag,
-    index: usize,
-    count: u32,
-    size: StructSize,
-) -> Result<ListPlace, ErrorKind>
-    requires aligned { IsAligned place }
-    requires inside { IsStructPlace (A.view arena.old).words place }
-    requires tag { IsInside place.bits 16 tag.offset }
-    requires field { index < place.pointers }
-    requires few { count < 2 ^ 30 }
-    requires words { count * (size.data_words + size.pointers) < 2 ^ 29 }
-    ensures grows { Grows (A.view arena.old).words (A.view arena.new).words }
-    ensures there { IfOk result (HasStructsPlace (A.view arena.new).words size) }
-    ensures count { IfOk result (λ list. list.count ≡ count) }
-    ensures made { (x : Holder) (ws : List ℕ) (ts : Trees) (i : ℕ) → i < count
-        → HasStruct (A.view arena.old).words x place ws ts
-        → IfOk result (λ list. HasStruct (A.view arena.new).words
-        (element_of place.segment (place.pointers_at + index) size
-        (zero_elements size.data_words size.pointers count) i) (element_place list.size list i)
-        (words_of_zero size.data_words) (nulls size.pointers)) }
-    ensures member { MakesMember result
-        (call_in place (A.view arena.old).words (A.view arena.new).words) tag index
-        (zero_structs count size) }
-    ensures memory { Allocates result
-        (call_on place index (A.view arena.old) (A.view arena.new))
-        (1 + count * (size.data_words + size.pointers)) }
-{
-    set_tag(arena, place, tag);
-    fields::init_struct_list(arena, place, index, count, size)
 }
 
 /// Sets the member of a union that is a list of elements that aren't structs: writes its tag, and
