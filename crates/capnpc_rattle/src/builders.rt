@@ -253,7 +253,7 @@ impl<'m> Builders<'m> {
         if form.is_declared
             && let Some(node) = self.output.node(slot.of.id)
         {
-            self.put_inner(module, node, values);
+            self.put_contract_values(module, node, values);
         }
         if !form.is_pointer && !slot.of.is_void() {
             module.specs.add(self.alloc, field.spec.as_str());
@@ -274,7 +274,7 @@ impl<'m> Builders<'m> {
 
     // Puts what the calls of a struct, of a list of structs, or of an enum have in their contracts. Of an
     // enum, writes what the prover needs for the first of them.
-    fn put_inner(&self, module: &mut Module, node: &Node, values: &mut Values) {
+    fn put_contract_values(&self, module: &mut Module, node: &Node, values: &mut Values) {
         put_declared(module, node, values);
         match &node.kind {
             NodeKind::Struct(inner) => {

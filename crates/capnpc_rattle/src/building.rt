@@ -1,4 +1,4 @@
-//! The text of generated builders. A word between two `~` stands for what `fill` puts there.
+//! The text of generated builders. A word between two `~` stands for what `push_filled` puts there.
 
 /// The sections of a struct.
 pub const SIZE: &str = "/// The sections of a struct ~full~.

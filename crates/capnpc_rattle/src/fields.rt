@@ -28,7 +28,7 @@ pub fn lacking(output: &Output<'_>, slot: &Slot) -> &'static str {
 pub fn put_slot(output: &Output<'_>, slot: &Slot, values: &mut Values) {
     let base = slot.of.base;
     let offset = u64::from(slot.offset);
-    values.put_text("of", output.type_name(slot.of));
+    values.put_text("of", output.schema_type_name(slot.of));
     values.put_number("index", offset);
     values.put_number("bits", base.bits);
     values.put_number("bit", offset.saturating_mul(base.bits));

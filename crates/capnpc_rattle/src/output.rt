@@ -72,7 +72,7 @@ impl<'m> Output<'m> {
     }
 
     /// The name of a type in the schema.
-    pub fn type_name(&self, of: Type) -> Text {
+    pub fn schema_type_name(&self, of: Type) -> Text {
         let mut name = Text::new(self.alloc);
         for _ in 0..of.lists {
             name.push("List(");

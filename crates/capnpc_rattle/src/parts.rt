@@ -14,7 +14,7 @@ pub fn builder_template(name: &str) -> &'static str {
 }
 
 // The parts. Each begins with a line that has an `@`, its name, and what it is. A word between two `~`
-// stands for what `fill` puts there.
+// stands for what `push_filled` puts there.
 const PARTS: &str = "@there: What each call that writes needs and that has no other precondition.
         requires { HasStructPlace (A.view arena.old).words ~owner~_size self.place }
 @there_and_few: What each call that writes needs and that has another precondition: `few`.

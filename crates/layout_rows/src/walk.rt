@@ -365,7 +365,7 @@ impl Walk {
     fn push_fields<A: ReaderArena>(&mut self, found: StructReader<'_, A>) {
         self.push_sections(found);
         for step in 0..3u8 {
-            push_numbers(found, step, &mut self.out);
+            push_number_fields(found, step, &mut self.out);
             push_flags(found, step, &mut self.out);
         }
         let size = readers::total_size_of_struct(found, &mut self.limiter);
@@ -387,7 +387,7 @@ fn push_number<T: PrimitiveElement + Display + Drop, A: ReaderArena>(
 }
 
 /// Adds numbers of a struct; `step` selects which.
-fn push_numbers<A: ReaderArena>(found: StructReader<'_, A>, step: u8, out: &mut Output) {
+fn push_number_fields<A: ReaderArena>(found: StructReader<'_, A>, step: u8, out: &mut Output) {
     let i = usize::from(step);
     out.push_spaced(readers::get_data_field::<u8, A>(found, 7 * i));
     out.push_spaced(readers::get_data_field_mask::<i16, A>(found, 3 * i, -2));

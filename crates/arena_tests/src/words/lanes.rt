@@ -16,7 +16,7 @@ fn nonzero_bytes() -> [u8; LENGTH] {
 
 /// Checks `is_zero`, and the number of zero words at the end: first with no bit of `bytes` set,
 /// then with each single bit set. Precondition: all of `bytes` is zero.
-fn check_one_bit(rt: &impl Abort, bytes: &mut [u8]) {
+fn check_single_bits(rt: &impl Abort, bytes: &mut [u8]) {
     let words = bytes.len() / 8;
     assert!(rt; is_zero(bytes) && trailing_zero_words(&bytes[..8 * words]) == words);
     for i in 0..bytes.len() {
@@ -37,10 +37,10 @@ fn check_one_bit(rt: &impl Abort, bytes: &mut [u8]) {
 fn single_bits_are_found(rt: HostRuntime) {
     let mut bytes = [0u8; 336];
     for length in 0..LENGTH + 1 {
-        check_one_bit(&rt, &mut bytes[..length]);
+        check_single_bits(&rt, &mut bytes[..length]);
     }
     for words in 31..43usize {
-        check_one_bit(&rt, &mut bytes[..8 * words]);
+        check_single_bits(&rt, &mut bytes[..8 * words]);
     }
 }
 
