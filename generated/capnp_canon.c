@@ -201,10 +201,18 @@ INLINE struct s_i64_i64 rattle_realloc(u8 *block, u64 kept, u64 size, u64 align)
     return tried(size <= SIZE_MAX ? realloc(block, size ? size : align) : NULL);
 }
 
+/* An empty vector has no block. Its place is a local then, which gcc warns would be freed, though no way leads there. */
+#ifndef __clang__
+#pragma GCC diagnostic push
+#pragma GCC diagnostic ignored "-Wfree-nonheap-object"
+#endif
 INLINE void rattle_dealloc(u8 *block)
 {
     free(block);
 }
+#ifndef __clang__
+#pragma GCC diagnostic pop
+#endif
 
 /* Further functions of C for a program: its arguments and environment, `errno`, and files. */
 extern char **environ;
