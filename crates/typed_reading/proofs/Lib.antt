@@ -1,1 +1,3 @@
+pub mod Defaults
+pub mod Elements
 pub mod Root

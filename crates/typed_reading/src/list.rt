@@ -303,8 +303,10 @@ pub fn get_structs<'a, A: ReaderArena>(
     ensures stays { IfOk result (λ list. StaysIn (source_start A.ReaderArena reader.now.source)
         (source_start A.ReaderArena list.reader.source)) }
 {
-    let reader = get_list(reader, index, ElementSize::InlineComposite, lim)?;
-    Ok(StructsReader { reader })
+    match get_list(reader, index, ElementSize::InlineComposite, lim) {
+        Ok(reader) => Ok(StructsReader { reader }),
+        Err(kind) => Err(kind),
+    }
 }
 
 /// Returns the list of numbers that a pointer of a struct leads to; a list without elements if the
@@ -330,11 +332,13 @@ pub fn get_numbers<'a, A: ReaderArena, T: PrimitiveElement>(
     ensures stays { IfOk result (λ list. StaysIn (source_start A.ReaderArena reader.now.source)
         (source_start A.ReaderArena list.reader.source)) }
 {
-    let reader = get_list(reader, index, T::element_size(), lim)?;
-    Ok(NumbersReader {
-        reader,
-        of: PhantomData,
-    })
+    match get_list(reader, index, T::element_size(), lim) {
+        Ok(reader) => Ok(NumbersReader {
+            reader,
+            of: PhantomData,
+        }),
+        Err(kind) => Err(kind),
+    }
 }
 
 /// Returns the list of texts that a pointer of a struct leads to; a list without elements if the
@@ -360,8 +364,10 @@ pub fn get_texts<'a, A: ReaderArena>(
     ensures stays { IfOk result (λ list. StaysIn (source_start A.ReaderArena reader.now.source)
         (source_start A.ReaderArena list.reader.source)) }
 {
-    let reader = get_list(reader, index, ElementSize::Pointer, lim)?;
-    Ok(TextsReader { reader })
+    match get_list(reader, index, ElementSize::Pointer, lim) {
+        Ok(reader) => Ok(TextsReader { reader }),
+        Err(kind) => Err(kind),
+    }
 }
 
 /// Returns the list of data that a pointer of a struct leads to; a list without elements if the
@@ -387,8 +393,10 @@ pub fn get_data_list<'a, A: ReaderArena>(
     ensures stays { IfOk result (λ list. StaysIn (source_start A.ReaderArena reader.now.source)
         (source_start A.ReaderArena list.reader.source)) }
 {
-    let reader = get_list(reader, index, ElementSize::Pointer, lim)?;
-    Ok(DataListReader { reader })
+    match get_list(reader, index, ElementSize::Pointer, lim) {
+        Ok(reader) => Ok(DataListReader { reader }),
+        Err(kind) => Err(kind),
+    }
 }
 
 /// Returns the list of pointers that a pointer of a struct leads to; a list without elements if the
@@ -414,8 +422,10 @@ pub fn get_pointers<'a, A: ReaderArena>(
     ensures stays { IfOk result (λ list. StaysIn (source_start A.ReaderArena reader.now.source)
         (source_start A.ReaderArena list.reader.source)) }
 {
-    let reader = get_list(reader, index, ElementSize::Pointer, lim)?;
-    Ok(PointersReader { reader })
+    match get_list(reader, index, ElementSize::Pointer, lim) {
+        Ok(reader) => Ok(PointersReader { reader }),
+        Err(kind) => Err(kind),
+    }
 }
 
 // The list that a pointer of a struct leads to; that of `default` if the pointer is null.
@@ -441,8 +451,10 @@ fn get_list_or<'a, A: ReaderArena>(
     ensures fits { IfOk result (FitsElements A.ReaderArena expected) }
 {
     if is_null(reader, index) {
-        let field = PointerReader::from_default(default)?;
-        return field.get_list(lim, expected, None);
+        return match PointerReader::from_default(default) {
+            Ok(field) => field.get_list(lim, expected, None),
+            Err(kind) => Err(kind),
+        };
     }
     get_list(reader, index, expected, lim)
 }
@@ -470,8 +482,10 @@ pub fn get_structs_or<'a, A: ReaderArena>(
         → child index t ≡ Null → IsDefault default.now d → FitsSize InlineComposite d
         → IsOk result }
 {
-    let list = get_list_or(reader, index, ElementSize::InlineComposite, default, lim)?;
-    Ok(StructsReader { reader: list })
+    match get_list_or(reader, index, ElementSize::InlineComposite, default, lim) {
+        Ok(list) => Ok(StructsReader { reader: list }),
+        Err(kind) => Err(kind),
+    }
 }
 
 /// Returns the list of numbers that a pointer of a struct leads to, like `get_numbers`; that of
@@ -496,11 +510,13 @@ pub fn get_numbers_or<'a, A: ReaderArena, T: PrimitiveElement>(
     ensures default_answered { (t d : Tree) → ShowsStructOf A.ReaderArena reader.now t
         → child index t ≡ Null → IsDefault default.now d → FitsSize T.size d → IsOk result }
 {
-    let reader = get_list_or(reader, index, T::element_size(), default, lim)?;
-    Ok(NumbersReader {
-        reader,
-        of: PhantomData,
-    })
+    match get_list_or(reader, index, T::element_size(), default, lim) {
+        Ok(reader) => Ok(NumbersReader {
+            reader,
+            of: PhantomData,
+        }),
+        Err(kind) => Err(kind),
+    }
 }
 
 /// Returns the list of texts that a pointer of a struct leads to, like `get_texts`; that of
@@ -525,8 +541,10 @@ pub fn get_texts_or<'a, A: ReaderArena>(
     ensures default_answered { (t d : Tree) → ShowsStructOf A.ReaderArena reader.now t
         → child index t ≡ Null → IsDefault default.now d → FitsSize Pointer d → IsOk result }
 {
-    let list = get_list_or(reader, index, ElementSize::Pointer, default, lim)?;
-    Ok(TextsReader { reader: list })
+    match get_list_or(reader, index, ElementSize::Pointer, default, lim) {
+        Ok(list) => Ok(TextsReader { reader: list }),
+        Err(kind) => Err(kind),
+    }
 }
 
 /// Returns the list of data that a pointer of a struct leads to, like `get_data_list`; that of
@@ -551,8 +569,10 @@ pub fn get_data_list_or<'a, A: ReaderArena>(
     ensures default_answered { (t d : Tree) → ShowsStructOf A.ReaderArena reader.now t
         → child index t ≡ Null → IsDefault default.now d → FitsSize Pointer d → IsOk result }
 {
-    let list = get_list_or(reader, index, ElementSize::Pointer, default, lim)?;
-    Ok(DataListReader { reader: list })
+    match get_list_or(reader, index, ElementSize::Pointer, default, lim) {
+        Ok(list) => Ok(DataListReader { reader: list }),
+        Err(kind) => Err(kind),
+    }
 }
 
 /// Returns the list of pointers that a pointer of a struct leads to, like `get_pointers`; that of
@@ -577,6 +597,8 @@ pub fn get_pointers_or<'a, A: ReaderArena>(
     ensures default_answered { (t d : Tree) → ShowsStructOf A.ReaderArena reader.now t
         → child index t ≡ Null → IsDefault default.now d → FitsSize Pointer d → IsOk result }
 {
-    let list = get_list_or(reader, index, ElementSize::Pointer, default, lim)?;
-    Ok(PointersReader { reader: list })
+    match get_list_or(reader, index, ElementSize::Pointer, default, lim) {
+        Ok(list) => Ok(PointersReader { reader: list }),
+        Err(kind) => Err(kind),
+    }
 }

@@ -44,8 +44,10 @@ pub fn root<'a, A: ReaderArena>(
         StaysIn (source_start A.ReaderArena (Source.Arena arena.entry))
         (source_start A.ReaderArena r.source)) }
 {
-    let root = PointerReader::get_root_from_arena(arena, lim)?;
-    root.get_struct(lim, None)
+    match PointerReader::get_root_from_arena(arena, lim) {
+        Ok(root) => root.get_struct(lim, None),
+        Err(kind) => Err(kind),
+    }
 }
 
 /// Returns the number at `offset` of a struct's data, which is counted in numbers of type `T`.
@@ -279,8 +281,10 @@ pub fn get_struct_or<'a, A: ReaderArena>(
         → child index t ≡ Null → IsDefault default.now d → IsStructOrNull d → IsOk result }
 {
     if is_null(reader, index) {
-        let field = PointerReader::from_default(default)?;
-        return field.get_struct(lim, None);
+        return match PointerReader::from_default(default) {
+            Ok(field) => field.get_struct(lim, None),
+            Err(kind) => Err(kind),
+        };
     }
     get_struct(reader, index, lim)
 }

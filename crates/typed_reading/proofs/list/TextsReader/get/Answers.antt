@@ -1,13 +1,18 @@
-use Rattle.std.proofs.Common.{arith}
 use Rattle.capnp_readers.specs.Values.{pointer_cost}
-use Rattle.typed_reading.proofs.Root.{holds}
+use Rattle.typed_reading.proofs.Elements.{element_holds}
 use Rattle.typed_reading.specs.Values.{pointer_element}
 use Rattle.typed_reading.proofs.list.TextsReader.get.Goals as goal
 
 pub get_pointer_element-requires : goal.get_pointer_element-requires
 get_pointer_element-requires g c =
     let list = c.args.self.now.reader in
-    record { range = c.requires; pointers = holds list.element_size list.struct_size list.sized (c.args.self.now.pointers (omega arith)) }
+    record { range = c.requires; pointers = element_holds list.element_size list.struct_size c.args.index list.count list.sized c.args.self.now.pointers c.requires }
+
+pub get_text-requires : goal.get_text-requires
+get_text-requires g c = record { small = tt }
+
+pub returns-clause-value : goal.returns-clause-value
+returns-clause-value g c = λ t shows has. c.get_text.ensures.value (pointer_element c.args.index t) (c.get_pointer_element.ensures.value t shows has)
 
 pub returns-clause-answered : goal.returns-clause-answered
 returns-clause-answered g c = λ t shows has words is covers.
