@@ -10,7 +10,7 @@ use Rattle.capnp_readers.specs.Values.{FitsElements}
 use Rattle.capnp_readers.specs.declared.readers.list_reader.ListReader.{ListReader}
 
 -- there is an element if there is element i
-pub some_element : (i n : ℕ) → i < n → 0 < n
+some_element : (i n : ℕ) → i < n → 0 < n
 some_element i n h = omega arith
 
 -- elements that are pointers, or structs with pointers, hold a pointer

@@ -14,20 +14,14 @@ returns-in-Err g c = record {
   stays = tt;
 }
 
-pub returns-in-Ok-clause-value : goal.returns-in-Ok-clause-value
-returns-in-Ok-clause-value g c = λ t k means. c.get_struct.ensures.value t (c.in-Ok.ensures.value t k means)
-
-pub returns-in-Ok-clause-answered : goal.returns-in-Ok-clause-answered
-returns-in-Ok-clause-answered g c = λ t k there is means covers.
+pub returns-in-Ok : goal.returns-in-Ok
+returns-in-Ok g c =
     let root = c.in-Ok.ensures in
-    c.get_struct.ensures.answered t k tt is (rw (root.source, root.place.0, root.place.1, root.nesting) means) (rw (root.source, root.granted) (root_affords (g.A.ReaderArena.charging c.args.arena.now) c.args.lim.now k covers).1)
-
-pub returns-in-Ok-clause-spent : goal.returns-in-Ok-clause-spent
-returns-in-Ok-clause-spent g c = λ t k other means.
-    let root = c.in-Ok.ensures in
-    rw (root.source, root.granted) at (c.get_struct.ensures.spent t k other (rw (root.source, root.place.0, root.place.1, root.nesting) means))
-
-pub returns-in-Ok-clause-stays : goal.returns-in-Ok-clause-stays
-returns-in-Ok-clause-stays g c =
+    let read = c.get_struct.ensures in
     let source = Arena c.args.arena in
-    c.get_struct.ensures.stays (source_start g.A.ReaderArena source) (stays_in_source g.A.ReaderArena c.in-Ok.root source c.in-Ok.ensures.source)
+    record {
+      value = λ t k means. read.value t (root.value t k means);
+      answered = λ t k there is means covers. read.answered t k tt is (rw (root.source, root.place.0, root.place.1, root.nesting) means) (rw (root.source, root.granted) (root_affords (g.A.ReaderArena.charging c.args.arena.now) c.args.lim.now k covers).1);
+      spent = λ t k other means. rw (root.source, root.granted) at (read.spent t k other (rw (root.source, root.place.0, root.place.1, root.nesting) means));
+      stays = read.stays (source_start g.A.ReaderArena source) (stays_in_source g.A.ReaderArena c.in-Ok.root source root.source);
+    }

@@ -11,15 +11,12 @@ get_pointer_element-requires g c =
 pub get_text-requires : goal.get_text-requires
 get_text-requires g c = record { small = tt }
 
-pub returns-clause-value : goal.returns-clause-value
-returns-clause-value g c = λ t shows has. c.get_text.ensures.value (pointer_element c.args.index t) (c.get_pointer_element.ensures.value t shows has)
-
-pub returns-clause-answered : goal.returns-clause-answered
-returns-clause-answered g c = λ t shows has words is covers.
+pub returns : goal.returns
+returns g c =
     let element = c.get_pointer_element.ensures in
-    c.get_text.ensures.answered (pointer_element c.args.index t) (pointer_cost g.A.ReaderArena shows c.args.index) tt (rw element.source words) is (element.means t shows has) (rw element.source covers)
-
-pub returns-clause-spent : goal.returns-clause-spent
-returns-clause-spent g c = λ t shows has other.
-    let element = c.get_pointer_element.ensures in
-    rw element.source at (c.get_text.ensures.spent (pointer_element c.args.index t) (pointer_cost g.A.ReaderArena shows c.args.index) other (element.means t shows has))
+    let read = c.get_text.ensures in
+    record {
+      value = λ t shows has. read.value (pointer_element c.args.index t) (element.value t shows has);
+      answered = λ t shows has words is covers. read.answered (pointer_element c.args.index t) (pointer_cost g.A.ReaderArena shows c.args.index) tt (rw element.source words) is (element.means t shows has) (rw element.source covers);
+      spent = λ t shows has other. rw element.source at (read.spent (pointer_element c.args.index t) (pointer_cost g.A.ReaderArena shows c.args.index) other (element.means t shows has));
+    }
