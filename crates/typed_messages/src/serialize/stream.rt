@@ -68,11 +68,7 @@ fn next_message<R: Input>(
     if input.failed() {
         return Some(Err(FrameError::ReadFailed));
     }
-    match try_read_message(alloc, input, options) {
-        Ok(Some(message)) => Some(Ok(message)),
-        Ok(None) => None,
-        Err(error) => Some(Err(error)),
-    }
+    try_read_message(alloc, input, options).transpose()
 }
 
 impl<R: Input + Drop> Iterator for Messages<R> {
