@@ -70,7 +70,6 @@ impl MessageBuilder {
     /// object needs more. Precondition: `words` is at most 536,870,911.
     ///
     /// Refuses with `AllocationFailed` if memory runs out.
-    #[tactic(auto, using(capnp_making::proofs::FillingMade::null_stored))]
     pub fn new(alloc: Global, words: u32) -> Result<Self, ErrorKind>
         requires { words ≤ max_segment_words }
         ensures words { IfOk result (λ m. (⟦<HeapArena as BuilderArena>⟧.view m.arena).words
@@ -84,8 +83,12 @@ impl MessageBuilder {
         ensures refused { IfErr result (λ e. e ≡ AllocationFailed) }
     {
         let mut arena = BuilderArenaImpl::new(alloc, HeapAllocator::new(alloc, words));
-        arena.allocate_segment(1)?;
-        let _root = arena.allocate(0, 1);
-        Ok(MessageBuilder { arena })
+        match arena.allocate_segment(1) {
+            Ok(()) => {
+                let _root = arena.allocate(0, 1);
+                Ok(MessageBuilder { arena })
+            }
+            Err(error) => Err(error),
+        }
     }
 }
