@@ -61,7 +61,9 @@ pub fn write_message<W: Output + Drop>(output: W, message: &MessageBuilder) -> R
         ⊎ IsRefusedNumber (length (⟦<HeapArena as ReaderArena>⟧.segments message.now.arena)) e) }
 {
     let mut packing = PackingOutput::new(output);
-    serialize::write_message(&mut packing, message)?;
+    if let Err(error) = serialize::write_message(&mut packing, message) {
+        return Err(error);
+    }
     match packing.write_pending() {
         Ok(()) => Ok(packing.into_packed()),
         Err(DeviceFault) => Err(FrameError::WriteFailed),
