@@ -5,3 +5,4 @@ pub mod Memory
 pub mod Means
 pub mod Copied
 pub mod Opened
+pub mod Outcomes

@@ -107,7 +107,6 @@ pub fn init_struct<A: BuilderArena, B: FromStructPlace>(
 /// Refusals, if no segment has room: `AllocationFailed` if memory runs out;
 /// `MessageTooLarge(usize::MAX)` if the message already has 4,294,967,295 segments.
 /// After a refusal the tag is written, and the pointer is null.
-#[tactic(auto, using(crate::proofs::Sets::makes_member))]
 pub fn init_struct_member<A: BuilderArena, B: FromStructPlace>(
     arena: &mut A,
     place: StructPlace,
@@ -183,7 +182,6 @@ pub fn init_struct_list<A: BuilderArena, B: FromListPlace>(
 /// Refusals, if no segment has room: `AllocationFailed` if memory runs out;
 /// `MessageTooLarge(usize::MAX)` if the message already has 4,294,967,295 segments.
 /// After a refusal the tag is written, and the pointer is null.
-#[tactic(auto, using(crate::proofs::Sets::makes_member))]
 pub fn init_struct_list_member<A: BuilderArena, B: FromListPlace>(
     arena: &mut A,
     place: StructPlace,
