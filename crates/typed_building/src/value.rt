@@ -32,7 +32,6 @@ use capnp_words::zero::Zero;
 /// Writes the number at `offset` of a struct's data, counted in numbers of type `T`, of a field
 /// whose default value is `default`: stores the exclusive or of `value` and the default.
 /// Precondition: the field is inside the data section.
-#[tactic(auto, using(crate::proofs::Sets::sets_as, crate::proofs::Sets::replaces_as))]
 pub fn set_number_or<A: BuilderArena, T: Primitive + Zero + Mask>(
     arena: &mut A,
     place: StructPlace,
@@ -59,7 +58,6 @@ pub fn set_number_or<A: BuilderArena, T: Primitive + Zero + Mask>(
 
 /// Writes bit `offset` of a struct's data, of a field whose default value is `true`: stores the
 /// opposite of `value`. Precondition: the bit is inside the data section.
-#[tactic(auto, using(crate::proofs::Sets::sets_as, crate::proofs::Sets::replaces_as))]
 pub fn set_bool_default_true<A: BuilderArena>(
     arena: &mut A,
     place: StructPlace,
@@ -98,7 +96,6 @@ pub fn set_tag<A: BuilderArena>(arena: &mut A, place: StructPlace, tag: UnionTag
 
 /// Sets the member of a union that is a number: writes its tag, and then the number at `offset`,
 /// counted in numbers of type `T`. Precondition: tag and number are inside the data section.
-#[tactic(auto, using(crate::proofs::Sets::sets_member, crate::proofs::Sets::replaces_member))]
 pub fn set_number_member<A: BuilderArena, T: Primitive + Zero>(
     arena: &mut A,
     place: StructPlace,
@@ -125,7 +122,6 @@ pub fn set_number_member<A: BuilderArena, T: Primitive + Zero>(
 
 /// Sets the member of a union that is a number with a default value, like `set_number_member` and
 /// `set_number_or`. Precondition: tag and number are inside the data section.
-#[tactic(auto, using(crate::proofs::Sets::sets_member, crate::proofs::Sets::replaces_member))]
 pub fn set_number_or_member<A: BuilderArena, T: Primitive + Zero + Mask>(
     arena: &mut A,
     place: StructPlace,
@@ -155,7 +151,6 @@ pub fn set_number_or_member<A: BuilderArena, T: Primitive + Zero + Mask>(
 
 /// Sets the member of a union that is a bit: writes its tag, and then bit `offset`. Precondition:
 /// tag and bit are inside the data section.
-#[tactic(auto, using(crate::proofs::Sets::sets_member, crate::proofs::Sets::replaces_member))]
 pub fn set_bool_member<A: BuilderArena>(
     arena: &mut A,
     place: StructPlace,
@@ -182,7 +177,6 @@ pub fn set_bool_member<A: BuilderArena>(
 
 /// Sets the member of a union that is a bit whose default value is `true`, like `set_bool_member`
 /// and `set_bool_default_true`. Precondition: tag and bit are inside the data section.
-#[tactic(auto, using(crate::proofs::Sets::sets_member, crate::proofs::Sets::replaces_member))]
 pub fn set_bool_default_true_member<A: BuilderArena>(
     arena: &mut A,
     place: StructPlace,
@@ -214,7 +208,6 @@ pub fn set_bool_default_true_member<A: BuilderArena>(
 /// Refusals, if no segment has room: `AllocationFailed` if memory runs out;
 /// `MessageTooLarge(usize::MAX)` if the message already has 4,294,967,295 segments.
 /// After a refusal the tag is written, and the pointer is null.
-#[tactic(auto, using(crate::proofs::Sets::makes_member))]
 pub fn set_text_member<A: BuilderArena>(
     arena: &mut A,
     place: StructPlace,
@@ -245,7 +238,6 @@ pub fn set_text_member<A: BuilderArena>(
 /// Refusals, if no segment has room: `AllocationFailed` if memory runs out;
 /// `MessageTooLarge(usize::MAX)` if the message already has 4,294,967,295 segments.
 /// After a refusal the tag is written, and the pointer is null.
-#[tactic(auto, using(crate::proofs::Sets::makes_member))]
 pub fn set_data_member<A: BuilderArena>(
     arena: &mut A,
     place: StructPlace,
@@ -277,7 +269,6 @@ pub fn set_data_member<A: BuilderArena>(
 /// Refusals, if no segment has room: `AllocationFailed` if memory runs out;
 /// `MessageTooLarge(usize::MAX)` if the message already has 4,294,967,295 segments.
 /// After a refusal the tag is written, and the pointer is null.
-#[tactic(auto, using(crate::proofs::Sets::makes_member))]
 pub fn init_list_member<A: BuilderArena>(
     arena: &mut A,
     place: StructPlace,
@@ -312,7 +303,6 @@ pub fn init_list_member<A: BuilderArena>(
 
 /// Makes a pointer of a struct null, and zeroes what it held. Precondition: `index` is below the
 /// number of pointers.
-#[tactic(auto, using(capnp_contents::proofs::Growing::pruned_grows))]
 pub fn clear<A: BuilderArena>(arena: &mut A, place: StructPlace, index: usize)
     requires inside { IsStructPlace (A.view arena.old).words place }
     requires field { index < place.pointers }

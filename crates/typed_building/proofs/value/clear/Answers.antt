@@ -1,14 +1,14 @@
 use Rattle.std.proofs.Common.{◌+◌, refl}
 use Rattle.capnp_format.specs.Tree.{Null}
 use Rattle.capnp_contents.proofs.TakingWords.{pruned_writes}
+use Rattle.capnp_contents.proofs.Growing.{pruned_grows}
 use Rattle.typed_building.proofs.Sets.{replaces_child, sets_child}
 use Rattle.typed_building.proofs.value.clear.Goals as goal
 
-pub returns-clause-sets : goal.returns-clause-sets
-returns-clause-sets g c = sets_child (g.A.BuilderArena.view c.args.arena.now).words (g.A.BuilderArena.view c.clear.new.arena).words c.args.place c.args.index (c.args.place.pointers_at + c.args.index) Null c.clear.ensures.cleared refl c.requires.field
-
-pub returns-clause-replaces : goal.returns-clause-replaces
-returns-clause-replaces g c = replaces_child (g.A.BuilderArena.view c.args.arena.now).words (g.A.BuilderArena.view c.clear.new.arena).words c.args.place c.args.index (c.args.place.pointers_at + c.args.index) Null c.clear.ensures.cleared refl c.requires.field
-
-pub returns-clause-memory : goal.returns-clause-memory
-returns-clause-memory g c = pruned_writes _ _ c.clear.ensures.limits c.clear.ensures.only
+pub returns : goal.returns
+returns g c = record {
+  grows = pruned_grows c.clear.ensures.only;
+  sets = sets_child (g.A.BuilderArena.view c.args.arena.now).words (g.A.BuilderArena.view c.clear.new.arena).words c.args.place c.args.index (c.args.place.pointers_at + c.args.index) Null c.clear.ensures.cleared refl c.requires.field;
+  replaces = replaces_child (g.A.BuilderArena.view c.args.arena.now).words (g.A.BuilderArena.view c.clear.new.arena).words c.args.place c.args.index (c.args.place.pointers_at + c.args.index) Null c.clear.ensures.cleared refl c.requires.field;
+  memory = pruned_writes _ _ c.clear.ensures.limits c.clear.ensures.only;
+}

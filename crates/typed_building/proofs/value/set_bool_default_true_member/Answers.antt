@@ -1,14 +1,18 @@
 use Rattle.std.proofs.Common.{cond}
 use Rattle.capnp_builders.specs.Places.{field}
 use Rattle.capnp_contents.proofs.WrittenAnew.{writes_both}
+use Rattle.capnp_contents.proofs.Growing.{grows_again}
 use Rattle.typed_building.proofs.Sets.{replaces_member, sets_member}
+use Rattle.typed_building.proofs.Outcomes.{place_grown}
 use Rattle.typed_building.proofs.value.set_bool_default_true_member.Goals as goal
 
-pub returns-clause-sets : goal.returns-clause-sets
-returns-clause-sets g c = sets_member (g.A.BuilderArena.view c.args.arena.now).words (g.A.BuilderArena.view c.set_tag.new.arena).words (g.A.BuilderArena.view c.set_bool_default_true.new.arena).words c.args.place c.args.tag (field c.args.offset 1 (cond c.args.value 0 1)) c.set_tag.ensures.sets c.set_bool_default_true.ensures.sets
+pub returns : goal.returns
+returns g c = record {
+  grows = grows_again _ _ _ c.set_tag.ensures.grows c.set_bool_default_true.ensures.grows;
+  sets = sets_member (g.A.BuilderArena.view c.args.arena.now).words (g.A.BuilderArena.view c.set_tag.new.arena).words (g.A.BuilderArena.view c.set_bool_default_true.new.arena).words c.args.place c.args.tag (field c.args.offset 1 (cond c.args.value 0 1)) c.set_tag.ensures.sets c.set_bool_default_true.ensures.sets;
+  replaces = replaces_member (g.A.BuilderArena.view c.args.arena.now).words (g.A.BuilderArena.view c.set_tag.new.arena).words (g.A.BuilderArena.view c.set_bool_default_true.new.arena).words c.args.place c.args.tag (field c.args.offset 1 (cond c.args.value 0 1)) c.set_tag.ensures.sets c.set_tag.ensures.replaces c.set_bool_default_true.ensures.replaces;
+  memory = writes_both _ _ _ c.set_tag.ensures.memory c.set_bool_default_true.ensures.memory;
+}
 
-pub returns-clause-replaces : goal.returns-clause-replaces
-returns-clause-replaces g c = replaces_member (g.A.BuilderArena.view c.args.arena.now).words (g.A.BuilderArena.view c.set_tag.new.arena).words (g.A.BuilderArena.view c.set_bool_default_true.new.arena).words c.args.place c.args.tag (field c.args.offset 1 (cond c.args.value 0 1)) c.set_tag.ensures.sets c.set_tag.ensures.replaces c.set_bool_default_true.ensures.replaces
-
-pub returns-clause-memory : goal.returns-clause-memory
-returns-clause-memory g c = writes_both _ _ _ c.set_tag.ensures.memory c.set_bool_default_true.ensures.memory
+pub set_bool_default_true-requires : goal.set_bool_default_true-requires
+set_bool_default_true-requires g c = record { inside = place_grown _ _ c.args.place c.set_tag.ensures.grows c.requires.inside; field = c.requires.field }

@@ -1,13 +1,17 @@
 use Rattle.capnp_builders.specs.Places.{number_field}
 use Rattle.capnp_contents.proofs.WrittenAnew.{writes_both}
+use Rattle.capnp_contents.proofs.Growing.{grows_again}
 use Rattle.typed_building.proofs.Sets.{replaces_member, sets_member}
+use Rattle.typed_building.proofs.Outcomes.{place_grown}
 use Rattle.typed_building.proofs.value.set_number_member.Goals as goal
 
-pub returns-clause-sets : goal.returns-clause-sets
-returns-clause-sets g c = sets_member (g.A.BuilderArena.view c.args.arena.now).words (g.A.BuilderArena.view c.set_tag.new.arena).words (g.A.BuilderArena.view c.set_number.new.arena).words c.args.place c.args.tag (number_field g.T.Primitive.BYTES c.args.offset (g.T.Primitive.bits_of c.args.value)) c.set_tag.ensures.sets c.set_number.ensures.sets
+pub returns : goal.returns
+returns g c = record {
+  grows = grows_again _ _ _ c.set_tag.ensures.grows c.set_number.ensures.grows;
+  sets = sets_member (g.A.BuilderArena.view c.args.arena.now).words (g.A.BuilderArena.view c.set_tag.new.arena).words (g.A.BuilderArena.view c.set_number.new.arena).words c.args.place c.args.tag (number_field g.T.Primitive.BYTES c.args.offset (g.T.Primitive.bits_of c.args.value)) c.set_tag.ensures.sets c.set_number.ensures.sets;
+  replaces = replaces_member (g.A.BuilderArena.view c.args.arena.now).words (g.A.BuilderArena.view c.set_tag.new.arena).words (g.A.BuilderArena.view c.set_number.new.arena).words c.args.place c.args.tag (number_field g.T.Primitive.BYTES c.args.offset (g.T.Primitive.bits_of c.args.value)) c.set_tag.ensures.sets c.set_tag.ensures.replaces c.set_number.ensures.replaces;
+  memory = writes_both _ _ _ c.set_tag.ensures.memory c.set_number.ensures.memory;
+}
 
-pub returns-clause-replaces : goal.returns-clause-replaces
-returns-clause-replaces g c = replaces_member (g.A.BuilderArena.view c.args.arena.now).words (g.A.BuilderArena.view c.set_tag.new.arena).words (g.A.BuilderArena.view c.set_number.new.arena).words c.args.place c.args.tag (number_field g.T.Primitive.BYTES c.args.offset (g.T.Primitive.bits_of c.args.value)) c.set_tag.ensures.sets c.set_tag.ensures.replaces c.set_number.ensures.replaces
-
-pub returns-clause-memory : goal.returns-clause-memory
-returns-clause-memory g c = writes_both _ _ _ c.set_tag.ensures.memory c.set_number.ensures.memory
+pub set_number-requires : goal.set_number-requires
+set_number-requires g c = record { aligned = c.requires.aligned; inside = place_grown _ _ c.args.place c.set_tag.ensures.grows c.requires.inside; field = c.requires.field }
