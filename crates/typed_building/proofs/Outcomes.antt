@@ -1,5 +1,4 @@
--- What holds after a call that was preceded by another one, and what one result says of another that
--- is made of it.
+-- What holds after a call that another one came before, and of a result that is made of another one.
 use Rattle.std.proofs.Common.{◌≡◌, ℕ, ◌*◌, Result, Ok, Err, IfOk, ap, le_of_eq, sym, arith}
 use Rattle.capnp_words.specs.declared.error.ErrorKind.{ErrorKind}
 use Rattle.capnp_words.specs.declared.wire_pointer.ElementSize.{ElementSize}
