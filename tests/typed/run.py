@@ -57,7 +57,7 @@ CHECKED = re.compile(r'checked (\S+), \d+ of \d+$')
 GROUPED = {kind: 'signed number' for kind in ('int8', 'int16', 'int32', 'int64')}
 GROUPED |= {kind: 'number' for kind in ('uint8', 'uint16', 'uint32', 'uint64', 'float32', 'float64')}
 # Two arms of a match, which name numbers.
-READER_ARMS = r'(\d+) => Ok\((\w+::\w+)\)(,\s+)(\d+) => Ok\((\w+::\w+)\)'
+READER_ARMS = r'(\d+) => (\w+::\w+)(,\s+)(\d+) => (\w+::\w+)'
 # The planted bugs: what is wrong, the kind of field, what the names of its calls begin with, a part of the call, and what takes the
 # place of that.
 READER_BUGS = (
@@ -77,8 +77,8 @@ READER_BUGS = (
     ('refusal', 'text', 'get', r'value::get_text\(&self\.reader, \d+, lim\)', lambda n: 'Err(ErrorKind::ReadLimitExceeded)'),
     ('refusal', 'list', 'get', r'list::get_numbers\(&self\.reader, \d+, lim\)', lambda n: 'Err(ErrorKind::ReadLimitExceeded)'),
     ('offset', 'union', '', r'of_number\(value::get_number\(&self\.reader, (\d+)\)\)', lambda n: f'of_number(value::get_number(&self.reader, {int(n) + 1}))'),
-    ('arm', 'variants', '', READER_ARMS, lambda first, one, between, second, other: f'{first} => Ok({other}){between}{second} => Ok({one})'),
-    ('arm', 'members', '', READER_ARMS, lambda first, one, between, second, other: f'{first} => Ok({other}){between}{second} => Ok({one})'),
+    ('arm', 'variants', '', READER_ARMS, lambda first, one, between, second, other: f'{first} => {other}{between}{second} => {one}'),
+    ('arm', 'members', '', READER_ARMS, lambda first, one, between, second, other: f'{first} => {other}{between}{second} => {one}'),
 )
 BUILDER_BUGS = (
     ('offset', 'uint32', 'set init', r'value::set_number\(arena, self\.place, (\d+), value\)', lambda n: f'value::set_number(arena, self.place, {int(n) - 1}, value)'),

@@ -267,7 +267,7 @@ fn put_variants(alloc: Global, names: &[String], values: &mut Values) {
     for name in names {
         let row = variant_values(alloc, name.as_str(), number, &mut taken, values);
         variants.push_filled("    /// ~name~ @~number~\n    ~variant~,\n", &row);
-        arms.push_filled("        ~number~ => Ok(~type~::~variant~),\n", &row);
+        arms.push_filled("        ~number~ => ~type~::~variant~,\n", &row);
         numbers.push_filled("~module~_number ~variant~ = ~number~\n", &row);
         number = number.saturating_add(1);
     }

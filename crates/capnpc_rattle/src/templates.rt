@@ -308,9 +308,10 @@ pub fn of_number(number: u16) -> Result<~type~, NotInSchema>
     ensures value { IfOk result (λ e. ~module~_number e ≡ number) }
     ensures unknown { IfErr result (λ e. (e.0 ≡ number) × (~count~ ≤ number)) }
 {
-    match number {
-~arms~        _ => Err(NotInSchema(number)),
-    }
+    let variant = match number {
+~arms~        _ => return Err(NotInSchema(number)),
+    };
+    Ok(variant)
 }
 ";
 
