@@ -22,11 +22,12 @@ pub fn of_number(number: u16) -> Result<Which, NotInSchema>
     ensures value { IfOk result (λ e. person_employment_which_number e ≡ number) }
     ensures unknown { IfErr result (λ e. (e.0 ≡ number) × (4 ≤ number)) }
 {
-    match number {
-        0 => Ok(Which::Unemployed),
-        1 => Ok(Which::Employer),
-        2 => Ok(Which::School),
-        3 => Ok(Which::SelfEmployed),
-        _ => Err(NotInSchema(number)),
-    }
+    let variant = match number {
+        0 => Which::Unemployed,
+        1 => Which::Employer,
+        2 => Which::School,
+        3 => Which::SelfEmployed,
+        _ => return Err(NotInSchema(number)),
+    };
+    Ok(variant)
 }

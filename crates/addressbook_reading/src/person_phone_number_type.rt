@@ -20,10 +20,11 @@ pub fn of_number(number: u16) -> Result<Type_, NotInSchema>
     ensures value { IfOk result (λ e. person_phone_number_type_number e ≡ number) }
     ensures unknown { IfErr result (λ e. (e.0 ≡ number) × (3 ≤ number)) }
 {
-    match number {
-        0 => Ok(Type_::Mobile),
-        1 => Ok(Type_::Home),
-        2 => Ok(Type_::Work),
-        _ => Err(NotInSchema(number)),
-    }
+    let variant = match number {
+        0 => Type_::Mobile,
+        1 => Type_::Home,
+        2 => Type_::Work,
+        _ => return Err(NotInSchema(number)),
+    };
+    Ok(variant)
 }

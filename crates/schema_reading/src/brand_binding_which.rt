@@ -18,9 +18,10 @@ pub fn of_number(number: u16) -> Result<Which, NotInSchema>
     ensures value { IfOk result (λ e. brand_binding_which_number e ≡ number) }
     ensures unknown { IfErr result (λ e. (e.0 ≡ number) × (2 ≤ number)) }
 {
-    match number {
-        0 => Ok(Which::Unbound),
-        1 => Ok(Which::Type_),
-        _ => Err(NotInSchema(number)),
-    }
+    let variant = match number {
+        0 => Which::Unbound,
+        1 => Which::Type_,
+        _ => return Err(NotInSchema(number)),
+    };
+    Ok(variant)
 }

@@ -18,9 +18,10 @@ pub fn of_number(number: u16) -> Result<Which, NotInSchema>
     ensures value { IfOk result (λ e. brand_scope_which_number e ≡ number) }
     ensures unknown { IfErr result (λ e. (e.0 ≡ number) × (2 ≤ number)) }
 {
-    match number {
-        0 => Ok(Which::Bind),
-        1 => Ok(Which::Inherit),
-        _ => Err(NotInSchema(number)),
-    }
+    let variant = match number {
+        0 => Which::Bind,
+        1 => Which::Inherit,
+        _ => return Err(NotInSchema(number)),
+    };
+    Ok(variant)
 }

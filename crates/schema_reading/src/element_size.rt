@@ -30,15 +30,16 @@ pub fn of_number(number: u16) -> Result<ElementSize, NotInSchema>
     ensures value { IfOk result (λ e. element_size_number e ≡ number) }
     ensures unknown { IfErr result (λ e. (e.0 ≡ number) × (8 ≤ number)) }
 {
-    match number {
-        0 => Ok(ElementSize::Empty),
-        1 => Ok(ElementSize::Bit),
-        2 => Ok(ElementSize::Byte),
-        3 => Ok(ElementSize::TwoBytes),
-        4 => Ok(ElementSize::FourBytes),
-        5 => Ok(ElementSize::EightBytes),
-        6 => Ok(ElementSize::Pointer),
-        7 => Ok(ElementSize::InlineComposite),
-        _ => Err(NotInSchema(number)),
-    }
+    let variant = match number {
+        0 => ElementSize::Empty,
+        1 => ElementSize::Bit,
+        2 => ElementSize::Byte,
+        3 => ElementSize::TwoBytes,
+        4 => ElementSize::FourBytes,
+        5 => ElementSize::EightBytes,
+        6 => ElementSize::Pointer,
+        7 => ElementSize::InlineComposite,
+        _ => return Err(NotInSchema(number)),
+    };
+    Ok(variant)
 }

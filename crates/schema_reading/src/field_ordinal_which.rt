@@ -18,9 +18,10 @@ pub fn of_number(number: u16) -> Result<Which, NotInSchema>
     ensures value { IfOk result (λ e. field_ordinal_which_number e ≡ number) }
     ensures unknown { IfErr result (λ e. (e.0 ≡ number) × (2 ≤ number)) }
 {
-    match number {
-        0 => Ok(Which::Implicit),
-        1 => Ok(Which::Explicit),
-        _ => Err(NotInSchema(number)),
-    }
+    let variant = match number {
+        0 => Which::Implicit,
+        1 => Which::Explicit,
+        _ => return Err(NotInSchema(number)),
+    };
+    Ok(variant)
 }

@@ -18,9 +18,10 @@ pub fn of_number(number: u16) -> Result<Which, NotInSchema>
     ensures value { IfOk result (λ e. field_which_number e ≡ number) }
     ensures unknown { IfErr result (λ e. (e.0 ≡ number) × (2 ≤ number)) }
 {
-    match number {
-        0 => Ok(Which::Slot),
-        1 => Ok(Which::Group),
-        _ => Err(NotInSchema(number)),
-    }
+    let variant = match number {
+        0 => Which::Slot,
+        1 => Which::Group,
+        _ => return Err(NotInSchema(number)),
+    };
+    Ok(variant)
 }

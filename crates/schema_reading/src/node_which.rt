@@ -26,13 +26,14 @@ pub fn of_number(number: u16) -> Result<Which, NotInSchema>
     ensures value { IfOk result (λ e. node_which_number e ≡ number) }
     ensures unknown { IfErr result (λ e. (e.0 ≡ number) × (6 ≤ number)) }
 {
-    match number {
-        0 => Ok(Which::File),
-        1 => Ok(Which::Struct),
-        2 => Ok(Which::Enum),
-        3 => Ok(Which::Interface),
-        4 => Ok(Which::Const),
-        5 => Ok(Which::Annotation),
-        _ => Err(NotInSchema(number)),
-    }
+    let variant = match number {
+        0 => Which::File,
+        1 => Which::Struct,
+        2 => Which::Enum,
+        3 => Which::Interface,
+        4 => Which::Const,
+        5 => Which::Annotation,
+        _ => return Err(NotInSchema(number)),
+    };
+    Ok(variant)
 }

@@ -22,11 +22,12 @@ pub fn of_number(number: u16) -> Result<Which, NotInSchema>
     ensures value { IfOk result (λ e. type_any_pointer_unconstrained_which_number e ≡ number) }
     ensures unknown { IfErr result (λ e. (e.0 ≡ number) × (4 ≤ number)) }
 {
-    match number {
-        0 => Ok(Which::AnyKind),
-        1 => Ok(Which::Struct),
-        2 => Ok(Which::List),
-        3 => Ok(Which::Capability),
-        _ => Err(NotInSchema(number)),
-    }
+    let variant = match number {
+        0 => Which::AnyKind,
+        1 => Which::Struct,
+        2 => Which::List,
+        3 => Which::Capability,
+        _ => return Err(NotInSchema(number)),
+    };
+    Ok(variant)
 }

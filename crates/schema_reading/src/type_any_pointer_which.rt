@@ -20,10 +20,11 @@ pub fn of_number(number: u16) -> Result<Which, NotInSchema>
     ensures value { IfOk result (λ e. type_any_pointer_which_number e ≡ number) }
     ensures unknown { IfErr result (λ e. (e.0 ≡ number) × (3 ≤ number)) }
 {
-    match number {
-        0 => Ok(Which::Unconstrained),
-        1 => Ok(Which::Parameter),
-        2 => Ok(Which::ImplicitMethodParameter),
-        _ => Err(NotInSchema(number)),
-    }
+    let variant = match number {
+        0 => Which::Unconstrained,
+        1 => Which::Parameter,
+        2 => Which::ImplicitMethodParameter,
+        _ => return Err(NotInSchema(number)),
+    };
+    Ok(variant)
 }

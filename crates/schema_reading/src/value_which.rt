@@ -52,26 +52,27 @@ pub fn of_number(number: u16) -> Result<Which, NotInSchema>
     ensures value { IfOk result (λ e. value_which_number e ≡ number) }
     ensures unknown { IfErr result (λ e. (e.0 ≡ number) × (19 ≤ number)) }
 {
-    match number {
-        0 => Ok(Which::Void),
-        1 => Ok(Which::Bool),
-        2 => Ok(Which::Int8),
-        3 => Ok(Which::Int16),
-        4 => Ok(Which::Int32),
-        5 => Ok(Which::Int64),
-        6 => Ok(Which::Uint8),
-        7 => Ok(Which::Uint16),
-        8 => Ok(Which::Uint32),
-        9 => Ok(Which::Uint64),
-        10 => Ok(Which::Float32),
-        11 => Ok(Which::Float64),
-        12 => Ok(Which::Text),
-        13 => Ok(Which::Data),
-        14 => Ok(Which::List),
-        15 => Ok(Which::Enum),
-        16 => Ok(Which::Struct),
-        17 => Ok(Which::Interface),
-        18 => Ok(Which::AnyPointer),
-        _ => Err(NotInSchema(number)),
-    }
+    let variant = match number {
+        0 => Which::Void,
+        1 => Which::Bool,
+        2 => Which::Int8,
+        3 => Which::Int16,
+        4 => Which::Int32,
+        5 => Which::Int64,
+        6 => Which::Uint8,
+        7 => Which::Uint16,
+        8 => Which::Uint32,
+        9 => Which::Uint64,
+        10 => Which::Float32,
+        11 => Which::Float64,
+        12 => Which::Text,
+        13 => Which::Data,
+        14 => Which::List,
+        15 => Which::Enum,
+        16 => Which::Struct,
+        17 => Which::Interface,
+        18 => Which::AnyPointer,
+        _ => return Err(NotInSchema(number)),
+    };
+    Ok(variant)
 }
