@@ -1,7 +1,4 @@
-//! Builds the address book of upstream's example with builders for its schema, and writes the frame
-//! of its message to standard output.
-#![tactic(auto)]
-
+//! Builds the address book of upstream's example.
 ghost use Rattle.std.specs.Prelude.{◌≡◌, ◌<◌, ◌+◌, ◌^◌, length};
 ghost use Rattle.capnp_format.specs.Segments.{Grows, IsPlace};
 ghost use Rattle.addressbook_building.specs.Sizes.{person_phone_number_size, person_size};
@@ -10,23 +7,22 @@ ghost use Rattle.typed_building.specs.There.{HasStructsPlace, HasStructPlace};
 use addressbook_building::person_phone_number_type::Type_;
 use addressbook_building::{address_book, person, person_phone_number};
 use capnp_arena_traits::arena::BuilderArena;
-use capnp_framing::devices::WriterOutput;
 use capnp_words::error::ErrorKind;
-use std::io;
-use typed_messages::message::MessageBuilder;
-use typed_messages::serialize::write_message;
 
-/// Sets the fields of a phone number.
+/// Sets the fields of phone number `index`.
 fn fill_phone<A: BuilderArena>(
     arena: &mut A,
-    phone: person_phone_number::Builder,
+    phones: person_phone_number::Builders,
+    index: u32,
     number: &[u8],
     kind: Type_,
 ) -> Result<(), ErrorKind>
-    requires there { HasStructPlace (A.view arena.old).words person_phone_number_size phone.place }
+    requires there { HasStructsPlace (A.view arena.old).words person_phone_number_size phones.place }
+    requires within { index < phones.place.count }
     requires few { length number.now + 1 < 2 ^ 29 }
     ensures { Grows (A.view arena.old).words (A.view arena.new).words }
 {
+    let phone = phones.get(&*arena, index);
     phone.set_number(arena, number)?;
     phone.set_type(arena, kind);
     Ok(())
@@ -57,8 +53,7 @@ fn fill_alices_phone<A: BuilderArena>(
     ensures { Grows (A.view arena.old).words (A.view arena.new).words }
 {
     let phones = alice.init_phones(arena, 1)?;
-    let phone = phones.get(&*arena, 0);
-    fill_phone(arena, phone, b"555-1212", Type_::Mobile)
+    fill_phone(arena, phones, 0, b"555-1212", Type_::Mobile)
 }
 
 /// Gives the second person two phone numbers.
@@ -67,10 +62,8 @@ fn fill_bobs_phones<A: BuilderArena>(arena: &mut A, bob: person::Builder) -> Res
     ensures { Grows (A.view arena.old).words (A.view arena.new).words }
 {
     let phones = bob.init_phones(arena, 2)?;
-    let home = phones.get(&*arena, 0);
-    let work = phones.get(&*arena, 1);
-    fill_phone(arena, home, b"555-4567", Type_::Home)?;
-    fill_phone(arena, work, b"555-7654", Type_::Work)
+    fill_phone(arena, phones, 0, b"555-4567", Type_::Home)?;
+    fill_phone(arena, phones, 1, b"555-7654", Type_::Work)
 }
 
 /// Sets the fields of the first person.
@@ -107,18 +100,10 @@ fn fill_people<A: BuilderArena>(arena: &mut A, people: person::Builders) -> Resu
 }
 
 /// Builds an address book of two people.
-fn build_address_book<A: BuilderArena>(arena: &mut A) -> Result<(), ErrorKind>
+pub fn build_address_book<A: BuilderArena>(arena: &mut A) -> Result<(), ErrorKind>
     requires { IsPlace (A.view arena.old).words 0 0 }
 {
     let book = address_book::Builder::init_root(arena)?;
     let people = book.init_people(arena, 2)?;
     fill_people(arena, people)
-}
-
-fn main(rt: HostRuntime) -> anyhow::Result<()> {
-    let mut message = MessageBuilder::new(rt.alloc(), 1024)?;
-    build_address_book(&mut message.arena)?;
-    let mut output = WriterOutput::new(io::writer(&rt));
-    write_message(&mut output, &message)?;
-    Ok(())
 }
