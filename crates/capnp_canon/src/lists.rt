@@ -27,6 +27,27 @@ struct Entry<'a> {
     number: u64,
 }
 
+/// The digests of the messages of the file `file`.
+#[derive(Drop)]
+struct Digests {
+    file: String,
+    /// `LINE` bytes for each message up to the first refused one.
+    bytes: MemoryOutput,
+}
+
+/// How many lines of a list have been read, and what they are.
+#[derive(Clone, Copy)]
+struct LineCounts {
+    /// The number of lines.
+    read: u64,
+    /// The number of lines that `digest` has written.
+    entries: u64,
+    /// The number of other lines that aren't empty.
+    others: u64,
+    /// The number of the first of these; lines are counted from 1.
+    first_other: u64,
+}
+
 /// What verifying has found so far.
 #[derive(Clone, Copy)]
 struct Verified {
@@ -95,8 +116,9 @@ fn verify_list<W: BufferedOutput>(
         found.is_unread = true;
         return Ok(());
     };
-    match verify_lines(rt, task, name, text, output, found) {
-        Ok(done) => done,
+    match verify_lines(rt, task, text, output, found) {
+        Ok(Ok(lines)) => count_and_report_lines(rt, name, lines, output, found),
+        Ok(Err(unanswered)) => Err(unanswered),
         Err(AllocError) => {
             flush(output)?;
             let _ = rt.eprintln(NO_MEMORY);
@@ -115,59 +137,99 @@ fn read_list(rt: &HostRuntime, name: &str, bytes: &mut Vec<u8>) -> io::Result<()
     Ok(())
 }
 
-/// Verifies the lines of the list `list`. Fails if there is no memory for what a line says.
+/// Verifies the lines of a list. Fails if there is no memory for what a line says.
 fn verify_lines<W: BufferedOutput>(
     rt: &HostRuntime,
     task: Task,
-    list: &str,
     text: &str,
     output: &mut W,
     found: &mut Verified,
-) -> Result<Result<(), Unanswered>, AllocError> {
-    let mut file = String::new(rt.alloc());
-    let mut digests: Option<MemoryOutput> = None;
-    let mut number = 0u64;
-    let mut entries = 0u64;
-    let mut others = 0u64;
-    let mut first = 0u64;
+) -> Result<Result<LineCounts, Unanswered>, AllocError> {
+    let mut lines = LineCounts {
+        read: 0,
+        entries: 0,
+        others: 0,
+        first_other: 0,
+    };
+    let mut known = None;
     for line in text.split('\n') {
-        number = number.saturating_add(1);
-        if line.is_empty() {
-            continue;
-        }
-        let Some(entry) = parse_entry(rt.alloc(), line)? else {
-            if others == 0 {
-                first = number;
-            }
-            others = others.saturating_add(1);
-            continue;
-        };
-        entries = entries.saturating_add(1);
-        let is_known = digests.is_some() && file.as_str() == entry.name.as_str();
-        if !is_known {
-            file = String::from_str(rt.alloc(), entry.name.as_str())?;
-            match compute_digests(rt, task, file.as_str(), output, found) {
-                Ok(read) => digests = Some(read),
+        let entry = parse_entry(rt.alloc(), line)?;
+        lines.count(line.is_empty(), entry.is_some());
+        if let Some(entry) = entry {
+            match verify_entry(rt, task, &entry, &mut known, output, found)? {
+                Ok(()) => {}
                 Err(unanswered) => return Ok(Err(unanswered)),
             }
         }
-        let holds = match &digests {
-            Some(read) => has_digest(read.bytes(), &entry),
-            None => false,
-        };
-        if count_and_report_entry(task, output, &entry, holds, found).is_err() {
-            return Ok(Err(Unanswered::WriteFailed));
+    }
+    Ok(Ok(lines))
+}
+
+impl LineCounts {
+    /// Counts a line.
+    fn count(&mut self, is_empty: bool, is_entry: bool) {
+        self.read = self.read.saturating_add(1);
+        if is_entry {
+            self.entries = self.entries.saturating_add(1);
+        } else if !is_empty {
+            if self.others == 0 {
+                self.first_other = self.read;
+            }
+            self.others = self.others.saturating_add(1);
         }
     }
-    if 0 < others || entries == 0 {
-        if let Err(unanswered) = flush(output) {
-            return Ok(Err(unanswered));
+}
+
+/// Verifies an entry, and writes the line about it. `known` has the digests of the file that was read
+/// last; if that is another one, reads the entry's file. Fails if there is no memory for its name.
+fn verify_entry<W: BufferedOutput>(
+    rt: &HostRuntime,
+    task: Task,
+    entry: &Entry<'_>,
+    known: &mut Option<Digests>,
+    output: &mut W,
+    found: &mut Verified,
+) -> Result<Result<(), Unanswered>, AllocError> {
+    if !is_of_file(known, entry.name.as_str()) {
+        let file = String::from_str(rt.alloc(), entry.name.as_str())?;
+        match compute_digests(rt, task, file.as_str(), output, found) {
+            Ok(bytes) => *known = Some(Digests { file, bytes }),
+            Err(unanswered) => return Ok(Err(unanswered)),
         }
-        report_unparsed_lines(rt, list, first, others);
-        found.is_unread |= 0 < others;
-        found.is_empty |= others == 0;
     }
-    Ok(Ok(()))
+    let holds = match known {
+        Some(digests) => has_digest(digests.bytes.bytes(), entry),
+        None => false,
+    };
+    match count_and_report_entry(task, output, entry, holds, found) {
+        Ok(()) => Ok(Ok(())),
+        Err(DeviceFault) => Ok(Err(Unanswered::WriteFailed)),
+    }
+}
+
+/// Whether these are the digests of the file `name`.
+fn is_of_file(known: &Option<Digests>, name: &str) -> bool {
+    match known {
+        Some(digests) => digests.file.as_str() == name,
+        None => false,
+    }
+}
+
+/// Counts a list without entries, and one with other lines, and reports these.
+fn count_and_report_lines<W: BufferedOutput>(
+    rt: &HostRuntime,
+    list: &str,
+    lines: LineCounts,
+    output: &mut W,
+    found: &mut Verified,
+) -> Result<(), Unanswered> {
+    if 0 < lines.others || lines.entries == 0 {
+        flush(output)?;
+        report_unparsed_lines(rt, list, lines.first_other, lines.others);
+        found.is_unread |= 0 < lines.others;
+        found.is_empty |= lines.others == 0;
+    }
+    Ok(())
 }
 
 /// Reports that lines of a list aren't those of `digest`, or that none is.

@@ -81,57 +81,65 @@ fn report_usage_error(rt: &HostRuntime, args: &[String], wrong: WrongArgument) -
         Some(arg) => arg.as_str(),
         None => "",
     };
-    let _ = match wrong.fault {
-        ArgumentFault::MissingCommand => eprintln!(rt; "capnp_canon: missing command"),
-        ArgumentFault::UnknownCommand => eprintln!(rt; "capnp_canon: unknown command '{text}'"),
+    match wrong.fault {
+        ArgumentFault::MissingCommand => print_pieces(rt, "missing command", "", "", "", ""),
+        ArgumentFault::UnknownCommand => print_pieces(rt, "unknown command '", text, "'", "", ""),
         ArgumentFault::UnknownOption => {
-            eprintln!(rt; "capnp_canon: unrecognized option '{text}'")
+            print_pieces(rt, "unrecognized option '", text, "'", "", "");
         }
-        ArgumentFault::MissingValue(value_option) => {
-            eprintln!(rt;
-                "capnp_canon: option '{}' needs a value",
-                value_option.text()
-            )
+        ArgumentFault::MissingValue(option) => {
+            print_pieces(rt, "option '", option.text(), "' needs a value", "", "");
         }
-        ArgumentFault::InvalidValue(value_option) => {
-            eprintln!(rt;
-                "capnp_canon: invalid value '{text}' for {}",
-                value_option.text()
-            )
+        ArgumentFault::InvalidValue(option) => {
+            print_pieces(rt, "invalid value '", text, "' for ", option.text(), "");
         }
-        ArgumentFault::InvalidAssignment(value_option) => {
-            let value = match text.split_once('=') {
-                Some((_, value)) => value,
-                None => text,
-            };
-            eprintln!(rt;
-                "capnp_canon: invalid value '{value}' for {}",
-                value_option.text()
-            )
+        ArgumentFault::InvalidAssignment(option) => {
+            let value = assigned_value(text);
+            print_pieces(rt, "invalid value '", value, "' for ", option.text(), "");
         }
         ArgumentFault::UnwantedValue(option) => {
-            eprintln!(rt;
-                "capnp_canon: option '{}' doesn't allow a value",
-                option.text()
-            )
+            let end = "' doesn't allow a value";
+            print_pieces(rt, "option '", option.text(), end, "", "");
         }
         ArgumentFault::NotOfCommand(subcommand, option) => {
-            eprintln!(rt;
-                "capnp_canon: '{}' has no option '{}'",
+            print_pieces(
+                rt,
+                "'",
                 subcommand.text(),
-                option.text()
-            )
+                "' has no option '",
+                option.text(),
+                "'",
+            );
         }
         ArgumentFault::Excluded(first, second) => {
-            let (first, second) = (first.text(), second.text());
-            eprintln!(rt; "capnp_canon: '{first}' can't be combined with '{second}'")
+            let middle = "' can't be combined with '";
+            print_pieces(rt, "'", first.text(), middle, second.text(), "'");
         }
         ArgumentFault::Needs(first, second) => {
-            let (first, second) = (first.text(), second.text());
-            eprintln!(rt; "capnp_canon: option '{first}' needs '{second}'")
+            print_pieces(
+                rt,
+                "option '",
+                first.text(),
+                "' needs '",
+                second.text(),
+                "'",
+            );
         }
-    };
+    }
     print_error(rt, HINT)
+}
+
+/// The part of an argument after its first `=`; the whole argument if it has none.
+fn assigned_value(text: &str) -> &str {
+    match text.split_once('=') {
+        Some((_, value)) => value,
+        None => text,
+    }
+}
+
+/// Writes a line to standard error, if possible: two words, and what is around them.
+fn print_pieces(rt: &HostRuntime, start: &str, first: &str, middle: &str, second: &str, end: &str) {
+    let _ = eprintln!(rt; "capnp_canon: {start}{first}{middle}{second}{end}");
 }
 
 /// Does `task` with the messages of `files`, or of standard input if there are no files, and writes
