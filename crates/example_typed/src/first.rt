@@ -1,10 +1,10 @@
 //! A user of the readers.
-ghost use Rattle.std.specs.Prelude.{◌≡◌, ◌<◌, ℕ, IfOk, IfSome};
+ghost use Rattle.std.specs.Prelude.{◌≡◌, ◌<◌, ◌↔◌, ℕ, None, IfOk, IfSome};
 ghost use Rattle.capnp_format.specs.Bytes.{message};
 ghost use Rattle.capnp_format.specs.Means.{Means};
 ghost use Rattle.capnp_format.specs.Tree.{Tree};
 ghost use Rattle.capnp_objects.specs.Source.{levels};
-ghost use Rattle.capnp_readers.specs.Values.{HasStructs, struct_element};
+ghost use Rattle.capnp_readers.specs.Values.{HasStructs, list_length, struct_element};
 ghost use Rattle.addressbook_reading.specs.Schema.{address_book_people, person_id};
 ghost use Rattle.typed_messages.specs.Reading.{words_of_message};
 
@@ -18,10 +18,13 @@ use typed_messages::message::MessageReader;
 /// Returns the id of the first person of the address book that a message is, or `None` if there are
 /// no people.
 pub fn first_id<A: ReaderArena>(arena: &A, lim: &mut ReadLimiter) -> Result<Option<u32>, ErrorKind>
-    ensures { (t : Tree) (c : ℕ)
+    ensures some { (t : Tree) (c : ℕ)
         → Means (message (A.segments arena.now)) (levels (A.nesting arena.now)) 0 0 t c
         → HasStructs (address_book_people t) → IfOk result (λ first. IfSome first
         (λ id. id ≡ person_id (struct_element (address_book_people t) 0))) }
+    ensures none { (t : Tree) (c : ℕ)
+        → Means (message (A.segments arena.now)) (levels (A.nesting arena.now)) 0 0 t c
+        → IfOk result (λ first. (first ≡ None) ↔ (list_length (address_book_people t) ≡ 0)) }
 {
     let book = address_book::Reader::root(arena, lim)?;
     let people = book.get_people(lim)?;
@@ -35,10 +38,13 @@ pub fn first_id<A: ReaderArena>(arena: &A, lim: &mut ReadLimiter) -> Result<Opti
 pub fn first_id_in<S: ReaderSegments>(
     message: &mut MessageReader<S>,
 ) -> Result<Option<u32>, ErrorKind>
-    ensures { (t : Tree) (c : ℕ) → Means (words_of_message S.ReaderSegments message.old)
+    ensures some { (t : Tree) (c : ℕ) → Means (words_of_message S.ReaderSegments message.old)
         (levels message.old.arena.nesting_limit) 0 0 t c
         → HasStructs (address_book_people t) → IfOk result (λ first. IfSome first
         (λ id. id ≡ person_id (struct_element (address_book_people t) 0))) }
+    ensures none { (t : Tree) (c : ℕ) → Means (words_of_message S.ReaderSegments message.old)
+        (levels message.old.arena.nesting_limit) 0 0 t c
+        → IfOk result (λ first. (first ≡ None) ↔ (list_length (address_book_people t) ≡ 0)) }
 {
     first_id(&message.arena, &mut message.limiter)
 }

@@ -40,7 +40,7 @@ fn print_phone<A: ReaderArena>(
 }
 
 /// Prints an employer or a school after these words.
-fn print_place(rt: &impl Print, words: &str, name: Result<&[u8], ErrorKind>) -> Result<()> {
+fn print_institution(rt: &impl Print, words: &str, name: Result<&[u8], ErrorKind>) -> Result<()> {
     let name = text(name)?;
     println!(rt; "  {words}: {name}")?;
     Ok(())
@@ -54,8 +54,8 @@ fn print_employment<A: ReaderArena>(
 ) -> Result<()> {
     match employment.which() {
         Ok(Which::Unemployed) => Ok(println!(rt; "  unemployed")?),
-        Ok(Which::Employer) => print_place(rt, "employer", employment.get_employer(lim)),
-        Ok(Which::School) => print_place(rt, "student at", employment.get_school(lim)),
+        Ok(Which::Employer) => print_institution(rt, "employer", employment.get_employer(lim)),
+        Ok(Which::School) => print_institution(rt, "student at", employment.get_school(lim)),
         Ok(Which::SelfEmployed) => Ok(println!(rt; "  self-employed")?),
         Err(_) => Ok(()),
     }
