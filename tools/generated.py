@@ -5,7 +5,7 @@
     generated.py --check    writes it into a temporary folder and compares every byte
     generated.py --sums     compares the sums in generated/ORIGIN with the files; needs no toolchain, takes milliseconds
 
-generated/ORIGIN names the toolchain, and has one sum for each crate that the C is made from, over `src`, `specs` and `proofs`,
+generated/ORIGIN names the toolchain's logic, and has one sum for each crate that the C is made from, over `src`, `specs` and `proofs`,
 one for the scripts that write the C, and one for each file. So --sums says which crate has changed since the C was written.
 It can't say whether the C is what the sources compile to; --check does. The last line is `N passed, M failed`.
 
@@ -63,9 +63,9 @@ def exports():
     return f'{NAME.upper()}_{major} {{\nglobal:\n{names}local:\n    *;\n}};\n'.encode()
 
 
-def origin(toolchain, files):
-    """What the files were made from."""
-    lines = [f'toolchain: {toolchain}', *(f'{name}: {it}' for name, it in sums().items())]
+def origin(logic, files):
+    """What the files were made from. Another kit of the same logic changes nothing here."""
+    lines = [f'logic: {logic}', *(f'{name}: {it}' for name, it in sums().items())]
     return '\n'.join([*lines, *(f'generated/{name}: {digest(data)}' for name, data in sorted(files.items())), '']).encode()
 
 
@@ -79,8 +79,8 @@ def made():
             sys.exit('generated.py: nothing is written' + ('' if run.returncode else ': the sources have changed in the meantime'))
         files = {f'{it}.c': (pathlib.Path(room) / f'{it}.c').read_bytes() for it in CRATES}
     files[f'{NAME}.map'] = exports()
-    toolchain = subprocess.run(['rt', 'version'], stdin=subprocess.DEVNULL, stdout=subprocess.PIPE, encoding='utf-8', check=True).stdout.strip()
-    return {**files, 'ORIGIN': origin(toolchain, files)}
+    version = subprocess.run(['rt', 'version'], stdin=subprocess.DEVNULL, stdout=subprocess.PIPE, encoding='utf-8', check=True).stdout
+    return {**files, 'ORIGIN': origin(version.split()[-1], files)}
 
 
 def listed(page):
