@@ -39,16 +39,17 @@ class Crates:
         """The path of the library of a crate, or of one of the toolchain."""
         return self.top / f'crates/{name}/out/rlib/{name}.rlib' if name in self.stands_on else self.kit / f'rlibs/{name}.rlib'
 
+    def is_built(self, name):
+        """Whether the library of a crate is built from the crate's current sources."""
+        if not (self.rlib(name) / 'format').is_file():
+            return False
+        built = self.rlib(name).stat().st_mtime
+        files = (it for part in PARTS for it in (self.top / 'crates' / name / part).rglob('*') if it.is_file())
+        return all(it.stat().st_mtime <= built for it in files)
+
     def lacking(self, name):
-        """The first library that a crate depends on and that isn't built from the current sources, or None."""
-        for below in self.below(name):
-            if not (self.rlib(below) / 'format').is_file():
-                return below
-            built = self.rlib(below).stat().st_mtime
-            files = (it for part in PARTS for it in (self.top / 'crates' / below / part).rglob('*') if it.is_file())
-            if any(it.stat().st_mtime > built for it in files):
-                return below
-        return None
+        """The libraries that a crate depends on and that aren't built from their current sources, lowest first."""
+        return [below for below in self.below(name) if not self.is_built(below)]
 
     def words(self, name):
         """The arguments of `rattle check` and `rattle build` for a crate, run in its folder or in a copy of that."""

@@ -420,7 +420,7 @@ def main():
     for name, mutants in by_crate.items():
         if lacking := crates.lacking(name):
             for mutant in mutants:
-                tell(mutant.label(), False, f'NOT TRIED: {lacking} is not built from the current sources: run ./test, or rt check in crates/{name}')
+                tell(mutant.label(), False, f'NOT TRIED: {lacking[0]} is not built from the current sources: run ./test, or ./prove {" ".join(lacking)}')
         else:
             tasks.append(rounds_of(mutants))
     tasks.sort(key=lambda it: -sum(map(len, it)))
