@@ -1,8 +1,9 @@
 #!/usr/bin/env python3
-"""The gate. Checks the names of definitions, the prose, the quotations in pages, the header for C, and whether a crate has
-changed since the C in generated/ was written, and the version of the toolchain. Then runs `rt ci`, which proves and builds
-everything; compares what it reports that the proofs rest on with `tests/axioms.txt`; tries the mutants with the libraries
-that it built; and runs the outside vectors, the cases, the hostile runs and the streams with the programs that it built.
+"""The gate. Checks the names of definitions, the prose, the quotations in pages, the header for C, whether a crate has changed
+since the C in generated/ was written, the logic of the toolchain, and the scripts at the top. Then runs `rt ci`, which proves
+and builds everything; compares what it reports that the proofs rest on with `tests/axioms.txt`; tries the mutants with the
+libraries that it built; and runs the outside vectors, the cases, the hostile runs and the streams with the programs that it
+built.
 
     gate.py [--anew]
 
@@ -28,6 +29,9 @@ import axioms
 from mutants.run import side_by_side
 
 TOP = pathlib.Path(__file__).resolve().parents[1]
+sys.path.append(str(TOP / 'tools'))
+from libraries import Crates
+
 TOOL, CASES, RUNS, CANON, STREAM_RUNS = PROGRAMS = [
     TOP / f'crates/{name}/out/{name}' for name in ('layout_tool', 'layout_rows', 'layout_runs', 'capnp_canon', 'stream_runs')
 ]
@@ -39,6 +43,8 @@ OVER_PROGRAMS = (
     ('streams', TOP / 'tests/streams/run.py', (CANON, STREAM_RUNS)),
 )
 COUNTS = re.compile(r'(\d+) passed, (\d+) failed')
+# What `rt ci` prints when a crate is proved.
+PROVED = re.compile(r'rt: (\w+) (?:proved$|is kept\b)')
 
 
 def say(text):
@@ -52,16 +58,20 @@ def remove(path):
         path.unlink(missing_ok=True)
 
 
-def counted(name, command, printed=None, **settings):
+def counted(name, command, printed=None, crates=(), **settings):
     """Runs a command, shows what it prints, and returns how many passed and failed according to its last line. If the exit
-    status contradicts that, or nothing was counted, that is one more failure. Adds the lines to `printed`."""
-    last, printed = '', [] if printed is None else printed
+    status contradicts that, or nothing was counted, that is one more failure. Adds the lines to `printed`. After each of these
+    crates that is proved, says how many are."""
+    last, printed, proved = '', [] if printed is None else printed, set()
     try:
         with subprocess.Popen(command, cwd=TOP, env={**settings, **os.environ}, stdin=subprocess.DEVNULL, stdout=subprocess.PIPE, encoding='utf-8', errors='surrogateescape') as run:
             for line in run.stdout:
                 last = line.rstrip('\n')
                 printed.append(last)
                 say(f'{name}: {last}' if COUNTS.fullmatch(last) else last)
+                if (found := PROVED.match(last)) and found[1] in crates:
+                    proved.add(found[1])
+                    say(f'{name}: {len(proved)} of {len(crates)} crates are proved')
     except OSError as error:
         say(f'{name}: not run: {error}')
         return 0, 1
@@ -112,7 +122,8 @@ def main():
         counted('header', [sys.executable, str(TOP / 'tests/library/header.py')]),
         counted('generated', [sys.executable, str(TOP / 'tools/generated.py'), '--sums']),
         counted('toolchain', [sys.executable, str(TOP / 'tests/toolchain.py')]),
-        counted('rt ci', proving(sys.argv[1:]), printed, RT_JOBS=str(side_by_side())),
+        counted('scripts', [sys.executable, '-B', str(TOP / 'tests/scripts.py')]),
+        counted('rt ci', proving(sys.argv[1:]), printed, Crates().stands_on, RT_JOBS=str(side_by_side())),
         resting(printed),
         counted('mutants', [sys.executable, str(TOP / 'tests/mutants/run.py')]),
         *(over_programs(*it) for it in OVER_PROGRAMS),
