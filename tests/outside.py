@@ -1,11 +1,11 @@
 #!/usr/bin/env python3
-"""Runs the tests that aren't part of the gate: those of the library, of a release, of a clone, of the programs' pages and
-options, of the JavaScript package, of generated readers and the viewer, and the comparison with C++ Cap'n Proto.
+"""Runs the tests that aren't part of the gate: those of the quick start, of the library, of a release, of a clone, of the programs'
+pages and options, of the JavaScript package, of generated readers and the viewer, and the comparison with C++ Cap'n Proto.
 
     outside.py [NAME..]
 
-NAMEs choose the parts: completion, shell, peer, js, typed, viewer, library, clone, release; by default all, which takes most of an
-hour. Some parts prove and build what isn't built yet; clone and release test the last commit.
+NAMEs choose the parts: start, completion, shell, peer, js, typed, viewer, library, clone, release; by default all, which takes most of an
+hour. Some parts prove and build what isn't built yet; start, clone and release test the last commit.
 
 Prints the last line of each part, and the lines that say what the part itself skipped. If a part fails, also prints the end
 of its output. A part whose tools are missing is skipped and not counted. The last line is `N passed, M failed`, with the
@@ -20,9 +20,10 @@ import sys
 TOP = pathlib.Path(__file__).resolve().parents[1]
 # Each part: its name, its command, and the tools without which it isn't run. Of names separated by | one is enough.
 PARTS = (
+    ('start', ('sh', 'tests/start.sh'), ('git', 'make', 'cc')),
     ('completion', (sys.executable, '-B', 'tests/completion.py'), ()),
-    ('shell', ('sh', 'tests/shell.sh'), ('rt|build/capnp_canon', 'timeout')),
-    ('peer', ('sh', 'tests/peer/run.sh'), ('rt|build/capnp_canon', 'capnp')),
+    ('shell', ('sh', 'tests/shell.sh'), ('make|build/capnp_canon', 'timeout')),
+    ('peer', ('sh', 'tests/peer/run.sh'), ('make|build/capnp_canon', 'capnp')),
     ('js', ('sh', 'tests/js/run.sh'), ('node',)),
     ('typed', (sys.executable, '-B', 'tests/typed/run.py'), ('rt', 'capnp')),
     ('viewer', ('sh', 'tests/viewer/run.sh'), ('node', os.environ.get('CHROMIUM', 'chromium'))),

@@ -1,16 +1,13 @@
 #!/bin/sh
 # shell.sh [PROGRAM]: runs the commands of docs/PROGRAM.md, part by part in one folder, and compares the output of each part
 # with the page. PROGRAM is a built capnp_canon. Without it, runs ./capnp_canon at the top of the repository and also
-# ./layout_tool; each is proved and built first if that isn't done yet. Without the toolchain, runs what `make` has built.
-# A part whose tools are missing is skipped.
+# ./layout_tool, which run what is built. A part whose tools are missing is skipped.
 #
 # Prints a line `ok: COMMAND`, `FAILED: COMMAND` or `skipped: COMMAND: no TOOL` for each part; the last line is
 # `N passed, M failed`.
 set -u
 top=$(cd "$(dirname "$0")/.." && pwd) || exit 2
-programs=$top
-if ! command -v rt >/dev/null && [ -x "$top/build/capnp_canon" ]; then programs=$top/build; fi
-case ${1-} in '' | /*) program=${1-$programs/capnp_canon} ;; *) program=$(pwd)/$1 ;; esac
+case ${1-} in '' | /*) program=${1-$top/capnp_canon} ;; *) program=$(pwd)/$1 ;; esac
 work=$(mktemp -d) || exit 2
 trap 'rm -rf "$work"' EXIT
 mkdir "$work/parts" "$work/folder" || exit 2
@@ -38,9 +35,10 @@ lacking() {
 }
 
 run_by capnp_canon "$program"
-[ $# -gt 0 ] || run_by layout_tool "$programs/layout_tool"
-# a build that is needed prints its progress here
+[ $# -gt 0 ] || run_by layout_tool "$top/layout_tool"
+# a build that is needed is announced here
 "$program" --version >"$work/log" || exit 2
+[ $# -gt 0 ] || "$top/layout_tool" --help >"$work/log" || exit 2
 take_apart
 cd "$work/folder" || exit 2
 passed=0 failed=0

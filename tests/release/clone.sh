@@ -64,14 +64,10 @@ first() {
     make CC="$CC" && ./capnp_canon canon --flat "$message" | is_canonical
 }
 
-# What the scripts say without the toolchain, and that they pass on input and exit status.
+# The script of the program that isn't in the quick start, and that scripts pass on input.
 programs() {
-    make CC="$CC" || return 1
-    said=$(./capnp_canon check "$message" 2>"$work/said")
-    [ $? = 1 ] && [ "$said" = 'not canonical: a data section whose last word is zero at segment 0, word 3' ] || return 1
-    [ "$(cat "$work/said")" = 'capnp_canon: this is build/capnp_canon, which make compiled from generated/capnp_canon.c; nothing is proved in this run' ] || return 1
-    ./capnp_canon canon --flat <"$message" | is_canonical && [ "$(echo 0000000001000000 2a00000000000000 | tr -d ' ' | ./layout_tool canon 64 8388608)" = 00000000010000002a00000000000000 ] || return 1
-    mv build moved && { ./layout_tool check 64 8388608 </dev/null; status=$?; mv moved build; [ $status = 2 ]; }
+    make CC="$CC" && ./capnp_canon canon --flat <"$message" | is_canonical &&
+        [ "$(echo 0000000001000000 2a00000000000000 | tr -d ' ' | ./layout_tool canon 64 8388608)" = 00000000010000002a00000000000000 ]
 }
 
 # Builds into a folder of this name, and runs `make check`.
