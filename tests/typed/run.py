@@ -15,6 +15,8 @@ The parts, by default all of them:
   a clause of that field's call.
 - `random`: like `fields`, for N random schemas (by default 2) of S structs (by default 8). Each struct in turn is the root of a
   message.
+- `page`: the commands of docs/TYPED.md, typed in a copy of the repository, write and prove crates for the schema of that page, and
+  its program prints messages.
 - `versions`: the readers of an old version of a random schema, without the last fields of its structs, and those of the new one
   print messages of each other.
 
@@ -24,8 +26,8 @@ For each crate it prints how many functions were proved, and in how many process
 the kind of its field: the processor seconds between the end of the proof before it and the end of its own. So this is without
 loading the libraries. It is measured with one job (`--jobs`, by default 1).
 
-The gate must have built the libraries of the crates below. If the generator isn't built from its current sources, its first run
-proves and builds it. The last line is `N passed, M failed`."""
+The gate must have built the libraries of the crates below. If the generator isn't built from its current sources, it is proved and
+built first. The last line is `N passed, M failed`."""
 import argparse
 import filecmp
 import os
@@ -50,7 +52,7 @@ from libraries import Crates
 READERS = 'capnp_format capnp_words capnp_arena_traits capnp_objects capnp_readers typed_reading'
 PROGRAM = 'capnp_format capnp_words capnp_arena_traits capnp_arena capnp_framing capnp_objects capnp_readers typed_reading'
 BUILT_ON = 'capnp_making capnp_contents capnp_copies capnp_builders typed_building'
-PARTS = 'ours', 'fields', 'bugs', 'random', 'versions'
+PARTS = 'ours', 'fields', 'bugs', 'random', 'versions', 'page'
 # A line of `rattle check --progress`.
 CHECKED = re.compile(r'checked (\S+), \d+ of \d+$')
 # What some kinds of fields are called where costs are printed.
@@ -401,6 +403,35 @@ def versions(folder, structs, count, jobs, counts):
             made.prove(made.readers, jobs, counts)
 
 
+def blocks(page, heading):
+    """The blocks of a page below a heading, by their kind."""
+    text = (TOP / page).read_text(encoding='utf-8').partition(f'\n## {heading}\n')[2].partition('\n## ')[0]
+    return dict(re.findall(r'```(\w+)\n(.*?)```', text, re.DOTALL))
+
+
+def type_page(folder, counts):
+    """Types the commands of docs/TYPED.md in a copy of this repository, and then puts the program of the page there."""
+    def kept(at, names):
+        return [it for it in names if pathlib.Path(at).name == 'out' and it not in ('rlib', 'capnpc_rattle')]
+
+    top, typed = pathlib.Path(folder) / 'page', blocks('docs/TYPED.md', 'In five commands')
+    shutil.copytree(TOP / 'crates', top / 'crates', ignore=kept)
+    shutil.copytree(TOP / 'tools', top / 'tools')
+    for file in ('HANDLES', 'crates.txt', 'prove', 'capnpc-rattle'):
+        shutil.copy2(TOP / file, top)
+    (top / 'shop.capnp').write_text(typed['capnp'], encoding='utf-8')
+    run = subprocess.run(['sh', '-e'], cwd=top, input=typed['sh'], encoding='utf-8')
+    counts.say(run.returncode == 0 and (top / 'crates/my_program/out/my_program').is_file(), 'the commands of docs/TYPED.md prove three crates')
+    for file in ('src/clock.rt', 'stdin', 'stdout'):
+        (top / 'crates/my_program' / file).unlink()
+    (top / 'crates/my_program/src/main.rt').write_text(typed['rust'], encoding='utf-8')
+    run = subprocess.run(['./prove', 'my_program'], cwd=top)
+    counts.say(run.returncode == 0, 'the program of docs/TYPED.md is proved')
+    orders = subprocess.run(['capnp', 'encode', 'shop.capnp', 'Order'], cwd=top, input=b'(id = 1, customer = "Ada")(id = 2, customer = "Bob")', stdout=subprocess.PIPE, check=True).stdout
+    run = subprocess.run([top / 'crates/my_program/out/my_program'], input=orders, stdout=subprocess.PIPE)
+    counts.say(run.returncode == 0 and run.stdout == b'1: Ada\n2: Bob\n', 'and prints two messages')
+
+
 def fields(folder, parts, count, jobs, counts):
     """The parts about `fields.capnp`."""
     made = Generated(folder, (TOP / 'tests/typed/fields.capnp').read_text(encoding='utf-8'), 'fields', ['Root'])
@@ -423,6 +454,7 @@ def main():
     if unknown := set(given.parts) - set(PARTS):
         arguments.error(f'there is no part {unknown.pop()}')
     parts, jobs, counts = given.parts or PARTS, 0 if given.unproved else given.jobs, Counts()
+    subprocess.run([str(TOP / 'prove'), 'capnpc_rattle'], check=True)
     if 'ours' in parts:
         same_as_ours(counts, described())
         same_as_ours(counts, str(TOP / 'tests/typed/addressbook.capnp'))
@@ -434,6 +466,8 @@ def main():
             trip(Generated(pathlib.Path(folder) / f'random{seed}', text, f'random{seed}'), given.messages, seed, jobs, counts)
         if 'versions' in parts:
             versions(pathlib.Path(folder), given.structs, given.messages, jobs, counts)
+        if 'page' in parts and jobs:
+            type_page(folder, counts)
     print(f'{counts.passed} passed, {counts.failed} failed')
     return 1 if counts.failed or not counts.passed else 0
 
