@@ -461,8 +461,8 @@ async function* framesOfPieces(pieces, words) {
     more = [];
   };
   for await (const piece of iterable(pieces)) {
-    // a copy, because the caller may use the memory of a piece again
-    more.push(bytesOf(piece, 'a piece of a stream').slice());
+    // a copy, because the caller may use the memory of a piece again; `slice` of a Buffer of node makes none
+    more.push(new Uint8Array(bytesOf(piece, 'a piece of a stream')));
     count += more[more.length - 1].length;
     while (count >= wanted) {
       if (more.length) join();

@@ -418,21 +418,24 @@ test('streams in pieces', async () => {
     }
     assert.equal(count, 25);
   }
-  // memory that is used again for each piece
-  const again = new Uint8Array(40);
-  async function* reused() {
+  // memory that is used again for each piece; the second of three pieces waits, because it doesn't end the frame
+  async function* reused(again, ends) {
     for (let i = 0; i < 5; i++) {
-      again.fill(0xee);
-      again.set(frame.subarray(0, 25));
-      yield again.subarray(0, 25);
-      again.fill(0xee);
-      again.set(frame.subarray(25));
-      yield again.subarray(0, 15);
+      for (let from = 0, number = 0; number < ends.length; from = ends[number++]) {
+        const piece = frame.subarray(from, ends[number]);
+        again.fill(0xee);
+        again.set(piece);
+        yield again.subarray(0, piece.length);
+      }
     }
   }
-  let count = 0;
-  for await (const it of capnp.framesFrom(reused())) assert.equal(hexOf(it), hexOf(frame)) ?? count++;
-  assert.equal(count, 5);
+  for (const again of [new Uint8Array(40), Buffer.alloc(40), Buffer.allocUnsafe(40)]) {
+    for (const ends of [[25, 40], [25, 30, 40], [3, 4, 9, 39, 40]]) {
+      let count = 0;
+      for await (const it of capnp.framesFrom(reused(again, ends))) assert.equal(hexOf(it), hexOf(frame)) ?? count++;
+      assert.equal(count, 5);
+    }
+  }
   // what a table announces may never come: too many words are refused at once, and a cut stream at its end
   const endless = async function* () {
     yield hex('00000000ffffff00');
