@@ -580,15 +580,16 @@ CAPNP_CANONICAL_INLINE const char *capnp_canonical_fault_text(uint32_t reason) {
     }
 }
 
-/* The little-endian number in 4 bytes. */
+/* The little-endian number in the 4 bytes at `bytes`, which must be there: only bytes that have a size may be null. */
 CAPNP_CANONICAL_INLINE uint32_t capnp_canonical_number_at(const uint8_t *bytes) {
     return (uint32_t)bytes[0] | (uint32_t)bytes[1] << 8 | (uint32_t)bytes[2] << 16 | (uint32_t)bytes[3] << 24;
 }
 
-/* Whether packed bytes start with what may be the segment table of a frame. */
+/* Whether packed bytes start with what may be the segment table of a frame. False if they end within its first word. */
 CAPNP_CANONICAL_INLINE bool capnp_canonical_looks_packed(const uint8_t *bytes, size_t size) {
     uint8_t word[8] = {0};
     size_t at = 1;
+    if (size == 0) return false;
     for (int i = 0; i < 8; i++) {
         if (!(bytes[0] >> i & 1)) continue;
         if (at == size || bytes[at] == 0) return false;

@@ -140,12 +140,40 @@ static void test_looks(void) {
     expect_looks("1f8b", NULL);
 }
 
+/* The helpers, with bytes of each size: a block of the heap is as long as that, so that valgrind and the address sanitizer
+ * see any byte too many. The first bytes are those of packed messages. */
+static void test_sizes(void) {
+    static const uint8_t packed[] = {0x10, 2, 0x10, 1, 1, 0x2a}, numbers[] = {1, 2, 3, 4}, table[] = {0xff, 1, 2, 3, 4, 5, 6, 7, 8};
+    const char *place = "bytes of each size";
+    expect(!capnp_canonical_looks_packed(NULL, 0) && !capnp_canonical_looks_text(NULL, 0) && !capnp_canonical_looks_like(NULL, 0), place, "null and 0");
+    for (size_t size = 0; size <= sizeof packed; size++) {
+        uint8_t *block = malloc(size ? size : 1), *bytes = block + !size;
+        if (!block) abort();
+        memcpy(bytes, packed, size);
+        expect(capnp_canonical_looks_packed(bytes, size) == (size >= 2), place, "packed");
+        free(block);
+    }
+    for (size_t size = 0; size <= sizeof table; size++) {
+        uint8_t *block = malloc(size ? size : 1), *bytes = block + !size;
+        if (!block) abort();
+        memcpy(bytes, table, size);
+        expect(!capnp_canonical_looks_packed(bytes, size), place, "a table that is cut, or of too many segments");
+        free(block);
+    }
+    uint8_t *four = malloc(sizeof numbers);
+    if (!four) abort();
+    memcpy(four, numbers, sizeof numbers);
+    expect(capnp_canonical_number_at(four) == UINT32_C(0x04030201), place, "a number takes four bytes");
+    free(four);
+}
+
 int main(int count, char **words) {
     if (count != 2 || test_file(words[1])) return 2;
     test_hazard();
     test_bound();
     test_texts();
     test_looks();
+    test_sizes();
     printf("%lu passed, %lu failed\n", passed, failed);
     return failed ? 1 : 0;
 }
