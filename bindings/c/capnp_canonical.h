@@ -29,10 +29,10 @@
  * hashed in it. For others, the calls that copy or hash take memory with malloc, about the size of the canonical
  * message, and free it before they return. No other call takes any.
  *
- * Stack. A level of nesting takes up to 624 bytes as ./install builds the library, which is for x86-64-v2 and later. As
- * make builds it from generated/, for any 64-bit processor, it takes up to 640 bytes with clang, 768 with gcc, and
- * 11,056 if the compiler doesn't optimise. A call takes another 8 KB, or 21 KB if it doesn't. This is measured on
- * x86-64, not proved.
+ * Stack. `nesting` is all that bounds the stack of a call, which must have room for so many levels. A level of nesting
+ * takes up to 624 bytes as ./install builds the library, which is for x86-64-v2 and later. As make builds it from
+ * generated/, for any 64-bit processor, it takes up to 640 bytes with clang, 768 with gcc, and 11,056 if the compiler
+ * doesn't optimise. A call takes another 8 KB, or 21 KB if it doesn't. This is measured on x86-64, not proved.
  *
  * What you have to keep. A pointer to bytes or segments goes with their number, and may be null if that is 0. No other
  * pointer may be null. What a call writes to must overlap nothing else that you pass to it, and nothing may change what
@@ -58,6 +58,10 @@ extern "C" {
 /* The default limits. */
 #define CAPNP_CANONICAL_NESTING 64
 #define CAPNP_CANONICAL_WORDS UINT64_C(8388608)
+
+/* The largest nesting limit in C++, Rust, Python and JavaScript. The calls of this header take any: whoever passes a larger
+ * one has to run them on a stack with room for so many levels. */
+#define CAPNP_CANONICAL_MAX_NESTING 1024
 
 /* Enough room for any text that capnp_canonical_name, _reason_text or _version_text writes, with its terminating
  * zero. */

@@ -62,7 +62,9 @@ namespace capnp_canonical {
 
 // The limits for reading a message. The defaults are those of capnp::ReaderOptions.
 struct Limits {
-    // How deep structs and lists may be nested.
+    // How deep structs and lists may be nested, and therefore how much stack a call takes: 0.8 MB for 1,024 levels. A
+    // number above CAPNP_CANONICAL_MAX_NESTING, 1,024, counts as 1,024. For deeper messages, call capnp_canonical.h on a
+    // thread with the stack that they need.
     std::int32_t nesting = CAPNP_CANONICAL_NESTING;
     // How many words may be read, and how many a frame may have.
     std::uint64_t words = CAPNP_CANONICAL_WORDS;
@@ -366,6 +368,11 @@ inline bool overlap(const void* one, std::size_t size, const void* other, std::s
 
 enum class Form { framed, flat };
 
+// The nesting limit that holds.
+constexpr std::int32_t nesting_of(Limits limits) noexcept {
+    return limits.nesting < CAPNP_CANONICAL_MAX_NESTING ? limits.nesting : CAPNP_CANONICAL_MAX_NESTING;
+}
+
 // Whether a message may be refused with this number because of a pointer.
 inline bool is_of_pointer(std::uint32_t answer) noexcept {
     return answer != CAPNP_CANONICAL_NO_ROOM && answer != CAPNP_CANONICAL_ALLOCATION_FAILED &&
@@ -392,26 +399,27 @@ public:
 
     std::uint32_t copy(Form form, std::uint8_t* to, std::size_t room, std::size_t* written) const noexcept {
         auto call = form == Form::flat ? capnp_canonical_copy_flat : capnp_canonical_copy;
-        return call(frame_.data(), frame_.size(), limits_.nesting, limits_.words, to, room, written);
+        return call(frame_.data(), frame_.size(), nesting_of(limits_), limits_.words, to, room, written);
     }
     std::uint32_t digest(std::uint8_t* to) const noexcept {
-        return capnp_canonical_digest(frame_.data(), frame_.size(), limits_.nesting, limits_.words, to);
+        return capnp_canonical_digest(frame_.data(), frame_.size(), nesting_of(limits_), limits_.words, to);
     }
     std::uint32_t check(bool* is_canonical, capnp_canonical_fault* fault) const noexcept {
-        return capnp_canonical_check(frame_.data(), frame_.size(), limits_.nesting, limits_.words, is_canonical, fault);
+        return capnp_canonical_check(frame_.data(), frame_.size(), nesting_of(limits_), limits_.words, is_canonical, fault);
     }
     std::uint32_t size(std::uint64_t* words, std::uint32_t* capabilities) const noexcept {
-        return capnp_canonical_size(frame_.data(), frame_.size(), limits_.nesting, limits_.words, words, capabilities);
+        return capnp_canonical_size(frame_.data(), frame_.size(), nesting_of(limits_), limits_.words, words, capabilities);
     }
     std::uint32_t validate(capnp_canonical_extent* extent) const noexcept {
-        return capnp_canonical_validate(frame_.data(), frame_.size(), limits_.nesting, limits_.words, extent);
+        return capnp_canonical_validate(frame_.data(), frame_.size(), nesting_of(limits_), limits_.words, extent);
     }
     std::uint32_t walk(Object* objects, std::size_t room, std::size_t* count) const noexcept {
-        return capnp_canonical_walk(frame_.data(), frame_.size(), limits_.nesting, limits_.words, objects, room, count);
+        return capnp_canonical_walk(frame_.data(), frame_.size(), nesting_of(limits_), limits_.words, objects, room, count);
     }
     std::optional<Pointer> refused(std::uint32_t reading) const noexcept {
         capnp_canonical_pointer it = {};
-        return found(capnp_canonical_locate(frame_.data(), frame_.size(), limits_.nesting, limits_.words, reading, &it), it);
+        return found(
+            capnp_canonical_locate(frame_.data(), frame_.size(), nesting_of(limits_), limits_.words, reading, &it), it);
     }
 
 private:
@@ -429,15 +437,15 @@ public:
     Place place() const noexcept { return frame_.place(); }
 
     std::uint32_t copy(Form, std::uint8_t* to, std::size_t room, std::size_t* written) const noexcept {
-        return capnp_canonical_copy_flat_at(frame_.data(), frame_.size(), path_.data(), path_.size(), limits_.nesting,
+        return capnp_canonical_copy_flat_at(frame_.data(), frame_.size(), path_.data(), path_.size(), nesting_of(limits_),
                                             limits_.words, to, room, written);
     }
     std::uint32_t digest(std::uint8_t* to) const noexcept {
-        return capnp_canonical_digest_at(frame_.data(), frame_.size(), path_.data(), path_.size(), limits_.nesting,
+        return capnp_canonical_digest_at(frame_.data(), frame_.size(), path_.data(), path_.size(), nesting_of(limits_),
                                          limits_.words, to);
     }
     std::uint32_t size(std::uint64_t* words, std::uint32_t* capabilities) const noexcept {
-        return capnp_canonical_size_at(frame_.data(), frame_.size(), path_.data(), path_.size(), limits_.nesting,
+        return capnp_canonical_size_at(frame_.data(), frame_.size(), path_.data(), path_.size(), nesting_of(limits_),
                                        limits_.words, words, capabilities);
     }
     // Not known: a refusal may be of the path.
@@ -466,26 +474,26 @@ public:
 
     std::uint32_t copy(Form form, std::uint8_t* to, std::size_t room, std::size_t* written) const noexcept {
         auto call = form == Form::flat ? capnp_canonical_segments_copy_flat : capnp_canonical_segments_copy;
-        return call(segments_, count_, limits_.nesting, limits_.words, to, room, written);
+        return call(segments_, count_, nesting_of(limits_), limits_.words, to, room, written);
     }
     std::uint32_t digest(std::uint8_t* to) const noexcept {
-        return capnp_canonical_segments_digest(segments_, count_, limits_.nesting, limits_.words, to);
+        return capnp_canonical_segments_digest(segments_, count_, nesting_of(limits_), limits_.words, to);
     }
     std::uint32_t check(bool* is_canonical, capnp_canonical_fault* fault) const noexcept {
-        return capnp_canonical_segments_check(segments_, count_, limits_.nesting, limits_.words, is_canonical, fault);
+        return capnp_canonical_segments_check(segments_, count_, nesting_of(limits_), limits_.words, is_canonical, fault);
     }
     std::uint32_t size(std::uint64_t* words, std::uint32_t* capabilities) const noexcept {
-        return capnp_canonical_segments_size(segments_, count_, limits_.nesting, limits_.words, words, capabilities);
+        return capnp_canonical_segments_size(segments_, count_, nesting_of(limits_), limits_.words, words, capabilities);
     }
     std::uint32_t validate(capnp_canonical_extent* extent) const noexcept {
-        return capnp_canonical_segments_validate(segments_, count_, limits_.nesting, limits_.words, extent);
+        return capnp_canonical_segments_validate(segments_, count_, nesting_of(limits_), limits_.words, extent);
     }
     std::uint32_t walk(Object* objects, std::size_t room, std::size_t* count) const noexcept {
-        return capnp_canonical_segments_walk(segments_, count_, limits_.nesting, limits_.words, objects, room, count);
+        return capnp_canonical_segments_walk(segments_, count_, nesting_of(limits_), limits_.words, objects, room, count);
     }
     std::optional<Pointer> refused(std::uint32_t reading) const noexcept {
         capnp_canonical_pointer it = {};
-        return found(capnp_canonical_segments_locate(segments_, count_, limits_.nesting, limits_.words, reading, &it), it);
+        return found(capnp_canonical_segments_locate(segments_, count_, nesting_of(limits_), limits_.words, reading, &it), it);
     }
 
 private:
@@ -506,15 +514,15 @@ public:
 
     std::uint32_t copy(Form, std::uint8_t* to, std::size_t room, std::size_t* written) const noexcept {
         return capnp_canonical_segments_copy_flat_at(segments_.data(), segments_.size(), path_.data(), path_.size(),
-                                                     limits_.nesting, limits_.words, to, room, written);
+                                                     nesting_of(limits_), limits_.words, to, room, written);
     }
     std::uint32_t digest(std::uint8_t* to) const noexcept {
         return capnp_canonical_segments_digest_at(segments_.data(), segments_.size(), path_.data(), path_.size(),
-                                                  limits_.nesting, limits_.words, to);
+                                                  nesting_of(limits_), limits_.words, to);
     }
     std::uint32_t size(std::uint64_t* words, std::uint32_t* capabilities) const noexcept {
         return capnp_canonical_segments_size_at(segments_.data(), segments_.size(), path_.data(), path_.size(),
-                                                limits_.nesting, limits_.words, words, capabilities);
+                                                nesting_of(limits_), limits_.words, words, capabilities);
     }
     // Not known: a refusal may be of the path.
     std::optional<Pointer> refused(std::uint32_t) const noexcept { return std::nullopt; }
@@ -722,10 +730,10 @@ inline Bytes copy_flat_into(std::vector<std::uint8_t>& buffer CAPNP_CANONICAL_LI
 // Whether the message is canonical. Also false if it can't be read, because a limit is exceeded or the bytes are no
 // frame.
 [[nodiscard]] inline bool is_canonical(Bytes frame, Limits limits = {}) noexcept {
-    return capnp_canonical_is_canonical(frame.data(), frame.size(), limits.nesting, limits.words);
+    return capnp_canonical_is_canonical(frame.data(), frame.size(), detail::nesting_of(limits), limits.words);
 }
 [[nodiscard]] inline bool is_canonical(const Segments& segments, Limits limits = {}) noexcept {
-    return capnp_canonical_segments_is_canonical(segments.data(), segments.size(), limits.nesting, limits.words);
+    return capnp_canonical_segments_is_canonical(segments.data(), segments.size(), detail::nesting_of(limits), limits.words);
 }
 
 // The size of the message. Its canonical words take at most 8 bytes more than these words.
@@ -780,7 +788,7 @@ inline std::vector<std::uint8_t> words_copy(Bytes words, Limits limits = {}) {
 [[nodiscard]] inline Digest words_digest(Bytes words, Limits limits = {}) { return digest(Segments{words}, limits); }
 [[nodiscard]] inline Checked words_check(Bytes words, Limits limits = {}) { return check(Segments{words}, limits); }
 [[nodiscard]] inline bool words_is_canonical(Bytes words, Limits limits = {}) noexcept {
-    return capnp_canonical_words_is_canonical(words.data(), words.size(), limits.nesting, limits.words);
+    return capnp_canonical_words_is_canonical(words.data(), words.size(), detail::nesting_of(limits), limits.words);
 }
 inline Size words_size(Bytes words, Limits limits = {}) { return size(Segments{words}, limits); }
 inline Extent words_validate(Bytes words, Limits limits = {}) { return validate(Segments{words}, limits); }
@@ -1072,7 +1080,7 @@ std::invoke_result_t<Use, const Segments&> with_segments(Message& given, Use use
     }
 }
 
-constexpr Limits NO_LIMITS = {std::numeric_limits<std::int32_t>::max(), std::numeric_limits<std::uint64_t>::max()};
+constexpr Limits LARGEST_LIMITS = {CAPNP_CANONICAL_MAX_NESTING, std::numeric_limits<std::uint64_t>::max()};
 
 }  // namespace detail
 
@@ -1083,12 +1091,12 @@ inline Limits limits_of(capnp::MessageReader& message) {
 }
 // The defaults.
 inline Limits limits_of(const Segments&) { return {}; }
-// None, like capnp::canonicalize: your program has built the message.
-inline Limits limits_of(capnp::MessageBuilder&) { return detail::NO_LIMITS; }
-// None, like capnp::canonicalize: Cap'n Proto reads the value within the limits of its message, and copies it.
+// No limit on words, like capnp::canonicalize, and the largest nesting limit: your program has built the message.
+inline Limits limits_of(capnp::MessageBuilder&) { return detail::LARGEST_LIMITS; }
+// The same: Cap'n Proto reads the value within the limits of its message, and copies it.
 template <typename Value, typename = std::enable_if_t<detail::is_value<Value>>>
 Limits limits_of(const Value&) {
-    return detail::NO_LIMITS;
+    return detail::LARGEST_LIMITS;
 }
 
 // The calls above for a MessageReader or a MessageBuilder. The copies and digests also take a value inside a message: a

@@ -10,6 +10,7 @@
 #include <kj/io.h>
 #include <cstdio>
 #include <cstring>
+#include <limits>
 #include <vector>
 
 bool failed = false;
@@ -95,6 +96,54 @@ void test_limits() {
     refusal("a limit for a builder", too_deep, [&] { capnp_canonical::copy_flat(builder, {64, 1 << 20}); });
     refusal("a limit for a reader", too_deep, [&] { capnp_canonical::copy_flat(reader.getRoot<Person>(), {64, 1 << 20}); });
     refusal("segments", too_deep, [&] { capnp_canonical::copy_flat(builder.getSegmentsForOutput()); });
+}
+
+// A message of 300,000 levels that a program has built, which would take 190 MB of stack: refused, like any message of more
+// levels than CAPNP_CANONICAL_MAX_NESTING, whatever limit is passed. The frame is read within its reader's limit.
+void test_deepest() {
+    const std::size_t levels = 300000, most = CAPNP_CANONICAL_MAX_NESTING;
+    // each word is a pointer to a struct that has the next word as its pointer, and the last one to an empty struct; the
+    // message is canonical
+    auto chain = [](std::size_t count) {
+        auto words = kj::heapArray<std::uint64_t>(count);
+        for (auto& word : words) word = std::uint64_t(1) << 48;
+        words.back() = 0xfffffffc;
+        return words;
+    };
+    auto segment_of = [](const kj::Array<std::uint64_t>& words) {
+        return kj::arrayPtr(reinterpret_cast<const capnp::word*>(words.begin()), words.size());
+    };
+    auto refused = [](auto call) {
+        try {
+            call();
+            return false;
+        } catch (const capnp_canonical::Error& error) {
+            return error.number() == CAPNP_CANONICAL_MESSAGE_IS_TOO_DEEPLY_NESTED_OR_CONTAINS_CYCLES;
+        }
+    };
+    const auto deep = chain(levels), deeper = chain(most + 1), deepest = chain(most);
+    capnp::ReaderOptions options;
+    options.nestingLimit = std::numeric_limits<int>::max();
+    options.traversalLimitInWords = ~std::uint64_t(0);
+    const capnp_canonical::Limits none = {std::numeric_limits<std::int32_t>::max(), ~std::uint64_t(0)};
+    kj::ArrayPtr<const capnp::word> segment = segment_of(deep), last = segment_of(deepest);
+    capnp::SegmentArrayMessageReader reader(kj::arrayPtr(&segment, 1), options), near(kj::arrayPtr(&last, 1), options);
+    report(refused([&] { capnp_canonical::copy_flat(reader); }), "a MessageReader without a nesting limit");
+    report(refused([&] { capnp_canonical::copy_flat(reader, none); }), "the largest number");
+    report(!capnp_canonical::words_is_canonical(segment, none), "is_canonical with the largest number");
+    report(same(capnp_canonical::copy_flat(near, none), last), "the most levels");
+    report(same(capnp_canonical::copy_flat(near), last), "the most levels, by the reader's own limit");
+    report(capnp_canonical::words_is_canonical(last, none), "whether it is canonical");
+    report(refused([&] { capnp_canonical::words_copy(segment_of(deeper), none); }), "one level more");
+
+    capnp::MallocMessageBuilder builder;
+    auto at = builder.getRoot<capnp::AnyPointer>();
+    for (std::size_t level = 0; level < levels; level++) {
+        at = at.initAsAnyStruct(0, 1).getPointerSection()[0];
+    }
+    report(refused([&] { capnp_canonical::copy_flat(builder); }), "a MessageBuilder of 300,000 levels");
+    report(refused([&] { return capnp_canonical::digest(builder); }), "its digest");
+    report(!capnp_canonical::is_canonical(builder), "whether it is canonical");
 }
 
 // More words than the default limit.
@@ -238,6 +287,7 @@ int main() {
     test_words(builder);
     test_values(builder);
     test_limits();
+    test_deepest();
     test_large();
     test_empty();
     test_overlap(builder);
