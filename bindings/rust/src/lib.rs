@@ -3,7 +3,7 @@
 //! You pass a message as a frame, as `capnp::serialize::write_message` writes it, or as its segments ([`segments`]).
 //! Bytes may lie at any address, and bytes after the frame are ignored. Unpack packed bytes first, with [`unpack`]. No
 //! call keeps anything, so several threads may call at once. A level of nesting takes up to 768 bytes of stack,
-//! and 11,056 if the compiler doesn't optimise the C.
+//! and 11,056 if the compiler doesn't optimise the C, which the build script always lets it do.
 //!
 //! Raw words aren't a frame. Read back what [`canonical_words`] returns with the module [`words`]. A call that takes a
 //! frame may **succeed** on raw words, and then reads **another** value, because the pointer to a root without
@@ -71,16 +71,26 @@ pub use walk::{Kind, Object, Walk};
 #[derive(Clone, Copy, Debug, PartialEq, Eq, Hash)]
 #[non_exhaustive]
 pub struct Limits {
-    /// How deep structs and lists may be nested.
+    /// How deep structs and lists may be nested, and therefore how much stack a call takes. A number above
+    /// [`MAX_NESTING`](Self::MAX_NESTING) counts as that one.
     pub nesting: i32,
     /// How many words may be read, and how many a frame may have.
     pub words: u64,
 }
 
 impl Limits {
+    /// The largest nesting limit that counts: 1,024 levels take 0.8 MB of stack, and more would end the process. For a
+    /// deeper message, call the C of `capnp_canonical.h` on a thread with the stack that it needs.
+    pub const MAX_NESTING: i32 = 1024;
+
     /// These two limits.
     pub const fn new(nesting: i32, words: u64) -> Self {
         Limits { nesting, words }
+    }
+
+    /// The nesting limit that holds.
+    pub(crate) fn levels(self) -> i32 {
+        self.nesting.min(Self::MAX_NESTING)
     }
 }
 
@@ -111,7 +121,7 @@ pub fn canonical_copy_into(
             ffi::capnp_canonical_copy(
                 frame.as_ptr(),
                 frame.len(),
-                limits.nesting,
+                limits.levels(),
                 limits.words,
                 to,
                 room,
@@ -143,7 +153,7 @@ pub fn canonical_words_into(
             ffi::capnp_canonical_copy_flat(
                 frame.as_ptr(),
                 frame.len(),
-                limits.nesting,
+                limits.levels(),
                 limits.words,
                 to,
                 room,
@@ -163,7 +173,7 @@ pub fn digest(frame: impl AsRef<[u8]>, limits: Limits) -> Result<[u8; 32], Error
             ffi::capnp_canonical_digest(
                 frame.as_ptr(),
                 frame.len(),
-                limits.nesting,
+                limits.levels(),
                 limits.words,
                 to,
             )
@@ -189,7 +199,7 @@ pub fn canonical_words_at(
                 frame.len(),
                 path.as_ptr(),
                 path.len(),
-                limits.nesting,
+                limits.levels(),
                 limits.words,
                 to,
                 room,
@@ -211,7 +221,7 @@ pub fn digest_at(frame: impl AsRef<[u8]>, path: &[u32], limits: Limits) -> Resul
                 frame.len(),
                 path.as_ptr(),
                 path.len(),
-                limits.nesting,
+                limits.levels(),
                 limits.words,
                 to,
             )
@@ -229,7 +239,7 @@ pub fn check(frame: impl AsRef<[u8]>, limits: Limits) -> Result<Option<Fault>, E
             ffi::capnp_canonical_check(
                 frame.as_ptr(),
                 frame.len(),
-                limits.nesting,
+                limits.levels(),
                 limits.words,
                 is_canonical,
                 fault,
@@ -255,7 +265,7 @@ pub fn size_at(frame: impl AsRef<[u8]>, path: &[u32], limits: Limits) -> Result<
                 frame.len(),
                 path.as_ptr(),
                 path.len(),
-                limits.nesting,
+                limits.levels(),
                 limits.words,
                 words,
                 capabilities,
@@ -273,7 +283,7 @@ pub fn size(frame: impl AsRef<[u8]>, limits: Limits) -> Result<Size, Error> {
             ffi::capnp_canonical_size(
                 frame.as_ptr(),
                 frame.len(),
-                limits.nesting,
+                limits.levels(),
                 limits.words,
                 words,
                 capabilities,
@@ -292,7 +302,7 @@ pub fn validate(frame: impl AsRef<[u8]>, limits: Limits) -> Result<Extent, Error
             ffi::capnp_canonical_validate(
                 frame.as_ptr(),
                 frame.len(),
-                limits.nesting,
+                limits.levels(),
                 limits.words,
                 extent,
             )
@@ -326,7 +336,7 @@ pub fn locate(
             ffi::capnp_canonical_locate(
                 frame.as_ptr(),
                 frame.len(),
-                limits.nesting,
+                limits.levels(),
                 limits.words,
                 reading as u32,
                 pointer,
@@ -357,7 +367,7 @@ pub fn walk(frame: impl AsRef<[u8]>, most: usize, limits: Limits) -> Result<Walk
                 ffi::capnp_canonical_walk(
                     frame.as_ptr(),
                     frame.len(),
-                    limits.nesting,
+                    limits.levels(),
                     limits.words,
                     objects.as_mut_ptr(),
                     objects.len(),

@@ -88,7 +88,7 @@ pub fn canonical_copy_into<S: Segments + ?Sized>(
             ffi::capnp_canonical_segments_copy(
                 raw.segments.as_ptr(),
                 raw.segments.len(),
-                limits.nesting,
+                limits.levels(),
                 limits.words,
                 to,
                 room,
@@ -122,7 +122,7 @@ pub fn canonical_words_into<S: Segments + ?Sized>(
             ffi::capnp_canonical_segments_copy_flat(
                 raw.segments.as_ptr(),
                 raw.segments.len(),
-                limits.nesting,
+                limits.levels(),
                 limits.words,
                 to,
                 room,
@@ -141,7 +141,7 @@ pub fn digest<S: Segments + ?Sized>(segments: &S, limits: Limits) -> Result<[u8;
             ffi::capnp_canonical_segments_digest(
                 raw.segments.as_ptr(),
                 raw.segments.len(),
-                limits.nesting,
+                limits.levels(),
                 limits.words,
                 to,
             )
@@ -165,7 +165,7 @@ pub fn canonical_words_at<S: Segments + ?Sized>(
                 raw.segments.len(),
                 path.as_ptr(),
                 path.len(),
-                limits.nesting,
+                limits.levels(),
                 limits.words,
                 to,
                 room,
@@ -191,7 +191,7 @@ pub fn digest_at<S: Segments + ?Sized>(
                 raw.segments.len(),
                 path.as_ptr(),
                 path.len(),
-                limits.nesting,
+                limits.levels(),
                 limits.words,
                 to,
             )
@@ -214,7 +214,7 @@ pub fn size_at<S: Segments + ?Sized>(
                 raw.segments.len(),
                 path.as_ptr(),
                 path.len(),
-                limits.nesting,
+                limits.levels(),
                 limits.words,
                 words,
                 capabilities,
@@ -233,7 +233,7 @@ pub fn check<S: Segments + ?Sized>(segments: &S, limits: Limits) -> Result<Optio
             ffi::capnp_canonical_segments_check(
                 raw.segments.as_ptr(),
                 raw.segments.len(),
-                limits.nesting,
+                limits.levels(),
                 limits.words,
                 is_canonical,
                 fault,
@@ -256,7 +256,7 @@ pub fn size<S: Segments + ?Sized>(segments: &S, limits: Limits) -> Result<Size, 
             ffi::capnp_canonical_segments_size(
                 raw.segments.as_ptr(),
                 raw.segments.len(),
-                limits.nesting,
+                limits.levels(),
                 limits.words,
                 words,
                 capabilities,
@@ -274,7 +274,7 @@ pub fn validate<S: Segments + ?Sized>(segments: &S, limits: Limits) -> Result<Ex
             ffi::capnp_canonical_segments_validate(
                 raw.segments.as_ptr(),
                 raw.segments.len(),
-                limits.nesting,
+                limits.levels(),
                 limits.words,
                 extent,
             )
@@ -295,7 +295,7 @@ pub fn locate<S: Segments + ?Sized>(
             ffi::capnp_canonical_segments_locate(
                 raw.segments.as_ptr(),
                 raw.segments.len(),
-                limits.nesting,
+                limits.levels(),
                 limits.words,
                 reading as u32,
                 pointer,
@@ -319,7 +319,7 @@ pub fn walk<S: Segments + ?Sized>(
                 ffi::capnp_canonical_segments_walk(
                     raw.segments.as_ptr(),
                     raw.segments.len(),
-                    limits.nesting,
+                    limits.levels(),
                     limits.words,
                     objects.as_mut_ptr(),
                     objects.len(),

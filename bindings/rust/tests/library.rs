@@ -737,6 +737,47 @@ fn where_a_message_is_broken() -> Tested {
     Ok(())
 }
 
+/// A canonical message of so many structs, each in the one before: each word is a pointer to a struct that has the next
+/// word as its pointer.
+fn chain(levels: usize) -> Vec<u8> {
+    let mut words = [0, 0, 0, 0, 0, 0, 1, 0].repeat(levels - 1);
+    words.extend([0xfc, 0xff, 0xff, 0xff, 0, 0, 0, 0]);
+    words
+}
+
+/// Without a limit on levels, each of these calls would take 190 MB of stack, and end the process.
+#[test]
+fn no_number_of_levels_overflows_the_stack() {
+    let (words, last) = (chain(300_000), chain(1024));
+    let (frame, mut limits) = (framed(&words), Limits::new(i32::MAX, u64::MAX));
+    let too_deep = Error::MESSAGE_IS_TOO_DEEPLY_NESTED_OR_CONTAINS_CYCLES;
+    for nesting in [i32::MAX, 300_000, 1025] {
+        limits.nesting = nesting;
+        assert_eq!(canonical_copy(&frame, limits), Err(too_deep));
+        assert_eq!(canonical_words(&frame, limits), Err(too_deep));
+        assert_eq!(digest(&frame, limits), Err(too_deep));
+        assert_eq!(canonical_words_at(&frame, &[0], limits), Err(too_deep));
+        assert_eq!(digest_at(&frame, &[0], limits), Err(too_deep));
+        assert_eq!(check(&frame, limits), Err(too_deep));
+        assert!(!is_canonical(&frame, limits));
+        assert_eq!(check_value(&frame, limits), Err(too_deep));
+        let measured = Err(Error::MESSAGE_IS_TOO_DEEPLY_NESTED);
+        assert_eq!(size(&frame, limits), measured);
+        assert_eq!(size_at(&frame, &[0], limits), measured);
+        let broken = locate(&frame, Reading::Value, limits).unwrap().unwrap();
+        assert_eq!((broken.error, broken.word), (too_deep, 1024));
+        let walked = walk(&frame, 2000, limits).unwrap();
+        assert_eq!((walked.count, walked.broken), (1024, Some(broken)));
+        assert_eq!(words::canonical_words(&words, limits), Err(too_deep));
+        assert_eq!(segments::digest(&[&words], limits), Err(too_deep));
+        assert_eq!(words::canonical_words(&last, limits).as_ref(), Ok(&last));
+        assert_eq!(words::check(&last, limits), Ok(None));
+    }
+    limits.nesting = 1023;
+    assert_eq!(words::canonical_words(&last, limits), Err(too_deep));
+    assert_eq!(Limits::MAX_NESTING, 1024);
+}
+
 fn check_value(frame: &[u8], limits: Limits) -> Result<(), Error> {
     capnp_canonical::validate(frame, limits).map(drop)
 }
