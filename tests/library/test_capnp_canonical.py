@@ -36,6 +36,12 @@ def framed(words):
     return bytes(4) + (len(words) // 8).to_bytes(4, 'little') + words
 
 
+def chain(levels):
+    """A canonical message of so many structs, each in the one before: each word is a pointer to a struct that has the next
+    word as its pointer."""
+    return bytes.fromhex('0000000000000100') * (levels - 1) + bytes.fromhex('fcffffff00000000')
+
+
 def segments_in(frame):
     """The segments of a whole frame."""
     def number(at):
@@ -290,6 +296,33 @@ class Calls(unittest.TestCase):
                 call(buffer, (64, 8))
             # a buffer that was still lent could not be extended
             buffer.append(0)
+
+    def test_no_number_of_levels_overflows_the_stack(self):
+        # each of these calls would take 190 MB of stack, and end the process
+        words, last = chain(300_000), chain(1024)
+        frame = framed(words)
+        for nesting in 2**31 - 1, 300_000, 1025:
+            limits = Limits(nesting, 2**64 - 1)
+            for call, given in (
+                (capnp_canonical.copy, frame), (capnp_canonical.copy_flat, frame), (capnp_canonical.digest, frame),
+                (capnp_canonical.check, frame), (capnp_canonical.size, frame), (capnp_canonical.validate, frame),
+                (capnp_canonical.words_copy, words), (capnp_canonical.words_digest, words),
+            ):
+                with self.assertRaises(Error) as refused:
+                    call(given, limits)
+                self.assertIn(refused.exception.number, (57, 58))
+                self.assertEqual(refused.exception.pointer, (0, 1024))
+            for call in capnp_canonical.copy_flat_at, capnp_canonical.digest_at, capnp_canonical.size_at:
+                with self.assertRaises(Error) as refused:
+                    call(frame, [0], limits)
+                self.assertIn(refused.exception.number, (57, 58))
+            self.assertFalse(capnp_canonical.is_canonical(frame, limits))
+            walk = capnp_canonical.walk(frame, 2000, limits)
+            self.assertEqual((walk.count, walk.refused.pointer), (1024, (0, 1024)))
+            self.assertEqual(capnp_canonical.words_copy(last, limits), last)
+        with self.assertRaises(Error):
+            capnp_canonical.words_copy(last, Limits(1023))
+        self.assertEqual(capnp_canonical.MAX_NESTING, 1024)
 
     def test_faults(self):
         fault = capnp_canonical.check(ZERO_WORD)

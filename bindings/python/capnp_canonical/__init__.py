@@ -23,7 +23,9 @@ The package needs CPython. It loads the library that the environment variable CA
 libcapnp_canonical.so from the package's folder, from the folder around it, or from the folder `lib` beside that; or
 else the one that the system's loader finds.
 """
-from capnp_canonical._answers import Error, Extent, Fault, Kind, Limits, Object, Reason, Refusal, Size, Walk
+from capnp_canonical._answers import (
+    MAX_NESTING, Error, Extent, Fault, Kind, Limits, Object, Reason, Refusal, Size, Walk,
+)
 from capnp_canonical._calls import (
     check, copy, copy_flat, copy_flat_at, copy_flat_into, copy_into, digest, digest_at, frame_size, is_canonical,
     segments_check, segments_copy, segments_copy_flat, segments_copy_flat_at, segments_digest, segments_digest_at,
@@ -36,8 +38,8 @@ from capnp_canonical._library import version
 from capnp_canonical._packed import packed_frames
 
 __all__ = [
-    'Error', 'Extent', 'Fault', 'Kind', 'Limits', 'Object', 'Reason', 'Refusal', 'Size', 'Walk', 'check', 'copy',
-    'copy_flat', 'copy_flat_at', 'copy_flat_into', 'copy_into', 'digest', 'digest_at', 'frame_size', 'frames',
+    'Error', 'Extent', 'Fault', 'Kind', 'Limits', 'MAX_NESTING', 'Object', 'Reason', 'Refusal', 'Size', 'Walk', 'check',
+    'copy', 'copy_flat', 'copy_flat_at', 'copy_flat_into', 'copy_into', 'digest', 'digest_at', 'frame_size', 'frames',
     'is_canonical', 'packed_frames', 'segments_check', 'segments_copy', 'segments_copy_flat', 'segments_copy_flat_at',
     'segments_digest', 'segments_digest_at', 'segments_is_canonical', 'segments_size', 'segments_size_at',
     'segments_validate', 'segments_walk', 'size', 'size_at', 'unpack', 'unpack_into', 'validate', 'version', 'walk',

@@ -9,12 +9,17 @@ from typing import List, Optional, Tuple, Union
 from capnp_canonical._library import library, text_of
 
 
+MAX_NESTING = 1024
+"""The largest nesting limit that counts: 1,024 levels take 0.8 MB of stack, and more would end the process."""
+
+
 @dataclass(frozen=True)
 class Limits:
     """The limits for reading a message. The defaults are those of C++ and Rust."""
 
     nesting: int = 64
-    """How deep structs and lists may be nested; below 2^31."""
+    """How deep structs and lists may be nested, and therefore how much stack a call takes; below 2^31. A number above
+    `MAX_NESTING` counts as that one."""
     words: int = 8_388_608
     """How many words of 8 bytes may be read, and how many a frame may have; below 2^64."""
 

@@ -5,7 +5,9 @@ import ctypes
 from array import array
 from typing import TYPE_CHECKING, Any, Callable, Iterable, List, Optional, Sequence, Tuple
 
-from capnp_canonical._answers import Error, Extent, Fault, Kind, Limits, Object, Reason, Refusal, Size, Walk
+from capnp_canonical._answers import (
+    MAX_NESTING, Error, Extent, Fault, Kind, Limits, Object, Reason, Refusal, Size, Walk,
+)
 from capnp_canonical._library import Lent, RawExtent, RawFault, RawObject, RawPointer, RawSegment, library
 from capnp_canonical._library import frame_size as raw_frame_size
 from capnp_canonical._looks import looks_like
@@ -94,7 +96,7 @@ def _pointer(answer: int, given: _Given, limits: Limits, reading: _Reading) -> _
     is_segments = isinstance(given.first, ctypes.Array)
     call = library.capnp_canonical_segments_locate if is_segments else library.capnp_canonical_locate
     found = RawPointer()
-    if call(given.first, given.second, limits.nesting, limits.words, reading, found) != DONE or found.refusal == DONE:
+    if call(given.first, given.second, *_limits(limits), reading, found) != DONE or found.refusal == DONE:
         return None
     return found.segment, found.word
 
@@ -107,8 +109,9 @@ def _error_of(answer: int, given: _Given, limits: Limits, reading: _Reading, wan
 
 
 def _limits(limits: Limits) -> Tuple[int, int]:
+    """The two numbers that a call takes."""
     try:
-        return limits.nesting, limits.words
+        return min(limits.nesting, MAX_NESTING), limits.words
     except AttributeError:
         raise TypeError(f'limits must be of the class Limits, not {type(limits).__name__}') from None
 
