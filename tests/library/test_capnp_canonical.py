@@ -11,6 +11,7 @@ import shutil
 import subprocess
 import sys
 import tempfile
+import threading
 import time
 import unittest
 
@@ -166,6 +167,70 @@ class Calls(unittest.TestCase):
         with self.assertRaises(Error):
             capnp_canonical.copy(bytearray(b'.......'))
         message += b'.'  # it can't grow while it is lent
+
+    def test_buffers_that_another_thread_changes(self):
+        """The library reads a copy of what can change, so a call answers for bytes that were there at one time: here, the
+        digest is that of one of two messages, between which another thread changes the buffer again and again."""
+        count = 1 << 24
+        one, other = [framed(b'\1\0\0\0' + (8 * count + 2).to_bytes(4, 'little') + byte * count) for byte in (b'1', b'2')]
+        wanted = {capnp_canonical.digest(one), capnp_canonical.digest(other)}
+        shared = mmap.mmap(-1, len(one))
+        shared[:] = one
+        has_ended = threading.Event()
+
+        def change(buffer):
+            while not has_ended.is_set():
+                for message in other, one:
+                    buffer[len(one) - count:] = message[-count:]
+
+        for buffer in bytearray(one), shared:
+            has_ended.clear()
+            writer = threading.Thread(target=change, args=(buffer,))
+            writer.start()
+            try:
+                for given in buffer, memoryview(buffer), memoryview(buffer).toreadonly():
+                    self.assertIn(capnp_canonical.digest(given), wanted)
+                    self.assertIn(capnp_canonical.words_digest(memoryview(given)[8:]), wanted)
+                    self.assertTrue(capnp_canonical.is_canonical(given))
+            finally:
+                has_ended.set()
+                writer.join()
+        del given
+        shared.close()
+
+    def test_large_buffers(self):
+        """Bytes that may change are copied before they are read: the frame at their front, and of a stream each table."""
+        text = b'\1\0\0\0' + (8 * 8000 + 2).to_bytes(4, 'little') + b'1' * 8000
+        frame, stream = framed(text), framed(text) * 3 + bytes(9)
+        for whole in stream, bytearray(stream), memoryview(bytearray(stream)):
+            self.assertEqual(capnp_canonical.copy(whole), frame)
+            self.assertEqual(capnp_canonical.frame_size(whole), len(frame))
+            self.assertIsNone(capnp_canonical.check(whole))
+            self.assertEqual([bytes(it) for it in capnp_canonical.frames(memoryview(whole)[:-9])], [frame] * 3)
+            with self.assertRaises(Error) as refused:
+                list(capnp_canonical.frames(whole))
+            self.assertEqual((refused.exception.number, refused.exception.place), (Refusal.TRUNCATED, (5, 3 * len(frame) + 8)))
+        limits = Limits(words=1000)
+        hidden = {'text': b'(id = 1, name = "Ada")' * 999, 'gzip': bytes.fromhex('1f8b08') + bytes(9999)}
+        for given, number, what in (
+            (frame, Refusal.MESSAGE_TOO_LONG, None), (frame[:-1], Refusal.MESSAGE_TOO_LONG, None),
+            *((it, Refusal.TOO_MANY_SEGMENTS, name) for name, it in hidden.items()),
+        ):
+            for call in capnp_canonical.copy, capnp_canonical.digest, capnp_canonical.check, capnp_canonical.size, capnp_canonical.walk:
+                said = []
+                for whole in given, bytearray(given):
+                    with self.assertRaises(Error) as refused:
+                        call(whole, limits=limits)
+                    said.append((str(refused.exception), refused.exception.looks_like, refused.exception.pointer))
+                    self.assertEqual((refused.exception.number, refused.exception.looks_like), (number, what))
+                self.assertEqual(said[0], said[1])
+            self.assertFalse(capnp_canonical.is_canonical(bytearray(given), limits))
+        cut = []
+        for whole in frame[:-1], bytearray(frame[:-1]):
+            with self.assertRaises(Error) as refused:
+                capnp_canonical.frame_size(whole)
+            cut.append((str(refused.exception), refused.exception.wanted))
+        self.assertEqual(cut, [(str(Error(Refusal.TRUNCATED, wanted=len(frame))), len(frame))] * 2)
 
     def test_mmap(self):
         with tempfile.TemporaryFile() as file:

@@ -25,6 +25,8 @@ _SMALL = 4096
 TABLE = 2056
 # The bytes of a SHA-256.
 _DIGEST = 32
+# By how many bytes what is refused as a frame is guessed at.
+_FRONT = 1 << 16
 _OF_FRAMES = Refusal.TOO_MANY_SEGMENTS, Refusal.MESSAGE_TOO_LONG, Refusal.TRUNCATED
 _OF_NO_POINTER = Refusal.NO_ROOM, Refusal.ALLOCATION_FAILED, Refusal.MESSAGE_TOO_LARGE
 # The numbers of `enum capnp_canonical_reading`; None if only a part of the message is read.
@@ -33,16 +35,17 @@ _Reading = Optional[int]
 _Pointer = Optional[Tuple[int, int]]
 _Call = Callable[..., int]
 _REASONS = {int(it): it for it in Reason}
+_NO_LIMIT = 2**64 - 1
 
 
 class _Given:
-    """A message as the library takes it: the first two arguments of a call, and its size in bytes. Keeps the buffers
-    alive."""
+    """A message as the library takes it: the first two arguments of a call, its size in bytes, and the address and the size
+    of the bytes that were passed, which may have been copied. Keeps the buffers alive."""
 
-    __slots__ = 'first', 'second', 'size', 'kept'
+    __slots__ = 'first', 'second', 'size', 'kept', 'passed'
 
-    def __init__(self, first: Any, second: int, size: int, kept: Sequence[Lent]) -> None:
-        self.first, self.second, self.size, self.kept = first, second, size, kept
+    def __init__(self, first: Any, second: int, size: int, kept: Sequence[Lent], passed: Tuple[int, int] = (0, 0)) -> None:
+        self.first, self.second, self.size, self.kept, self.passed = first, second, size, kept, passed
 
     def __enter__(self) -> _Given:
         return self
@@ -52,18 +55,44 @@ class _Given:
             lent.release()
 
 
-def _frame(frame: ReadableBuffer) -> _Given:
+def _of_bytes(given: bytes) -> _Given:
+    return _Given(given, len(given), len(given), ())
+
+
+def _of_lent(lent: Lent) -> _Given:
+    return _Given(lent.address, lent.size, lent.size, (lent,), (lent.address, lent.size))
+
+
+def _frame(frame: ReadableBuffer, limits: Limits) -> _Given:
+    """The frame at the front of some bytes; a copy of it, if something could change them meanwhile."""
     if type(frame) is bytes:
-        return _Given(frame, len(frame), len(frame), ())
+        return _of_bytes(frame)
+    words = _limits(limits)[1]
     lent = Lent(frame)
-    return _Given(lent.address, lent.size, lent.size, (lent,))
+    if lent.is_constant:
+        return _of_lent(lent)
+    with lent:
+        size = lent.size if lent.size <= _SMALL else measured(lent, 0, words)
+        return _Given(lent.copy(size), size, size, (), (lent.address, lent.size))
+
+
+def _packed(packed: ReadableBuffer) -> _Given:
+    """Packed bytes; a copy of them, if something could change them meanwhile."""
+    if type(packed) is bytes:
+        return _of_bytes(packed)
+    lent = Lent(packed)
+    passed = lent.address, lent.size
+    given = _of_lent(lent.constant())
+    given.passed = passed
+    return given
 
 
 def _segments(segments: Iterable[ReadableBuffer]) -> _Given:
+    """The segments of a message; copies of those that something could change meanwhile."""
     kept: List[Lent] = []
     try:
         for segment in segments:
-            kept.append(Lent(segment))
+            kept.append(Lent(segment).constant())
     except BaseException:
         for lent in kept:
             lent.release()
@@ -72,21 +101,48 @@ def _segments(segments: Iterable[ReadableBuffer]) -> _Given:
     return _Given(raw, len(kept), sum(it.size for it in kept), kept)
 
 
+def _announced(front: bytes, words: int) -> Tuple[int, int]:
+    """What the library answers about the first bytes of a frame, and how many bytes they say to have."""
+    wanted = ctypes.c_size_t()
+    answer: int = library.capnp_canonical_frame_size_from_prefix(front, len(front), words, wanted)
+    return answer, wanted.value
+
+
+def _error_of_front(answer: int, front: bytes, size: int, wanted: int = 0, pointer: _Pointer = None) -> Error:
+    """The error of `size` bytes that begin with these; if they aren't a frame, with what they look like."""
+    if answer in _OF_FRAMES:
+        known, whole = _announced(front, _NO_LIMIT)
+        if known != DONE or whole > size:
+            return Error(answer, looks_like=looks_like(front, size, words_is_canonical))
+    return Error(answer, wanted=wanted, pointer=pointer)
+
+
 def _refused(answer: int, first: Any, size: int, wanted: int = 0, pointer: _Pointer = None) -> Error:
-    """The error of a frame; if the bytes aren't a frame, with what they look like."""
-    taken = ctypes.c_size_t()
-    if answer not in _OF_FRAMES or raw_frame_size(first, size, 2**64 - 1, taken) == DONE:
-        return Error(answer, wanted=wanted, pointer=pointer)
-    return Error(answer, looks_like=looks_like(ctypes.string_at(first, min(size, 1 << 16)), size, words_is_canonical))
+    """The error of the bytes at an address."""
+    front = ctypes.string_at(first, min(size, _FRONT)) if answer in _OF_FRAMES else b''
+    return _error_of_front(answer, front, size, wanted, pointer)
 
 
-def measured(first: Any, size: int, words: int) -> int:
+def _measured(first: Any, size: int, words: int) -> int:
     """The size in bytes of the frame at the front of `size` bytes at an address."""
     taken = ctypes.c_size_t()
-    answer: int = raw_frame_size(first, size, words, taken)
+    answer = raw_frame_size(first, size, words, taken)
     if answer != DONE:
         raise _refused(answer, first, size)
     return taken.value
+
+
+def measured(lent: Lent, at: int, words: int) -> int:
+    """The size in bytes of the frame at byte `at` of some bytes. Copies its table first, if something could change it."""
+    left = lent.size - at
+    if lent.is_constant:
+        return _measured(lent.address + at, left, words)
+    if left <= TABLE:
+        return _measured(lent.copy(left, at), left, words)
+    answer, size = _announced(lent.copy(TABLE, at), words)
+    if answer == DONE and size <= left:
+        return size
+    raise _error_of_front(answer or Refusal.TRUNCATED, lent.copy(min(left, _FRONT), at), left)
 
 
 def _pointer(answer: int, given: _Given, limits: Limits, reading: _Reading) -> _Pointer:
@@ -133,10 +189,10 @@ def _written(call: _Call, given: _Given, limits: Limits, room: int, reading: _Re
 def _written_of_frame(
     call: _Call, frame: ReadableBuffer, limits: Limits, reading: _Reading = _CANONICAL
 ) -> bytes:
-    with _frame(frame) as given:
+    with _frame(frame, limits) as given:
         size = given.size
         if size > _SMALL:
-            size = measured(given.first, size, _limits(limits)[1])
+            size = _measured(given.first, size, _limits(limits)[1])
         return _written(call, given, limits, size + 8, reading)
 
 
@@ -148,18 +204,16 @@ def _written_of_segments(
 
 
 def _must_be_apart(to: Lent, given: _Given) -> None:
-    """Refuse buffers that overlap: the library reads one while it writes the other. An object of type `bytes` shares no
-    memory with a writable buffer."""
-    if type(given.first) is bytes:
-        return
-    if max(to.address, given.first) < min(to.address + to.size, given.first + given.size):
+    """Refuse buffers that overlap. An object of type `bytes` shares no memory with a writable buffer."""
+    address, size = given.passed
+    if max(to.address, address) < min(to.address + to.size, address + size):
         raise ValueError('the buffer to write to overlaps the bytes to read')
 
 
 def _written_into(call: _Call, to: WriteableBuffer, frame: ReadableBuffer, limits: Limits) -> int:
     nesting, words = _limits(limits)
     written = ctypes.c_size_t()
-    with _frame(frame) as given, Lent(to, writable=True) as room:
+    with _frame(frame, limits) as given, Lent(to, writable=True) as room:
         _must_be_apart(room, given)
         answer = call(given.first, given.second, nesting, words, room.address, room.size, written)
         if answer != DONE:
@@ -269,7 +323,7 @@ def copy_flat_into(to: WriteableBuffer, frame: ReadableBuffer, limits: Limits = 
 def digest(frame: ReadableBuffer, limits: Limits = LIMITS) -> bytes:
     """The SHA-256 of the canonical words of the message, which are the bytes that `copy_flat` gives. It names the value:
     messages with equal values have the same."""
-    return _digest(library.capnp_canonical_digest, _frame(frame), limits)
+    return _digest(library.capnp_canonical_digest, _frame(frame, limits), limits)
 
 
 def copy_flat_at(frame: ReadableBuffer, path: Iterable[int], limits: Limits = LIMITS) -> bytes:
@@ -281,41 +335,45 @@ def copy_flat_at(frame: ReadableBuffer, path: Iterable[int], limits: Limits = LI
 
 def digest_at(frame: ReadableBuffer, path: Iterable[int], limits: Limits = LIMITS) -> bytes:
     """The SHA-256 of the bytes that `copy_flat_at` gives."""
-    return _digest(_at(library.capnp_canonical_digest_at, path), _frame(frame), limits, None)
+    return _digest(_at(library.capnp_canonical_digest_at, path), _frame(frame, limits), limits, None)
 
 
 def check(frame: ReadableBuffer, limits: Limits = LIMITS) -> Optional[Fault]:
     """Say why and where the message isn't canonical; None if it is: one segment that holds the canonical words of a
     value and nothing else."""
-    return _checked(library.capnp_canonical_check, _frame(frame), limits)
+    return _checked(library.capnp_canonical_check, _frame(frame, limits), limits)
 
 
 def is_canonical(frame: ReadableBuffer, limits: Limits = LIMITS) -> bool:
     """Test whether the message is canonical. Also False if it can't be read, because a limit is exceeded or the bytes
     aren't a frame."""
-    return _is_canonical(library.capnp_canonical_check, _frame(frame), limits)
+    try:
+        given = _frame(frame, limits)
+    except Error:
+        return False
+    return _is_canonical(library.capnp_canonical_check, given, limits)
 
 
 def size(frame: ReadableBuffer, limits: Limits = LIMITS) -> Size:
     """Count the words and capabilities of the message."""
-    return _sized(library.capnp_canonical_size, _frame(frame), limits)
+    return _sized(library.capnp_canonical_size, _frame(frame, limits), limits)
 
 
 def validate(frame: ReadableBuffer, limits: Limits = LIMITS) -> Extent:
     """Raise `Error` unless the message is sound: unless its root means a value within both limits. The value may have
     capabilities."""
-    return _validated(library.capnp_canonical_validate, _frame(frame), limits)
+    return _validated(library.capnp_canonical_validate, _frame(frame, limits), limits)
 
 
 def walk(frame: ReadableBuffer, most: int = MOST_OBJECTS, limits: Limits = LIMITS) -> Walk:
     """List the structs, lists and capabilities of the message, at most `most` of them. A broken message is listed up to its
     first broken pointer. Raises `Error` only if the bytes aren't a message."""
-    return _walked(library.capnp_canonical_walk, _frame(frame), most, limits)
+    return _walked(library.capnp_canonical_walk, _frame(frame, limits), most, limits)
 
 
 def size_at(frame: ReadableBuffer, path: Iterable[int], limits: Limits = LIMITS) -> Size:
     """Like `size`, for the part of the message that `copy_flat_at` copies."""
-    return _sized(_at(library.capnp_canonical_size_at, path), _frame(frame), limits, None)
+    return _sized(_at(library.capnp_canonical_size_at, path), _frame(frame, limits), limits, None)
 
 
 def segments_copy(segments: Iterable[ReadableBuffer], limits: Limits = LIMITS) -> bytes:
@@ -427,9 +485,7 @@ def words_walk(words: ReadableBuffer, most: int = MOST_OBJECTS, limits: Limits =
 
 def bytes_wanted(held: bytes) -> int:
     """The size in bytes of a frame that isn't whole, or of its table, as far as its first bytes tell."""
-    size = ctypes.c_size_t()
-    library.capnp_canonical_frame_size_from_prefix(held, len(held), 2**64 - 1, size)
-    return size.value
+    return _announced(held, _NO_LIMIT)[1]
 
 
 def frame_size(stream: ReadableBuffer, words: int = LIMITS.words) -> int:
@@ -438,13 +494,13 @@ def frame_size(stream: ReadableBuffer, words: int = LIMITS.words) -> int:
     If the bytes end within the frame, `Error.wanted` is the size of the frame, or of its table if that isn't whole
     either. `frames` reads a file until each frame is whole."""
     limit = Limits(words=words).words
-    with _frame(stream) as given:
+    with Lent(stream) as lent:
         try:
-            return measured(given.first, given.size, limit)
+            return measured(lent, 0, limit)
         except Error as error:
             if error.number != Refusal.TRUNCATED:
                 raise
-            front = ctypes.string_at(given.first, min(given.size, TABLE))
+            front = lent.copy(min(lent.size, TABLE))
             raise Error(error.number, looks_like=error.looks_like, wanted=bytes_wanted(front)) from None
 
 
@@ -466,7 +522,7 @@ def unpack(packed: ReadableBuffer, words: int = LIMITS.words) -> bytes:
     `Refusal.MESSAGE_TOO_LONG`, before it takes memory for them. It also raises `Error` if the packed bytes are cut
     short."""
     words = Limits(words=words).words
-    with _frame(packed) as given:
+    with _packed(packed) as given:
         _, size = _unpacked(given, None, 0)
         if size // 8 > words:
             raise Error(Refusal.MESSAGE_TOO_LONG)
@@ -479,7 +535,7 @@ def unpack_into(to: WriteableBuffer, packed: ReadableBuffer) -> int:
     """Unpack to the front of a buffer, and return the number of bytes written. If the room is too small nothing is
     written, and `Error` says how many bytes are needed. Raises `ValueError` if the buffer overlaps the packed
     bytes."""
-    with _frame(packed) as given, Lent(to, writable=True) as lent:
+    with _packed(packed) as given, Lent(to, writable=True) as lent:
         _must_be_apart(lent, given)
         has_room, size = _unpacked(given, lent.address, lent.size)
     if not has_room:

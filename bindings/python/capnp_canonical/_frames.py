@@ -10,7 +10,7 @@ from capnp_canonical._library import Lent
 if TYPE_CHECKING:
     from _typeshed import ReadableBuffer
 
-_PIECE = 1 << 16
+PIECE = 1 << 16
 # The most bytes requested at a time: the bytes that a table announces may never come.
 _MOST = 1 << 22
 
@@ -44,14 +44,19 @@ def has_buffer(stream: Any) -> bool:
     return True
 
 
+def view_of(stream: Any) -> memoryview:
+    """A view of the bytes of an object, one by one."""
+    view = memoryview(stream)
+    return view.cast('B') if view.c_contiguous else memoryview(view.tobytes())
+
+
 def _frames_of_bytes(stream: Any, words: int) -> Iterator[memoryview]:
     with Lent(stream) as lent:
-        view = memoryview(stream)
-        whole = view.cast('B') if view.c_contiguous else memoryview(view.tobytes())
+        whole = view_of(stream)
         at, number = 0, 1
         while at < lent.size:
             try:
-                taken = measured(lent.address + at, lent.size - at, words)
+                taken = measured(lent, at, words)
             except Error as error:
                 raise error.at(number, at) from None
             yield whole[at:at + taken]
@@ -81,7 +86,7 @@ class Pieces:
         """The bytes held and those that follow: `wanted` bytes or more, or fewer if the file ends."""
         pieces, size = [held], len(held)
         while size < wanted:
-            piece = self._next(min(max(_PIECE, wanted - size), _MOST))
+            piece = self._next(min(max(PIECE, wanted - size), _MOST))
             if not piece:
                 break
             pieces.append(piece)
@@ -91,7 +96,7 @@ class Pieces:
     def all(self) -> Iterator[bytes]:
         """The rest of the file, piece by piece."""
         while True:
-            piece = self._next(_PIECE)
+            piece = self._next(PIECE)
             if not piece:
                 return
             yield piece
@@ -106,7 +111,7 @@ def _frames_of_file(file: Any, words: int) -> Iterator[memoryview]:
         with Lent(held) as lent:
             while start < lent.size:
                 try:
-                    taken = measured(lent.address + start, lent.size - start, words)
+                    taken = measured(lent, start, words)
                 except Error as error:
                     # at the end of the file, the last bytes may tell more than that they are too few
                     if error.number == Refusal.TRUNCATED and not pieces.has_ended:

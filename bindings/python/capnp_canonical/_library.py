@@ -69,13 +69,20 @@ ctypes.pythonapi.PyBuffer_Release.argtypes = [ctypes.POINTER(_View)]
 ctypes.pythonapi.PyBuffer_Release.restype = None
 
 
-class Lent:
-    """The bytes of an object, which stay in place while the `with` block runs."""
+# ctypes.string_at takes no larger number.
+_MOST_AT_ONCE = 2**31 - 1
 
-    __slots__ = '_view', 'address', 'size'
+
+class Lent:
+    """The bytes of an object, which stay in place while the `with` block runs. If `is_constant`, nothing can change them:
+    they are those of an object of type `bytes`. The bytes of any other object could be changed while the library reads
+    them, by another thread, by another process or through another object, even if it is read-only itself."""
+
+    __slots__ = '_view', 'address', 'size', 'is_constant'
 
     def __init__(self, given: Union[ReadableBuffer, WriteableBuffer], writable: bool = False) -> None:
         self._view = _View()
+        self.is_constant = type(given.obj if isinstance(given, memoryview) else given) is bytes
         try:
             _get_buffer(given, self._view, _WRITABLE if writable else _SIMPLE)
         except BufferError:
@@ -83,8 +90,22 @@ class Lent:
                 raise
             # bytes that aren't contiguous
             _get_buffer(memoryview(given).tobytes(), self._view, _SIMPLE)
+            self.is_constant = True
         self.address: int = self._view.buf or 0
         self.size: int = self._view.len
+
+    def copy(self, size: int, at: int = 0) -> bytes:
+        """The `size` bytes from byte `at` on, as they are now."""
+        if size > _MOST_AT_ONCE:
+            return (ctypes.c_char * size).from_address(self.address + at).raw
+        return ctypes.string_at(self.address + at, size)
+
+    def constant(self) -> Lent:
+        """The same bytes where nothing can change them: here, or else in a copy, after which these are given back."""
+        if self.is_constant:
+            return self
+        with self:
+            return Lent(self.copy(self.size))
 
     def release(self) -> None:
         ctypes.pythonapi.PyBuffer_Release(self._view)

@@ -6,7 +6,7 @@ from typing import TYPE_CHECKING, Any, Iterator, Union
 
 from capnp_canonical._answers import Error, Limits, Refusal
 from capnp_canonical._calls import DONE, LIMITS, TABLE
-from capnp_canonical._frames import Pieces, Readable, has_buffer
+from capnp_canonical._frames import PIECE, Pieces, Readable, has_buffer, view_of
 from capnp_canonical._library import Lent, RawUnpacking, library
 
 if TYPE_CHECKING:
@@ -28,7 +28,17 @@ def packed_frames(stream: Union[ReadableBuffer, Readable], words: int = LIMITS.w
     words = Limits(words=words).words
     if hasattr(stream, 'read') and not has_buffer(stream):
         return _packed_frames(Pieces(stream).all(), words)
-    return _packed_frames(iter([stream]), words)
+    return _packed_frames(_pieces_of(stream), words)
+
+
+def _pieces_of(stream: Any) -> Iterator[Any]:
+    """The bytes of an object; piece by piece, if each of them has to be copied."""
+    if type(stream) is bytes:
+        yield stream
+        return
+    whole = view_of(stream)
+    for at in range(0, len(whole), PIECE):
+        yield whole[at:at + PIECE]
 
 
 class _Unpacked:
@@ -80,7 +90,7 @@ def _packed_frames(pieces: Iterator[Any], words: int) -> Iterator[memoryview]:
     unpacked = _Unpacked(words)
     byte, number = 0, 1
     for piece in pieces:
-        with Lent(piece) as lent:
+        with Lent(piece).constant() as lent:
             start = 0
             while True:
                 try:
@@ -89,8 +99,8 @@ def _packed_frames(pieces: Iterator[Any], words: int) -> Iterator[memoryview]:
                     raise error.at(number, byte) from None
                 if not unpacked.is_whole():
                     break
-                frame = unpacked.take()
-                yield memoryview(frame).toreadonly()
+                frame = bytes(unpacked.take())
+                yield memoryview(frame)
                 byte += len(frame)
                 number += 1
     if unpacked.has_begun():
