@@ -55,10 +55,6 @@ class _Given:
             lent.release()
 
 
-def _of_bytes(given: bytes) -> _Given:
-    return _Given(given, len(given), len(given), ())
-
-
 def _of_lent(lent: Lent) -> _Given:
     return _Given(lent.address, lent.size, lent.size, (lent,), (lent.address, lent.size))
 
@@ -66,7 +62,8 @@ def _of_lent(lent: Lent) -> _Given:
 def _frame(frame: ReadableBuffer, limits: Limits) -> _Given:
     """The frame at the front of some bytes; a copy of it, if something could change them meanwhile."""
     if type(frame) is bytes:
-        return _of_bytes(frame)
+        size = len(frame)
+        return _Given(frame, size, size, ())
     words = _limits(limits)[1]
     lent = Lent(frame)
     if lent.is_constant:
@@ -79,7 +76,7 @@ def _frame(frame: ReadableBuffer, limits: Limits) -> _Given:
 def _packed(packed: ReadableBuffer) -> _Given:
     """Packed bytes; a copy of them, if something could change them meanwhile."""
     if type(packed) is bytes:
-        return _of_bytes(packed)
+        return _Given(packed, len(packed), len(packed), ())
     lent = Lent(packed)
     passed = lent.address, lent.size
     given = _of_lent(lent.constant())
@@ -167,7 +164,8 @@ def _error_of(answer: int, given: _Given, limits: Limits, reading: _Reading, wan
 def _limits(limits: Limits) -> Tuple[int, int]:
     """The two numbers that a call takes."""
     try:
-        return min(limits.nesting, MAX_NESTING), limits.words
+        nesting = limits.nesting
+        return nesting if nesting < MAX_NESTING else MAX_NESTING, limits.words
     except AttributeError:
         raise TypeError(f'limits must be of the class Limits, not {type(limits).__name__}') from None
 
