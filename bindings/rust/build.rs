@@ -3,13 +3,17 @@
 //! It links an installed `libcapnp_canonical.a`, or `libcapnp_canonical.so` if there is no archive or
 //! `CAPNP_CANONICAL_STATIC` is 0. Without a library the crate builds, but can't be linked.
 //!
-//! As in make and CMake, `CC` and `AR` may be several words, such as `ccache gcc`.
+//! As in make and CMake, `CC` and `AR` may be several words, such as `ccache gcc`. The C is always optimised: `-O2` comes
+//! after the flags of `CFLAGS`.
 use std::env;
+use std::fs;
 use std::path::{Path, PathBuf};
 use std::process::Command;
 
 const FOLDER: &str = "CAPNP_CANONICAL_LIB_DIR";
 const STATIC: &str = "CAPNP_CANONICAL_STATIC";
+/// Has a function touch each page of its frame, so that no frame reaches beyond the guard page below a stack.
+const PROTECTION: &str = "-fstack-clash-protection";
 /// The places of the C and of its header: in a package, and in the repository.
 const SOURCES: [(&str, &str); 2] = [
     ("native/capnp_canonical.c", "native"),
@@ -70,14 +74,31 @@ fn compiled(source: &str, include: &str) -> Result<PathBuf, String> {
     let folder = PathBuf::from(env::var_os("OUT_DIR").ok_or("OUT_DIR isn't set")?);
     let object = folder.join("capnp_canonical.o");
     let cflags = env::var("CFLAGS").unwrap_or_default();
+    let protection = accepts(&folder, PROTECTION)?.then_some(PROTECTION);
+    // without -O2 a call takes much more stack
     run(tool("CC", "gcc", "cc")
-        .args(["-std=gnu11", "-O2", "-fPIC"])
+        .args(["-std=gnu11", "-fPIC"])
         .args(cflags.split_whitespace())
+        .arg("-O2")
+        .args(protection)
         .args(["-I", include, "-c", source, "-o"])
         .arg(&object))?;
     let archive = folder.join("libcapnp_canonical.a");
     run(tool("AR", "ar", "ar").arg("crs").arg(archive).arg(&object))?;
     Ok(folder)
+}
+
+/// Whether the C compiler takes a flag without a word.
+fn accepts(folder: &Path, flag: &str) -> Result<bool, String> {
+    let source = folder.join("empty.c");
+    fs::write(&source, "int nothing;\n")
+        .map_err(|error| format!("{}: {error}", source.display()))?;
+    let compiled = tool("CC", "gcc", "cc")
+        .args(["-Werror", flag, "-c", "-o"])
+        .args([source.with_extension("o"), source])
+        .output()
+        .map_err(|error| format!("the C compiler: {error}"))?;
+    Ok(compiled.status.success())
 }
 
 /// A tool for the target: the one that its variable names, or else the one that Linux distributions have for another

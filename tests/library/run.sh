@@ -142,6 +142,24 @@ cargo_compiling() {
     for compiler in cc 'env cc' ''; do
         CC=$compiler CARGO_TARGET_DIR=$work/compiled env -u CAPNP_CANONICAL_LIB_DIR cargo build --offline --locked && echo "ok: CC='$compiler'"
     done
+    # the C is optimised whatever the flags are, and its stack is protected by compilers that can do that
+    printf '#ifndef __OPTIMIZE__\n#error "not optimised"\n#endif\nint nothing;\n' >native/capnp_canonical.c
+    flag=-fstack-clash-protection
+    cat >compiler <<'END'
+#!/bin/sh
+printf '%s\n' "$*" >>commands
+for it; do [ "$it" != "$REFUSED" ] || exit 1; done
+exec cc "$@"
+END
+    chmod +x compiler
+    for flags in -O0 '-g -O0' -O3; do
+        rm -f commands
+        CFLAGS=$flags REFUSED=none CC=$PWD/compiler CARGO_TARGET_DIR=$work/compiled env -u CAPNP_CANONICAL_LIB_DIR cargo build --offline --locked &&
+            tail -n 1 commands | grep -q -e "-O2.*$flag" && echo "ok: CFLAGS='$flags'" || echo "FAILED: CFLAGS='$flags'"
+    done
+    rm -f commands
+    CFLAGS=-g REFUSED=$flag CC=$PWD/compiler CARGO_TARGET_DIR=$work/compiled env -u CAPNP_CANONICAL_LIB_DIR cargo build --offline --locked &&
+        ! tail -n 1 commands | grep -q -e "$flag" && echo "ok: a compiler without $flag" || echo "FAILED: a compiler without $flag"
 }
 
 # Copies the crate that uses the crate `capnp` to a folder, in which cargo may write.
@@ -176,6 +194,10 @@ wheel() {
     python3 -m venv "$work/venv" && mkdir "$work/wheel_of" && cp -R "$top/bindings" "$top/LICENSE" "$work/wheel_of" || return 1
     CAPNP_CANONICAL_LIBRARY=$prefix/lib/libcapnp_canonical.so "$work/venv/bin/pip" install --no-index "$work/wheel_of/bindings/python" || return 1
     cd "$here" && env -u PYTHONPATH -u CAPNP_CANONICAL_LIBRARY "$work/venv/bin/python" -B -m unittest -v test_capnp_canonical test_commands
+}
+
+compiled_for_pip() {
+    cd "$here" && python3 -B -m unittest -v test_build_wheel
 }
 
 # Checks the types of the package like a program that uses it.
@@ -260,6 +282,7 @@ else
 fi
 if [ "$has_python" ]; then
     part Python unittest "$(python_with numpy || echo python3)"
+    if [ "$has_cc" ]; then part 'C compiled for pip' compiled_for_pip; else skip 'C compiled for pip' cc; fi
     if python3 -c 'import venv, ensurepip' 2>log; then part 'package for pip' wheel; else skip 'package for pip' 'venv of python3'; fi
     if python_with mypy >log; then part 'types of Python' types_of_python; else skip 'types of Python' mypy; fi
     if python_with distributed >log; then part 'Dask cluster' cluster; else skip 'Dask cluster' 'distributed of python3'; fi
