@@ -4,6 +4,7 @@
     generated.py            writes it again from the current sources, over the libraries that `./test` left here; minutes
     generated.py --check    writes it into a temporary folder and compares every byte
     generated.py --sums     compares the sums in generated/ORIGIN with the files; needs no toolchain, takes milliseconds
+    generated.py --map      prints generated/capnp_canonical.map as it is written, for ./install
 
 generated/ORIGIN names the toolchain's logic, and has one sum for each crate that the C is made from, over `src`, `specs` and `proofs`,
 one for the scripts that write the C, and one for each file. So --sums says which crate has changed since the C was written.
@@ -23,6 +24,7 @@ from libraries import PARTS, TOP, Crates
 
 NAME = 'capnp_canonical'
 HEADER = f'bindings/c/{NAME}.h'
+EXPORTS = 'tools/exports.txt'
 # The library and the programs. The last one is for tests.
 CRATES = NAME, 'capnp_canon', 'layout_tool', 'stream_runs'
 WRITER = 'tools/generate.py', 'tools/c_of_module'
@@ -52,15 +54,27 @@ def sums():
     wanted = dict.fromkeys(it for crate in CRATES for it in (*crates.below(crate), crate))
     made = {f'crates/{it}': sum_of([f'crates/{it}/{part}' for part in PARTS]) for it in wanted}
     edges = ''.join(f'{it}: {" ".join([*crates.kind[it], *crates.stands_on[it]])}\n' for it in wanted)
-    return {**made, 'crates.txt': digest(edges.encode()), 'writer': sum_of(WRITER), HEADER: digest(repr(declarations()).encode())}
+    return {**made, 'crates.txt': digest(edges.encode()), 'writer': sum_of(WRITER), HEADER: digest(repr(declarations()).encode()), EXPORTS: sum_of([EXPORTS])}
+
+
+def came_with():
+    """The version that each function of the library came with, such as (1, 1)."""
+    lines = [it.split() for it in (TOP / EXPORTS).read_text(encoding='utf-8').splitlines() if not it.startswith('#')]
+    return {name: tuple(map(int, version.split('.'))) for version, name in lines}
 
 
 def exports():
-    """The linker script with the visible names of the shared library."""
-    header = (TOP / HEADER).read_text(encoding='utf-8')
-    major = re.search(r'VERSION_TEXT "(\d+)', header)[1]
-    names = ''.join(f'    {it};\n' for it in sorted(name for _, name, _ in declarations()))
-    return f'{NAME.upper()}_{major} {{\nglobal:\n{names}local:\n    *;\n}};\n'.encode()
+    """The linker script of the shared library: its visible names, in a node for each version that functions came with."""
+    versions, declared = came_with(), {name for _, name, _ in declarations()}
+    if declared != versions.keys():
+        sys.exit(f'generated.py: {EXPORTS} and {HEADER} differ: {" ".join(sorted(declared ^ versions.keys()))}')
+    nodes, before, local = [], '', 'local:\n    *;\n'
+    for version in sorted({*versions.values()}):
+        node = f'{NAME.upper()}_{".".join(map(str, version))}'
+        names = ''.join(f'    {it};\n' for it in sorted(versions) if versions[it] == version)
+        nodes.append(f'{node} {{\nglobal:\n{names}{local}}}{before};\n')
+        before, local = f' {node}', ''
+    return '\n'.join(nodes).encode()
 
 
 def origin(logic, files):
@@ -130,6 +144,9 @@ def write():
 def main(words):
     if words == []:
         return write()
+    if words == ['--map']:
+        print(exports().decode(), end='')
+        return 0
     if words not in (['--check'], ['--sums']):
         sys.exit(__doc__)
     found = [*(differing() if words == ['--sums'] else compared())]
