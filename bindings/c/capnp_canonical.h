@@ -52,8 +52,8 @@ extern "C" {
 #endif
 
 /* The version of this header: major * 10000 + minor * 100 + patch. */
-#define CAPNP_CANONICAL_VERSION 10000
-#define CAPNP_CANONICAL_VERSION_TEXT "1.0.0"
+#define CAPNP_CANONICAL_VERSION 10100
+#define CAPNP_CANONICAL_VERSION_TEXT "1.1.0"
 
 /* The default limits. */
 #define CAPNP_CANONICAL_NESTING 64
@@ -436,7 +436,9 @@ size_t capnp_canonical_name(uint32_t answer, char *to, size_t room);
 /* The same for the text of a reason, such as `a list whose padding isn't zero`. */
 size_t capnp_canonical_reason_text(uint32_t reason, char *to, size_t room);
 
-/* The version of the linked library, in the form of CAPNP_CANONICAL_VERSION. */
+/* The version of the linked library, in the form of CAPNP_CANONICAL_VERSION. If it is less than that, the library is older
+ * than this header, and may lack calls; a program that uses those isn't linked with it, and isn't started with it either where
+ * symbols have versions. */
 uint32_t capnp_canonical_version(void);
 
 /* The same as a text, in the form of CAPNP_CANONICAL_VERSION_TEXT, written like capnp_canonical_name does. */

@@ -615,7 +615,7 @@ async function* packedFramesOfPieces(pieces, words) {
 
 // Help for people.
 
-/** The version of the library, such as `1.0.0`. */
+/** The version of the library, such as `1.1.0`. */
 export function version() {
   const number = called((lib) => lib.calls.version() >>> 0);
   return `${Math.floor(number / 10000)}.${Math.floor(number / 100) % 100}.${number % 100}`;

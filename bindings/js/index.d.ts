@@ -330,5 +330,5 @@ export function packedFramesFrom(pieces: Pieces, limits?: Limits): AsyncGenerato
 /** Guesses what bytes are that were refused as a frame, such as `gzip`. `CanonicalError` has the guess already. */
 export function looksLike(bytes: Bytes): string | undefined;
 
-/** The version of the library, such as `1.0.0`. */
+/** The version of the library, such as `1.1.0`. */
 export function version(): string;

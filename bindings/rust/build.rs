@@ -1,7 +1,8 @@
 //! Finds the library: in the folder that `CAPNP_CANONICAL_LIB_DIR` names; or else compiles its C, if that is in
 //! `native/` or in the repository that this crate is in, with the C compiler `$CC` or `cc`; or else asks `pkg-config`.
 //! It links an installed `libcapnp_canonical.a`, or `libcapnp_canonical.so` if there is no archive or
-//! `CAPNP_CANONICAL_STATIC` is 0. Without a library the crate builds, but can't be linked.
+//! `CAPNP_CANONICAL_STATIC` is 0. Without a library the crate builds, but can't be linked; with one that its
+//! `capnp_canonical.pc` says to be older, it doesn't build.
 //!
 //! As in make and CMake, `CC` and `AR` may be several words, such as `ccache gcc`. The C is always optimised: `-O2` comes
 //! after the flags of `CFLAGS`.
@@ -42,8 +43,8 @@ fn main() -> Result<(), String> {
 
 /// The folder of the library.
 fn library() -> Result<Option<PathBuf>, String> {
-    if let Some(folder) = env::var_os(FOLDER) {
-        return Ok(Some(folder.into()));
+    if let Some(folder) = env::var_os(FOLDER).map(PathBuf::from) {
+        return fitting(folder.clone(), version_in(&folder));
     }
     // documentation needs no library, and a machine that only makes that may have no compiler
     if env::var_os("DOCS_RS").is_some() {
@@ -54,17 +55,49 @@ fn library() -> Result<Option<PathBuf>, String> {
             return compiled(source, include).map(Some);
         }
     }
-    Ok(folder_by_pkg_config())
+    match by_pkg_config("--variable=libdir") {
+        Some(folder) => fitting(folder.into(), by_pkg_config("--modversion")),
+        None => Ok(None),
+    }
 }
 
-fn folder_by_pkg_config() -> Option<PathBuf> {
+/// What pkg-config says about the library.
+fn by_pkg_config(question: &str) -> Option<String> {
     let run = Command::new("pkg-config")
-        .args(["--variable=libdir", "capnp_canonical"])
+        .args([question, "capnp_canonical"])
         .output()
         .ok()?;
-    let folder = String::from_utf8(run.stdout).ok()?;
-    let folder = folder.trim();
-    (run.status.success() && !folder.is_empty()).then(|| PathBuf::from(folder))
+    let answer = String::from_utf8(run.stdout).ok()?;
+    let answer = answer.trim();
+    (run.status.success() && !answer.is_empty()).then(|| answer.to_owned())
+}
+
+/// The version of the library that is installed in a folder, by its `capnp_canonical.pc`; `None` if that isn't there.
+fn version_in(folder: &Path) -> Option<String> {
+    let description = fs::read_to_string(folder.join("pkgconfig/capnp_canonical.pc")).ok()?;
+    let mut lines = description.lines();
+    let version = lines.find_map(|line| line.strip_prefix("Version:"))?;
+    Some(version.trim().to_owned())
+}
+
+/// The folder of a library, refused if its version is known and lacks calls of the crate, or is another major one.
+fn fitting(folder: PathBuf, version: Option<String>) -> Result<Option<PathBuf>, String> {
+    let own = env!("CARGO_PKG_VERSION");
+    let Some(found) = version else {
+        return Ok(Some(folder));
+    };
+    let (wanted, has) = (numbers_of(own), numbers_of(&found));
+    if has.first() == wanted.first() && has[..] >= wanted[..2] {
+        return Ok(Some(folder));
+    }
+    let (place, major) = (folder.display(), wanted[0]);
+    Err(format!("the library in {place} has version {found}: the crate needs {own}, or a later version {major}"))
+}
+
+/// The numbers of a version.
+fn numbers_of(version: &str) -> Vec<u32> {
+    let numbers = version.split('.').map_while(|it| it.parse().ok());
+    numbers.collect()
 }
 
 /// Compiles the library into cargo's output folder.

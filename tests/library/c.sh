@@ -91,8 +91,25 @@ names() {
         && nm -g --defined-only "$prefix/lib/libcapnp_canonical.a" | awk '$2 == "T" { print $3 }' | sort | cmp - "$folder/declared"
 }
 
+# Checks that each function has the symbol version of tools/exports.txt.
+versions() {
+    awk '!/^#/ { print $2 "@@CAPNP_CANONICAL_" $1 }' "$top/tools/exports.txt" | sort >"$folder/listed"
+    nm -D --defined-only "$prefix/lib/libcapnp_canonical.so" | awk '$2 == "T" { print $3 }' | sort | diff "$folder/listed" -
+}
+
+# Starts a program with a library of version 1.0.0, which lacks functions that it calls: the loader says so.
+older() {
+    mkdir -p "$folder/older" && awk '$1 == 1 { print "int " $2 "(void) { return 0; }" }' "$top/tools/exports.txt" >"$folder/older.c" &&
+        printf 'CAPNP_CANONICAL_1 { global: capnp_canonical_*; local: *; };\n' >"$folder/older.map" &&
+        "$CC" -shared -Wl,-soname,libcapnp_canonical.so.1 -Wl,--version-script="$folder/older.map" -o "$folder/older/libcapnp_canonical.so.1" "$folder/older.c" || return 1
+    LD_LIBRARY_PATH=$folder/older "$folder/$1" "$here/messages.txt" >"$folder/written" 2>&1 && return 1
+    cat "$folder/written"
+    grep -q "CAPNP_CANONICAL_1.1' not found" "$folder/written"
+}
+
 has "$CC" "all of it" && has pkg-config "all of it" || { echo "0 passed, 0 failed"; exit 0; }
 part "names" names
+part "versions of names" versions
 for which in static shared; do
     part "example, $which, built" build "example_$which" bindings/c/example.c "$which"
     has xxd "the examples' answers" && part "example, $which" example "example_$which"
@@ -114,6 +131,7 @@ for which in static shared; do
     part "objects of messages, $which, built" build "walks_$which" tests/library/walks.c "$which"
     part "objects of messages, $which" "$folder/walks_$which" "$here/walks.txt"
 done
+part "a program with an older library" older parts_shared
 part "test with the address sanitizer, built" build sanitized tests/library/test.c static -fsanitize=address,undefined -fno-sanitize-recover
 part "test with the address sanitizer" "$folder/sanitized" "$here/messages.txt"
 part "functions of the header with the address sanitizer, built" build inline_sanitized tests/library/inline.c static -fsanitize=address,undefined -fno-sanitize-recover

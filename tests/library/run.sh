@@ -129,7 +129,7 @@ cargo_package() {
     env -u PKG_CONFIG_PATH PKG_CONFIG_LIBDIR="$work" cargo doc --offline --locked --no-deps && echo 'ok: cargo doc without the library'
     CAPNP_CANONICAL_LIB_DIR=$prefix/lib cargo build --offline --locked --no-default-features && echo 'ok: no_std'
     CAPNP_CANONICAL_LIB_DIR=$prefix/lib cargo package --offline --allow-dirty && echo 'ok: cargo package' || return 1
-    cd "$CARGO_TARGET_DIR/package/capnp_canonical-1.0.0" &&
+    cd "$CARGO_TARGET_DIR/package/capnp_canonical-$(sed -n 's/^version = "\(.*\)"$/\1/p' Cargo.toml)" &&
         CAPNP_CANONICAL_LIB_DIR=$prefix/lib CARGO_TARGET_DIR=$work/packaged cargo test --offline
     CAPNP_CANONICAL_STATIC=0 CAPNP_CANONICAL_LIB_DIR=$prefix/lib LD_LIBRARY_PATH=$prefix/lib CARGO_TARGET_DIR=$work/shared \
         cargo test --offline --test library
@@ -160,6 +160,17 @@ END
     rm -f commands
     CFLAGS=-g REFUSED=$flag CC=$PWD/compiler CARGO_TARGET_DIR=$work/compiled env -u CAPNP_CANONICAL_LIB_DIR cargo build --offline --locked &&
         ! tail -n 1 commands | grep -q -e "$flag" && echo "ok: a compiler without $flag" || echo "FAILED: a compiler without $flag"
+}
+
+# Builds the crate with a library of another version: it is refused, with what was found.
+cargo_older() {
+    cd "$top/bindings/rust" || return 1
+    for version in 1.0.0 1.0.7 2.0.0; do
+        mkdir -p "$work/lib_$version/pkgconfig" && : >"$work/lib_$version/libcapnp_canonical.a" &&
+            printf 'libdir=%s\nName: capnp_canonical\nDescription: none\nVersion: %s\n' "$work/lib_$version" $version >"$work/lib_$version/pkgconfig/capnp_canonical.pc" || return 1
+        CAPNP_CANONICAL_LIB_DIR=$work/lib_$version cargo build --offline --locked 2>&1 | grep -q "lib_$version has version $version: the crate needs" &&
+            echo "ok: a library of version $version" || echo "FAILED: a library of version $version"
+    done
 }
 
 # Copies the crate that uses the crate `capnp` to a folder, in which cargo may write.
@@ -210,7 +221,7 @@ by_cmake() {
     mkdir "$work/cmake" && cp "$top/bindings/c/example.c" "$work/cmake" && cat >"$work/cmake/CMakeLists.txt" <<'END' || return 1
 cmake_minimum_required(VERSION 3.13)
 project(example LANGUAGES C)
-find_package(capnp_canonical 1.0 REQUIRED)
+find_package(capnp_canonical 1.1 REQUIRED)
 add_executable(shared example.c)
 target_link_libraries(shared capnp_canonical::capnp_canonical)
 add_executable(static example.c)
@@ -274,6 +285,7 @@ if [ "$has_cxx" ]; then part 'temporaries of C++' sh "$here/temporaries.sh" "$pr
 if [ "$has_cargo" ]; then
     part Rust cargo_test
     part 'package for cargo' cargo_package
+    part 'cargo with other versions' cargo_older
     if [ "$has_cc" ]; then part 'C compiled by cargo' cargo_compiling; else skip 'C compiled by cargo' cc; fi
     if [ -d "$debian_crates" ]; then part 'crate over capnp' cargo_capnp; else skip 'crate over capnp' "$debian_crates"; fi
     part 'crate over capnp 0.27' cargo_newest

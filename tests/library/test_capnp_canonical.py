@@ -468,6 +468,20 @@ class Calls(unittest.TestCase):
 
     def test_version(self):
         self.assertEqual(capnp_canonical.version() // 10000, 1)
+        self.assertEqual(tuple(map(int, capnp_canonical.__version__.split('.'))) >= (1, 1, 0), True)
+
+    @unittest.skipUnless(shutil.which('cc'), 'no cc')
+    def test_other_libraries(self):
+        """A library of another version isn't loaded, and the error says which it is."""
+        with tempfile.TemporaryDirectory() as folder:
+            source, library = pathlib.Path(folder) / 'other.c', pathlib.Path(folder) / 'libcapnp_canonical.so'
+            for number, found in (10000, 'has version 1.0.0'), (10012, 'has version 1.0.12'), (20000, 'has version 2.0.0'), (None, 'is another library'):
+                source.write_text('int nothing;' if number is None else f'unsigned capnp_canonical_version(void) {{ return {number}; }}')
+                subprocess.run(['cc', '-shared', '-fPIC', '-o', library, source], check=True)
+                run = subprocess.run([sys.executable, '-B', '-c', 'import capnp_canonical'], env={**os.environ, LIBRARY: str(library)}, stderr=subprocess.PIPE, encoding='utf-8')
+                self.assertEqual(run.returncode, 1)
+                last = run.stderr.splitlines()[-1]
+                self.assertTrue(last.startswith(f'ImportError: {library} {found}: capnp_canonical needs 1.1.0 or a later version 1; '), last)
 
 
 class Packed(unittest.TestCase):

@@ -34,7 +34,7 @@ from capnp_canonical._calls import (
     words_is_canonical, words_size, words_size_at, words_validate, words_walk,
 )
 from capnp_canonical._frames import frames
-from capnp_canonical._library import version
+from capnp_canonical._library import version, version_text as _version_text
 from capnp_canonical._packed import packed_frames
 
 __all__ = [
@@ -49,5 +49,4 @@ __all__ = [
 
 for _shown in Error, Extent, Fault, Kind, Limits, Object, Reason, Refusal, Size, Walk:
     _shown.__module__ = __name__
-_number = version()
-__version__ = f'{_number // 10000}.{_number // 100 % 100}.{_number % 100}'
+__version__ = _version_text(version())

@@ -17,7 +17,7 @@ from capnp_canonical._answers import Error, Limits
 from capnp_canonical._calls import LIMITS, copy_flat, words_copy, words_digest
 from capnp_canonical._calls import digest as frame_digest
 from capnp_canonical._frames import frames
-from capnp_canonical._library import version
+from capnp_canonical._library import version, version_text
 
 NAME = 'capnp_canonical'
 SAME, DIFFERS, TROUBLE = 0, 1, 2
@@ -300,8 +300,7 @@ def nesting_limit(text: str) -> int:
 
 def parser() -> Parser:
     whole = Parser(prog=f'python3 -m {NAME}', description=ABOUT, epilog=STATUS, formatter_class=argparse.RawDescriptionHelpFormatter)
-    number = version()
-    whole.add_argument('-V', '--version', action='version', version=f'{NAME} {number // 10000}.{number // 100 % 100}.{number % 100}')
+    whole.add_argument('-V', '--version', action='version', version=f'{NAME} {version_text(version())}')
     commands = whole.add_subparsers(dest='command', metavar='COMMAND', required=True, parser_class=Parser)
     known: Any = (
         ('digest', 'print the name of each message, in the layout of sha256sum', '*'),

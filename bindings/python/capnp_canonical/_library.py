@@ -14,6 +14,8 @@ _VARIABLE = 'CAPNP_CANONICAL_LIBRARY'
 _FILE = 'libcapnp_canonical.so'
 # what the system's loader looks for
 _SONAME = _FILE + '.1'
+# The versions of the library that have all calls of this package: from the first on, and before the second.
+_OLDEST, _NEXT = 10100, 20000
 
 
 class RawFault(ctypes.Structure):
@@ -119,6 +121,23 @@ class Lent:
         self.release()
 
 
+def version_text(number: int) -> str:
+    """A version as text, such as `1.1.0`."""
+    return f'{number // 10000}.{number // 100 % 100}.{number % 100}'
+
+
+def _must_fit(library: ctypes.CDLL) -> None:
+    """Refuse a library that lacks calls, or has other ones."""
+    wanted = f'{version_text(_OLDEST)} or a later version {_OLDEST // 10000}'
+    try:
+        number = library.capnp_canonical_version()
+    except AttributeError:
+        number = 0
+    if not _OLDEST <= number < _NEXT:
+        found = f'has version {version_text(number)}' if number else 'is another library'
+        raise ImportError(f'{library._name} {found}: capnp_canonical needs {wanted}; set {_VARIABLE} to the path of {_FILE}')
+
+
 def _load() -> ctypes.CDLL:
     """The library, with the types of its calls."""
     named = os.environ.get(_VARIABLE)
@@ -129,6 +148,7 @@ def _load() -> ctypes.CDLL:
         library = ctypes.CDLL(named or next((it for it in beside if os.path.exists(it)), _SONAME))
     except OSError as error:
         raise ImportError(f'{error}; set {_VARIABLE} to the path of {_FILE}') from error
+    _must_fit(library)
     size, pointer, u32, u64, at = ctypes.c_size_t, ctypes.POINTER, ctypes.c_uint32, ctypes.c_uint64, ctypes.c_void_p
     limits: Any = [ctypes.c_int32, u64]
     calls: Any = (
