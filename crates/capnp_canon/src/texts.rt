@@ -4,7 +4,7 @@ use std::alloc::{AllocError, Global};
 use std::io;
 
 /// The program's name and version.
-pub const VERSION: &str = "capnp_canon 1.0.0";
+pub const VERSION: &str = "capnp_canon 1.1.0";
 
 /// Printed after the line that says what is wrong with the arguments.
 pub const HINT: &str = "Try 'capnp_canon --help' for more information.";

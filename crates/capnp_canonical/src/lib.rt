@@ -432,17 +432,17 @@ pub extern "C" fn capnp_canonical_reason_text(reason: u32, to: &mut [u8]) -> usi
 /// The version of the library: major * 10000 + minor * 100 + patch.
 #[unsafe(no_mangle)]
 pub extern "C" fn capnp_canonical_version() -> u32
-    ensures { result ≡ 10000 }
+    ensures { result ≡ 10100 }
 {
-    10000
+    10100
 }
 
 /// Writes the library's version as text to the front of `to`. Terminates and cuts the text, and
 /// returns the length of the whole text, like `capnp_canonical_name`.
 #[unsafe(no_mangle)]
 pub extern "C" fn capnp_canonical_version_text(to: &mut [u8]) -> usize
-    ensures length { result ≡ length (codes "1.0.0") }
-    ensures text { PutsText (codes "1.0.0") to.old to.new }
+    ensures length { result ≡ length (codes "1.1.0") }
+    ensures text { PutsText (codes "1.1.0") to.old to.new }
 {
-    put_text("1.0.0", to)
+    put_text("1.1.0", to)
 }
