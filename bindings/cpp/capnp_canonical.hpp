@@ -1002,6 +1002,17 @@ private:
 // The version of the linked library: major * 10000 + minor * 100 + patch.
 inline std::uint32_t version() noexcept { return capnp_canonical_version(); }
 
+// Throws std::runtime_error if the linked library is older than this header, or of another major version, and says which it
+// is. A program with several parts may have been linked with one library and started with another.
+inline void require_version() {
+    const std::uint32_t found = version(), wanted = CAPNP_CANONICAL_VERSION;
+    if (found >= wanted && found / 10000 == wanted / 10000) return;
+    const auto text = [](std::uint32_t it) {
+        return std::to_string(it / 10000) + "." + std::to_string(it / 100 % 100) + "." + std::to_string(it % 100);
+    };
+    throw std::runtime_error("capnp_canonical: the library has version " + text(found) + ", and the header " + text(wanted));
+}
+
 #ifdef CAPNP_CANONICAL_WITH_CAPNP
 
 // The segments of a message. An empty segment without an address ends them.

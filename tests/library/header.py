@@ -20,6 +20,14 @@ PREFIX = 'CAPNP_CANONICAL_'
 VERSIONS = {
     'bindings/python/pyproject.toml': r'^version = "(.*)"$', 'bindings/rust/Cargo.toml': r'^version = "(.*)"$',
     'bindings/rust/capnp/Cargo.toml': r'^version = "(.*)"$', 'share/capnp_canon.1': r'"capnp_canon (.*)"$',
+    'bindings/rust/Cargo.lock': r'^name = "capnp_canonical"\nversion = "(.*)"$', 'bindings/js/package.json': r'^  "version": "(.*)",$',
+    'pyproject.toml': r'^version = "(.*)"$', 'crates/capnp_canon/src/texts.rt': r'"capnp_canon (.*)";$',
+    'README.md': r'^This is version ([\d.]*\d)', 'CHANGELOG.md': r'\A[^#]*# Changes\n[^#]*## (\S*)',
+}
+# The other files that have the header's largest nesting limit.
+LEVELS = {
+    'bindings/python/capnp_canonical/_answers.py': r'^MAX_NESTING = (\d+)$', 'bindings/js/library.js': r'^export const MAX_NESTING = (\d+);$',
+    'bindings/rust/src/lib.rs': r'^    pub const MAX_NESTING: i32 = (\d+);$',
 }
 # The files of the repository that the package for cargo has a copy of.
 PACKAGED = {'LICENSE': 'LICENSE', **{f'tests/{it}': f'tests/library/{it}' for it in ('messages.txt', 'packed.txt', 'parts.txt', 'streams.txt')}}
@@ -144,6 +152,8 @@ def main():
     facts += [(f'{text} is the version that the library gives', re.search(text, EXPORTS)) for text in (rf'result ≡ {version[0]} ', f'put_text\\("{version[1]}", to\\)')]
     facts += list(facts_of_bindings()) + list(facts_of_texts())
     facts += [(f'{name} has the version', re.findall(pattern, file(name), re.M) == [version[1]]) for name, pattern in VERSIONS.items()]
+    levels = re.findall(rf'{PREFIX}MAX_NESTING (\d+)$', HEADER, re.M)
+    facts += [(f'{name} has the largest nesting limit', re.findall(pattern, file(name), re.M) == levels) for name, pattern in LEVELS.items()]
     # the package for cargo has copies of these files in its folder, because the gate takes no links
     facts += [(f'bindings/rust/{name} is {of}', file(f'bindings/rust/{name}') == file(of)) for name, of in PACKAGED.items()]
     failed = [what for what, holds in facts if not holds]

@@ -649,6 +649,9 @@ int main(int count, char** words) {
     test("places of broken pointers", [&] { test_places(words[5]); });
     test("objects of messages", test_walk);
     test("errors", test_errors);
-    test("version", [] { require(capnp_canonical::version() == CAPNP_CANONICAL_VERSION, "another than the header's"); });
+    test("version", [] {
+        require(capnp_canonical::version() == CAPNP_CANONICAL_VERSION, "another than the header's");
+        capnp_canonical::require_version();
+    });
     return failed ? 1 : 0;
 }
