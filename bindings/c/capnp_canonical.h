@@ -59,8 +59,8 @@ extern "C" {
 #define CAPNP_CANONICAL_NESTING 64
 #define CAPNP_CANONICAL_WORDS UINT64_C(8388608)
 
-/* The largest nesting limit in C++, Rust, Python and JavaScript. The calls of this header take any: whoever passes a larger
- * one has to run them on a stack with room for so many levels. */
+/* The largest nesting limit in C++, Rust, Python and JavaScript. The calls of this header take any number; a larger one needs
+ * a stack with room for so many levels. */
 #define CAPNP_CANONICAL_MAX_NESTING 1024
 
 /* Enough room for any text that capnp_canonical_name, _reason_text or _version_text writes, with its terminating

@@ -98,8 +98,8 @@ void test_limits() {
     refusal("segments", too_deep, [&] { capnp_canonical::copy_flat(builder.getSegmentsForOutput()); });
 }
 
-// A message of 300,000 levels that a program has built, which would take 190 MB of stack: refused, like any message of more
-// levels than CAPNP_CANONICAL_MAX_NESTING, whatever limit is passed. The frame is read within its reader's limit.
+// A message of 300,000 levels that a program has built, which would take 190 MB of stack: refused with any limit, like each
+// message of more levels than CAPNP_CANONICAL_MAX_NESTING. The frame is read within its reader's limit.
 void test_deepest() {
     const std::size_t levels = 300000, most = CAPNP_CANONICAL_MAX_NESTING;
     // each word is a pointer to a struct that has the next word as its pointer, and the last one to an empty struct; the

@@ -142,7 +142,7 @@ cargo_compiling() {
     for compiler in cc 'env cc' ''; do
         CC=$compiler CARGO_TARGET_DIR=$work/compiled env -u CAPNP_CANONICAL_LIB_DIR cargo build --offline --locked && echo "ok: CC='$compiler'"
     done
-    # the C is optimised whatever the flags are, and its stack is protected by compilers that can do that
+    # the C is optimised with any flags, and its stack is protected by compilers that can do that
     printf '#ifndef __OPTIMIZE__\n#error "not optimised"\n#endif\nint nothing;\n' >native/capnp_canonical.c
     flag=-fstack-clash-protection
     cat >compiler <<'END'

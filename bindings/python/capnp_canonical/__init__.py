@@ -10,10 +10,11 @@ Raw words aren't a frame. Read back what `copy_flat` gives with the calls whose 
 takes a frame may SUCCEED on raw words, and then reads ANOTHER value, because the pointer to a root without pointers is
 also the table of a frame.
 
-Bytes are any object with a buffer: bytes, bytearray, memoryview, mmap, a NumPy array. They are read in place, and
-nobody may change them during the call. A call that is refused raises `Error`. No call keeps anything, so several
-threads may call at once, and other Python threads run during a call. A level of nesting takes up to 768 bytes of stack,
-and 11,056 if the compiler doesn't optimise the C.
+Bytes are any object with a buffer: bytes, bytearray, memoryview, mmap, a NumPy array. An object of type `bytes` and
+views of it are read in place; others are copied first, because something could change them during the call. No thread
+may use the buffer that a call writes to until the call returns. A call that is refused raises `Error`. No call keeps
+anything, so several threads may call at once, and other Python threads run during a call. A level of nesting takes up to
+768 bytes of stack, and 11,056 if the compiler doesn't optimise the C. A nesting limit above `MAX_NESTING` counts as that.
 
     python3 -m capnp_canonical --help
 

@@ -97,7 +97,7 @@ class Lent:
         self.size: int = self._view.len
 
     def copy(self, size: int, at: int = 0) -> bytes:
-        """The `size` bytes from byte `at` on, as they are now."""
+        """The `size` bytes from byte `at` on: what they are now."""
         if size > _MOST_AT_ONCE:
             return (ctypes.c_char * size).from_address(self.address + at).raw
         return ctypes.string_at(self.address + at, size)
