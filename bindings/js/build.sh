@@ -9,7 +9,7 @@ header=$here/../c/capnp_canonical.h
 work=$(mktemp -d)
 trap 'rm -rf "$work"' EXIT
 # a stack of 768 KB: MAX_NESTING levels of library.js take at most three fifths of it (tests/js/bench/stack.mjs). --stack-first puts
-# it below everything else, so a call that takes more ends in a trap at address 0, and writes over nothing
+# it below everything else, so a call that takes more ends in a trap, and writes over nothing
 clang --target=wasm32 -std=c11 -O2 -Wall -Wextra -Wno-unused-function -nostdlib -ffreestanding -fno-builtin-malloc -fvisibility=hidden \
     -mbulk-memory -msign-ext -mmutable-globals -I"$here/native/include" -I"$from" -I"$here/../c" -c -o "$work/wasm.o" "$here/native/wasm.c"
 exports=$(sed -n 's/^[a-z].*[ *]\(capnp_canonical_[a-z_]*\)(.*);$/--export=\1/p' "$header" | sort -u)
