@@ -1,7 +1,7 @@
 #!/usr/bin/env python3
 """Checks that bindings/c/capnp_canonical.h agrees with crates/capnp_canonical: the numbers, names and texts of answers and
-reasons, the functions and the version; and that the other bindings and the pages have the header's numbers, texts and
-version.
+reasons, the functions and the version; that each function has a symbol version; and that the other bindings and the pages
+have the header's numbers, texts and version.
 
     header.py
 
@@ -137,6 +137,11 @@ def facts_of_bindings():
         yield f'the text of reason {number} in Rust', (number, faults[name]) in of_reasons
 
 
+def declared_in_library():
+    """The functions that the header declares without a body."""
+    return re.findall(r'^[a-z].* (capnp_canonical_\w+)\([^{]*\);$', HEADER, re.M)
+
+
 def main():
     answers = numbers('answer_number', 'frame_error_number', 'error_number') + [('DONE', 0)]
     reasons = [(f'REASON_{name}', number) for name, number in numbers('reason_number')] + [('REASON_NONE', 0)]
@@ -154,6 +159,8 @@ def main():
     facts += [(f'{name} has the version', re.findall(pattern, file(name), re.M) == [version[1]]) for name, pattern in VERSIONS.items()]
     levels = re.findall(rf'{PREFIX}MAX_NESTING (\d+)$', HEADER, re.M)
     facts += [(f'{name} has the largest nesting limit', re.findall(pattern, file(name), re.M) == levels) for name, pattern in LEVELS.items()]
+    listed = re.findall(r'^[\d.]+ (\w+)$', file('tools/exports.txt'), re.M)
+    facts += [(f'{name} is declared, and has a version in tools/exports.txt', name in declared and listed.count(name) == 1) for name in sorted({*declared_in_library(), *listed})]
     # the package for cargo has copies of these files in its folder, because the gate takes no links
     facts += [(f'bindings/rust/{name} is {of}', file(f'bindings/rust/{name}') == file(of)) for name, of in PACKAGED.items()]
     failed = [what for what, holds in facts if not holds]
