@@ -1,11 +1,11 @@
 -- What a copy has requested; and that the test answers if the message can be read.
-use Rattle.std.proofs.Common.{◌≡◌, ◌⊎◌, inl, inr, refl, arith, ℕ, zero, suc, ◌+◌, ◌*◌, ◌<◌, ◌≤◌, [], ◌∷◌, map, sum, Bool, Result, Ok, Err, IsOk, IfErr, length}
+use Rattle.std.proofs.Common.{◌≡◌, ◌⊎◌, inl, inr, refl, arith, ℕ, ◌+◌, ◌*◌, ◌<◌, ◌≤◌, [], ◌∷◌, map, sum, Bool, Result, Ok, Err, IsOk, IfErr, length}
 use Rattle.std.proofs.lemmas.Grind.{common_steps}
 use Rattle.capnp_words.specs.declared.error.ErrorKind.{ErrorKind}
 use Rattle.capnp_format.specs.Segments.{Segments}
 use Rattle.capnp_framing.specs.Reading.{total}
 use Rattle.capnp_arena.specs.declared.arena.reader_arena_impl.ReaderOptions.{ReaderOptions}
-use Rattle.capnp_messages.specs.Tries.{room_of_try}
+use Rattle.capnp_messages.specs.Tries.{IsRoomFor}
 use Rattle.capnp_messages.specs.Messages.{IsReadable, RefusesCheck}
 use Rattle.capnp_messages.proofs.AnsweredLemmas.{check_alone, check_refused}
 
@@ -19,9 +19,7 @@ total_is : (S : Segments) → total S ≡ sum (map length S)
 total_is [] = refl
 total_is (ws ∷ S) = grind (arith, common_steps, total_is S)
 
--- what the tries request: the words of the source and one more, or less than twice the words that
--- are made
-pub asked_no_more : (S : Segments) {words : ℕ} (try : ℕ) → ((j : ℕ) → j < try → room_of_try (total S) j < words) →
-    (room_of_try (total S) try ≤ sum (map length S) + 1) ⊎ (room_of_try (total S) try < 2 * words)
-asked_no_more S zero little = inl (omega (arith, total_is S))
-asked_no_more S (suc k) little = inr (omega (arith, little k (omega arith)))
+-- what is requested: the words of the source and one more, or as many words as are made
+pub asked_no_more : (S : Segments) {words : ℕ} (room : ℕ) → IsRoomFor (total S) words room → (room ≤ sum (map length S) + 1) ⊎ (room < 2 * words)
+asked_no_more S room (inl first) = inl (omega (arith, first, total_is S))
+asked_no_more S room (inr (more, exact)) = inr (omega (arith, more, exact))

@@ -18,7 +18,7 @@ use Rattle.capnp_objects.specs.Wanted.{canonical}
 use Rattle.capnp_objects.proofs.OneName.{reads_if}
 use Rattle.capnp_messages.specs.Copies.{LacksMemoryOr, RefusesCopy}
 use Rattle.capnp_messages.specs.Parts.{PathEnd, to_pointer}
-use Rattle.capnp_messages.specs.Tries.{IsFirstTry, room_of_try, words_read}
+use Rattle.capnp_messages.specs.Tries.{IsFirstTry, IsRoomFor, words_read}
 use Rattle.capnp_messages.proofs.EndRefusals.{meant_long, meant_read, never_refused}
 use Rattle.callers.specs.Truly.{read_at}
 use Rattle.callers.proofs.Copied.{asked_no_more}
@@ -62,11 +62,12 @@ asked_at {r} {S} {n} {s} {p} m after offers refusals made same copied tries =
     let (u, d, means, free, paid, words) = copied_at {m = m} {after = after} same copied in
     let long = ap (λ (M : Segments). length (segment M 0)) words in
     let size : words_read r ≡ total S = ap words_read same in (
-      room_of_try (total S) tries.try,
-      rw size at tries.asked,
+      tries.room,
+      tries.asked,
       λ t c other.
           let one = ap (λ v. word_count (trim v)) (one_value S n n s p u t d c means other).0 in
-          asked_no_more S tries.try (λ j less. (let before = rw size at (tries.before j less) in omega (arith, before, long, meant_long (to_pointer (read_at S n s p)) u d means, one))),
+          let room = subst (λ i. IsRoomFor (total S) i tries.room) (long ∙ meant_long (to_pointer (read_at S n s p)) u d means ∙ ap (λ i. 1 + i) one) (rw size at tries.least) in
+          asked_no_more S tries.room room,
     )
 
 -- Whether exactly the requested words are offered.
@@ -80,8 +81,7 @@ offered least room asked none is = grind arith
 pub tries_as_asked : {size refusals : ℕ} {made : View} (least : ℕ) → least ≡ 0 → refusals ≡ 0 →
     IsFirstTry size (λ asked words. words == max least asked) refusals made → IsFirstTry size as_asked 0 made
 tries_as_asked {size} {refusals} {made} least none yet tries =
-    let asks : ℕ = room_of_try size tries.try in
-    record { try = tries.try; asked = offered least (made.room 0) asks none tries.asked; before = tries.before; granted = tries.granted ∙ yet }
+    record { room = tries.room; asked = offered least (made.room 0) tries.room none tries.asked; least = tries.least; granted = tries.granted ∙ yet }
 
 just_asked : (k room : ℕ) → IsTrue (as_asked k room) → room ≡ k
 just_asked k room is = grind arith

@@ -223,7 +223,7 @@ refused_spread e left m t more room least (inr large) other reads =
     inl (words_exceed room e (unused left) t (ap (λ x. x.0) (end_read_is canonical e (unused left) m t as_read)) (omega (arith, large t c means, least, words_long canonical e (unused left) m t as_read)))
 
 -- an error that something is too large is for lack of room
-large_wants : (k : ErrorKind) → is_message_too_large k ≡ true → is_allocation_name k ≡ true
+pub large_wants : (k : ErrorKind) → is_message_too_large k ≡ true → is_allocation_name k ≡ true
 large_wants (MessageTooLarge w) large = refl
 large_wants _ large = absurd (cc)
 

@@ -21,3 +21,5 @@ pub mod OutgrownLemmas
 pub mod EndValueLemmas
 pub mod EndRefusals
 pub mod OutgrownEnds
+pub mod MadeSteps
+pub mod MadeLemmas

@@ -17,3 +17,4 @@ pub mod EndValues
 pub mod PathEnds
 pub mod MessageParts
 pub mod Fitting
+pub mod MadeWords

@@ -30,20 +30,20 @@ fn expected_requests(alloc: Global, rooms: &[u32]) -> Result<Vec<Request>, Alloc
     Ok(requests)
 }
 
-/// The first try requests a segment with one word more than the input has, and each further try a
-/// segment twice as large as that of the try before. No other segment is requested; so `Check`,
-/// `Size` and `Frame` request none. If the message can't be read, there is only the first try.
+/// The first try requests a segment with one word more than the input has, and a second one, if that
+/// is too small, a segment with as many words as the copy has. No other segment is requested; so
+/// `Check`, `Size` and `Frame` request none. If the message can't be read, there is only the first
+/// try, also if this was too small before reading came to the fault.
 #[test]
-fn each_try_doubles_the_room(rt: HostRuntime) -> Result<(), AllocError> {
+fn the_second_try_fits(rt: HostRuntime) -> Result<(), AllocError> {
     let options = ReaderOptions::default();
+    let scarce = ReaderOptions {
+        traversal_limit_in_words: Some(22),
+        ..options
+    };
     for (args, message, end, rooms) in [
         (Args::Canon(options), NULL, Outcome::Done, &[2u32][..]),
-        (
-            Args::Canon(options),
-            DOUBLED,
-            Outcome::Done,
-            &[9, 18, 36][..],
-        ),
+        (Args::Canon(options), DOUBLED, Outcome::Done, &[9, 23][..]),
         (Args::Check(options), DOUBLED, Outcome::Done, &[][..]),
         (Args::Size(options), DOUBLED, Outcome::Done, &[][..]),
         (Args::Frame, DOUBLED, Outcome::Done, &[][..]),
@@ -51,8 +51,9 @@ fn each_try_doubles_the_room(rt: HostRuntime) -> Result<(), AllocError> {
             Args::FramedCanon(options),
             DOUBLED,
             Outcome::Done,
-            &[9, 18, 36][..],
+            &[9, 23][..],
         ),
+        (Args::Canon(scarce), DOUBLED, Outcome::Refused, &[9][..]),
         (Args::Canon(options), BEYOND, Outcome::Refused, &[2][..]),
         (
             Args::FramedCanon(options),

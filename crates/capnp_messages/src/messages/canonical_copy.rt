@@ -1,11 +1,12 @@
-//! Makes a copy in canonical form (encoding specification, "Canonicalization"), in one segment, and
-//! finds the segment's size by tries. The first try requests one word more than the source message
-//! has; each further try requests twice as many words as the try before; no try requests more than
-//! 536,870,911 words. Below this limit, all tries together take no longer than twice the last try.
-//! During a try the message has no allocator, so the copy can't get a second segment.
-ghost use Rattle.std.specs.Prelude.{◌≡◌, ◌⊎◌, ◌<◌, ◌≤◌, ◌+◌, ◌*◌, ◌∷◌, [], false, min, Ok, Err, IsTrue, OnOk, IfOk, OnErr, IfErr};
+//! Makes a copy in canonical form (encoding specification, "Canonicalization"), in one segment. The
+//! first try requests one word more than the source message has. If that is too small, counts the
+//! words of the copy, and requests exactly as many for a second and last try. No try requests more
+//! than 536,870,911 words. During a try the message has no allocator, so the copy can't get a second
+//! segment.
+ghost use Rattle.std.specs.Prelude.{◌≡◌, ◌⊎◌, ◌<◌, ◌≤◌, ◌+◌, ◌*◌, ◌∷◌, [], false, length, min, Ok, Err, IsTrue, OnOk, IfOk, OnErr, IfErr};
 ghost use Rattle.std.specs.Bool.{OnFalse, OnTrue};
 ghost use Rattle.capnp_format.specs.Canonical.{encoding};
+ghost use Rattle.capnp_format.specs.Segments.{segment};
 ghost use Rattle.capnp_format.specs.Tree.{Tree};
 ghost use Rattle.capnp_words.specs.Meter.{Meter, raised, unused};
 ghost use Rattle.capnp_words.specs.declared.error.ErrorKind.TheVariants.{AllocationFailed};
@@ -18,12 +19,14 @@ ghost use Rattle.capnp_making.specs.Makes.{call_at};
 ghost use Rattle.capnp_messages.specs.Canonicalize.{end_value};
 ghost use Rattle.capnp_messages.specs.Copies.{HoldsCanonicalWords, LacksMemoryOr, NeedsMoreRoom, RefusesCopy, is_message_too_large};
 ghost use Rattle.capnp_messages.specs.EndValues.{EndReads, IsEndThere, end_original, end_place};
+ghost use Rattle.capnp_messages.specs.MadeWords.{IsMeasured};
 ghost use Rattle.capnp_messages.specs.Parts.{to_pointer};
 ghost use Rattle.capnp_messages.specs.PathEnds.{end_read};
 ghost use Rattle.capnp_words.specs.Names.{is_allocation_name};
 ghost use Rattle.capnp_messages.specs.CanonicalErrors.{IsLeftOf};
-ghost use Rattle.capnp_messages.specs.Tries.{IsFirstTry, IsSegmentRoom, room_of_try, words_read};
+ghost use Rattle.capnp_messages.specs.Tries.{IsFirstTry, IsSegmentRoom, first_room, words_read};
 
+use super::copy_size::copy_size;
 use super::path::Reached;
 use capnp_arena::arena::{
     Allocator, BuilderArena, BuilderArenaImpl, MAX_SEGMENT_WORDS, ReaderArena,
@@ -240,7 +243,7 @@ fn is_too_large(kind: ErrorKind) -> bool
 /// The number of words that the first try requests for a source of `words` words: one more than
 /// these, but at most 536,870,911.
 fn first_room(words: usize) -> u32
-    ensures first { result ≡ room_of_try words 0 }
+    ensures first { result ≡ first_room words }
     ensures can_be_asked { IsSegmentRoom result }
 {
     if words < MAX_SEGMENT_WORDS as usize {
@@ -248,15 +251,6 @@ fn first_room(words: usize) -> u32
     } else {
         MAX_SEGMENT_WORDS
     }
-}
-
-/// The number of words that the next try requests after a try that requested `room` words: twice as
-/// many, but at most 536,870,911.
-fn next_room(room: u32) -> u32
-    requires { room ≤ max_segment_words }
-    ensures { result ≡ min (2 * room) max_segment_words }
-{
-    (2 * room).min(MAX_SEGMENT_WORDS)
 }
 
 /// The number of words in the arena of `from`; 0 if `from` has no arena.
@@ -319,6 +313,64 @@ pub(super) fn canonicalize_reached_into<A: Allocator, B: ReaderArena>(
     }
 }
 
+/// The number `words`, but at most 536,870,911.
+fn at_most_a_segment(words: u32) -> u32
+    ensures { result ≡ min words max_segment_words }
+{
+    words.min(MAX_SEGMENT_WORDS)
+}
+
+/// The number of words to request for the copy of what `from` leads to: as many as the copy has, but
+/// at most 536,870,911. Reads the value once, which may cost `left` words, and takes no memory.
+/// Refuses with the first refusal met while reading.
+fn measured_room<B: ReaderArena>(
+    from: Reached<'_, B>,
+    left: Option<usize>,
+) -> Result<u32, ErrorKind>
+    ensures measured { IfOk result (IsMeasured (end_read B.ReaderArena from.entry) left) }
+    ensures can_be_asked { IfOk result IsSegmentRoom }
+    ensures refused { IfErr result (λ k.
+        (end_value canonical (end_read B.ReaderArena from.entry) (unused left)).0 ≡ Err k) }
+{
+    match copy_size(from, left) {
+        Ok(words) => Ok(at_most_a_segment(words)),
+        Err(kind) => {
+            if is_too_large(kind) {
+                Ok(MAX_SEGMENT_WORDS)
+            } else {
+                Err(kind)
+            }
+        }
+    }
+}
+
+/// Copies what `from` leads to like `canonicalize_pointer`, but counts the words of the copy first,
+/// and so needs one try.
+fn canonicalize_measured<A: Allocator, B: ReaderArena>(
+    alloc: Global,
+    allocator: A,
+    from: Reached<'_, B>,
+    lim: &mut ReadLimiter,
+) -> Result<BuilderArenaImpl<A>, (ErrorKind, A)>
+    ensures copied { IfOk result (λ made. (t : Tree)
+        × EndReads (end_read B.ReaderArena from.entry) lim.old lim.new t
+        × HoldsCanonicalWords (⟦<BuilderArenaImpl<A> as BuilderArena>⟧.view made) t) }
+    ensures asked { IfOk result (λ made. IsTrue (A.offers allocator (min
+        (length (segment (⟦<BuilderArenaImpl<A> as BuilderArena>⟧.view made).words 0))
+        max_segment_words) ((⟦<BuilderArenaImpl<A> as BuilderArena>⟧.view made).room 0))) }
+    ensures granted { IfOk result (λ made.
+        (⟦<BuilderArenaImpl<A> as BuilderArena>⟧.view made).refusals ≡ A.refusals allocator) }
+    ensures refused { IfErr result
+        (λ e. LacksMemoryOr (A.refusals allocator) (A.refusals e.1) e.0
+        (RefusesCopy (Ok (end_read B.ReaderArena from.entry), lim.old) max_segment_words e.0)) }
+    ensures unread { OnErr result (lim.new ≡ lim.old) }
+{
+    match measured_room(from, lim.left()) {
+        Ok(room) => canonicalize_to_message(alloc, allocator, from, lim, room),
+        Err(kind) => Err((kind, allocator)),
+    }
+}
+
 /// Copies what `from` leads to like `canonicalize_pointer`.
 pub(super) fn canonicalize_reached<A: Allocator, B: ReaderArena>(
     alloc: Global,
@@ -338,18 +390,14 @@ pub(super) fn canonicalize_reached<A: Allocator, B: ReaderArena>(
         (RefusesCopy (Ok (end_read B.ReaderArena from.entry), lim.old) max_segment_words e.0)) }
     ensures unread { OnErr result (lim.new ≡ lim.old) }
 {
-    let mut room = first_room(arena_words_of_reached(&from));
-    let mut unused = allocator;
-    loop {
-        match canonicalize_to_message(alloc, unused, from, lim, room) {
-            Ok(made) => return Ok(made),
-            Err((kind, returned)) => {
-                if room == MAX_SEGMENT_WORDS || !is_too_large(kind) {
-                    return Err((kind, returned));
-                }
-                unused = returned;
-                room = next_room(room);
+    let room = first_room(arena_words_of_reached(&from));
+    match canonicalize_to_message(alloc, allocator, from, lim, room) {
+        Ok(made) => Ok(made),
+        Err((kind, returned)) => {
+            if room == MAX_SEGMENT_WORDS || !is_too_large(kind) {
+                return Err((kind, returned));
             }
+            canonicalize_measured(alloc, returned, from, lim)
         }
     }
 }
@@ -358,10 +406,10 @@ pub(super) fn canonicalize_reached<A: Allocator, B: ReaderArena>(
 /// "Canonicalization"): a message of one segment, whose memory `allocator` grants. If refused,
 /// returns the allocator, and leaves `lim` unchanged.
 ///
-/// Finds the size of the segment by tries. The first try requests one word more than the source
-/// message has, and each further try twice as many words as the try before, but none more than
-/// 536,870,911 words. However many tries there are, `lim` is charged for one copy, and counts each
-/// non-null pointer once.
+/// Requests one word more than the source message has for the segment. If the copy doesn't fit,
+/// counts its words, and makes it once more in a segment of exactly as many; so there are at most two
+/// requests, for at most 536,870,911 words each. `lim` is charged for one copy in either case, and
+/// counts each non-null pointer once.
 ///
 /// Refusals: the first one met while reading `from`; `MessageTooLarge(536870911)` if the copy has
 /// more than 536,870,911 words; `AllocationFailed`, which the allocator counts, if memory ran out.

@@ -1,4 +1,4 @@
-use Rattle.std.proofs.Common.{ℕ, ap, arith, length}
+use Rattle.std.proofs.Common.{ℕ, ◌+◌, ap, ◌∙◌, subst, arith, length}
 use Rattle.capnp_format.specs.Bytes.{message}
 use Rattle.capnp_format.specs.Canonical.{trim, word_count}
 use Rattle.capnp_format.specs.Segments.{Segments, segment}
@@ -7,7 +7,7 @@ use Rattle.capnp_objects.specs.Source.{levels}
 use Rattle.capnp_messages.proofs.AnsweredLemmas.{copy_lacks_memory}
 use Rattle.capnp_messages.proofs.CanonicalizeLemmas.{value_if}
 use Rattle.capnp_framing.specs.Reading.{total}
-use Rattle.capnp_messages.specs.Tries.{room_of_try}
+use Rattle.capnp_messages.specs.Tries.{IsRoomFor}
 use Rattle.callers.proofs.Copied.{asked_no_more}
 use Rattle.callers.proofs.Evenness.{canonical_long}
 use Rattle.callers.proofs.theorem.make_canonical_copy.Goals as goal
@@ -28,11 +28,11 @@ returns-in-Ok-clause-asked g c =
     let other = value_if {limits = c.args.limits} is in
     let long = ap (λ (M : Segments). length (segment M 0)) made in
     let n : ℕ = levels c.args.limits.nesting_limit in (
-      room_of_try (total S) first.try,
+      first.room,
       first.asked,
       λ t value.
           let one = ap (λ v. word_count (trim v)) (one_value S n n 0 0 u t other.cost value.cost other.means value.means).0 in
-          asked_no_more S first.try (λ j less. omega (arith, first.before j less, long, canonical_long S n 0 0 u other.cost other.means, one)),
+          asked_no_more S first.room (subst (λ i. IsRoomFor (total S) i first.room) (long ∙ canonical_long S n 0 0 u other.cost other.means ∙ ap (λ i. 1 + i) one) first.least),
     )
 
 pub returns-clause-exactly_where : goal.returns-clause-exactly_where
