@@ -11,11 +11,14 @@ use Rattle.capnp_objects.specs.declared.source.Source.TheVariants.{Default}
 use Rattle.capnp_readers.specs.Readers.{read_by}
 use Rattle.capnp_readers.specs.Values.{HasValue, list_numbers, text_bytes}
 use Rattle.capnp_readers.specs.declared.readers.PointerReader.{PointerReader}
-use Rattle.typed_reading.specs.Values.{IsDefault, data_or, text_or}
+use Rattle.typed_reading.specs.Values.{IsDefault, data_or, default_place, text_or}
 
 -- a pointer that a test says isn't null
 pub not_null : {b : Bool} {t : Tree} → (IsTrue b ↔ (t ≡ Null)) → b ≡ false → t ≢ Null
 not_null is set e = false≢true (sym set ∙ is.1 e)
+
+pub not_zero : {b : Bool} {n : ℕ} → (IsTrue b ↔ (n ≡ 0)) → b ≡ false → n ≢ 0
+not_zero is set e = false≢true (sym set ∙ is.1 e)
 
 -- the bytes of a text that is null, and of one that isn't
 pub text_of_default : (default : List ℕ) (t : Tree) → t ≡ Null → default ≡ text_or default t
@@ -56,3 +59,6 @@ module _ {A : Type 0} (g : Ghosts A) where
     value = λ d is. rw (source, place.0, place.1, nesting) is.means;
     free = λ m k. rw source tt;
   }
+
+  pub at_default : (field : PointerReader A g) (bytes : Bor (List ℕ)) → field.source ≡ Default bytes → (field.place.segment ≡ default_segment) × (field.place.at ≡ 0) → field.nesting_limit ≡ pos (2 ^ 31 - 1) → read_by g field ≡ default_place bytes.now
+  at_default field bytes source place nesting = rw (source, place.0, place.1, nesting) refl

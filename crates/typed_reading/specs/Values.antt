@@ -3,6 +3,7 @@ use Rattle.std.specs.Prelude.{ℕ, List, ◌-◌, ◌^◌, ◌≤◌, false, len
 use Rattle.capnp_format.specs.Tree.{Tree, Null}
 use Rattle.capnp_format.specs.Fields.{field_in}
 use Rattle.capnp_format.specs.Path.{Child, next}
+use Rattle.capnp_objects.specs.Reading.{Reading}
 use Rattle.capnp_objects.specs.Source.{default_segment, default_segments}
 use Rattle.capnp_readers.specs.Values.{HasValue, list_numbers, struct_data, struct_element, text_bytes}
 
@@ -28,17 +29,20 @@ abbrev pub data_or : List ℕ → Tree → List ℕ
 data_or default Null = default
 data_or default t = list_numbers t
 
+-- The place of a default's pointer: the first word of the bytes, which are one segment.
+abbrev pub default_place : List ℕ → Reading
+default_place bytes =
+    record {
+      segments = default_segments bytes;
+      charging = false;
+      of_default = true;
+      levels = 2 ^ 31 - 1;
+      segment = default_segment;
+      at = 0;
+    }
+
 -- The bytes, which are one segment with a pointer in its first word, mean d: the default value of a
 -- field that is a struct or a list.
 pub record IsDefault (bytes : List ℕ) (d : Tree) : Type 0 where
   pub word : 8 ≤ length bytes
-  pub means : HasValue
-      (record {
-        segments = default_segments bytes;
-        charging = false;
-        of_default = true;
-        levels = 2 ^ 31 - 1;
-        segment = default_segment;
-        at = 0;
-      })
-      d
+  pub means : HasValue (default_place bytes) d

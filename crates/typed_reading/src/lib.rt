@@ -3,5 +3,6 @@
 #![tactic(auto)]
 
 pub mod error;
+pub mod laws;
 pub mod list;
 pub mod value;

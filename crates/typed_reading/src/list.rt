@@ -1,15 +1,19 @@
 //! Lists of structs, of numbers and of texts that are read.
 ghost use Rattle.std.specs.Prelude.{◌≡◌, ◌≢◌, ◌<◌, ◌≤◌, ◌-◌, ◌%◌, ◌/◌, ◌^◌, ℕ, List, length, IfOk, IsOk, OnOk, slice_index, ⊤};
+ghost use Rattle.std.specs.Result.{result_err};
 ghost use Rattle.capnp_format.specs.Numbers.{element_bits};
 ghost use Rattle.capnp_format.specs.Segments.{AreWords};
 ghost use Rattle.capnp_format.specs.Tree.{Tree, Null, Flat};
 ghost use Rattle.capnp_words.specs.Meter.{Affords};
 ghost use Rattle.capnp_words.specs.Sizes.{size_number};
 ghost use Rattle.capnp_words.specs.declared.wire_pointer.ElementSize.TheVariants.{InlineComposite, Pointer};
+ghost use Rattle.capnp_objects.specs.Expected.{data_expected, list_expected, text_expected};
 ghost use Rattle.capnp_objects.specs.Reading.{source_start};
 ghost use Rattle.capnp_objects.specs.Spending.{Paid};
 ghost use Rattle.capnp_readers.specs.Sections.{data_bits};
 ghost use Rattle.capnp_readers.specs.Values.{ShowsListOf, ShowsNumber, ShowsStructOf, StaysIn, FitsElements, FitsSize, HasStructs, IsBytes, IsText, child_cost, element_number, list_length, list_numbers, pointer_cost, struct_element, text_bytes};
+ghost use Rattle.typed_reading.specs.Outcomes.{default_outcome, reading_outcome};
+ghost use Rattle.typed_reading.specs.Sections.{element_pointer, pointer_field};
 ghost use Rattle.typed_reading.specs.Values.{IsDefault, child, pointer_element};
 
 use crate::value::is_null;
@@ -155,6 +159,9 @@ impl<'a, A: ReaderArena> TextsReader<'a, A> {
             (t : Tree) (shows : ShowsListOf A.ReaderArena self.now.reader t) → HasStructs t
             → pointer_element index t ≢ Null → OnOk result (Paid start.charging lim.old lim.new
             (pointer_cost A.ReaderArena shows index) 1) }
+        ensures exactly { reading_outcome text_expected
+            (element_pointer A.ReaderArena self.now.reader index) lim.old
+            ≡ (result_err result, lim.new) }
     {
         self.reader.get_pointer_element(index).get_text(lim, None)
     }
@@ -207,6 +214,9 @@ impl<'a, A: ReaderArena> DataListReader<'a, A> {
             (t : Tree) (shows : ShowsListOf A.ReaderArena self.now.reader t) → HasStructs t
             → pointer_element index t ≢ Null → OnOk result (Paid start.charging lim.old lim.new
             (pointer_cost A.ReaderArena shows index) 1) }
+        ensures exactly { reading_outcome data_expected
+            (element_pointer A.ReaderArena self.now.reader index) lim.old
+            ≡ (result_err result, lim.new) }
     {
         self.reader.get_pointer_element(index).get_data(lim, None)
     }
@@ -273,7 +283,14 @@ fn get_list<'a, A: ReaderArena>(
         (child_cost A.ReaderArena shows index - inner.cost) 1) }
     ensures stays { IfOk result (λ list. StaysIn (source_start A.ReaderArena reader.now.source)
         (source_start A.ReaderArena list.source)) }
+    ensures left { let start = source_start A.ReaderArena reader.now.source in
+        (t : Tree) (shows : ShowsStructOf A.ReaderArena reader.now t)
+        → Affords start.charging lim.old (child_cost A.ReaderArena shows index)
+        → IfOk result (λ list. (inner : ShowsListOf A.ReaderArena list (child index t))
+        → Affords (source_start A.ReaderArena list.source).charging lim.new inner.cost) }
     ensures fits { IfOk result (FitsElements A.ReaderArena expected) }
+    ensures exactly { reading_outcome (list_expected expected)
+        (pointer_field A.ReaderArena reader.now index) lim.old ≡ (result_err result, lim.new) }
 {
     reader
         .get_pointer_field(index)
@@ -302,6 +319,13 @@ pub fn get_structs<'a, A: ReaderArena>(
         (child_cost A.ReaderArena shows index - inner.cost) 1) }
     ensures stays { IfOk result (λ list. StaysIn (source_start A.ReaderArena reader.now.source)
         (source_start A.ReaderArena list.reader.source)) }
+    ensures left { let start = source_start A.ReaderArena reader.now.source in
+        (t : Tree) (shows : ShowsStructOf A.ReaderArena reader.now t)
+        → Affords start.charging lim.old (child_cost A.ReaderArena shows index)
+        → IfOk result (λ list. (inner : ShowsListOf A.ReaderArena list.reader (child index t))
+        → Affords (source_start A.ReaderArena list.reader.source).charging lim.new inner.cost) }
+    ensures exactly { reading_outcome (list_expected InlineComposite)
+        (pointer_field A.ReaderArena reader.now index) lim.old ≡ (result_err result, lim.new) }
 {
     match get_list(reader, index, ElementSize::InlineComposite, lim) {
         Ok(reader) => Ok(StructsReader { reader }),
@@ -331,6 +355,13 @@ pub fn get_numbers<'a, A: ReaderArena, T: PrimitiveElement>(
         (child_cost A.ReaderArena shows index - inner.cost) 1) }
     ensures stays { IfOk result (λ list. StaysIn (source_start A.ReaderArena reader.now.source)
         (source_start A.ReaderArena list.reader.source)) }
+    ensures left { let start = source_start A.ReaderArena reader.now.source in
+        (t : Tree) (shows : ShowsStructOf A.ReaderArena reader.now t)
+        → Affords start.charging lim.old (child_cost A.ReaderArena shows index)
+        → IfOk result (λ list. (inner : ShowsListOf A.ReaderArena list.reader (child index t))
+        → Affords (source_start A.ReaderArena list.reader.source).charging lim.new inner.cost) }
+    ensures exactly { reading_outcome (list_expected T.size)
+        (pointer_field A.ReaderArena reader.now index) lim.old ≡ (result_err result, lim.new) }
 {
     match get_list(reader, index, T::element_size(), lim) {
         Ok(reader) => Ok(NumbersReader {
@@ -363,6 +394,13 @@ pub fn get_texts<'a, A: ReaderArena>(
         (child_cost A.ReaderArena shows index - inner.cost) 1) }
     ensures stays { IfOk result (λ list. StaysIn (source_start A.ReaderArena reader.now.source)
         (source_start A.ReaderArena list.reader.source)) }
+    ensures left { let start = source_start A.ReaderArena reader.now.source in
+        (t : Tree) (shows : ShowsStructOf A.ReaderArena reader.now t)
+        → Affords start.charging lim.old (child_cost A.ReaderArena shows index)
+        → IfOk result (λ list. (inner : ShowsListOf A.ReaderArena list.reader (child index t))
+        → Affords (source_start A.ReaderArena list.reader.source).charging lim.new inner.cost) }
+    ensures exactly { reading_outcome (list_expected Pointer)
+        (pointer_field A.ReaderArena reader.now index) lim.old ≡ (result_err result, lim.new) }
 {
     match get_list(reader, index, ElementSize::Pointer, lim) {
         Ok(reader) => Ok(TextsReader { reader }),
@@ -392,6 +430,13 @@ pub fn get_data_list<'a, A: ReaderArena>(
         (child_cost A.ReaderArena shows index - inner.cost) 1) }
     ensures stays { IfOk result (λ list. StaysIn (source_start A.ReaderArena reader.now.source)
         (source_start A.ReaderArena list.reader.source)) }
+    ensures left { let start = source_start A.ReaderArena reader.now.source in
+        (t : Tree) (shows : ShowsStructOf A.ReaderArena reader.now t)
+        → Affords start.charging lim.old (child_cost A.ReaderArena shows index)
+        → IfOk result (λ list. (inner : ShowsListOf A.ReaderArena list.reader (child index t))
+        → Affords (source_start A.ReaderArena list.reader.source).charging lim.new inner.cost) }
+    ensures exactly { reading_outcome (list_expected Pointer)
+        (pointer_field A.ReaderArena reader.now index) lim.old ≡ (result_err result, lim.new) }
 {
     match get_list(reader, index, ElementSize::Pointer, lim) {
         Ok(reader) => Ok(DataListReader { reader }),
@@ -421,6 +466,13 @@ pub fn get_pointers<'a, A: ReaderArena>(
         (child_cost A.ReaderArena shows index - inner.cost) 1) }
     ensures stays { IfOk result (λ list. StaysIn (source_start A.ReaderArena reader.now.source)
         (source_start A.ReaderArena list.reader.source)) }
+    ensures left { let start = source_start A.ReaderArena reader.now.source in
+        (t : Tree) (shows : ShowsStructOf A.ReaderArena reader.now t)
+        → Affords start.charging lim.old (child_cost A.ReaderArena shows index)
+        → IfOk result (λ list. (inner : ShowsListOf A.ReaderArena list.reader (child index t))
+        → Affords (source_start A.ReaderArena list.reader.source).charging lim.new inner.cost) }
+    ensures exactly { reading_outcome (list_expected Pointer)
+        (pointer_field A.ReaderArena reader.now index) lim.old ≡ (result_err result, lim.new) }
 {
     match get_list(reader, index, ElementSize::Pointer, lim) {
         Ok(reader) => Ok(PointersReader { reader }),
@@ -449,6 +501,8 @@ fn get_list_or<'a, A: ReaderArena>(
     ensures default_answered { (t d : Tree) → ShowsStructOf A.ReaderArena reader.now t
         → child index t ≡ Null → IsDefault default.now d → FitsSize expected d → IsOk result }
     ensures fits { IfOk result (FitsElements A.ReaderArena expected) }
+    ensures exactly { default_outcome (list_expected expected) default.now
+        (pointer_field A.ReaderArena reader.now index) lim.old ≡ (result_err result, lim.new) }
 {
     if is_null(reader, index) {
         return match PointerReader::from_default(default) {
@@ -481,6 +535,8 @@ pub fn get_structs_or<'a, A: ReaderArena>(
     ensures default_answered { (t d : Tree) → ShowsStructOf A.ReaderArena reader.now t
         → child index t ≡ Null → IsDefault default.now d → FitsSize InlineComposite d
         → IsOk result }
+    ensures exactly { default_outcome (list_expected InlineComposite) default.now
+        (pointer_field A.ReaderArena reader.now index) lim.old ≡ (result_err result, lim.new) }
 {
     match get_list_or(reader, index, ElementSize::InlineComposite, default, lim) {
         Ok(list) => Ok(StructsReader { reader: list }),
@@ -509,6 +565,8 @@ pub fn get_numbers_or<'a, A: ReaderArena, T: PrimitiveElement>(
         → Affords start.charging lim.old (child_cost A.ReaderArena shows index) → IsOk result }
     ensures default_answered { (t d : Tree) → ShowsStructOf A.ReaderArena reader.now t
         → child index t ≡ Null → IsDefault default.now d → FitsSize T.size d → IsOk result }
+    ensures exactly { default_outcome (list_expected T.size) default.now
+        (pointer_field A.ReaderArena reader.now index) lim.old ≡ (result_err result, lim.new) }
 {
     match get_list_or(reader, index, T::element_size(), default, lim) {
         Ok(reader) => Ok(NumbersReader {
@@ -540,6 +598,8 @@ pub fn get_texts_or<'a, A: ReaderArena>(
         → Affords start.charging lim.old (child_cost A.ReaderArena shows index) → IsOk result }
     ensures default_answered { (t d : Tree) → ShowsStructOf A.ReaderArena reader.now t
         → child index t ≡ Null → IsDefault default.now d → FitsSize Pointer d → IsOk result }
+    ensures exactly { default_outcome (list_expected Pointer) default.now
+        (pointer_field A.ReaderArena reader.now index) lim.old ≡ (result_err result, lim.new) }
 {
     match get_list_or(reader, index, ElementSize::Pointer, default, lim) {
         Ok(list) => Ok(TextsReader { reader: list }),
@@ -568,6 +628,8 @@ pub fn get_data_list_or<'a, A: ReaderArena>(
         → Affords start.charging lim.old (child_cost A.ReaderArena shows index) → IsOk result }
     ensures default_answered { (t d : Tree) → ShowsStructOf A.ReaderArena reader.now t
         → child index t ≡ Null → IsDefault default.now d → FitsSize Pointer d → IsOk result }
+    ensures exactly { default_outcome (list_expected Pointer) default.now
+        (pointer_field A.ReaderArena reader.now index) lim.old ≡ (result_err result, lim.new) }
 {
     match get_list_or(reader, index, ElementSize::Pointer, default, lim) {
         Ok(list) => Ok(DataListReader { reader: list }),
@@ -596,6 +658,8 @@ pub fn get_pointers_or<'a, A: ReaderArena>(
         → Affords start.charging lim.old (child_cost A.ReaderArena shows index) → IsOk result }
     ensures default_answered { (t d : Tree) → ShowsStructOf A.ReaderArena reader.now t
         → child index t ≡ Null → IsDefault default.now d → FitsSize Pointer d → IsOk result }
+    ensures exactly { default_outcome (list_expected Pointer) default.now
+        (pointer_field A.ReaderArena reader.now index) lim.old ≡ (result_err result, lim.new) }
 {
     match get_list_or(reader, index, ElementSize::Pointer, default, lim) {
         Ok(list) => Ok(PointersReader { reader: list }),

@@ -1,17 +1,21 @@
 //! The root of a message, and the fields of a struct that is read.
 ghost use Rattle.std.specs.Prelude.{◌≡◌, ◌≢◌, ◌+◌, ◌-◌, ◌*◌, ◌/◌, ◌^◌, ◌<◌, ◌≤◌, ◌↔◌, ℕ, true, false, bit_xor, length, IsTrue, IfOk, IsOk, OnOk, Err};
+ghost use Rattle.std.specs.Result.{result_err};
 ghost use Rattle.capnp_format.specs.Bytes.{message};
 ghost use Rattle.capnp_format.specs.Means.{Means};
 ghost use Rattle.capnp_format.specs.Segments.{AreWords};
-ghost use Rattle.capnp_format.specs.Tree.{Tree, Capability, Null};
+ghost use Rattle.capnp_format.specs.Tree.{Tree, Capability, Null, Struct, no_trees};
 ghost use Rattle.capnp_words.specs.Meter.{Affords, charged};
 ghost use Rattle.capnp_arena_traits.specs.Checks.{Holds};
+ghost use Rattle.capnp_objects.specs.Expected.{data_expected, struct_expected, text_expected};
 ghost use Rattle.capnp_objects.specs.Outcomes.{MeansThere};
-ghost use Rattle.capnp_objects.specs.Reading.{source_start};
+ghost use Rattle.capnp_objects.specs.Reading.{source_start, word_of};
 ghost use Rattle.capnp_objects.specs.Source.{levels};
 ghost use Rattle.capnp_objects.specs.Spending.{Paid};
 ghost use Rattle.capnp_readers.specs.Readers.{read_by};
-ghost use Rattle.capnp_readers.specs.Values.{HasValue, ShowsNumber, ShowsStructOf, StaysIn, IsBytes, IsStructOrNull, IsText, child_cost, field_of_number, list_numbers, text_bytes};
+ghost use Rattle.capnp_readers.specs.Values.{HasValue, ShowsNumber, ShowsStructOf, StaysIn, IsBytes, IsStructOrNull, IsText, child_cost, field_of_number, list_numbers, struct_data, text_bytes};
+ghost use Rattle.typed_reading.specs.Outcomes.{capability_index, default_outcome, reading_outcome, root_outcome, root_place};
+ghost use Rattle.typed_reading.specs.Sections.{LeadsToSectionsOf, ShowsSectionsOf, pointer_field};
 ghost use Rattle.typed_reading.specs.Values.{IsDefault, bits_in, child, data_or, text_or};
 
 use capnp_arena_traits::arena::ReaderArena;
@@ -23,9 +27,11 @@ use capnp_words::primitive::Primitive;
 use capnp_words::read_limiter::ReadLimiter;
 use capnp_words::zero::Zero;
 
-/// Returns the struct that the root of a message is.
+/// Returns the struct that the root of a message is; a struct without sections if the root pointer is
+/// null. Charges one word for the root pointer, and the struct's own words.
 ///
-/// Refuses like `PointerReader::get_root_from_arena` and `PointerReader::get_struct`.
+/// Refuses like `PointerReader::get_root_from_arena` and `PointerReader::get_struct`. What was charged
+/// before a refusal stays charged.
 pub fn root<'a, A: ReaderArena>(
     arena: &'a A,
     lim: &mut ReadLimiter,
@@ -40,13 +46,44 @@ pub fn root<'a, A: ReaderArena>(
         → Means (message (A.segments arena.now)) (levels (A.nesting arena.now)) 0 0 t c
         → IfOk result (λ r. (shows : ShowsStructOf A.ReaderArena r t)
         → Paid charging (charged charging lim.old 1) lim.new (c - shows.cost) 1) }
+    ensures left { let charging = A.charging arena.now in (t : Tree) (c : ℕ)
+        → Means (message (A.segments arena.now)) (levels (A.nesting arena.now)) 0 0 t c
+        → Affords charging lim.old (1 + c)
+        → IfOk result (λ r. (shows : ShowsStructOf A.ReaderArena r t) (i : ℕ)
+        → Affords (source_start A.ReaderArena r.source).charging lim.new
+        (child_cost A.ReaderArena shows i)) }
     ensures stays { IfOk result (λ r.
         StaysIn (source_start A.ReaderArena (Source.Arena arena.entry))
         (source_start A.ReaderArena r.source)) }
+    ensures exactly { root_outcome A.ReaderArena arena.entry lim.old
+        ≡ (result_err result, lim.new) }
+    ensures sections { (t : Tree) → LeadsToSectionsOf (root_place A.ReaderArena arena.entry) t
+        → IfOk result (λ r. ShowsSectionsOf A.ReaderArena r t) }
 {
     match PointerReader::get_root_from_arena(arena, lim) {
         Ok(root) => root.get_struct(lim, None),
         Err(kind) => Err(kind),
+    }
+}
+
+// The struct without its pointers: so what is read of its data says nothing of what they lead to.
+#[inline(always)]
+fn data_of<'a, A: ReaderArena>(reader: &StructReader<'a, A>) -> StructReader<'a, A>
+    ensures sections { (t : Tree) → ShowsSectionsOf A.ReaderArena reader.now t
+        → ShowsStructOf A.ReaderArena result (Struct (struct_data t) no_trees) }
+    ensures value { (t : Tree) → ShowsStructOf A.ReaderArena reader.now t
+        → ShowsStructOf A.ReaderArena result (Struct (struct_data t) no_trees) }
+    ensures number { (bits x : ℕ) → ShowsNumber A.ReaderArena reader.now bits x
+        → ShowsNumber A.ReaderArena result bits x }
+{
+    StructReader {
+        source: reader.source,
+        content: reader.content,
+        byte: reader.byte,
+        bits: reader.bits,
+        pointers: reader.pointers,
+        pointer_count: 0,
+        nesting_limit: reader.nesting_limit,
     }
 }
 
@@ -58,10 +95,12 @@ pub fn get_number<A: ReaderArena, T: Primitive + Zero>(
 ) -> T
     ensures value { (t : Tree) → ShowsStructOf A.ReaderArena reader.now t
         → T.bits_of result ≡ bits_in (8 * T.BYTES * offset) (8 * T.BYTES) t }
+    ensures sections { (t : Tree) → ShowsSectionsOf A.ReaderArena reader.now t
+        → T.bits_of result ≡ bits_in (8 * T.BYTES * offset) (8 * T.BYTES) t }
     ensures number { (bits x : ℕ) → ShowsNumber A.ReaderArena reader.now bits x
         → T.bits_of result ≡ field_of_number bits x (8 * T.BYTES * offset) (8 * T.BYTES) }
 {
-    reader.get_data_field(offset)
+    data_of(reader).get_data_field(offset)
 }
 
 /// Returns the number at `offset` of a struct's data, like `get_number`, of a field whose default
@@ -71,21 +110,26 @@ pub fn get_number_or<A: ReaderArena, T: Primitive + Zero + Mask>(
     offset: usize,
     default: <T as Mask>::T,
 ) -> T
-    ensures { (t : Tree) → ShowsStructOf A.ReaderArena reader.now t
+    ensures value { (t : Tree) → ShowsStructOf A.ReaderArena reader.now t
+        → T.bits_of result
+        ≡ bit_xor (bits_in (8 * T.BYTES * offset) (8 * T.BYTES) t) (T.mask_bits default) }
+    ensures sections { (t : Tree) → ShowsSectionsOf A.ReaderArena reader.now t
         → T.bits_of result
         ≡ bit_xor (bits_in (8 * T.BYTES * offset) (8 * T.BYTES) t) (T.mask_bits default) }
 {
-    reader.get_data_field_mask(offset, default)
+    data_of(reader).get_data_field_mask(offset, default)
 }
 
 /// Returns bit `offset` of a struct's data; `false` if the data ends before it.
 pub fn get_bool<A: ReaderArena>(reader: &StructReader<'_, A>, offset: usize) -> bool
     ensures value { (t : Tree) → ShowsStructOf A.ReaderArena reader.now t
         → (IsTrue result ↔ (bits_in offset 1 t ≡ 1)) }
+    ensures sections { (t : Tree) → ShowsSectionsOf A.ReaderArena reader.now t
+        → (IsTrue result ↔ (bits_in offset 1 t ≡ 1)) }
     ensures number { (bits x : ℕ) → ShowsNumber A.ReaderArena reader.now bits x
         → (IsTrue result ↔ (field_of_number bits x offset 1 ≡ 1)) }
 {
-    reader.get_bool_field(offset)
+    data_of(reader).get_bool_field(offset)
 }
 
 /// Returns bit `offset` of a struct's data, like `get_bool`, of a field whose default value is
@@ -99,24 +143,34 @@ pub fn get_bool_or<A: ReaderArena>(
         → (IsTrue result ↔ (bits_in offset 1 t ≡ 1)) }
     ensures set { default ≡ true → (t : Tree) → ShowsStructOf A.ReaderArena reader.now t
         → (IsTrue result ↔ (bits_in offset 1 t ≢ 1)) }
+    ensures unset_sections { default ≡ false → (t : Tree)
+        → ShowsSectionsOf A.ReaderArena reader.now t
+        → (IsTrue result ↔ (bits_in offset 1 t ≡ 1)) }
+    ensures set_sections { default ≡ true → (t : Tree)
+        → ShowsSectionsOf A.ReaderArena reader.now t
+        → (IsTrue result ↔ (bits_in offset 1 t ≢ 1)) }
 {
-    reader.get_bool_field_mask(offset, default)
+    data_of(reader).get_bool_field_mask(offset, default)
 }
 
 /// Returns whether a pointer of a struct is null, or the struct has no such pointer.
 pub fn is_null<A: ReaderArena>(reader: &StructReader<'_, A>, index: usize) -> bool
-    ensures { (t : Tree) → ShowsStructOf A.ReaderArena reader.now t
+    ensures value { (t : Tree) → ShowsStructOf A.ReaderArena reader.now t
         → (IsTrue result ↔ (child index t ≡ Null)) }
+    ensures word { IsTrue result
+        ↔ (word_of (pointer_field A.ReaderArena reader.now index) ≡ 0) }
 {
     reader.is_pointer_field_null(index)
 }
 
 /// Returns whether a struct has a pointer that isn't null.
 pub fn has<A: ReaderArena>(reader: &StructReader<'_, A>, index: usize) -> bool
-    ensures { (t : Tree) → ShowsStructOf A.ReaderArena reader.now t
+    ensures value { (t : Tree) → ShowsStructOf A.ReaderArena reader.now t
         → (IsTrue result ↔ (child index t ≢ Null)) }
+    ensures word { IsTrue result
+        ↔ (word_of (pointer_field A.ReaderArena reader.now index) ≢ 0) }
 {
-    !reader.is_pointer_field_null(index)
+    !is_null(reader, index)
 }
 
 /// Returns a pointer of a struct, which can lead to anything; a null pointer that isn't in any
@@ -132,6 +186,7 @@ pub fn get_pointer<'a, A: ReaderArena>(
         (child_cost A.ReaderArena shows index) }
     ensures stays { StaysIn (source_start A.ReaderArena reader.now.source)
         (read_by A.ReaderArena result) }
+    ensures place { read_by A.ReaderArena result ≡ pointer_field A.ReaderArena reader.now index }
 {
     reader.get_pointer_field(index)
 }
@@ -156,6 +211,8 @@ pub fn get_text<'a, A: ReaderArena>(
         (t : Tree) (shows : ShowsStructOf A.ReaderArena reader.now t) → child index t ≢ Null
         → OnOk result (Paid start.charging lim.old lim.new
         (child_cost A.ReaderArena shows index) 1) }
+    ensures exactly { reading_outcome text_expected
+        (pointer_field A.ReaderArena reader.now index) lim.old ≡ (result_err result, lim.new) }
 {
     reader.get_pointer_field(index).get_text(lim, None)
 }
@@ -178,6 +235,8 @@ pub fn get_text_or<'a, A: ReaderArena>(
         (t : Tree) (shows : ShowsStructOf A.ReaderArena reader.now t) → child index t ≢ Null
         → OnOk result (Paid start.charging lim.old lim.new
         (child_cost A.ReaderArena shows index) 1) }
+    ensures exactly { reading_outcome text_expected
+        (pointer_field A.ReaderArena reader.now index) lim.old ≡ (result_err result, lim.new) }
 {
     if is_null(reader, index) {
         return Ok(default);
@@ -203,6 +262,8 @@ pub fn get_data<'a, A: ReaderArena>(
         (t : Tree) (shows : ShowsStructOf A.ReaderArena reader.now t) → child index t ≢ Null
         → OnOk result (Paid start.charging lim.old lim.new
         (child_cost A.ReaderArena shows index) 1) }
+    ensures exactly { reading_outcome data_expected
+        (pointer_field A.ReaderArena reader.now index) lim.old ≡ (result_err result, lim.new) }
 {
     reader.get_pointer_field(index).get_data(lim, None)
 }
@@ -224,6 +285,8 @@ pub fn get_data_or<'a, A: ReaderArena>(
         (t : Tree) (shows : ShowsStructOf A.ReaderArena reader.now t) → child index t ≢ Null
         → OnOk result (Paid start.charging lim.old lim.new
         (child_cost A.ReaderArena shows index) 1) }
+    ensures exactly { reading_outcome data_expected
+        (pointer_field A.ReaderArena reader.now index) lim.old ≡ (result_err result, lim.new) }
 {
     if is_null(reader, index) {
         return Ok(default);
@@ -252,8 +315,19 @@ pub fn get_struct<'a, A: ReaderArena>(
         → IfOk result (λ r. (inner : ShowsStructOf A.ReaderArena r (child index t))
         → Paid start.charging lim.old lim.new
         (child_cost A.ReaderArena shows index - inner.cost) 1) }
+    ensures left { let start = source_start A.ReaderArena reader.now.source in
+        (t : Tree) (shows : ShowsStructOf A.ReaderArena reader.now t)
+        → Affords start.charging lim.old (child_cost A.ReaderArena shows index)
+        → IfOk result (λ r. (inner : ShowsStructOf A.ReaderArena r (child index t)) (i : ℕ)
+        → Affords (source_start A.ReaderArena r.source).charging lim.new
+        (child_cost A.ReaderArena inner i)) }
     ensures stays { IfOk result (λ r. StaysIn (source_start A.ReaderArena reader.now.source)
         (source_start A.ReaderArena r.source)) }
+    ensures exactly { reading_outcome struct_expected
+        (pointer_field A.ReaderArena reader.now index) lim.old ≡ (result_err result, lim.new) }
+    ensures sections { (t : Tree)
+        → LeadsToSectionsOf (pointer_field A.ReaderArena reader.now index) t
+        → IfOk result (λ r. ShowsSectionsOf A.ReaderArena r t) }
 {
     reader.get_pointer_field(index).get_struct(lim, None)
 }
@@ -279,6 +353,8 @@ pub fn get_struct_or<'a, A: ReaderArena>(
         → Affords start.charging lim.old (child_cost A.ReaderArena shows index) → IsOk result }
     ensures default_answered { (t d : Tree) → ShowsStructOf A.ReaderArena reader.now t
         → child index t ≡ Null → IsDefault default.now d → IsStructOrNull d → IsOk result }
+    ensures exactly { default_outcome struct_expected default.now
+        (pointer_field A.ReaderArena reader.now index) lim.old ≡ (result_err result, lim.new) }
 {
     if is_null(reader, index) {
         return match PointerReader::from_default(default) {
@@ -301,6 +377,8 @@ pub fn get_capability<A: ReaderArena>(
         → child index t ≡ Capability i → IfOk result (λ n. n ≡ i) }
     ensures null { (t : Tree) → ShowsStructOf A.ReaderArena reader.now t
         → child index t ≡ Null → result ≡ Err ErrorKind.MessageContainsNullCapabilityPointer }
+    ensures exactly { result
+        ≡ capability_index (word_of (pointer_field A.ReaderArena reader.now index)) }
 {
     reader.get_pointer_field(index).get_capability()
 }

@@ -8,7 +8,7 @@ invariant_of-result g c = record { pointers = pointers_held g.A.ReaderArena c.in
 pub returns-in-Ok : goal.returns-in-Ok
 returns-in-Ok g c =
     let list = c.in-Ok.ensures in
-    record { value = list.value; answered = λ t shows fits covers. refl; spent = list.spent; stays = list.stays }
+    record { value = list.value; answered = λ t shows fits covers. refl; spent = list.spent; stays = list.stays; left = list.left; exactly = list.exactly }
 
 pub returns-in-Err : goal.returns-in-Err
 returns-in-Err g c = record {
@@ -16,4 +16,6 @@ returns-in-Err g c = record {
   answered = c.in-Err.ensures.answered;
   spent = λ t shows other. tt;
   stays = tt;
+  left = λ t shows covers. tt;
+  exactly = c.in-Err.ensures.exactly;
 }

@@ -7,7 +7,7 @@ invariant_of-result g c = record { wide = rw c.element_size.ensures at c.in-Ok.e
 pub returns-in-Ok : goal.returns-in-Ok
 returns-in-Ok g c =
     let list = c.in-Ok.ensures in
-    record { value = list.value; answered = λ t shows fits covers. refl; spent = list.spent; stays = list.stays }
+    record { value = list.value; answered = λ t shows fits covers. refl; spent = list.spent; stays = list.stays; left = list.left; exactly = rw c.element_size.ensures at list.exactly }
 
 pub returns-in-Err : goal.returns-in-Err
 returns-in-Err g c = record {
@@ -15,4 +15,6 @@ returns-in-Err g c = record {
   answered = λ t shows fits covers. c.in-Err.ensures.answered t shows (rw c.element_size.ensures fits) covers;
   spent = λ t shows other. tt;
   stays = tt;
+  left = λ t shows covers. tt;
+  exactly = rw c.element_size.ensures at c.in-Err.ensures.exactly;
 }

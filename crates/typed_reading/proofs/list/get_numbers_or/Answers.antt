@@ -15,6 +15,7 @@ returns-in-Ok g c =
       default = list.default;
       answered = λ t shows other fits covers. refl;
       default_answered = λ t d shows null is fits. refl;
+      exactly = rw c.element_size.ensures at list.exactly;
     }
 
 pub returns-in-Err : goal.returns-in-Err
@@ -23,4 +24,5 @@ returns-in-Err g c = record {
   default = λ t d shows null is. tt;
   answered = λ t shows other fits covers. c.in-Err.ensures.answered t shows other (rw c.element_size.ensures fits) covers;
   default_answered = λ t d shows null is fits. c.in-Err.ensures.default_answered t d shows null is (rw c.element_size.ensures fits);
+  exactly = rw c.element_size.ensures at c.in-Err.ensures.exactly;
 }

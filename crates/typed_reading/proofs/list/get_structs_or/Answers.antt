@@ -16,6 +16,7 @@ returns-in-Ok g c =
       default = list.default;
       answered = λ t shows other fits covers. refl;
       default_answered = λ t d shows null is fits. refl;
+      exactly = list.exactly;
     }
 
 pub returns-in-Err : goal.returns-in-Err
@@ -24,4 +25,5 @@ returns-in-Err g c = record {
   default = λ t d shows null is. tt;
   answered = c.in-Err.ensures.answered;
   default_answered = c.in-Err.ensures.default_answered;
+  exactly = c.in-Err.ensures.exactly;
 }

@@ -1,5 +1,9 @@
+use Rattle.capnp_objects.specs.Expected.{data_expected}
 use Rattle.capnp_readers.specs.Values.{child_cost}
+use Rattle.typed_reading.specs.Sections.{pointer_field}
 use Rattle.typed_reading.specs.Values.{child}
+use Rattle.typed_reading.proofs.Outcomes.{bytes_outcome}
+use Rattle.typed_reading.proofs.Sections.{field_read}
 use Rattle.typed_reading.proofs.value.get_data.Goals as goal
 
 pub get_data-requires : goal.get_data-requires
@@ -9,10 +13,12 @@ pub returns : goal.returns
 returns g c =
     let field = c.get_pointer_field.ensures in
     let read = c.get_data.ensures in
+    let place = field_read g.A.ReaderArena c.args.reader.now c.args.index c.get_pointer_field.result field.source field.place field.nesting field.nothing field.nowhere in
     record {
       value = λ t shows. read.value (child c.args.index t) (field.value t shows);
       answered = λ t shows is covers.
           let k = child_cost g.A.ReaderArena shows c.args.index in
           read.answered (child c.args.index t) k tt is (field.means t shows) (field.stays.affords c.args.lim.now k covers);
       spent = λ t shows other. rw (field.charging t shows other) at (read.spent (child c.args.index t) (child_cost g.A.ReaderArena shows c.args.index) other (field.means t shows));
+      exactly = bytes_outcome g.A.ReaderArena data_expected 0 c.get_pointer_field.result (pointer_field g.A.ReaderArena c.args.reader.now c.args.index) place c.args.lim.now c.get_data.new.lim c.get_data.result read.exactly read.read read.refused;
     }

@@ -1,4 +1,9 @@
-use Rattle.typed_reading.proofs.Defaults.{ReadsDefault, not_null, reads_default}
+use Rattle.std.proofs.Common.{refl, ◌∙◌}
+use Rattle.capnp_objects.specs.Expected.{struct_expected}
+use Rattle.typed_reading.specs.Sections.{pointer_field}
+use Rattle.typed_reading.specs.Values.{default_place}
+use Rattle.typed_reading.proofs.Defaults.{ReadsDefault, at_default, not_null, not_zero, reads_default}
+use Rattle.typed_reading.proofs.Outcomes.{default_read, default_unread, struct_outcome, unread_default}
 use Rattle.typed_reading.proofs.value.get_struct_or.Goals as goal
 
 pub from_default-requires : goal.from_default-requires
@@ -13,18 +18,21 @@ returns-in-Ok g c =
     let reads : ReadsDefault g.A.ReaderArena c.in-Ok.field c.args.default.now = reads_default g.A.ReaderArena c.in-Ok.field c.args.default made.source made.place made.nesting in
     let found = c.get_struct.ensures in
     record {
-      value = λ t shows other. absurd (other ((c.is_null.ensures t shows).0 c.if-is_null.true));
+      value = λ t shows other. absurd (other ((c.is_null.ensures.value t shows).0 c.if-is_null.true));
       default = λ t d shows null is. found.value d (reads.value d is);
-      answered = λ t shows other is_struct covers. absurd (other ((c.is_null.ensures t shows).0 c.if-is_null.true));
+      answered = λ t shows other is_struct covers. absurd (other ((c.is_null.ensures.value t shows).0 c.if-is_null.true));
       default_answered = λ t d shows null is is_struct. found.answered d (reads.value d is).cost tt is_struct (reads.value d is).means (reads.free c.args.lim.now (reads.value d is).cost);
+      exactly = default_read struct_expected c.args.default.now (pointer_field g.A.ReaderArena c.args.reader.now c.args.index) c.args.lim.now (c.is_null.ensures.word.0 c.if-is_null.true) (made.exactly.0 refl)
+          ∙ struct_outcome g.A.ReaderArena c.in-Ok.field (default_place c.args.default.now) (at_default g.A.ReaderArena c.in-Ok.field c.args.default made.source made.place made.nesting) c.args.lim.now c.get_struct.new.lim c.get_struct.result found.exactly found.read found.refused;
     }
 
 pub returns-in-Err : goal.returns-in-Err
 returns-in-Err g c = record {
   value = λ t shows other. tt;
   default = λ t d shows null is. tt;
-  answered = λ t shows other is_struct covers. absurd (other ((c.is_null.ensures t shows).0 c.if-is_null.true));
+  answered = λ t shows other is_struct covers. absurd (other ((c.is_null.ensures.value t shows).0 c.if-is_null.true));
   default_answered = λ t d shows null is is_struct. c.in-Err.ensures.exactly.1 is.word;
+  exactly = unread_default struct_expected c.args.default.now (pointer_field g.A.ReaderArena c.args.reader.now c.args.index) c.args.lim.now c.in-Err.kind (c.is_null.ensures.word.0 c.if-is_null.true) (λ whole. absurd (let yes = c.in-Err.ensures.exactly.1 whole in cc yes)) c.in-Err.ensures.named;
 }
 
 pub returns : goal.returns
@@ -32,7 +40,8 @@ returns g c =
     let found = c.get_struct-2.ensures in
     record {
       value = λ t shows other. found.value t shows;
-      default = λ t d shows null is. absurd (not_null (c.is_null.ensures t shows) c.if-is_null.false null);
+      default = λ t d shows null is. absurd (not_null (c.is_null.ensures.value t shows) c.if-is_null.false null);
       answered = λ t shows other is_struct covers. found.answered t shows is_struct covers;
-      default_answered = λ t d shows null is is_struct. absurd (not_null (c.is_null.ensures t shows) c.if-is_null.false null);
+      default_answered = λ t d shows null is is_struct. absurd (not_null (c.is_null.ensures.value t shows) c.if-is_null.false null);
+      exactly = default_unread struct_expected c.args.default.now (pointer_field g.A.ReaderArena c.args.reader.now c.args.index) c.args.lim.now (not_zero c.is_null.ensures.word c.if-is_null.false) ∙ found.exactly;
     }

@@ -1,3 +1,8 @@
+use Rattle.std.proofs.Common.{◌≡◌, refl}
+use Rattle.capnp_objects.specs.Expected.{text_expected}
+use Rattle.capnp_readers.specs.Readers.{read_by}
+use Rattle.typed_reading.specs.Sections.{element_pointer}
+use Rattle.typed_reading.proofs.Outcomes.{bytes_outcome}
 use Rattle.capnp_readers.specs.Values.{pointer_cost}
 use Rattle.typed_reading.proofs.Elements.{element_holds}
 use Rattle.typed_reading.specs.Values.{pointer_element}
@@ -15,8 +20,11 @@ pub returns : goal.returns
 returns g c =
     let element = c.get_pointer_element.ensures in
     let read = c.get_text.ensures in
+    let here = element_pointer g.A.ReaderArena c.args.self.now.reader c.args.index in
+    let place : read_by g.A.ReaderArena c.get_pointer_element.result ≡ here = rw (element.source, element.place.0, element.place.1, element.nesting) refl in
     record {
       value = λ t shows has. read.value (pointer_element c.args.index t) (element.value t shows has);
       answered = λ t shows has words is covers. read.answered (pointer_element c.args.index t) (pointer_cost g.A.ReaderArena shows c.args.index) tt (rw element.source words) is (element.means t shows has) (rw element.source covers);
       spent = λ t shows has other. rw element.source at (read.spent (pointer_element c.args.index t) (pointer_cost g.A.ReaderArena shows c.args.index) other (element.means t shows has));
+      exactly = bytes_outcome g.A.ReaderArena text_expected 1 c.get_pointer_element.result here place c.args.lim.now c.get_text.new.lim c.get_text.result read.exactly read.read read.refused;
     }
