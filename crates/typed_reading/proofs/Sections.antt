@@ -17,13 +17,15 @@ use Rattle.capnp_objects.specs.Outcomes.{MeansThere}
 use Rattle.capnp_objects.specs.Reading.{Reading, source_start, word_of}
 use Rattle.capnp_objects.specs.Expected.{struct_expected}
 use Rattle.capnp_readers.specs.Calls.{WhereRead, IsStructRead}
-use Rattle.capnp_readers.specs.Readers.{read_by}
+use Rattle.capnp_words.specs.Sizes.{sized}
+use Rattle.capnp_readers.specs.Readers.{ShowsElement, ShowsStruct, read_by}
 use Rattle.capnp_readers.specs.Values.{IsStructOrNull}
 use Rattle.capnp_readers.specs.declared.readers.PointerReader.{PointerReader}
+use Rattle.capnp_readers.specs.declared.readers.list_reader.ListReader.{ListReader}
 use Rattle.capnp_readers.specs.declared.readers.struct_reader.StructReader.{StructReader}
 use Rattle.capnp_readers.proofs.Answering.{read_at}
 use Rattle.typed_reading.proofs.Outcomes.{plain_call}
-use Rattle.typed_reading.specs.Sections.{LeadsToSectionsOf, ShowsSectionsOf, pointer_field}
+use Rattle.typed_reading.specs.Sections.{ElementHasSections, LeadsToSectionsOf, ShowsSectionsOf, pointer_field}
 
 -- no bytes have no words
 no_words : (bytes : List ℕ) → length bytes ≡ 0 → words_of bytes ≡ []
@@ -85,3 +87,16 @@ module _ {A : Type 0} (g : Ghosts A) where
     | inl past ↦ rw (le-ltb i r.pointer_count past) ((λ yes. refl), (λ e. is.1 (λ l. absurd (omega (arith, l, past)))))
     | inr inside ↦ rw (lt-ltb i r.pointer_count inside) ((λ yes. is.0 yes inside), (λ e. is.1 (λ l. e)))
   ]
+
+  -- an element of a list has the sections that the list's words say
+  pub element_sections : (list : ListReader A g) (i : ℕ) (r : StructReader A g) (t : Tree) → ShowsElement g list.element_size list i r → ElementHasSections g list i t → ShowsSectionsOf g r t
+  element_sections list i r t shows has =
+      let d : ℕ = list.struct_size.data_words in
+      let q : ℕ = list.struct_size.pointers in
+      let at : ℕ = list.start.at + i * (d + q) in
+      let s : ShowsStruct g (source_start g list.source).segments r list.start.segment at (sized d q) = subst (λ z. ShowsElement g z list i r) has.of_structs shows in
+      record {
+        bits_are = s.bits_are ∙ ap (λ n. 64 * n) has.data_of;
+        words_are = s.words_are ∙ ap (λ n. words_at (source_start g list.source).segments list.start.segment at n) has.data_of ∙ has.words_are;
+        pointers_are = s.pointers_are ∙ has.pointers_of;
+      }

@@ -1,12 +1,13 @@
--- The object that was entered, whatever its pointers lead to: the sections of a struct, and the places
--- of its pointers.
-use Rattle.std.specs.Prelude.{◌≡◌, ℕ, ◌-◌, ◌*◌, ◌^◌, ⊤, length, if◌then◌else◌, nat_lt}
+-- The object that was entered, without what its pointers lead to: the sections of a struct, and the
+-- places of its pointers.
+use Rattle.std.specs.Prelude.{◌≡◌, ℕ, ◌+◌, ◌-◌, ◌*◌, ◌^◌, ⊤, length, if◌then◌else◌, nat_lt}
 use Rattle.capnp_format.specs.Bytes.{words_of}
 use Rattle.capnp_format.specs.Means.{StructAt}
 use Rattle.capnp_format.specs.Segments.{Target, HasWords}
 use Rattle.capnp_format.specs.Tree.{Tree, Null, Struct, count}
+use Rattle.capnp_words.specs.declared.wire_pointer.ElementSize.TheVariants.{InlineComposite}
 use Rattle.capnp_arena_traits.specs.declared.arena.reader_arena.ReaderArena.{Ghosts}
-use Rattle.capnp_objects.specs.Reading.{Reading, place_past, unset, word_of}
+use Rattle.capnp_objects.specs.Reading.{Reading, place_past, source_start, unset, word_of}
 use Rattle.capnp_readers.specs.Sections.{pointers_offset}
 use Rattle.capnp_readers.specs.Sizes.{pointers_read}
 use Rattle.capnp_readers.specs.Values.{first_element, struct_children, struct_data}
@@ -42,3 +43,12 @@ module _ {A : Type 0} (g : Ghosts A) where
   abbrev pub element_pointer : ListReader A g → ℕ → Reading
   element_pointer r i =
       place_past (first_element g r) (pointers_offset r.element_size r.struct_size i)
+
+  -- Element i of the list that r reads is a struct with the data words of t, and with as many pointers.
+  -- What these pointers lead to may be anything.
+  pub record ElementHasSections (r : ListReader A g) (i : ℕ) (t : Tree) : Type 0 where
+    pub of_structs : r.element_size ≡ InlineComposite
+    pub data_of : r.struct_size.data_words ≡ length (struct_data t)
+    pub pointers_of : r.struct_size.pointers ≡ count (struct_children t)
+    pub words_are : HasWords (source_start g r.source).segments r.start.segment
+        (r.start.at + i * (r.struct_size.data_words + r.struct_size.pointers)) (struct_data t)

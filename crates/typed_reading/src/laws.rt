@@ -24,7 +24,8 @@ use capnp_readers::readers::StructReader;
 /// covers what that charges (`answered`). It is refused with the error of the first check that fails
 /// (`refused`). A null pointer charges nothing and isn't counted (`null`). Another one is counted, and
 /// if the call succeeds, the words of its landing pads and of the object are charged (`charged`).
-/// What isn't charged, as a default, leaves the limiter as it is, also after a refusal (`free`).
+/// A place that isn't charged, like a default's, leaves the limiter unchanged, also after a refusal
+/// (`free`).
 pub fn outcome_of_reading()
     ensures answered { (e : Expected) (r : Reading) (m m' : Meter)
         → reading_outcome (expectation e) r m ≡ (None, m') → HasExpected (expectation e) r m }

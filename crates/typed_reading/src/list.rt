@@ -13,7 +13,7 @@ ghost use Rattle.capnp_objects.specs.Spending.{Paid};
 ghost use Rattle.capnp_readers.specs.Sections.{data_bits};
 ghost use Rattle.capnp_readers.specs.Values.{ShowsListOf, ShowsNumber, ShowsStructOf, StaysIn, FitsElements, FitsSize, HasStructs, IsBytes, IsText, child_cost, element_number, list_length, list_numbers, pointer_cost, struct_element, text_bytes};
 ghost use Rattle.typed_reading.specs.Outcomes.{default_outcome, reading_outcome};
-ghost use Rattle.typed_reading.specs.Sections.{element_pointer, pointer_field};
+ghost use Rattle.typed_reading.specs.Sections.{ElementHasSections, ShowsSectionsOf, element_pointer, pointer_field};
 ghost use Rattle.typed_reading.specs.Values.{IsDefault, child, pointer_element};
 
 use crate::value::is_null;
@@ -59,6 +59,8 @@ impl<'a, A: ReaderArena> StructsReader<'a, A> {
         requires { index < self.now.reader.count }
         ensures value { (t : Tree) → ShowsListOf A.ReaderArena self.now.reader t → HasStructs t
             → ShowsStructOf A.ReaderArena result (struct_element t index) }
+        ensures sections { (t : Tree) → ElementHasSections A.ReaderArena self.now.reader index t
+            → ShowsSectionsOf A.ReaderArena result t }
         ensures number { (size : ℕ) (ns : List ℕ)
             → ShowsListOf A.ReaderArena self.now.reader (Flat size ns)
             → ShowsNumber A.ReaderArena result (element_bits size) (slice_index ns index) }

@@ -55,6 +55,8 @@ pub fn root<'a, A: ReaderArena>(
     ensures stays { IfOk result (λ r.
         StaysIn (source_start A.ReaderArena (Source.Arena arena.entry))
         (source_start A.ReaderArena r.source)) }
+    ensures words { AreWords (message (A.segments arena.now))
+        → IfOk result (λ r. AreWords (source_start A.ReaderArena r.source).segments) }
     ensures exactly { root_outcome A.ReaderArena arena.entry lim.old
         ≡ (result_err result, lim.new) }
     ensures sections { (t : Tree) → LeadsToSectionsOf (root_place A.ReaderArena arena.entry) t
@@ -66,7 +68,7 @@ pub fn root<'a, A: ReaderArena>(
     }
 }
 
-// The struct without its pointers: so what is read of its data says nothing of what they lead to.
+// Returns the struct without its pointers: what they lead to may be broken.
 #[inline(always)]
 fn data_of<'a, A: ReaderArena>(reader: &StructReader<'a, A>) -> StructReader<'a, A>
     ensures sections { (t : Tree) → ShowsSectionsOf A.ReaderArena reader.now t
@@ -323,6 +325,8 @@ pub fn get_struct<'a, A: ReaderArena>(
         (child_cost A.ReaderArena inner i)) }
     ensures stays { IfOk result (λ r. StaysIn (source_start A.ReaderArena reader.now.source)
         (source_start A.ReaderArena r.source)) }
+    ensures words { AreWords (source_start A.ReaderArena reader.now.source).segments
+        → IfOk result (λ r. AreWords (source_start A.ReaderArena r.source).segments) }
     ensures exactly { reading_outcome struct_expected
         (pointer_field A.ReaderArena reader.now index) lim.old ≡ (result_err result, lim.new) }
     ensures sections { (t : Tree)
