@@ -1,6 +1,6 @@
 -- The object that was entered, without what its pointers lead to: the sections of a struct, and the
 -- places of its pointers.
-use Rattle.std.specs.Prelude.{◌≡◌, ℕ, ◌+◌, ◌-◌, ◌*◌, ◌^◌, ⊤, length, if◌then◌else◌, nat_lt}
+use Rattle.std.specs.Prelude.{◌≡◌, ℕ, ◌+◌, ◌-◌, ◌*◌, ◌^◌, length, if◌then◌else◌, nat_lt}
 use Rattle.capnp_format.specs.Bytes.{words_of}
 use Rattle.capnp_format.specs.Means.{StructAt}
 use Rattle.capnp_format.specs.Segments.{Target, HasWords}
