@@ -78,6 +78,8 @@ READER_BUGS = (
     ('offset', 'enum', 'get', r'of_number\(value::get_number\(&self\.reader, (\d+)\)\)', lambda n: f'of_number(value::get_number(&self.reader, {int(n) + 1}))'),
     ('refusal', 'text', 'get', r'value::get_text\(&self\.reader, \d+, lim\)', lambda n: 'Err(ErrorKind::ReadLimitExceeded)'),
     ('refusal', 'list', 'get', r'list::get_numbers\(&self\.reader, \d+, lim\)', lambda n: 'Err(ErrorKind::ReadLimitExceeded)'),
+    ('refusal', 'interface', 'get', r'value::get_capability\(&self\.reader, \d+\)', lambda n: 'Err(ErrorKind::MessageContainsNullCapabilityPointer)'),
+    ('name', 'data', 'get', r'value::get_data\(&self\.reader, (\d+), lim\)', lambda n: f'match value::get_data(&self.reader, {n}, lim) {{ Ok(bytes) => Ok(bytes), Err(_) => Err(ErrorKind::ReadLimitExceeded) }}'),
     ('offset', 'union', '', r'of_number\(value::get_number\(&self\.reader, (\d+)\)\)', lambda n: f'of_number(value::get_number(&self.reader, {int(n) + 1}))'),
     ('arm', 'variants', '', READER_ARMS, lambda first, one, between, second, other: f'{first} => {other}{between}{second} => {one}'),
     ('arm', 'members', '', READER_ARMS, lambda first, one, between, second, other: f'{first} => {other}{between}{second} => {one}'),

@@ -1,5 +1,5 @@
 //! AddressBook
-ghost use Rattle.std.specs.Prelude.{◌≡◌, ◌≢◌, ◌<◌, ◌+◌, ◌*◌, ◌^◌, ◌↔◌, ℕ, List, IsTrue, IfOk, IsOk};
+ghost use Rattle.std.specs.Prelude.{◌≡◌, ◌≢◌, ◌<◌, ◌+◌, ◌*◌, ◌^◌, ◌↔◌, ℕ, List, IsTrue, IfOk, IfErr, IsOk};
 ghost use Rattle.capnp_format.specs.Path.{struct_at, tree_at};
 ghost use Rattle.capnp_format.specs.Segments.{Grows, IsPlace};
 ghost use Rattle.capnp_format.specs.Tree.{Elements, Null, Struct, Structs, Tree, Trees, element_count};
@@ -10,9 +10,11 @@ ghost use Rattle.capnp_making.specs.Stored.{IsStored};
 ghost use Rattle.capnp_contents.specs.Rooms.{WiderListFits};
 ghost use Rattle.capnp_objects.specs.Wanted.{plain};
 ghost use Rattle.capnp_readers.specs.Values.{ShowsListOf};
+ghost use Rattle.capnp_copies.specs.Changes.{copy_call};
 ghost use Rattle.capnp_copies.specs.Rooms.{CanBeCopied};
 ghost use Rattle.capnp_builders.specs.ListValues.{list_read};
 ghost use Rattle.capnp_builders.specs.Held.{HasStruct, Holder, MakesChild, call_in, element_of, pointer_to};
+ghost use Rattle.capnp_builders.specs.Kept.{LeavesCleared, PutsCopy};
 ghost use Rattle.capnp_builders.specs.Places.{element_place};
 ghost use Rattle.typed_building.specs.Copied.{copied_list};
 ghost use Rattle.typed_building.specs.Opened.{OpensChild, opened_list};
@@ -151,6 +153,16 @@ impl Builder {
             → MakesChild result
             (call_in self.place (A.view arena.old).words (A.view arena.new).words) 0
             (copied_list from.now.list.reader.element_size from.now.list.reader.struct_size t) }
+        ensures copied { IfOk result (λ _. PutsCopy
+            (list_read B.ReaderArena from.now.list.reader)
+            (copy_call plain
+            (call_on self.place 0 (A.view arena.old) (A.view arena.new))
+            lim.old lim.new)) }
+        ensures refused { IfErr result (LeavesCleared
+            (list_read B.ReaderArena from.now.list.reader)
+            (copy_call plain
+            (call_on self.place 0 (A.view arena.old) (A.view arena.new))
+            lim.old lim.new)) }
     {
         copying::set_list_from(arena, self.place, 0, &from.list.reader, lim)
     }

@@ -1,10 +1,14 @@
 //! Person.employment
 ghost use Rattle.std.specs.Prelude.{◌≡◌, ◌≢◌, ◌≤◌, ◌↔◌, IsTrue, IfOk, IfErr, IsOk, ⊤};
+ghost use Rattle.std.specs.Result.{result_err};
 ghost use Rattle.capnp_format.specs.Segments.{AreWords};
 ghost use Rattle.capnp_format.specs.Tree.{Tree, Null};
 ghost use Rattle.capnp_words.specs.Meter.{Affords};
-ghost use Rattle.capnp_objects.specs.Reading.{source_start};
+ghost use Rattle.capnp_objects.specs.Expected.{text_expected};
+ghost use Rattle.capnp_objects.specs.Reading.{source_start, word_of};
 ghost use Rattle.capnp_readers.specs.Values.{IsText, ShowsStructOf, child_cost};
+ghost use Rattle.typed_reading.specs.Outcomes.{reading_outcome};
+ghost use Rattle.typed_reading.specs.Sections.{ShowsSectionsOf, pointer_field};
 ghost use Rattle.typed_reading.specs.Values.{child};
 ghost use Rattle.addressbook_reading.specs.Schema.{person_employment_employer, person_employment_school, person_employment_tag};
 ghost use Rattle.addressbook_reading.specs.OfPersonEmploymentWhich.{person_employment_which_number};
@@ -46,14 +50,19 @@ impl<'a, A: ReaderArena> Reader<'a, A> {
             → AreWords start.segments → IsText (child 3 t)
             → Affords start.charging lim.old (child_cost A.ReaderArena shows 3)
             → IsOk result }
+        ensures exactly { reading_outcome text_expected
+            (pointer_field A.ReaderArena self.now.reader 3) lim.old
+            ≡ (result_err result, lim.new) }
     {
         value::get_text(&self.reader, 3, lim)
     }
 
     /// Whether the pointer of employer is not null.
     pub fn has_employer(&self) -> bool
-        ensures { (t : Tree) → ShowsStructOf A.ReaderArena self.now.reader t
+        ensures value { (t : Tree) → ShowsStructOf A.ReaderArena self.now.reader t
             → (IsTrue result ↔ (child 3 t ≢ Null)) }
+        ensures word { IsTrue result
+            ↔ (word_of (pointer_field A.ReaderArena self.now.reader 3) ≢ 0) }
     {
         value::has(&self.reader, 3)
     }
@@ -67,14 +76,19 @@ impl<'a, A: ReaderArena> Reader<'a, A> {
             → AreWords start.segments → IsText (child 3 t)
             → Affords start.charging lim.old (child_cost A.ReaderArena shows 3)
             → IsOk result }
+        ensures exactly { reading_outcome text_expected
+            (pointer_field A.ReaderArena self.now.reader 3) lim.old
+            ≡ (result_err result, lim.new) }
     {
         value::get_text(&self.reader, 3, lim)
     }
 
     /// Whether the pointer of school is not null.
     pub fn has_school(&self) -> bool
-        ensures { (t : Tree) → ShowsStructOf A.ReaderArena self.now.reader t
+        ensures value { (t : Tree) → ShowsStructOf A.ReaderArena self.now.reader t
             → (IsTrue result ↔ (child 3 t ≢ Null)) }
+        ensures word { IsTrue result
+            ↔ (word_of (pointer_field A.ReaderArena self.now.reader 3) ≢ 0) }
     {
         value::has(&self.reader, 3)
     }
@@ -85,6 +99,13 @@ impl<'a, A: ReaderArena> Reader<'a, A> {
             → IfOk result (λ e. person_employment_which_number e
             ≡ person_employment_tag t) }
         ensures unknown { (t : Tree) → ShowsStructOf A.ReaderArena self.now.reader t
+            → IfErr result (λ e. (e.0 ≡ person_employment_tag t)
+            × (4 ≤ person_employment_tag t)) }
+        ensures sections { (t : Tree) → ShowsSectionsOf A.ReaderArena self.now.reader t
+            → IfOk result (λ e. person_employment_which_number e
+            ≡ person_employment_tag t) }
+        ensures unknown_sections { (t : Tree)
+            → ShowsSectionsOf A.ReaderArena self.now.reader t
             → IfErr result (λ e. (e.0 ≡ person_employment_tag t)
             × (4 ≤ person_employment_tag t)) }
     {

@@ -45,6 +45,9 @@ IfErr |IfErr
 IsOk |IsOk
 ⊤ }|⊤
 
+Rattle.std.specs.Result
+(result_err |result_err
+
 Rattle.std.specs.Int
  cast_unsigned |cast_unsigned
  w8 |w8
@@ -82,8 +85,16 @@ Rattle.capnp_words.specs.declared.wire_pointer.ElementSize.TheVariants
 Rattle.capnp_arena_traits.specs.Checks
  Holds |Holds
 
+Rattle.capnp_objects.specs.Expected
+ data_expected|data_expected
+(list_expected |list_expected
+ struct_expected|struct_expected
+ text_expected|text_expected
+
 Rattle.capnp_objects.specs.Reading
  source_start |source_start
+(source_start |source_start
+(word_of |word_of
 
 Rattle.capnp_objects.specs.Source
 (levels |levels
@@ -103,6 +114,20 @@ Rattle.capnp_readers.specs.Values
 (child_cost |child_cost
  list_length |list_length
 (struct_element |struct_element
+
+Rattle.typed_reading.specs.Outcomes
+ capability_index|capability_index
+ default_outcome |default_outcome
+ reading_outcome |reading_outcome
+ root_outcome |root_outcome
+(root_place |root_place
+
+Rattle.typed_reading.specs.Sections
+ ElementHasSections |ElementHasSections
+ LeadsToSectionsOf |LeadsToSectionsOf
+ ShowsSectionsOf |ShowsSectionsOf
+(pointer_field |pointer_field
+ pointer_field |pointer_field
 
 Rattle.typed_reading.specs.Values
  IsDefault |IsDefault
@@ -254,6 +279,9 @@ Rattle.capnp_readers.specs.Values
 (struct_children |struct_children
 (struct_data |struct_data
 
+Rattle.capnp_copies.specs.Changes
+(copy_call |copy_call
+
 Rattle.capnp_copies.specs.Originals
 (value_original |value_original
 
@@ -279,12 +307,18 @@ Rattle.capnp_builders.specs.Held
 (element_of |element_of
 (pointer_to |pointer_to
 
+Rattle.capnp_builders.specs.Kept
+(LeavesCleared|LeavesCleared
+ PutsCopy|PutsCopy
+
 Rattle.capnp_builders.specs.Places
  element_place |element_place
 (element_place |element_place
 (field |field
 
 Rattle.typed_building.specs.Copied
+(IsNotCopied|IsNotCopied
+ ReadsToCopy|ReadsToCopy
 (copied_list |copied_list
 (copied_struct |copied_struct
 

@@ -77,12 +77,32 @@ const PARTS: &str = "@there: What each call that writes needs and that has no ot
             → MakesChild result
             (call_in self.place (A.view arena.old).words (A.view arena.new).words) ~index~
             ~copy~ }
+        ensures copied { IfOk result (λ _. PutsCopy
+            (~original~)
+            (copy_call plain
+            (call_on self.place ~index~ (A.view arena.old) (A.view arena.new))
+            lim.old lim.new)) }
+        ensures refused { IfErr result (LeavesCleared
+            (~original~)
+            (copy_call plain
+            (call_on self.place ~index~ (A.view arena.old) (A.view arena.new))
+            lim.old lim.new)) }
 @copy_member: The same, if the field is a member of a union.
         ensures member { (t : Tree) → ~shows~ t
             → MakesMember result
             (call_in self.place (A.view arena.old).words (A.view arena.new).words)
             ~tagged~~index~
             ~copy~ }
+        ensures copied { IfOk result (λ _. ReadsToCopy
+            (~original~)
+            (copy_call plain
+            (call_on self.place ~index~ (A.view arena.old) (A.view arena.new))
+            lim.old lim.new)) }
+        ensures refused { IfErr result (IsNotCopied
+            (~original~)
+            (copy_call plain
+            (call_on self.place ~index~ (A.view arena.old) (A.view arena.new))
+            lim.old lim.new)) }
 @struct_there: What the call of a struct ensures of the place that it returns.
         ensures there { IfOk result (λ b.
             HasStructPlace (A.view arena.new).words ~module~_size b.place) }

@@ -31,6 +31,19 @@ pub const ROOT: &str = "    /// Returns the root of a message.
         ensures answered { let S = message (A.segments arena.now) in (t : Tree) (c : ℕ)
             → Holds S 0 0 1 → IsStructOrNull t → Means S (levels (A.nesting arena.now)) 0 0 t c
             → Affords (A.charging arena.now) lim.old (1 + c) → IsOk result }
+        ensures left { (t : Tree) (c : ℕ)
+            → Means (message (A.segments arena.now)) (levels (A.nesting arena.now)) 0 0 t c
+            → Affords (A.charging arena.now) lim.old (1 + c)
+            → IfOk result (λ r. (shows : ShowsStructOf A.ReaderArena r.reader t) (i : ℕ)
+            → Affords (source_start A.ReaderArena r.reader.source).charging lim.new
+            (child_cost A.ReaderArena shows i)) }
+        ensures words { AreWords (message (A.segments arena.now))
+            → IfOk result (λ r. AreWords (source_start A.ReaderArena r.reader.source).segments) }
+        ensures exactly { root_outcome A.ReaderArena arena.entry lim.old
+            ≡ (result_err result, lim.new) }
+        ensures sections { (t : Tree)
+            → LeadsToSectionsOf (root_place A.ReaderArena arena.entry) t
+            → IfOk result (λ r. ShowsSectionsOf A.ReaderArena r.reader t) }
     {
         match value::root(arena, lim) {
             Ok(reader) => Ok(Reader { reader }),
@@ -74,6 +87,9 @@ impl<'a, A: ReaderArena> Readers<'a, A> {
         requires { index < self.now.list.reader.count }
         ensures value { (t : Tree) → ShowsListOf A.ReaderArena self.now.list.reader t
             → HasStructs t → ShowsStructOf A.ReaderArena result.reader (struct_element t index) }
+        ensures sections { (t : Tree)
+            → ElementHasSections A.ReaderArena self.now.list.reader index t
+            → ShowsSectionsOf A.ReaderArena result.reader t }
         ensures source { result.reader.source ≡ self.now.list.reader.source }
     {
         Reader {
@@ -85,7 +101,9 @@ impl<'a, A: ReaderArena> Readers<'a, A> {
 
 /// A number without a sign, or the bits of a float.
 pub const UNSIGNED: &str =
-    "        ensures { (t : Tree) → ShowsStructOf A.ReaderArena self.now.reader t
+    "        ensures value { (t : Tree) → ShowsStructOf A.ReaderArena self.now.reader t
+            → result ≡ ~spec~ t }
+        ensures sections { (t : Tree) → ShowsSectionsOf A.ReaderArena self.now.reader t
             → result ≡ ~spec~ t }
     {
         ~read~
@@ -94,7 +112,9 @@ pub const UNSIGNED: &str =
 
 /// A number with a sign.
 pub const SIGNED: &str =
-    "        ensures { (t : Tree) → ShowsStructOf A.ReaderArena self.now.reader t
+    "        ensures value { (t : Tree) → ShowsStructOf A.ReaderArena self.now.reader t
+            → cast_unsigned w~bits~ result ≡ ~spec~ t }
+        ensures sections { (t : Tree) → ShowsSectionsOf A.ReaderArena self.now.reader t
             → cast_unsigned w~bits~ result ≡ ~spec~ t }
     {
         ~read~
@@ -128,7 +148,10 @@ pub const HAS_ABOUT: &str = "
 ";
 
 /// A bit.
-pub const BOOL: &str = "        ensures { (t : Tree) → ShowsStructOf A.ReaderArena self.now.reader t
+pub const BOOL: &str =
+    "        ensures value { (t : Tree) → ShowsStructOf A.ReaderArena self.now.reader t
+            → (IsTrue result ↔ (~spec~ t ~sense~ 1)) }
+        ensures sections { (t : Tree) → ShowsSectionsOf A.ReaderArena self.now.reader t
             → (IsTrue result ↔ (~spec~ t ~sense~ 1)) }
     {
         ~read~
@@ -141,6 +164,13 @@ pub const ENUM: &str =
             → IfOk result (λ e. ~module~_number e
             ≡ ~spec~ t) }
         ensures unknown { (t : Tree) → ShowsStructOf A.ReaderArena self.now.reader t
+            → IfErr result (λ e. (e.0 ≡ ~spec~ t)
+            × (~count~ ≤ ~spec~ t)) }
+        ensures sections { (t : Tree) → ShowsSectionsOf A.ReaderArena self.now.reader t
+            → IfOk result (λ e. ~module~_number e
+            ≡ ~spec~ t) }
+        ensures unknown_sections { (t : Tree)
+            → ShowsSectionsOf A.ReaderArena self.now.reader t
             → IfErr result (λ e. (e.0 ≡ ~spec~ t)
             × (~count~ ≤ ~spec~ t)) }
     {
@@ -166,6 +196,9 @@ pub const TEXT: &str =
             → AreWords start.segments → IsText (child ~index~ t)
             → Affords start.charging lim.old (child_cost A.ReaderArena shows ~index~)
             → IsOk result }
+        ensures exactly { reading_outcome text_expected
+            (pointer_field A.ReaderArena self.now.reader ~index~) lim.old
+            ≡ (result_err result, lim.new) }
     {
         ~read~
     }
@@ -180,6 +213,9 @@ pub const DATA: &str =
             → IsBytes (child ~index~ t)
             → Affords start.charging lim.old (child_cost A.ReaderArena shows ~index~)
             → IsOk result }
+        ensures exactly { reading_outcome data_expected
+            (pointer_field A.ReaderArena self.now.reader ~index~) lim.old
+            ≡ (result_err result, lim.new) }
     {
         ~read~
     }
@@ -195,6 +231,21 @@ pub const STRUCT: &str =
             → IsStructOrNull (~spec~ t)
             → Affords start.charging lim.old (child_cost A.ReaderArena shows ~index~)
             → IsOk result }
+        ensures left { let start = source_start A.ReaderArena self.now.reader.source in
+            (t : Tree) (shows : ShowsStructOf A.ReaderArena self.now.reader t)
+            → Affords start.charging lim.old (child_cost A.ReaderArena shows ~index~)
+            → IfOk result (λ r.
+            (inner : ShowsStructOf A.ReaderArena r.reader (~spec~ t)) (i : ℕ)
+            → Affords (source_start A.ReaderArena r.reader.source).charging lim.new
+            (child_cost A.ReaderArena inner i)) }
+        ensures words { AreWords (source_start A.ReaderArena self.now.reader.source).segments
+            → IfOk result (λ r. AreWords (source_start A.ReaderArena r.reader.source).segments) }
+        ensures exactly { reading_outcome struct_expected
+            (pointer_field A.ReaderArena self.now.reader ~index~) lim.old
+            ≡ (result_err result, lim.new) }
+        ensures sections { (t : Tree)
+            → LeadsToSectionsOf (pointer_field A.ReaderArena self.now.reader ~index~) t
+            → IfOk result (λ r. ShowsSectionsOf A.ReaderArena r.reader t) }
     {
         match value::get_struct(&self.reader, ~index~, lim) {
             Ok(reader) => Ok(~path~Reader { reader }),
@@ -222,6 +273,9 @@ pub const STRUCT_OR: &str =
             → ~spec~ t ≡ Null
             → IsDefault ~default~ d
             → IsStructOrNull d → IsOk result }
+        ensures exactly { default_outcome struct_expected ~default~
+            (pointer_field A.ReaderArena self.now.reader ~index~) lim.old
+            ≡ (result_err result, lim.new) }
     {
         let default =~literal~;
         match value::get_struct_or(&self.reader, ~index~, default, lim) {
@@ -250,6 +304,9 @@ pub const LIST_OR: &str =
             → ~spec~ t ≡ Null
             → IsDefault ~default~ d
             → FitsSize ~size~ d → IsOk result }
+        ensures exactly { default_outcome (list_expected ~size~) ~default~
+            (pointer_field A.ReaderArena self.now.reader ~index~) lim.old
+            ≡ (result_err result, lim.new) }
     {
         let default =~literal~;
         ~read~
@@ -266,6 +323,16 @@ pub const LIST: &str =
             → FitsSize ~size~ (~spec~ t)
             → Affords start.charging lim.old (child_cost A.ReaderArena shows ~index~)
             → IsOk result }
+        ensures left { let start = source_start A.ReaderArena self.now.reader.source in
+            (t : Tree) (shows : ShowsStructOf A.ReaderArena self.now.reader t)
+            → Affords start.charging lim.old (child_cost A.ReaderArena shows ~index~)
+            → IfOk result (λ r.
+            (inner : ShowsListOf A.ReaderArena ~list~ (~spec~ t))
+            → Affords (source_start A.ReaderArena ~list~.source).charging lim.new
+            inner.cost) }
+        ensures exactly { reading_outcome (list_expected ~size~)
+            (pointer_field A.ReaderArena self.now.reader ~index~) lim.old
+            ≡ (result_err result, lim.new) }
     {
         ~read~
     }
@@ -273,8 +340,10 @@ pub const LIST: &str =
 
 /// A pointer that can lead to anything.
 pub const POINTER: &str =
-    "        ensures { (t : Tree) → ShowsStructOf A.ReaderArena self.now.reader t
+    "        ensures value { (t : Tree) → ShowsStructOf A.ReaderArena self.now.reader t
             → HasValue (read_by A.ReaderArena result) (~spec~ t) }
+        ensures place { read_by A.ReaderArena result
+            ≡ pointer_field A.ReaderArena self.now.reader ~index~ }
     {
         value::get_pointer(&self.reader, ~index~)
     }
@@ -282,16 +351,21 @@ pub const POINTER: &str =
 
 /// A capability.
 pub const CAPABILITY: &str =
-    "        ensures { (t : Tree) (i : ℕ) → ShowsStructOf A.ReaderArena self.now.reader t
+    "        ensures value { (t : Tree) (i : ℕ) → ShowsStructOf A.ReaderArena self.now.reader t
             → ~spec~ t ≡ Capability i → IfOk result (λ n. n ≡ i) }
+        ensures exactly { result ≡ capability_index
+            (word_of (pointer_field A.ReaderArena self.now.reader ~index~)) }
     {
         value::get_capability(&self.reader, ~index~)
     }
 ";
 
 /// Whether a pointer is set.
-pub const HAS: &str = "        ensures { (t : Tree) → ShowsStructOf A.ReaderArena self.now.reader t
+pub const HAS: &str =
+    "        ensures value { (t : Tree) → ShowsStructOf A.ReaderArena self.now.reader t
             → (IsTrue result ↔ (child ~index~ t ≢ Null)) }
+        ensures word { IsTrue result
+            ↔ (word_of (pointer_field A.ReaderArena self.now.reader ~index~) ≢ 0) }
     {
         value::has(&self.reader, ~index~)
     }

@@ -2,6 +2,7 @@
 ghost use Rattle.std.specs.Prelude.{◌≡◌, ⊤};
 ghost use Rattle.capnp_format.specs.Tree.{Tree};
 ghost use Rattle.capnp_readers.specs.Values.{ShowsStructOf};
+ghost use Rattle.typed_reading.specs.Sections.{ShowsSectionsOf};
 ghost use Rattle.schema_reading.specs.Schema.{field_group_type_id};
 
 use capnp_arena_traits::arena::ReaderArena;
@@ -30,7 +31,9 @@ impl<'a, A: ReaderArena> Copy for Reader<'a, A> {}
 impl<'a, A: ReaderArena> Reader<'a, A> {
     /// typeId @7 :UInt64
     pub fn get_type_id(&self) -> u64
-        ensures { (t : Tree) → ShowsStructOf A.ReaderArena self.now.reader t
+        ensures value { (t : Tree) → ShowsStructOf A.ReaderArena self.now.reader t
+            → result ≡ field_group_type_id t }
+        ensures sections { (t : Tree) → ShowsSectionsOf A.ReaderArena self.now.reader t
             → result ≡ field_group_type_id t }
     {
         value::get_number(&self.reader, 2)

@@ -2,6 +2,7 @@
 ghost use Rattle.std.specs.Prelude.{◌≡◌, ◌≤◌, IfOk, IfErr, ⊤};
 ghost use Rattle.capnp_format.specs.Tree.{Tree};
 ghost use Rattle.capnp_readers.specs.Values.{ShowsStructOf};
+ghost use Rattle.typed_reading.specs.Sections.{ShowsSectionsOf};
 ghost use Rattle.schema_reading.specs.Schema.{field_ordinal_explicit, field_ordinal_tag};
 ghost use Rattle.schema_reading.specs.OfFieldOrdinalWhich.{field_ordinal_which_number};
 
@@ -33,7 +34,9 @@ impl<'a, A: ReaderArena> Copy for Reader<'a, A> {}
 impl<'a, A: ReaderArena> Reader<'a, A> {
     /// explicit @9 :UInt16
     pub fn get_explicit(&self) -> u16
-        ensures { (t : Tree) → ShowsStructOf A.ReaderArena self.now.reader t
+        ensures value { (t : Tree) → ShowsStructOf A.ReaderArena self.now.reader t
+            → result ≡ field_ordinal_explicit t }
+        ensures sections { (t : Tree) → ShowsSectionsOf A.ReaderArena self.now.reader t
             → result ≡ field_ordinal_explicit t }
     {
         value::get_number(&self.reader, 6)
@@ -45,6 +48,13 @@ impl<'a, A: ReaderArena> Reader<'a, A> {
             → IfOk result (λ e. field_ordinal_which_number e
             ≡ field_ordinal_tag t) }
         ensures unknown { (t : Tree) → ShowsStructOf A.ReaderArena self.now.reader t
+            → IfErr result (λ e. (e.0 ≡ field_ordinal_tag t)
+            × (2 ≤ field_ordinal_tag t)) }
+        ensures sections { (t : Tree) → ShowsSectionsOf A.ReaderArena self.now.reader t
+            → IfOk result (λ e. field_ordinal_which_number e
+            ≡ field_ordinal_tag t) }
+        ensures unknown_sections { (t : Tree)
+            → ShowsSectionsOf A.ReaderArena self.now.reader t
             → IfErr result (λ e. (e.0 ≡ field_ordinal_tag t)
             × (2 ≤ field_ordinal_tag t)) }
     {

@@ -1,5 +1,6 @@
 //! Method
 ghost use Rattle.std.specs.Prelude.{◌≡◌, ◌≢◌, ◌<◌, ◌+◌, ◌↔◌, ℕ, IsTrue, IfOk, IsOk, ⊤};
+ghost use Rattle.std.specs.Result.{result_err};
 ghost use Rattle.capnp_format.specs.Bytes.{message};
 ghost use Rattle.capnp_format.specs.Means.{Means};
 ghost use Rattle.capnp_format.specs.Segments.{AreWords};
@@ -7,9 +8,12 @@ ghost use Rattle.capnp_format.specs.Tree.{Tree, Null};
 ghost use Rattle.capnp_words.specs.Meter.{Affords};
 ghost use Rattle.capnp_words.specs.declared.wire_pointer.ElementSize.TheVariants.{InlineComposite};
 ghost use Rattle.capnp_arena_traits.specs.Checks.{Holds};
-ghost use Rattle.capnp_objects.specs.Reading.{source_start};
+ghost use Rattle.capnp_objects.specs.Expected.{list_expected, struct_expected, text_expected};
+ghost use Rattle.capnp_objects.specs.Reading.{source_start, word_of};
 ghost use Rattle.capnp_objects.specs.Source.{levels};
 ghost use Rattle.capnp_readers.specs.Values.{FitsSize, HasStructs, IsStructOrNull, IsText, ShowsListOf, ShowsStructOf, child_cost, list_length, struct_element};
+ghost use Rattle.typed_reading.specs.Outcomes.{reading_outcome, root_outcome, root_place};
+ghost use Rattle.typed_reading.specs.Sections.{ElementHasSections, LeadsToSectionsOf, ShowsSectionsOf, pointer_field};
 ghost use Rattle.typed_reading.specs.Values.{child};
 ghost use Rattle.schema_reading.specs.Schema.{method_name, method_code_order, method_param_struct_type, method_result_struct_type, method_annotations, method_param_brand, method_result_brand, method_implicit_parameters};
 
@@ -49,6 +53,19 @@ impl<'a, A: ReaderArena> Reader<'a, A> {
         ensures answered { let S = message (A.segments arena.now) in (t : Tree) (c : ℕ)
             → Holds S 0 0 1 → IsStructOrNull t → Means S (levels (A.nesting arena.now)) 0 0 t c
             → Affords (A.charging arena.now) lim.old (1 + c) → IsOk result }
+        ensures left { (t : Tree) (c : ℕ)
+            → Means (message (A.segments arena.now)) (levels (A.nesting arena.now)) 0 0 t c
+            → Affords (A.charging arena.now) lim.old (1 + c)
+            → IfOk result (λ r. (shows : ShowsStructOf A.ReaderArena r.reader t) (i : ℕ)
+            → Affords (source_start A.ReaderArena r.reader.source).charging lim.new
+            (child_cost A.ReaderArena shows i)) }
+        ensures words { AreWords (message (A.segments arena.now))
+            → IfOk result (λ r. AreWords (source_start A.ReaderArena r.reader.source).segments) }
+        ensures exactly { root_outcome A.ReaderArena arena.entry lim.old
+            ≡ (result_err result, lim.new) }
+        ensures sections { (t : Tree)
+            → LeadsToSectionsOf (root_place A.ReaderArena arena.entry) t
+            → IfOk result (λ r. ShowsSectionsOf A.ReaderArena r.reader t) }
     {
         match value::root(arena, lim) {
             Ok(reader) => Ok(Reader { reader }),
@@ -65,21 +82,28 @@ impl<'a, A: ReaderArena> Reader<'a, A> {
             → AreWords start.segments → IsText (child 0 t)
             → Affords start.charging lim.old (child_cost A.ReaderArena shows 0)
             → IsOk result }
+        ensures exactly { reading_outcome text_expected
+            (pointer_field A.ReaderArena self.now.reader 0) lim.old
+            ≡ (result_err result, lim.new) }
     {
         value::get_text(&self.reader, 0, lim)
     }
 
     /// Whether the pointer of name is not null.
     pub fn has_name(&self) -> bool
-        ensures { (t : Tree) → ShowsStructOf A.ReaderArena self.now.reader t
+        ensures value { (t : Tree) → ShowsStructOf A.ReaderArena self.now.reader t
             → (IsTrue result ↔ (child 0 t ≢ Null)) }
+        ensures word { IsTrue result
+            ↔ (word_of (pointer_field A.ReaderArena self.now.reader 0) ≢ 0) }
     {
         value::has(&self.reader, 0)
     }
 
     /// codeOrder @1 :UInt16
     pub fn get_code_order(&self) -> u16
-        ensures { (t : Tree) → ShowsStructOf A.ReaderArena self.now.reader t
+        ensures value { (t : Tree) → ShowsStructOf A.ReaderArena self.now.reader t
+            → result ≡ method_code_order t }
+        ensures sections { (t : Tree) → ShowsSectionsOf A.ReaderArena self.now.reader t
             → result ≡ method_code_order t }
     {
         value::get_number(&self.reader, 0)
@@ -87,7 +111,9 @@ impl<'a, A: ReaderArena> Reader<'a, A> {
 
     /// paramStructType @2 :UInt64
     pub fn get_param_struct_type(&self) -> u64
-        ensures { (t : Tree) → ShowsStructOf A.ReaderArena self.now.reader t
+        ensures value { (t : Tree) → ShowsStructOf A.ReaderArena self.now.reader t
+            → result ≡ method_param_struct_type t }
+        ensures sections { (t : Tree) → ShowsSectionsOf A.ReaderArena self.now.reader t
             → result ≡ method_param_struct_type t }
     {
         value::get_number(&self.reader, 1)
@@ -95,7 +121,9 @@ impl<'a, A: ReaderArena> Reader<'a, A> {
 
     /// resultStructType @3 :UInt64
     pub fn get_result_struct_type(&self) -> u64
-        ensures { (t : Tree) → ShowsStructOf A.ReaderArena self.now.reader t
+        ensures value { (t : Tree) → ShowsStructOf A.ReaderArena self.now.reader t
+            → result ≡ method_result_struct_type t }
+        ensures sections { (t : Tree) → ShowsSectionsOf A.ReaderArena self.now.reader t
             → result ≡ method_result_struct_type t }
     {
         value::get_number(&self.reader, 2)
@@ -114,6 +142,16 @@ impl<'a, A: ReaderArena> Reader<'a, A> {
             → FitsSize InlineComposite (method_annotations t)
             → Affords start.charging lim.old (child_cost A.ReaderArena shows 1)
             → IsOk result }
+        ensures left { let start = source_start A.ReaderArena self.now.reader.source in
+            (t : Tree) (shows : ShowsStructOf A.ReaderArena self.now.reader t)
+            → Affords start.charging lim.old (child_cost A.ReaderArena shows 1)
+            → IfOk result (λ r.
+            (inner : ShowsListOf A.ReaderArena r.list.reader (method_annotations t))
+            → Affords (source_start A.ReaderArena r.list.reader.source).charging lim.new
+            inner.cost) }
+        ensures exactly { reading_outcome (list_expected InlineComposite)
+            (pointer_field A.ReaderArena self.now.reader 1) lim.old
+            ≡ (result_err result, lim.new) }
     {
         match list::get_structs(&self.reader, 1, lim) {
             Ok(list) => Ok(annotation::Readers { list }),
@@ -123,8 +161,10 @@ impl<'a, A: ReaderArena> Reader<'a, A> {
 
     /// Whether the pointer of annotations is not null.
     pub fn has_annotations(&self) -> bool
-        ensures { (t : Tree) → ShowsStructOf A.ReaderArena self.now.reader t
+        ensures value { (t : Tree) → ShowsStructOf A.ReaderArena self.now.reader t
             → (IsTrue result ↔ (child 1 t ≢ Null)) }
+        ensures word { IsTrue result
+            ↔ (word_of (pointer_field A.ReaderArena self.now.reader 1) ≢ 0) }
     {
         value::has(&self.reader, 1)
     }
@@ -139,6 +179,21 @@ impl<'a, A: ReaderArena> Reader<'a, A> {
             → IsStructOrNull (method_param_brand t)
             → Affords start.charging lim.old (child_cost A.ReaderArena shows 2)
             → IsOk result }
+        ensures left { let start = source_start A.ReaderArena self.now.reader.source in
+            (t : Tree) (shows : ShowsStructOf A.ReaderArena self.now.reader t)
+            → Affords start.charging lim.old (child_cost A.ReaderArena shows 2)
+            → IfOk result (λ r.
+            (inner : ShowsStructOf A.ReaderArena r.reader (method_param_brand t)) (i : ℕ)
+            → Affords (source_start A.ReaderArena r.reader.source).charging lim.new
+            (child_cost A.ReaderArena inner i)) }
+        ensures words { AreWords (source_start A.ReaderArena self.now.reader.source).segments
+            → IfOk result (λ r. AreWords (source_start A.ReaderArena r.reader.source).segments) }
+        ensures exactly { reading_outcome struct_expected
+            (pointer_field A.ReaderArena self.now.reader 2) lim.old
+            ≡ (result_err result, lim.new) }
+        ensures sections { (t : Tree)
+            → LeadsToSectionsOf (pointer_field A.ReaderArena self.now.reader 2) t
+            → IfOk result (λ r. ShowsSectionsOf A.ReaderArena r.reader t) }
     {
         match value::get_struct(&self.reader, 2, lim) {
             Ok(reader) => Ok(brand::Reader { reader }),
@@ -148,8 +203,10 @@ impl<'a, A: ReaderArena> Reader<'a, A> {
 
     /// Whether the pointer of paramBrand is not null.
     pub fn has_param_brand(&self) -> bool
-        ensures { (t : Tree) → ShowsStructOf A.ReaderArena self.now.reader t
+        ensures value { (t : Tree) → ShowsStructOf A.ReaderArena self.now.reader t
             → (IsTrue result ↔ (child 2 t ≢ Null)) }
+        ensures word { IsTrue result
+            ↔ (word_of (pointer_field A.ReaderArena self.now.reader 2) ≢ 0) }
     {
         value::has(&self.reader, 2)
     }
@@ -164,6 +221,21 @@ impl<'a, A: ReaderArena> Reader<'a, A> {
             → IsStructOrNull (method_result_brand t)
             → Affords start.charging lim.old (child_cost A.ReaderArena shows 3)
             → IsOk result }
+        ensures left { let start = source_start A.ReaderArena self.now.reader.source in
+            (t : Tree) (shows : ShowsStructOf A.ReaderArena self.now.reader t)
+            → Affords start.charging lim.old (child_cost A.ReaderArena shows 3)
+            → IfOk result (λ r.
+            (inner : ShowsStructOf A.ReaderArena r.reader (method_result_brand t)) (i : ℕ)
+            → Affords (source_start A.ReaderArena r.reader.source).charging lim.new
+            (child_cost A.ReaderArena inner i)) }
+        ensures words { AreWords (source_start A.ReaderArena self.now.reader.source).segments
+            → IfOk result (λ r. AreWords (source_start A.ReaderArena r.reader.source).segments) }
+        ensures exactly { reading_outcome struct_expected
+            (pointer_field A.ReaderArena self.now.reader 3) lim.old
+            ≡ (result_err result, lim.new) }
+        ensures sections { (t : Tree)
+            → LeadsToSectionsOf (pointer_field A.ReaderArena self.now.reader 3) t
+            → IfOk result (λ r. ShowsSectionsOf A.ReaderArena r.reader t) }
     {
         match value::get_struct(&self.reader, 3, lim) {
             Ok(reader) => Ok(brand::Reader { reader }),
@@ -173,8 +245,10 @@ impl<'a, A: ReaderArena> Reader<'a, A> {
 
     /// Whether the pointer of resultBrand is not null.
     pub fn has_result_brand(&self) -> bool
-        ensures { (t : Tree) → ShowsStructOf A.ReaderArena self.now.reader t
+        ensures value { (t : Tree) → ShowsStructOf A.ReaderArena self.now.reader t
             → (IsTrue result ↔ (child 3 t ≢ Null)) }
+        ensures word { IsTrue result
+            ↔ (word_of (pointer_field A.ReaderArena self.now.reader 3) ≢ 0) }
     {
         value::has(&self.reader, 3)
     }
@@ -192,6 +266,16 @@ impl<'a, A: ReaderArena> Reader<'a, A> {
             → FitsSize InlineComposite (method_implicit_parameters t)
             → Affords start.charging lim.old (child_cost A.ReaderArena shows 4)
             → IsOk result }
+        ensures left { let start = source_start A.ReaderArena self.now.reader.source in
+            (t : Tree) (shows : ShowsStructOf A.ReaderArena self.now.reader t)
+            → Affords start.charging lim.old (child_cost A.ReaderArena shows 4)
+            → IfOk result (λ r.
+            (inner : ShowsListOf A.ReaderArena r.list.reader (method_implicit_parameters t))
+            → Affords (source_start A.ReaderArena r.list.reader.source).charging lim.new
+            inner.cost) }
+        ensures exactly { reading_outcome (list_expected InlineComposite)
+            (pointer_field A.ReaderArena self.now.reader 4) lim.old
+            ≡ (result_err result, lim.new) }
     {
         match list::get_structs(&self.reader, 4, lim) {
             Ok(list) => Ok(node_parameter::Readers { list }),
@@ -201,8 +285,10 @@ impl<'a, A: ReaderArena> Reader<'a, A> {
 
     /// Whether the pointer of implicitParameters is not null.
     pub fn has_implicit_parameters(&self) -> bool
-        ensures { (t : Tree) → ShowsStructOf A.ReaderArena self.now.reader t
+        ensures value { (t : Tree) → ShowsStructOf A.ReaderArena self.now.reader t
             → (IsTrue result ↔ (child 4 t ≢ Null)) }
+        ensures word { IsTrue result
+            ↔ (word_of (pointer_field A.ReaderArena self.now.reader 4) ≢ 0) }
     {
         value::has(&self.reader, 4)
     }
@@ -241,6 +327,9 @@ impl<'a, A: ReaderArena> Readers<'a, A> {
         requires { index < self.now.list.reader.count }
         ensures value { (t : Tree) → ShowsListOf A.ReaderArena self.now.list.reader t
             → HasStructs t → ShowsStructOf A.ReaderArena result.reader (struct_element t index) }
+        ensures sections { (t : Tree)
+            → ElementHasSections A.ReaderArena self.now.list.reader index t
+            → ShowsSectionsOf A.ReaderArena result.reader t }
         ensures source { result.reader.source ≡ self.now.list.reader.source }
     {
         Reader {

@@ -1,5 +1,6 @@
 //! Node
 ghost use Rattle.std.specs.Prelude.{◌≡◌, ◌≢◌, ◌<◌, ◌≤◌, ◌+◌, ◌↔◌, ℕ, IsTrue, IfOk, IfErr, IsOk, ⊤};
+ghost use Rattle.std.specs.Result.{result_err};
 ghost use Rattle.capnp_format.specs.Bytes.{message};
 ghost use Rattle.capnp_format.specs.Means.{Means};
 ghost use Rattle.capnp_format.specs.Segments.{AreWords};
@@ -7,9 +8,12 @@ ghost use Rattle.capnp_format.specs.Tree.{Tree, Null};
 ghost use Rattle.capnp_words.specs.Meter.{Affords};
 ghost use Rattle.capnp_words.specs.declared.wire_pointer.ElementSize.TheVariants.{InlineComposite};
 ghost use Rattle.capnp_arena_traits.specs.Checks.{Holds};
-ghost use Rattle.capnp_objects.specs.Reading.{source_start};
+ghost use Rattle.capnp_objects.specs.Expected.{list_expected, text_expected};
+ghost use Rattle.capnp_objects.specs.Reading.{source_start, word_of};
 ghost use Rattle.capnp_objects.specs.Source.{levels};
 ghost use Rattle.capnp_readers.specs.Values.{FitsSize, HasStructs, IsStructOrNull, IsText, ShowsListOf, ShowsStructOf, child_cost, list_length, struct_element};
+ghost use Rattle.typed_reading.specs.Outcomes.{reading_outcome, root_outcome, root_place};
+ghost use Rattle.typed_reading.specs.Sections.{ElementHasSections, LeadsToSectionsOf, ShowsSectionsOf, pointer_field};
 ghost use Rattle.typed_reading.specs.Values.{child};
 ghost use Rattle.schema_reading.specs.Schema.{node_id, node_display_name, node_display_name_prefix_length, node_scope_id, node_nested_nodes, node_annotations, node_parameters, node_is_generic, node_tag};
 ghost use Rattle.schema_reading.specs.OfNodeWhich.{node_which_number};
@@ -54,6 +58,19 @@ impl<'a, A: ReaderArena> Reader<'a, A> {
         ensures answered { let S = message (A.segments arena.now) in (t : Tree) (c : ℕ)
             → Holds S 0 0 1 → IsStructOrNull t → Means S (levels (A.nesting arena.now)) 0 0 t c
             → Affords (A.charging arena.now) lim.old (1 + c) → IsOk result }
+        ensures left { (t : Tree) (c : ℕ)
+            → Means (message (A.segments arena.now)) (levels (A.nesting arena.now)) 0 0 t c
+            → Affords (A.charging arena.now) lim.old (1 + c)
+            → IfOk result (λ r. (shows : ShowsStructOf A.ReaderArena r.reader t) (i : ℕ)
+            → Affords (source_start A.ReaderArena r.reader.source).charging lim.new
+            (child_cost A.ReaderArena shows i)) }
+        ensures words { AreWords (message (A.segments arena.now))
+            → IfOk result (λ r. AreWords (source_start A.ReaderArena r.reader.source).segments) }
+        ensures exactly { root_outcome A.ReaderArena arena.entry lim.old
+            ≡ (result_err result, lim.new) }
+        ensures sections { (t : Tree)
+            → LeadsToSectionsOf (root_place A.ReaderArena arena.entry) t
+            → IfOk result (λ r. ShowsSectionsOf A.ReaderArena r.reader t) }
     {
         match value::root(arena, lim) {
             Ok(reader) => Ok(Reader { reader }),
@@ -63,7 +80,9 @@ impl<'a, A: ReaderArena> Reader<'a, A> {
 
     /// id @0 :UInt64
     pub fn get_id(&self) -> u64
-        ensures { (t : Tree) → ShowsStructOf A.ReaderArena self.now.reader t
+        ensures value { (t : Tree) → ShowsStructOf A.ReaderArena self.now.reader t
+            → result ≡ node_id t }
+        ensures sections { (t : Tree) → ShowsSectionsOf A.ReaderArena self.now.reader t
             → result ≡ node_id t }
     {
         value::get_number(&self.reader, 0)
@@ -78,21 +97,28 @@ impl<'a, A: ReaderArena> Reader<'a, A> {
             → AreWords start.segments → IsText (child 0 t)
             → Affords start.charging lim.old (child_cost A.ReaderArena shows 0)
             → IsOk result }
+        ensures exactly { reading_outcome text_expected
+            (pointer_field A.ReaderArena self.now.reader 0) lim.old
+            ≡ (result_err result, lim.new) }
     {
         value::get_text(&self.reader, 0, lim)
     }
 
     /// Whether the pointer of displayName is not null.
     pub fn has_display_name(&self) -> bool
-        ensures { (t : Tree) → ShowsStructOf A.ReaderArena self.now.reader t
+        ensures value { (t : Tree) → ShowsStructOf A.ReaderArena self.now.reader t
             → (IsTrue result ↔ (child 0 t ≢ Null)) }
+        ensures word { IsTrue result
+            ↔ (word_of (pointer_field A.ReaderArena self.now.reader 0) ≢ 0) }
     {
         value::has(&self.reader, 0)
     }
 
     /// displayNamePrefixLength @2 :UInt32
     pub fn get_display_name_prefix_length(&self) -> u32
-        ensures { (t : Tree) → ShowsStructOf A.ReaderArena self.now.reader t
+        ensures value { (t : Tree) → ShowsStructOf A.ReaderArena self.now.reader t
+            → result ≡ node_display_name_prefix_length t }
+        ensures sections { (t : Tree) → ShowsSectionsOf A.ReaderArena self.now.reader t
             → result ≡ node_display_name_prefix_length t }
     {
         value::get_number(&self.reader, 2)
@@ -100,7 +126,9 @@ impl<'a, A: ReaderArena> Reader<'a, A> {
 
     /// scopeId @3 :UInt64
     pub fn get_scope_id(&self) -> u64
-        ensures { (t : Tree) → ShowsStructOf A.ReaderArena self.now.reader t
+        ensures value { (t : Tree) → ShowsStructOf A.ReaderArena self.now.reader t
+            → result ≡ node_scope_id t }
+        ensures sections { (t : Tree) → ShowsSectionsOf A.ReaderArena self.now.reader t
             → result ≡ node_scope_id t }
     {
         value::get_number(&self.reader, 2)
@@ -119,6 +147,16 @@ impl<'a, A: ReaderArena> Reader<'a, A> {
             → FitsSize InlineComposite (node_nested_nodes t)
             → Affords start.charging lim.old (child_cost A.ReaderArena shows 1)
             → IsOk result }
+        ensures left { let start = source_start A.ReaderArena self.now.reader.source in
+            (t : Tree) (shows : ShowsStructOf A.ReaderArena self.now.reader t)
+            → Affords start.charging lim.old (child_cost A.ReaderArena shows 1)
+            → IfOk result (λ r.
+            (inner : ShowsListOf A.ReaderArena r.list.reader (node_nested_nodes t))
+            → Affords (source_start A.ReaderArena r.list.reader.source).charging lim.new
+            inner.cost) }
+        ensures exactly { reading_outcome (list_expected InlineComposite)
+            (pointer_field A.ReaderArena self.now.reader 1) lim.old
+            ≡ (result_err result, lim.new) }
     {
         match list::get_structs(&self.reader, 1, lim) {
             Ok(list) => Ok(node_nested_node::Readers { list }),
@@ -128,8 +166,10 @@ impl<'a, A: ReaderArena> Reader<'a, A> {
 
     /// Whether the pointer of nestedNodes is not null.
     pub fn has_nested_nodes(&self) -> bool
-        ensures { (t : Tree) → ShowsStructOf A.ReaderArena self.now.reader t
+        ensures value { (t : Tree) → ShowsStructOf A.ReaderArena self.now.reader t
             → (IsTrue result ↔ (child 1 t ≢ Null)) }
+        ensures word { IsTrue result
+            ↔ (word_of (pointer_field A.ReaderArena self.now.reader 1) ≢ 0) }
     {
         value::has(&self.reader, 1)
     }
@@ -147,6 +187,16 @@ impl<'a, A: ReaderArena> Reader<'a, A> {
             → FitsSize InlineComposite (node_annotations t)
             → Affords start.charging lim.old (child_cost A.ReaderArena shows 2)
             → IsOk result }
+        ensures left { let start = source_start A.ReaderArena self.now.reader.source in
+            (t : Tree) (shows : ShowsStructOf A.ReaderArena self.now.reader t)
+            → Affords start.charging lim.old (child_cost A.ReaderArena shows 2)
+            → IfOk result (λ r.
+            (inner : ShowsListOf A.ReaderArena r.list.reader (node_annotations t))
+            → Affords (source_start A.ReaderArena r.list.reader.source).charging lim.new
+            inner.cost) }
+        ensures exactly { reading_outcome (list_expected InlineComposite)
+            (pointer_field A.ReaderArena self.now.reader 2) lim.old
+            ≡ (result_err result, lim.new) }
     {
         match list::get_structs(&self.reader, 2, lim) {
             Ok(list) => Ok(annotation::Readers { list }),
@@ -156,8 +206,10 @@ impl<'a, A: ReaderArena> Reader<'a, A> {
 
     /// Whether the pointer of annotations is not null.
     pub fn has_annotations(&self) -> bool
-        ensures { (t : Tree) → ShowsStructOf A.ReaderArena self.now.reader t
+        ensures value { (t : Tree) → ShowsStructOf A.ReaderArena self.now.reader t
             → (IsTrue result ↔ (child 2 t ≢ Null)) }
+        ensures word { IsTrue result
+            ↔ (word_of (pointer_field A.ReaderArena self.now.reader 2) ≢ 0) }
     {
         value::has(&self.reader, 2)
     }
@@ -220,6 +272,16 @@ impl<'a, A: ReaderArena> Reader<'a, A> {
             → FitsSize InlineComposite (node_parameters t)
             → Affords start.charging lim.old (child_cost A.ReaderArena shows 5)
             → IsOk result }
+        ensures left { let start = source_start A.ReaderArena self.now.reader.source in
+            (t : Tree) (shows : ShowsStructOf A.ReaderArena self.now.reader t)
+            → Affords start.charging lim.old (child_cost A.ReaderArena shows 5)
+            → IfOk result (λ r.
+            (inner : ShowsListOf A.ReaderArena r.list.reader (node_parameters t))
+            → Affords (source_start A.ReaderArena r.list.reader.source).charging lim.new
+            inner.cost) }
+        ensures exactly { reading_outcome (list_expected InlineComposite)
+            (pointer_field A.ReaderArena self.now.reader 5) lim.old
+            ≡ (result_err result, lim.new) }
     {
         match list::get_structs(&self.reader, 5, lim) {
             Ok(list) => Ok(node_parameter::Readers { list }),
@@ -229,15 +291,19 @@ impl<'a, A: ReaderArena> Reader<'a, A> {
 
     /// Whether the pointer of parameters is not null.
     pub fn has_parameters(&self) -> bool
-        ensures { (t : Tree) → ShowsStructOf A.ReaderArena self.now.reader t
+        ensures value { (t : Tree) → ShowsStructOf A.ReaderArena self.now.reader t
             → (IsTrue result ↔ (child 5 t ≢ Null)) }
+        ensures word { IsTrue result
+            ↔ (word_of (pointer_field A.ReaderArena self.now.reader 5) ≢ 0) }
     {
         value::has(&self.reader, 5)
     }
 
     /// isGeneric @33 :Bool
     pub fn get_is_generic(&self) -> bool
-        ensures { (t : Tree) → ShowsStructOf A.ReaderArena self.now.reader t
+        ensures value { (t : Tree) → ShowsStructOf A.ReaderArena self.now.reader t
+            → (IsTrue result ↔ (node_is_generic t ≡ 1)) }
+        ensures sections { (t : Tree) → ShowsSectionsOf A.ReaderArena self.now.reader t
             → (IsTrue result ↔ (node_is_generic t ≡ 1)) }
     {
         value::get_bool(&self.reader, 288)
@@ -249,6 +315,13 @@ impl<'a, A: ReaderArena> Reader<'a, A> {
             → IfOk result (λ e. node_which_number e
             ≡ node_tag t) }
         ensures unknown { (t : Tree) → ShowsStructOf A.ReaderArena self.now.reader t
+            → IfErr result (λ e. (e.0 ≡ node_tag t)
+            × (6 ≤ node_tag t)) }
+        ensures sections { (t : Tree) → ShowsSectionsOf A.ReaderArena self.now.reader t
+            → IfOk result (λ e. node_which_number e
+            ≡ node_tag t) }
+        ensures unknown_sections { (t : Tree)
+            → ShowsSectionsOf A.ReaderArena self.now.reader t
             → IfErr result (λ e. (e.0 ≡ node_tag t)
             × (6 ≤ node_tag t)) }
     {
@@ -289,6 +362,9 @@ impl<'a, A: ReaderArena> Readers<'a, A> {
         requires { index < self.now.list.reader.count }
         ensures value { (t : Tree) → ShowsListOf A.ReaderArena self.now.list.reader t
             → HasStructs t → ShowsStructOf A.ReaderArena result.reader (struct_element t index) }
+        ensures sections { (t : Tree)
+            → ElementHasSections A.ReaderArena self.now.list.reader index t
+            → ShowsSectionsOf A.ReaderArena result.reader t }
         ensures source { result.reader.source ≡ self.now.list.reader.source }
     {
         Reader {

@@ -1,9 +1,14 @@
 //! Node.annotation
-ghost use Rattle.std.specs.Prelude.{◌≡◌, ◌≢◌, ◌↔◌, IsTrue, IfOk, IsOk, ⊤};
+ghost use Rattle.std.specs.Prelude.{◌≡◌, ◌≢◌, ◌↔◌, ℕ, IsTrue, IfOk, IsOk, ⊤};
+ghost use Rattle.std.specs.Result.{result_err};
+ghost use Rattle.capnp_format.specs.Segments.{AreWords};
 ghost use Rattle.capnp_format.specs.Tree.{Tree, Null};
 ghost use Rattle.capnp_words.specs.Meter.{Affords};
-ghost use Rattle.capnp_objects.specs.Reading.{source_start};
+ghost use Rattle.capnp_objects.specs.Expected.{struct_expected};
+ghost use Rattle.capnp_objects.specs.Reading.{source_start, word_of};
 ghost use Rattle.capnp_readers.specs.Values.{IsStructOrNull, ShowsStructOf, child_cost};
+ghost use Rattle.typed_reading.specs.Outcomes.{reading_outcome};
+ghost use Rattle.typed_reading.specs.Sections.{LeadsToSectionsOf, ShowsSectionsOf, pointer_field};
 ghost use Rattle.typed_reading.specs.Values.{child};
 ghost use Rattle.schema_reading.specs.Schema.{node_annotation_type, node_annotation_targets_file, node_annotation_targets_const, node_annotation_targets_enum, node_annotation_targets_enumerant, node_annotation_targets_struct, node_annotation_targets_field, node_annotation_targets_union, node_annotation_targets_group, node_annotation_targets_interface, node_annotation_targets_method, node_annotation_targets_param, node_annotation_targets_annotation};
 
@@ -44,6 +49,21 @@ impl<'a, A: ReaderArena> Reader<'a, A> {
             → IsStructOrNull (node_annotation_type t)
             → Affords start.charging lim.old (child_cost A.ReaderArena shows 3)
             → IsOk result }
+        ensures left { let start = source_start A.ReaderArena self.now.reader.source in
+            (t : Tree) (shows : ShowsStructOf A.ReaderArena self.now.reader t)
+            → Affords start.charging lim.old (child_cost A.ReaderArena shows 3)
+            → IfOk result (λ r.
+            (inner : ShowsStructOf A.ReaderArena r.reader (node_annotation_type t)) (i : ℕ)
+            → Affords (source_start A.ReaderArena r.reader.source).charging lim.new
+            (child_cost A.ReaderArena inner i)) }
+        ensures words { AreWords (source_start A.ReaderArena self.now.reader.source).segments
+            → IfOk result (λ r. AreWords (source_start A.ReaderArena r.reader.source).segments) }
+        ensures exactly { reading_outcome struct_expected
+            (pointer_field A.ReaderArena self.now.reader 3) lim.old
+            ≡ (result_err result, lim.new) }
+        ensures sections { (t : Tree)
+            → LeadsToSectionsOf (pointer_field A.ReaderArena self.now.reader 3) t
+            → IfOk result (λ r. ShowsSectionsOf A.ReaderArena r.reader t) }
     {
         match value::get_struct(&self.reader, 3, lim) {
             Ok(reader) => Ok(type_::Reader { reader }),
@@ -53,15 +73,19 @@ impl<'a, A: ReaderArena> Reader<'a, A> {
 
     /// Whether the pointer of type is not null.
     pub fn has_type(&self) -> bool
-        ensures { (t : Tree) → ShowsStructOf A.ReaderArena self.now.reader t
+        ensures value { (t : Tree) → ShowsStructOf A.ReaderArena self.now.reader t
             → (IsTrue result ↔ (child 3 t ≢ Null)) }
+        ensures word { IsTrue result
+            ↔ (word_of (pointer_field A.ReaderArena self.now.reader 3) ≢ 0) }
     {
         value::has(&self.reader, 3)
     }
 
     /// targetsFile @19 :Bool
     pub fn get_targets_file(&self) -> bool
-        ensures { (t : Tree) → ShowsStructOf A.ReaderArena self.now.reader t
+        ensures value { (t : Tree) → ShowsStructOf A.ReaderArena self.now.reader t
+            → (IsTrue result ↔ (node_annotation_targets_file t ≡ 1)) }
+        ensures sections { (t : Tree) → ShowsSectionsOf A.ReaderArena self.now.reader t
             → (IsTrue result ↔ (node_annotation_targets_file t ≡ 1)) }
     {
         value::get_bool(&self.reader, 112)
@@ -69,7 +93,9 @@ impl<'a, A: ReaderArena> Reader<'a, A> {
 
     /// targetsConst @20 :Bool
     pub fn get_targets_const(&self) -> bool
-        ensures { (t : Tree) → ShowsStructOf A.ReaderArena self.now.reader t
+        ensures value { (t : Tree) → ShowsStructOf A.ReaderArena self.now.reader t
+            → (IsTrue result ↔ (node_annotation_targets_const t ≡ 1)) }
+        ensures sections { (t : Tree) → ShowsSectionsOf A.ReaderArena self.now.reader t
             → (IsTrue result ↔ (node_annotation_targets_const t ≡ 1)) }
     {
         value::get_bool(&self.reader, 113)
@@ -77,7 +103,9 @@ impl<'a, A: ReaderArena> Reader<'a, A> {
 
     /// targetsEnum @21 :Bool
     pub fn get_targets_enum(&self) -> bool
-        ensures { (t : Tree) → ShowsStructOf A.ReaderArena self.now.reader t
+        ensures value { (t : Tree) → ShowsStructOf A.ReaderArena self.now.reader t
+            → (IsTrue result ↔ (node_annotation_targets_enum t ≡ 1)) }
+        ensures sections { (t : Tree) → ShowsSectionsOf A.ReaderArena self.now.reader t
             → (IsTrue result ↔ (node_annotation_targets_enum t ≡ 1)) }
     {
         value::get_bool(&self.reader, 114)
@@ -85,7 +113,9 @@ impl<'a, A: ReaderArena> Reader<'a, A> {
 
     /// targetsEnumerant @22 :Bool
     pub fn get_targets_enumerant(&self) -> bool
-        ensures { (t : Tree) → ShowsStructOf A.ReaderArena self.now.reader t
+        ensures value { (t : Tree) → ShowsStructOf A.ReaderArena self.now.reader t
+            → (IsTrue result ↔ (node_annotation_targets_enumerant t ≡ 1)) }
+        ensures sections { (t : Tree) → ShowsSectionsOf A.ReaderArena self.now.reader t
             → (IsTrue result ↔ (node_annotation_targets_enumerant t ≡ 1)) }
     {
         value::get_bool(&self.reader, 115)
@@ -93,7 +123,9 @@ impl<'a, A: ReaderArena> Reader<'a, A> {
 
     /// targetsStruct @23 :Bool
     pub fn get_targets_struct(&self) -> bool
-        ensures { (t : Tree) → ShowsStructOf A.ReaderArena self.now.reader t
+        ensures value { (t : Tree) → ShowsStructOf A.ReaderArena self.now.reader t
+            → (IsTrue result ↔ (node_annotation_targets_struct t ≡ 1)) }
+        ensures sections { (t : Tree) → ShowsSectionsOf A.ReaderArena self.now.reader t
             → (IsTrue result ↔ (node_annotation_targets_struct t ≡ 1)) }
     {
         value::get_bool(&self.reader, 116)
@@ -101,7 +133,9 @@ impl<'a, A: ReaderArena> Reader<'a, A> {
 
     /// targetsField @24 :Bool
     pub fn get_targets_field(&self) -> bool
-        ensures { (t : Tree) → ShowsStructOf A.ReaderArena self.now.reader t
+        ensures value { (t : Tree) → ShowsStructOf A.ReaderArena self.now.reader t
+            → (IsTrue result ↔ (node_annotation_targets_field t ≡ 1)) }
+        ensures sections { (t : Tree) → ShowsSectionsOf A.ReaderArena self.now.reader t
             → (IsTrue result ↔ (node_annotation_targets_field t ≡ 1)) }
     {
         value::get_bool(&self.reader, 117)
@@ -109,7 +143,9 @@ impl<'a, A: ReaderArena> Reader<'a, A> {
 
     /// targetsUnion @25 :Bool
     pub fn get_targets_union(&self) -> bool
-        ensures { (t : Tree) → ShowsStructOf A.ReaderArena self.now.reader t
+        ensures value { (t : Tree) → ShowsStructOf A.ReaderArena self.now.reader t
+            → (IsTrue result ↔ (node_annotation_targets_union t ≡ 1)) }
+        ensures sections { (t : Tree) → ShowsSectionsOf A.ReaderArena self.now.reader t
             → (IsTrue result ↔ (node_annotation_targets_union t ≡ 1)) }
     {
         value::get_bool(&self.reader, 118)
@@ -117,7 +153,9 @@ impl<'a, A: ReaderArena> Reader<'a, A> {
 
     /// targetsGroup @26 :Bool
     pub fn get_targets_group(&self) -> bool
-        ensures { (t : Tree) → ShowsStructOf A.ReaderArena self.now.reader t
+        ensures value { (t : Tree) → ShowsStructOf A.ReaderArena self.now.reader t
+            → (IsTrue result ↔ (node_annotation_targets_group t ≡ 1)) }
+        ensures sections { (t : Tree) → ShowsSectionsOf A.ReaderArena self.now.reader t
             → (IsTrue result ↔ (node_annotation_targets_group t ≡ 1)) }
     {
         value::get_bool(&self.reader, 119)
@@ -125,7 +163,9 @@ impl<'a, A: ReaderArena> Reader<'a, A> {
 
     /// targetsInterface @27 :Bool
     pub fn get_targets_interface(&self) -> bool
-        ensures { (t : Tree) → ShowsStructOf A.ReaderArena self.now.reader t
+        ensures value { (t : Tree) → ShowsStructOf A.ReaderArena self.now.reader t
+            → (IsTrue result ↔ (node_annotation_targets_interface t ≡ 1)) }
+        ensures sections { (t : Tree) → ShowsSectionsOf A.ReaderArena self.now.reader t
             → (IsTrue result ↔ (node_annotation_targets_interface t ≡ 1)) }
     {
         value::get_bool(&self.reader, 120)
@@ -133,7 +173,9 @@ impl<'a, A: ReaderArena> Reader<'a, A> {
 
     /// targetsMethod @28 :Bool
     pub fn get_targets_method(&self) -> bool
-        ensures { (t : Tree) → ShowsStructOf A.ReaderArena self.now.reader t
+        ensures value { (t : Tree) → ShowsStructOf A.ReaderArena self.now.reader t
+            → (IsTrue result ↔ (node_annotation_targets_method t ≡ 1)) }
+        ensures sections { (t : Tree) → ShowsSectionsOf A.ReaderArena self.now.reader t
             → (IsTrue result ↔ (node_annotation_targets_method t ≡ 1)) }
     {
         value::get_bool(&self.reader, 121)
@@ -141,7 +183,9 @@ impl<'a, A: ReaderArena> Reader<'a, A> {
 
     /// targetsParam @29 :Bool
     pub fn get_targets_param(&self) -> bool
-        ensures { (t : Tree) → ShowsStructOf A.ReaderArena self.now.reader t
+        ensures value { (t : Tree) → ShowsStructOf A.ReaderArena self.now.reader t
+            → (IsTrue result ↔ (node_annotation_targets_param t ≡ 1)) }
+        ensures sections { (t : Tree) → ShowsSectionsOf A.ReaderArena self.now.reader t
             → (IsTrue result ↔ (node_annotation_targets_param t ≡ 1)) }
     {
         value::get_bool(&self.reader, 122)
@@ -149,7 +193,9 @@ impl<'a, A: ReaderArena> Reader<'a, A> {
 
     /// targetsAnnotation @30 :Bool
     pub fn get_targets_annotation(&self) -> bool
-        ensures { (t : Tree) → ShowsStructOf A.ReaderArena self.now.reader t
+        ensures value { (t : Tree) → ShowsStructOf A.ReaderArena self.now.reader t
+            → (IsTrue result ↔ (node_annotation_targets_annotation t ≡ 1)) }
+        ensures sections { (t : Tree) → ShowsSectionsOf A.ReaderArena self.now.reader t
             → (IsTrue result ↔ (node_annotation_targets_annotation t ≡ 1)) }
     {
         value::get_bool(&self.reader, 123)

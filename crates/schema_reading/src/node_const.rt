@@ -1,9 +1,14 @@
 //! Node.const
-ghost use Rattle.std.specs.Prelude.{◌≡◌, ◌≢◌, ◌↔◌, IsTrue, IfOk, IsOk, ⊤};
+ghost use Rattle.std.specs.Prelude.{◌≡◌, ◌≢◌, ◌↔◌, ℕ, IsTrue, IfOk, IsOk, ⊤};
+ghost use Rattle.std.specs.Result.{result_err};
+ghost use Rattle.capnp_format.specs.Segments.{AreWords};
 ghost use Rattle.capnp_format.specs.Tree.{Tree, Null};
 ghost use Rattle.capnp_words.specs.Meter.{Affords};
-ghost use Rattle.capnp_objects.specs.Reading.{source_start};
+ghost use Rattle.capnp_objects.specs.Expected.{struct_expected};
+ghost use Rattle.capnp_objects.specs.Reading.{source_start, word_of};
 ghost use Rattle.capnp_readers.specs.Values.{IsStructOrNull, ShowsStructOf, child_cost};
+ghost use Rattle.typed_reading.specs.Outcomes.{reading_outcome};
+ghost use Rattle.typed_reading.specs.Sections.{LeadsToSectionsOf, ShowsSectionsOf, pointer_field};
 ghost use Rattle.typed_reading.specs.Values.{child};
 ghost use Rattle.schema_reading.specs.Schema.{node_const_type, node_const_value};
 
@@ -44,6 +49,21 @@ impl<'a, A: ReaderArena> Reader<'a, A> {
             → IsStructOrNull (node_const_type t)
             → Affords start.charging lim.old (child_cost A.ReaderArena shows 3)
             → IsOk result }
+        ensures left { let start = source_start A.ReaderArena self.now.reader.source in
+            (t : Tree) (shows : ShowsStructOf A.ReaderArena self.now.reader t)
+            → Affords start.charging lim.old (child_cost A.ReaderArena shows 3)
+            → IfOk result (λ r.
+            (inner : ShowsStructOf A.ReaderArena r.reader (node_const_type t)) (i : ℕ)
+            → Affords (source_start A.ReaderArena r.reader.source).charging lim.new
+            (child_cost A.ReaderArena inner i)) }
+        ensures words { AreWords (source_start A.ReaderArena self.now.reader.source).segments
+            → IfOk result (λ r. AreWords (source_start A.ReaderArena r.reader.source).segments) }
+        ensures exactly { reading_outcome struct_expected
+            (pointer_field A.ReaderArena self.now.reader 3) lim.old
+            ≡ (result_err result, lim.new) }
+        ensures sections { (t : Tree)
+            → LeadsToSectionsOf (pointer_field A.ReaderArena self.now.reader 3) t
+            → IfOk result (λ r. ShowsSectionsOf A.ReaderArena r.reader t) }
     {
         match value::get_struct(&self.reader, 3, lim) {
             Ok(reader) => Ok(type_::Reader { reader }),
@@ -53,8 +73,10 @@ impl<'a, A: ReaderArena> Reader<'a, A> {
 
     /// Whether the pointer of type is not null.
     pub fn has_type(&self) -> bool
-        ensures { (t : Tree) → ShowsStructOf A.ReaderArena self.now.reader t
+        ensures value { (t : Tree) → ShowsStructOf A.ReaderArena self.now.reader t
             → (IsTrue result ↔ (child 3 t ≢ Null)) }
+        ensures word { IsTrue result
+            ↔ (word_of (pointer_field A.ReaderArena self.now.reader 3) ≢ 0) }
     {
         value::has(&self.reader, 3)
     }
@@ -69,6 +91,21 @@ impl<'a, A: ReaderArena> Reader<'a, A> {
             → IsStructOrNull (node_const_value t)
             → Affords start.charging lim.old (child_cost A.ReaderArena shows 4)
             → IsOk result }
+        ensures left { let start = source_start A.ReaderArena self.now.reader.source in
+            (t : Tree) (shows : ShowsStructOf A.ReaderArena self.now.reader t)
+            → Affords start.charging lim.old (child_cost A.ReaderArena shows 4)
+            → IfOk result (λ r.
+            (inner : ShowsStructOf A.ReaderArena r.reader (node_const_value t)) (i : ℕ)
+            → Affords (source_start A.ReaderArena r.reader.source).charging lim.new
+            (child_cost A.ReaderArena inner i)) }
+        ensures words { AreWords (source_start A.ReaderArena self.now.reader.source).segments
+            → IfOk result (λ r. AreWords (source_start A.ReaderArena r.reader.source).segments) }
+        ensures exactly { reading_outcome struct_expected
+            (pointer_field A.ReaderArena self.now.reader 4) lim.old
+            ≡ (result_err result, lim.new) }
+        ensures sections { (t : Tree)
+            → LeadsToSectionsOf (pointer_field A.ReaderArena self.now.reader 4) t
+            → IfOk result (λ r. ShowsSectionsOf A.ReaderArena r.reader t) }
     {
         match value::get_struct(&self.reader, 4, lim) {
             Ok(reader) => Ok(value_::Reader { reader }),
@@ -78,8 +115,10 @@ impl<'a, A: ReaderArena> Reader<'a, A> {
 
     /// Whether the pointer of value is not null.
     pub fn has_value(&self) -> bool
-        ensures { (t : Tree) → ShowsStructOf A.ReaderArena self.now.reader t
+        ensures value { (t : Tree) → ShowsStructOf A.ReaderArena self.now.reader t
             → (IsTrue result ↔ (child 4 t ≢ Null)) }
+        ensures word { IsTrue result
+            ↔ (word_of (pointer_field A.ReaderArena self.now.reader 4) ≢ 0) }
     {
         value::has(&self.reader, 4)
     }

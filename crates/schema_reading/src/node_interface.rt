@@ -1,10 +1,14 @@
 //! Node.interface
 ghost use Rattle.std.specs.Prelude.{◌≡◌, ◌≢◌, ◌↔◌, IsTrue, IfOk, IsOk, ⊤};
+ghost use Rattle.std.specs.Result.{result_err};
 ghost use Rattle.capnp_format.specs.Tree.{Tree, Null};
 ghost use Rattle.capnp_words.specs.Meter.{Affords};
 ghost use Rattle.capnp_words.specs.declared.wire_pointer.ElementSize.TheVariants.{InlineComposite};
-ghost use Rattle.capnp_objects.specs.Reading.{source_start};
+ghost use Rattle.capnp_objects.specs.Expected.{list_expected};
+ghost use Rattle.capnp_objects.specs.Reading.{source_start, word_of};
 ghost use Rattle.capnp_readers.specs.Values.{FitsSize, ShowsListOf, ShowsStructOf, child_cost};
+ghost use Rattle.typed_reading.specs.Outcomes.{reading_outcome};
+ghost use Rattle.typed_reading.specs.Sections.{pointer_field};
 ghost use Rattle.typed_reading.specs.Values.{child};
 ghost use Rattle.schema_reading.specs.Schema.{node_interface_methods, node_interface_superclasses};
 
@@ -45,6 +49,16 @@ impl<'a, A: ReaderArena> Reader<'a, A> {
             → FitsSize InlineComposite (node_interface_methods t)
             → Affords start.charging lim.old (child_cost A.ReaderArena shows 3)
             → IsOk result }
+        ensures left { let start = source_start A.ReaderArena self.now.reader.source in
+            (t : Tree) (shows : ShowsStructOf A.ReaderArena self.now.reader t)
+            → Affords start.charging lim.old (child_cost A.ReaderArena shows 3)
+            → IfOk result (λ r.
+            (inner : ShowsListOf A.ReaderArena r.list.reader (node_interface_methods t))
+            → Affords (source_start A.ReaderArena r.list.reader.source).charging lim.new
+            inner.cost) }
+        ensures exactly { reading_outcome (list_expected InlineComposite)
+            (pointer_field A.ReaderArena self.now.reader 3) lim.old
+            ≡ (result_err result, lim.new) }
     {
         match list::get_structs(&self.reader, 3, lim) {
             Ok(list) => Ok(method::Readers { list }),
@@ -54,8 +68,10 @@ impl<'a, A: ReaderArena> Reader<'a, A> {
 
     /// Whether the pointer of methods is not null.
     pub fn has_methods(&self) -> bool
-        ensures { (t : Tree) → ShowsStructOf A.ReaderArena self.now.reader t
+        ensures value { (t : Tree) → ShowsStructOf A.ReaderArena self.now.reader t
             → (IsTrue result ↔ (child 3 t ≢ Null)) }
+        ensures word { IsTrue result
+            ↔ (word_of (pointer_field A.ReaderArena self.now.reader 3) ≢ 0) }
     {
         value::has(&self.reader, 3)
     }
@@ -73,6 +89,16 @@ impl<'a, A: ReaderArena> Reader<'a, A> {
             → FitsSize InlineComposite (node_interface_superclasses t)
             → Affords start.charging lim.old (child_cost A.ReaderArena shows 4)
             → IsOk result }
+        ensures left { let start = source_start A.ReaderArena self.now.reader.source in
+            (t : Tree) (shows : ShowsStructOf A.ReaderArena self.now.reader t)
+            → Affords start.charging lim.old (child_cost A.ReaderArena shows 4)
+            → IfOk result (λ r.
+            (inner : ShowsListOf A.ReaderArena r.list.reader (node_interface_superclasses t))
+            → Affords (source_start A.ReaderArena r.list.reader.source).charging lim.new
+            inner.cost) }
+        ensures exactly { reading_outcome (list_expected InlineComposite)
+            (pointer_field A.ReaderArena self.now.reader 4) lim.old
+            ≡ (result_err result, lim.new) }
     {
         match list::get_structs(&self.reader, 4, lim) {
             Ok(list) => Ok(superclass::Readers { list }),
@@ -82,8 +108,10 @@ impl<'a, A: ReaderArena> Reader<'a, A> {
 
     /// Whether the pointer of superclasses is not null.
     pub fn has_superclasses(&self) -> bool
-        ensures { (t : Tree) → ShowsStructOf A.ReaderArena self.now.reader t
+        ensures value { (t : Tree) → ShowsStructOf A.ReaderArena self.now.reader t
             → (IsTrue result ↔ (child 4 t ≢ Null)) }
+        ensures word { IsTrue result
+            ↔ (word_of (pointer_field A.ReaderArena self.now.reader 4) ≢ 0) }
     {
         value::has(&self.reader, 4)
     }

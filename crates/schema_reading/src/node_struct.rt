@@ -1,10 +1,14 @@
 //! Node.struct
 ghost use Rattle.std.specs.Prelude.{◌≡◌, ◌≢◌, ◌≤◌, ◌↔◌, IsTrue, IfOk, IfErr, IsOk, ⊤};
+ghost use Rattle.std.specs.Result.{result_err};
 ghost use Rattle.capnp_format.specs.Tree.{Tree, Null};
 ghost use Rattle.capnp_words.specs.Meter.{Affords};
 ghost use Rattle.capnp_words.specs.declared.wire_pointer.ElementSize.TheVariants.{InlineComposite};
-ghost use Rattle.capnp_objects.specs.Reading.{source_start};
+ghost use Rattle.capnp_objects.specs.Expected.{list_expected};
+ghost use Rattle.capnp_objects.specs.Reading.{source_start, word_of};
 ghost use Rattle.capnp_readers.specs.Values.{FitsSize, ShowsListOf, ShowsStructOf, child_cost};
+ghost use Rattle.typed_reading.specs.Outcomes.{reading_outcome};
+ghost use Rattle.typed_reading.specs.Sections.{ShowsSectionsOf, pointer_field};
 ghost use Rattle.typed_reading.specs.Values.{child};
 ghost use Rattle.schema_reading.specs.Schema.{node_struct_data_word_count, node_struct_pointer_count, node_struct_preferred_list_encoding, node_struct_is_group, node_struct_discriminant_count, node_struct_discriminant_offset, node_struct_fields};
 ghost use Rattle.schema_reading.specs.OfElementSize.{element_size_number};
@@ -39,7 +43,9 @@ impl<'a, A: ReaderArena> Copy for Reader<'a, A> {}
 impl<'a, A: ReaderArena> Reader<'a, A> {
     /// dataWordCount @7 :UInt16
     pub fn get_data_word_count(&self) -> u16
-        ensures { (t : Tree) → ShowsStructOf A.ReaderArena self.now.reader t
+        ensures value { (t : Tree) → ShowsStructOf A.ReaderArena self.now.reader t
+            → result ≡ node_struct_data_word_count t }
+        ensures sections { (t : Tree) → ShowsSectionsOf A.ReaderArena self.now.reader t
             → result ≡ node_struct_data_word_count t }
     {
         value::get_number(&self.reader, 7)
@@ -47,7 +53,9 @@ impl<'a, A: ReaderArena> Reader<'a, A> {
 
     /// pointerCount @8 :UInt16
     pub fn get_pointer_count(&self) -> u16
-        ensures { (t : Tree) → ShowsStructOf A.ReaderArena self.now.reader t
+        ensures value { (t : Tree) → ShowsStructOf A.ReaderArena self.now.reader t
+            → result ≡ node_struct_pointer_count t }
+        ensures sections { (t : Tree) → ShowsSectionsOf A.ReaderArena self.now.reader t
             → result ≡ node_struct_pointer_count t }
     {
         value::get_number(&self.reader, 12)
@@ -61,13 +69,22 @@ impl<'a, A: ReaderArena> Reader<'a, A> {
         ensures unknown { (t : Tree) → ShowsStructOf A.ReaderArena self.now.reader t
             → IfErr result (λ e. (e.0 ≡ node_struct_preferred_list_encoding t)
             × (8 ≤ node_struct_preferred_list_encoding t)) }
+        ensures sections { (t : Tree) → ShowsSectionsOf A.ReaderArena self.now.reader t
+            → IfOk result (λ e. element_size_number e
+            ≡ node_struct_preferred_list_encoding t) }
+        ensures unknown_sections { (t : Tree)
+            → ShowsSectionsOf A.ReaderArena self.now.reader t
+            → IfErr result (λ e. (e.0 ≡ node_struct_preferred_list_encoding t)
+            × (8 ≤ node_struct_preferred_list_encoding t)) }
     {
         element_size::of_number(value::get_number(&self.reader, 13))
     }
 
     /// isGroup @10 :Bool
     pub fn get_is_group(&self) -> bool
-        ensures { (t : Tree) → ShowsStructOf A.ReaderArena self.now.reader t
+        ensures value { (t : Tree) → ShowsStructOf A.ReaderArena self.now.reader t
+            → (IsTrue result ↔ (node_struct_is_group t ≡ 1)) }
+        ensures sections { (t : Tree) → ShowsSectionsOf A.ReaderArena self.now.reader t
             → (IsTrue result ↔ (node_struct_is_group t ≡ 1)) }
     {
         value::get_bool(&self.reader, 224)
@@ -75,7 +92,9 @@ impl<'a, A: ReaderArena> Reader<'a, A> {
 
     /// discriminantCount @11 :UInt16
     pub fn get_discriminant_count(&self) -> u16
-        ensures { (t : Tree) → ShowsStructOf A.ReaderArena self.now.reader t
+        ensures value { (t : Tree) → ShowsStructOf A.ReaderArena self.now.reader t
+            → result ≡ node_struct_discriminant_count t }
+        ensures sections { (t : Tree) → ShowsSectionsOf A.ReaderArena self.now.reader t
             → result ≡ node_struct_discriminant_count t }
     {
         value::get_number(&self.reader, 15)
@@ -83,7 +102,9 @@ impl<'a, A: ReaderArena> Reader<'a, A> {
 
     /// discriminantOffset @12 :UInt32
     pub fn get_discriminant_offset(&self) -> u32
-        ensures { (t : Tree) → ShowsStructOf A.ReaderArena self.now.reader t
+        ensures value { (t : Tree) → ShowsStructOf A.ReaderArena self.now.reader t
+            → result ≡ node_struct_discriminant_offset t }
+        ensures sections { (t : Tree) → ShowsSectionsOf A.ReaderArena self.now.reader t
             → result ≡ node_struct_discriminant_offset t }
     {
         value::get_number(&self.reader, 8)
@@ -99,6 +120,16 @@ impl<'a, A: ReaderArena> Reader<'a, A> {
             → FitsSize InlineComposite (node_struct_fields t)
             → Affords start.charging lim.old (child_cost A.ReaderArena shows 3)
             → IsOk result }
+        ensures left { let start = source_start A.ReaderArena self.now.reader.source in
+            (t : Tree) (shows : ShowsStructOf A.ReaderArena self.now.reader t)
+            → Affords start.charging lim.old (child_cost A.ReaderArena shows 3)
+            → IfOk result (λ r.
+            (inner : ShowsListOf A.ReaderArena r.list.reader (node_struct_fields t))
+            → Affords (source_start A.ReaderArena r.list.reader.source).charging lim.new
+            inner.cost) }
+        ensures exactly { reading_outcome (list_expected InlineComposite)
+            (pointer_field A.ReaderArena self.now.reader 3) lim.old
+            ≡ (result_err result, lim.new) }
     {
         match list::get_structs(&self.reader, 3, lim) {
             Ok(list) => Ok(field::Readers { list }),
@@ -108,8 +139,10 @@ impl<'a, A: ReaderArena> Reader<'a, A> {
 
     /// Whether the pointer of fields is not null.
     pub fn has_fields(&self) -> bool
-        ensures { (t : Tree) → ShowsStructOf A.ReaderArena self.now.reader t
+        ensures value { (t : Tree) → ShowsStructOf A.ReaderArena self.now.reader t
             → (IsTrue result ↔ (child 3 t ≢ Null)) }
+        ensures word { IsTrue result
+            ↔ (word_of (pointer_field A.ReaderArena self.now.reader 3) ≢ 0) }
     {
         value::has(&self.reader, 3)
     }

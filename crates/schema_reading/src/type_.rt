@@ -1,12 +1,17 @@
 //! Type
 ghost use Rattle.std.specs.Prelude.{◌≡◌, ◌<◌, ◌≤◌, ◌+◌, ℕ, IfOk, IfErr, IsOk, ⊤};
+ghost use Rattle.std.specs.Result.{result_err};
 ghost use Rattle.capnp_format.specs.Bytes.{message};
 ghost use Rattle.capnp_format.specs.Means.{Means};
+ghost use Rattle.capnp_format.specs.Segments.{AreWords};
 ghost use Rattle.capnp_format.specs.Tree.{Tree};
 ghost use Rattle.capnp_words.specs.Meter.{Affords};
 ghost use Rattle.capnp_arena_traits.specs.Checks.{Holds};
+ghost use Rattle.capnp_objects.specs.Reading.{source_start};
 ghost use Rattle.capnp_objects.specs.Source.{levels};
-ghost use Rattle.capnp_readers.specs.Values.{HasStructs, IsStructOrNull, ShowsListOf, ShowsStructOf, list_length, struct_element};
+ghost use Rattle.capnp_readers.specs.Values.{HasStructs, IsStructOrNull, ShowsListOf, ShowsStructOf, child_cost, list_length, struct_element};
+ghost use Rattle.typed_reading.specs.Outcomes.{root_outcome, root_place};
+ghost use Rattle.typed_reading.specs.Sections.{ElementHasSections, LeadsToSectionsOf, ShowsSectionsOf};
 ghost use Rattle.schema_reading.specs.Schema.{type_tag};
 ghost use Rattle.schema_reading.specs.OfTypeWhich.{type_which_number};
 
@@ -47,6 +52,19 @@ impl<'a, A: ReaderArena> Reader<'a, A> {
         ensures answered { let S = message (A.segments arena.now) in (t : Tree) (c : ℕ)
             → Holds S 0 0 1 → IsStructOrNull t → Means S (levels (A.nesting arena.now)) 0 0 t c
             → Affords (A.charging arena.now) lim.old (1 + c) → IsOk result }
+        ensures left { (t : Tree) (c : ℕ)
+            → Means (message (A.segments arena.now)) (levels (A.nesting arena.now)) 0 0 t c
+            → Affords (A.charging arena.now) lim.old (1 + c)
+            → IfOk result (λ r. (shows : ShowsStructOf A.ReaderArena r.reader t) (i : ℕ)
+            → Affords (source_start A.ReaderArena r.reader.source).charging lim.new
+            (child_cost A.ReaderArena shows i)) }
+        ensures words { AreWords (message (A.segments arena.now))
+            → IfOk result (λ r. AreWords (source_start A.ReaderArena r.reader.source).segments) }
+        ensures exactly { root_outcome A.ReaderArena arena.entry lim.old
+            ≡ (result_err result, lim.new) }
+        ensures sections { (t : Tree)
+            → LeadsToSectionsOf (root_place A.ReaderArena arena.entry) t
+            → IfOk result (λ r. ShowsSectionsOf A.ReaderArena r.reader t) }
     {
         match value::root(arena, lim) {
             Ok(reader) => Ok(Reader { reader }),
@@ -107,6 +125,13 @@ impl<'a, A: ReaderArena> Reader<'a, A> {
         ensures unknown { (t : Tree) → ShowsStructOf A.ReaderArena self.now.reader t
             → IfErr result (λ e. (e.0 ≡ type_tag t)
             × (19 ≤ type_tag t)) }
+        ensures sections { (t : Tree) → ShowsSectionsOf A.ReaderArena self.now.reader t
+            → IfOk result (λ e. type_which_number e
+            ≡ type_tag t) }
+        ensures unknown_sections { (t : Tree)
+            → ShowsSectionsOf A.ReaderArena self.now.reader t
+            → IfErr result (λ e. (e.0 ≡ type_tag t)
+            × (19 ≤ type_tag t)) }
     {
         type_which::of_number(value::get_number(&self.reader, 0))
     }
@@ -145,6 +170,9 @@ impl<'a, A: ReaderArena> Readers<'a, A> {
         requires { index < self.now.list.reader.count }
         ensures value { (t : Tree) → ShowsListOf A.ReaderArena self.now.list.reader t
             → HasStructs t → ShowsStructOf A.ReaderArena result.reader (struct_element t index) }
+        ensures sections { (t : Tree)
+            → ElementHasSections A.ReaderArena self.now.list.reader index t
+            → ShowsSectionsOf A.ReaderArena result.reader t }
         ensures source { result.reader.source ≡ self.now.list.reader.source }
     {
         Reader {

@@ -2,6 +2,7 @@
 ghost use Rattle.std.specs.Prelude.{◌≡◌, ⊤};
 ghost use Rattle.capnp_format.specs.Tree.{Tree};
 ghost use Rattle.capnp_readers.specs.Values.{ShowsStructOf};
+ghost use Rattle.typed_reading.specs.Sections.{ShowsSectionsOf};
 ghost use Rattle.schema_reading.specs.Schema.{type_any_pointer_parameter_scope_id, type_any_pointer_parameter_parameter_index};
 
 use capnp_arena_traits::arena::ReaderArena;
@@ -30,7 +31,9 @@ impl<'a, A: ReaderArena> Copy for Reader<'a, A> {}
 impl<'a, A: ReaderArena> Reader<'a, A> {
     /// scopeId @19 :UInt64
     pub fn get_scope_id(&self) -> u64
-        ensures { (t : Tree) → ShowsStructOf A.ReaderArena self.now.reader t
+        ensures value { (t : Tree) → ShowsStructOf A.ReaderArena self.now.reader t
+            → result ≡ type_any_pointer_parameter_scope_id t }
+        ensures sections { (t : Tree) → ShowsSectionsOf A.ReaderArena self.now.reader t
             → result ≡ type_any_pointer_parameter_scope_id t }
     {
         value::get_number(&self.reader, 2)
@@ -38,7 +41,9 @@ impl<'a, A: ReaderArena> Reader<'a, A> {
 
     /// parameterIndex @20 :UInt16
     pub fn get_parameter_index(&self) -> u16
-        ensures { (t : Tree) → ShowsStructOf A.ReaderArena self.now.reader t
+        ensures value { (t : Tree) → ShowsStructOf A.ReaderArena self.now.reader t
+            → result ≡ type_any_pointer_parameter_parameter_index t }
+        ensures sections { (t : Tree) → ShowsSectionsOf A.ReaderArena self.now.reader t
             → result ≡ type_any_pointer_parameter_parameter_index t }
     {
         value::get_number(&self.reader, 5)

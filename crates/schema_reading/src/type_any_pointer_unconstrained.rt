@@ -2,6 +2,7 @@
 ghost use Rattle.std.specs.Prelude.{◌≡◌, ◌≤◌, IfOk, IfErr, ⊤};
 ghost use Rattle.capnp_format.specs.Tree.{Tree};
 ghost use Rattle.capnp_readers.specs.Values.{ShowsStructOf};
+ghost use Rattle.typed_reading.specs.Sections.{ShowsSectionsOf};
 ghost use Rattle.schema_reading.specs.Schema.{type_any_pointer_unconstrained_tag};
 ghost use Rattle.schema_reading.specs.OfTypeAnyPointerUnconstrainedWhich.{type_any_pointer_unconstrained_which_number};
 
@@ -37,6 +38,13 @@ impl<'a, A: ReaderArena> Reader<'a, A> {
             → IfOk result (λ e. type_any_pointer_unconstrained_which_number e
             ≡ type_any_pointer_unconstrained_tag t) }
         ensures unknown { (t : Tree) → ShowsStructOf A.ReaderArena self.now.reader t
+            → IfErr result (λ e. (e.0 ≡ type_any_pointer_unconstrained_tag t)
+            × (4 ≤ type_any_pointer_unconstrained_tag t)) }
+        ensures sections { (t : Tree) → ShowsSectionsOf A.ReaderArena self.now.reader t
+            → IfOk result (λ e. type_any_pointer_unconstrained_which_number e
+            ≡ type_any_pointer_unconstrained_tag t) }
+        ensures unknown_sections { (t : Tree)
+            → ShowsSectionsOf A.ReaderArena self.now.reader t
             → IfErr result (λ e. (e.0 ≡ type_any_pointer_unconstrained_tag t)
             × (4 ≤ type_any_pointer_unconstrained_tag t)) }
     {

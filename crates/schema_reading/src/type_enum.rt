@@ -1,9 +1,14 @@
 //! Type.enum
-ghost use Rattle.std.specs.Prelude.{◌≡◌, ◌≢◌, ◌↔◌, IsTrue, IfOk, IsOk, ⊤};
+ghost use Rattle.std.specs.Prelude.{◌≡◌, ◌≢◌, ◌↔◌, ℕ, IsTrue, IfOk, IsOk, ⊤};
+ghost use Rattle.std.specs.Result.{result_err};
+ghost use Rattle.capnp_format.specs.Segments.{AreWords};
 ghost use Rattle.capnp_format.specs.Tree.{Tree, Null};
 ghost use Rattle.capnp_words.specs.Meter.{Affords};
-ghost use Rattle.capnp_objects.specs.Reading.{source_start};
+ghost use Rattle.capnp_objects.specs.Expected.{struct_expected};
+ghost use Rattle.capnp_objects.specs.Reading.{source_start, word_of};
 ghost use Rattle.capnp_readers.specs.Values.{IsStructOrNull, ShowsStructOf, child_cost};
+ghost use Rattle.typed_reading.specs.Outcomes.{reading_outcome};
+ghost use Rattle.typed_reading.specs.Sections.{LeadsToSectionsOf, ShowsSectionsOf, pointer_field};
 ghost use Rattle.typed_reading.specs.Values.{child};
 ghost use Rattle.schema_reading.specs.Schema.{type_enum_type_id, type_enum_brand};
 
@@ -36,7 +41,9 @@ impl<'a, A: ReaderArena> Copy for Reader<'a, A> {}
 impl<'a, A: ReaderArena> Reader<'a, A> {
     /// typeId @15 :UInt64
     pub fn get_type_id(&self) -> u64
-        ensures { (t : Tree) → ShowsStructOf A.ReaderArena self.now.reader t
+        ensures value { (t : Tree) → ShowsStructOf A.ReaderArena self.now.reader t
+            → result ≡ type_enum_type_id t }
+        ensures sections { (t : Tree) → ShowsSectionsOf A.ReaderArena self.now.reader t
             → result ≡ type_enum_type_id t }
     {
         value::get_number(&self.reader, 1)
@@ -52,6 +59,21 @@ impl<'a, A: ReaderArena> Reader<'a, A> {
             → IsStructOrNull (type_enum_brand t)
             → Affords start.charging lim.old (child_cost A.ReaderArena shows 0)
             → IsOk result }
+        ensures left { let start = source_start A.ReaderArena self.now.reader.source in
+            (t : Tree) (shows : ShowsStructOf A.ReaderArena self.now.reader t)
+            → Affords start.charging lim.old (child_cost A.ReaderArena shows 0)
+            → IfOk result (λ r.
+            (inner : ShowsStructOf A.ReaderArena r.reader (type_enum_brand t)) (i : ℕ)
+            → Affords (source_start A.ReaderArena r.reader.source).charging lim.new
+            (child_cost A.ReaderArena inner i)) }
+        ensures words { AreWords (source_start A.ReaderArena self.now.reader.source).segments
+            → IfOk result (λ r. AreWords (source_start A.ReaderArena r.reader.source).segments) }
+        ensures exactly { reading_outcome struct_expected
+            (pointer_field A.ReaderArena self.now.reader 0) lim.old
+            ≡ (result_err result, lim.new) }
+        ensures sections { (t : Tree)
+            → LeadsToSectionsOf (pointer_field A.ReaderArena self.now.reader 0) t
+            → IfOk result (λ r. ShowsSectionsOf A.ReaderArena r.reader t) }
     {
         match value::get_struct(&self.reader, 0, lim) {
             Ok(reader) => Ok(brand::Reader { reader }),
@@ -61,8 +83,10 @@ impl<'a, A: ReaderArena> Reader<'a, A> {
 
     /// Whether the pointer of brand is not null.
     pub fn has_brand(&self) -> bool
-        ensures { (t : Tree) → ShowsStructOf A.ReaderArena self.now.reader t
+        ensures value { (t : Tree) → ShowsStructOf A.ReaderArena self.now.reader t
             → (IsTrue result ↔ (child 0 t ≢ Null)) }
+        ensures word { IsTrue result
+            ↔ (word_of (pointer_field A.ReaderArena self.now.reader 0) ≢ 0) }
     {
         value::has(&self.reader, 0)
     }

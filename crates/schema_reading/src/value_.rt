@@ -1,5 +1,6 @@
 //! Value
 ghost use Rattle.std.specs.Prelude.{◌≡◌, ◌≢◌, ◌<◌, ◌≤◌, ◌+◌, ◌↔◌, ℕ, IsTrue, IfOk, IfErr, IsOk, ⊤};
+ghost use Rattle.std.specs.Result.{result_err};
 ghost use Rattle.std.specs.Int.{cast_unsigned, w8, w16, w32, w64};
 ghost use Rattle.capnp_format.specs.Bytes.{message};
 ghost use Rattle.capnp_format.specs.Means.{Means};
@@ -7,10 +8,13 @@ ghost use Rattle.capnp_format.specs.Segments.{AreWords};
 ghost use Rattle.capnp_format.specs.Tree.{Tree, Null};
 ghost use Rattle.capnp_words.specs.Meter.{Affords};
 ghost use Rattle.capnp_arena_traits.specs.Checks.{Holds};
-ghost use Rattle.capnp_objects.specs.Reading.{source_start};
+ghost use Rattle.capnp_objects.specs.Expected.{data_expected, text_expected};
+ghost use Rattle.capnp_objects.specs.Reading.{source_start, word_of};
 ghost use Rattle.capnp_objects.specs.Source.{levels};
 ghost use Rattle.capnp_readers.specs.Readers.{read_by};
 ghost use Rattle.capnp_readers.specs.Values.{HasStructs, HasValue, IsBytes, IsStructOrNull, IsText, ShowsListOf, ShowsStructOf, child_cost, list_length, struct_element};
+ghost use Rattle.typed_reading.specs.Outcomes.{reading_outcome, root_outcome, root_place};
+ghost use Rattle.typed_reading.specs.Sections.{ElementHasSections, LeadsToSectionsOf, ShowsSectionsOf, pointer_field};
 ghost use Rattle.typed_reading.specs.Values.{child};
 ghost use Rattle.schema_reading.specs.Schema.{value_bool, value_int8, value_int16, value_int32, value_int64, value_uint8, value_uint16, value_uint32, value_uint64, value_float32, value_float64, value_text, value_data, value_list, value_enum, value_struct, value_any_pointer, value_tag};
 ghost use Rattle.schema_reading.specs.OfValueWhich.{value_which_number};
@@ -52,6 +56,19 @@ impl<'a, A: ReaderArena> Reader<'a, A> {
         ensures answered { let S = message (A.segments arena.now) in (t : Tree) (c : ℕ)
             → Holds S 0 0 1 → IsStructOrNull t → Means S (levels (A.nesting arena.now)) 0 0 t c
             → Affords (A.charging arena.now) lim.old (1 + c) → IsOk result }
+        ensures left { (t : Tree) (c : ℕ)
+            → Means (message (A.segments arena.now)) (levels (A.nesting arena.now)) 0 0 t c
+            → Affords (A.charging arena.now) lim.old (1 + c)
+            → IfOk result (λ r. (shows : ShowsStructOf A.ReaderArena r.reader t) (i : ℕ)
+            → Affords (source_start A.ReaderArena r.reader.source).charging lim.new
+            (child_cost A.ReaderArena shows i)) }
+        ensures words { AreWords (message (A.segments arena.now))
+            → IfOk result (λ r. AreWords (source_start A.ReaderArena r.reader.source).segments) }
+        ensures exactly { root_outcome A.ReaderArena arena.entry lim.old
+            ≡ (result_err result, lim.new) }
+        ensures sections { (t : Tree)
+            → LeadsToSectionsOf (root_place A.ReaderArena arena.entry) t
+            → IfOk result (λ r. ShowsSectionsOf A.ReaderArena r.reader t) }
     {
         match value::root(arena, lim) {
             Ok(reader) => Ok(Reader { reader }),
@@ -61,7 +78,9 @@ impl<'a, A: ReaderArena> Reader<'a, A> {
 
     /// bool @1 :Bool
     pub fn get_bool(&self) -> bool
-        ensures { (t : Tree) → ShowsStructOf A.ReaderArena self.now.reader t
+        ensures value { (t : Tree) → ShowsStructOf A.ReaderArena self.now.reader t
+            → (IsTrue result ↔ (value_bool t ≡ 1)) }
+        ensures sections { (t : Tree) → ShowsSectionsOf A.ReaderArena self.now.reader t
             → (IsTrue result ↔ (value_bool t ≡ 1)) }
     {
         value::get_bool(&self.reader, 16)
@@ -69,7 +88,9 @@ impl<'a, A: ReaderArena> Reader<'a, A> {
 
     /// int8 @2 :Int8
     pub fn get_int8(&self) -> i8
-        ensures { (t : Tree) → ShowsStructOf A.ReaderArena self.now.reader t
+        ensures value { (t : Tree) → ShowsStructOf A.ReaderArena self.now.reader t
+            → cast_unsigned w8 result ≡ value_int8 t }
+        ensures sections { (t : Tree) → ShowsSectionsOf A.ReaderArena self.now.reader t
             → cast_unsigned w8 result ≡ value_int8 t }
     {
         value::get_number(&self.reader, 2)
@@ -77,7 +98,9 @@ impl<'a, A: ReaderArena> Reader<'a, A> {
 
     /// int16 @3 :Int16
     pub fn get_int16(&self) -> i16
-        ensures { (t : Tree) → ShowsStructOf A.ReaderArena self.now.reader t
+        ensures value { (t : Tree) → ShowsStructOf A.ReaderArena self.now.reader t
+            → cast_unsigned w16 result ≡ value_int16 t }
+        ensures sections { (t : Tree) → ShowsSectionsOf A.ReaderArena self.now.reader t
             → cast_unsigned w16 result ≡ value_int16 t }
     {
         value::get_number(&self.reader, 1)
@@ -85,7 +108,9 @@ impl<'a, A: ReaderArena> Reader<'a, A> {
 
     /// int32 @4 :Int32
     pub fn get_int32(&self) -> i32
-        ensures { (t : Tree) → ShowsStructOf A.ReaderArena self.now.reader t
+        ensures value { (t : Tree) → ShowsStructOf A.ReaderArena self.now.reader t
+            → cast_unsigned w32 result ≡ value_int32 t }
+        ensures sections { (t : Tree) → ShowsSectionsOf A.ReaderArena self.now.reader t
             → cast_unsigned w32 result ≡ value_int32 t }
     {
         value::get_number(&self.reader, 1)
@@ -93,7 +118,9 @@ impl<'a, A: ReaderArena> Reader<'a, A> {
 
     /// int64 @5 :Int64
     pub fn get_int64(&self) -> i64
-        ensures { (t : Tree) → ShowsStructOf A.ReaderArena self.now.reader t
+        ensures value { (t : Tree) → ShowsStructOf A.ReaderArena self.now.reader t
+            → cast_unsigned w64 result ≡ value_int64 t }
+        ensures sections { (t : Tree) → ShowsSectionsOf A.ReaderArena self.now.reader t
             → cast_unsigned w64 result ≡ value_int64 t }
     {
         value::get_number(&self.reader, 1)
@@ -101,7 +128,9 @@ impl<'a, A: ReaderArena> Reader<'a, A> {
 
     /// uint8 @6 :UInt8
     pub fn get_uint8(&self) -> u8
-        ensures { (t : Tree) → ShowsStructOf A.ReaderArena self.now.reader t
+        ensures value { (t : Tree) → ShowsStructOf A.ReaderArena self.now.reader t
+            → result ≡ value_uint8 t }
+        ensures sections { (t : Tree) → ShowsSectionsOf A.ReaderArena self.now.reader t
             → result ≡ value_uint8 t }
     {
         value::get_number(&self.reader, 2)
@@ -109,7 +138,9 @@ impl<'a, A: ReaderArena> Reader<'a, A> {
 
     /// uint16 @7 :UInt16
     pub fn get_uint16(&self) -> u16
-        ensures { (t : Tree) → ShowsStructOf A.ReaderArena self.now.reader t
+        ensures value { (t : Tree) → ShowsStructOf A.ReaderArena self.now.reader t
+            → result ≡ value_uint16 t }
+        ensures sections { (t : Tree) → ShowsSectionsOf A.ReaderArena self.now.reader t
             → result ≡ value_uint16 t }
     {
         value::get_number(&self.reader, 1)
@@ -117,7 +148,9 @@ impl<'a, A: ReaderArena> Reader<'a, A> {
 
     /// uint32 @8 :UInt32
     pub fn get_uint32(&self) -> u32
-        ensures { (t : Tree) → ShowsStructOf A.ReaderArena self.now.reader t
+        ensures value { (t : Tree) → ShowsStructOf A.ReaderArena self.now.reader t
+            → result ≡ value_uint32 t }
+        ensures sections { (t : Tree) → ShowsSectionsOf A.ReaderArena self.now.reader t
             → result ≡ value_uint32 t }
     {
         value::get_number(&self.reader, 1)
@@ -125,7 +158,9 @@ impl<'a, A: ReaderArena> Reader<'a, A> {
 
     /// uint64 @9 :UInt64
     pub fn get_uint64(&self) -> u64
-        ensures { (t : Tree) → ShowsStructOf A.ReaderArena self.now.reader t
+        ensures value { (t : Tree) → ShowsStructOf A.ReaderArena self.now.reader t
+            → result ≡ value_uint64 t }
+        ensures sections { (t : Tree) → ShowsSectionsOf A.ReaderArena self.now.reader t
             → result ≡ value_uint64 t }
     {
         value::get_number(&self.reader, 1)
@@ -133,7 +168,9 @@ impl<'a, A: ReaderArena> Reader<'a, A> {
 
     /// float32 @10 :Float32
     pub fn get_float32(&self) -> u32
-        ensures { (t : Tree) → ShowsStructOf A.ReaderArena self.now.reader t
+        ensures value { (t : Tree) → ShowsStructOf A.ReaderArena self.now.reader t
+            → result ≡ value_float32 t }
+        ensures sections { (t : Tree) → ShowsSectionsOf A.ReaderArena self.now.reader t
             → result ≡ value_float32 t }
     {
         value::get_number(&self.reader, 1)
@@ -141,7 +178,9 @@ impl<'a, A: ReaderArena> Reader<'a, A> {
 
     /// float64 @11 :Float64
     pub fn get_float64(&self) -> u64
-        ensures { (t : Tree) → ShowsStructOf A.ReaderArena self.now.reader t
+        ensures value { (t : Tree) → ShowsStructOf A.ReaderArena self.now.reader t
+            → result ≡ value_float64 t }
+        ensures sections { (t : Tree) → ShowsSectionsOf A.ReaderArena self.now.reader t
             → result ≡ value_float64 t }
     {
         value::get_number(&self.reader, 1)
@@ -156,14 +195,19 @@ impl<'a, A: ReaderArena> Reader<'a, A> {
             → AreWords start.segments → IsText (child 0 t)
             → Affords start.charging lim.old (child_cost A.ReaderArena shows 0)
             → IsOk result }
+        ensures exactly { reading_outcome text_expected
+            (pointer_field A.ReaderArena self.now.reader 0) lim.old
+            ≡ (result_err result, lim.new) }
     {
         value::get_text(&self.reader, 0, lim)
     }
 
     /// Whether the pointer of text is not null.
     pub fn has_text(&self) -> bool
-        ensures { (t : Tree) → ShowsStructOf A.ReaderArena self.now.reader t
+        ensures value { (t : Tree) → ShowsStructOf A.ReaderArena self.now.reader t
             → (IsTrue result ↔ (child 0 t ≢ Null)) }
+        ensures word { IsTrue result
+            ↔ (word_of (pointer_field A.ReaderArena self.now.reader 0) ≢ 0) }
     {
         value::has(&self.reader, 0)
     }
@@ -177,37 +221,48 @@ impl<'a, A: ReaderArena> Reader<'a, A> {
             → IsBytes (child 0 t)
             → Affords start.charging lim.old (child_cost A.ReaderArena shows 0)
             → IsOk result }
+        ensures exactly { reading_outcome data_expected
+            (pointer_field A.ReaderArena self.now.reader 0) lim.old
+            ≡ (result_err result, lim.new) }
     {
         value::get_data(&self.reader, 0, lim)
     }
 
     /// Whether the pointer of data is not null.
     pub fn has_data(&self) -> bool
-        ensures { (t : Tree) → ShowsStructOf A.ReaderArena self.now.reader t
+        ensures value { (t : Tree) → ShowsStructOf A.ReaderArena self.now.reader t
             → (IsTrue result ↔ (child 0 t ≢ Null)) }
+        ensures word { IsTrue result
+            ↔ (word_of (pointer_field A.ReaderArena self.now.reader 0) ≢ 0) }
     {
         value::has(&self.reader, 0)
     }
 
     /// list @14 :AnyPointer
     pub fn get_list(&self) -> PointerReader<'a, A>
-        ensures { (t : Tree) → ShowsStructOf A.ReaderArena self.now.reader t
+        ensures value { (t : Tree) → ShowsStructOf A.ReaderArena self.now.reader t
             → HasValue (read_by A.ReaderArena result) (value_list t) }
+        ensures place { read_by A.ReaderArena result
+            ≡ pointer_field A.ReaderArena self.now.reader 0 }
     {
         value::get_pointer(&self.reader, 0)
     }
 
     /// Whether the pointer of list is not null.
     pub fn has_list(&self) -> bool
-        ensures { (t : Tree) → ShowsStructOf A.ReaderArena self.now.reader t
+        ensures value { (t : Tree) → ShowsStructOf A.ReaderArena self.now.reader t
             → (IsTrue result ↔ (child 0 t ≢ Null)) }
+        ensures word { IsTrue result
+            ↔ (word_of (pointer_field A.ReaderArena self.now.reader 0) ≢ 0) }
     {
         value::has(&self.reader, 0)
     }
 
     /// enum @15 :UInt16
     pub fn get_enum(&self) -> u16
-        ensures { (t : Tree) → ShowsStructOf A.ReaderArena self.now.reader t
+        ensures value { (t : Tree) → ShowsStructOf A.ReaderArena self.now.reader t
+            → result ≡ value_enum t }
+        ensures sections { (t : Tree) → ShowsSectionsOf A.ReaderArena self.now.reader t
             → result ≡ value_enum t }
     {
         value::get_number(&self.reader, 1)
@@ -215,32 +270,40 @@ impl<'a, A: ReaderArena> Reader<'a, A> {
 
     /// struct @16 :AnyPointer
     pub fn get_struct(&self) -> PointerReader<'a, A>
-        ensures { (t : Tree) → ShowsStructOf A.ReaderArena self.now.reader t
+        ensures value { (t : Tree) → ShowsStructOf A.ReaderArena self.now.reader t
             → HasValue (read_by A.ReaderArena result) (value_struct t) }
+        ensures place { read_by A.ReaderArena result
+            ≡ pointer_field A.ReaderArena self.now.reader 0 }
     {
         value::get_pointer(&self.reader, 0)
     }
 
     /// Whether the pointer of struct is not null.
     pub fn has_struct(&self) -> bool
-        ensures { (t : Tree) → ShowsStructOf A.ReaderArena self.now.reader t
+        ensures value { (t : Tree) → ShowsStructOf A.ReaderArena self.now.reader t
             → (IsTrue result ↔ (child 0 t ≢ Null)) }
+        ensures word { IsTrue result
+            ↔ (word_of (pointer_field A.ReaderArena self.now.reader 0) ≢ 0) }
     {
         value::has(&self.reader, 0)
     }
 
     /// anyPointer @18 :AnyPointer
     pub fn get_any_pointer(&self) -> PointerReader<'a, A>
-        ensures { (t : Tree) → ShowsStructOf A.ReaderArena self.now.reader t
+        ensures value { (t : Tree) → ShowsStructOf A.ReaderArena self.now.reader t
             → HasValue (read_by A.ReaderArena result) (value_any_pointer t) }
+        ensures place { read_by A.ReaderArena result
+            ≡ pointer_field A.ReaderArena self.now.reader 0 }
     {
         value::get_pointer(&self.reader, 0)
     }
 
     /// Whether the pointer of anyPointer is not null.
     pub fn has_any_pointer(&self) -> bool
-        ensures { (t : Tree) → ShowsStructOf A.ReaderArena self.now.reader t
+        ensures value { (t : Tree) → ShowsStructOf A.ReaderArena self.now.reader t
             → (IsTrue result ↔ (child 0 t ≢ Null)) }
+        ensures word { IsTrue result
+            ↔ (word_of (pointer_field A.ReaderArena self.now.reader 0) ≢ 0) }
     {
         value::has(&self.reader, 0)
     }
@@ -251,6 +314,13 @@ impl<'a, A: ReaderArena> Reader<'a, A> {
             → IfOk result (λ e. value_which_number e
             ≡ value_tag t) }
         ensures unknown { (t : Tree) → ShowsStructOf A.ReaderArena self.now.reader t
+            → IfErr result (λ e. (e.0 ≡ value_tag t)
+            × (19 ≤ value_tag t)) }
+        ensures sections { (t : Tree) → ShowsSectionsOf A.ReaderArena self.now.reader t
+            → IfOk result (λ e. value_which_number e
+            ≡ value_tag t) }
+        ensures unknown_sections { (t : Tree)
+            → ShowsSectionsOf A.ReaderArena self.now.reader t
             → IfErr result (λ e. (e.0 ≡ value_tag t)
             × (19 ≤ value_tag t)) }
     {
@@ -291,6 +361,9 @@ impl<'a, A: ReaderArena> Readers<'a, A> {
         requires { index < self.now.list.reader.count }
         ensures value { (t : Tree) → ShowsListOf A.ReaderArena self.now.list.reader t
             → HasStructs t → ShowsStructOf A.ReaderArena result.reader (struct_element t index) }
+        ensures sections { (t : Tree)
+            → ElementHasSections A.ReaderArena self.now.list.reader index t
+            → ShowsSectionsOf A.ReaderArena result.reader t }
         ensures source { result.reader.source ≡ self.now.list.reader.source }
     {
         Reader {
