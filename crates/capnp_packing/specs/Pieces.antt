@@ -1,6 +1,6 @@
 -- A packed stream that is unpacked piece by piece, from the front of one slice to the front of
 -- another.
-use Rattle.std.specs.Prelude.{◌≡◌, ◌≢◌, ◌<◌, ◌≤◌, ℕ, zero, suc, ◌+◌, ◌-◌, Bool, true, false, if◌then◌else◌, ◌&&◌, ◌||◌, nat_eq, nat_lt}
+use Rattle.std.specs.Prelude.{◌≡◌, ◌≢◌, ◌<◌, ◌≤◌, ℕ, suc, ◌+◌, ◌-◌, Bool, true, false, if◌then◌else◌, ◌&&◌, ◌||◌, nat_eq, nat_lt}
 use Rattle.std.specs.Prelude.{List, [], ◌∷◌, ◌++◌, length, replicate, take}
 use Rattle.capnp_packing.specs.Packing.{GivesAndLeads, all_given, place_after, place_at_end, unpacked_bytes}
 use Rattle.capnp_packing.specs.declared.packing.place.Place.{Place}
