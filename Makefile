@@ -1,7 +1,8 @@
 # Builds and installs the library capnp_canonical and the program capnp_canon with just a C compiler: gcc or clang, for
 # any 64-bit little-endian machine. The C is in generated/, which `tools/generated.py` writes from the proved sources.
 #
-#     make                    the library, static and shared, and the programs
+#     make                    the program capnp_canon
+#     make all                the library too, static and shared, and the program layout_tool
 #     make check              tests both: one message, the C test, and, if python3 is there, all vectors
 #     make check-streams      runs the program over all streams, with python3; this takes minutes
 #     make install            installs them below PREFIX, with DESTDIR in front; LIBDIR and others can be set separately
@@ -9,9 +10,11 @@
 #     make wasm               the library for JavaScript, with clang and wasm-ld
 #     make crate              a package of the Rust crate that contains the C, in bindings/rust/target/package, with cargo
 #
-# CC, CFLAGS, CPPFLAGS, LDFLAGS, AR and INSTALL are as usual. SHARED_FLAGS makes the shared library; set it if your linker is
-# neither Apple's nor takes -soname and --version-script. RUNNER runs a program for another machine, for example
-# `qemu-aarch64 -L /usr/aarch64-linux-gnu`.
+# CC, CFLAGS, CPPFLAGS, LDFLAGS, AR and INSTALL are as usual. If CFLAGS has no option -O, the C is compiled with -O2, since each
+# level of a message takes much more stack if it isn't optimised. `make -j` compiles the files of the program side by side.
+# STACK_FLAGS is what the compiler has so that no function jumps over the page that guards the stack's end. SHARED_FLAGS makes the
+# shared library; set it if your linker is neither Apple's nor takes -soname and --version-script. RUNNER runs a program for
+# another machine, for example `qemu-aarch64 -L /usr/aarch64-linux-gnu`.
 PREFIX ?= /usr/local
 BINDIR ?= $(PREFIX)/bin
 LIBDIR ?= $(PREFIX)/lib
@@ -47,14 +50,34 @@ SHARED_FLAGS = -dynamiclib -Wl,-install_name,$(LIBDIR)/$(SHARED_MAJOR) -Wl,-comp
 endif
 FILLED = sed -e 's|@PREFIX@|$(PREFIX)|' -e 's|@LIBDIR@|$(LIBDIR)|' -e 's|@INCLUDEDIR@|$(INCLUDEDIR)|' -e 's|@VERSION@|$(VERSION)|' -e 's|@MAJOR@|$(MAJOR)|' \
 	-e 's|@PYTHONDIR@|$(PYTHONDIR)|' -e 's|@SHARED_FILE@|$(SHARED_FILE)|' -e 's|@SHARED_MAJOR@|$(SHARED_MAJOR)|'
-ALL_FLAGS = -std=c11 -Ibindings/c $(CPPFLAGS) $(CFLAGS)
+# the flags among these that the compiler takes without a word
+tried = $(foreach flag,$(1),$(shell $(CC) -Werror $(flag) -x c -S -o /dev/null /dev/null 2>/dev/null && echo ' $(flag)'))
+STACK_FLAGS := $(call tried,-fstack-clash-protection)
+LEVEL = $(if $(filter -O%,$(CFLAGS)),,-O2)
+ALL_FLAGS = -std=c11 -Ibindings/c $(CPPFLAGS) $(LEVEL) $(CFLAGS) $(STACK_FLAGS)
+# Most of the program's C runs once for each file or each report. Compiled with -Og, which takes less than half of the time of
+# -O2, no command executes more instructions; the one of streams, which runs once for each message, takes -O1.
+SELDOM_FLAGS = $(patsubst -O2,-Og,$(ALL_FLAGS))
+STREAMS_FLAGS = $(patsubst -O2,-O1,$(ALL_FLAGS))
 
 INSTALLED = $(BUILD)/lib$(NAME).a $(BUILD)/$(SHARED_FILE) $(BUILD)/capnp_canon
+PARTS = $(patsubst generated/%.c,$(BUILD)/%.o,$(wildcard generated/capnp_canon.c generated/capnp_canon_*.c))
+SELDOM = $(addprefix $(BUILD)/,capnp_canon.o capnp_canon_diffs.o capnp_canon_inputs.o capnp_canon_io.o)
+STREAMS = $(BUILD)/capnp_canon_streams.o
+
+program: $(BUILD)/capnp_canon
 
 all: $(INSTALLED) $(BUILD)/layout_tool
 
+$(PARTS): $(BUILD)/%.o: generated/%.c generated/capnp_canon.h
+	@mkdir -p $(BUILD)
+	$(CC) $(if $(filter $@,$(SELDOM)),$(SELDOM_FLAGS),$(if $(filter $@,$(STREAMS)),$(STREAMS_FLAGS),$(ALL_FLAGS))) -c -o $@ generated/$*.c
+
+$(BUILD)/capnp_canon: $(PARTS)
+	$(CC) $(CFLAGS) $(LDFLAGS) -o $@ $(PARTS)
+
 $(BUILD)/$(NAME).o: generated/$(NAME).c $(wildcard bindings/c/*.h)
-	mkdir -p $(BUILD)
+	@mkdir -p $(BUILD)
 	$(CC) $(ALL_FLAGS) -fPIC -c -o $@ generated/$(NAME).c
 
 $(BUILD)/lib$(NAME).a: $(BUILD)/$(NAME).o
@@ -68,7 +91,7 @@ $(BUILD)/$(SHARED_FILE): $(BUILD)/$(NAME).o generated/$(NAME).map
 	ln -sf $(SHARED_MAJOR) $(BUILD)/$(SHARED)
 
 $(BUILD)/%: generated/%.c
-	mkdir -p $(BUILD)
+	@mkdir -p $(BUILD)
 	$(CC) $(ALL_FLAGS) $(LDFLAGS) -o $@ generated/$*.c
 
 check test: $(INSTALLED)
@@ -109,4 +132,4 @@ crate:
 clean:
 	rm -rf $(BUILD)
 
-.PHONY: all check check-streams clean crate install install-python test wasm
+.PHONY: all check check-streams clean crate install install-python program test wasm

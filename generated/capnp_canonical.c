@@ -64,18 +64,28 @@ struct place { const u8 *at; u32 none; };
 /* The place `by` bytes away. It may be outside of the object: it is computed as a number, and may wrap around. */
 #define away(pointer, by) ((u8 *)(uptr)((uptr)(pointer) + (by)))
 
-/* Reads a number from any address, or writes one; any types may be kept there. */
-#define MEMORY(suffix, kind)                                                                  \
-    typedef kind any##suffix __attribute__((may_alias, aligned(1)));                          \
-    INLINE kind ld##suffix(const void *from) { return *(const any##suffix *)from; }           \
-    INLINE void st##suffix(void *to, kind value) { *(any##suffix *)to = value; }
+/* Reads a number from any address, or writes one; any types may be kept there. These are macros, which compilers read faster
+ * than functions. */
+#define MEMORY(suffix, kind) typedef kind at##suffix __attribute__((may_alias, aligned(1)));
+#define LOAD(suffix, from) (*(const at##suffix *)(const void *)(from))
+#define STORE(suffix, to, value) (void)(*(at##suffix *)(void *)(to) = (value))
 
 MEMORY(8, u8)
 MEMORY(16, u16)
 MEMORY(32, u32)
 MEMORY(64, u64)
+#define ld8(from) LOAD(8, from)
+#define ld16(from) LOAD(16, from)
+#define ld32(from) LOAD(32, from)
+#define ld64(from) LOAD(64, from)
+#define st8(to, value) STORE(8, to, value)
+#define st16(to, value) STORE(16, to, value)
+#define st32(to, value) STORE(32, to, value)
+#define st64(to, value) STORE(64, to, value)
 #if __SIZEOF_POINTER__ == 8
 MEMORY(p, pointer)
+#define ldp(from) LOAD(p, from)
+#define stp(to, value) STORE(p, to, value)
 #else
 INLINE pointer ldp(const void *from) { return (pointer)(uptr)ld64(from); }
 INLINE void stp(void *to, pointer value) { st64(to, (uptr)value); }

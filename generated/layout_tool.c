@@ -69,18 +69,28 @@ struct place { const u8 *at; u32 none; };
 /* The place `by` bytes away. It may be outside of the object: it is computed as a number, and may wrap around. */
 #define away(pointer, by) ((u8 *)(uptr)((uptr)(pointer) + (by)))
 
-/* Reads a number from any address, or writes one; any types may be kept there. */
-#define MEMORY(suffix, kind)                                                                  \
-    typedef kind any##suffix __attribute__((may_alias, aligned(1)));                          \
-    INLINE kind ld##suffix(const void *from) { return *(const any##suffix *)from; }           \
-    INLINE void st##suffix(void *to, kind value) { *(any##suffix *)to = value; }
+/* Reads a number from any address, or writes one; any types may be kept there. These are macros, which compilers read faster
+ * than functions. */
+#define MEMORY(suffix, kind) typedef kind at##suffix __attribute__((may_alias, aligned(1)));
+#define LOAD(suffix, from) (*(const at##suffix *)(const void *)(from))
+#define STORE(suffix, to, value) (void)(*(at##suffix *)(void *)(to) = (value))
 
 MEMORY(8, u8)
 MEMORY(16, u16)
 MEMORY(32, u32)
 MEMORY(64, u64)
+#define ld8(from) LOAD(8, from)
+#define ld16(from) LOAD(16, from)
+#define ld32(from) LOAD(32, from)
+#define ld64(from) LOAD(64, from)
+#define st8(to, value) STORE(8, to, value)
+#define st16(to, value) STORE(16, to, value)
+#define st32(to, value) STORE(32, to, value)
+#define st64(to, value) STORE(64, to, value)
 #if __SIZEOF_POINTER__ == 8
 MEMORY(p, pointer)
+#define ldp(from) LOAD(p, from)
+#define stp(to, value) STORE(p, to, value)
 #else
 INLINE pointer ldp(const void *from) { return (pointer)(uptr)ld64(from); }
 INLINE void stp(void *to, pointer value) { st64(to, (uptr)value); }
@@ -217,7 +227,8 @@ INLINE void rattle_dealloc(u8 *block)
 /* Further functions of C for a program: its arguments and environment, `errno`, and files. */
 extern char **environ;
 
-static struct { int count; char **words; } arguments;
+struct arguments { int count; char **words; };
+extern struct arguments arguments;
 
 INLINE void keep_arguments(int count, char **words)
 {
@@ -412,6 +423,7 @@ static const struct place switch_table_capnp_layout_tool_engine_answer_refusal_0
 static const u64 switch_table_capnp_layout_tool_engine_answer_refusal_0_24a7d607[7] = { 10u, 15u, 14u, 9u, 10u, 11u, 16u };
 static const u64 switch_table_main_17[5] = { 1u, 8u, 16u, 32u, 64u };
 
+struct arguments arguments;
 static NEVER COLD u8 std_alloc_vec_Vec_grow_amortized_fe53b0f2d1658541(u8 *a_1, u64 a_2);
 static void core_str_utf8_from_utf8(u8 *a_1, u8 *a_2, u64 a_3);
 static NEVER u64 core_slice_words_skip_far_52f9edcae2f82f51(u8 *a_1, u64 a_2, u64 a_3);

@@ -69,18 +69,28 @@ struct place { const u8 *at; u32 none; };
 /* The place `by` bytes away. It may be outside of the object: it is computed as a number, and may wrap around. */
 #define away(pointer, by) ((u8 *)(uptr)((uptr)(pointer) + (by)))
 
-/* Reads a number from any address, or writes one; any types may be kept there. */
-#define MEMORY(suffix, kind)                                                                  \
-    typedef kind any##suffix __attribute__((may_alias, aligned(1)));                          \
-    INLINE kind ld##suffix(const void *from) { return *(const any##suffix *)from; }           \
-    INLINE void st##suffix(void *to, kind value) { *(any##suffix *)to = value; }
+/* Reads a number from any address, or writes one; any types may be kept there. These are macros, which compilers read faster
+ * than functions. */
+#define MEMORY(suffix, kind) typedef kind at##suffix __attribute__((may_alias, aligned(1)));
+#define LOAD(suffix, from) (*(const at##suffix *)(const void *)(from))
+#define STORE(suffix, to, value) (void)(*(at##suffix *)(void *)(to) = (value))
 
 MEMORY(8, u8)
 MEMORY(16, u16)
 MEMORY(32, u32)
 MEMORY(64, u64)
+#define ld8(from) LOAD(8, from)
+#define ld16(from) LOAD(16, from)
+#define ld32(from) LOAD(32, from)
+#define ld64(from) LOAD(64, from)
+#define st8(to, value) STORE(8, to, value)
+#define st16(to, value) STORE(16, to, value)
+#define st32(to, value) STORE(32, to, value)
+#define st64(to, value) STORE(64, to, value)
 #if __SIZEOF_POINTER__ == 8
 MEMORY(p, pointer)
+#define ldp(from) LOAD(p, from)
+#define stp(to, value) STORE(p, to, value)
 #else
 INLINE pointer ldp(const void *from) { return (pointer)(uptr)ld64(from); }
 INLINE void stp(void *to, pointer value) { st64(to, (uptr)value); }
@@ -217,7 +227,8 @@ INLINE void rattle_dealloc(u8 *block)
 /* Further functions of C for a program: its arguments and environment, `errno`, and files. */
 extern char **environ;
 
-static struct { int count; char **words; } arguments;
+struct arguments { int count; char **words; };
+extern struct arguments arguments;
 
 INLINE void keep_arguments(int count, char **words)
 {
@@ -466,6 +477,7 @@ static const u64 switch_table_stream_runs_run_format_outcome_25[7] = { 10u, 15u,
 static const struct place switch_table_stream_runs_run_format_outcome_26[35] = { PLACE(g_static_84), PLACE(g_static_85), PLACE(g_static_86), PLACE(g_static_87), PLACE(g_static_88), PLACE(g_static_89), PLACE(g_static_90), PLACE(g_static_91), PLACE(g_static_92), PLACE(g_static_93), PLACE(g_static_94), PLACE(g_static_95), PLACE(g_static_96), PLACE(g_static_97), PLACE(g_static_98), PLACE(g_static_99), PLACE(g_static_100), PLACE(g_static_101), PLACE(g_static_102), PLACE(g_static_103), PLACE(g_static_104), PLACE(g_static_105), PLACE(g_static_106), PLACE(g_static_107), PLACE(g_static_108), PLACE(g_static_109), PLACE(g_static_110), PLACE(g_static_111), PLACE(g_static_112), PLACE(g_static_113), PLACE(g_static_114), PLACE(g_static_115), PLACE(g_static_116), PLACE(g_static_117), PLACE(g_static_118) };
 static const u64 switch_table_stream_runs_run_format_outcome_27[35] = { 16u, 44u, 34u, 33u, 47u, 25u, 48u, 53u, 38u, 38u, 47u, 50u, 16u, 25u, 56u, 56u, 46u, 68u, 49u, 56u, 49u, 60u, 36u, 33u, 41u, 24u, 40u, 15u, 20u, 11u, 17u, 28u, 24u, 20u, 18u };
 
+struct arguments arguments;
 static void test_support_lines_try_answer_lines_c2e21d39fa0b5a16(u8 *a_1, u8 *a_2);
 static NEVER COLD u8 std_alloc_vec_Vec_grow_amortized_a0db22a8cd3e9023(u8 *a_1, u64 a_2);
 static void std_io_stdio_LockedStdinRead_read(u8 *a_1, u8 *a_2, u8 *a_3, u64 a_4);

@@ -3,7 +3,8 @@
 
     generate.py FOLDER CRATE..
 
-Writes FOLDER/CRATE.c for the library `capnp_canonical` or a program, from the current sources. proved.py proves the crates
+Writes FOLDER/CRATE.c for the library `capnp_canonical` or a program, from the current sources; for a program of several files
+FOLDER/CRATE.h and FOLDER/CRATE_PART.c too. proved.py proves the crates
 first, over the libraries that `./test` has left in this tree if they are of the current sources. `rattle build` lowers a crate
 to an LLVM module and passes it to clang. Here a script takes the place of clang: it also makes the toolchain's clang write the
 module as optimised text. c_of_module translates that text to C."""
@@ -19,6 +20,13 @@ import constants
 # Options that leave vector instructions and longer loops to the C compiler, and make no code that depends on where it is
 # loaded.
 OPTIMISED = '--target=x86_64-unknown-linux-gnu --no-default-config -O2 -fno-vectorize -fno-slp-vectorize -fno-unroll-loops -fno-pic -fno-pie'
+# Programs of several files, and which crates, or modules of them, each file has: `make -j` compiles them side by side.
+PARTS = {
+    'capnp_canon': (
+        'inputs=capnp_canon::inputs', 'diffs=capnp_canon::diffs', '=capnp_canon', '=main', 'streams=capnp_streams', 'show=capnp_show',
+        'io=std_io', 'io=std_fs', 'io=core::fmt', 'layer=',
+    ),
+}
 CLANG = '''#!/bin/sh
 case " $* " in *" -x ir module.bc "*) {clang} {flags} -S -emit-llvm -o {kept} -x ir module.bc || exit ;; esac
 exec {clang} "$@"
@@ -38,17 +46,20 @@ def with_script(real, room, kept):
     return room
 
 
-def in_c(room, crate):
-    """The C of a crate. Its module is compiled for the oldest x86-64 processor, so it depends on no newer one."""
+def write(room, crate, to):
+    """Writes the C of a crate. Its module is compiled for the oldest x86-64 processor, so it depends on no newer one."""
     module = room.at / f'{crate}.ll'
     room.build(crate, room.at / f'{crate}.built', with_script(room.crates.kit, room.at / f'toolchain_of_{crate}', module), '--cpu', 'x86-64')
     writer = [sys.executable, '-B', str(proved.TOP / 'tools/c_of_module'), str(module), str(proved.TOP / 'bindings/c/capnp_canonical.h')]
-    run = subprocess.run(writer, stdout=subprocess.PIPE, stderr=subprocess.PIPE, encoding='utf-8')
+    parts = PARTS.get(crate)
+    run = subprocess.run([*writer, *([str(to), crate, *parts] if parts else [])], stdout=subprocess.PIPE, stderr=subprocess.PIPE, encoding='utf-8')
     if run.returncode:
         sys.exit(f'generate.py: {crate}: {run.stderr}')
-    if wrong := constants.differing(module.read_text(encoding='latin-1'), run.stdout)[0]:
+    if not parts:
+        (to / f'{crate}.c').write_text(run.stdout, encoding='utf-8')
+    written = (to / (f'{crate}.h' if parts else f'{crate}.c')).read_text(encoding='utf-8')
+    if wrong := constants.differing(module.read_text(encoding='latin-1'), written)[0]:
         sys.exit(f'generate.py: {crate}: the C of {wrong} isn\'t what the module has')
-    return run.stdout
 
 
 def main(given):
@@ -57,7 +68,7 @@ def main(given):
     to = pathlib.Path(given[0]).resolve()
     to.mkdir(parents=True, exist_ok=True)
     try:
-        proved.over_libraries(given[1:], lambda room, crate: (to / f'{crate}.c').write_text(in_c(room, crate), encoding='utf-8'))
+        proved.over_libraries(given[1:], lambda room, crate: write(room, crate, to))
     except proved.Stopped as why:
         sys.exit(f'generate.py: {why}')
 

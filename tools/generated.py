@@ -91,7 +91,7 @@ def made():
         run = subprocess.run([sys.executable, '-B', str(TOP / 'tools/generate.py'), room, *CRATES], stdout=sys.stderr)
         if run.returncode or sums() != before:
             sys.exit('generated.py: nothing is written' + ('' if run.returncode else ': the sources have changed in the meantime'))
-        files = {f'{it}.c': (pathlib.Path(room) / f'{it}.c').read_bytes() for it in CRATES}
+        files = {it.name: it.read_bytes() for it in pathlib.Path(room).iterdir()}
     files[f'{NAME}.map'] = exports()
     version = subprocess.run(['rt', 'version'], stdin=subprocess.DEVNULL, stdout=subprocess.PIPE, encoding='utf-8', check=True).stdout
     return {**files, 'ORIGIN': origin(version.split()[-1], files)}
@@ -110,7 +110,7 @@ def sum_now(path):
 def differing():
     """Each thing that has a sum, with what is wrong with it, or None."""
     said, now = listed('generated/ORIGIN'), sums()
-    files = {f'generated/{it}' for it in (*(f'{crate}.c' for crate in CRATES), f'{NAME}.map')}
+    files = {f'generated/{it.name}' for it in (TOP / 'generated').glob('*') if it.name != 'ORIGIN'}
     for name in sorted({*now, *(it for it in said if it.startswith('crates/'))}):
         yield name, None if said.get(name) == now.get(name) else f'{name} has changed since generated/ was written: {AGAIN}'
     for name in sorted({*files, *(it for it in said if it.startswith('generated/'))}):
@@ -123,15 +123,23 @@ def differing():
 
 def compared():
     """Each file of generated/, with what is wrong with it, or None."""
-    for name, data in made().items():
+    files = made()
+    for it in sorted((TOP / 'generated').iterdir()):
+        if it.name not in files:
+            yield it.name, f'generated/{it.name} is not what the sources compile to: remove it'
+    for name, data in files.items():
         path = TOP / 'generated' / name
         is_right = path.is_file() and path.read_bytes() == data
         yield name, None if is_right else f'generated/{name} is not what the sources compile to: {AGAIN}'
 
 
 def write():
-    for name, data in made().items():
-        (TOP / 'generated').mkdir(exist_ok=True)
+    files = made()
+    (TOP / 'generated').mkdir(exist_ok=True)
+    for it in (TOP / 'generated').iterdir():
+        if it.name not in files:
+            it.unlink()
+    for name, data in files.items():
         (TOP / 'generated' / name).write_bytes(data)
     if listed(f'{WASM}/ORIGIN').get(f'sha256 of {NAME}.c') == sum_now(f'generated/{NAME}.c'):
         return 0

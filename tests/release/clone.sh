@@ -66,7 +66,7 @@ first() {
 
 # The script of the program that isn't in the quick start, and that scripts pass on input.
 programs() {
-    make CC="$CC" && ./capnp_canon canon --flat <"$message" | is_canonical &&
+    make all CC="$CC" && ./capnp_canon canon --flat <"$message" | is_canonical &&
         [ "$(echo 0000000001000000 2a00000000000000 | tr -d ' ' | ./layout_tool canon 64 8388608)" = 00000000010000002a00000000000000 ]
 }
 

@@ -1,9 +1,14 @@
-"""Translates the text of an LLVM module to C: one file, for gcc and clang.
+"""Translates the text of an LLVM module to C, for gcc and clang.
 
     c_of_module MODULE.ll HEADER
+    c_of_module MODULE.ll HEADER FOLDER NAME PART=CRATE..
 
 HEADER declares the functions that the module exports. The C file includes it, so the C compiler compares the two.
 Nothing is guessed: anything unknown ends the run, and the line where it occurs is printed.
+
+The first form prints one file. The second form writes a program in several files, which can be compiled side by side:
+FOLDER/NAME_PART.c has the functions of a crate, or of a module of a crate (CRATE::MODULE), or, with `PART=`, of all crates
+that aren't named; FOLDER/NAME.c has those of `=CRATE` and what is left; FOLDER/NAME.h has what all of them share.
 
 How LLVM becomes C:
 
@@ -26,6 +31,8 @@ from writing import offset
 ABOUT = '''/* This file is generated: don't edit it. It is the compiled form of the repository's proved sources, translated to C by
  * tools/c_of_module. docs/PROVED.md says what you have to trust. */'''
 STRUCTS_OUTSIDE = {'s_i64_i64'}
+# The arguments of a program, which program.h declares.
+KEPT = 'struct arguments arguments;'
 # C promises to read lines and texts of this many characters.
 LONGEST = 4095
 
@@ -106,10 +113,9 @@ class Module:
             raise Unknown('parts of other types')
         return f'static const struct {{ {" ".join(fields)} }} {name}[1] = {{ {{ {", ".join(values)} }} }};'
 
-    def text(self):
-        written = '\n\n'.join(it.text() for it in self.functions)
+    def shared(self, written):
+        """What comes before the functions, and is the same in each file of a program: types, helpers and constants."""
         is_library = any(not it.signature.is_internal and it.signature.name != 'main' for it in self.functions)
-        yield ABOUT
         if self.is_program:
             yield '#define _POSIX_C_SOURCE 200809L'
             yield from (f'#include <{it}.h>' for it in ('errno', 'fcntl', 'signal', 'unistd'))
@@ -122,8 +128,37 @@ class Module:
             fields = ' '.join(f'{declared(it, f"f{number}")};' for number, it in enumerate(self.structs[name][1]))
             yield f'struct {name} {{ {fields} }};'
         yield from ('', '/* mvN moves N bytes between places that may overlap. */', *map(move, sorted(self.moves)), '', *self.statics, '')
+
+    def text(self):
+        written = '\n\n'.join(it.text() for it in self.functions)
+        yield ABOUT
+        yield from self.shared(written)
+        yield from [KEPT] * self.is_program
         yield from (f'{it.signature.text(Names())};' for it in self.functions if it.signature.is_internal)
         yield '\n' + written
+
+    def texts(self, name, parts):
+        """The lines of each file of a program, by the file's name. `parts` has the part of each crate or module of a crate. A
+        function that another file calls isn't static."""
+        bodies = {it: it.text() for it in self.functions}
+        of = {it: part_of(it.signature.name, parts) for it in bodies}
+        symbols = {self.names(it.signature.symbol): it for it in bodies if it.signature.is_internal}
+        for it, body in bodies.items():
+            for called in {*re.findall(r'\w+', body)} & {*symbols}:
+                symbols[called].signature.is_shared |= of[symbols[called]] != of[it]
+        shared = [it for it in symbols.values() if it.signature.is_shared]
+        yield f'{name}.h', [ABOUT, *self.shared('\n'.join(bodies.values())), *(f'{it.signature.text(Names())};' for it in shared)]
+        for part in sorted({'', *of.values()}):
+            here = [it for it in bodies if of[it] == part]
+            alone = [f'{it.signature.text(Names())};' for it in here if it.signature.is_internal and not it.signature.is_shared]
+            written = (re.sub('(?m)^static ', '', bodies[it], count=1) if it.signature.is_shared else bodies[it] for it in here)
+            yield f'{name}_{part}.c' if part else f'{name}.c', [ABOUT, f'#include "{name}.h"', '', *[KEPT] * (not part), *alone, '', '\n\n'.join(written)]
+
+
+def part_of(symbol, parts):
+    """The part that a function belongs to: that of its module or crate, or else the one for all other crates."""
+    crate, *rest = symbol.split('::')
+    return next((parts[it] for it in ('::'.join([crate, *rest[:1]]), crate, '') if it in parts), '')
 
 
 def text_of(value, count):
@@ -163,11 +198,16 @@ def move(size):
 
 
 def main(words):
-    if len(words) != 2:
+    if len(words) != 2 and len(words) < 4:
         sys.exit(__doc__)
-    text, header = (pathlib.Path(word).read_text(encoding='latin-1') for word in words)
-    for line in '\n'.join(Module(text, header).text()).split('\n'):
-        print(*broken(line), sep='\n')
+    module = Module(*(pathlib.Path(word).read_text(encoding='latin-1') for word in words[:2]))
+    if len(words) == 2:
+        return print('\n'.join(it for line in '\n'.join(module.text()).split('\n') for it in broken(line)))
+    folder, name, *parts = words[2:]
+    parts = {crate: part for part, _, crate in (it.partition('=') for it in parts)}
+    for file, lines in module.texts(name, parts):
+        text = '\n'.join(it for line in '\n'.join(lines).split('\n') for it in broken(line))
+        (pathlib.Path(folder) / file).write_text(text + '\n', encoding='utf-8')
 
 
 main(sys.argv[1:])

@@ -27,6 +27,8 @@ class Signature:
         self.module = module
         self.is_outside = it.next() == 'declare'
         self.is_internal = ' internal ' in line.partition('@')[0]
+        # whether functions in other files call it
+        self.is_shared = False
         it.skip_promises()
         self.result = it.type()
         symbol = it.next()
@@ -66,7 +68,7 @@ class Signature:
 
     def text(self, names):
         words = ', '.join(declared(kind, names(name)) for kind, name in self.parameters)
-        return f'static {self.advice}{declared(self.result, self.module.names(self.symbol))}({words or "void"})'
+        return f'{"" if self.is_shared else "static "}{self.advice}{declared(self.result, self.module.names(self.symbol))}({words or "void"})'
 
 
 class Function:

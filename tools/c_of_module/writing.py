@@ -358,7 +358,8 @@ class Writer:
         number = int(it.next())
         it.end()
         text, reads = self.get(kind, value)
-        self.define(name, kind[1][number], f'{text}.f{number}', reads)
+        # a literal has commas, which would separate the arguments of a macro
+        self.define(name, kind[1][number], f'{text if text.isidentifier() else f"({text})"}.f{number}', reads)
 
     def do_insertvalue(self, it, name):
         kind, value = it.typed()
