@@ -1,0 +1,1 @@
+"""Prints the crates of this repository as plain Rust."""
