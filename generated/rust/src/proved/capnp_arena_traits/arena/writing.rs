@@ -1,0 +1,47 @@
+//! Writes whole words of a segment, through the bytes that `BuilderArena::segment_mut` lends.
+
+use crate::proved::capnp_arena_traits::arena::BuilderArena;
+use crate::proved::capnp_words::words;
+
+/// Writes `word` at position `at` of segment `id`.
+///
+/// # Preconditions
+///
+/// ```text
+/// requires { IsPlace (A.view arena.old).words id at }
+/// ```
+#[inline(always)]
+pub fn set_word<A: BuilderArena>(arena: &mut A, id: u32, at: u32, word: u64) {
+    words::put_word(arena.segment_mut(id), at as usize, word);
+}
+
+/// Writes the words of `from` over those of segment `id` from position `at` on. If `from` is empty,
+/// nothing changes.
+///
+/// # Preconditions
+///
+/// ```text
+/// requires whole { length from.now ≡ 8 * length (words_of from.now) }
+/// requires inside { at + length (words_of from.now)
+///     ≤ length (segment (A.view arena.old).words id) }
+/// ```
+#[inline]
+pub fn copy_words<A: BuilderArena>(arena: &mut A, id: u32, at: u32, from: &[u8]) {
+    if !from.is_empty() {
+        words::copy_words(arena.segment_mut(id), at as usize, from);
+    }
+}
+
+/// Zeroes `n` words of segment `id` from position `at` on. If `n` is 0, nothing changes.
+///
+/// # Preconditions
+///
+/// ```text
+/// requires { at + n ≤ length (segment (A.view arena.old).words id) }
+/// ```
+#[inline]
+pub fn zero_words<A: BuilderArena>(arena: &mut A, id: u32, at: u32, n: u32) {
+    if n > 0 {
+        words::zero_words(arena.segment_mut(id), at as usize, n as usize);
+    }
+}

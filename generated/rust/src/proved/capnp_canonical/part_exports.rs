@@ -1,0 +1,227 @@
+//! The functions for C that work on a part of a message: on the value to which a path leads.
+
+use crate::proved::capnp_canonical::calls::Limits;
+use crate::proved::capnp_canonical::parts::{
+    copy_frame_part, copy_segments_part, copy_words_part, digest_frame_part, digest_segments_part,
+    digest_words_part, size_frame_part, size_segments_part, size_words_part,
+};
+use crate::proved::support::alloc::Global;
+
+/// Makes the canonical copy of a part of the message whose frame is at the front of `frame`: of the
+/// value to which `path` leads. Writes the canonical words to the front of `to`, without a frame,
+/// and stores the number of bytes written in `written`. `nesting` and `words` are the limits of
+/// `capnp_canonical_check`. The rest of the message isn't read.
+///
+/// `path` is a list of indexes. From the root pointer on, an index leads from a struct to one of
+/// its pointers; from a list of pointers, to an element; from a list of structs, to an element,
+/// which is a struct too. Refuses with `NoSuchPlace` if an index leads nowhere.
+///
+/// If `to` is too small, stores the number of bytes needed in `written`; for any other refusal, 0.
+/// The bytes of `to` after the copy are unchanged. If the call is refused, all bytes of `to` are
+/// unchanged.
+pub fn capnp_canonical_copy_flat_at(
+    alloc: Global,
+    frame: &[u8],
+    path: &[u32],
+    nesting: i32,
+    words: u64,
+    to: &mut [u8],
+    written: &mut usize,
+) -> u32 {
+    match copy_frame_part(alloc, frame, path, Limits { nesting, words }, to) {
+        Ok(size) => {
+            *written = size;
+            0
+        }
+        Err(refusal) => {
+            *written = refusal.wanted_room();
+            refusal.number()
+        }
+    }
+}
+
+/// Stores in `digest` the SHA-256 of the bytes that `capnp_canonical_copy_flat_at` writes. After a
+/// refusal `digest` is all 0. The refusals are those of `capnp_canonical_copy_flat_at`, except that
+/// there is always room.
+pub fn capnp_canonical_digest_at(
+    alloc: Global,
+    frame: &[u8],
+    path: &[u32],
+    nesting: i32,
+    words: u64,
+    digest: &mut [u8; 32],
+) -> u32 {
+    match digest_frame_part(alloc, frame, path, Limits { nesting, words }) {
+        Ok(made) => {
+            *digest = made;
+            0
+        }
+        Err(refusal) => {
+            *digest = [0; 32];
+            refusal.number()
+        }
+    }
+}
+
+/// Counts the words and capabilities of the part of the message to which `path` leads, without
+/// landing pads. Follows `path` like `capnp_canonical_copy_flat_at`. Stores the numbers in
+/// `word_count` and `cap_count`; after a refusal both are 0.
+pub fn capnp_canonical_size_at(
+    frame: &[u8],
+    path: &[u32],
+    nesting: i32,
+    words: u64,
+    word_count: &mut u64,
+    cap_count: &mut u32,
+) -> u32 {
+    match size_frame_part(frame, path, Limits { nesting, words }) {
+        Ok(size) => {
+            *word_count = size.word_count;
+            *cap_count = size.cap_count;
+            0
+        }
+        Err(refusal) => {
+            *word_count = 0;
+            *cap_count = 0;
+            refusal.number()
+        }
+    }
+}
+
+/// Like `capnp_canonical_copy_flat_at`, for a message that the caller passes as `segments`, without
+/// a frame.
+pub fn capnp_canonical_segments_copy_flat_at(
+    alloc: Global,
+    segments: &[&[u8]],
+    path: &[u32],
+    nesting: i32,
+    words: u64,
+    to: &mut [u8],
+    written: &mut usize,
+) -> u32 {
+    match copy_segments_part(alloc, segments, path, Limits { nesting, words }, to) {
+        Ok(size) => {
+            *written = size;
+            0
+        }
+        Err(refusal) => {
+            *written = refusal.wanted_room();
+            refusal.number()
+        }
+    }
+}
+
+/// Like `capnp_canonical_digest_at`, for a message that the caller passes as `segments`, without a
+/// frame.
+pub fn capnp_canonical_segments_digest_at(
+    alloc: Global,
+    segments: &[&[u8]],
+    path: &[u32],
+    nesting: i32,
+    words: u64,
+    digest: &mut [u8; 32],
+) -> u32 {
+    match digest_segments_part(alloc, segments, path, Limits { nesting, words }) {
+        Ok(made) => {
+            *digest = made;
+            0
+        }
+        Err(refusal) => {
+            *digest = [0; 32];
+            refusal.number()
+        }
+    }
+}
+
+/// Like `capnp_canonical_size_at`, for a message that the caller passes as `segments`, without a
+/// frame.
+pub fn capnp_canonical_segments_size_at(
+    segments: &[&[u8]],
+    path: &[u32],
+    nesting: i32,
+    words: u64,
+    word_count: &mut u64,
+    cap_count: &mut u32,
+) -> u32 {
+    match size_segments_part(segments, path, Limits { nesting, words }) {
+        Ok(size) => {
+            *word_count = size.word_count;
+            *cap_count = size.cap_count;
+            0
+        }
+        Err(refusal) => {
+            *word_count = 0;
+            *cap_count = 0;
+            refusal.number()
+        }
+    }
+}
+
+/// Like `capnp_canonical_copy_flat_at`, for a message with one segment, whose words the caller
+/// passes as `bytes`, without a frame.
+pub fn capnp_canonical_words_copy_at(
+    alloc: Global,
+    bytes: &[u8],
+    path: &[u32],
+    nesting: i32,
+    words: u64,
+    to: &mut [u8],
+    written: &mut usize,
+) -> u32 {
+    match copy_words_part(alloc, bytes, path, Limits { nesting, words }, to) {
+        Ok(size) => {
+            *written = size;
+            0
+        }
+        Err(refusal) => {
+            *written = refusal.wanted_room();
+            refusal.number()
+        }
+    }
+}
+
+/// Like `capnp_canonical_digest_at`, for a message with one segment, whose words the caller passes
+/// as `bytes`, without a frame.
+pub fn capnp_canonical_words_digest_at(
+    alloc: Global,
+    bytes: &[u8],
+    path: &[u32],
+    nesting: i32,
+    words: u64,
+    digest: &mut [u8; 32],
+) -> u32 {
+    match digest_words_part(alloc, bytes, path, Limits { nesting, words }) {
+        Ok(made) => {
+            *digest = made;
+            0
+        }
+        Err(refusal) => {
+            *digest = [0; 32];
+            refusal.number()
+        }
+    }
+}
+
+/// Like `capnp_canonical_size_at`, for a message with one segment, whose words the caller passes as
+/// `bytes`, without a frame.
+pub fn capnp_canonical_words_size_at(
+    bytes: &[u8],
+    path: &[u32],
+    nesting: i32,
+    words: u64,
+    word_count: &mut u64,
+    cap_count: &mut u32,
+) -> u32 {
+    match size_words_part(bytes, path, Limits { nesting, words }) {
+        Ok(size) => {
+            *word_count = size.word_count;
+            *cap_count = size.cap_count;
+            0
+        }
+        Err(refusal) => {
+            *word_count = 0;
+            *cap_count = 0;
+            refusal.number()
+        }
+    }
+}

@@ -1,0 +1,5 @@
+//! Readers: pointers, structs and lists of a message, read in place.
+
+pub mod readers;
+
+pub use crate::proved::capnp_objects::{object, source};

@@ -1,0 +1,29 @@
+//! Does a task with each message of a stream.
+
+mod answers;
+mod arguments;
+mod diffs;
+mod flat;
+mod input_form;
+mod options;
+mod packed;
+mod parts;
+mod path;
+mod runs;
+mod shows;
+mod stream_error;
+mod task;
+mod writing;
+
+pub use crate::proved::capnp_messages::messages::{Command, Form};
+pub use arguments::ArgumentFault;
+pub use diffs::{run_diff, run_diff_flat, run_diff_packed, Compared, DiffFault, Side};
+pub use flat::{run_flat, run_flat_with};
+pub use input_form::InputForm;
+pub use options::{OptionName, Subcommand, ValueOption};
+pub use packed::{run_packed, run_packed_with};
+pub use path::Path;
+pub use runs::{run, run_with, Stop, Summary};
+pub use shows::{run_show, run_show_flat, run_show_packed};
+pub use stream_error::StreamError;
+pub use task::{named_files, parse_args, DiffTask, Request, ShowTask, Task, WrongArgument};

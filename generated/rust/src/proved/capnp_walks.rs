@@ -1,0 +1,3 @@
+//! Walks over a message, and lists its objects in the caller's array.
+
+pub mod walks;

@@ -1,0 +1,119 @@
+//! Words in slices of bytes: eight bytes each, the lowest byte first. Positions and counts are in
+//! words from the slice's start; up to seven bytes after the last whole word are ignored.
+
+use crate::proved::capnp_words::lanes;
+use crate::proved::support::simd::prelude::*;
+
+/// The word at position `at`.
+///
+/// # Preconditions
+///
+/// ```text
+/// requires { 8 * at + 8 ≤ length bytes.now }
+/// ```
+#[inline]
+pub fn word_at(bytes: &[u8], at: usize) -> u64 {
+    let i = 8 * at;
+    match bytes[i..].first_chunk() {
+        Some(word) => u64::from_le_bytes(*word),
+        None => unreachable!(),
+    }
+}
+
+/// Writes `word` at position `at`.
+///
+/// # Preconditions
+///
+/// ```text
+/// requires { 8 * at + 8 ≤ length bytes.old }
+/// ```
+#[inline]
+pub fn put_word(bytes: &mut [u8], at: usize, word: u64) {
+    u64x1::splat(word)
+        .to_le_bytes()
+        .copy_to_slice(&mut bytes[8 * at..]);
+}
+
+/// Copies the words of `from` over those of `bytes` from position `at` on. Precondition: the length
+/// of `from` is a multiple of 8.
+///
+/// # Preconditions
+///
+/// ```text
+/// requires whole { length from.now ≡ 8 * length (words_of from.now) }
+/// requires room { 8 * (at + length (words_of from.now)) ≤ length bytes.old }
+/// ```
+#[inline]
+pub fn copy_words(bytes: &mut [u8], at: usize, from: &[u8]) {
+    let start = 8 * at;
+    lanes::copy(from, &mut bytes[start..start + from.len()]);
+}
+
+/// Zeroes `n` words from position `at` on.
+///
+/// # Preconditions
+///
+/// ```text
+/// requires { 8 * (at + n) ≤ length bytes.old }
+/// ```
+#[inline]
+pub fn zero_words(bytes: &mut [u8], at: usize, n: usize) {
+    let start = 8 * at;
+    lanes::zero(&mut bytes[start..start + 8 * n]);
+}
+
+/// The number of words up to and including the last one that isn't zero; 0 if all are zero.
+#[inline]
+pub fn used_words(bytes: &[u8]) -> usize {
+    let words = bytes.len() / 8;
+    words - lanes::trailing_zero_words(&bytes[..8 * words])
+}
+
+/// The `n` words from position `at` on.
+///
+/// # Preconditions
+///
+/// ```text
+/// requires { 8 * (at + n) ≤ length bytes.now }
+/// ```
+#[inline]
+pub fn word_range(bytes: &[u8], at: usize, n: usize) -> &[u8] {
+    &bytes[8 * at..8 * at + 8 * n]
+}
+
+/// The number of whole words in `bytes`.
+#[inline]
+pub fn count(bytes: &[u8]) -> usize {
+    bytes.len() / 8
+}
+
+/// Of the `n` words from position `at` on, the number up to and including the last one that isn't
+/// zero; 0 if all are zero.
+///
+/// # Preconditions
+///
+/// ```text
+/// requires { 8 * (at + n) ≤ length bytes.now }
+/// ```
+#[inline]
+pub fn used_words_in(bytes: &[u8], at: usize, n: usize) -> usize {
+    used_words(word_range(bytes, at, n))
+}
+
+/// Copies `n` words from position `from` to position `to`; the two ranges may overlap.
+///
+/// # Preconditions
+///
+/// ```text
+/// requires there { 8 * (from + n) ≤ length bytes.old }
+/// requires room { 8 * (to + n) ≤ length bytes.old }
+/// ```
+#[inline]
+pub fn move_words(bytes: &mut [u8], from: usize, to: usize, n: usize) {
+    if from + n <= to {
+        let (front, back) = bytes.split_at_mut(8 * to);
+        lanes::copy(&front[8 * from..8 * (from + n)], &mut back[..8 * n]);
+    } else {
+        bytes.copy_within(8 * from..8 * (from + n), 8 * to);
+    }
+}
