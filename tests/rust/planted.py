@@ -1,0 +1,146 @@
+#!/usr/bin/env python3
+"""Plants bugs in a copy of the printed crate, of the departures and the support, and of the printer, and checks that each is found.
+
+    planted.py
+
+A bug in the crate is found by the sums and, if somebody has written the sums again, by printing again. One in the printer is
+found by the texts of texts.txt or by the audit, although the sums are those of the wrong printer. One in a departure or in the
+support is found by the sums, and by the tests of by_hand/ if all is printed again. Needs cargo and rustfmt. The last line is
+`N passed, M failed`."""
+import pathlib
+import shutil
+import subprocess
+import sys
+import tempfile
+
+TOP = pathlib.Path(__file__).resolve().parents[2]
+MODULES = 'generated/rust/src/proved'
+PRINTER = 'tools/rust/printer'
+# Each bug: what is wrong, the file, a text that the file has once, and the text in its place.
+IN_CRATE = (
+    ('a token is dropped', f'{MODULES}/capnp_words/words.rs', 'bytes.len() / 8\n', 'bytes.len()\n'),
+    ('a bound is moved', f'{MODULES}/capnp_words/read_limiter.rs', 'left < amount', 'left <= amount'),
+    ('operands are swapped', f'{MODULES}/capnp_words/words.rs', 'words - lanes', 'lanes - words'),
+    ('a check is left out', f'{MODULES}/capnp_objects/nesting.rs', 'nesting_limit.max(0) as u32', 'nesting_limit as u32'),
+    ('another refusal', f'{MODULES}/capnp_arena/arena/null_allocator.rs', 'Err(ErrorKind::AllocationFailed)', 'Err(ErrorKind::UnknownPointerType)'),
+    ('a departure is changed', f'{MODULES}/capnp_arena/arena/builder_arena_impl.rs', 'if let Some((mut allocator, listed, apart)) = self.take_apart()', 'if let Some((mut allocator, apart, listed)) = self.take_apart()'),
+    ('unsafe code is allowed', f'{MODULES}/mod.rs', '#![forbid(unsafe_code)]\n', ''),
+    ('32 bits are allowed', f'{MODULES}/mod.rs', '#[cfg(not(target_pointer_width = "64"))]', '#[cfg(target_pointer_width = "16")]'),
+    ('the support is changed', f'{MODULES}/support/vec.rs', 'self.0.truncate(n);', ''),
+    ('a comment lies', f'{MODULES}/capnp_words/read_limiter.rs', 'a refusal charges nothing', 'a refusal charges everything'),
+)
+IN_PRINTER = (
+    ('a ghost item ends too late', f'{PRINTER}/tokens.py', "if text[following] in ';,':\n            return following + 1", "if text[following] in ';,':\n            return text.index('\\n', following + 1) + 40"),
+    ('strings of clauses have braces', f'{PRINTER}/tokens.py', '''r'"(?:\\\\.|[^"\\\\])*"|[{}]', re.DOTALL).finditer''', "r'[{}]', re.DOTALL).finditer"),
+    ('a clause takes what is before it', f'{PRINTER}/erasing.py', "s.replace(start, end, '' if s.is_at(end, ';') else ' ')", "s.replace(start - 1, end, '' if s.is_at(end, ';') else ' ')"),
+    ('each function without a body is a law', f'{PRINTER}/erasing.py', "end = s.match(s.next(name), '() {}')", "end = s.match(s.next(name), '(')"),
+    ('another bound goes with Drop', f'{PRINTER}/erasing.py', "start = before\n            while s.tokens[start - 1].kind == 'space':", "start = s.back(before)\n            while s.tokens[start - 1].kind == 'space':"),
+    ('results are quoted as preconditions', f'{PRINTER}/erasing.py', "it.text.startswith('requires')", "it.text.startswith('ensures')"),
+    ('a copy is another value', f'{PRINTER}/rewriting.py', '''{{\\n{indent}    *self\\n{indent}}}')''', '''{{\\n{indent}    Self::default()\\n{indent}}}')'''),
+    ('long functions are inlined', f'{PRINTER}/rewriting.py', 'SHORT = 25', 'SHORT = 250'),
+    ('a path leads to another library', f'{PRINTER}/rewriting.py', "s.replace(first, first + 1, libraries[name])", "s.replace(first, first + 1, libraries[min(libraries)])"),
+    ('what is private to a crate is public', f'{PRINTER}/rewriting.py', "f'pub(in {own})'", "'pub'"),
+    ('numbers lose a digit', f'{PRINTER}/source.py', "''.join(it.text for it in self.tokens)\n\n    def text_of", "''.join(it.text[:-1] if it.kind == 'number' and len(it.text) > 2 else it.text for it in self.tokens)\n\n    def text_of"),
+    ('a departure is done twice', f'{PRINTER}/departures.py', 'text = text.replace(it.old, it.new)', 'text = text.replace(it.old, it.new + it.new)'),
+    ('a file is left out', f'{PRINTER}/library.py', 'if not erasing.is_of_laws(it)', "if not erasing.is_of_laws(it) and 'zero' not in it"),
+)
+# Here also the test that fails then.
+BY_HAND = (
+    ('the wrong word', 'each_word_is_read_lowest_byte_first', 'tools/rust/departures/speed.txt', 'match bytes[i..].first_chunk()', 'match bytes[i + 1..].first_chunk()'),
+    ('segments that aren\'t returned', 'a_dropped_arena_returns_each_segment_once_in_order', 'tools/rust/departures/drop.txt', 'deallocate_all(&mut allocator, listed, apart);\n        }\n    }\n}\n\n/// What', 'let _ = (&mut allocator, listed, apart);\n        }\n    }\n}\n\n/// What'),
+    ('an error that is forgotten', 'the_error_of_a_device_is_noted', 'tools/rust/departures/io_error.txt', 'self.fault.set(fault.as_ref().map(same_error));\n', ''),
+    ('a list that is cut short', 'lists', 'tools/rust/support/vec.rs', 'self.0.resize(n, value);\n        Ok(())', 'self.0.resize(n.min(999), value);\n        Ok(())'),
+    ('another digest', 'digests', 'tools/rust/support/sha2.rs', 'rest.len() < 56', 'rest.len() < 57'),
+    ('lanes in another order', 'lanes', 'tools/rust/support/simd.rs', 'self.0[0].to_le_bytes()', 'self.0[0].to_be_bytes()'),
+)
+
+
+def copy(room):
+    """A tree that has what the printer reads and writes, in which nothing but these files can be changed."""
+    shutil.copytree(TOP / 'tools/rust', room / 'tools/rust', ignore=shutil.ignore_patterns('__pycache__'))
+    shutil.copytree(TOP / 'generated/rust', room / 'generated/rust', ignore=shutil.ignore_patterns('target'))
+    shutil.copy(TOP / 'tools/libraries.py', room / 'tools')
+    for name in 'crates', 'crates.txt', 'rustfmt.toml':
+        (room / name).symlink_to(TOP / name)
+
+
+def run(room, *words):
+    """Whether a script succeeds, and what it prints."""
+    done = subprocess.run([sys.executable, '-B', *map(str, words)], cwd=room, stdin=subprocess.DEVNULL, stdout=subprocess.PIPE, stderr=subprocess.STDOUT, encoding='utf-8')
+    return done.returncode == 0, done.stdout
+
+
+def plant(room, path, old, new):
+    """Plants a bug; the text of the file before."""
+    text = (room / path).read_text(encoding='utf-8')
+    if text.count(old) != 1:
+        sys.exit(f'planted.py: {path} has {text.count(old)} times {old}')
+    (room / path).write_text(text.replace(old, new), encoding='utf-8')
+    return text
+
+
+class Counts:
+    passed = failed = 0
+
+    def told(self, is_found, kind, what, by):
+        self.passed, self.failed = self.passed + is_found, self.failed + (not is_found)
+        print(f'{kind}: {what}: {"found by " + by if is_found else "NOT found by " + by}', flush=True)
+
+
+def in_crate(room, counts):
+    """Plants each of these bugs, then all of them, with sums that somebody has written again."""
+    generated = room / 'tools/rust/generated.py'
+    for what, *bug in IN_CRATE:
+        before = plant(room, *bug)
+        counts.told(not run(room, generated, '--sums')[0], 'in the crate', what, 'the sums')
+        (room / bug[0]).write_text(before, encoding='utf-8')
+    for what, *bug in IN_CRATE:
+        plant(room, *bug)
+    again = 'import generated as g; (g.TOP / g.ORIGIN).write_bytes(g.origin(g.version_of_rustfmt(), g.printed()[0], g.committed()))'
+    run(room / 'tools/rust', '-c', again)
+    if not run(room, generated, '--sums')[0]:
+        sys.exit('planted.py: the sums aren\'t written again')
+    found = run(room, generated, '--check')[1]
+    for what, path, *_ in IN_CRATE:
+        counts.told(f'{path} isn\'t what the sources are printed as' in found, 'in the crate, with its sum', what, 'printing again')
+
+
+def in_printer(room, counts):
+    """Plants each of these bugs, and prints again: the texts differ, or nothing is written."""
+    for what, *bug in IN_PRINTER:
+        before = plant(room, *bug)
+        by_sums = not run(room, room / 'tools/rust/generated.py', '--sums')[0]
+        by_texts = not run(room, TOP / 'tests/rust/texts.py', room / 'tools/rust')[0]
+        by_audit = not run(room, room / 'tools/rust/generated.py')[0]
+        names = [name for name, found in (('the texts', by_texts), ('the audit', by_audit)) if found]
+        counts.told(by_sums and bool(names), 'in the printer', what, ' and '.join(names) or 'the texts and the audit')
+        (room / bug[0]).write_text(before, encoding='utf-8')
+
+
+def by_hand(room, counts):
+    """Plants each of these bugs, then all of them, and prints again: the test of each fails."""
+    generated = room / 'tools/rust/generated.py'
+    for what, _, *bug in BY_HAND:
+        before = plant(room, *bug)
+        counts.told(not run(room, generated, '--sums')[0], 'by hand', what, 'the sums')
+        (room / bug[0]).write_text(before, encoding='utf-8')
+    for what, _, *bug in BY_HAND:
+        plant(room, *bug)
+    if not run(room, generated)[0]:
+        sys.exit('planted.py: the bugs by hand aren\'t printed')
+    found = run(room, TOP / 'tests/rust/by_hand.py', room / 'generated/rust')[1]
+    for what, test, *_ in BY_HAND:
+        counts.told(f'\n    {test}\n' in found, 'by hand, printed again', what, f'the test {test}')
+
+
+def main():
+    counts = Counts()
+    for part in in_crate, in_printer, by_hand:
+        with tempfile.TemporaryDirectory(prefix='planted-') as room:
+            copy(pathlib.Path(room))
+            part(pathlib.Path(room), counts)
+    print(f'{counts.passed} passed, {counts.failed} failed')
+    return 1 if counts.failed else 0
+
+
+sys.exit(main())
