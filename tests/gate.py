@@ -1,7 +1,7 @@
 #!/usr/bin/env python3
 """The gate. Checks the names of definitions, the prose, the quotations in pages, the header for C, whether a crate has changed
-since the C in generated/ was written, the logic of the toolchain, and the scripts at the top. Then runs `rt ci`, which proves
-and builds everything; compares what it reports that the proofs rest on with `tests/axioms.txt`; tries the mutants with the
+since the C in generated/ was written, the logic of the toolchain, the scripts at the top, the printer of Rust, and that
+generated/rust is what the sources are printed as. Then runs `rt ci`, which proves and builds everything; compares what it reports that the proofs rest on with `tests/axioms.txt`; tries the mutants with the
 libraries that it built; and runs the outside vectors, the cases, the hostile runs and the streams with the programs that it
 built.
 
@@ -121,6 +121,8 @@ def main():
         counted('pages', [sys.executable, str(TOP / 'tools/theorem.py'), '--check']),
         counted('header', [sys.executable, str(TOP / 'tests/library/header.py')]),
         counted('generated', [sys.executable, str(TOP / 'tools/generated.py'), '--sums']),
+        counted('printer', [sys.executable, str(TOP / 'tests/rust/texts.py')]),
+        counted('rust', [sys.executable, str(TOP / 'tools/rust/generated.py'), '--check']),
         counted('toolchain', [sys.executable, str(TOP / 'tests/toolchain.py')]),
         counted('scripts', [sys.executable, '-B', str(TOP / 'tests/scripts.py')]),
         counted('rt ci', proving(sys.argv[1:]), printed, Crates().stands_on, RT_JOBS=str(side_by_side())),
