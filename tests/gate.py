@@ -1,9 +1,9 @@
 #!/usr/bin/env python3
 """The gate. Checks the names of definitions, the prose, the quotations in pages, the header for C, whether a crate has changed
 since the C in generated/ was written, the logic of the toolchain, the scripts at the top, the printer of Rust, and that
-generated/rust is what the sources are printed as. Then runs `rt ci`, which proves and builds everything; compares what it reports that the proofs rest on with `tests/axioms.txt`; tries the mutants with the
-libraries that it built; and runs the outside vectors, the cases, the hostile runs and the streams with the programs that it
-built.
+generated/rust is what the sources are printed as. Then runs `rt ci`, which proves and builds everything; compares what it
+reports that the proofs rest on with `tests/axioms.txt`; tries the mutants with the libraries that it built; and runs the
+outside vectors, the cases, the hostile runs and the streams with the programs that it built.
 
     gate.py [--anew]
 

@@ -110,7 +110,7 @@ def sum_now(path):
 def differing():
     """Each thing that has a sum, with what is wrong with it, or None."""
     said, now = listed('generated/ORIGIN'), sums()
-    files = {f'generated/{it.name}' for it in (TOP / 'generated').glob('*') if it.name != 'ORIGIN'}
+    files = {f'generated/{it.name}' for it in (TOP / 'generated').glob('*') if it.is_file() and it.name != 'ORIGIN'}
     for name in sorted({*now, *(it for it in said if it.startswith('crates/'))}):
         yield name, None if said.get(name) == now.get(name) else f'{name} has changed since generated/ was written: {AGAIN}'
     for name in sorted({*files, *(it for it in said if it.startswith('generated/'))}):
@@ -125,7 +125,7 @@ def compared():
     """Each file of generated/, with what is wrong with it, or None."""
     files = made()
     for it in sorted((TOP / 'generated').iterdir()):
-        if it.name not in files:
+        if it.is_file() and it.name not in files:
             yield it.name, f'generated/{it.name} is not what the sources compile to: remove it'
     for name, data in files.items():
         path = TOP / 'generated' / name
@@ -137,7 +137,7 @@ def write():
     files = made()
     (TOP / 'generated').mkdir(exist_ok=True)
     for it in (TOP / 'generated').iterdir():
-        if it.name not in files:
+        if it.is_file() and it.name not in files:
             it.unlink()
     for name, data in files.items():
         (TOP / 'generated' / name).write_bytes(data)

@@ -297,11 +297,11 @@ pub fn capnp_canonical_reason_text(reason: u32, to: &mut [u8]) -> usize {
 
 /// The version of the library: major * 10000 + minor * 100 + patch.
 pub fn capnp_canonical_version() -> u32 {
-    10000
+    10100
 }
 
 /// Writes the library's version as text to the front of `to`. Terminates and cuts the text, and
 /// returns the length of the whole text, like `capnp_canonical_name`.
 pub fn capnp_canonical_version_text(to: &mut [u8]) -> usize {
-    put_text("1.0.0", to)
+    put_text("1.1.0", to)
 }

@@ -7,6 +7,7 @@ mod canonical_error;
 mod canonical_message;
 mod command;
 mod copy_memory;
+mod copy_size;
 mod lent_memory;
 mod message_fault;
 mod part;

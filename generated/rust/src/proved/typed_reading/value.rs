@@ -9,9 +9,11 @@ use crate::proved::capnp_words::primitive::Primitive;
 use crate::proved::capnp_words::read_limiter::ReadLimiter;
 use crate::proved::capnp_words::zero::Zero;
 
-/// Returns the struct that the root of a message is.
+/// Returns the struct that the root of a message is; a struct without sections if the root pointer is
+/// null. Charges one word for the root pointer, and the struct's own words.
 ///
-/// Refuses like `PointerReader::get_root_from_arena` and `PointerReader::get_struct`.
+/// Refuses like `PointerReader::get_root_from_arena` and `PointerReader::get_struct`. What was charged
+/// before a refusal stays charged.
 #[inline]
 pub fn root<'a, A: ReaderArena>(
     arena: &'a A,
@@ -23,6 +25,20 @@ pub fn root<'a, A: ReaderArena>(
     }
 }
 
+// Returns the struct without its pointers: what they lead to may be broken.
+#[inline(always)]
+fn data_of<'a, A: ReaderArena>(reader: &StructReader<'a, A>) -> StructReader<'a, A> {
+    StructReader {
+        source: reader.source,
+        content: reader.content,
+        byte: reader.byte,
+        bits: reader.bits,
+        pointers: reader.pointers,
+        pointer_count: 0,
+        nesting_limit: reader.nesting_limit,
+    }
+}
+
 /// Returns the number at `offset` of a struct's data, which is counted in numbers of type `T`.
 /// Returns zero if the number isn't wholly inside the data.
 #[inline]
@@ -30,7 +46,7 @@ pub fn get_number<A: ReaderArena, T: Primitive + Zero>(
     reader: &StructReader<'_, A>,
     offset: usize,
 ) -> T {
-    reader.get_data_field(offset)
+    data_of(reader).get_data_field(offset)
 }
 
 /// Returns the number at `offset` of a struct's data, like `get_number`, of a field whose default
@@ -41,13 +57,13 @@ pub fn get_number_or<A: ReaderArena, T: Primitive + Zero + Mask>(
     offset: usize,
     default: <T as Mask>::T,
 ) -> T {
-    reader.get_data_field_mask(offset, default)
+    data_of(reader).get_data_field_mask(offset, default)
 }
 
 /// Returns bit `offset` of a struct's data; `false` if the data ends before it.
 #[inline]
 pub fn get_bool<A: ReaderArena>(reader: &StructReader<'_, A>, offset: usize) -> bool {
-    reader.get_bool_field(offset)
+    data_of(reader).get_bool_field(offset)
 }
 
 /// Returns bit `offset` of a struct's data, like `get_bool`, of a field whose default value is
@@ -58,7 +74,7 @@ pub fn get_bool_or<A: ReaderArena>(
     offset: usize,
     default: bool,
 ) -> bool {
-    reader.get_bool_field_mask(offset, default)
+    data_of(reader).get_bool_field_mask(offset, default)
 }
 
 /// Returns whether a pointer of a struct is null, or the struct has no such pointer.
@@ -70,7 +86,7 @@ pub fn is_null<A: ReaderArena>(reader: &StructReader<'_, A>, index: usize) -> bo
 /// Returns whether a struct has a pointer that isn't null.
 #[inline]
 pub fn has<A: ReaderArena>(reader: &StructReader<'_, A>, index: usize) -> bool {
-    !reader.is_pointer_field_null(index)
+    !is_null(reader, index)
 }
 
 /// Returns a pointer of a struct, which can lead to anything; a null pointer that isn't in any

@@ -1,9 +1,10 @@
-//! Makes a copy in canonical form (encoding specification, "Canonicalization"), in one segment, and
-//! finds the segment's size by tries. The first try requests one word more than the source message
-//! has; each further try requests twice as many words as the try before; no try requests more than
-//! 536,870,911 words. Below this limit, all tries together take no longer than twice the last try.
-//! During a try the message has no allocator, so the copy can't get a second segment.
+//! Makes a copy in canonical form (encoding specification, "Canonicalization"), in one segment. The
+//! first try requests one word more than the source message has. If that is too small, counts the
+//! words of the copy, and requests exactly as many for a second and last try. No try requests more
+//! than 536,870,911 words. During a try the message has no allocator, so the copy can't get a second
+//! segment.
 
+use super::copy_size::copy_size;
 use super::path::Reached;
 use crate::proved::capnp_arena::arena::{
     Allocator, BuilderArena, BuilderArenaImpl, ReaderArena, MAX_SEGMENT_WORDS,
@@ -195,18 +196,6 @@ fn first_room(words: usize) -> u32 {
     }
 }
 
-/// The number of words that the next try requests after a try that requested `room` words: twice as
-/// many, but at most 536,870,911.
-///
-/// # Preconditions
-///
-/// ```text
-/// requires { room ≤ max_segment_words }
-/// ```
-fn next_room(room: u32) -> u32 {
-    (2 * room).min(MAX_SEGMENT_WORDS)
-}
-
 /// The number of words in the arena of `from`; 0 if `from` has no arena.
 fn arena_words<B: ReaderArena>(from: &Pointer<'_, B>) -> usize {
     match from.source {
@@ -255,6 +244,44 @@ pub(super) fn canonicalize_reached_into<A: Allocator, B: ReaderArena>(
     }
 }
 
+/// The number `words`, but at most 536,870,911.
+fn at_most_a_segment(words: u32) -> u32 {
+    words.min(MAX_SEGMENT_WORDS)
+}
+
+/// The number of words to request for the copy of what `from` leads to: as many as the copy has, but
+/// at most 536,870,911. Reads the value once, which may cost `left` words, and takes no memory.
+/// Refuses with the first refusal met while reading.
+fn measured_room<B: ReaderArena>(
+    from: Reached<'_, B>,
+    left: Option<usize>,
+) -> Result<u32, ErrorKind> {
+    match copy_size(from, left) {
+        Ok(words) => Ok(at_most_a_segment(words)),
+        Err(kind) => {
+            if is_too_large(kind) {
+                Ok(MAX_SEGMENT_WORDS)
+            } else {
+                Err(kind)
+            }
+        }
+    }
+}
+
+/// Copies what `from` leads to like `canonicalize_pointer`, but counts the words of the copy first,
+/// and so needs one try.
+fn canonicalize_measured<A: Allocator, B: ReaderArena>(
+    alloc: Global,
+    allocator: A,
+    from: Reached<'_, B>,
+    lim: &mut ReadLimiter,
+) -> Result<BuilderArenaImpl<A>, (ErrorKind, A)> {
+    match measured_room(from, lim.left()) {
+        Ok(room) => canonicalize_to_message(alloc, allocator, from, lim, room),
+        Err(kind) => Err((kind, allocator)),
+    }
+}
+
 /// Copies what `from` leads to like `canonicalize_pointer`.
 pub(super) fn canonicalize_reached<A: Allocator, B: ReaderArena>(
     alloc: Global,
@@ -262,18 +289,14 @@ pub(super) fn canonicalize_reached<A: Allocator, B: ReaderArena>(
     from: Reached<'_, B>,
     lim: &mut ReadLimiter,
 ) -> Result<BuilderArenaImpl<A>, (ErrorKind, A)> {
-    let mut room = first_room(arena_words_of_reached(&from));
-    let mut unused = allocator;
-    loop {
-        match canonicalize_to_message(alloc, unused, from, lim, room) {
-            Ok(made) => return Ok(made),
-            Err((kind, returned)) => {
-                if room == MAX_SEGMENT_WORDS || !is_too_large(kind) {
-                    return Err((kind, returned));
-                }
-                unused = returned;
-                room = next_room(room);
+    let room = first_room(arena_words_of_reached(&from));
+    match canonicalize_to_message(alloc, allocator, from, lim, room) {
+        Ok(made) => Ok(made),
+        Err((kind, returned)) => {
+            if room == MAX_SEGMENT_WORDS || !is_too_large(kind) {
+                return Err((kind, returned));
             }
+            canonicalize_measured(alloc, returned, from, lim)
         }
     }
 }
@@ -282,10 +305,10 @@ pub(super) fn canonicalize_reached<A: Allocator, B: ReaderArena>(
 /// "Canonicalization"): a message of one segment, whose memory `allocator` grants. If refused,
 /// returns the allocator, and leaves `lim` unchanged.
 ///
-/// Finds the size of the segment by tries. The first try requests one word more than the source
-/// message has, and each further try twice as many words as the try before, but none more than
-/// 536,870,911 words. However many tries there are, `lim` is charged for one copy, and counts each
-/// non-null pointer once.
+/// Requests one word more than the source message has for the segment. If the copy doesn't fit,
+/// counts its words, and makes it once more in a segment of exactly as many; so there are at most two
+/// requests, for at most 536,870,911 words each. `lim` is charged for one copy in either case, and
+/// counts each non-null pointer once.
 ///
 /// Refusals: the first one met while reading `from`; `MessageTooLarge(536870911)` if the copy has
 /// more than 536,870,911 words; `AllocationFailed`, which the allocator counts, if memory ran out.
