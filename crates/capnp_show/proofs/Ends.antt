@@ -1,5 +1,5 @@
 -- The end of a path that means a value within the limits is shown as the line of this value.
-use Rattle.std.proofs.Common.{◌≡◌, ℕ, ℤ, ◌+◌, ◌≤◌, true, List, [], ◌++◌, length, Result, Ok, Err, IfErr, length-append, refl, sym, ap, ap₂, ◌∙◌, subst, arith}
+use Rattle.std.proofs.Common.{◌≡◌, ℕ, ℤ, ◌+◌, ◌≤◌, true, List, [], ◌++◌, length, Result, Ok, Err, IfErr, length-append, refl, sym, ap, ap₂, ◌∙◌, arith}
 use Rattle.std.specs.Prelude.{codes}
 use Rattle.capnp_words.specs.declared.error.ErrorKind.{ErrorKind}
 use Rattle.capnp_words.specs.Meter.{Affords, Meter, unused}
@@ -20,9 +20,9 @@ use Rattle.capnp_objects.proofs.Refusals.{affords_less}
 use Rattle.capnp_messages.specs.EndValues.{EndMeans, end_place}
 use Rattle.capnp_messages.specs.Parts.{PathEnd, part, to_element, to_pointer}
 use Rattle.capnp_show.specs.Line.{value_line}
-use Rattle.capnp_show.specs.Shown.{Shown, Shows, add, show_end, shown_json}
+use Rattle.capnp_show.specs.Shown.{Shown, Shows, add, show_end, show_path, shown_json}
 use Rattle.capnp_show.specs.Adding.{max_text}
-use Rattle.capnp_show.specs.ShownParts.{HasShortLine, IsShownPart}
+use Rattle.capnp_show.specs.ShownParts.{HasShortLine, IsShownPart, message_shown, path_line}
 use Rattle.capnp_show.specs.declared.show.json.Json.{Json}
 use Rattle.capnp_show.specs.declared.show.text.Ended.{Ended}
 use Rattle.capnp_show.specs.declared.show.text.Ended.TheVariants.{Full}
@@ -59,17 +59,18 @@ end_told d (to_element r n q) s t c (ws, ts, is, long, counts, here, means) cove
 
 -- ---- a whole line
 
--- A path's end that is read after a step that changed nothing.
-pub end_there : (j0 j1 : Json) (o : Result PathEnd ErrorKind) (m1 m : Meter) (e : PathEnd) → j1 ≡ j0 → ◌≡◌ {A = Result PathEnd ErrorKind × Meter} (o, m1) (Ok e, m) → (o ≡ Ok e) × (shown_json (record j1 { lim = m1 }) ≡ record (shown_json j0) { lim = m })
-end_there j0 j1 o m1 m e same both =
-    (ap (λ (x : Result PathEnd ErrorKind × Meter). x.0) both, ap₂ (λ (j : Json) (n : Meter). record (shown_json j) { lim = n }) same (ap (λ (x : Result PathEnd ErrorKind × Meter). x.1) both))
+-- What a path leads to is shown after a step that changed nothing.
+pub path_shown : (d : ℕ) (j0 j1 : Json) (found : Result PathEnd ErrorKind × Meter) (o : Result PathEnd ErrorKind) (m : Meter) → j1 ≡ j0 → found ≡ (o, m) →
+    show_path d o (shown_json (record j1 { lim = m })) ≡ show_path d found.0 (record (shown_json j0) { lim = found.1 })
+path_shown d j0 j1 found o m same read =
+    ap₂ (λ (j : Json) (x : Result PathEnd ErrorKind × Meter). show_path d x.0 (record (shown_json j) { lim = x.1 })) same (sym read)
 
--- What is written of the end that was found.
-pub end_shown : {A : Type 0} {res : Result A Ended} {j : Json} (d : ℕ) (s : Shown) (o : Result PathEnd ErrorKind) (x e : PathEnd) → o ≡ Ok x → o ≡ Ok e → Shows res j (show_end d x s) → Shows res j (show_end d e s)
-end_shown {res = res} {j} d s o x e here there h =
-    let both : ◌≡◌ {A = Result PathEnd ErrorKind} (Ok x) (Ok e) = sym here ∙ there in
-    let same : x ≡ e = cc in
-    subst (λ (y : PathEnd). Shows res j (show_end d y s)) same h
+-- What is shown of a path that leads to e.
+pub end_shown : {A : Type 0} {res : Result A Ended} {j : Json} (d : ℕ) (S : Segments) (n : ℕ) (path : List ℕ) (s : Shown) (e : PathEnd) (m : Meter) → part S n path s.lim ≡ (Ok e, m) →
+    Shows res j (path_line d S n path s) → Shows res j (add (codes "\n") (show_end d e (record s { lim = m })))
+unfolding path_line
+end_shown d S n path s e m is shows =
+    shows_as (ap (λ (x : Result PathEnd ErrorKind × Meter). add (codes "\n") (show_path d x.0 (record s { lim = x.1 }))) is) shows
 
 -- A line of which nothing is written.
 abbrev pub fresh : Meter → Shown
@@ -98,3 +99,9 @@ line_full {res = Err k} S limits path d t z j0 j is nesting begins writes =
     let long = (line_written S limits path d t z j0 j is nesting begins writes).1.full full in
     let small : length (value_line t) + 1 ≤ max_text = short in
     absurd (omega (arith, long, small, length-append (value_line t) (codes "\n")))
+
+-- A line that begins with nothing is the line of the message.
+pub whole_shown : {A : Type 0} {res : Result A Ended} {j : Json} (d : ℕ) (S : Segments) (n : ℕ) (path : List ℕ) (s : Shown) (limits : ReaderOptions) → n ≡ levels limits.nesting_limit →
+    s ≡ fresh (unused limits.traversal_limit_in_words) → Shows res j (path_line d S n path s) → Shows res j (message_shown limits path d S)
+whole_shown d S n path s limits nesting begins shows =
+    shows_as (ap₂ (λ (k : ℕ) (x : Shown). path_line d S k path x) nesting begins) shows

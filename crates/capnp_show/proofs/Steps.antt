@@ -35,6 +35,10 @@ shows_stops {k = k} r j s h shows longer = rw (failed r h) (let w : Shows (Err k
 pub push_stops : {A B : Type 0} {k : Ended} {to xs : List ℕ} (j0 : Json) (r : Result A Ended) (j : Json) (s : Shown) → IsErrAnd r (λ y. y ≡ k) → Adds {A = B} (Err k) j0.text.bytes.items to xs → Longer (add xs (shown_json j0)) s → Shows r j s
 push_stops {k = k} j0 r j s h a longer = rw (failed r h) (let w : Shows (Err k) j s = record { plain = tt; written = tt; full = λ is. let over = a.full is in omega (arith, over, longer) } in w)
 
+-- A step was refused, after which the line would have ended.
+pub line_stops : {A B : Type 0} {k : Ended} {j0 : Json} {s : Shown} (r : Result A Ended) (j : Json) → IsErrAnd r (λ y. y ≡ k) → Shows {A = B} (Err k) j0 s → Shows r j (add (codes "\n") s)
+line_stops {s = s} r j h shows = shows_stops r j (add (codes "\n") s) h shows (added_longer (codes "\n") s)
+
 -- What a step writes of a line, under another name.
 pub shows_as : {A : Type 0} {r : Result A Ended} {j : Json} {s t : Shown} → s ≡ t → Shows r j s → Shows r j t
 shows_as e h = rw e at h

@@ -126,6 +126,11 @@ abbrev pub show_end : ℕ → PathEnd → Shown → Shown
 show_end d (to_pointer r) s = show_within d r s
 show_end d (to_element r n q) s = show_struct (array_within d) n q r (add (codes "{") s)
 
+-- What a path leads to, or the object of its refusal.
+abbrev pub show_path : ℕ → Result PathEnd ErrorKind → Shown → Shown
+show_path d (Ok e) s = show_end d e s
+show_path d (Err k) s = show_refusal (name_of k) (add (codes "{") s)
+
 -- A line of the program, as far as it is written.
 abbrev pub shown_json : Json → Shown
 shown_json json = record { text = json.text.bytes.items; lim = json.lim; sound = json.is_sound }

@@ -3,11 +3,10 @@ ghost use Rattle.std.specs.Prelude.{◌≡◌, ◌+◌, ◌*◌, ◌≤◌, true
 ghost use Rattle.capnp_objects.specs.Enter.{object_shape};
 ghost use Rattle.capnp_objects.specs.Reading.{segment_read};
 ghost use Rattle.capnp_objects.specs.Pointers.{reading};
-ghost use Rattle.capnp_messages.specs.Parts.{PathEnd};
 ghost use Rattle.capnp_messages.specs.PathEnds.{IsObjectRead, end_read, end_result};
 ghost use Rattle.capnp_show.specs.Adding.{max_text};
 ghost use Rattle.capnp_show.specs.Shown.{IsPlain, Shows, add, array_within, comma, show_elements, show_end};
-ghost use Rattle.capnp_show.specs.Shown.{show_object, show_refusal, show_struct, show_structs, show_within, shown_json};
+ghost use Rattle.capnp_show.specs.Shown.{show_object, show_path, show_refusal, show_struct, show_structs, show_within, shown_json};
 
 use super::objects::{bytes_are_below_256, bytes_at, pointer_inside, pointer_past, read_object};
 use super::path::{PathStep, enter};
@@ -184,7 +183,10 @@ impl Json {
     }
 
     /// Writes the object for a root pointer that can't be read.
-    pub(super) fn write_no_root(&mut self, name: &str) -> Result<(), Ended> {
+    pub(super) fn write_no_root(&mut self, name: &str) -> Result<(), Ended>
+        ensures { IsPlain self.old → Shows result self.new
+            (show_refusal name.now (add (codes "{") (shown_json self.old))) }
+    {
         self.text.push(b"{")?;
         self.write_refusal(name)
     }
@@ -265,8 +267,8 @@ pub(super) fn write_path_end<A: ReaderArena>(
     depth: u32,
     json: &mut Json,
 ) -> Result<(), Ended>
-    ensures { (e : PathEnd) → end_result A.ReaderArena end.entry ≡ Ok e → IsPlain json.old
-        → Shows result json.new (show_end depth e (shown_json json.old)) }
+    ensures { IsPlain json.old → Shows result json.new
+        (show_path depth (end_result A.ReaderArena end.entry) (shown_json json.old)) }
 {
     match end {
         Ok(reached) => write_reached(reached, depth, json),

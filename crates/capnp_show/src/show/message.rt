@@ -1,16 +1,14 @@
 //! Shows one message.
-ghost use Rattle.std.specs.Prelude.{◌≡◌, ◌≤◌, codes, length, false, true, Ok, Err, IfOk, IfErr, OnOk};
-ghost use Rattle.capnp_words.specs.Meter.{Meter};
+ghost use Rattle.std.specs.Prelude.{◌≡◌, ◌≤◌, ℕ, List, codes, length, false, true, Err, IfOk, IfErr, OnOk};
 ghost use Rattle.capnp_format.specs.Bytes.{message};
 ghost use Rattle.capnp_format.specs.Tree.{Tree};
 ghost use Rattle.capnp_arena_traits.specs.Limits.{IsSmall};
 ghost use Rattle.capnp_framing.specs.Writing.{IsUnwritten, Prints};
 ghost use Rattle.capnp_objects.specs.Source.{levels};
-ghost use Rattle.capnp_messages.specs.Parts.{PathEnd, part};
 ghost use Rattle.capnp_show.specs.Adding.{max_text};
 ghost use Rattle.capnp_show.specs.Show.{PrintsAtMost};
-ghost use Rattle.capnp_show.specs.Shown.{IsPlain, Shows, add, show_end, shown_json};
-ghost use Rattle.capnp_show.specs.ShownParts.{HasShortLine, IsShownPart, shown_line};
+ghost use Rattle.capnp_show.specs.Shown.{IsPlain, Shows, shown_json};
+ghost use Rattle.capnp_show.specs.ShownParts.{HasShortLine, IsShownPart, IsShownText, line_text, message_shown, path_line, shown_line};
 
 use super::json::{Json, write_path_end};
 use super::lines::{Lines, show_element, show_pointer};
@@ -76,6 +74,9 @@ pub fn show_message<S: ReaderSegments + Drop, W: Output>(
     ensures sound { (t : Tree) → showing.json ≡ true → showing.values ≡ true
         → IsShownPart (message (S.segments segments)) limits path.now showing.depth t → HasShortLine t
         → IfOk result (λ is_sound. is_sound ≡ true) }
+    ensures shown { IfOk result (λ is_sound. (text : List ℕ) × IsShownText showing
+        (message_shown limits path.now showing.depth (message (S.segments segments))) is_sound text
+        × Prints W.Output output.old output.new text) }
     ensures failed { result ≡ Err ShowFault.WriteFailed → W.has_failed output.new ≡ true }
     ensures unwritten { result ≡ Err ShowFault.AllocationFailed
         → IsUnwritten W.Output output.old output.new }
@@ -146,6 +147,11 @@ fn make_json<S: ReaderSegments>(
         limits path.now showing.depth t → arena.now.nesting_limit ≡ limits.nesting_limit
         → IfOk result (λ json. (json.text.bytes.items ≡ shown_line t)
         × (HasShortLine t → json.is_sound ≡ true)) }
+    ensures line { showing.values ≡ true → arena.now.nesting_limit ≡ limits.nesting_limit
+        → let s = message_shown limits path.now showing.depth
+        (message (⟦<ReaderArenaImpl<S> as ReaderArena>⟧.segments arena.now)) in
+        IfOk result (λ json. (json.text.bytes.items ≡ line_text s)
+        × (length s.text ≤ max_text → json.is_sound ≡ s.sound)) }
     ensures refused { IfErr result (λ e. e ≡ ShowFault.AllocationFailed) }
 {
     let lim = ReadLimiter::new(limits.traversal_limit_in_words);
@@ -177,11 +183,9 @@ pub(super) fn write_json<S: ReaderSegments>(
     depth: u32,
     json: &mut Json,
 ) -> Result<(), Ended>
-    ensures shows { (e : PathEnd) (m : Meter) → IsPlain json.old
-        → part (message (⟦<ReaderArenaImpl<S> as ReaderArena>⟧.segments arena.now))
-        (levels arena.now.nesting_limit) path.now json.old.lim ≡ (Ok e, m)
-        → Shows result json.new
-        (add (codes "\n") (show_end depth e (record (shown_json json.old) { lim = m }))) }
+    ensures shows { IsPlain json.old → Shows result json.new (path_line depth
+        (message (⟦<ReaderArenaImpl<S> as ReaderArena>⟧.segments arena.now))
+        (levels arena.now.nesting_limit) path.now (shown_json json.old)) }
     ensures fits { OnOk result (length json.new.text.bytes.items ≤ max_text) }
 {
     json.write_head(number, count, arena.size_in_words() as u64)?;

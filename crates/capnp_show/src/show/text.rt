@@ -127,6 +127,7 @@ impl Text {
         requires { W.has_failed output.old ≡ false }
         ensures writes { Writes W.Output result output.old output.new self.now.bytes.items }
         ensures bounded { OnOk result (PrintsAtMost W.Output MOST_BYTES output.old output.new) }
+        ensures short { length self.now.bytes.items ≤ 67108864 }
         ensures refused { IfErr result (λ e. e ≡ fault) }
     {
         match write_all(output, self.bytes()) {

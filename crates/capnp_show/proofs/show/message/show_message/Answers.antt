@@ -22,3 +22,27 @@ returns-clause-value g c = λ t json. absurd (cc (sym c.if-showing.false ∙ jso
 
 pub returns-clause-sound : goal.returns-clause-sound
 returns-clause-sound g c = λ t json. absurd (cc (sym c.if-showing.false ∙ json))
+
+pub returns-then-showing-clause-shown : goal.returns-then-showing-clause-shown
+returns-then-showing-clause-shown g c =
+    let words = c.new-arena.ensures.words in
+    let nest = c.new-arena.ensures.nesting in (
+      c.in_ok-json.json.text.bytes.items,
+      record {
+        short = c.in_ok-write.ensures.short;
+        line = λ json values. rw words at ((c.in_ok-json.ensures.line values nest).0);
+        sound = λ json values. rw words at ((c.in_ok-json.ensures.line values nest).1);
+      },
+      c.in_ok-write.ensures.writes.written,
+    )
+
+pub returns-clause-shown : goal.returns-clause-shown
+returns-clause-shown g c = (
+  _,
+  record {
+    short = c.in_ok-write-2.ensures.short;
+    line = λ json. absurd (cc (sym c.if-showing.false ∙ json));
+    sound = λ json. absurd (cc (sym c.if-showing.false ∙ json));
+  },
+  c.in_ok-write-2.ensures.writes.written,
+)
