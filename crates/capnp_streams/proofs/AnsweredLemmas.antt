@@ -5,7 +5,6 @@ use Rattle.std.proofs.Common.{refl, sym, ◌∙◌, subst}
 use Rattle.std.proofs.lemmas.List.Elements.{All-head, All-tail}
 use Rattle.std.specs.Io.KnownBytes.{Consumes, Keeps}
 use Rattle.capnp_format.specs.Segments.{Segments}
-use Rattle.capnp_framing.specs.Limits.{most_words}
 use Rattle.capnp_framing.specs.Flat.{BeginsWithFrame}
 use Rattle.capnp_framing.specs.Reading.{NoFrame}
 use Rattle.capnp_framing.specs.Writing.{Writes}
@@ -14,16 +13,18 @@ use Rattle.capnp_framing.proofs.FrameLemmas.{one_frame_begins}
 use Rattle.capnp_framing.proofs.ReadingLemmas.{frame_is_read}
 use Rattle.capnp_words.specs.declared.error.ErrorKind.{ErrorKind}
 use Rattle.capnp_messages.proofs.FramesLemmas.{no_bytes_begin}
-use Rattle.capnp_streams.specs.Asked.{HasAskedAnswer, RefusesAsked}
-use Rattle.capnp_streams.specs.Streams.{AnswerIs, Answers, AreDone, AreFrames, CanBeAnswered, EndsAfter, IsOfDevices}
-use Rattle.capnp_streams.specs.Streams.{Question, Stage, StopsAt}
+use Rattle.capnp_words.specs.declared.error.ErrorKind.TheVariants.{AllocationFailed}
+use Rattle.capnp_refusals.specs.declared.refusals.search.RefusedPointer.{RefusedPointer}
+use Rattle.capnp_streams.specs.Asked.{RefusesAsked}
+use Rattle.capnp_streams.specs.Jobs.{Job, answering, showing, most_of}
+use Rattle.capnp_streams.specs.Streams.{AnswerIs, Answers, AreDone, AreFrames, CanBeAnswered, EndsAfter, HasJobAnswer, IsOfDevices}
+use Rattle.capnp_streams.specs.Streams.{JobRefuses, Question, Stage, StopsAt}
 use Rattle.capnp_framing.specs.declared.framing.frame_error.FrameError.{FrameError}
 use Rattle.capnp_framing.specs.declared.framing.frame_error.FrameError.TheVariants.{WriteFailed}
 use Rattle.capnp_streams.specs.declared.streams.stream_error.StreamError.{StreamError}
 use Rattle.capnp_streams.specs.declared.streams.stream_error.StreamError.TheVariants.{Frame, Layout, TooManyMessages}
 use Rattle.capnp_streams.specs.declared.streams.runs.Stop.{Stop}
 use Rattle.capnp_streams.specs.declared.streams.runs.Summary.{Summary}
-use Rattle.capnp_streams.specs.declared.streams.task.Task.{Task}
 use Rattle.capnp_streams.proofs.AskedLemmas.{asked_refused}
 use Rattle.capnp_streams.proofs.FramesLemmas.{frames_behind, no_bytes_refused}
 use Rattle.capnp_streams.proofs.StreamLemmas.{begins}
@@ -45,51 +46,56 @@ first_has P most (T ∷ more) left S (first, rest, is, framed, short, others) al
     one_frame_begins T S first begins.front rest begins.behind framed begins.framed (sym is ∙ begins.is) in
     subst P one (All-head P T more all)
 
-stops_so : (task : Task) (more : List Segments) (left : List ℕ) (after : Option (List ℕ)) (failed : Bool) (fault : StreamError) →
-    AreFrames (most_words task.limits) more left → All (HasAskedAnswer task.command task) more →
-    StopsAt task (Some left) after failed fault → IsOfDevices fault
-stops_so task more left after failed (Frame e) framed all (inl memory) = inl memory
-stops_so task more left after failed (Frame e) framed all (inr (inl (named, device))) = inr (inl named)
-stops_so task more left after failed (Frame e) framed all (inr (inr none)) =
-    absurd (frame_is_there (most_words task.limits) more left e framed none)
-stops_so task more left after failed (Layout k p) framed all (S, bytes, is, short, consumed, refused, told) =
-    let P : Segments → Type 0 = HasAskedAnswer task.command task in
-    asked_refused task.command task S
-    (first_has P (most_words task.limits) more left S framed all (begins (Some left) after consumed is short)) refused
-stops_so task more left after failed TooManyMessages framed all stops = absurd stops
+-- a job that has an answer isn't refused for what a message holds
+pub job_refused : (job : Job) (S : Segments) (k : ErrorKind) (p : Option RefusedPointer) → HasJobAnswer job S → JobRefuses job S k p → k ≡ AllocationFailed
+job_refused (answering task) S k p has (refused, told) = asked_refused task.command task S has refused
+job_refused (showing task) S k p has refused = absurd refused
+
+stops_so : (job : Job) (more : List Segments) (left : List ℕ) (after : Option (List ℕ)) (failed : Bool) (fault : StreamError) →
+    AreFrames (most_of job) more left → All (HasJobAnswer job) more →
+    StopsAt job (Some left) after failed fault → IsOfDevices fault
+stops_so job more left after failed (Frame e) framed all (inl memory) = inl memory
+stops_so job more left after failed (Frame e) framed all (inr (inl (named, device))) = inr (inl named)
+stops_so job more left after failed (Frame e) framed all (inr (inr none)) =
+    absurd (frame_is_there (most_of job) more left e framed none)
+stops_so job more left after failed (Layout k p) framed all (S, bytes, is, short, consumed, refused) =
+    let P : Segments → Type 0 = HasJobAnswer job in
+    job_refused job S k p
+    (first_has P (most_of job) more left S framed all (begins (Some left) after consumed is short)) refused
+stops_so job more left after failed TooManyMessages framed all stops = absurd stops
 
 all_behind : (P : Segments → Type 0) (done more : List Segments) → All P (done ++ more) → All P more
 all_behind P [] more all = all
 all_behind P (S ∷ done) more all = all_behind P done more (All-tail P S (done ++ more) all)
 
 -- a run over such messages stops only for memory or a device
-pub step_answerable : {task : Task} {summary : Summary} {P Q : Type 0} (old : Stage)
+pub step_answerable : {job : Job} {summary : Summary} {P Q : Type 0} (old : Stage)
     (left between after : Option (List ℕ)) (failed : Bool) (fault : StreamError) →
-    AreDone task old (record { input = left; output = between }) summary →
-    ((fault ≡ Frame WriteFailed) × P) ⊎ (StopsAt task left after failed fault × Q) →
-    IsSomeAnd old.input (CanBeAnswered task) → IsOfDevices fault
+    AreDone job old (record { input = left; output = between }) summary →
+    ((fault ≡ Frame WriteFailed) × P) ⊎ (StopsAt job left after failed fault × Q) →
+    IsSomeAnd old.input (CanBeAnswered job) → IsOfDevices fault
 step_answerable old left between after failed fault done (inl (named, device)) =
     λ can. subst IsOfDevices (sym named) (inr (inr refl))
-step_answerable {task} old left between after failed fault done (inr (stops, same)) =
+step_answerable {job} old left between after failed fault done (inr (stops, same)) =
     λ can. go old.input left done.consumed can stops
   where
-    go : (a b : Option (List ℕ)) → Consumes a b done.bytes → IsSomeAnd a (CanBeAnswered task) →
-        StopsAt task b after failed fault → IsOfDevices fault
+    go : (a b : Option (List ℕ)) → Consumes a b done.bytes → IsSomeAnd a (CanBeAnswered job) →
+        StopsAt job b after failed fault → IsOfDevices fault
     go None b consumed given stopped = absurd given
     go (Some x) None consumed given stopped = absurd consumed
     go (Some x) (Some y) consumed (messages, framed, all) stopped =
         let (more, is, others) =
-        frames_behind (most_words task.limits) done.messages messages done.bytes y x done.framed framed consumed in
-        let rest = all_behind (HasAskedAnswer task.command task) done.messages more
-        (subst (All (HasAskedAnswer task.command task)) is all) in
-        stops_so task more y after failed fault others rest stopped
+        frames_behind (most_of job) done.messages messages done.bytes y x done.framed framed consumed in
+        let rest = all_behind (HasJobAnswer job) done.messages more
+        (subst (All (HasJobAnswer job)) is all) in
+        stops_so job more y after failed fault others rest stopped
 
 -- a run ends at a message that isn't answered
-pub ends_behind : {W : Type 0} (task : Task) (old new : Stage) (failed : Bool) (stop : Stop) →
-    W ⊎ (StopsAt task old.input new.input failed stop.fault × Keeps old.output new.output) →
-    W ⊎ EndsAfter task old new failed stop
-ends_behind task old new failed stop (inl written) = inl written
-ends_behind task old new failed stop (inr (stops, kept)) = inr (kept, inl stops)
+pub ends_behind : {W : Type 0} (job : Job) (old new : Stage) (failed : Bool) (stop : Stop) →
+    W ⊎ (StopsAt job old.input new.input failed stop.fault × Keeps old.output new.output) →
+    W ⊎ EndsAfter job old new failed stop
+ends_behind job old new failed stop (inl written) = inl written
+ends_behind job old new failed stop (inr (stops, kept)) = inr (kept, inl stops)
 
 -- an answer was written, or the output has failed
 pub answer_written : {W A E : Type 0} (g : Ghosts W) (from to : W) (q : Question) {result : Result Bool StreamError} (written : Result A E)

@@ -2,10 +2,14 @@ pub mod AnsweredLemmas
 pub mod ArgumentLemmas
 pub mod AskedLemmas
 pub mod CountingLemmas
+pub mod DiffLemmas
+pub mod DiffPackedLemmas
+pub mod DiffStepLemmas
 pub mod DigitLemmas
 pub mod FlatLemmas
 pub mod FramesLemmas
 pub mod PackedLemmas
 pub mod PartLemmas
 pub mod PathLemmas
+pub mod ShowLemmas
 pub mod StreamLemmas

@@ -3,38 +3,35 @@
 use Rattle.std.specs.Prelude.{◌≡◌, ◌⊎◌, ℕ, List, [], ◌∷◌, Bool, true, Option, IfSome}
 use Rattle.std.specs.Io.KnownBytes.{Appends, Consumes, IsAtEnd}
 use Rattle.capnp_format.specs.Bytes.{message}
-use Rattle.capnp_framing.specs.Limits.{most_words}
 use Rattle.capnp_framing.specs.Bare.{AreBareWords, HasTakenBare, NoBareWords}
 use Rattle.capnp_framing.specs.declared.devices.Input.{Ghosts}
 use Rattle.capnp_framing.specs.declared.framing.frame_error.FrameError.TheVariants.{AllocationFailed as NoMemory}
 use Rattle.capnp_framing.specs.declared.framing.frame_error.FrameError.TheVariants.{ReadFailed}
-use Rattle.capnp_streams.specs.Asked.{HasAskedAnswer, RefusesAsked, pointer_asked}
-use Rattle.capnp_streams.specs.Streams.{AnswerIs, Stage}
+use Rattle.capnp_streams.specs.Jobs.{Job, most_of}
+use Rattle.capnp_streams.specs.Streams.{HasJobAnswer, JobAnswerIs, JobRefuses, Stage}
 use Rattle.capnp_streams.specs.declared.streams.stream_error.StreamError.{StreamError}
 use Rattle.capnp_streams.specs.declared.streams.stream_error.StreamError.TheVariants.{Frame, Layout, TooManyMessages}
-use Rattle.capnp_streams.specs.declared.streams.task.Task.{Task}
 
 -- From old to new everything in the input was read: raw words, at most as many as the traversal
--- limit. The task's answer to the message that they mean was written after what the output had.
-pub record IsFlatDone (task : Task) (old new : Stage) (holds : Bool) : Type 0 where
+-- limit. The job's answer to the message that they mean was written after what the output had.
+pub record IsFlatDone (job : Job) (old new : Stage) (holds : Bool) : Type 0 where
   pub bytes : List ℕ
   pub answer : List ℕ
-  pub bare : AreBareWords bytes (most_words task.limits)
+  pub bare : AreBareWords bytes (most_of job)
   pub consumed : Consumes old.input new.input bytes
-  pub answered : AnswerIs task.command task (message (bytes ∷ [])) holds answer
+  pub answered : JobAnswerIs job (message (bytes ∷ [])) holds answer
   pub written : Appends old.output new.output answer
 
 -- Why the message whose raw words the input has isn't answered: they are cut short or too many,
--- the task refuses the message, at the pointer that is told, or memory or the input fails.
-abbrev pub StopsFlat : Task → Option (List ℕ) → Bool → StreamError → Type 0
-StopsFlat task input failed (Frame e) =
+-- the job refuses the message, at the pointer that is told, or memory or the input fails.
+abbrev pub StopsFlat : Job → Option (List ℕ) → Bool → StreamError → Type 0
+StopsFlat job input failed (Frame e) =
     (e ≡ NoMemory) ⊎ ((e ≡ ReadFailed) × (failed ≡ true))
-    ⊎ IfSome input (λ bytes. NoBareWords bytes (most_words task.limits) e)
-StopsFlat task input failed (Layout k p) =
-    (bytes : List ℕ) × IfSome input (λ all. all ≡ bytes) × AreBareWords bytes (most_words task.limits)
-    × RefusesAsked task.command task (message (bytes ∷ [])) k
-    × (p ≡ pointer_asked k task (message (bytes ∷ [])))
-StopsFlat task input failed TooManyMessages = ⊥
+    ⊎ IfSome input (λ bytes. NoBareWords bytes (most_of job) e)
+StopsFlat job input failed (Layout k p) =
+    (bytes : List ℕ) × IfSome input (λ all. all ≡ bytes) × AreBareWords bytes (most_of job)
+    × JobRefuses job (message (bytes ∷ [])) k p
+StopsFlat job input failed TooManyMessages = ⊥
 
 module _ {R : Type 0} (g : Ghosts R) where
   -- What a stop has taken of an input: all of it, if the message is refused.
@@ -43,8 +40,7 @@ module _ {R : Type 0} (g : Ghosts R) where
   HasTakenFlat from to (Layout k p) = IsAtEnd (g.remaining to)
   HasTakenFlat from to TooManyMessages = ⊥
 
--- The bytes are raw words of a message that the task has an answer to.
-abbrev pub CanFlatBeAnswered : Task → List ℕ → Type 0
-CanFlatBeAnswered task bytes =
-    AreBareWords bytes (most_words task.limits)
-    × HasAskedAnswer task.command task (message (bytes ∷ []))
+-- The bytes are raw words of a message that the job has an answer to.
+abbrev pub CanFlatBeAnswered : Job → List ℕ → Type 0
+CanFlatBeAnswered job bytes =
+    AreBareWords bytes (most_of job) × HasJobAnswer job (message (bytes ∷ []))

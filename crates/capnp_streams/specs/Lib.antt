@@ -1,6 +1,10 @@
 pub mod Arguments
 pub mod Asked
+pub mod Diffs
 pub mod Flat
+pub mod Forms
+pub mod Jobs
 pub mod Packed
 pub mod Paths
+pub mod Shows
 pub mod Streams

@@ -9,9 +9,13 @@ use Rattle.capnp_streams.specs.Streams.{Stage}
 use Rattle.capnp_streams.specs.declared.streams.stream_error.StreamError.{StreamError}
 use Rattle.capnp_streams.specs.declared.streams.stream_error.StreamError.TheVariants.{Frame}
 
--- The stage of a packed input, with the bytes that it unpacks to, even if it is cut short.
+-- The bytes that a packed input unpacks to, if they are known, even if it is cut short.
+abbrev pub unpacked_known_input : Option (List ℕ) → Option (List ℕ)
+unpacked_known_input packed = option_map (unpacked_bytes Tag) packed
+
+-- The stage of a packed input, with these bytes.
 abbrev pub unpacked_stage : Stage → Stage
-unpacked_stage stage = record stage { input = option_map (unpacked_bytes Tag) stage.input }
+unpacked_stage stage = record stage { input = unpacked_known_input stage.input }
 
 -- After all messages of a packed input it is cut short, within a word or before a number, where no
 -- frame has begun; nothing more is written.

@@ -6,6 +6,7 @@ use Rattle.std.specs.Fmt.{decimal}
 use Rattle.std.specs.Io.KnownBytes.{Appends, Consumes, IsAtEnd, Keeps}
 use Rattle.hex.specs.Hex.{encode_lower}
 use Rattle.capnp_words.specs.Names.{name_of}
+use Rattle.capnp_words.specs.declared.error.ErrorKind.{ErrorKind}
 use Rattle.capnp_words.specs.declared.error.ErrorKind.TheVariants.{AllocationFailed}
 use Rattle.capnp_format.specs.Bytes.{message}
 use Rattle.capnp_format.specs.Canonical.{encoding, trim}
@@ -13,7 +14,6 @@ use Rattle.capnp_format.specs.Segments.{Segments}
 use Rattle.capnp_format.specs.Tree.{Tree}
 use Rattle.capnp_arena_traits.specs.Allocations.{max_segment_words}
 use Rattle.capnp_framing.specs.Frames.{IsFrameOf, bytes_of_words}
-use Rattle.capnp_framing.specs.Limits.{most_words}
 use Rattle.capnp_framing.specs.Memory.{frame_refusals}
 use Rattle.capnp_framing.specs.Names.{frame_error_name}
 use Rattle.capnp_framing.specs.Reading.{NoFrame, total}
@@ -41,7 +41,9 @@ use Rattle.capnp_messages.specs.declared.messages.validation.MessageExtent.{Mess
 use Rattle.capnp_streams.specs.declared.streams.task.Task.{Task}
 use Rattle.capnp_messages.specs.Commands.{form_bytes}
 use Rattle.capnp_streams.specs.Asked.{HasAskedAnswer, HasSizeAt, IsDigestAt, IsValueAt, RefusesAsked, pointer_asked}
+use Rattle.capnp_streams.specs.Jobs.{Job, answering, showing, most_of}
 use Rattle.capnp_streams.specs.Paths.{path_indexes}
+use Rattle.capnp_streams.specs.Shows.{IsShown}
 use Rattle.capnp_refusals.specs.declared.refusals.search.RefusedPointer.{RefusedPointer}
 
 -- The name of a refusal.
@@ -163,6 +165,21 @@ module _ {W : Type 0} (g : OutputGhosts W) where
     pub refused : IfErr result (λ fault. IsWriteFault to fault
         ⊎ (RefusesBy q.command q.task q.asked_of fault × IsUnwritten g from to))
 
+-- What a job writes of S: `holds` is yes or no.
+abbrev pub JobAnswerIs : Job → Segments → Bool → List ℕ → Type 0
+JobAnswerIs (answering task) S holds bytes = AnswerIs task.command task S holds bytes
+JobAnswerIs (showing task) S holds bytes = IsShown task S holds bytes
+
+-- A job is refused for S with k, at the pointer p. A message is shown also if it isn't sound.
+abbrev pub JobRefuses : Job → Segments → ErrorKind → Option RefusedPointer → Type 0
+JobRefuses (answering task) S k p = RefusesAsked task.command task S k × (p ≡ pointer_asked k task S)
+JobRefuses (showing task) S k p = ⊥
+
+-- A job has an answer to S if this holds.
+abbrev pub HasJobAnswer : Job → Segments → Type 0
+HasJobAnswer (answering task) S = HasAskedAnswer task.command task S
+HasJobAnswer (showing task) S = ⊤
+
 -- The bytes are the frames of these messages, one after the other, each of at most `most` words.
 abbrev pub AreFrames : ℕ → List Segments → List ℕ → Type 0
 AreFrames most [] bytes = bytes ≡ []
@@ -170,13 +187,13 @@ AreFrames most (S ∷ more) bytes =
     (first : List ℕ) × (rest : List ℕ) × (bytes ≡ first ++ rest) × IsFrameOf S first × (total S ≤ most)
     × AreFrames most more rest
 
--- A task answers to messages with these bytes, one answer after the other, and with yes if each
+-- A job answers to messages with these bytes, one answer after the other, and with yes if each
 -- answer is yes.
-abbrev pub AreAnswered : Task → List Segments → Bool → List ℕ → Type 0
-AreAnswered task [] holds bytes = (holds ≡ true) × (bytes ≡ [])
-AreAnswered task (S ∷ more) holds bytes =
+abbrev pub AreAnswered : Job → List Segments → Bool → List ℕ → Type 0
+AreAnswered job [] holds bytes = (holds ≡ true) × (bytes ≡ [])
+AreAnswered job (S ∷ more) holds bytes =
     (here : Bool) × (there : Bool) × (first : List ℕ) × (rest : List ℕ)
-    × AnswerIs task.command task S here first × AreAnswered task more there rest
+    × JobAnswerIs job S here first × AreAnswered job more there rest
     × (holds ≡ here && there) × (bytes ≡ first ++ rest)
 
 -- How far a run has come: what is left of its input and what its output holds, if these are known.
@@ -200,52 +217,51 @@ module _ {R W : Type 0} (g : InputGhosts R) (h : OutputGhosts W) where
     pub work : AreWorking to output
 
 -- From old to new the frames of `summary.messages` messages were read from the front of the input;
--- `summary.bytes` is their number of bytes, at most what 64 bits count. What the task answers to
+-- `summary.bytes` is their number of bytes, at most what 64 bits count. What the job answers to
 -- these was written after what the output had.
-pub record AreDone (task : Task) (old new : Stage) (summary : Summary) : Type 0 where
+pub record AreDone (job : Job) (old new : Stage) (summary : Summary) : Type 0 where
   pub messages : List Segments
   pub bytes : List ℕ
   pub answers : List ℕ
   pub many : length messages ≡ summary.messages
   pub sized : summary.bytes ≡ min (length bytes) (2 ^ 64 - 1)
-  pub framed : AreFrames (most_words task.limits) messages bytes
+  pub framed : AreFrames (most_of job) messages bytes
   pub consumed : Consumes old.input new.input bytes
-  pub answered : AreAnswered task messages summary.holds answers
+  pub answered : AreAnswered job messages summary.holds answers
   pub written : Appends old.output new.output answers
 
 -- From old to new all messages that a run has answered before it stops are done. Their frames have
 -- the number of bytes that it says.
-abbrev pub WereAnswered : Task → Stage → Stage → Stop → Type 0
-WereAnswered task old new stop =
+abbrev pub WereAnswered : Job → Stage → Stage → Stop → Type 0
+WereAnswered job old new stop =
     (holds : Bool)
-    × AreDone task old new (record { messages = stop.answered; bytes = stop.byte; holds = holds })
+    × AreDone job old new (record { messages = stop.answered; bytes = stop.byte; holds = holds })
 
 -- Why the message at the front of the remaining input isn't answered. Either there is no frame, or
--- memory runs out, or the input fails; or its frame is read, and nothing after it, and the task
+-- memory runs out, or the input fails; or its frame is read, and nothing after it, and the job
 -- refuses the message, at the pointer that is told.
-abbrev pub StopsAt : Task → Option (List ℕ) → Option (List ℕ) → Bool → StreamError → Type 0
-StopsAt task old new failed (Frame e) =
+abbrev pub StopsAt : Job → Option (List ℕ) → Option (List ℕ) → Bool → StreamError → Type 0
+StopsAt job old new failed (Frame e) =
     (e ≡ NoMemory) ⊎ ((e ≡ ReadFailed) × (failed ≡ true))
-    ⊎ IfSome old (λ bytes. NoFrame bytes (most_words task.limits) e)
-StopsAt task old new failed (Layout k p) =
-    (S : Segments) × (bytes : List ℕ) × IsFrameOf S bytes × (total S ≤ most_words task.limits)
-    × Consumes old new bytes × RefusesAsked task.command task S k
-    × (p ≡ pointer_asked k task S)
-StopsAt task old new failed TooManyMessages = ⊥
+    ⊎ IfSome old (λ bytes. NoFrame bytes (most_of job) e)
+StopsAt job old new failed (Layout k p) =
+    (S : Segments) × (bytes : List ℕ) × IsFrameOf S bytes × (total S ≤ most_of job)
+    × Consumes old new bytes × JobRefuses job S k p
+StopsAt job old new failed TooManyMessages = ⊥
 
 -- Why no message is answered after a stage, and nothing more is written: the one at the front
 -- isn't, or as many were as 64 bits count.
-abbrev pub EndsAfter : Task → Stage → Stage → Bool → Stop → Type 0
-EndsAfter task old new failed stop =
+abbrev pub EndsAfter : Job → Stage → Stage → Bool → Stop → Type 0
+EndsAfter job old new failed stop =
     Keeps old.output new.output
-    × (StopsAt task old.input new.input failed stop.fault
+    × (StopsAt job old.input new.input failed stop.fault
     ⊎ ((stop.fault ≡ TooManyMessages) × (stop.answered ≡ 2 ^ 64 - 1)))
 
--- The bytes are frames of messages that the task has an answer to.
-abbrev pub CanBeAnswered : Task → List ℕ → Type 0
-CanBeAnswered task bytes =
-    (messages : List Segments) × AreFrames (most_words task.limits) messages bytes
-    × All (HasAskedAnswer task.command task) messages
+-- The bytes are frames of messages that the job has an answer to.
+abbrev pub CanBeAnswered : Job → List ℕ → Type 0
+CanBeAnswered job bytes =
+    (messages : List Segments) × AreFrames (most_of job) messages bytes
+    × All (HasJobAnswer job) messages
 
 -- A fault of no message: memory or a device fails, or there are too many messages to count.
 abbrev pub IsOfDevices : StreamError → Type 0

@@ -1,10 +1,21 @@
 //! Compares the messages of two streams.
-ghost use Rattle.std.specs.Prelude.{◌≡◌, false, true, Ok, IfOk, IsNone, OnOk};
-ghost use Rattle.std.specs.Io.KnownBytes.{Keeps};
+ghost use Rattle.std.specs.Prelude.{◌≡◌, ◌⊎◌, ◌&&◌, ◌<◌, ◌+◌, ◌^◌, ℕ, List, Ok, Some, false, true, is_none, IfErr, IfOk, IfSome, IsNone, OnErr, OnOk};
+ghost use Rattle.std.specs.Io.KnownBytes.{IsAtEnd, Keeps};
 ghost use Rattle.capnp_arena_traits.specs.Limits.{IsSmall};
 ghost use Rattle.capnp_format.specs.Bytes.{message};
-ghost use Rattle.capnp_framing.specs.Writing.{IsUnwritten};
+ghost use Rattle.capnp_framing.specs.Bare.{IsSegmentRead};
+ghost use Rattle.capnp_framing.specs.Limits.{most_words};
+ghost use Rattle.capnp_framing.specs.Reading.{KeepsInput};
+ghost use Rattle.capnp_framing.specs.Wholeness.{KeepsWhole};
+ghost use Rattle.capnp_framing.specs.Writing.{IsUnwritten, Prints, Writes};
 ghost use Rattle.capnp_messages.specs.Messages.{IsReadable};
+ghost use Rattle.capnp_streams.specs.Diffs.{AreAllCompared, AreAllWorking, AreFlatCompared, IsCompared, IsDiffCut, IsDiffStopped, IsNextRead, IsDiffStep, IsUnsound, StopsDiff, StopsFlatDiff, WhyUncompared};
+ghost use Rattle.capnp_streams.specs.Diffs.{EndsNotWhole, EndsRead, EndsStep, IsNotWhole, IsPackedCompared, IsPackedStopped, KeepWholeUnless};
+ghost use Rattle.capnp_streams.specs.Diffs.{diff_devices, diff_fault, diff_stage, end_line, message_text, no_pairs, pair_of, side_refusal, side_text, unmatched_line, unpacked_stages, validating, with_pair};
+ghost use Rattle.capnp_streams.specs.Flat.{StopsFlat};
+ghost use Rattle.capnp_streams.specs.Streams.{StopsAt};
+ghost use Rattle.capnp_streams.specs.declared.streams.diffs.Compared.{Compared};
+ghost use Rattle.capnp_streams.specs.declared.streams.stream_error.StreamError.{StreamError};
 
 use super::parts::validate;
 use super::runs::Stop;
@@ -56,95 +67,162 @@ pub enum DiffFault {
     WriteFailed,
 }
 
-/// The message of an input that was read last, and where the next one begins.
-#[derive(Drop)]
-struct Reading {
-    side: Side,
-    segments: OwnedSegments,
-    /// The number of messages before it.
-    answered: u64,
-    /// The total size of the frames before it, in bytes, at most `u64::MAX`.
-    byte: u64,
+/// The result for two messages that were compared.
+#[derive(Clone, Copy)]
+struct ComparedPair {
+    /// Whether their lines are equal.
+    is_same: bool,
+    /// The size of the first message's frame in bytes.
+    left_bytes: u64,
+    /// The same of the second one.
+    right_bytes: u64,
 }
 
-impl Reading {
-    /// Makes the reading of an input before its first message.
-    fn new(alloc: Global, side: Side) -> Self {
-        Reading {
-            side,
-            segments: OwnedSegments::new(alloc),
-            answered: 0,
-            byte: 0,
+/// What a step of a run did.
+#[derive(Clone, Copy)]
+enum DiffStep {
+    /// It compared two messages.
+    Pair(ComparedPair),
+    /// One of the inputs, or both, have no more messages; this one has.
+    Ended(Option<Side>),
+}
+
+/// The messages that were read last.
+#[derive(Drop)]
+struct MessagePair {
+    left: OwnedSegments,
+    right: OwnedSegments,
+}
+
+impl MessagePair {
+    /// Makes the messages of a run before its first step.
+    fn new(alloc: Global) -> Self {
+        MessagePair {
+            left: OwnedSegments::new(alloc),
+            right: OwnedSegments::new(alloc),
+        }
+    }
+}
+
+impl Compared {
+    /// The result before the first two messages.
+    fn none() -> Self
+        ensures { result ≡ no_pairs }
+    {
+        Compared {
+            is_same: true,
+            messages: 0,
+            longer: None,
+            left_bytes: 0,
+            right_bytes: 0,
         }
     }
 
-    /// The fault if the message is refused.
-    fn refusal_for(&self, fault: StreamError) -> DiffFault {
+    /// The result after two more messages.
+    fn with_pair(self, pair: ComparedPair) -> Self
+        requires { self.messages + 1 < 2 ^ 64 }
+        ensures { result ≡ with_pair self pair }
+    {
+        Compared {
+            is_same: self.is_same && pair.is_same,
+            messages: self.messages + 1,
+            longer: None,
+            left_bytes: self.left_bytes.saturating_add(pair.left_bytes),
+            right_bytes: self.right_bytes.saturating_add(pair.right_bytes),
+        }
+    }
+
+    /// The result at the end of the inputs, or of one if `longer` has more messages.
+    fn ended(self, longer: Option<Side>) -> Self
+        ensures { result ≡ record self {
+          is_same = self.is_same && is_none longer;
+          longer = longer;
+        } }
+    {
+        Compared {
+            is_same: self.is_same && longer.is_none(),
+            longer,
+            ..self
+        }
+    }
+
+    /// The fault if the next message of this input is refused.
+    fn refusal(self, side: Side, fault: StreamError) -> DiffFault
+        ensures { result ≡ side_refusal self side fault }
+    {
+        let byte = match side {
+            Side::Left => self.left_bytes,
+            Side::Right => self.right_bytes,
+        };
         DiffFault::Refused(
-            self.side,
+            side,
             Stop {
-                answered: self.answered,
-                byte: self.byte,
+                answered: self.messages,
+                byte,
                 fault,
             },
         )
     }
+}
 
-    /// Reads the next message, and tests whether it is sound. Returns `false` at the end of the
-    /// input.
-    fn read_next<R: Input>(
-        &mut self,
-        limits: ReaderOptions,
-        input: &mut R,
-    ) -> Result<bool, DiffFault>
-        requires { R.has_failed input.old ≡ false }
-        ensures sound { result ≡ Ok true → IsReadable
-            (message (⟦<OwnedSegments as ReaderSegments>⟧.segments self.new.segments)) limits }
-        ensures small { OnOk result
-            (IsSmall (⟦<OwnedSegments as ReaderSegments>⟧.segments self.new.segments)) }
-        ensures works { OnOk result (R.has_failed input.new ≡ false) }
-    {
-        match read_into(input, most_words(limits), &mut self.segments) {
-            Ok(true) => match validation_fault(&self.segments, limits) {
-                None => Ok(true),
-                Some(fault) => Err(self.refusal_for(fault)),
-            },
-            Ok(false) => Ok(false),
-            Err(error) => Err(self.refusal_for(StreamError::Frame(error))),
-        }
+/// Reads the next message of an input, and tests whether it is sound. Returns `false` at the end of
+/// the input.
+fn read_next<R: Input>(
+    limits: ReaderOptions,
+    input: &mut R,
+    into: &mut OwnedSegments,
+) -> Result<bool, StreamError>
+    requires { R.has_failed input.old ≡ false }
+    ensures next { IfOk result (λ has. IsNextRead R.Input limits input.old input.new has
+        (message (⟦<OwnedSegments as ReaderSegments>⟧.segments into.new))) }
+    ensures small { OnOk result (IsSmall (⟦<OwnedSegments as ReaderSegments>⟧.segments into.new)) }
+    ensures input { KeepsInput R.Input result input.old input.new }
+    ensures refused { IfErr result (StopsAt (validating limits) (R.remaining input.old)
+        (R.remaining input.new) (R.has_failed input.new)) }
+{
+    match read_into(input, most_words(limits), into) {
+        Ok(true) => match unsound_fault(into, limits) {
+            None => Ok(true),
+            Some(fault) => Err(fault),
+        },
+        Ok(false) => Ok(false),
+        Err(error) => Err(StreamError::Frame(error)),
     }
+}
 
-    /// Reads the raw words of the one message of the input, and tests whether it is sound.
-    fn read_flat<R: Input>(&mut self, limits: ReaderOptions, input: &mut R) -> Result<(), DiffFault>
-        requires { R.has_failed input.old ≡ false }
-        ensures sound { OnOk result (IsReadable
-            (message (⟦<OwnedSegments as ReaderSegments>⟧.segments self.new.segments)) limits) }
-        ensures small { OnOk result
-            (IsSmall (⟦<OwnedSegments as ReaderSegments>⟧.segments self.new.segments)) }
-    {
-        match read_segment_into(input, most_words(limits), &mut self.segments) {
-            Ok(()) => match validation_fault(&self.segments, limits) {
-                None => Ok(()),
-                Some(fault) => Err(self.refusal_for(fault)),
-            },
-            Err(error) => Err(self.refusal_for(StreamError::Frame(error))),
-        }
-    }
-
-    /// Notes that the message was compared.
-    fn count_message(&mut self) {
-        self.answered = self.answered.saturating_add(1);
-        self.byte = self
-            .byte
-            .saturating_add(self.segments.size_in_bytes() as u64);
+/// Reads the raw words of the one message of an input, and tests whether it is sound.
+fn read_flat<R: Input>(
+    limits: ReaderOptions,
+    input: &mut R,
+    into: &mut OwnedSegments,
+) -> Result<(), StreamError>
+    requires { R.has_failed input.old ≡ false }
+    ensures read { OnOk result (IsSegmentRead R.Input input.old input.new (most_words limits)
+        (⟦<OwnedSegments as ReaderSegments>⟧.segments into.new)) }
+    ensures end { OnOk result (IsAtEnd (R.remaining input.new)) }
+    ensures sound { OnOk result (IsReadable
+        (message (⟦<OwnedSegments as ReaderSegments>⟧.segments into.new)) limits) }
+    ensures small { OnOk result (IsSmall (⟦<OwnedSegments as ReaderSegments>⟧.segments into.new)) }
+    ensures works { OnOk result (R.has_failed input.new ≡ false) }
+    ensures refused { IfErr result (StopsFlat (validating limits) (R.remaining input.old)
+        (R.has_failed input.new)) }
+{
+    match read_segment_into(input, most_words(limits), into) {
+        Ok(()) => match unsound_fault(into, limits) {
+            None => Ok(()),
+            Some(fault) => Err(fault),
+        },
+        Err(error) => Err(StreamError::Frame(error)),
     }
 }
 
 /// Why the message isn't sound; `None` if its whole value can be read within the limits.
-fn validation_fault(segments: &OwnedSegments, limits: ReaderOptions) -> Option<StreamError>
+fn unsound_fault(segments: &OwnedSegments, limits: ReaderOptions) -> Option<StreamError>
     requires { IsSmall (⟦<OwnedSegments as ReaderSegments>⟧.segments segments.now) }
-    ensures { IsNone result
+    ensures sound { IsNone result
         → IsReadable (message (⟦<OwnedSegments as ReaderSegments>⟧.segments segments.now)) limits }
+    ensures fault { IfSome result
+        (IsUnsound limits (message (⟦<OwnedSegments as ReaderSegments>⟧.segments segments.now))) }
 {
     match validate(segments, limits) {
         Ok(_) => None,
@@ -155,68 +233,158 @@ fn validation_fault(segments: &OwnedSegments, limits: ReaderOptions) -> Option<S
     }
 }
 
-/// Compares the messages that were read last.
+/// Compares two messages, which are sound. They are message `number` of their inputs.
 fn compare<W: Output>(
     alloc: Global,
     limits: ReaderOptions,
-    left: &Reading,
-    right: &Reading,
+    number: u64,
+    read: &MessagePair,
     output: &mut W,
 ) -> Result<bool, DiffFault>
-    requires left { IsSmall (⟦<OwnedSegments as ReaderSegments>⟧.segments left.now.segments) }
-    requires right { IsSmall (⟦<OwnedSegments as ReaderSegments>⟧.segments right.now.segments) }
+    requires left { IsSmall (⟦<OwnedSegments as ReaderSegments>⟧.segments read.now.left) }
+    requires right { IsSmall (⟦<OwnedSegments as ReaderSegments>⟧.segments read.now.right) }
+    requires left_sound { IsReadable
+        (message (⟦<OwnedSegments as ReaderSegments>⟧.segments read.now.left)) limits }
+    requires right_sound { IsReadable
+        (message (⟦<OwnedSegments as ReaderSegments>⟧.segments read.now.right)) limits }
     requires works { W.has_failed output.old ≡ false }
+    ensures compared { IfOk result (λ is_same. (text : List ℕ) × IsCompared limits
+        (pair_of (⟦<OwnedSegments as ReaderSegments>⟧.segments read.now.left)
+        (⟦<OwnedSegments as ReaderSegments>⟧.segments read.now.right)) is_same text
+        × Prints W.Output output.old output.new text) }
     ensures same { result ≡ Ok true → IsUnwritten W.Output output.old output.new }
     ensures works { OnOk result (W.has_failed output.new ≡ false) }
+    ensures refused { IfErr result (WhyUncompared W.Output limits (record {
+        number = number; pair = pair_of
+        (⟦<OwnedSegments as ReaderSegments>⟧.segments read.now.left)
+        (⟦<OwnedSegments as ReaderSegments>⟧.segments read.now.right) }) output.old output.new) }
 {
-    let number = left.answered.saturating_add(1);
-    match compare_messages(
-        alloc,
-        limits,
-        number,
-        &left.segments,
-        &right.segments,
-        output,
-    ) {
+    match compare_messages(alloc, limits, number, &read.left, &read.right, output) {
         Ok(is_same) => Ok(is_same),
-        Err(CompareFault::AllocationFailed) => Err(DiffFault::AllocationFailed),
-        Err(CompareFault::TooLong) => Err(DiffFault::TooLong(number)),
-        Err(CompareFault::WriteFailed) => Err(DiffFault::WriteFailed),
+        Err(fault) => Err(fault_of_message(number, fault)),
     }
+}
+
+/// The fault of a run if message `number` of its inputs isn't compared.
+fn fault_of_message(number: u64, fault: CompareFault) -> DiffFault
+    ensures { result ≡ diff_fault number fault }
+{
+    match fault {
+        CompareFault::AllocationFailed => DiffFault::AllocationFailed,
+        CompareFault::TooLong => DiffFault::TooLong(number),
+        CompareFault::WriteFailed => DiffFault::WriteFailed,
+    }
+}
+
+/// Reads the next message of each input, and compares them.
+///
+/// Precondition: `counts` says what was compared before.
+fn compare_next<L: Input, R: Input, W: Output>(
+    alloc: Global,
+    limits: ReaderOptions,
+    counts: Compared,
+    read: &mut MessagePair,
+    left: &mut L,
+    right: &mut R,
+    output: &mut W,
+) -> Result<DiffStep, DiffFault>
+    requires works { AreAllWorking L.Input R.Input W.Output left.old right.old output.old }
+    requires few { counts.messages + 1 < 2 ^ 64 }
+    ensures step { IfOk result (IsDiffStep limits
+        (diff_stage L.Input R.Input W.Output left.old right.old output.old)
+        (diff_stage L.Input R.Input W.Output left.new right.new output.new)) }
+    ensures whole_left { OnOk result (KeepsWhole (L.ends_whole left.old) (L.ends_whole left.new)) }
+    ensures whole_right { OnOk result
+        (KeepsWhole (R.ends_whole right.old) (R.ends_whole right.new)) }
+    ensures works { OnOk result
+        (AreAllWorking L.Input R.Input W.Output left.new right.new output.new) }
+    ensures ended { IfOk result (λ step.
+        EndsStep step (L.remaining left.new) (R.remaining right.new)) }
+    ensures refused { IfErr result (StopsDiff limits
+        (diff_stage L.Input R.Input W.Output left.old right.old output.old)
+        (diff_devices L.Input R.Input W.Output left.new right.new output.new) counts) }
+{
+    let has_left = match read_next(limits, left, &mut read.left) {
+        Ok(has) => has,
+        Err(fault) => return Err(counts.refusal(Side::Left, fault)),
+    };
+    let has_right = match read_next(limits, right, &mut read.right) {
+        Ok(has) => has,
+        Err(fault) => return Err(counts.refusal(Side::Right, fault)),
+    };
+    if !has_left && !has_right {
+        return Ok(DiffStep::Ended(None));
+    }
+    if !has_left {
+        return Ok(DiffStep::Ended(Some(Side::Right)));
+    }
+    if !has_right {
+        return Ok(DiffStep::Ended(Some(Side::Left)));
+    }
+    match compare(alloc, limits, counts.messages + 1, &*read, output) {
+        Ok(is_same) => Ok(DiffStep::Pair(ComparedPair {
+            is_same,
+            left_bytes: read.left.size_in_bytes() as u64,
+            right_bytes: read.right.size_in_bytes() as u64,
+        })),
+        Err(fault) => Err(fault),
+    }
+}
+
+/// Writes the number of a message.
+#[tactic(auto, unfolding(crate::specs::Diffs::message_text))]
+fn write_message_number<W: Output>(output: &mut W, number: u64) -> Result<(), DeviceFault>
+    requires { W.has_failed output.old ≡ false }
+    ensures { Writes W.Output result output.old output.new (message_text number) }
+{
+    write_all(output, b"message ")?;
+    write_number(output, number)
 }
 
 /// Writes that only one input has message `number`.
-fn write_unmatched_message<W: Output>(
-    output: &mut W,
-    number: u64,
-    side: Side,
-) -> Result<(), DiffFault>
-    requires { W.has_failed output.old ≡ false }
-    ensures { OnOk result (W.has_failed output.new ≡ false) }
-{
-    match write_unmatched_line(output, number, side) {
-        Ok(()) => Ok(()),
-        Err(DeviceFault) => Err(DiffFault::WriteFailed),
-    }
-}
-
 fn write_unmatched_line<W: Output>(
     output: &mut W,
     number: u64,
     side: Side,
 ) -> Result<(), DeviceFault>
     requires { W.has_failed output.old ≡ false }
-    ensures { OnOk result (W.has_failed output.new ≡ false) }
+    ensures { Writes W.Output result output.old output.new (unmatched_line number side) }
 {
-    write_all(output, b"message ")?;
-    write_number(output, number)?;
-    write_all(
-        output,
-        match side {
-            Side::Left => b": only in the first file\n",
-            Side::Right => b": only in the second file\n",
-        },
-    )
+    write_message_number(output, number)?;
+    match side {
+        Side::Left => write_all(output, b": only in the first file\n"),
+        Side::Right => write_all(output, b": only in the second file\n"),
+    }
+}
+
+/// Writes that the input `longer`, if there is one, has message `number`.
+fn write_end<W: Output>(
+    output: &mut W,
+    number: u64,
+    longer: Option<Side>,
+) -> Result<(), DeviceFault>
+    requires { W.has_failed output.old ≡ false }
+    ensures { Writes W.Output result output.old output.new (end_line longer number) }
+{
+    match longer {
+        Some(side) => write_unmatched_line(output, number, side),
+        None => Ok(()),
+    }
+}
+
+/// Flushes the output, unless the next messages of both inputs are already in their buffers.
+fn flush_before_reading<L: BufferedInput, R: BufferedInput, W: BufferedOutput>(
+    left: &L,
+    right: &R,
+    output: &mut W,
+) -> Result<(), DeviceFault>
+    requires { W.has_failed output.old ≡ false }
+    ensures bytes { Keeps (W.contents output.old) (W.contents output.new) }
+    ensures works { OnOk result (W.has_failed output.new ≡ false) }
+    ensures fails { OnErr result (W.has_failed output.new ≡ true) }
+{
+    flush_before_waiting(left, output)?;
+    flush_before_waiting(right, output)
 }
 
 /// Compares each message of `left` with the message of the same number of `right`, and writes for
@@ -240,47 +408,39 @@ pub fn run_diff<L: BufferedInput, R: BufferedInput, W: BufferedOutput>(
     requires left { L.has_failed left.old ≡ false }
     requires right { R.has_failed right.old ≡ false }
     requires works { W.has_failed output.old ≡ false }
+    ensures done { IfOk result (AreAllCompared task.limits
+        (diff_stage L.Input R.Input W.Output left.old right.old output.old)
+        (W.contents output.new)) }
+    ensures refused { IfErr result (IsDiffStopped task.limits
+        (diff_stage L.Input R.Input W.Output left.old right.old output.old)
+        (diff_devices L.Input R.Input W.Output left.new right.new output.new)) }
     ensures same { IfOk result (λ compared. compared.is_same ≡ true
         → Keeps (W.contents output.old) (W.contents output.new)) }
+    ensures ended { IfOk result (λ compared.
+        EndsRead compared.longer (L.remaining left.new) (R.remaining right.new)) }
+    ensures whole_left { OnOk result (KeepsWhole (L.ends_whole left.old) (L.ends_whole left.new)) }
+    ensures whole_right { OnOk result
+        (KeepsWhole (R.ends_whole right.old) (R.ends_whole right.new)) }
     ensures left { OnOk result (L.has_failed left.new ≡ false) }
     ensures right { OnOk result (R.has_failed right.new ≡ false) }
     ensures works { OnOk result (W.has_failed output.new ≡ false) }
 {
-    let mut first = Reading::new(alloc, Side::Left);
-    let mut second = Reading::new(alloc, Side::Right);
-    let mut is_same = true;
+    let mut read = MessagePair::new(alloc);
+    let mut counts = Compared::none();
     for number in 1..u64::MAX {
-        if flush_before_waiting(left, output).is_err()
-            || flush_before_waiting(right, output).is_err()
-        {
+        if flush_before_reading(&*left, &*right, output).is_err() {
             return Err(DiffFault::WriteFailed);
         }
-        let longer = match (
-            first.read_next(task.limits, left)?,
-            second.read_next(task.limits, right)?,
-        ) {
-            (true, true) => {
-                if !compare(alloc, task.limits, &first, &second, output)? {
-                    is_same = false;
+        match compare_next(alloc, task.limits, counts, &mut read, left, right, output) {
+            Ok(DiffStep::Pair(pair)) => counts = counts.with_pair(pair),
+            Ok(DiffStep::Ended(longer)) => {
+                if write_end(output, number, longer).is_err() {
+                    return Err(DiffFault::WriteFailed);
                 }
-                first.count_message();
-                second.count_message();
-                continue;
+                return Ok(counts.ended(longer));
             }
-            (false, false) => None,
-            (true, false) => Some(Side::Left),
-            (false, true) => Some(Side::Right),
-        };
-        if let Some(side) = longer {
-            write_unmatched_message(output, number, side)?;
+            Err(fault) => return Err(fault),
         }
-        return Ok(Compared {
-            is_same: is_same && longer.is_none(),
-            messages: first.answered,
-            longer,
-            left_bytes: first.byte,
-            right_bytes: second.byte,
-        });
     }
     Err(DiffFault::TooLong(u64::MAX))
 }
@@ -298,51 +458,70 @@ pub fn run_diff_packed<L: Input + Drop, R: Input + Drop, W: BufferedOutput>(
     requires left { L.has_failed left ≡ false }
     requires right { R.has_failed right ≡ false }
     requires works { W.has_failed output.old ≡ false }
+    ensures done { IfOk result (IsPackedCompared task.limits
+        (diff_stage L.Input R.Input W.Output left right output.old) (W.contents output.new)) }
+    ensures refused { IfErr result (λ fault. IsPackedStopped L.Input R.Input task.limits
+        (diff_stage L.Input R.Input W.Output left right output.old)
+        (W.contents output.new) (W.has_failed output.new) fault
+        ⊎ ((compared : Compared) × AreAllCompared task.limits
+        (unpacked_stages (diff_stage L.Input R.Input W.Output left right output.old))
+        (W.contents output.new) compared × IsDiffCut L.Input R.Input left right compared fault)) }
     ensures same { result ≡ Ok true → Keeps (W.contents output.old) (W.contents output.new) }
     ensures works { OnOk result (W.has_failed output.new ≡ false) }
 {
     let mut left = UnpackingInput::new(left);
     let mut right = UnpackingInput::new(right);
     let compared = run_diff(alloc, task, &mut left, &mut right, output)?;
-    if compared.longer != Some(Side::Left) {
-        check_whole_at_end(
-            Side::Left,
-            compared.messages,
-            compared.left_bytes,
-            &mut left,
-        )?;
+    match check_ends(compared, &mut left, &mut right) {
+        Ok(()) => Ok(compared.is_same),
+        Err(fault) => Err(fault),
     }
-    if compared.longer != Some(Side::Right) {
-        check_whole_at_end(
-            Side::Right,
-            compared.messages,
-            compared.right_bytes,
-            &mut right,
-        )?;
+}
+
+/// Tests that the packed inputs that aren't longer aren't cut short after their last message.
+fn check_ends<L: Input, R: Input>(
+    compared: Compared,
+    left: &mut UnpackingInput<L>,
+    right: &mut UnpackingInput<R>,
+) -> Result<(), DiffFault>
+    requires { EndsRead compared.longer (⟦<UnpackingInput<L> as Input>⟧.remaining left.old)
+        (⟦<UnpackingInput<R> as Input>⟧.remaining right.old) }
+    ensures whole { OnOk result (KeepWholeUnless compared.longer
+        (⟦<UnpackingInput<L> as Input>⟧.ends_whole left.old)
+        (⟦<UnpackingInput<R> as Input>⟧.ends_whole right.old)) }
+    ensures refused { IfErr result (IsNotWhole L.Input R.Input compared
+        (⟦<UnpackingInput<L> as Input>⟧.ends_whole left.old)
+        (⟦<UnpackingInput<R> as Input>⟧.ends_whole right.old)) }
+{
+    match compared.longer {
+        Some(Side::Left) => check_whole_at_end(Side::Right, compared, right),
+        Some(Side::Right) => check_whole_at_end(Side::Left, compared, left),
+        None => {
+            check_whole_at_end(Side::Left, compared, left)?;
+            check_whole_at_end(Side::Right, compared, right)
+        }
     }
-    Ok(compared.is_same)
 }
 
 /// Tests that a packed input isn't cut short after its last message.
 fn check_whole_at_end<R: Input>(
     side: Side,
-    answered: u64,
-    byte: u64,
+    compared: Compared,
     input: &mut UnpackingInput<R>,
-) -> Result<(), DiffFault> {
+) -> Result<(), DiffFault>
+    requires { IsAtEnd (⟦<UnpackingInput<R> as Input>⟧.remaining input.old) }
+    ensures whole { OnOk result
+        (KeepsWhole (⟦<UnpackingInput<R> as Input>⟧.ends_whole input.old) (Some true)) }
+    ensures refused { IfErr result (λ e. (fault : StreamError)
+        × (e ≡ side_refusal compared side fault)
+        × EndsNotWhole R.Input (⟦<UnpackingInput<R> as Input>⟧.ends_whole input.old) fault) }
+{
     let error = match input.is_whole_at_end() {
         Ok(true) => return Ok(()),
         Ok(false) => FrameError::Truncated,
         Err(DeviceFault) => FrameError::ReadFailed,
     };
-    Err(DiffFault::Refused(
-        side,
-        Stop {
-            answered,
-            byte,
-            fault: StreamError::Frame(error),
-        },
-    ))
+    Err(compared.refusal(side, StreamError::Frame(error)))
 }
 
 /// Compares the messages that both inputs hold as raw words, without a frame, like `run_diff`.
@@ -356,12 +535,21 @@ pub fn run_diff_flat<L: Input, R: Input, W: Output>(
     requires left { L.has_failed left.old ≡ false }
     requires right { R.has_failed right.old ≡ false }
     requires works { W.has_failed output.old ≡ false }
+    ensures done { IfOk result (AreFlatCompared task.limits
+        (diff_stage L.Input R.Input W.Output left.old right.old output.old)
+        (diff_stage L.Input R.Input W.Output left.new right.new output.new)) }
+    ensures refused { IfErr result (StopsFlatDiff task.limits
+        (diff_stage L.Input R.Input W.Output left.old right.old output.old)
+        (diff_devices L.Input R.Input W.Output left.new right.new output.new)) }
     ensures same { result ≡ Ok true → IsUnwritten W.Output output.old output.new }
     ensures works { OnOk result (W.has_failed output.new ≡ false) }
 {
-    let mut first = Reading::new(alloc, Side::Left);
-    let mut second = Reading::new(alloc, Side::Right);
-    first.read_flat(task.limits, left)?;
-    second.read_flat(task.limits, right)?;
-    compare(alloc, task.limits, &first, &second, output)
+    let mut read = MessagePair::new(alloc);
+    if let Err(fault) = read_flat(task.limits, left, &mut read.left) {
+        return Err(Compared::none().refusal(Side::Left, fault));
+    }
+    if let Err(fault) = read_flat(task.limits, right, &mut read.right) {
+        return Err(Compared::none().refusal(Side::Right, fault));
+    }
+    compare(alloc, task.limits, 1, &read, output)
 }

@@ -3,6 +3,7 @@ ghost use Rattle.std.specs.Prelude.{◌≡◌, ◌⊎◌, true, OnOk, IfOk, IfEr
 ghost use Rattle.capnp_framing.specs.declared.framing.frame_error.FrameError.TheVariants.{ReadFailed};
 ghost use Rattle.capnp_framing.specs.Writing.{IsUnwritten};
 ghost use Rattle.capnp_streams.specs.Flat.{CanFlatBeAnswered, HasTakenFlat, IsFlatDone, StopsFlat};
+ghost use Rattle.capnp_streams.specs.Jobs.{answering};
 ghost use Rattle.capnp_streams.specs.Streams.{AreWorking, IsOfDevices, IsWriteFault, RunsToEnd, refusals_behind, stage_of};
 
 use super::answers::{Memory, answer, locate_refusal};
@@ -43,14 +44,16 @@ pub fn run_flat_with<A: Allocator, R: Input, W: Output>(
     output: &mut W,
 ) -> (Result<bool, StreamError>, A)
     requires { AreWorking R.Input W.Output input.old output.old }
-    ensures done { IfOk result.0 (IsFlatDone task (stage_of R.Input W.Output input.old output.old)
+    ensures done { IfOk result.0 (IsFlatDone (answering task)
+        (stage_of R.Input W.Output input.old output.old)
         (stage_of R.Input W.Output input.new output.new)) }
     ensures ended { OnOk result.0 (RunsToEnd R.Input W.Output input.old input.new output.new) }
     ensures refused { IfErr result.0 (λ fault. IsWriteFault W.Output output.new fault
-        ⊎ (StopsFlat task (R.remaining input.old) (R.has_failed input.new) fault
+        ⊎ (StopsFlat (answering task) (R.remaining input.old) (R.has_failed input.new) fault
         × IsUnwritten W.Output output.old output.new)) }
     ensures exactly { IfErr result.0 (λ fault.
-        IsSomeAnd (R.remaining input.old) (CanFlatBeAnswered task) → IsOfDevices fault) }
+        IsSomeAnd (R.remaining input.old) (CanFlatBeAnswered (answering task))
+        → IsOfDevices fault) }
     ensures failed { IfErr result.0 (λ fault. R.has_failed input.new ≡ true
         → fault ≡ StreamError.Frame ReadFailed) }
     ensures taken { IfErr result.0 (HasTakenFlat R.Input input.old input.new) }
@@ -88,14 +91,16 @@ pub fn run_flat<R: Input, W: Output>(
     output: &mut W,
 ) -> Result<bool, StreamError>
     requires { AreWorking R.Input W.Output input.old output.old }
-    ensures done { IfOk result (IsFlatDone task (stage_of R.Input W.Output input.old output.old)
+    ensures done { IfOk result (IsFlatDone (answering task)
+        (stage_of R.Input W.Output input.old output.old)
         (stage_of R.Input W.Output input.new output.new)) }
     ensures ended { OnOk result (RunsToEnd R.Input W.Output input.old input.new output.new) }
     ensures refused { IfErr result (λ fault. IsWriteFault W.Output output.new fault
-        ⊎ (StopsFlat task (R.remaining input.old) (R.has_failed input.new) fault
+        ⊎ (StopsFlat (answering task) (R.remaining input.old) (R.has_failed input.new) fault
         × IsUnwritten W.Output output.old output.new)) }
     ensures exactly { IfErr result (λ fault.
-        IsSomeAnd (R.remaining input.old) (CanFlatBeAnswered task) → IsOfDevices fault) }
+        IsSomeAnd (R.remaining input.old) (CanFlatBeAnswered (answering task))
+        → IsOfDevices fault) }
     ensures failed { IfErr result (λ fault. R.has_failed input.new ≡ true
         → fault ≡ StreamError.Frame ReadFailed) }
     ensures taken { IfErr result (HasTakenFlat R.Input input.old input.new) }

@@ -1,4 +1,7 @@
 //! How a task reads its input.
+ghost use Rattle.std.specs.Prelude.{◌≡◌};
+ghost use Rattle.capnp_streams.specs.Forms.{form_of_options};
+
 use super::task::{DiffTask, ShowTask, Task};
 
 /// How a task reads its input.
@@ -14,7 +17,9 @@ pub enum InputForm {
 
 impl InputForm {
     /// The form for these two options.
-    fn from_options(unpack: bool, from_flat: bool) -> Self {
+    fn from_options(unpack: bool, from_flat: bool) -> Self
+        ensures { result ≡ form_of_options unpack from_flat }
+    {
         if unpack {
             InputForm::PackedFrames
         } else if from_flat {
@@ -27,21 +32,27 @@ impl InputForm {
 
 impl Task {
     /// How this task reads its input.
-    pub fn input_form(&self) -> InputForm {
+    pub fn input_form(&self) -> InputForm
+        ensures { result ≡ form_of_options self.now.unpack self.now.from_flat }
+    {
         InputForm::from_options(self.unpack, self.from_flat)
     }
 }
 
 impl DiffTask {
     /// How this task reads both inputs.
-    pub fn input_form(&self) -> InputForm {
+    pub fn input_form(&self) -> InputForm
+        ensures { result ≡ form_of_options self.now.unpack self.now.from_flat }
+    {
         InputForm::from_options(self.unpack, self.from_flat)
     }
 }
 
 impl ShowTask {
     /// How this task reads its input.
-    pub fn input_form(&self) -> InputForm {
+    pub fn input_form(&self) -> InputForm
+        ensures { result ≡ form_of_options self.now.unpack self.now.from_flat }
+    {
         InputForm::from_options(self.unpack, self.from_flat)
     }
 }

@@ -3,6 +3,7 @@ ghost use Rattle.std.specs.Prelude.{◌≡◌, ◌⊎◌, ℕ, List, [], Option,
 ghost use Rattle.capnp_packing.specs.Packing.{IsWhole, unpacked_bytes};
 ghost use Rattle.capnp_packing.specs.declared.packing.place.Place.TheVariants.{Tag};
 ghost use Rattle.capnp_framing.specs.declared.framing.frame_error.FrameError.TheVariants.{ReadFailed};
+ghost use Rattle.capnp_streams.specs.Jobs.{answering};
 ghost use Rattle.capnp_streams.specs.Packed.{IsCutAfter, unpacked_stage};
 ghost use Rattle.capnp_streams.specs.Streams.{AreDone, AreWorking, CanBeAnswered, EndsAfter, IsOfDevices, IsWriteFault, Stage, WereAnswered, refusals_behind, stage_of};
 
@@ -33,19 +34,20 @@ pub fn run_packed_with<A: Allocator, R: Input + Drop, W: BufferedOutput>(
 ) -> (Result<Summary, Stop>, A)
     requires { AreWorking R.Input W.Output packed output.old }
     ensures done { IfOk result.0
-        (AreDone task (unpacked_stage (stage_of R.Input W.Output packed output.old))
+        (AreDone (answering task) (unpacked_stage (stage_of R.Input W.Output packed output.old))
         (record { input = Some []; output = W.contents output.new })) }
     ensures whole { OnOk result.0 (IfSome (R.remaining packed) (IsWhole Tag)) }
     ensures refused { IfErr result.0 (λ s. (behind : Stage)
-        × WereAnswered task (unpacked_stage (stage_of R.Input W.Output packed output.old)) behind s
+        × WereAnswered (answering task)
+        (unpacked_stage (stage_of R.Input W.Output packed output.old)) behind s
         × (IsWriteFault W.Output output.new s.fault
         ⊎ IsCutAfter (R.remaining packed) behind (W.contents output.new) s.fault
-        ⊎ ((left : Option (List ℕ)) × EndsAfter task behind
+        ⊎ ((left : Option (List ℕ)) × EndsAfter (answering task) behind
         (record { input = left; output = W.contents output.new }) true s))) }
     ensures failed { IfErr result.0 (λ s. s.fault ≡ StreamError.Frame ReadFailed
         → IfSome (R.remaining packed) (λ _. (device : R) × (R.has_failed device ≡ true))) }
     ensures exactly { IfErr result.0 (λ s. IsSomeAnd (R.remaining packed)
-        (λ bytes. IsWhole Tag bytes × CanBeAnswered task (unpacked_bytes Tag bytes))
+        (λ bytes. IsWhole Tag bytes × CanBeAnswered (answering task) (unpacked_bytes Tag bytes))
         → IsOfDevices s.fault) }
     ensures works { OnOk result.0 (W.has_failed output.new ≡ false) }
     ensures kept { OnOk result.0 (A.refusals result.1 ≡ A.refusals allocator) }
@@ -73,19 +75,20 @@ pub fn run_packed<R: Input + Drop, W: BufferedOutput>(
 ) -> Result<Summary, Stop>
     requires { AreWorking R.Input W.Output packed output.old }
     ensures done { IfOk result
-        (AreDone task (unpacked_stage (stage_of R.Input W.Output packed output.old))
+        (AreDone (answering task) (unpacked_stage (stage_of R.Input W.Output packed output.old))
         (record { input = Some []; output = W.contents output.new })) }
     ensures whole { OnOk result (IfSome (R.remaining packed) (IsWhole Tag)) }
     ensures refused { IfErr result (λ s. (behind : Stage)
-        × WereAnswered task (unpacked_stage (stage_of R.Input W.Output packed output.old)) behind s
+        × WereAnswered (answering task)
+        (unpacked_stage (stage_of R.Input W.Output packed output.old)) behind s
         × (IsWriteFault W.Output output.new s.fault
         ⊎ IsCutAfter (R.remaining packed) behind (W.contents output.new) s.fault
-        ⊎ ((left : Option (List ℕ)) × EndsAfter task behind
+        ⊎ ((left : Option (List ℕ)) × EndsAfter (answering task) behind
         (record { input = left; output = W.contents output.new }) true s))) }
     ensures failed { IfErr result (λ s. s.fault ≡ StreamError.Frame ReadFailed
         → IfSome (R.remaining packed) (λ _. (device : R) × (R.has_failed device ≡ true))) }
     ensures exactly { IfErr result (λ s. IsSomeAnd (R.remaining packed)
-        (λ bytes. IsWhole Tag bytes × CanBeAnswered task (unpacked_bytes Tag bytes))
+        (λ bytes. IsWhole Tag bytes × CanBeAnswered (answering task) (unpacked_bytes Tag bytes))
         → IsOfDevices s.fault) }
     ensures works { OnOk result (W.has_failed output.new ≡ false) }
 {

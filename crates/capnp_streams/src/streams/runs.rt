@@ -3,6 +3,7 @@ ghost use Rattle.std.specs.Prelude.{◌≡◌, ◌⊎◌, [], Some, true, Ok, No
 ghost use Rattle.std.specs.Io.KnownBytes.{IsAtEnd, Keeps};
 ghost use Rattle.capnp_framing.specs.declared.framing.frame_error.FrameError.TheVariants.{ReadFailed};
 ghost use Rattle.capnp_framing.specs.Wholeness.{KeepsWhole};
+ghost use Rattle.capnp_streams.specs.Jobs.{answering};
 ghost use Rattle.capnp_streams.specs.Streams.{AreDone, AreWorking, CanBeAnswered, CountsRefusals, EndsAfter, IsOfDevices, IsWriteFault, RunsToEnd, Stage, StopsAt, WereAnswered, refusals_behind, stage_of};
 
 use super::answers::{Memory, answer, locate_refusal};
@@ -22,7 +23,8 @@ pub struct Summary {
     pub messages: u64,
     /// The total size of their frames in bytes, at most `u64::MAX`.
     pub bytes: u64,
-    /// For `Check`, whether every message is canonical; for any other command, always `true`.
+    /// For `Check`, whether every message is canonical; if messages are shown, whether each pointer
+    /// that was followed could be read; for any other command, always `true`.
     pub holds: bool,
 }
 
@@ -41,11 +43,12 @@ pub struct Stop {
 
 /// The result for one message that was answered.
 #[derive(Clone, Copy)]
-struct Answered {
-    /// For `Check`, whether the message is canonical; for any other command, `true`.
-    holds: bool,
+pub(super) struct Answered {
+    /// For `Check`, whether the message is canonical; if it is shown, whether each pointer that was
+    /// followed could be read; for any other command, `true`.
+    pub(super) holds: bool,
     /// The size of the message's frame in bytes.
-    bytes: u64,
+    pub(super) bytes: u64,
 }
 
 /// Returns the `Stop` whose fault is `error`, after the messages that `summary` counts.
@@ -79,7 +82,7 @@ fn answer_next<A: Allocator, R: BufferedInput, W: BufferedOutput>(
         × IsAtEnd (R.remaining input.new)
         × Keeps (W.contents output.old) (W.contents output.new) }
     ensures answered { IfOk result (λ m. IfSome m (λ one.
-        AreDone task (stage_of R.Input W.Output input.old output.old)
+        AreDone (answering task) (stage_of R.Input W.Output input.old output.old)
         (stage_of R.Input W.Output input.new output.new)
         (record { messages = 1; bytes = one.bytes; holds = one.holds }))) }
     ensures whole { OnOk result (KeepsWhole (R.ends_whole input.old) (R.ends_whole input.new)) }
@@ -87,7 +90,8 @@ fn answer_next<A: Allocator, R: BufferedInput, W: BufferedOutput>(
     ensures failed { IfErr result (λ e. R.has_failed input.new ≡ true
         → e ≡ StreamError.Frame ReadFailed) }
     ensures refused { IfErr result (λ e. IsWriteFault W.Output output.new e
-        ⊎ (StopsAt task (R.remaining input.old) (R.remaining input.new) (R.has_failed input.new) e
+        ⊎ (StopsAt (answering task) (R.remaining input.old) (R.remaining input.new)
+        (R.has_failed input.new) e
         × Keeps (W.contents output.old) (W.contents output.new))) }
     ensures memory { CountsRefusals A.refusals memory.old.allocator memory.new.allocator
         task.command result }
@@ -123,7 +127,7 @@ fn flush_and_answer_next<A: Allocator, R: BufferedInput, W: BufferedOutput>(
         × IsAtEnd (R.remaining input.new)
         × Keeps (W.contents output.old) (W.contents output.new) }
     ensures answered { IfOk result (λ m. IfSome m (λ one.
-        AreDone task (stage_of R.Input W.Output input.old output.old)
+        AreDone (answering task) (stage_of R.Input W.Output input.old output.old)
         (stage_of R.Input W.Output input.new output.new)
         (record { messages = 1; bytes = one.bytes; holds = one.holds }))) }
     ensures whole { OnOk result (KeepsWhole (R.ends_whole input.old) (R.ends_whole input.new)) }
@@ -131,7 +135,8 @@ fn flush_and_answer_next<A: Allocator, R: BufferedInput, W: BufferedOutput>(
     ensures failed { IfErr result (λ e. R.has_failed input.new ≡ true
         → e ≡ StreamError.Frame ReadFailed) }
     ensures refused { IfErr result (λ e. IsWriteFault W.Output output.new e
-        ⊎ (StopsAt task (R.remaining input.old) (R.remaining input.new) (R.has_failed input.new) e
+        ⊎ (StopsAt (answering task) (R.remaining input.old) (R.remaining input.new)
+        (R.has_failed input.new) e
         × Keeps (W.contents output.old) (W.contents output.new))) }
     ensures memory { CountsRefusals A.refusals memory.old.allocator memory.new.allocator
         task.command result }
@@ -181,15 +186,16 @@ pub fn run_with<A: Allocator, R: BufferedInput, W: BufferedOutput>(
     output: &mut W,
 ) -> (Result<Summary, Stop>, A)
     requires { AreWorking R.Input W.Output input.old output.old }
-    ensures done { IfOk result.0 (AreDone task (stage_of R.Input W.Output input.old output.old)
+    ensures done { IfOk result.0 (AreDone (answering task)
+        (stage_of R.Input W.Output input.old output.old)
         (record { input = Some []; output = W.contents output.new })) }
     ensures refused { IfErr result.0 (λ s. (behind : Stage)
-        × WereAnswered task (stage_of R.Input W.Output input.old output.old) behind s
+        × WereAnswered (answering task) (stage_of R.Input W.Output input.old output.old) behind s
         × (IsWriteFault W.Output output.new s.fault
-        ⊎ EndsAfter task behind (stage_of R.Input W.Output input.new output.new)
+        ⊎ EndsAfter (answering task) behind (stage_of R.Input W.Output input.new output.new)
         (R.has_failed input.new) s)) }
     ensures exactly { IfErr result.0 (λ s.
-        IsSomeAnd (R.remaining input.old) (CanBeAnswered task) → IsOfDevices s.fault) }
+        IsSomeAnd (R.remaining input.old) (CanBeAnswered (answering task)) → IsOfDevices s.fault) }
     ensures ended { OnOk result.0 (RunsToEnd R.Input W.Output input.old input.new output.new) }
     ensures failed { IfErr result.0 (λ s. R.has_failed input.new ≡ true
         → s.fault ≡ StreamError.Frame ReadFailed) }
@@ -242,15 +248,16 @@ pub fn run<R: BufferedInput, W: BufferedOutput>(
     output: &mut W,
 ) -> Result<Summary, Stop>
     requires { AreWorking R.Input W.Output input.old output.old }
-    ensures done { IfOk result (AreDone task (stage_of R.Input W.Output input.old output.old)
+    ensures done { IfOk result (AreDone (answering task)
+        (stage_of R.Input W.Output input.old output.old)
         (record { input = Some []; output = W.contents output.new })) }
     ensures refused { IfErr result (λ s. (behind : Stage)
-        × WereAnswered task (stage_of R.Input W.Output input.old output.old) behind s
+        × WereAnswered (answering task) (stage_of R.Input W.Output input.old output.old) behind s
         × (IsWriteFault W.Output output.new s.fault
-        ⊎ EndsAfter task behind (stage_of R.Input W.Output input.new output.new)
+        ⊎ EndsAfter (answering task) behind (stage_of R.Input W.Output input.new output.new)
         (R.has_failed input.new) s)) }
     ensures exactly { IfErr result (λ s.
-        IsSomeAnd (R.remaining input.old) (CanBeAnswered task) → IsOfDevices s.fault) }
+        IsSomeAnd (R.remaining input.old) (CanBeAnswered (answering task)) → IsOfDevices s.fault) }
     ensures ended { OnOk result (RunsToEnd R.Input W.Output input.old input.new output.new) }
     ensures failed { IfErr result (λ s. R.has_failed input.new ≡ true
         → s.fault ≡ StreamError.Frame ReadFailed) }

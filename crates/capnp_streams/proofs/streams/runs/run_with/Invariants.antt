@@ -1,12 +1,13 @@
 use Rattle.std.proofs.Common.{◌≡◌, IsSome}
 use Rattle.std.specs.Option.{option_map_or}
 use Rattle.capnp_framing.specs.Wholeness.{KeepsWhole}
+use Rattle.capnp_streams.specs.Jobs.{answering}
 use Rattle.capnp_streams.specs.Streams.{AreDone, AreWorking, stage_of}
 use Rattle.capnp_streams.proofs.streams.runs.run_with.Given as goal
 
 abbrev pub invariant-loop-number : goal.invariant-loop-number
 invariant-loop-number g l = record {
-  done : AreDone l.task
+  done : AreDone (answering l.task)
       (stage_of g.R.Input g.W.Output l.fn.input l.fn.output)
       (stage_of g.R.Input g.W.Output l.input l.output)
       (record { messages = l.number; bytes = l.bytes; holds = l.holds });
