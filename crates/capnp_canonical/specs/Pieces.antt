@@ -15,6 +15,16 @@ next_place u =
     else if nat_eq u.place 4 then Count
     else Raw u.left
 
+-- The state at a place, with these zero bytes to come. A number that the place doesn't have is 0: so
+-- between two words, with no zero bytes to come, all numbers are 0.
+abbrev pub unpacking_at : ℕ → Place → Unpacking
+unpacking_at zeros Tag = record { zeros = zeros; left = 0; place = 0; bits = 0 }
+unpacking_at zeros (Kept bits left) = record { zeros = zeros; left = left; place = 1; bits = bits }
+unpacking_at zeros Zeros = record { zeros = zeros; left = 0; place = 2; bits = 0 }
+unpacking_at zeros (Whole left) = record { zeros = zeros; left = left; place = 3; bits = 0 }
+unpacking_at zeros Count = record { zeros = zeros; left = 0; place = 4; bits = 0 }
+unpacking_at zeros (Raw left) = record { zeros = zeros; left = left; place = 5; bits = 0 }
+
 -- What a call did: how many packed bytes it took, how many bytes it wrote to `to`, and how far the
 -- stream is unpacked now.
 abbrev pub written_piece : ℕ → ℕ → List ℕ → Unpacking → Piece

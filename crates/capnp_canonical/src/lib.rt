@@ -22,7 +22,7 @@ ghost use Rattle.capnp_packing.specs.Packing.{IsWhole, Packs, unpacked_bytes};
 ghost use Rattle.capnp_packing.specs.Pieces.{unpacked_piece};
 ghost use Rattle.capnp_canonical.specs.Calls.{FillsByNumber, InFrame, IsCopyOf, IsGranted, IsNumberWhere, RefusesBytes, RefusesMeaning, RefusesPacked, RefusesPrefix, RefusesRoom, TestIs, limits_of, no_fault};
 ghost use Rattle.capnp_canonical.specs.Validation.{ExtentIs, RefusesExtent, no_extent};
-ghost use Rattle.capnp_canonical.specs.Pieces.{next_place, written_piece};
+ghost use Rattle.capnp_canonical.specs.Pieces.{next_place, unpacking_at, written_piece};
 ghost use Rattle.capnp_canonical.specs.Locating.{PointerIs, no_pointer};
 ghost use Rattle.capnp_objects.specs.CanonicalFaults.{fault_reason_text};
 ghost use Rattle.capnp_canonical.specs.Numbers.{answer_name, answer_number, reason_number, wanted_room};
@@ -399,6 +399,7 @@ pub extern "C" fn capnp_canonical_unpack_piece(
 ) -> usize
     ensures piece { written_piece taken.new result to.new unpacking.new
         ≡ unpacked_piece (length to.old) unpacking.old.zeros (next_place unpacking.old) packed.now }
+    ensures state { unpacking.new ≡ unpacking_at unpacking.new.zeros (next_place unpacking.new) }
     ensures taken { taken.new ≤ length packed.now }
     ensures within { result ≤ length to.new }
 {

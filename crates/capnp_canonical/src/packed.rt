@@ -3,7 +3,7 @@ ghost use Rattle.std.specs.Prelude.{◌≡◌, ◌≤◌, length, take, drop, If
 ghost use Rattle.capnp_packing.specs.Packing.{IsWhole, Packs, unpacked_bytes};
 ghost use Rattle.capnp_packing.specs.Pieces.{unpacked_piece};
 ghost use Rattle.capnp_canonical.specs.Calls.{Fills, RefusesPacked};
-ghost use Rattle.capnp_canonical.specs.Pieces.{next_place, written_piece};
+ghost use Rattle.capnp_canonical.specs.Pieces.{next_place, unpacking_at, written_piece};
 
 use crate::refusal::Refusal;
 use capnp_framing::framing::FrameError;
@@ -30,6 +30,7 @@ impl Unpacking {
     fn of(zeros: u16, place: Place) -> Self
         ensures zeros { result.zeros ≡ zeros }
         ensures place { next_place result ≡ place }
+        ensures state { result ≡ unpacking_at zeros place }
     {
         let (number, left, bits): (u8, u16, u8) = match place {
             Place::Tag => (0, 0, 0),
@@ -98,6 +99,7 @@ pub fn unpack_further(
 ) -> usize
     ensures piece { written_piece taken.new result to.new unpacking.new
         ≡ unpacked_piece (length to.old) unpacking.old.zeros (next_place unpacking.old) packed.now }
+    ensures state { unpacking.new ≡ unpacking_at unpacking.new.zeros (next_place unpacking.new) }
     ensures taken { taken.new ≤ length packed.now }
     ensures within { result ≤ length to.new }
 {
