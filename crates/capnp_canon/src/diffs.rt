@@ -1,6 +1,8 @@
 //! Opens two inputs and compares their messages.
 
-ghost use Rattle.std.specs.Prelude.{◌≡◌, false};
+ghost use Rattle.std.specs.Prelude.{◌≡◌, false, IfOk};
+ghost use Rattle.capnp_streams.specs.Diffs.{diff_stage};
+ghost use Rattle.capnp_streams.specs.Forms.{IsComparedAs, form_of_options};
 
 use crate::BUFFER;
 use crate::inputs::{Unanswered, flush, report_refusal, report_unopened};
@@ -113,6 +115,9 @@ fn compare_inputs<L: BufferedInput + Drop, R: BufferedInput + Drop, W: BufferedO
     requires left { L.has_failed left ≡ false }
     requires right { R.has_failed right ≡ false }
     requires writes { W.has_failed output.old ≡ false }
+    ensures compared { IfOk result (IsComparedAs (form_of_options task.unpack task.from_flat)
+        task.limits (diff_stage L.Input R.Input W.Output left right output.old)
+        (W.contents output.new)) }
 {
     let alloc = rt.alloc();
     match task.input_form() {

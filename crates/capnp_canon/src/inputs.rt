@@ -1,7 +1,10 @@
 //! Opens each input of a run in turn, reads its messages and answers them, and reports on standard
 //! error which message can't be answered.
 
-ghost use Rattle.std.specs.Prelude.{◌≡◌, false};
+ghost use Rattle.std.specs.Prelude.{◌≡◌, Ok, false, IfErr, IfOk};
+ghost use Rattle.capnp_canon.specs.Asked.{asked_by, form_of_job};
+ghost use Rattle.capnp_streams.specs.Forms.{IsAnsweredAs};
+ghost use Rattle.capnp_streams.specs.Streams.{stage_of};
 
 use crate::BUFFER;
 use crate::lists::verify_all;
@@ -40,7 +43,9 @@ pub enum Job {
 
 impl Job {
     /// How the input is read.
-    fn input_form(self) -> InputForm {
+    fn input_form(self) -> InputForm
+        ensures { result ≡ form_of_job self }
+    {
         match self {
             Job::Answer(task) => task.input_form(),
             Job::Show(task) => task.input_form(),
@@ -224,6 +229,8 @@ fn run_job<R: BufferedInput + Drop, W: BufferedOutput>(
 ) -> Result<Summary, Stop>
     requires reads { R.has_failed input ≡ false }
     requires writes { W.has_failed output.old ≡ false }
+    ensures answered { IfOk result (IsAnsweredAs (form_of_job job) (asked_by job)
+        (stage_of R.Input W.Output input output.old) (W.contents output.new)) }
 {
     let alloc = rt.alloc();
     match job {
@@ -245,7 +252,9 @@ fn run_job<R: BufferedInput + Drop, W: BufferedOutput>(
 }
 
 /// The result of a run over one message, after its answer.
-fn summary_of_one(answered: Result<bool, StreamError>) -> Result<Summary, Stop> {
+fn summary_of_one(answered: Result<bool, StreamError>) -> Result<Summary, Stop>
+    ensures { IfOk result (λ summary. answered ≡ Ok summary.holds) }
+{
     match answered {
         Ok(holds) => Ok(Summary {
             messages: 1,
