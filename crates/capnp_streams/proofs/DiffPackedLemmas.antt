@@ -1,5 +1,5 @@
 -- What a run over the bytes of two packed inputs states about the packed bytes.
-use Rattle.std.proofs.Common.{◌≡◌, ◌⊎◌, inl, inr, ℕ, List, Bool, true, false, Option, Some, None, IfSome, refl, sym, ap, ap₂, subst, ◌∙◌}
+use Rattle.std.proofs.Common.{◌≡◌, inl, inr, ℕ, List, Bool, true, false, Option, Some, None, IfSome, refl, ap₂, subst}
 use Rattle.capnp_framing.specs.Wholeness.{KeepsWhole}
 use Rattle.capnp_framing.proofs.WholenessLemmas.{keeps_whole_both}
 use Rattle.capnp_packing.specs.Packing.{IsWhole, is_tag, place_at_end, whole_behind}

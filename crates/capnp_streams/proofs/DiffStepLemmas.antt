@@ -1,10 +1,9 @@
 -- Two messages are read and compared, or aren't.
-use Rattle.std.proofs.Common.{◌≡◌, ◌≢◌, ◌⊎◌, ◌↔◌, inl, inr, ◌≤◌, ◌<◌, ℕ, List, [], ◌∷◌, ◌++◌, Bool, true, false, Option, Some, None, length}
+use Rattle.std.proofs.Common.{◌≡◌, ◌≢◌, ◌↔◌, ◌≤◌, ◌<◌, ℕ, List, [], ◌∷◌, Bool, true, false, Option, Some, None, length}
 use Rattle.std.proofs.Common.{Result, Ok, Err, IfErr, IfOk, IfSome, refl, sym, ap, subst, ◌∙◌, arith, length-append}
 use Rattle.std.specs.Io.KnownBytes.{Appends, Consumes, IsAtEnd, Keeps}
 use Rattle.capnp_format.specs.Segments.{AreWords, Segments}
 use Rattle.capnp_arena.specs.declared.arena.reader_arena_impl.ReaderOptions.{ReaderOptions}
-use Rattle.capnp_framing.specs.Flat.{BeginsWithFrame}
 use Rattle.capnp_framing.specs.Frames.{IsFrameOf}
 use Rattle.capnp_framing.specs.Limits.{most_words}
 use Rattle.capnp_framing.specs.Reading.{total}
@@ -45,25 +44,31 @@ pub pair_compared : {W E : Type 0} (g : Ghosts W) (from to : W) (limits : Reader
     (◌≡◌ {A = Result Bool E} (Ok is_same) (Ok true) → IsUnwritten g from to) → (◌≡◌ {A = Result Bool E} (Ok is_same) (Ok false) → PrintsSome g from to) →
     PrintsAtMost g 67108864 from to →
     (text : List ℕ) × IsCompared limits (record { left = S; right = T }) is_same text × Prints g from to text
-pair_compared g from to limits S T true left right same unwritten told bounded =
-    ([], record {
-      left = left;
-      right = right;
-      same = same;
-      none = λ is. refl;
-      some = λ is. absurd (cc);
-      short = omega arith;
-    }, same_kept (g.contents from) (g.contents to) ((unwritten refl).0))
+pair_compared g from to limits S T true left right same unwritten told bounded = (
+  [],
+  record {
+    left = left;
+    right = right;
+    same = same;
+    none = λ is. refl;
+    some = λ is. absurd (cc);
+    short = omega arith;
+  },
+  same_kept (g.contents from) (g.contents to) ((unwritten refl).0),
+)
 pair_compared g from to limits S T false left right same unwritten told bounded =
-    let (text, some, short, written) = one_text (g.contents from) (g.contents to) (told refl) bounded in
-    (text, record {
-      left = left;
-      right = right;
-      same = same;
-      none = λ is. absurd (cc);
-      some = λ is. some;
-      short = short;
-    }, written)
+    let (text, some, short, written) = one_text (g.contents from) (g.contents to) (told refl) bounded in (
+      text,
+      record {
+        left = left;
+        right = right;
+        same = same;
+        none = λ is. absurd (cc);
+        some = λ is. some;
+        short = short;
+      },
+      written,
+    )
 
 -- or they aren't
 pub pair_refused : {W : Type 0} (g : Ghosts W) (from to : W) (limits : ReaderOptions) (number : ℕ) (S T : Segments) (fault : CompareFault) (left : IsReadable S limits) (right : IsReadable T limits) →

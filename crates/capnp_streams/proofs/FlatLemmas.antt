@@ -5,8 +5,6 @@ use Rattle.capnp_format.specs.Bytes.{message}
 use Rattle.capnp_framing.proofs.BareLemmas.{all_so, bare_words_are_read}
 use Rattle.capnp_framing.specs.Bare.{AreBareWords}
 use Rattle.capnp_framing.specs.declared.framing.frame_error.FrameError.TheVariants.{WriteFailed}
-use Rattle.capnp_words.specs.declared.error.ErrorKind.{ErrorKind}
-use Rattle.capnp_refusals.specs.declared.refusals.search.RefusedPointer.{RefusedPointer}
 use Rattle.capnp_streams.proofs.AnsweredLemmas.{job_refused}
 use Rattle.capnp_streams.specs.Asked.{RefusesAsked, pointer_asked}
 use Rattle.capnp_streams.specs.Flat.{CanFlatBeAnswered, IsFlatDone, StopsFlat}

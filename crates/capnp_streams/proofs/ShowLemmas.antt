@@ -1,7 +1,7 @@
 -- Why a message isn't shown.
-use Rattle.std.proofs.Common.{◌≡◌, ◌⊎◌, inl, inr, ℕ, List, Bool, Option, Some, None, refl, sym, subst}
+use Rattle.std.proofs.Common.{◌≡◌, ◌⊎◌, inl, inr, ℕ, List, Bool, Option, refl, sym, subst}
 use Rattle.std.specs.Io.KnownBytes.{Keeps}
-use Rattle.capnp_framing.specs.declared.framing.frame_error.FrameError.TheVariants.{AllocationFailed, WriteFailed}
+use Rattle.capnp_framing.specs.declared.framing.frame_error.FrameError.TheVariants.{AllocationFailed}
 use Rattle.capnp_streams.specs.Flat.{StopsFlat}
 use Rattle.capnp_streams.specs.Jobs.{showing}
 use Rattle.capnp_streams.specs.Streams.{StopsAt}

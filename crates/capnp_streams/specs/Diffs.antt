@@ -17,7 +17,7 @@ use Rattle.capnp_framing.specs.declared.devices.Output.{Ghosts as OutputGhosts}
 use Rattle.capnp_framing.specs.declared.framing.frame_error.FrameError.TheVariants.{ReadFailed, Truncated}
 use Rattle.capnp_messages.specs.Messages.{IsReadable}
 use Rattle.capnp_messages.specs.declared.messages.command.Command.TheVariants.{Validate}
-use Rattle.capnp_packing.specs.Packing.{IsWhole, unpacked_bytes}
+use Rattle.capnp_packing.specs.Packing.{IsWhole}
 use Rattle.capnp_packing.specs.declared.packing.place.Place.TheVariants.{Tag}
 use Rattle.capnp_show.specs.ShownParts.{HasShortLine}
 use Rattle.capnp_show.specs.declared.show.compare.CompareFault.{CompareFault}
@@ -38,7 +38,6 @@ use Rattle.capnp_streams.specs.declared.streams.diffs.Side.TheVariants.{Left, Ri
 use Rattle.capnp_streams.specs.declared.streams.runs.Stop.{Stop}
 use Rattle.capnp_streams.specs.declared.streams.stream_error.StreamError.{StreamError}
 use Rattle.capnp_streams.specs.declared.streams.stream_error.StreamError.TheVariants.{Frame, Layout}
-use Rattle.capnp_streams.specs.declared.streams.task.Task.{Task}
 
 -- Each input is read as `validate` reads it: a message that isn't sound is refused.
 abbrev pub validating : ReaderOptions → Job

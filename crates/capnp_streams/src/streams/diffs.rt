@@ -255,9 +255,11 @@ fn compare<W: Output>(
     ensures same { result ≡ Ok true → IsUnwritten W.Output output.old output.new }
     ensures works { OnOk result (W.has_failed output.new ≡ false) }
     ensures refused { IfErr result (WhyUncompared W.Output limits (record {
-        number = number; pair = pair_of
-        (⟦<OwnedSegments as ReaderSegments>⟧.segments read.now.left)
-        (⟦<OwnedSegments as ReaderSegments>⟧.segments read.now.right) }) output.old output.new) }
+      number = number;
+      pair = pair_of
+          (⟦<OwnedSegments as ReaderSegments>⟧.segments read.now.left)
+          (⟦<OwnedSegments as ReaderSegments>⟧.segments read.now.right);
+    }) output.old output.new) }
 {
     match compare_messages(alloc, limits, number, &read.left, &read.right, output) {
         Ok(is_same) => Ok(is_same),

@@ -52,89 +52,138 @@ pub enum DiffFault {
     WriteFailed,
 }
 
-/// The message of an input that was read last, and where the next one begins.
-struct Reading {
-    side: Side,
-    segments: OwnedSegments,
-    /// The number of messages before it.
-    answered: u64,
-    /// The total size of the frames before it, in bytes, at most `u64::MAX`.
-    byte: u64,
+/// The result for two messages that were compared.
+#[derive(Clone, Copy)]
+struct ComparedPair {
+    /// Whether their lines are equal.
+    is_same: bool,
+    /// The size of the first message's frame in bytes.
+    left_bytes: u64,
+    /// The same of the second one.
+    right_bytes: u64,
 }
 
-impl Reading {
-    /// Makes the reading of an input before its first message.
-    fn new(alloc: Global, side: Side) -> Self {
-        Reading {
-            side,
-            segments: OwnedSegments::new(alloc),
-            answered: 0,
-            byte: 0,
+/// What a step of a run did.
+#[derive(Clone, Copy)]
+enum DiffStep {
+    /// It compared two messages.
+    Pair(ComparedPair),
+    /// One of the inputs, or both, have no more messages; this one has.
+    Ended(Option<Side>),
+}
+
+/// The messages that were read last.
+struct MessagePair {
+    left: OwnedSegments,
+    right: OwnedSegments,
+}
+
+impl MessagePair {
+    /// Makes the messages of a run before its first step.
+    fn new(alloc: Global) -> Self {
+        MessagePair {
+            left: OwnedSegments::new(alloc),
+            right: OwnedSegments::new(alloc),
+        }
+    }
+}
+
+impl Compared {
+    /// The result before the first two messages.
+    fn none() -> Self {
+        Compared {
+            is_same: true,
+            messages: 0,
+            longer: None,
+            left_bytes: 0,
+            right_bytes: 0,
         }
     }
 
-    /// The fault if the message is refused.
-    fn refusal_for(&self, fault: StreamError) -> DiffFault {
+    /// The result after two more messages.
+    ///
+    /// # Preconditions
+    ///
+    /// ```text
+    /// requires { self.messages + 1 < 2 ^ 64 }
+    /// ```
+    fn with_pair(self, pair: ComparedPair) -> Self {
+        Compared {
+            is_same: self.is_same && pair.is_same,
+            messages: self.messages + 1,
+            longer: None,
+            left_bytes: self.left_bytes.saturating_add(pair.left_bytes),
+            right_bytes: self.right_bytes.saturating_add(pair.right_bytes),
+        }
+    }
+
+    /// The result at the end of the inputs, or of one if `longer` has more messages.
+    fn ended(self, longer: Option<Side>) -> Self {
+        Compared {
+            is_same: self.is_same && longer.is_none(),
+            longer,
+            ..self
+        }
+    }
+
+    /// The fault if the next message of this input is refused.
+    fn refusal(self, side: Side, fault: StreamError) -> DiffFault {
+        let byte = match side {
+            Side::Left => self.left_bytes,
+            Side::Right => self.right_bytes,
+        };
         DiffFault::Refused(
-            self.side,
+            side,
             Stop {
-                answered: self.answered,
-                byte: self.byte,
+                answered: self.messages,
+                byte,
                 fault,
             },
         )
     }
+}
 
-    /// Reads the next message, and tests whether it is sound. Returns `false` at the end of the
-    /// input.
-    ///
-    /// # Preconditions
-    ///
-    /// ```text
-    /// requires { R.has_failed input.old ≡ false }
-    /// ```
-    fn read_next<R: Input>(
-        &mut self,
-        limits: ReaderOptions,
-        input: &mut R,
-    ) -> Result<bool, DiffFault> {
-        match read_into(input, most_words(limits), &mut self.segments) {
-            Ok(true) => match validation_fault(&self.segments, limits) {
-                None => Ok(true),
-                Some(fault) => Err(self.refusal_for(fault)),
-            },
-            Ok(false) => Ok(false),
-            Err(error) => Err(self.refusal_for(StreamError::Frame(error))),
-        }
+/// Reads the next message of an input, and tests whether it is sound. Returns `false` at the end of
+/// the input.
+///
+/// # Preconditions
+///
+/// ```text
+/// requires { R.has_failed input.old ≡ false }
+/// ```
+fn read_next<R: Input>(
+    limits: ReaderOptions,
+    input: &mut R,
+    into: &mut OwnedSegments,
+) -> Result<bool, StreamError> {
+    match read_into(input, most_words(limits), into) {
+        Ok(true) => match unsound_fault(into, limits) {
+            None => Ok(true),
+            Some(fault) => Err(fault),
+        },
+        Ok(false) => Ok(false),
+        Err(error) => Err(StreamError::Frame(error)),
     }
+}
 
-    /// Reads the raw words of the one message of the input, and tests whether it is sound.
-    ///
-    /// # Preconditions
-    ///
-    /// ```text
-    /// requires { R.has_failed input.old ≡ false }
-    /// ```
-    fn read_flat<R: Input>(
-        &mut self,
-        limits: ReaderOptions,
-        input: &mut R,
-    ) -> Result<(), DiffFault> {
-        match read_segment_into(input, most_words(limits), &mut self.segments) {
-            Ok(()) => match validation_fault(&self.segments, limits) {
-                None => Ok(()),
-                Some(fault) => Err(self.refusal_for(fault)),
-            },
-            Err(error) => Err(self.refusal_for(StreamError::Frame(error))),
-        }
-    }
-
-    /// Notes that the message was compared.
-    fn count_message(&mut self) {
-        self.answered = self.answered.saturating_add(1);
-        self.byte = self
-            .byte
-            .saturating_add(self.segments.size_in_bytes() as u64);
+/// Reads the raw words of the one message of an input, and tests whether it is sound.
+///
+/// # Preconditions
+///
+/// ```text
+/// requires { R.has_failed input.old ≡ false }
+/// ```
+fn read_flat<R: Input>(
+    limits: ReaderOptions,
+    input: &mut R,
+    into: &mut OwnedSegments,
+) -> Result<(), StreamError> {
+    match read_segment_into(input, most_words(limits), into) {
+        Ok(()) => match unsound_fault(into, limits) {
+            None => Ok(()),
+            Some(fault) => Err(fault),
+        },
+        Err(error) => Err(StreamError::Frame(error)),
     }
 }
 
@@ -145,7 +194,7 @@ impl Reading {
 /// ```text
 /// requires { IsSmall (⟦<OwnedSegments as ReaderSegments>⟧.segments segments.now) }
 /// ```
-fn validation_fault(segments: &OwnedSegments, limits: ReaderOptions) -> Option<StreamError> {
+fn unsound_fault(segments: &OwnedSegments, limits: ReaderOptions) -> Option<StreamError> {
     match validate(segments, limits) {
         Ok(_) => None,
         Err(kind) => {
@@ -155,56 +204,101 @@ fn validation_fault(segments: &OwnedSegments, limits: ReaderOptions) -> Option<S
     }
 }
 
-/// Compares the messages that were read last.
+/// Compares two messages, which are sound. They are message `number` of their inputs.
 ///
 /// # Preconditions
 ///
 /// ```text
-/// requires left { IsSmall (⟦<OwnedSegments as ReaderSegments>⟧.segments left.now.segments) }
-/// requires right { IsSmall (⟦<OwnedSegments as ReaderSegments>⟧.segments right.now.segments) }
+/// requires left { IsSmall (⟦<OwnedSegments as ReaderSegments>⟧.segments read.now.left) }
+/// requires right { IsSmall (⟦<OwnedSegments as ReaderSegments>⟧.segments read.now.right) }
+/// requires left_sound { IsReadable
+///     (message (⟦<OwnedSegments as ReaderSegments>⟧.segments read.now.left)) limits }
+/// requires right_sound { IsReadable
+///     (message (⟦<OwnedSegments as ReaderSegments>⟧.segments read.now.right)) limits }
 /// requires works { W.has_failed output.old ≡ false }
 /// ```
 fn compare<W: Output>(
     alloc: Global,
     limits: ReaderOptions,
-    left: &Reading,
-    right: &Reading,
+    number: u64,
+    read: &MessagePair,
     output: &mut W,
 ) -> Result<bool, DiffFault> {
-    let number = left.answered.saturating_add(1);
-    match compare_messages(
-        alloc,
-        limits,
-        number,
-        &left.segments,
-        &right.segments,
-        output,
-    ) {
+    match compare_messages(alloc, limits, number, &read.left, &read.right, output) {
         Ok(is_same) => Ok(is_same),
-        Err(CompareFault::AllocationFailed) => Err(DiffFault::AllocationFailed),
-        Err(CompareFault::TooLong) => Err(DiffFault::TooLong(number)),
-        Err(CompareFault::WriteFailed) => Err(DiffFault::WriteFailed),
+        Err(fault) => Err(fault_of_message(number, fault)),
     }
 }
 
-/// Writes that only one input has message `number`.
+/// The fault of a run if message `number` of its inputs isn't compared.
+fn fault_of_message(number: u64, fault: CompareFault) -> DiffFault {
+    match fault {
+        CompareFault::AllocationFailed => DiffFault::AllocationFailed,
+        CompareFault::TooLong => DiffFault::TooLong(number),
+        CompareFault::WriteFailed => DiffFault::WriteFailed,
+    }
+}
+
+/// Reads the next message of each input, and compares them.
+///
+/// Precondition: `counts` says what was compared before.
+///
+/// # Preconditions
+///
+/// ```text
+/// requires works { AreAllWorking L.Input R.Input W.Output left.old right.old output.old }
+/// requires few { counts.messages + 1 < 2 ^ 64 }
+/// ```
+fn compare_next<L: Input, R: Input, W: Output>(
+    alloc: Global,
+    limits: ReaderOptions,
+    counts: Compared,
+    read: &mut MessagePair,
+    left: &mut L,
+    right: &mut R,
+    output: &mut W,
+) -> Result<DiffStep, DiffFault> {
+    let has_left = match read_next(limits, left, &mut read.left) {
+        Ok(has) => has,
+        Err(fault) => return Err(counts.refusal(Side::Left, fault)),
+    };
+    let has_right = match read_next(limits, right, &mut read.right) {
+        Ok(has) => has,
+        Err(fault) => return Err(counts.refusal(Side::Right, fault)),
+    };
+    if !has_left && !has_right {
+        return Ok(DiffStep::Ended(None));
+    }
+    if !has_left {
+        return Ok(DiffStep::Ended(Some(Side::Right)));
+    }
+    if !has_right {
+        return Ok(DiffStep::Ended(Some(Side::Left)));
+    }
+    match compare(alloc, limits, counts.messages + 1, &*read, output) {
+        Ok(is_same) => Ok(DiffStep::Pair(ComparedPair {
+            is_same,
+            left_bytes: read.left.size_in_bytes() as u64,
+            right_bytes: read.right.size_in_bytes() as u64,
+        })),
+        Err(fault) => Err(fault),
+    }
+}
+
+/// Writes the number of a message.
 ///
 /// # Preconditions
 ///
 /// ```text
 /// requires { W.has_failed output.old ≡ false }
 /// ```
-fn write_unmatched_message<W: Output>(
-    output: &mut W,
-    number: u64,
-    side: Side,
-) -> Result<(), DiffFault> {
-    match write_unmatched_line(output, number, side) {
-        Ok(()) => Ok(()),
-        Err(DeviceFault) => Err(DiffFault::WriteFailed),
-    }
+fn write_message_number<W: Output>(output: &mut W, number: u64) -> Result<(), DeviceFault> {
+    write_all(output, b"message ")?;
+    write_number(output, number)
 }
 
+/// Writes that only one input has message `number`.
+///
 /// # Preconditions
 ///
 /// ```text
@@ -215,15 +309,45 @@ fn write_unmatched_line<W: Output>(
     number: u64,
     side: Side,
 ) -> Result<(), DeviceFault> {
-    write_all(output, b"message ")?;
-    write_number(output, number)?;
-    write_all(
-        output,
-        match side {
-            Side::Left => b": only in the first file\n",
-            Side::Right => b": only in the second file\n",
-        },
-    )
+    write_message_number(output, number)?;
+    match side {
+        Side::Left => write_all(output, b": only in the first file\n"),
+        Side::Right => write_all(output, b": only in the second file\n"),
+    }
+}
+
+/// Writes that the input `longer`, if there is one, has message `number`.
+///
+/// # Preconditions
+///
+/// ```text
+/// requires { W.has_failed output.old ≡ false }
+/// ```
+fn write_end<W: Output>(
+    output: &mut W,
+    number: u64,
+    longer: Option<Side>,
+) -> Result<(), DeviceFault> {
+    match longer {
+        Some(side) => write_unmatched_line(output, number, side),
+        None => Ok(()),
+    }
+}
+
+/// Flushes the output, unless the next messages of both inputs are already in their buffers.
+///
+/// # Preconditions
+///
+/// ```text
+/// requires { W.has_failed output.old ≡ false }
+/// ```
+fn flush_before_reading<L: BufferedInput, R: BufferedInput, W: BufferedOutput>(
+    left: &L,
+    right: &R,
+    output: &mut W,
+) -> Result<(), DeviceFault> {
+    flush_before_waiting(left, output)?;
+    flush_before_waiting(right, output)
 }
 
 /// Compares each message of `left` with the message of the same number of `right`, and writes for
@@ -252,41 +376,22 @@ pub fn run_diff<L: BufferedInput, R: BufferedInput, W: BufferedOutput>(
     right: &mut R,
     output: &mut W,
 ) -> Result<Compared, DiffFault> {
-    let mut first = Reading::new(alloc, Side::Left);
-    let mut second = Reading::new(alloc, Side::Right);
-    let mut is_same = true;
+    let mut read = MessagePair::new(alloc);
+    let mut counts = Compared::none();
     for number in 1..u64::MAX {
-        if flush_before_waiting(left, output).is_err()
-            || flush_before_waiting(right, output).is_err()
-        {
+        if flush_before_reading(&*left, &*right, output).is_err() {
             return Err(DiffFault::WriteFailed);
         }
-        let longer = match (
-            first.read_next(task.limits, left)?,
-            second.read_next(task.limits, right)?,
-        ) {
-            (true, true) => {
-                if !compare(alloc, task.limits, &first, &second, output)? {
-                    is_same = false;
+        match compare_next(alloc, task.limits, counts, &mut read, left, right, output) {
+            Ok(DiffStep::Pair(pair)) => counts = counts.with_pair(pair),
+            Ok(DiffStep::Ended(longer)) => {
+                if write_end(output, number, longer).is_err() {
+                    return Err(DiffFault::WriteFailed);
                 }
-                first.count_message();
-                second.count_message();
-                continue;
+                return Ok(counts.ended(longer));
             }
-            (false, false) => None,
-            (true, false) => Some(Side::Left),
-            (false, true) => Some(Side::Right),
-        };
-        if let Some(side) = longer {
-            write_unmatched_message(output, number, side)?;
+            Err(fault) => return Err(fault),
         }
-        return Ok(Compared {
-            is_same: is_same && longer.is_none(),
-            messages: first.answered,
-            longer,
-            left_bytes: first.byte,
-            right_bytes: second.byte,
-        });
     }
     Err(DiffFault::TooLong(u64::MAX))
 }
@@ -312,30 +417,45 @@ pub fn run_diff_packed<L: Input, R: Input, W: BufferedOutput>(
     let mut left = UnpackingInput::new(left);
     let mut right = UnpackingInput::new(right);
     let compared = run_diff(alloc, task, &mut left, &mut right, output)?;
-    if compared.longer != Some(Side::Left) {
-        check_whole_at_end(
-            Side::Left,
-            compared.messages,
-            compared.left_bytes,
-            &mut left,
-        )?;
+    match check_ends(compared, &mut left, &mut right) {
+        Ok(()) => Ok(compared.is_same),
+        Err(fault) => Err(fault),
     }
-    if compared.longer != Some(Side::Right) {
-        check_whole_at_end(
-            Side::Right,
-            compared.messages,
-            compared.right_bytes,
-            &mut right,
-        )?;
+}
+
+/// Tests that the packed inputs that aren't longer aren't cut short after their last message.
+///
+/// # Preconditions
+///
+/// ```text
+/// requires { EndsRead compared.longer (⟦<UnpackingInput<L> as Input>⟧.remaining left.old)
+///     (⟦<UnpackingInput<R> as Input>⟧.remaining right.old) }
+/// ```
+fn check_ends<L: Input, R: Input>(
+    compared: Compared,
+    left: &mut UnpackingInput<L>,
+    right: &mut UnpackingInput<R>,
+) -> Result<(), DiffFault> {
+    match compared.longer {
+        Some(Side::Left) => check_whole_at_end(Side::Right, compared, right),
+        Some(Side::Right) => check_whole_at_end(Side::Left, compared, left),
+        None => {
+            check_whole_at_end(Side::Left, compared, left)?;
+            check_whole_at_end(Side::Right, compared, right)
+        }
     }
-    Ok(compared.is_same)
 }
 
 /// Tests that a packed input isn't cut short after its last message.
+///
+/// # Preconditions
+///
+/// ```text
+/// requires { IsAtEnd (⟦<UnpackingInput<R> as Input>⟧.remaining input.old) }
+/// ```
 fn check_whole_at_end<R: Input>(
     side: Side,
-    answered: u64,
-    byte: u64,
+    compared: Compared,
     input: &mut UnpackingInput<R>,
 ) -> Result<(), DiffFault> {
     let error = match input.is_whole_at_end() {
@@ -343,14 +463,7 @@ fn check_whole_at_end<R: Input>(
         Ok(false) => FrameError::Truncated,
         Err(DeviceFault) => FrameError::ReadFailed,
     };
-    Err(DiffFault::Refused(
-        side,
-        Stop {
-            answered,
-            byte,
-            fault: StreamError::Frame(error),
-        },
-    ))
+    Err(compared.refusal(side, StreamError::Frame(error)))
 }
 
 /// Compares the messages that both inputs hold as raw words, without a frame, like `run_diff`.
@@ -369,9 +482,12 @@ pub fn run_diff_flat<L: Input, R: Input, W: Output>(
     right: &mut R,
     output: &mut W,
 ) -> Result<bool, DiffFault> {
-    let mut first = Reading::new(alloc, Side::Left);
-    let mut second = Reading::new(alloc, Side::Right);
-    first.read_flat(task.limits, left)?;
-    second.read_flat(task.limits, right)?;
-    compare(alloc, task.limits, &first, &second, output)
+    let mut read = MessagePair::new(alloc);
+    if let Err(fault) = read_flat(task.limits, left, &mut read.left) {
+        return Err(Compared::none().refusal(Side::Left, fault));
+    }
+    if let Err(fault) = read_flat(task.limits, right, &mut read.right) {
+        return Err(Compared::none().refusal(Side::Right, fault));
+    }
+    compare(alloc, task.limits, 1, &read, output)
 }

@@ -1,4 +1,5 @@
 //! How a task reads its input.
+
 use super::task::{DiffTask, ShowTask, Task};
 
 /// How a task reads its input.

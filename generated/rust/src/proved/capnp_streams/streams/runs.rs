@@ -19,7 +19,8 @@ pub struct Summary {
     pub messages: u64,
     /// The total size of their frames in bytes, at most `u64::MAX`.
     pub bytes: u64,
-    /// For `Check`, whether every message is canonical; for any other command, always `true`.
+    /// For `Check`, whether every message is canonical; if messages are shown, whether each pointer
+    /// that was followed could be read; for any other command, always `true`.
     pub holds: bool,
 }
 
@@ -38,11 +39,12 @@ pub struct Stop {
 
 /// The result for one message that was answered.
 #[derive(Clone, Copy)]
-struct Answered {
-    /// For `Check`, whether the message is canonical; for any other command, `true`.
-    holds: bool,
+pub(super) struct Answered {
+    /// For `Check`, whether the message is canonical; if it is shown, whether each pointer that was
+    /// followed could be read; for any other command, `true`.
+    pub(super) holds: bool,
     /// The size of the message's frame in bytes.
-    bytes: u64,
+    pub(super) bytes: u64,
 }
 
 /// Returns the `Stop` whose fault is `error`, after the messages that `summary` counts.

@@ -1,6 +1,6 @@
 //! Shows each message of a stream.
 
-use super::runs::{stop_after, Stop, Summary};
+use super::runs::{stop_after, Answered, Stop, Summary};
 use super::stream_error::StreamError;
 use super::task::ShowTask;
 use crate::proved::capnp_arena::arena::ReaderSegments;
@@ -8,6 +8,7 @@ use crate::proved::capnp_framing::devices::{DeviceFault, Input, Output};
 use crate::proved::capnp_framing::framing::{
     most_words, read_into, read_segment_into, FrameError, OwnedSegments,
 };
+use crate::proved::capnp_objects::nesting::levels_left;
 use crate::proved::capnp_packing::buffered::{flush_before_waiting, BufferedInput, BufferedOutput};
 use crate::proved::capnp_packing::packing::UnpackingInput;
 use crate::proved::capnp_show::show::{show_message, ShowFault, Showing, MOST_BYTES};
@@ -33,7 +34,7 @@ fn show<S: ReaderSegments, W: Output>(
         json: task.json,
         values: task.values,
         colors: task.colors,
-        depth: task.depth.max(0) as u32,
+        depth: levels_left(task.depth),
     };
     let path = task.path.indexes();
     match show_message(alloc, showing, task.limits, number, path, segments, output) {
@@ -43,33 +44,54 @@ fn show<S: ReaderSegments, W: Output>(
     }
 }
 
-/// Reads message `number` and shows it. Flushes the output before, unless the message is already in
-/// the input's buffer. Returns `None` at the end of the input.
+/// Reads message `number` and shows it. Returns `None` at the end of the input.
 ///
 /// # Preconditions
 ///
 /// ```text
 /// requires { AreWorking R.Input W.Output input.old output.old }
 /// ```
-fn show_next<R: BufferedInput, W: BufferedOutput>(
+fn show_next<R: Input, W: Output>(
     alloc: Global,
     task: ShowTask,
     number: u64,
     input: &mut R,
     segments: &mut OwnedSegments,
     output: &mut W,
-) -> Result<Option<bool>, StreamError> {
-    if flush_before_waiting(input, output).is_err() {
-        return Err(StreamError::Frame(FrameError::WriteFailed));
-    }
+) -> Result<Option<Answered>, StreamError> {
     match read_into(input, most_words(task.limits), segments) {
         Ok(false) => Ok(None),
         Ok(true) => match show(alloc, task, number, &*segments, output) {
-            Ok(is_sound) => Ok(Some(is_sound)),
+            Ok(is_sound) => Ok(Some(Answered {
+                holds: is_sound,
+                bytes: segments.size_in_bytes() as u64,
+            })),
             Err(fault) => Err(fault),
         },
         Err(error) => Err(StreamError::Frame(error)),
     }
+}
+
+/// Flushes the output, unless message `number` is already in the input's buffer; then reads this
+/// message and shows it. Returns `None` at the end of the input.
+///
+/// # Preconditions
+///
+/// ```text
+/// requires { AreWorking R.Input W.Output input.old output.old }
+/// ```
+fn flush_and_show_next<R: BufferedInput, W: BufferedOutput>(
+    alloc: Global,
+    task: ShowTask,
+    number: u64,
+    input: &mut R,
+    segments: &mut OwnedSegments,
+    output: &mut W,
+) -> Result<Option<Answered>, StreamError> {
+    if flush_before_waiting(input, output).is_err() {
+        return Err(StreamError::Frame(FrameError::WriteFailed));
+    }
+    show_next(alloc, task, number, input, segments, output)
 }
 
 /// Shows each message of the input, a stream of frames, and writes the texts in the order of the
@@ -95,22 +117,22 @@ pub fn run_show<R: BufferedInput, W: BufferedOutput>(
     let mut segments = OwnedSegments::new(alloc);
     let mut bytes = 0u64;
     let mut holds = true;
-    for answered in 0..u64::MAX {
-        match show_next(alloc, task, answered + 1, input, &mut segments, output) {
+    for number in 0..u64::MAX {
+        match flush_and_show_next(alloc, task, number + 1, input, &mut segments, output) {
             Ok(None) => {
                 return Ok(Summary {
-                    messages: answered,
+                    messages: number,
                     bytes,
                     holds,
                 });
             }
-            Ok(Some(is_sound)) => {
-                bytes = bytes.saturating_add(segments.size_in_bytes() as u64);
-                holds &= is_sound;
+            Ok(Some(here)) => {
+                bytes = bytes.saturating_add(here.bytes);
+                holds &= here.holds;
             }
             Err(fault) => {
                 return Err(Stop {
-                    answered,
+                    answered: number,
                     byte: bytes,
                     fault,
                 });
@@ -140,13 +162,14 @@ pub fn run_show_packed<R: Input, W: BufferedOutput>(
     output: &mut W,
 ) -> Result<Summary, Stop> {
     let mut input = UnpackingInput::new(packed);
-    let summary = run_show(alloc, task, &mut input, output)?;
-    let error = match input.is_whole_at_end() {
-        Ok(true) => return Ok(summary),
-        Ok(false) => FrameError::Truncated,
-        Err(DeviceFault) => FrameError::ReadFailed,
-    };
-    Err(stop_after(summary, error))
+    match run_show(alloc, task, &mut input, output) {
+        Ok(summary) => match input.is_whole_at_end() {
+            Ok(true) => Ok(summary),
+            Ok(false) => Err(stop_after(summary, FrameError::Truncated)),
+            Err(DeviceFault) => Err(stop_after(summary, FrameError::ReadFailed)),
+        },
+        Err(stop) => Err(stop),
+    }
 }
 
 /// Shows the one message that the input holds as raw words, without a frame, like `run_flat` reads
