@@ -239,7 +239,7 @@ INLINE void mv64(u8 *to, const u8 *from) { u64 w0 = ld64(from); u64 w8 = ld64((f
 static const u8 g_static_0[1] = { 0 };
 static const u8 g_static_5[256] = { 152, 47, 138, 66, 145, 68, 55, 113, 207, 251, 192, 181, 165, 219, 181, 233, 91, 194, 86, 57, 241, 17, 241, 89, 164, 130, 63, 146, 213, 94, 28, 171, 152, 170, 7, 216, 1, 91, 131, 18, 190, 133, 49, 36, 195, 125, 12, 85, 116, 93, 190, 114, 254, 177, 222, 128, 167, 6, 220, 155, 116, 241, 155, 193, 193, 105, 155, 228, 134, 71, 190, 239, 198, 157, 193, 15, 204, 161, 12, 36, 111, 44, 233, 45, 170, 132, 116, 74, 220, 169, 176, 92, 218, 136, 249, 118, 82, 81, 62, 152, 109, 198, 49, 168, 200, 39, 3, 176, 199, 127, 89, 191, 243, 11, 224, 198, 71, 145, 167, 213, 81, 99, 202, 6, 103, 41, 41, 20, 133, 10, 183, 39, 56, 33, 27, 46, 252, 109, 44, 77, 19, 13, 56, 83, 84, 115, 10, 101, 187, 10, 106, 118, 46, 201, 194, 129, 133, 44, 114, 146, 161, 232, 191, 162, 75, 102, 26, 168, 112, 139, 75, 194, 163, 81, 108, 199, 25, 232, 146, 209, 36, 6, 153, 214, 133, 53, 14, 244, 112, 160, 106, 16, 22, 193, 164, 25, 8, 108, 55, 30, 76, 119, 72, 39, 181, 188, 176, 52, 179, 12, 28, 57, 74, 170, 216, 78, 79, 202, 156, 91, 243, 111, 46, 104, 238, 130, 143, 116, 111, 99, 165, 120, 20, 120, 200, 132, 8, 2, 199, 140, 250, 255, 190, 144, 235, 108, 80, 164, 247, 163, 249, 190, 242, 120, 113, 198 };
 static const u8 g_static_6[64] = { 128, 0, 0, 0, 0, 0, 0, 0, 0, 0, 0, 0, 0, 0, 0, 0, 0, 0, 0, 0, 0, 0, 0, 0, 0, 0, 0, 0, 0, 0, 0, 0, 0, 0, 0, 0, 0, 0, 0, 0, 0, 0, 0, 0, 0, 0, 0, 0, 0, 0, 0, 0, 0, 0, 0, 0, 0, 0, 0, 0, 0, 0, 0, 0 };
-static const u8 g_static_7[5] = "1.0.0";
+static const u8 g_static_7[5] = "1.1.0";
 static const u8 g_static_8[6] = "NoRoom";
 static const u8 g_static_9[9] = "NoMessage";
 static const u8 g_static_10[22] = "SegmentIsNotWholeWords";
@@ -355,6 +355,7 @@ static void sha2_block256_compress(u8 *a_1, u8 *a_2);
 static NEVER void capnp_messages_messages_whole_digest_digest_of_copy_0b_1636f703(u8 *a_1, u8 *a_2, u8 a_3, u64 a_4);
 static void capnp_messages_messages_whole_canonicalize_0bffad402b9f9127(u8 *a_1, u8 *a_2, u8 a_3, u64 a_4);
 static void capnp_messages_messages_canonical_copy_canonicalize_re_1a840a57(u8 *a_1, u8 *a_2, u8 *a_3);
+static void capnp_messages_messages_canonical_copy_canonicalize_to_a33e499b(u8 *a_1, u32 a_2, u64 a_3, u8 *a_4, u8 *a_5, u32 a_6);
 static void capnp_messages_messages_canonical_copy_allocate_root_a_37f0c9a9(u8 *a_1, u8 *a_2, u32 a_3);
 static NEVER COLD u8 std_alloc_vec_Vec_grow_amortized_22cacb0e3deea15e(u8 *a_1);
 static NEVER void capnp_copies_copy_copy_object_a062206830695632(u8 *a_1, u8 *a_2, u32 a_3, u32 a_4, u8 *a_5, u8 *a_6, u8 a_7);
@@ -370,6 +371,11 @@ static void capnp_making_zeroing_zero_pointers_c985307b501351a7(u8 *a_1, u32 a_2
 static void capnp_making_zeroing_zero_if_inside_c985307b501351a7(u8 *a_1, u32 a_2, u32 a_3, u64 a_4);
 static NEVER COLD void capnp_making_zeroing_zero_far_pads_c985307b501351a7(u8 *a_1, u64 a_2);
 static NEVER void capnp_copies_copy_children_copy_children_out_of_line_a_ed7c55cb(u8 *a_1, u8 *a_2, u32 a_3, u32 a_4, u8 *a_5, u32 a_6, u8 *a_7, u8 a_8);
+static void capnp_messages_messages_copy_size_add_value_1e87a151ef20e12e(u8 *a_1, u8 *a_2, u32 a_3, u32 a_4, u32 a_5, u8 *a_6);
+static u32 capnp_messages_messages_copy_size_object_words(u8 *a_1);
+static void capnp_messages_messages_copy_size_add_elements_1e87a151ef20e12e(u8 *a_1, u8 *a_2, u16 a_3, u16 a_4, u32 a_5, u32 a_6, u8 *a_7);
+static u32 capnp_messages_messages_copy_size_struct_words(u8 *a_1, u16 a_2, u16 a_3);
+static NEVER void capnp_messages_messages_copy_size_add_pointers_1e87a151ef20e12e(u8 *a_1, u8 *a_2, u32 a_3, u32 a_4, u32 a_5, u32 a_6, u8 *a_7);
 static struct s_p_i64 capnp_messages_messages_writing_canonical_bytes_a36f54_8211b040(u8 *a_1);
 static NEVER void capnp_arena_arena_builder_arena_impl_deallocate_others_70ba8108(u8 *a_1);
 static NEVER void core_slice_edits_mirror_88712faee6672b50(u8 *a_1, u8 *a_2, u64 a_3);
@@ -383,8 +389,12 @@ static NEVER void capnp_copies_copy_copy_object_16a328db692f51d4(u8 *a_1, u8 *a_
 static NEVER void capnp_copies_copy_children_copy_children_out_of_line_1_9222051e(u8 *a_1, u8 *a_2, u32 a_3, u32 a_4, u8 *a_5, u32 a_6, u8 *a_7, u8 a_8);
 static NEVER void capnp_messages_messages_whole_digest_digest_of_copy_93_5bac36ae(u8 *a_1, u8 *a_2, u8 a_3, u64 a_4);
 static void capnp_messages_messages_canonical_copy_canonicalize_re_52be4be5(u8 *a_1, u8 *a_2, u8 *a_3);
+static void capnp_messages_messages_canonical_copy_canonicalize_to_302fed18(u8 *a_1, u32 a_2, u64 a_3, u8 *a_4, u8 *a_5, u32 a_6);
 static NEVER void capnp_copies_copy_copy_object_254e276be25f6293(u8 *a_1, u8 *a_2, u32 a_3, u32 a_4, u8 *a_5, u8 *a_6, u8 a_7);
 static NEVER void capnp_copies_copy_children_copy_children_out_of_line_2_29c958c2(u8 *a_1, u8 *a_2, u32 a_3, u32 a_4, u8 *a_5, u32 a_6, u8 *a_7, u8 a_8);
+static void capnp_messages_messages_copy_size_add_value_9fb2c9fcfadbb7fb(u8 *a_1, u8 *a_2, u32 a_3, u32 a_4, u32 a_5, u8 *a_6);
+static void capnp_messages_messages_copy_size_add_elements_9fb2c9fcfadbb7fb(u8 *a_1, u8 *a_2, u16 a_3, u16 a_4, u32 a_5, u32 a_6, u8 *a_7);
+static NEVER void capnp_messages_messages_copy_size_add_pointers_9fb2c9fcfadbb7fb(u8 *a_1, u8 *a_2, u32 a_3, u32 a_4, u32 a_5, u32 a_6, u8 *a_7);
 static void capnp_messages_messages_path_read_part_2204359a6e9fa1dc(u8 *a_1, u8 *a_2, u8 *a_3, u64 a_4, u8 *a_5);
 static NEVER void capnp_messages_messages_part_digest_digest_of_part_cop_7f945947(u8 *a_1, u8 *a_2, u8 *a_3, u64 a_4, u8 a_5, u64 a_6);
 static void capnp_refusals_refusals_search_search_object_1e87a151ef20e12e(u8 *a_1, u8 a_2, u8 a_3, u8 *a_4, u32 a_5, u32 a_6, u8 *a_7);
@@ -454,8 +464,12 @@ static NEVER void capnp_copies_copy_children_copy_children_out_of_line_7_a11106f
 static NEVER void capnp_canonical_calls_copy_on_heap_767a861cc050e0a5(u8 *a_1, u8 *a_2, u8 a_3, u64 a_4, u8 *a_5, u64 a_6);
 static void capnp_messages_messages_whole_canonicalize_7a947658af00c805(u8 *a_1, u8 *a_2, u8 a_3, u64 a_4);
 static void capnp_messages_messages_canonical_copy_canonicalize_re_e0e98643(u8 *a_1, u8 *a_2, u8 *a_3);
+static void capnp_messages_messages_canonical_copy_canonicalize_to_d080ea25(u8 *a_1, u32 a_2, u64 a_3, u8 *a_4, u8 *a_5, u32 a_6);
 static NEVER void capnp_copies_copy_copy_object_b6c0503bf8b72334(u8 *a_1, u8 *a_2, u32 a_3, u32 a_4, u8 *a_5, u8 *a_6, u8 a_7);
 static NEVER void capnp_copies_copy_children_copy_children_out_of_line_b_1b5716fc(u8 *a_1, u8 *a_2, u32 a_3, u32 a_4, u8 *a_5, u32 a_6, u8 *a_7, u8 a_8);
+static void capnp_messages_messages_copy_size_add_value_4d6e045afdcb38e0(u8 *a_1, u8 *a_2, u32 a_3, u32 a_4, u32 a_5, u8 *a_6);
+static void capnp_messages_messages_copy_size_add_elements_4d6e045afdcb38e0(u8 *a_1, u8 *a_2, u16 a_3, u16 a_4, u32 a_5, u32 a_6, u8 *a_7);
+static NEVER void capnp_messages_messages_copy_size_add_pointers_4d6e045afdcb38e0(u8 *a_1, u8 *a_2, u32 a_3, u32 a_4, u32 a_5, u32 a_6, u8 *a_7);
 static void capnp_messages_messages_path_read_part_767a861cc050e0a5(u8 *a_1, u8 *a_2, u8 *a_3, u64 a_4, u8 *a_5);
 static NEVER void capnp_canonical_parts_copy_part_on_heap_767a861cc050e0a5(u8 *a_1, u8 *a_2, u8 *a_3, u64 a_4, u8 a_5, u64 a_6, u8 *a_7, u64 a_8);
 static void capnp_messages_messages_canonical_copy_canonicalize_re_63622a58(u8 *a_1, u8 *a_2, u8 *a_3, u8 a_4, u64 a_5);
@@ -8685,10 +8699,9 @@ static void capnp_messages_messages_whole_canonicalize_0bffad402b9f9127(u8 *a_1,
     st64(slot_3, 1ull);
     st64(r_x5, (a_4 + 0xffffffffffffffffull));
 l_arm_3f:;
+    u8 *t_5q = (slot_2 + 64);
     u32 r_yf = ld32(away(a_2, 176ull));
     u8 *r_2b = away(ldp(away(a_2, 24ull)), (u64)(ld64(away(a_2, 40ull)) << 3ull));
-    memset(slot_1, 0u, 112);
-    u8 *t_5q = (slot_2 + 64);
     memset(t_5q, 0u, 16);
     st64((slot_2 + 16), (u64)(uptr)a_2);
     memset((slot_2 + 24), 0u, 16);
@@ -8729,104 +8742,279 @@ l_join_6f:;
 /* capnp_messages::messages::canonical_copy::canonicalize_reached::<#4b3bb88258272932> */
 static void capnp_messages_messages_canonical_copy_canonicalize_re_1a840a57(u8 *a_1, u8 *a_2, u8 *a_3)
 {
+    A(8) u8 slot_1[24];
+    A(8) u8 slot_2[64];
+    A(8) u8 slot_3[64];
+    A(8) u8 slot_4[24];
+    A(8) u8 slot_5[32];
+    A(1) u8 slot_6[7];
+    A(8) u8 slot_7[16];
+    A(8) u8 slot_8[112];
+    A(8) u8 slot_9[80];
+    A(1) u8 slot_10[7];
+    A(8) u8 slot_11[16];
+    A(8) u8 slot_12[112];
+    A(8) u8 slot_13[80];
+    A(8) u8 slot_14[72];
+    u8 r_dh;
+    u64 r_eg;
+    u8 r_dd;
+    u8 *r_h5;
+    u8 *r_rv;
+    u64 r_qw;
+    u64 r_qw_1;
+    u8 *r_su;
+    u32 r_5k;
+    u32 r_5k_1;
+    u32 r_5k_2;
+    u32 r_5k_3;
+    u16 r_br;
+    u16 r_br_1;
+    u32 r_5k_4;
+    u32 t_1v;
+    u8 *r_x5_1;
+    u8 r_r5;
+    u32 r_z4_2;
+    u64 r_38_2;
+    u8 *t_6c;
+    u8 *t_6c_1;
+    u32 r_28;
+    u32 r_uq_3;
+    u8 r_r5_1;
+    u32 r_uq_4;
+    u64 r_38_3;
+    u32 r_1v;
+    u64 r_vf;
+    u32 r_li;
+    u32 r_09;
+    u64 r_9g;
+    u32 r_ze;
+    u32 r_s2;
+    u64 r_z6;
+    u64 r_6f;
+    u32 r_3l;
+    u32 r_rk;
+    u64 r_7q;
+    u32 r_yr;
+    u32 r_c1;
+    u64 r_g3;
+    r_dh = ld8(a_2);
+    r_eg = (u64)r_dh;
+    r_dd = ld8(away(a_2, 8ull));
+    r_h5 = away(a_2, 9ull);
+    r_rv = ldp(away(a_2, 16ull));
+    r_qw = ld64(away(a_2, 24ull));
+    r_qw_1 = ld64(away(a_2, 32ull));
+    r_su = away(a_2, 40ull);
+    r_5k = ld32(away(a_2, 56ull));
+    r_5k_1 = ld32(away(a_2, 60ull));
+    r_5k_2 = ld32(away(a_2, 64ull));
+    r_5k_3 = ld32(away(a_2, 68ull));
+    r_br = ld16(away(a_2, 72ull));
+    r_br_1 = ld16(away(a_2, 74ull));
+    r_5k_4 = ld32(away(a_2, 76ull));
+    memset(slot_12, 0u, 112);
+    memset(slot_14, 0u, 72);
+    mv7(slot_10, r_h5);
+    mv16(slot_11, r_su);
+    if (!(r_dd == 0u)) { t_1v = 1u; goto l_capnp_dd; }
+    u64 r_52 = ld64(away(r_rv, 184ull));
+    t_1v = ((r_52 < 0x1fffffffull) ? ((u32)r_52 + 1u) : 0x1fffffffu);
+l_capnp_dd:;
+    st64(slot_13, r_eg);
+    st8((slot_13 + 8), r_dd);
+    mv7((slot_13 + 9), r_h5);
+    stp((slot_13 + 16), r_rv);
+    st64((slot_13 + 24), r_qw);
+    st64((slot_13 + 32), r_qw_1);
+    mv16((slot_13 + 40), r_su);
+    st32((slot_13 + 56), r_5k);
+    st32((slot_13 + 60), r_5k_1);
+    st32((slot_13 + 64), r_5k_2);
+    st32((slot_13 + 68), r_5k_3);
+    st16((slot_13 + 72), r_br);
+    st16((slot_13 + 74), r_br_1);
+    st32((slot_13 + 76), r_5k_4);
+    capnp_messages_messages_canonical_copy_canonicalize_to_a33e499b(slot_12, 0u, 0ull, slot_13, a_3, t_1v);
+    r_x5_1 = (slot_12 + 8);
+    if (!(ld8(slot_12) == 0u)) goto l_arm_5e;
+    u32 r_z4 = ld32(r_x5_1);
+    u32 r_uq = ld32((slot_12 + 12));
+    u64 r_38 = ld64((slot_12 + 16));
+    u32 r_z4_1 = ld32((slot_12 + 24));
+    u32 r_uq_1 = ld32((slot_12 + 28));
+    u64 r_38_1 = ld64((slot_12 + 32));
+    memcpy(slot_14, (slot_12 + 40), 72);
+    r_6f = 0ull;
+    r_3l = r_z4;
+    r_rk = r_uq;
+    r_7q = r_38;
+    r_yr = r_z4_1;
+    r_c1 = r_uq_1;
+    r_g3 = r_38_1;
+    goto l_join_6f;
+l_arm_5e:;
+    r_r5 = ld8(r_x5_1);
+    r_z4_2 = ld32((slot_12 + 24));
+    r_38_2 = ld64((slot_12 + 32));
+    if ((t_1v != 0x1fffffffu) ? (r_r5 == 27u) : 0u) goto l_after_xs;
+    goto l_join_2x;
+l_common_68:;
+    return;
+l_join_2x:;
+    u32 r_uq_2 = ld32((slot_12 + 28));
+    u64 t_38 = ld64((slot_12 + 16));
+    u32 t_uq = ld32((slot_12 + 12));
+    st64(a_1, 1ull);
+    st32(away(a_1, 8ull), (u32)r_r5);
+    st32(away(a_1, 12ull), t_uq);
+    st64(away(a_1, 16ull), t_38);
+    st32(away(a_1, 24ull), r_z4_2);
+    st32(away(a_1, 28ull), r_uq_2);
+    st64(away(a_1, 32ull), r_38_2);
+    memset(away(a_1, 40ull), 0u, 72);
+    goto l_common_68;
+l_after_xs:;
+    mv7(slot_6, slot_10);
+    mv16(slot_7, slot_11);
+    memset(slot_8, 0u, 112);
+    memset(slot_9, 0u, 80);
+    t_6c = (slot_2 + 56);
+    u8 r_dh_1 = ld8(a_3);
+    u64 r_qw_2 = ld64(away(a_3, 8ull));
+    st64(t_6c, 0ull);
+    t_6c_1 = (slot_3 + 56);
+    st64(t_6c_1, 0ull);
+    memset(slot_4, 0u, 24);
+    st64(slot_1, (u64)r_dh_1);
+    st64((slot_1 + 8), r_qw_2);
+    st64((slot_1 + 16), 0ull);
+    if (!(r_dh == 0u)) goto l_arm_cw;
+    st64(slot_2, (u64)r_dd);
+    stp((slot_2 + 8), r_rv);
+    st64((slot_2 + 16), r_qw);
+    st64((slot_2 + 24), r_qw_1);
+    mv16((slot_2 + 32), slot_11);
+    st32((slot_2 + 48), r_5k);
+    st32((slot_2 + 52), r_5k_1);
+    st32(t_6c, r_5k_2);
+    capnp_messages_messages_copy_size_add_value_1e87a151ef20e12e(slot_4, slot_2, r_5k, r_5k_2, 1u, slot_1);
+    goto l_capnp_x0;
+l_arm_cw:;
+    st64(slot_5, r_qw_1);
+    mv16((slot_5 + 8), slot_11);
+    st32((slot_5 + 24), r_5k);
+    st32((slot_5 + 28), r_5k_1);
+    r_28 = capnp_messages_messages_copy_size_struct_words(slot_5, r_br, r_br_1);
+    if (!(r_28 > 0x1ffffffeu)) goto l_arm_u5;
+    r_1v = 0x1fffffffu;
+    goto l_arm_dd;
+l_arm_u5:;
+    u32 r_w0 = (r_5k + (u32)r_br);
+    st64(slot_3, (u64)r_dd);
+    stp((slot_3 + 8), r_rv);
+    st64((slot_3 + 16), r_qw);
+    st64((slot_3 + 24), r_qw_1);
+    mv16((slot_3 + 32), slot_11);
+    st32((slot_3 + 48), r_w0);
+    st32((slot_3 + 52), 0u);
+    st32(t_6c_1, r_5k_2);
+    capnp_messages_messages_copy_size_add_pointers_1e87a151ef20e12e(slot_4, slot_3, r_w0, (u32)r_br_1, r_5k_2, (r_28 + 1u), slot_1);
+l_capnp_x0:;
+    r_uq_3 = ld32((slot_4 + 4));
+    r_r5_1 = ld8((slot_4 + 8));
+    r_uq_4 = ld32((slot_4 + 12));
+    r_38_3 = ld64((slot_4 + 16));
+    if (!(ld8(slot_4) == 0u)) goto l_arm_1b;
+    r_1v = umin32(r_uq_3, 0x1fffffffu);
+    goto l_arm_dd;
+l_arm_1b:;
+    if (r_r5_1 == 27u) { r_1v = 0x1fffffffu; goto l_arm_dd; }
+    goto l_arm_cz;
+l_arm_dd:;
+    st64(slot_9, r_eg);
+    st8((slot_9 + 8), r_dd);
+    mv7((slot_9 + 9), slot_6);
+    stp((slot_9 + 16), r_rv);
+    st64((slot_9 + 24), r_qw);
+    st64((slot_9 + 32), r_qw_1);
+    mv16((slot_9 + 40), slot_7);
+    st32((slot_9 + 56), r_5k);
+    st32((slot_9 + 60), r_5k_1);
+    st32((slot_9 + 64), r_5k_2);
+    st32((slot_9 + 68), r_5k_3);
+    st16((slot_9 + 72), r_br);
+    st16((slot_9 + 74), r_br_1);
+    st32((slot_9 + 76), r_5k_4);
+    capnp_messages_messages_canonical_copy_canonicalize_to_a33e499b(slot_8, r_z4_2, r_38_2, slot_9, a_3, r_1v);
+    r_vf = ld64((slot_8 + 32));
+    r_li = ld32((slot_8 + 28));
+    r_09 = ld32((slot_8 + 24));
+    r_9g = ld64((slot_8 + 16));
+    r_ze = ld32((slot_8 + 12));
+    r_s2 = ld32((slot_8 + 8));
+    r_z6 = (u64)ld8(slot_8);
+    goto l_capnp_7n;
+l_arm_cz:;
+    r_vf = r_38_2;
+    r_li = 0u;
+    r_09 = r_z4_2;
+    r_9g = r_38_3;
+    r_ze = r_uq_4;
+    r_s2 = (u32)r_r5_1;
+    r_z6 = 1ull;
+l_capnp_7n:;
+    memcpy(slot_14, (slot_8 + 40), 72);
+    r_6f = r_z6;
+    r_3l = r_s2;
+    r_rk = r_ze;
+    r_7q = r_9g;
+    r_yr = r_09;
+    r_c1 = r_li;
+    r_g3 = r_vf;
+l_join_6f:;
+    st64(a_1, r_6f);
+    st32(away(a_1, 8ull), r_3l);
+    st32(away(a_1, 12ull), r_rk);
+    st64(away(a_1, 16ull), r_7q);
+    st32(away(a_1, 24ull), r_yr);
+    st32(away(a_1, 28ull), r_c1);
+    st64(away(a_1, 32ull), r_g3);
+    memcpy(away(a_1, 40ull), slot_14, 72);
+    goto l_common_68;
+}
+
+/* capnp_messages::messages::canonical_copy::canonicalize_to_message::<#4b3bb88258272932> */
+static void capnp_messages_messages_canonical_copy_canonicalize_to_a33e499b(u8 *a_1, u32 a_2, u64 a_3, u8 *a_4, u8 *a_5, u32 a_6)
+{
     A(8) u8 slot_1[1];
     A(8) u8 slot_2[32];
     A(8) u8 slot_3[64];
     A(8) u8 slot_4[64];
     A(8) u8 slot_5[24];
-    A(8) u8 slot_6[104];
-    A(8) u8 slot_7[96];
-    A(8) u8 slot_8[24];
-    A(1) u8 slot_9[7];
-    A(1) u8 slot_10[7];
+    A(1) u8 slot_6[7];
+    A(1) u8 slot_7[23];
+    A(8) u8 slot_8[104];
+    A(8) u8 slot_9[96];
+    A(8) u8 slot_10[24];
     A(1) u8 slot_11[7];
     u8 r_dh;
     u8 r_dd;
-    u8 *r_rv;
     u64 r_qw;
+    u8 *r_rv;
     u64 r_qw_1;
-    u8 *r_rv_1;
-    u64 r_qw_2;
     u32 r_5k;
     u32 r_5k_1;
     u32 r_5k_2;
     u16 r_br;
     u16 r_br_1;
-    u32 t_q9;
-    u8 *r_ix;
     u8 *r_x5;
     u8 *r_zd;
     u8 *r_lk;
     u8 *r_a8;
-    u8 *r_c4;
     u8 *r_l1;
     u8 *r_k5;
-    u8 *r_x5_1;
-    u8 *r_89;
-    u8 *r_rq_1;
-    u8 *r_x5_2;
-    u8 *r_zd_1;
-    u8 t_0c_1;
-    u64 r_eg;
-    u64 r_u7;
-    u64 r_z6;
-    u8 *r_2b;
-    u8 r_c6;
-    u8 *r_l7;
-    u64 r_u7_1;
-    u64 r_z6_2;
-    u8 *r_2b_1;
-    u8 r_c6_1;
-    u8 *r_l7_1;
-    u8 *r_zd_2;
-    u64 r_tz;
-    u8 *t_6c;
-    u32 r_w0;
-    u8 *r_x5_3;
-    u8 *r_zd_3;
-    u8 *r_lk_1;
-    u8 *r_89_1;
-    u8 *r_a8_1;
-    u8 *r_c4_1;
-    u8 *r_bk;
-    u8 *r_x5_4;
-    u8 *r_k0;
-    u8 *r_zd_4;
-    u8 *r_x5_5;
-    u8 *r_zd_5;
-    u8 *r_lk_2;
-    u8 *r_89_2;
-    u8 *r_a8_2;
-    u8 *r_c4_2;
-    u8 *r_bk_1;
-    u8 *t_6c_1;
-    u8 *r_k0_1;
-    u8 *r_zd_6;
-    u8 *r_x5_6;
-    u8 *r_x5_7;
-    u8 *r_lk_3;
-    u8 *r_a8_3;
-    u8 *r_c4_3;
-    u8 *r_6c;
-    u8 *r_5q;
-    u8 *r_1e;
-    u8 *r_l1_1;
-    u8 *r_k5_1;
-    u8 *r_x5_8;
-    u8 *r_zd_7;
-    u8 *r_x5_9;
-    u8 *r_k0_2;
-    u8 *r_zd_8;
-    u8 *r_89_3;
-    u8 *r_6c_1;
-    u8 *r_1e_1;
-    u8 *r_2e;
-    u8 *r_x5_10;
-    u8 *r_zd_9;
-    u32 r_m4;
-    u32 r_uc;
-    u64 r_tp_1;
-    u8 r_r5;
+    u32 r_cf;
     u32 r_uq;
     u64 r_38;
     u8 *r_xw;
@@ -8848,19 +9036,33 @@ static void capnp_messages_messages_canonical_copy_canonicalize_re_1a840a57(u8 *
     u8 *r_a7_4;
     u32 r_z4_1;
     u64 r_38_7;
-    u64 r_es;
+    u8 *r_x5_4;
+    u8 *r_89_1;
+    u8 *r_rq_2;
+    u64 r_7l;
+    u8 *r_x5_5;
+    u8 *r_zd_4;
+    u64 r_eg_1;
     u8 r_r5_2;
     u32 r_uq_1;
     u64 r_38_8;
     u8 r_r5_3;
     u8 *r_lz_1;
-    u64 r_qw_5;
-    u8 r_2b_3;
+    u64 r_qw_4;
+    u8 r_2b_1;
     u32 r_qh;
     u64 r_ip;
+    u8 *t_b9_1;
+    u64 r_u7;
+    u64 r_lc;
+    u64 r_z6;
+    u8 *r_2b_2;
     u64 r_nm;
     u64 r_nm_1;
-    u64 r_wx;
+    u64 r_hk;
+    u64 r_u7_1;
+    u64 r_z6_4;
+    u8 *r_2b_3;
     u64 r_nm_2;
     u64 r_nm_3;
     u64 r_zw;
@@ -8871,7 +9073,8 @@ static void capnp_messages_messages_canonical_copy_canonicalize_re_1a840a57(u8 *
     u8 *r_3q;
     u32 r_yf;
     u64 r_24_1;
-    u32 r_ff_1;
+    u32 r_ff;
+    u64 r_52_1;
     struct s_i8_i32 r_kj;
     u64 r_1k;
     u64 r_61;
@@ -8883,6 +9086,7 @@ static void capnp_messages_messages_canonical_copy_canonicalize_re_1a840a57(u8 *
     u64 r_0l;
     u8 *r_2b_6;
     u64 r_il;
+    u8 *t_6c_1;
     u8 r_2b_7;
     u8 r_qh_1;
     u32 r_ip_1;
@@ -8891,26 +9095,29 @@ static void capnp_messages_messages_canonical_copy_canonicalize_re_1a840a57(u8 *
     u8 r_45;
     u32 r_h0;
     u64 r_r1;
-    u8 r_jk;
-    u32 r_au;
-    u64 r_km;
-    u64 r_03;
-    u8 r_cn;
-    u8 r_e6_1;
-    u32 r_3k;
-    u64 r_4i;
-    u64 r_49;
+    u8 r_ld;
+    u32 r_2q;
+    u64 r_gy;
+    u8 r_py;
+    u8 r_ub;
+    u32 r_zx;
+    u64 r_93;
+    u64 r_pp;
+    u32 r_cf_1;
+    u64 r_38_12;
+    u32 t_wt;
+    u32 t_u2;
+    u64 r_38_13;
     u64 r_38_14;
-    u64 r_38_15;
     u8 *r_xw_3;
+    u64 r_38_15;
     u64 r_38_16;
     u64 r_38_17;
-    u64 r_38_18;
     u8 r_r5_7;
-    u8 *r_xw_4;
-    u64 r_38_19;
-    u64 r_38_20;
     u8 *r_k2;
+    u8 *r_xw_4;
+    u64 r_38_18;
+    u64 r_38_19;
     u8 *r_08_1;
     u64 r_52_3;
     u64 r_3i_1;
@@ -8920,142 +9127,82 @@ static void capnp_messages_messages_canonical_copy_canonicalize_re_1a840a57(u8 *
     u8 *t_f6;
     u64 t_gg_1;
     u64 r_ax_1;
-    u64 r_du_2;
+    u64 r_du_1;
     u64 r_zn_2;
     u64 r_8n;
     u64 r_zn_3;
     u8 *r_w6_4;
-    u64 r_z5;
-    u32 r_nu;
-    u64 r_6n;
-    u32 r_jq;
-    u8 r_yl;
-    r_dh = ld8(a_2);
-    r_dd = ld8(away(a_2, 8ull));
-    r_rv = ldp(away(a_2, 16ull));
-    r_qw = ld64(away(a_2, 24ull));
-    r_qw_1 = ld64(away(a_2, 32ull));
-    r_rv_1 = ldp(away(a_2, 40ull));
-    r_qw_2 = ld64(away(a_2, 48ull));
-    r_5k = ld32(away(a_2, 56ull));
-    r_5k_1 = ld32(away(a_2, 60ull));
-    r_5k_2 = ld32(away(a_2, 64ull));
-    r_br = ld16(away(a_2, 72ull));
-    r_br_1 = ld16(away(a_2, 74ull));
-    memset(slot_10, 0u, 7);
+    u8 *r_b2;
+    u64 r_5h_1;
+    u64 r_hs;
+    u64 r_wi;
+    u8 *r_4m;
+    u64 r_eu;
+    u64 r_sb;
+    u8 r_ds;
+    u64 r_q3;
+    u32 r_b4;
+    u32 r_7d;
+    u64 r_ta;
+    u32 r_37;
+    u32 r_jn;
+    u64 r_dq;
+    r_dh = ld8(a_4);
+    r_dd = ld8(away(a_4, 8ull));
+    mv23(slot_7, away(a_4, 9ull));
+    r_qw = ld64(away(a_4, 32ull));
+    r_rv = ldp(away(a_4, 40ull));
+    r_qw_1 = ld64(away(a_4, 48ull));
+    r_5k = ld32(away(a_4, 56ull));
+    r_5k_1 = ld32(away(a_4, 60ull));
+    r_5k_2 = ld32(away(a_4, 64ull));
+    r_br = ld16(away(a_4, 72ull));
+    r_br_1 = ld16(away(a_4, 74ull));
+    memset(slot_6, 0u, 7);
+    memset(slot_9, 0u, 96);
+    memset(slot_10, 0u, 24);
     memset(slot_11, 0u, 7);
-    if (!(r_dd == 0u)) { t_q9 = 1u; goto l_capnp_rs; }
-    u64 r_52 = ld64(away(r_rv, 184ull));
-    t_q9 = ((r_52 < 0x1fffffffull) ? ((u32)r_52 + 1u) : 0x1fffffffu);
-l_capnp_rs:;
-    r_ix = (slot_6 + 4);
-    r_x5 = (slot_6 + 8);
-    r_zd = (slot_6 + 16);
-    r_lk = (slot_6 + 24);
-    r_a8 = (slot_6 + 40);
-    r_c4 = (slot_6 + 48);
-    r_l1 = (slot_6 + 80);
-    r_k5 = (slot_6 + 88);
-    r_x5_1 = (slot_7 + 8);
-    r_89 = (slot_7 + 32);
-    r_rq_1 = away(a_3, 8ull);
-    r_x5_2 = (slot_5 + 8);
-    r_zd_1 = (slot_5 + 16);
-    t_0c_1 = (r_dh == 0u);
-    r_eg = (u64)r_dd;
-    u64 r_24 = (u64)r_5k;
-    r_u7 = (u64)r_br;
-    r_z6 = (u64)(r_u7 << 3ull);
-    r_2b = away(r_rv_1, (u64)(r_24 << 3ull));
-    r_c6 = (r_br < 32u);
-    r_l7 = away(away(r_2b, r_z6), 0xfffffffffffffff8ull);
-    r_u7_1 = (u64)r_br_1;
-    r_z6_2 = (u64)(r_u7_1 << 3ull);
-    r_2b_1 = away(r_rv_1, (u64)((r_u7 + r_24) << 3ull));
-    r_c6_1 = (r_br_1 < 32u);
-    r_l7_1 = away(away(r_2b_1, r_z6_2), 0xfffffffffffffff8ull);
-    r_zd_2 = (slot_7 + 16);
-    r_tz = (u64)(uptr)r_2b;
-    t_6c = (slot_3 + 56);
-    r_w0 = (r_5k + (u32)r_br);
-    r_x5_3 = (slot_3 + 8);
-    r_zd_3 = (slot_3 + 16);
-    r_lk_1 = (slot_3 + 24);
-    r_89_1 = (slot_3 + 32);
-    r_a8_1 = (slot_3 + 40);
-    r_c4_1 = (slot_3 + 48);
-    r_bk = (slot_3 + 52);
-    r_x5_4 = (slot_2 + 8);
-    r_k0 = (slot_2 + 12);
-    r_zd_4 = (slot_2 + 16);
-    r_x5_5 = (slot_4 + 8);
-    r_zd_5 = (slot_4 + 16);
-    r_lk_2 = (slot_4 + 24);
-    r_89_2 = (slot_4 + 32);
-    r_a8_2 = (slot_4 + 40);
-    r_c4_2 = (slot_4 + 48);
-    r_bk_1 = (slot_4 + 52);
-    t_6c_1 = (slot_4 + 56);
-    r_k0_1 = (slot_3 + 12);
-    r_zd_6 = (slot_3 + 16);
-    r_x5_6 = (slot_3 + 8);
-    r_x5_7 = (slot_2 + 8);
-    r_lk_3 = (slot_7 + 24);
-    r_a8_3 = (slot_7 + 40);
-    r_c4_3 = (slot_7 + 48);
-    r_6c = (slot_7 + 56);
-    r_5q = (slot_7 + 64);
-    r_1e = (slot_7 + 72);
-    r_l1_1 = (slot_7 + 80);
-    r_k5_1 = (slot_7 + 88);
-    r_x5_8 = (slot_2 + 8);
-    r_zd_7 = (slot_2 + 16);
-    r_x5_9 = (slot_8 + 8);
-    r_k0_2 = (slot_8 + 12);
-    r_zd_8 = (slot_8 + 16);
-    r_89_3 = (slot_6 + 32);
-    r_6c_1 = (slot_6 + 56);
-    r_1e_1 = (slot_6 + 72);
-    r_2e = (slot_6 + 96);
-    r_x5_10 = (slot_2 + 8);
-    r_zd_9 = (slot_2 + 16);
-    r_m4 = t_q9;
-    r_uc = 0u;
-    r_tp_1 = 0ull;
-l_loop_xs:;
-    memset(slot_8, 0u, 24);
-    memset(slot_9, 0u, 7);
-    st32(slot_6, r_uc);
-    st32(r_ix, 0u);
-    st64(r_x5, r_tp_1);
+    st32(slot_8, a_2);
+    st32((slot_8 + 4), 0u);
+    r_x5 = (slot_8 + 8);
+    st64(r_x5, a_3);
+    r_zd = (slot_8 + 16);
     stp(r_zd, slot_1);
+    r_lk = (slot_8 + 24);
     memset(r_lk, 0u, 16);
+    r_a8 = (slot_8 + 40);
     stp(r_a8, slot_1);
-    memset(r_c4, 0u, 32);
+    memset((slot_8 + 48), 0u, 32);
+    r_l1 = (slot_8 + 80);
     stp(r_l1, slot_1);
+    r_k5 = (slot_8 + 88);
     memset(r_k5, 0u, 16);
-    capnp_messages_messages_canonical_copy_allocate_root_a_37f0c9a9(slot_8, slot_6, r_m4);
-    if (!(ld8(slot_8) == 1u)) goto l_join_dw;
-    r_r5 = ld8(r_x5_9);
-    r_uq = ld32(r_k0_2);
-    r_38 = ld64(r_zd_8);
+    capnp_messages_messages_canonical_copy_allocate_root_a_37f0c9a9(slot_10, slot_8, a_6);
+    if (ld8(slot_10) == 1u) goto l_arm_5d;
+    goto l_join_7j;
+l_common_68:;
+    return;
+l_arm_5d:;
+    r_cf = (u32)ld8((slot_10 + 8));
+    r_uq = ld32((slot_10 + 12));
+    r_38 = ld64((slot_10 + 16));
     r_xw = ldp(r_zd);
     r_38_1 = ld64(r_lk);
-    r_38_2 = ld64(r_89_3);
+    r_38_2 = ld64((slot_8 + 32));
     r_xw_1 = ldp(r_a8);
     r_xw_2 = ldp(r_l1);
     r_38_3 = ld64(r_k5);
-    r_38_4 = ld64(r_2e);
-    r_z4 = ld32(slot_6);
-    r_38_5 = ld64(r_x5);
-    r_ts = (ld64(r_6c_1) == 0ull);
-    if (!(u8)(ld8(r_1e_1) & 1)) goto l_else_ci;
-    if (r_ts) goto l_capnp_wd;
+    r_38_4 = ld64((slot_8 + 96));
+    r_z4 = ld32(slot_8);
+    r_38_5 = ld64((slot_8 + 8));
+    r_ts = (ld64((slot_8 + 56)) == 0ull);
+    if (!(u8)(ld8((slot_8 + 72)) & 1)) goto l_else_ci;
+    if (r_ts) goto l_capnp_4o;
     rattle_dealloc(r_xw_1);
-l_capnp_wd:;
+l_capnp_4o:;
     stp(slot_2, r_xw_2);
-    st64(r_x5_10, r_38_3);
-    st64(r_zd_9, r_38_4);
+    st64((slot_2 + 8), r_38_3);
+    st64((slot_2 + 16), r_38_4);
     capnp_arena_arena_builder_arena_impl_deallocate_others_70ba8108(slot_2);
     goto l_capnp_f6;
 l_else_ci:;
@@ -9094,7 +9241,7 @@ l_else_7d:;
 l_core_e6:;
     if (!(r_ax == t_gg)) { u64 r_1 = (r_ax + 1ull); u64 r_2 = r_zn; r_ax = r_1; r_du = r_2; goto l_join_73; }
 l_join_jj:;
-    if (r_38_1 == 0ull) goto l_capnp_at;
+    if (r_38_1 == 0ull) goto l_capnp_p4;
 l_arm_m6:;
     r_8r = r_38_1;
 l_arm_gj:;
@@ -9104,106 +9251,125 @@ l_arm_gj:;
     rattle_dealloc(ldp(r_a7_4));
 l_capnp_jj:;
     if (!(r_zn_1 == 0ull)) { r_8r = r_zn_1; goto l_arm_gj; }
-l_capnp_at:;
-    if (r_38_2 == 0ull) goto l_capnp_68;
+l_capnp_p4:;
+    if (r_38_2 == 0ull) goto l_std_o9;
     rattle_dealloc(r_xw);
-l_capnp_68:;
-    memset(slot_11, 0u, 7);
-    r_z5 = r_38_5;
-    r_nu = r_z4;
-    r_6n = r_38;
-    r_jq = r_uq;
-    r_yl = r_r5;
-    goto l_arm_f7;
-l_join_dw:;
-    r_z4_1 = ld32(slot_6);
+l_std_o9:;
+    st64(a_1, 1ull);
+    st32(away(a_1, 8ull), r_cf);
+    st32(away(a_1, 12ull), r_uq);
+    st64(away(a_1, 16ull), r_38);
+    st32(away(a_1, 24ull), r_z4);
+    st32(away(a_1, 28ull), 0u);
+    st64(away(a_1, 32ull), r_38_5);
+    memset(away(a_1, 40ull), 0u, 41);
+    mv7(away(a_1, 81ull), slot_6);
+    memset(away(a_1, 88ull), 0u, 24);
+    goto l_common_68;
+l_join_7j:;
+    r_z4_1 = ld32(slot_8);
     r_38_7 = ld64(r_x5);
-    st64(slot_7, 0ull);
-    mv24(r_x5_1, r_zd);
-    mv64(r_89, r_a8);
-    r_es = (u64)r_m4;
-    u64 r_qw_4 = ld64(r_rq_1);
-    st64(slot_5, (u64)ld8(a_3));
-    st64(r_x5_2, r_qw_4);
-    st64(r_zd_1, 0ull);
-    if (!t_0c_1) goto l_arm_5d;
-    stp(r_x5_5, r_rv);
-    st64(r_zd_5, r_qw);
-    st64(r_lk_2, r_qw_1);
-    stp(r_89_2, r_rv_1);
-    st64(r_a8_2, r_qw_2);
-    st32(r_c4_2, r_5k);
-    st32(r_bk_1, r_5k_1);
+    st64(slot_9, 0ull);
+    r_x5_4 = (slot_9 + 8);
+    mv24(r_x5_4, r_zd);
+    r_89_1 = (slot_9 + 32);
+    mv64(r_89_1, r_a8);
+    r_rq_2 = away(a_5, 8ull);
+    r_7l = (u64)a_6;
+    u64 r_qw_3 = ld64(r_rq_2);
+    st64(slot_5, (u64)ld8(a_5));
+    r_x5_5 = (slot_5 + 8);
+    st64(r_x5_5, r_qw_3);
+    r_zd_4 = (slot_5 + 16);
+    st64(r_zd_4, 0ull);
+    r_eg_1 = (u64)r_dd;
+    if (!(r_dh == 0u)) goto l_arm_q5;
+    mv16((slot_4 + 8), (slot_7 + 7));
+    st64((slot_4 + 24), r_qw);
+    stp((slot_4 + 32), r_rv);
+    st64((slot_4 + 40), r_qw_1);
+    st32((slot_4 + 48), r_5k);
+    st32((slot_4 + 52), r_5k_1);
     memset(slot_3, 0u, 24);
-    st64(t_6c_1, 0ull);
-    st64(slot_4, r_eg);
-    st32(t_6c_1, r_5k_2);
-    capnp_copies_copy_copy_object_a062206830695632(slot_3, slot_7, 0u, 0u, slot_4, slot_5, 1u);
+    u8 *t_6c = (slot_4 + 56);
+    st64(t_6c, 0ull);
+    st64(slot_4, r_eg_1);
+    st32(t_6c, r_5k_2);
+    capnp_copies_copy_copy_object_a062206830695632(slot_3, slot_9, 0u, 0u, slot_4, slot_5, 1u);
     r_r5_2 = ld8(slot_3);
-    r_uq_1 = ld32(r_k0_1);
-    r_38_8 = ld64(r_zd_6);
-    if (r_r5_2 == 0u) { r_2b_3 = 0u; r_qh = 0u; r_ip = 0ull; goto l_capnp_no; }
-    r_r5_3 = ld8(r_x5_6);
-    r_lz_1 = ldp(ldp(r_x5_1));
-    r_qw_5 = ld64(r_lz_1);
-    if (r_qw_5 == 0ull) goto l_capnp_8g;
-    capnp_making_landing_follow_c985307b501351a7(slot_2, slot_7, 0u, 0u);
+    r_uq_1 = ld32((slot_3 + 12));
+    r_38_8 = ld64((slot_3 + 16));
+    if (r_r5_2 == 0u) { r_2b_1 = 0u; r_qh = 0u; r_ip = 0ull; goto l_capnp_no; }
+    r_r5_3 = ld8((slot_3 + 8));
+    r_lz_1 = ldp(ldp(r_x5_4));
+    r_qw_4 = ld64(r_lz_1);
+    if (r_qw_4 == 0ull) goto l_capnp_8g;
+    capnp_making_landing_follow_c985307b501351a7(slot_2, slot_9, 0u, 0u);
     st64(r_lz_1, 0ull);
     if (!(ld8(slot_2) == 1u)) goto l_capnp_8g;
-    capnp_making_zeroing_zero_target_c985307b501351a7(slot_7, r_x5_7);
-    if (!((r_qw_5 & 3ull) == 2ull)) goto l_capnp_8g;
-    capnp_making_zeroing_zero_far_pads_c985307b501351a7(slot_7, r_qw_5);
+    capnp_making_zeroing_zero_target_c985307b501351a7(slot_9, (slot_2 + 8));
+    if (!((r_qw_4 & 3ull) == 2ull)) goto l_capnp_8g;
+    capnp_making_zeroing_zero_far_pads_c985307b501351a7(slot_9, r_qw_4);
 l_capnp_8g:;
-    r_2b_3 = r_r5_3;
+    r_2b_1 = r_r5_3;
     r_qh = r_uq_1;
     r_ip = r_38_8;
 l_capnp_no:;
     r_3i = r_r5_2;
-    r_45 = r_2b_3;
+    r_45 = r_2b_1;
     r_h0 = r_qh;
     r_r1 = r_ip;
     goto l_capnp_x6;
-l_arm_5d:;
-    if (r_c6) { r_nm = r_u7; goto l_loop_jc; }
-    goto l_else_08;
+l_arm_q5:;
+    t_b9_1 = (slot_7 + 7);
+    u64 r_24 = (u64)r_5k;
+    r_u7 = (u64)r_br;
+    r_lc = (r_u7 + r_24);
+    r_z6 = (u64)(r_u7 << 3ull);
+    r_2b_2 = away(r_rv, (u64)(r_24 << 3ull));
+    if (r_br < 32u) { r_nm = r_u7; goto l_loop_jc; }
+    goto l_else_wj;
 l_loop_jc:;
-    if (r_nm == 0ull) { r_wx = 0ull; goto l_capnp_5d; }
+    if (r_nm == 0ull) { r_hk = 0ull; goto l_capnp_ev; }
     u64 r_0f = (r_nm + 0xffffffffffffffffull);
-    if (ld64((r_2b + (i64)((u64)(r_0f << 3ull)))) == 0ull) { r_nm = r_0f; goto l_loop_jc; }
-    r_wx = r_nm;
-    goto l_capnp_5d;
-l_else_08:;
-    if (!(ld64(r_l7) == 0ull)) { r_wx = r_u7; goto l_capnp_5d; }
-    u64 r_r2_1 = capnp_words_lanes_used_words_bound(r_2b, r_z6);
+    if (ld64((r_2b_2 + (i64)((u64)(r_0f << 3ull)))) == 0ull) { r_nm = r_0f; goto l_loop_jc; }
+    r_hk = r_nm;
+    goto l_capnp_ev;
+l_else_wj:;
+    if (!(ld64(away(away(r_2b_2, r_z6), 0xfffffffffffffff8ull)) == 0ull)) { r_hk = r_u7; goto l_capnp_ev; }
+    u64 r_r2_1 = capnp_words_lanes_used_words_bound(r_2b_2, r_z6);
     r_nm_1 = r_r2_1;
 l_loop_jc_1:;
-    if (r_nm_1 == 0ull) { r_wx = 0ull; goto l_capnp_5d; }
+    if (r_nm_1 == 0ull) { r_hk = 0ull; goto l_capnp_ev; }
     u64 r_0f_1 = (r_nm_1 + 0xffffffffffffffffull);
-    if (ld64((r_2b + (i64)((u64)(r_0f_1 << 3ull)))) == 0ull) { r_nm_1 = r_0f_1; goto l_loop_jc_1; }
-    r_wx = r_nm_1;
-l_capnp_5d:;
-    if (r_c6_1) { r_nm_2 = r_u7_1; goto l_loop_jc_2; }
-    goto l_else_08_1;
+    if (ld64((r_2b_2 + (i64)((u64)(r_0f_1 << 3ull)))) == 0ull) { r_nm_1 = r_0f_1; goto l_loop_jc_1; }
+    r_hk = r_nm_1;
+l_capnp_ev:;
+    r_u7_1 = (u64)r_br_1;
+    r_z6_4 = (u64)(r_u7_1 << 3ull);
+    r_2b_3 = away(r_rv, (u64)(r_lc << 3ull));
+    if (r_br_1 < 32u) { r_nm_2 = r_u7_1; goto l_loop_jc_2; }
+    goto l_else_wj_1;
 l_loop_jc_2:;
     if (r_nm_2 == 0ull) { r_zw = 0ull; goto l_capnp_sa; }
     u64 r_0f_2 = (r_nm_2 + 0xffffffffffffffffull);
-    if (ld64((r_2b_1 + (i64)((u64)(r_0f_2 << 3ull)))) == 0ull) { r_nm_2 = r_0f_2; goto l_loop_jc_2; }
+    if (ld64((r_2b_3 + (i64)((u64)(r_0f_2 << 3ull)))) == 0ull) { r_nm_2 = r_0f_2; goto l_loop_jc_2; }
     r_zw = r_nm_2;
     goto l_capnp_sa;
-l_else_08_1:;
-    if (!(ld64(r_l7_1) == 0ull)) { r_zw = r_u7_1; goto l_capnp_sa; }
-    u64 r_r2_2 = capnp_words_lanes_used_words_bound(r_2b_1, r_z6_2);
+l_else_wj_1:;
+    if (!(ld64(away(away(r_2b_3, r_z6_4), 0xfffffffffffffff8ull)) == 0ull)) { r_zw = r_u7_1; goto l_capnp_sa; }
+    u64 r_r2_2 = capnp_words_lanes_used_words_bound(r_2b_3, r_z6_4);
     r_nm_3 = r_r2_2;
 l_loop_jc_3:;
     if (r_nm_3 == 0ull) { r_zw = 0ull; goto l_capnp_sa; }
     u64 r_0f_3 = (r_nm_3 + 0xffffffffffffffffull);
-    if (ld64((r_2b_1 + (i64)((u64)(r_0f_3 << 3ull)))) == 0ull) { r_nm_3 = r_0f_3; goto l_loop_jc_3; }
+    if (ld64((r_2b_3 + (i64)((u64)(r_0f_3 << 3ull)))) == 0ull) { r_nm_3 = r_0f_3; goto l_loop_jc_3; }
     r_zw = r_nm_3;
 l_capnp_sa:;
-    r_29 = ((u32)r_wx & 65535u);
+    r_29 = ((u32)r_hk & 65535u);
     r_az = ((u32)r_zw & 65535u);
     r_68 = (r_az + r_29);
-    r_lz_2 = ldp(r_x5_1);
+    r_lz_2 = ldp(r_x5_4);
     if (!(r_68 == 0u)) goto l_join_s3;
     st64(ldp(r_lz_2), 0xfffffffcull);
     r_7f = 0ull;
@@ -9212,23 +9378,30 @@ l_join_s3:;
     r_3q = away(r_lz_2, 24ull);
     r_yf = ld32(r_3q);
     r_24_1 = (u64)r_yf;
-    if ((r_24_1 + (u64)r_68) > (u64)(ld64(away(r_lz_2, 8ull)) >> 3ull)) goto l_capnp_z3;
+    if ((r_24_1 + (u64)r_68) > (u64)(ld64(away(r_lz_2, 8ull)) >> 3ull)) goto l_capnp_mi;
     st32(r_3q, (r_yf + r_68));
     r_1k = r_24_1;
-    r_61 = (((u64)(r_zw << 48ull) | ((u64)(r_wx << 32ull) & 0xffff00000000ull)) | (u64)((u32)(r_yf << 2u) + 0xfffffffcu));
+    r_61 = (((u64)(r_zw << 48ull) | ((u64)(r_hk << 32ull) & 0xffff00000000ull)) | (u64)((u32)(r_yf << 2u) + 0xfffffffcu));
     r_9s = 0ull;
     goto l_capnp_xw;
-l_capnp_z3:;
-    r_ff_1 = (r_68 + 1u);
-    r_kj = capnp_arena_arena_bounds_first_fit_by_bounds_e469ead029109f04(r_lz_2, ld64(r_zd_2), r_ff_1);
-    if (!(r_kj.f0 == 1u)) goto l_arm_b7;
+l_capnp_mi:;
+    r_ff = (r_68 + 1u);
+    r_52_1 = ld64((slot_9 + 16));
+    r_kj = capnp_arena_arena_bounds_first_fit_by_bounds_e469ead029109f04(r_lz_2, r_52_1, r_ff);
+    if (r_kj.f0 == 1u) goto l_capnp_tw;
+    u8 r_2i = (r_52_1 > 0xfffffffeull);
+    r_ld = (r_2i ? 27u : 0u);
+    r_2q = 0u;
+    r_gy = (u64)(0 - (u64)r_2i);
+    goto l_arm_uo;
+l_capnp_tw:;
     u64 t_24 = (u64)r_kj.f1;
     u8 *r_2b_4 = away(r_lz_2, (u64)(t_24 << 5ull));
     u8 *r_3q_1 = away(r_2b_4, 24ull);
     u32 r_yf_1 = ld32(r_3q_1);
-    st32(r_3q_1, (r_yf_1 + r_ff_1));
+    st32(r_3q_1, (r_yf_1 + r_ff));
     u64 r_z6_8 = (u64)((u64)r_yf_1 << 3ull);
-    st64((ldp(r_2b_4) + (i64)(r_z6_8)), ((u64)(r_zw << 48ull) | ((u64)(r_wx << 32ull) & 0xffff00000000ull)));
+    st64((ldp(r_2b_4) + (i64)(r_z6_8)), ((u64)(r_zw << 48ull) | ((u64)(r_hk << 32ull) & 0xffff00000000ull)));
     r_1k = (u64)(r_yf_1 + 1u);
     r_61 = (((u64)(t_24 << 32ull) | r_z6_8) | 2ull);
     r_9s = t_24;
@@ -9239,205 +9412,199 @@ l_arm_99:;
     r_wt = (u32)r_7f;
     r_ep = (u64)(r_7f >> 32ull);
     r_4r_1 = (u32)r_ep;
-    r_0l = ((u64)(r_wx << 3ull) & 0x7fff8ull);
-    if (r_0l == 0ull) goto l_capnp_5c;
+    r_0l = ((u64)(r_hk << 3ull) & 0x7fff8ull);
+    if (r_0l == 0ull) goto l_capnp_am;
     r_2b_6 = away(ldp(away(r_lz_2, ((u64)(r_7f << 5ull) & 0x1fffffffe0ull))), (u64)(r_ep << 3ull));
-    if (!(r_0l < 64ull)) goto l_else_p1;
+    if (!(r_0l < 64ull)) goto l_else_r3;
     if (!(r_0l > 31ull)) goto l_else_dg;
-    mv32(r_2b_6, r_2b);
+    mv32(r_2b_6, r_2b_2);
     u64 r_bh = (r_0l + 0xffffffffffffffe0ull);
-    mv32((r_2b_6 + (i64)(r_bh)), (r_2b + (i64)(r_bh)));
-    goto l_capnp_5c;
+    mv32((r_2b_6 + (i64)(r_bh)), (r_2b_2 + (i64)(r_bh)));
+    goto l_capnp_am;
 l_else_dg:;
     if (!(r_0l > 15ull)) goto l_then_49;
-    mv16(r_2b_6, r_2b);
+    mv16(r_2b_6, r_2b_2);
     u64 r_8f = (r_0l + 0xfffffffffffffff0ull);
-    mv16((r_2b_6 + (i64)(r_8f)), (r_2b + (i64)(r_8f)));
-    goto l_capnp_5c;
+    mv16((r_2b_6 + (i64)(r_8f)), (r_2b_2 + (i64)(r_8f)));
+    goto l_capnp_am;
 l_then_49:;
-    mv8(r_2b_6, r_2b);
+    mv8(r_2b_6, r_2b_2);
     u64 r_la = (r_0l + 0xfffffffffffffff8ull);
-    mv8((r_2b_6 + (i64)(r_la)), (r_2b + (i64)(r_la)));
-    goto l_capnp_5c;
-l_else_p1:;
-    if (((u64)(uptr)r_2b_6 - r_tz) < r_0l) { r_il = 0ull; goto l_join_fh; }
-    memmove_or_none(r_2b_6, r_2b, r_0l);
-    goto l_capnp_5c;
+    mv8((r_2b_6 + (i64)(r_la)), (r_2b_2 + (i64)(r_la)));
+    goto l_capnp_am;
+l_else_r3:;
+    if (((u64)(uptr)r_2b_6 - (u64)(uptr)r_2b_2) < r_0l) { r_il = 0ull; goto l_join_fh; }
+    memmove_or_none(r_2b_6, r_2b_2, r_0l);
+    goto l_capnp_am;
 l_join_fh:;
-    st8((r_2b_6 + (i64)(r_il)), ld8((r_2b + (i64)(r_il))));
-    u64 r_c4_5 = (r_il + 1ull);
-    if (!(r_c4_5 == r_0l)) { r_il = r_c4_5; goto l_join_fh; }
-l_capnp_5c:;
+    st8((r_2b_6 + (i64)(r_il)), ld8((r_2b_2 + (i64)(r_il))));
+    u64 r_c4_3 = (r_il + 1ull);
+    if (!(r_c4_3 == r_0l)) { r_il = r_c4_3; goto l_join_fh; }
+l_capnp_am:;
     memset(slot_2, 0u, 24);
-    st64(t_6c, 0ull);
+    t_6c_1 = (slot_3 + 56);
+    st64(t_6c_1, 0ull);
     if (r_az == 0u) { r_2b_7 = 0u; r_qh_1 = 0u; r_ip_1 = 0u; r_wq = 0ull; goto l_capnp_no_1; }
-    st64(slot_3, r_eg);
-    stp(r_x5_3, r_rv);
-    st64(r_zd_3, r_qw);
-    st64(r_lk_1, r_qw_1);
-    stp(r_89_1, r_rv_1);
-    st64(r_a8_1, r_qw_2);
-    st32(r_c4_1, r_w0);
-    st32(r_bk, 0u);
-    st32(t_6c, r_5k_2);
-    capnp_copies_copy_children_copy_children_out_of_line_a_ed7c55cb(slot_2, slot_7, r_wt, (r_29 + r_4r_1), slot_3, r_az, slot_5, 1u);
+    st64(slot_3, r_eg_1);
+    mv16((slot_3 + 8), t_b9_1);
+    st64((slot_3 + 24), r_qw);
+    stp((slot_3 + 32), r_rv);
+    st64((slot_3 + 40), r_qw_1);
+    st32((slot_3 + 48), (r_5k + (u32)r_br));
+    st32((slot_3 + 52), 0u);
+    st32(t_6c_1, r_5k_2);
+    capnp_copies_copy_children_copy_children_out_of_line_a_ed7c55cb(slot_2, slot_9, r_wt, (r_29 + r_4r_1), slot_3, r_az, slot_5, 1u);
     r_2b_7 = ld8(slot_2);
-    r_qh_1 = ld8(r_x5_4);
-    r_ip_1 = ld32(r_k0);
-    r_wq = ld64(r_zd_4);
+    r_qh_1 = ld8((slot_2 + 8));
+    r_ip_1 = ld32((slot_2 + 12));
+    r_wq = ld64((slot_2 + 16));
 l_capnp_no_1:;
     r_3i = r_2b_7;
     r_45 = r_qh_1;
     r_h0 = r_ip_1;
     r_r1 = r_wq;
 l_capnp_x6:;
-    if (!(r_3i == 0u)) goto l_arm_uo;
-    u64 r_38_12 = ld64(r_zd_2);
-    u8 r_du_1 = (r_38_12 == 1ull);
-    r_03 = r_38_12;
-    r_cn = r_du_1;
-    r_e6_1 = (r_du_1 ? ld8(slot_5) : 27u);
-    r_3k = 0u;
-    r_4i = (r_du_1 ? ld64(r_x5_2) : r_es);
-    r_49 = (r_du_1 ? ld64(r_zd_1) : 0ull);
-    goto l_capnp_in;
-l_arm_b7:;
-    goto l_t_h9;
+    if (!(r_3i == 0u)) { r_ld = r_45; r_2q = r_h0; r_gy = r_r1; goto l_arm_uo; }
+    u8 r_en = (ld64((slot_9 + 16)) != 1ull);
+    r_py = (u8)r_en;
+    r_ub = (r_en ? 27u : ld8(slot_5));
+    r_zx = 0u;
+    r_93 = (r_en ? r_7l : ld64(r_x5_5));
+    r_pp = (r_en ? 0ull : ld64(r_zd_4));
+    goto l_capnp_fs;
 l_arm_uo:;
-    switch (r_45) {
+    switch (r_ld) {
     case 0u: goto l_t_h9;
     case 27u: goto l_t_h9;
-    case 1u: { r_jk = r_45; r_au = r_h0; r_km = r_r1; goto l_capnp_hh; }
-    case 2u: { r_jk = r_45; r_au = r_h0; r_km = r_r1; goto l_capnp_hh; }
-    case 3u: { r_jk = r_45; r_au = r_h0; r_km = r_r1; goto l_capnp_hh; }
-    case 4u: { r_jk = r_45; r_au = r_h0; r_km = r_r1; goto l_capnp_hh; }
-    case 5u: { r_jk = r_45; r_au = r_h0; r_km = r_r1; goto l_capnp_hh; }
-    case 6u: { r_jk = r_45; r_au = r_h0; r_km = r_r1; goto l_capnp_hh; }
-    case 7u: { r_jk = r_45; r_au = r_h0; r_km = r_r1; goto l_capnp_hh; }
-    case 8u: { r_jk = r_45; r_au = r_h0; r_km = r_r1; goto l_capnp_hh; }
-    case 9u: { r_jk = r_45; r_au = r_h0; r_km = r_r1; goto l_capnp_hh; }
-    case 10u: { r_jk = r_45; r_au = r_h0; r_km = r_r1; goto l_capnp_hh; }
-    case 11u: { r_jk = r_45; r_au = r_h0; r_km = r_r1; goto l_capnp_hh; }
-    case 12u: { r_jk = r_45; r_au = r_h0; r_km = r_r1; goto l_capnp_hh; }
-    case 13u: { r_jk = r_45; r_au = r_h0; r_km = r_r1; goto l_capnp_hh; }
-    case 14u: { r_jk = r_45; r_au = r_h0; r_km = r_r1; goto l_capnp_hh; }
-    case 15u: { r_jk = r_45; r_au = r_h0; r_km = r_r1; goto l_capnp_hh; }
-    case 16u: { r_jk = r_45; r_au = r_h0; r_km = r_r1; goto l_capnp_hh; }
-    case 17u: { r_jk = r_45; r_au = r_h0; r_km = r_r1; goto l_capnp_hh; }
-    case 18u: { r_jk = r_45; r_au = r_h0; r_km = r_r1; goto l_capnp_hh; }
-    case 19u: { r_jk = r_45; r_au = r_h0; r_km = r_r1; goto l_capnp_hh; }
-    case 20u: { r_jk = r_45; r_au = r_h0; r_km = r_r1; goto l_capnp_hh; }
-    case 21u: { r_jk = r_45; r_au = r_h0; r_km = r_r1; goto l_capnp_hh; }
-    case 22u: { r_jk = r_45; r_au = r_h0; r_km = r_r1; goto l_capnp_hh; }
-    case 23u: { r_jk = r_45; r_au = r_h0; r_km = r_r1; goto l_capnp_hh; }
-    case 24u: { r_jk = r_45; r_au = r_h0; r_km = r_r1; goto l_capnp_hh; }
-    case 25u: { r_jk = r_45; r_au = r_h0; r_km = r_r1; goto l_capnp_hh; }
-    case 26u: { r_jk = r_45; r_au = r_h0; r_km = r_r1; goto l_capnp_hh; }
-    case 28u: { r_jk = r_45; r_au = r_h0; r_km = r_r1; goto l_capnp_hh; }
-    case 29u: { r_jk = r_45; r_au = r_h0; r_km = r_r1; goto l_capnp_hh; }
-    case 30u: { r_jk = r_45; r_au = r_h0; r_km = r_r1; goto l_capnp_hh; }
-    case 31u: { r_jk = r_45; r_au = r_h0; r_km = r_r1; goto l_capnp_hh; }
-    case 32u: { r_jk = r_45; r_au = r_h0; r_km = r_r1; goto l_capnp_hh; }
-    case 33u: { r_jk = r_45; r_au = r_h0; r_km = r_r1; goto l_capnp_hh; }
-    case 34u: { r_jk = r_45; r_au = r_h0; r_km = r_r1; goto l_capnp_hh; }
+    case 1u: { r_py = 1u; r_ub = r_ld; r_zx = r_2q; r_93 = r_gy; r_pp = 0ull; goto l_capnp_fs; }
+    case 2u: { r_py = 1u; r_ub = r_ld; r_zx = r_2q; r_93 = r_gy; r_pp = 0ull; goto l_capnp_fs; }
+    case 3u: { r_py = 1u; r_ub = r_ld; r_zx = r_2q; r_93 = r_gy; r_pp = 0ull; goto l_capnp_fs; }
+    case 4u: { r_py = 1u; r_ub = r_ld; r_zx = r_2q; r_93 = r_gy; r_pp = 0ull; goto l_capnp_fs; }
+    case 5u: { r_py = 1u; r_ub = r_ld; r_zx = r_2q; r_93 = r_gy; r_pp = 0ull; goto l_capnp_fs; }
+    case 6u: { r_py = 1u; r_ub = r_ld; r_zx = r_2q; r_93 = r_gy; r_pp = 0ull; goto l_capnp_fs; }
+    case 7u: { r_py = 1u; r_ub = r_ld; r_zx = r_2q; r_93 = r_gy; r_pp = 0ull; goto l_capnp_fs; }
+    case 8u: { r_py = 1u; r_ub = r_ld; r_zx = r_2q; r_93 = r_gy; r_pp = 0ull; goto l_capnp_fs; }
+    case 9u: { r_py = 1u; r_ub = r_ld; r_zx = r_2q; r_93 = r_gy; r_pp = 0ull; goto l_capnp_fs; }
+    case 10u: { r_py = 1u; r_ub = r_ld; r_zx = r_2q; r_93 = r_gy; r_pp = 0ull; goto l_capnp_fs; }
+    case 11u: { r_py = 1u; r_ub = r_ld; r_zx = r_2q; r_93 = r_gy; r_pp = 0ull; goto l_capnp_fs; }
+    case 12u: { r_py = 1u; r_ub = r_ld; r_zx = r_2q; r_93 = r_gy; r_pp = 0ull; goto l_capnp_fs; }
+    case 13u: { r_py = 1u; r_ub = r_ld; r_zx = r_2q; r_93 = r_gy; r_pp = 0ull; goto l_capnp_fs; }
+    case 14u: { r_py = 1u; r_ub = r_ld; r_zx = r_2q; r_93 = r_gy; r_pp = 0ull; goto l_capnp_fs; }
+    case 15u: { r_py = 1u; r_ub = r_ld; r_zx = r_2q; r_93 = r_gy; r_pp = 0ull; goto l_capnp_fs; }
+    case 16u: { r_py = 1u; r_ub = r_ld; r_zx = r_2q; r_93 = r_gy; r_pp = 0ull; goto l_capnp_fs; }
+    case 17u: { r_py = 1u; r_ub = r_ld; r_zx = r_2q; r_93 = r_gy; r_pp = 0ull; goto l_capnp_fs; }
+    case 18u: { r_py = 1u; r_ub = r_ld; r_zx = r_2q; r_93 = r_gy; r_pp = 0ull; goto l_capnp_fs; }
+    case 19u: { r_py = 1u; r_ub = r_ld; r_zx = r_2q; r_93 = r_gy; r_pp = 0ull; goto l_capnp_fs; }
+    case 20u: { r_py = 1u; r_ub = r_ld; r_zx = r_2q; r_93 = r_gy; r_pp = 0ull; goto l_capnp_fs; }
+    case 21u: { r_py = 1u; r_ub = r_ld; r_zx = r_2q; r_93 = r_gy; r_pp = 0ull; goto l_capnp_fs; }
+    case 22u: { r_py = 1u; r_ub = r_ld; r_zx = r_2q; r_93 = r_gy; r_pp = 0ull; goto l_capnp_fs; }
+    case 23u: { r_py = 1u; r_ub = r_ld; r_zx = r_2q; r_93 = r_gy; r_pp = 0ull; goto l_capnp_fs; }
+    case 24u: { r_py = 1u; r_ub = r_ld; r_zx = r_2q; r_93 = r_gy; r_pp = 0ull; goto l_capnp_fs; }
+    case 25u: { r_py = 1u; r_ub = r_ld; r_zx = r_2q; r_93 = r_gy; r_pp = 0ull; goto l_capnp_fs; }
+    case 26u: { r_py = 1u; r_ub = r_ld; r_zx = r_2q; r_93 = r_gy; r_pp = 0ull; goto l_capnp_fs; }
+    case 28u: { r_py = 1u; r_ub = r_ld; r_zx = r_2q; r_93 = r_gy; r_pp = 0ull; goto l_capnp_fs; }
+    case 29u: { r_py = 1u; r_ub = r_ld; r_zx = r_2q; r_93 = r_gy; r_pp = 0ull; goto l_capnp_fs; }
+    case 30u: { r_py = 1u; r_ub = r_ld; r_zx = r_2q; r_93 = r_gy; r_pp = 0ull; goto l_capnp_fs; }
+    case 31u: { r_py = 1u; r_ub = r_ld; r_zx = r_2q; r_93 = r_gy; r_pp = 0ull; goto l_capnp_fs; }
+    case 32u: { r_py = 1u; r_ub = r_ld; r_zx = r_2q; r_93 = r_gy; r_pp = 0ull; goto l_capnp_fs; }
+    case 33u: { r_py = 1u; r_ub = r_ld; r_zx = r_2q; r_93 = r_gy; r_pp = 0ull; goto l_capnp_fs; }
+    case 34u: { r_py = 1u; r_ub = r_ld; r_zx = r_2q; r_93 = r_gy; r_pp = 0ull; goto l_capnp_fs; }
     default: goto l_noarm_e1;
     }
 l_noarm_e1:;
     UNREACHABLE();
 l_t_h9:;
-    r_jk = 27u;
-    r_au = 0u;
-    r_km = r_es;
-l_capnp_hh:;
-    r_03 = ld64(r_zd_2);
-    r_cn = 0u;
-    r_e6_1 = r_jk;
-    r_3k = r_au;
-    r_4i = r_km;
-    r_49 = 0ull;
-l_capnp_in:;
-    r_38_14 = ld64(r_x5_1);
-    r_38_15 = ld64(r_lk_3);
-    r_xw_3 = ldp(r_89);
-    r_38_16 = ld64(r_a8_3);
-    r_38_17 = ld64(r_c4_3);
-    r_38_18 = ld64(r_6c);
-    r_r5_7 = ld8(r_5q);
-    r_xw_4 = ldp(r_1e);
-    r_38_19 = ld64(r_l1_1);
-    r_38_20 = ld64(r_k5_1);
-    if (!r_cn) goto l_arm_04;
-    r_k2 = (slot_7 + 65);
-    r_08_1 = away(a_3, 16ull);
+    r_py = 1u;
+    r_ub = 27u;
+    r_zx = 0u;
+    r_93 = r_7l;
+    r_pp = 0ull;
+l_capnp_fs:;
+    r_cf_1 = (u32)r_ub;
+    r_38_12 = ld64(r_x5_4);
+    t_wt = (u32)r_38_12;
+    t_u2 = (u32)(u64)(r_38_12 >> 32ull);
+    r_38_13 = ld64((slot_9 + 16));
+    r_38_14 = ld64((slot_9 + 24));
+    r_xw_3 = ldp(r_89_1);
+    r_38_15 = ld64((slot_9 + 40));
+    r_38_16 = ld64((slot_9 + 48));
+    r_38_17 = ld64((slot_9 + 56));
+    r_r5_7 = ld8((slot_9 + 64));
+    r_k2 = (slot_9 + 65);
+    r_xw_4 = ldp((slot_9 + 72));
+    r_38_18 = ld64((slot_9 + 80));
+    r_38_19 = ld64((slot_9 + 88));
+    if (!(r_py == 0u)) goto l_arm_04;
+    r_08_1 = away(a_5, 16ull);
     r_52_3 = ld64(r_08_1);
     if (!(r_52_3 == 0ull)) goto l_join_b0;
-    st64(a_3, (u64)r_e6_1);
-    st64(r_rq_1, r_4i);
-    st64(r_08_1, r_49);
-    goto l_capnp_gc;
+    st64(a_5, (u64)r_ub);
+    st64(r_rq_2, r_93);
+    st64(r_08_1, r_pp);
+    goto l_capnp_pr;
 l_join_b0:;
-    if (((ld8(a_3) != 1u) ? 1u : (r_e6_1 != 1u)) ? 1u : (ld64(r_rq_1) < r_4i)) goto l_after_jc;
-    st64(a_3, 1ull);
-    st64(r_rq_1, r_4i);
+    if (((ld8(a_5) != 1u) ? 1u : (r_ub != 1u)) ? 1u : (ld64(r_rq_2) < r_93)) goto l_after_jc;
+    st64(a_5, 1ull);
+    st64(r_rq_2, r_93);
 l_after_jc:;
-    if (r_49 == 0ull) goto l_capnp_gc;
+    if (r_pp == 0ull) goto l_capnp_pr;
     r_3i_1 = r_52_3;
     r_hb = 0ull;
 l_join_j4:;
     r_vg = uadd_sat64(r_3i_1, 1ull);
     u64 r_36 = (r_hb + 1ull);
-    if (!(r_36 == r_49)) { r_3i_1 = r_vg; r_hb = r_36; goto l_join_j4; }
+    if (!(r_36 == r_pp)) { r_3i_1 = r_vg; r_hb = r_36; goto l_join_j4; }
     st64(r_08_1, r_vg);
-l_capnp_gc:;
+l_capnp_pr:;
     mv7(slot_11, r_k2);
-    st64(a_1, 0ull);
-    st32(away(a_1, 8ull), r_z4_1);
-    st32(away(a_1, 12ull), 0u);
-    st64(away(a_1, 16ull), r_38_7);
-    st64(away(a_1, 24ull), r_38_14);
-    st64(away(a_1, 32ull), r_03);
-    st64(away(a_1, 40ull), r_38_15);
-    stp(away(a_1, 48ull), r_xw_3);
-    st64(away(a_1, 56ull), r_38_16);
-    st64(away(a_1, 64ull), r_38_17);
-    st64(away(a_1, 72ull), r_38_18);
-    st8(away(a_1, 80ull), r_r5_7);
-    mv7(away(a_1, 81ull), slot_11);
-    stp(away(a_1, 88ull), r_xw_4);
-    st64(away(a_1, 96ull), r_38_19);
-    st64(away(a_1, 104ull), r_38_20);
-    goto l_common_68;
+    r_b2 = r_xw_3;
+    r_5h_1 = r_38_15;
+    r_hs = r_38_16;
+    r_wi = r_38_17;
+    r_4m = r_xw_4;
+    r_eu = r_38_18;
+    r_sb = r_38_19;
+    r_ds = r_r5_7;
+    r_q3 = r_38_14;
+    r_b4 = r_z4_1;
+    r_7d = 0u;
+    r_ta = r_38_7;
+    r_37 = t_wt;
+    r_jn = t_u2;
+    r_dq = r_38_13;
+    goto l_join_19;
 l_arm_04:;
-    r_ts_20 = (r_38_17 == 0ull);
+    r_ts_20 = (r_38_16 == 0ull);
     if (!(u8)(r_r5_7 & 1)) goto l_else_ci_1;
-    if (r_ts_20) goto l_capnp_wd_1;
+    if (r_ts_20) goto l_capnp_4o_1;
     rattle_dealloc(r_xw_3);
-l_capnp_wd_1:;
+l_capnp_4o_1:;
     stp(slot_2, r_xw_4);
-    st64(r_x5_8, r_38_19);
-    st64(r_zd_7, r_38_20);
+    st64((slot_2 + 8), r_38_18);
+    st64((slot_2 + 16), r_38_19);
     capnp_arena_arena_builder_arena_impl_deallocate_others_70ba8108(slot_2);
     goto l_capnp_jm;
 l_else_ci_1:;
     if (r_ts_20) goto l_core_at_1;
     rattle_dealloc(r_xw_3);
 l_core_at_1:;
-    if (r_38_20 == 0ull) goto l_capnp_jm;
+    if (r_38_19 == 0ull) goto l_capnp_jm;
     rattle_dealloc(r_xw_4);
 l_capnp_jm:;
-    t_f6 = ((u8 *)(uptr)r_38_14);
-    if (!(r_03 > 1ull)) goto l_join_jj_1;
-    if (r_03 > 15ull) goto l_join_kp;
-    t_gg_1 = (u64)((r_03 + 0xfffffffffffffffeull) >> 1ull);
+    t_f6 = ((u8 *)(uptr)r_38_12);
+    if (!(r_38_13 > 1ull)) goto l_join_jj_1;
+    if (r_38_13 > 15ull) goto l_join_kp;
+    t_gg_1 = (u64)((r_38_13 + 0xfffffffffffffffeull) >> 1ull);
     r_ax_1 = 0ull;
-    r_du_2 = r_03;
+    r_du_1 = r_38_13;
     goto l_join_73_1;
 l_join_kp:;
-    u64 r_dt_1 = (u64)(r_03 >> 1ull);
-    core_slice_edits_mirror_88712faee6672b50(t_f6, away(t_f6, (u64)((r_03 - r_dt_1) << 5ull)), r_dt_1);
+    u64 r_dt_1 = (u64)(r_38_13 >> 1ull);
+    core_slice_edits_mirror_88712faee6672b50(t_f6, away(t_f6, (u64)((r_38_13 - r_dt_1) << 5ull)), r_dt_1);
     goto l_arm_m6_1;
 l_join_73_1:;
-    r_zn_2 = (r_du_2 + 0xffffffffffffffffull);
+    r_zn_2 = (r_du_1 + 0xffffffffffffffffull);
     if (!(r_ax_1 < r_zn_2)) goto l_else_7d_1;
     u8 *r_w6 = (t_f6 + (i64)((u64)(r_ax_1 << 5ull)));
     u8 *r_w6_1 = (t_f6 + (i64)((u64)(r_zn_2 << 5ull)));
@@ -9453,11 +9620,11 @@ l_else_7d_1:;
     mv32(r_w6_2, r_w6_3);
     mv32(r_w6_3, slot_2);
 l_core_e6_1:;
-    if (!(r_ax_1 == t_gg_1)) { u64 r_3 = (r_ax_1 + 1ull); u64 r_4 = r_zn_2; r_ax_1 = r_3; r_du_2 = r_4; goto l_join_73_1; }
+    if (!(r_ax_1 == t_gg_1)) { u64 r_3 = (r_ax_1 + 1ull); u64 r_4 = r_zn_2; r_ax_1 = r_3; r_du_1 = r_4; goto l_join_73_1; }
 l_join_jj_1:;
-    if (r_03 == 0ull) goto l_capnp_at_1;
+    if (r_38_13 == 0ull) goto l_capnp_f8;
 l_arm_m6_1:;
-    r_8n = r_03;
+    r_8n = r_38_13;
 l_arm_a7:;
     r_zn_3 = (r_8n + 0xffffffffffffffffull);
     r_w6_4 = (t_f6 + (i64)((u64)(r_zn_3 << 5ull)));
@@ -9465,40 +9632,43 @@ l_arm_a7:;
     rattle_dealloc(ldp(r_w6_4));
 l_capnp_jj_1:;
     if (!(r_zn_3 == 0ull)) { r_8n = r_zn_3; goto l_arm_a7; }
-l_capnp_at_1:;
-    if (r_38_15 == 0ull) goto l_capnp_ti;
+l_capnp_f8:;
+    if (r_38_14 == 0ull) { r_b2 = ((u8 *)0); r_5h_1 = 0ull; r_hs = 0ull; r_wi = 0ull; r_4m = ((u8 *)0); r_eu = 0ull; r_sb = 0ull; r_ds = 0u; r_q3 = 0ull; r_b4 = r_cf_1; r_7d = r_zx; r_ta = r_93; r_37 = r_z4_1; r_jn = 0u; r_dq = r_38_7; goto l_join_19; }
     rattle_dealloc(t_f6);
-l_capnp_ti:;
-    mv7(slot_11, slot_9);
-    r_z5 = r_38_7;
-    r_nu = r_z4_1;
-    r_6n = r_4i;
-    r_jq = r_3k;
-    r_yl = r_e6_1;
-    goto l_arm_f7;
-l_common_68:;
-    return;
-l_arm_f7:;
-    if ((r_m4 != 0x1fffffffu) ? (r_yl == 27u) : 0u) goto l_after_3i;
-    st64(a_1, 1ull);
-    st32(away(a_1, 8ull), (u32)r_yl);
-    st32(away(a_1, 12ull), r_jq);
-    st64(away(a_1, 16ull), r_6n);
-    st32(away(a_1, 24ull), r_nu);
-    st32(away(a_1, 28ull), 0u);
-    st64(away(a_1, 32ull), r_z5);
-    memset(away(a_1, 40ull), 0u, 41);
-    mv7(away(a_1, 81ull), slot_10);
-    memset(away(a_1, 88ull), 0u, 24);
+    r_b2 = ((u8 *)0);
+    r_5h_1 = 0ull;
+    r_hs = 0ull;
+    r_wi = 0ull;
+    r_4m = ((u8 *)0);
+    r_eu = 0ull;
+    r_sb = 0ull;
+    r_ds = 0u;
+    r_q3 = 0ull;
+    r_b4 = r_cf_1;
+    r_7d = r_zx;
+    r_ta = r_93;
+    r_37 = r_z4_1;
+    r_jn = 0u;
+    r_dq = r_38_7;
+l_join_19:;
+    st64(a_1, (u64)r_py);
+    st32(away(a_1, 8ull), r_b4);
+    st32(away(a_1, 12ull), r_7d);
+    st64(away(a_1, 16ull), r_ta);
+    st32(away(a_1, 24ull), r_37);
+    st32(away(a_1, 28ull), r_jn);
+    st64(away(a_1, 32ull), r_dq);
+    st64(away(a_1, 40ull), r_q3);
+    stp(away(a_1, 48ull), r_b2);
+    st64(away(a_1, 56ull), r_5h_1);
+    st64(away(a_1, 64ull), r_hs);
+    st64(away(a_1, 72ull), r_wi);
+    st8(away(a_1, 80ull), r_ds);
+    mv7(away(a_1, 81ull), slot_11);
+    stp(away(a_1, 88ull), r_4m);
+    st64(away(a_1, 96ull), r_eu);
+    st64(away(a_1, 104ull), r_sb);
     goto l_common_68;
-l_after_3i:;
-    u32 r_5 = umin32((u32)(r_m4 << 1u), 0x1fffffffu);
-    u32 r_6 = r_nu;
-    u64 r_7 = r_z5;
-    r_m4 = r_5;
-    r_uc = r_6;
-    r_tp_1 = r_7;
-    goto l_loop_xs;
 }
 
 /* capnp_messages::messages::canonical_copy::allocate_root::<#a36f54a6c3481657> */
@@ -9522,14 +9692,14 @@ static void capnp_messages_messages_canonical_copy_allocate_root_a_37f0c9a9(u8 *
     r_xz = away(a_2, 24ull);
     r_52 = ld64(r_xz);
     if (r_52 > 0xfffffffeull) { r_50 = 27u; r_0h = 0xffffffffffffffffull; goto l_arm_hr; }
-    if (!(a_3 > 0x1fffffffu)) goto l_join_d2;
+    if (!(a_3 > 0x1fffffffu)) goto l_join_f6;
     r_50 = 27u;
     r_0h = (u64)a_3;
     goto l_arm_hr;
-l_join_d2:;
-    u32 a_ae = umax32(a_3, ld32(a_2));
-    r_z6 = (u64)((u64)a_ae << 3ull);
-    r_sz = (a_ae == 0u);
+l_join_f6:;
+    u32 a_rm = umax32(a_3, ld32(a_2));
+    r_z6 = (u64)((u64)a_rm << 3ull);
+    r_sz = (a_rm == 0u);
     if (r_sz) { r_kl = r_52; r_69 = slot_1; goto l_arm_z2; }
     struct s_i64_i64 r_5u = rattle_alloc(r_z6, 1ull);
     r_1y = r_5u;
@@ -12702,6 +12872,708 @@ l_capnp_9c:;
     st32(away(a_1, 12ull), r_n4);
     st64(away(a_1, 16ull), r_yp);
     return;
+}
+
+/* capnp_messages::messages::copy_size::add_value::<#1e87a151ef20e12e> */
+static void capnp_messages_messages_copy_size_add_value_1e87a151ef20e12e(u8 *a_1, u8 *a_2, u32 a_3, u32 a_4, u32 a_5, u8 *a_6)
+{
+    A(8) u8 slot_1[56];
+    A(8) u8 slot_2[64];
+    A(8) u8 slot_3[64];
+    A(8) u8 slot_4[64];
+    A(8) u8 slot_5[48];
+    A(8) u8 slot_6[24];
+    u64 r_52;
+    u8 *r_xw;
+    u64 r_38;
+    u8 r_y8;
+    u8 *r_rq;
+    u8 *r_xw_1;
+    u64 r_7l;
+    u64 r_gw;
+    u64 r_qw;
+    u64 t_al;
+    u8 t_pa;
+    u64 r_lc;
+    u64 r_nb;
+    u64 r_yz;
+    u32 r_gx;
+    u32 r_qd;
+    u64 r_d4;
+    u64 r_9h;
+    u64 r_27;
+    u64 r_hv;
+    u64 r_ep;
+    u64 r_y6;
+    u64 r_lc_1;
+    u8 *r_rq_1;
+    u64 r_52_2;
+    u64 r_ep_1;
+    u8 switch_wl;
+    u64 r_ij;
+    u64 r_c4_1;
+    u64 r_24_1;
+    u64 r_gw_2;
+    u8 *r_rq_2;
+    u64 r_52_3;
+    u64 r_eh;
+    u32 t_c8;
+    u32 r_12_1;
+    u32 r_az_1;
+    u32 r_68;
+    u64 r_c0;
+    u8 *r_rq_3;
+    u64 r_52_4;
+    u32 r_12_2;
+    u8 *r_rq_4;
+    u64 r_52_5;
+    u32 r_12_3;
+    u8 *r_rq_5;
+    u64 r_52_6;
+    u32 r_12_4;
+    u64 r_c6;
+    u8 *r_rq_6;
+    u64 r_52_7;
+    u64 r_2g;
+    u64 r_jg;
+    u64 r_6e;
+    u32 r_jp;
+    u32 r_eq;
+    u8 r_8e;
+    u32 r_7q;
+    u32 r_b2;
+    u32 r_pp;
+    u32 r_9q;
+    u32 r_ai;
+    u32 r_m0;
+    u64 r_ph;
+    u16 r_wc;
+    u16 r_vt;
+    u64 r_n4;
+    u64 r_n3;
+    u8 r_06;
+    u64 r_bd;
+    u32 r_1p;
+    u32 r_fp;
+    u32 r_2a;
+    u32 r_xi;
+    u32 r_14;
+    u64 r_lc_6;
+    u32 r_12_5;
+    u32 r_mx;
+    memset((slot_2 + 40), 0u, 24);
+    st64((slot_3 + 56), 0ull);
+    st64((slot_4 + 56), 0ull);
+    memset(slot_6, 0u, 24);
+    r_52 = ld64(away(a_2, 24ull));
+    r_xw = ldp(away(a_2, 32ull));
+    r_38 = ld64(away(a_2, 40ull));
+    r_y8 = ld8(a_2);
+    r_rq = away(a_2, 8ull);
+    r_xw_1 = ldp(r_rq);
+    r_7l = (u64)a_3;
+    r_gw = (u64)(r_38 >> 3ull);
+    if (!(r_gw > r_7l)) { r_wc = 0u; r_vt = 0u; r_n4 = 0ull; r_n3 = 0ull; r_06 = 0u; r_bd = 0ull; r_1p = 0u; r_fp = 0u; r_2a = 0u; r_xi = 0u; r_14 = 0u; goto l_join_07; }
+    r_qw = ld64((r_xw + (i64)((u64)(r_7l << 3ull))));
+    if (r_qw == 0ull) { r_wc = 0u; r_vt = 0u; r_n4 = 0ull; r_n3 = 0ull; r_06 = 0u; r_bd = 0ull; r_1p = 0u; r_fp = 0u; r_2a = 0u; r_xi = 0u; r_14 = 0u; goto l_join_07; }
+    t_al = (u64)(uptr)r_xw;
+    memset(slot_1, 0u, 56);
+    t_pa = (r_y8 != 0u);
+    if (t_pa) goto l_capnp_sm;
+    u8 *r_08 = away(a_6, 16ull);
+    st64(r_08, uadd_sat64(ld64(r_08), 1ull));
+    if ((r_qw & 3ull) == 2ull) goto l_capnp_q3;
+    goto l_join_bd;
+l_capnp_sm:;
+    if (!((r_qw & 3ull) == 2ull)) goto l_join_bd;
+    st32((slot_1 + 8), 32u);
+    r_2g = ld64((slot_1 + 8));
+    goto l_capnp_8g;
+l_join_bd:;
+    u64 r_m6 = ((u64)(r_qw >> 2ull) & 0x3fffffffull);
+    r_lc = ((r_7l + 1ull) + r_m6);
+    r_nb = (r_gw & 0xffffffffull);
+    if (!(r_m6 < 0x20000000ull)) goto l_else_70;
+    if (r_lc > r_nb) { r_2g = 23ull; goto l_capnp_8g; }
+    r_yz = r_lc;
+    goto l_capnp_i5;
+l_else_70:;
+    u64 r_3o = (r_lc + 0xffffffffc0000000ull);
+    if ((r_lc < 0x40000000ull) ? 1u : (r_3o > r_nb)) { r_2g = 23ull; goto l_capnp_8g; }
+    r_yz = r_3o;
+l_capnp_i5:;
+    r_gx = 0u;
+    r_qd = (u32)r_yz;
+    r_d4 = r_52;
+    r_9h = r_qw;
+    r_27 = r_38;
+    r_hv = t_al;
+    goto l_arm_wn;
+l_capnp_q3:;
+    capnp_objects_source_follow_far_1e87a151ef20e12e(slot_1, r_xw_1, r_qw, a_6);
+    u64 r_38_2 = ld64((slot_1 + 16));
+    u64 r_38_3 = ld64((slot_1 + 8));
+    if (ld8(slot_1) == 0u) { r_gx = ld32((slot_1 + 44)); r_qd = ld32((slot_1 + 40)); r_d4 = r_38_2; r_9h = r_38_3; r_27 = ld64((slot_1 + 32)); r_hv = ld64((slot_1 + 24)); goto l_arm_wn; }
+    r_jg = r_38_2;
+    r_6e = r_38_3;
+    goto l_capnp_qu;
+l_arm_wn:;
+    switch ((u8)((u8)r_9h & 3u)) {
+    case 0u: goto l_arm_9l;
+    case 1u: goto l_arm_z2;
+    case 2u: { r_pp = 1u; r_9q = 0u; r_ai = 13u; r_m0 = 0u; r_ph = 0ull; goto l_common_4n; }
+    case 3u: goto l_capnp_7o;
+    default: goto l_default_e1;
+    }
+l_arm_9l:;
+    r_ep = (u64)(r_9h >> 32ull);
+    r_y6 = (u64)(r_9h >> 48ull);
+    if ((i32)a_4 < (i32)1u) { r_pp = 1u; r_9q = 0u; r_ai = 26u; r_m0 = 0u; r_ph = 0ull; goto l_common_4n; }
+    r_lc_1 = ((r_ep & 65535ull) + r_y6);
+    if (((u64)(r_27 >> 3ull) & 0xffffffffull) < (r_lc_1 + (u64)r_qd)) { r_pp = 1u; r_9q = 0u; r_ai = 23u; r_m0 = 0u; r_ph = 0ull; goto l_common_4n; }
+    if (t_pa) goto l_arm_mf;
+    if (!(ld8(a_6) == 1u)) goto l_arm_mf;
+    r_rq_1 = away(a_6, 8ull);
+    r_52_2 = ld64(r_rq_1);
+    if (r_52_2 < r_lc_1) { r_pp = 1u; r_9q = 0u; r_ai = 30u; r_m0 = 0u; r_ph = 0ull; goto l_common_4n; }
+    st64(a_6, 1ull);
+    st64(r_rq_1, (r_52_2 - r_lc_1));
+l_arm_mf:;
+    r_jp = r_qd;
+    r_eq = r_gx;
+    r_8e = 2u;
+    r_7q = ((u32)((u32)r_y6 << 16u) | ((u32)r_ep & 65535u));
+    r_b2 = 0u;
+    goto l_arm_6k;
+l_arm_z2:;
+    r_ep_1 = (u64)(r_9h >> 32ull);
+    switch_wl = (u8)((u8)r_ep_1 & 7u);
+    r_ij = (u64)(r_9h >> 35ull);
+    switch (switch_wl) {
+    case 7u: goto l_arm_kl;
+    case 6u: goto l_arm_oi;
+    case 0u: goto l_arm_oi_1;
+    case 1u: goto l_arm_oi_2;
+    case 2u: goto l_arm_oi_2;
+    case 3u: goto l_arm_oi_2;
+    case 4u: goto l_arm_oi_2;
+    case 5u: goto l_arm_oi_2;
+    default: goto l_default_e1;
+    }
+l_arm_kl:;
+    if ((i32)a_4 < (i32)1u) { r_pp = 1u; r_9q = 0u; r_ai = 26u; r_m0 = 0u; r_ph = 0ull; goto l_common_4n; }
+    r_c4_1 = (r_ij + 1ull);
+    r_24_1 = (u64)r_qd;
+    r_gw_2 = (u64)(r_27 >> 3ull);
+    if ((r_gw_2 & 0xffffffffull) < (r_c4_1 + r_24_1)) { r_pp = 1u; r_9q = 0u; r_ai = 23u; r_m0 = 0u; r_ph = 0ull; goto l_common_4n; }
+    if (t_pa) goto l_arm_ga;
+    if (!(ld8(a_6) == 1u)) goto l_arm_ga;
+    r_rq_2 = away(a_6, 8ull);
+    r_52_3 = ld64(r_rq_2);
+    if (!(r_52_3 > r_ij)) { r_pp = 1u; r_9q = 0u; r_ai = 30u; r_m0 = 0u; r_ph = 0ull; goto l_common_4n; }
+    st64(a_6, 1ull);
+    st64(r_rq_2, (r_52_3 - r_c4_1));
+l_arm_ga:;
+    if (!(r_gw_2 > r_24_1)) { r_eh = 0ull; goto l_join_qm; }
+    u64 r_qw_1 = ld64((((u8 *)(uptr)r_hv) + (i64)((u64)(r_24_1 << 3ull))));
+    if ((r_qw_1 & 3ull) == 0ull) { r_eh = r_qw_1; goto l_join_qm; }
+    r_pp = 1u;
+    r_9q = 0u;
+    r_ai = 11u;
+    r_m0 = 0u;
+    r_ph = 0ull;
+    goto l_common_4n;
+l_join_qm:;
+    t_c8 = (u32)((u32)r_eh >> 2u);
+    r_12_1 = (u32)(u64)(r_eh >> 48ull);
+    r_az_1 = ((u32)(u64)(r_eh >> 32ull) & 65535u);
+    r_68 = (r_az_1 + r_12_1);
+    r_c0 = (u64)t_c8;
+    if (r_ij < ((u64)r_68 * r_c0)) { r_pp = 1u; r_9q = 0u; r_ai = 10u; r_m0 = 0u; r_ph = 0ull; goto l_common_4n; }
+    if ((u8)((u8)t_pa | (u8)(r_68 != 0u))) goto l_arm_8v;
+    if (!(ld8(a_6) == 1u)) goto l_arm_8v;
+    r_rq_3 = away(a_6, 8ull);
+    r_52_4 = ld64(r_rq_3);
+    if (r_52_4 < r_c0) { r_pp = 1u; r_9q = 0u; r_ai = 30u; r_m0 = 0u; r_ph = 0ull; goto l_common_4n; }
+    st64(a_6, 1ull);
+    st64(r_rq_3, (r_52_4 - r_c0));
+l_arm_8v:;
+    r_jp = (r_qd + 1u);
+    r_eq = 0u;
+    r_8e = 5u;
+    r_7q = ((u32)(r_12_1 << 16u) | r_az_1);
+    r_b2 = t_c8;
+    goto l_arm_6k;
+l_arm_oi:;
+    r_12_2 = (u32)r_ij;
+    if ((i32)a_4 < (i32)1u) { r_pp = 1u; r_9q = 0u; r_ai = 26u; r_m0 = 0u; r_ph = 0ull; goto l_common_4n; }
+    if (((u64)(r_27 >> 3ull) & 0xffffffffull) < (r_ij + (u64)r_qd)) { r_pp = 1u; r_9q = 0u; r_ai = 23u; r_m0 = 0u; r_ph = 0ull; goto l_common_4n; }
+    if (t_pa) { r_jp = r_qd; r_eq = r_gx; r_8e = 4u; r_7q = r_12_2; r_b2 = 0u; goto l_arm_6k; }
+    if (!(ld8(a_6) == 1u)) { r_jp = r_qd; r_eq = r_gx; r_8e = 4u; r_7q = r_12_2; r_b2 = 0u; goto l_arm_6k; }
+    r_rq_4 = away(a_6, 8ull);
+    r_52_5 = ld64(r_rq_4);
+    if (r_52_5 < r_ij) { r_pp = 1u; r_9q = 0u; r_ai = 30u; r_m0 = 0u; r_ph = 0ull; goto l_common_4n; }
+    st64(a_6, 1ull);
+    st64(r_rq_4, (r_52_5 - r_ij));
+    r_jp = r_qd;
+    r_eq = r_gx;
+    r_8e = 4u;
+    r_7q = r_12_2;
+    r_b2 = 0u;
+    goto l_arm_6k;
+l_arm_oi_1:;
+    r_12_3 = (u32)r_ij;
+    if ((i32)a_4 < (i32)1u) { r_pp = 1u; r_9q = 0u; r_ai = 26u; r_m0 = 0u; r_ph = 0ull; goto l_common_4n; }
+    if (((u64)(r_27 >> 3ull) & 0xffffffffull) < (u64)r_qd) { r_pp = 1u; r_9q = 0u; r_ai = 23u; r_m0 = 0u; r_ph = 0ull; goto l_common_4n; }
+    if (t_pa) { r_jp = r_qd; r_eq = r_gx; r_8e = 3u; r_7q = 0u; r_b2 = r_12_3; goto l_arm_6k; }
+    if (!(ld8(a_6) == 1u)) { r_jp = r_qd; r_eq = r_gx; r_8e = 3u; r_7q = 0u; r_b2 = r_12_3; goto l_arm_6k; }
+    st64(a_6, 1ull);
+    r_rq_5 = away(a_6, 8ull);
+    r_52_6 = ld64(r_rq_5);
+    if (r_52_6 < r_ij) { r_pp = 1u; r_9q = 0u; r_ai = 30u; r_m0 = 0u; r_ph = 0ull; goto l_common_4n; }
+    st64(r_rq_5, (r_52_6 - r_ij));
+    r_jp = r_qd;
+    r_eq = r_gx;
+    r_8e = 3u;
+    r_7q = 0u;
+    r_b2 = r_12_3;
+    goto l_arm_6k;
+l_arm_oi_2:;
+    r_12_4 = (u32)r_ij;
+    if ((i32)a_4 < (i32)1u) { r_pp = 1u; r_9q = 0u; r_ai = 26u; r_m0 = 0u; r_ph = 0ull; goto l_common_4n; }
+    r_c6 = (u64)(((ld64(away(away(((u8 *)switch_table_capnp_objects_pointers_validate_validate__e3024457), 8 * (r_ep_1 & 7ull)), 0xfffffffffffffff8ull)) * r_ij) + 63ull) >> 6ull);
+    if (((u64)(r_27 >> 3ull) & 0xffffffffull) < (r_c6 + (u64)r_qd)) { r_pp = 1u; r_9q = 0u; r_ai = 23u; r_m0 = 0u; r_ph = 0ull; goto l_common_4n; }
+    if (t_pa) goto l_arm_eq;
+    if (!(ld8(a_6) == 1u)) goto l_arm_eq;
+    r_rq_6 = away(a_6, 8ull);
+    r_52_7 = ld64(r_rq_6);
+    if (r_52_7 < r_c6) { r_pp = 1u; r_9q = 0u; r_ai = 30u; r_m0 = 0u; r_ph = 0ull; goto l_common_4n; }
+    st64(a_6, 1ull);
+    st64(r_rq_6, (r_52_7 - r_c6));
+l_arm_eq:;
+    r_jp = r_qd;
+    r_eq = r_gx;
+    r_8e = 3u;
+    r_7q = (u32)switch_wl;
+    r_b2 = r_12_4;
+    goto l_arm_6k;
+l_default_e1:;
+    UNREACHABLE();
+l_capnp_8g:;
+    r_jg = 0ull;
+    r_6e = r_2g;
+l_capnp_qu:;
+    r_pp = 1u;
+    r_9q = 0u;
+    r_ai = ((u32)r_6e & 255u);
+    r_m0 = (u32)(u64)(r_6e >> 32ull);
+    r_ph = r_jg;
+    goto l_common_4n;
+l_arm_6k:;
+    r_wc = (u16)(u32)(r_7q >> 16u);
+    r_vt = (u16)r_7q;
+    r_n4 = r_hv;
+    r_n3 = r_27;
+    r_06 = r_8e;
+    r_bd = r_d4;
+    r_1p = r_jp;
+    r_fp = r_eq;
+    r_2a = r_7q;
+    r_xi = r_b2;
+    r_14 = (u32)r_8e;
+    goto l_join_07;
+l_capnp_7o:;
+    r_pp = 1u;
+    r_9q = 0u;
+    r_ai = (((r_9h & 0xffffffffull) == 3ull) ? 1u : 34u);
+    r_m0 = 0u;
+    r_ph = 0ull;
+l_common_4n:;
+    st32(a_1, r_pp);
+    st32(away(a_1, 4ull), r_9q);
+    st32(away(a_1, 8ull), r_ai);
+    st32(away(a_1, 12ull), r_m0);
+    st64(away(a_1, 16ull), r_ph);
+    return;
+l_join_07:;
+    st32(slot_5, r_14);
+    st32((slot_5 + 4), 0u);
+    st64((slot_5 + 8), r_bd);
+    st64((slot_5 + 16), r_n4);
+    st64((slot_5 + 24), r_n3);
+    st32((slot_5 + 32), r_1p);
+    st32((slot_5 + 36), r_fp);
+    st32((slot_5 + 40), r_2a);
+    st32((slot_5 + 44), r_xi);
+    u32 r_x3 = capnp_messages_messages_copy_size_object_words(slot_5);
+    r_lc_6 = ((u64)r_x3 + (u64)a_5);
+    if (r_lc_6 > 0x1fffffffull) { r_pp = 1u; r_9q = 0u; r_ai = 27u; r_m0 = 0u; r_ph = 0x1fffffffull; goto l_common_4n; }
+    r_12_5 = (u32)r_lc_6;
+    r_mx = ((a_4 == 0x80000000u) ? 0x80000000u : (a_4 + 0xffffffffu));
+    switch (r_06) {
+    case 0u: goto l_arm_jm;
+    case 1u: goto l_arm_jm_1;
+    case 3u: goto l_arm_jm_2;
+    case 2u: goto l_arm_eo;
+    case 4u: goto l_arm_eo_1;
+    case 5u: goto l_arm_eo_2;
+    default: goto l_noarm_e1;
+    }
+l_arm_jm:;
+    st32(slot_6, 0u);
+    st32((slot_6 + 4), r_12_5);
+    goto l_join_v6;
+l_arm_jm_1:;
+    st32(slot_6, 0u);
+    st32((slot_6 + 4), r_12_5);
+    goto l_join_v6;
+l_arm_jm_2:;
+    st32(slot_6, 0u);
+    st32((slot_6 + 4), r_12_5);
+    goto l_join_v6;
+l_arm_eo:;
+    st64(slot_2, (u64)ld8(a_2));
+    mv16((slot_2 + 8), r_rq);
+    st64((slot_2 + 24), r_bd);
+    st64((slot_2 + 32), r_n4);
+    st64((slot_2 + 40), r_n3);
+    st32((slot_2 + 48), r_1p);
+    st32((slot_2 + 52), r_fp);
+    st32((slot_2 + 56), r_mx);
+    capnp_messages_messages_copy_size_add_elements_1e87a151ef20e12e(slot_6, slot_2, r_vt, r_wc, 1u, r_12_5, a_6);
+    goto l_join_v6;
+l_arm_eo_1:;
+    st64(slot_3, (u64)ld8(a_2));
+    mv16((slot_3 + 8), r_rq);
+    st64((slot_3 + 24), r_bd);
+    st64((slot_3 + 32), r_n4);
+    st64((slot_3 + 40), r_n3);
+    st32((slot_3 + 48), r_1p);
+    st32((slot_3 + 52), r_fp);
+    st32((slot_3 + 56), r_mx);
+    capnp_messages_messages_copy_size_add_pointers_1e87a151ef20e12e(slot_6, slot_3, r_1p, r_2a, r_mx, r_12_5, a_6);
+    goto l_join_v6;
+l_arm_eo_2:;
+    st64(slot_4, (u64)ld8(a_2));
+    mv16((slot_4 + 8), r_rq);
+    st64((slot_4 + 24), r_bd);
+    st64((slot_4 + 32), r_n4);
+    st64((slot_4 + 40), r_n3);
+    st32((slot_4 + 48), r_1p);
+    st32((slot_4 + 52), r_fp);
+    st32((slot_4 + 56), r_mx);
+    capnp_messages_messages_copy_size_add_elements_1e87a151ef20e12e(slot_6, slot_4, r_vt, r_wc, r_xi, r_12_5, a_6);
+l_join_v6:;
+    r_pp = (u32)ld8(slot_6);
+    r_9q = ld32((slot_6 + 4));
+    r_ai = (u32)ld8((slot_6 + 8));
+    r_m0 = ld32((slot_6 + 12));
+    r_ph = ld64((slot_6 + 16));
+    goto l_common_4n;
+l_noarm_e1:;
+    UNREACHABLE();
+}
+
+/* capnp_messages::messages::copy_size::object_words */
+static u32 capnp_messages_messages_copy_size_object_words(u8 *a_1)
+{
+    A(8) u8 slot_1[32];
+    u8 *r_rv;
+    u32 r_5k;
+    u32 r_5k_1;
+    u32 r_98;
+    u32 r_5d;
+    u32 r_5k_2;
+    u64 r_es;
+    u64 r_u7;
+    u64 r_lc;
+    u64 r_24_1;
+    u64 r_z6;
+    u8 r_c6_1;
+    u32 r_xu;
+    u32 r_t2;
+    u64 r_4c;
+    u8 *r_2b;
+    u64 r_nm;
+    u64 r_nm_1;
+    u64 r_9w;
+    u32 spec_xy;
+    u64 r_z6_3;
+    u8 r_p1;
+    u32 r_q6;
+    u32 r_5w;
+    u64 r_cx;
+    u8 *r_2b_1;
+    u64 r_nm_2;
+    u64 r_nm_3;
+    u64 r_9w_1;
+    u32 spec_xy_1;
+    u32 r_gw;
+    r_rv = ldp(away(a_1, 16ull));
+    r_5k = ld32(away(a_1, 32ull));
+    r_5k_1 = ld32(away(a_1, 40ull));
+    r_98 = (u32)(r_5k_1 >> 8u);
+    r_5d = (u32)(r_5k_1 >> 16u);
+    r_5k_2 = ld32(away(a_1, 44ull));
+    switch (ld8(a_1)) {
+    case 0u: { r_gw = 0u; goto l_join_ti; }
+    case 1u: { r_gw = 0u; goto l_join_ti; }
+    case 2u: goto l_arm_2z;
+    case 3u: goto l_arm_qg;
+    case 4u: goto l_arm_qu;
+    case 5u: goto l_arm_i8;
+    default: goto l_noarm_e1;
+    }
+l_arm_2z:;
+    u32 r_5k_3 = ld32(away(a_1, 36ull));
+    u64 r_qw_1 = ld64(away(a_1, 24ull));
+    st64(slot_1, ld64(away(a_1, 8ull)));
+    stp((slot_1 + 8), r_rv);
+    st64((slot_1 + 16), r_qw_1);
+    st32((slot_1 + 24), r_5k);
+    st32((slot_1 + 28), r_5k_3);
+    u32 r_28 = capnp_messages_messages_copy_size_struct_words(slot_1, (u16)((u16)((u32)(u16)r_98 << 8u) | (u16)((u16)r_5k_1 & 255u)), (u16)r_5d);
+    r_gw = r_28;
+    goto l_join_ti;
+l_arm_qg:;
+    r_gw = (u32)(u64)(((ld64((((u8 *)switch_table_capnp_objects_pointers_sizes_add_object_4_213c6dfd) + (i64)(8 * (u64)(r_5k_1 & 255u)))) * (u64)r_5k_2) + 63ull) >> 6ull);
+    goto l_join_ti;
+l_arm_qu:;
+    r_gw = r_5k_1;
+    goto l_join_ti;
+l_arm_i8:;
+    if (r_5k_2 == 0u) { r_gw = 1u; goto l_join_ti; }
+    u16 r_pz_1 = (u16)((u16)((u32)(u16)r_98 << 8u) | (u16)((u16)r_5k_1 & 255u));
+    r_es = (u64)r_5d;
+    r_u7 = (u64)r_pz_1;
+    r_lc = (r_u7 + r_es);
+    r_24_1 = (u64)r_5k;
+    r_z6 = (u64)(r_u7 << 3ull);
+    r_c6_1 = (r_pz_1 < 32u);
+    r_xu = 0u;
+    r_t2 = 0u;
+    r_4c = r_24_1;
+l_join_n8:;
+    r_2b = away(r_rv, (u64)(r_4c << 3ull));
+    if (r_c6_1) { r_nm = r_u7; goto l_loop_jc; }
+    goto l_else_wj;
+l_loop_jc:;
+    if (r_nm == 0ull) { r_9w = 0ull; goto l_capnp_xb; }
+    u64 r_0f = (r_nm + 0xffffffffffffffffull);
+    if (ld64((r_2b + (i64)((u64)(r_0f << 3ull)))) == 0ull) { r_nm = r_0f; goto l_loop_jc; }
+    r_9w = r_nm;
+    goto l_capnp_xb;
+l_else_wj:;
+    if (!(ld64(away(away(r_2b, r_z6), 0xfffffffffffffff8ull)) == 0ull)) { r_9w = r_u7; goto l_capnp_xb; }
+    u64 r_qz = capnp_words_lanes_used_words_bound(r_2b, r_z6);
+    r_nm_1 = r_qz;
+l_loop_jc_1:;
+    if (r_nm_1 == 0ull) { r_9w = 0ull; goto l_capnp_xb; }
+    u64 r_0f_1 = (r_nm_1 + 0xffffffffffffffffull);
+    if (ld64((r_2b + (i64)((u64)(r_0f_1 << 3ull)))) == 0ull) { r_nm_1 = r_0f_1; goto l_loop_jc_1; }
+    r_9w = r_nm_1;
+l_capnp_xb:;
+    spec_xy = umax32((u32)r_9w, r_t2);
+    u32 r_7t = (r_xu + 1u);
+    if (!(r_7t == r_5k_2)) { u32 r_1 = r_7t; u32 r_2 = spec_xy; u64 r_3 = (r_4c + r_lc); r_xu = r_1; r_t2 = r_2; r_4c = r_3; goto l_join_n8; }
+    r_z6_3 = (u64)(r_es << 3ull);
+    r_p1 = (r_5k_1 < 0x200000u);
+    r_q6 = 0u;
+    r_5w = 0u;
+    r_cx = r_24_1;
+l_join_my:;
+    r_2b_1 = away(r_rv, (u64)((r_cx + r_u7) << 3ull));
+    if (r_p1) { r_nm_2 = r_es; goto l_loop_jc_2; }
+    goto l_else_wj_1;
+l_loop_jc_2:;
+    if (r_nm_2 == 0ull) { r_9w_1 = 0ull; goto l_capnp_xb_1; }
+    u64 r_0f_2 = (r_nm_2 + 0xffffffffffffffffull);
+    if (ld64((r_2b_1 + (i64)((u64)(r_0f_2 << 3ull)))) == 0ull) { r_nm_2 = r_0f_2; goto l_loop_jc_2; }
+    r_9w_1 = r_nm_2;
+    goto l_capnp_xb_1;
+l_else_wj_1:;
+    if (!(ld64(away(away(r_2b_1, r_z6_3), 0xfffffffffffffff8ull)) == 0ull)) { r_9w_1 = r_es; goto l_capnp_xb_1; }
+    u64 r_qz_1 = capnp_words_lanes_used_words_bound(r_2b_1, r_z6_3);
+    r_nm_3 = r_qz_1;
+l_loop_jc_3:;
+    if (r_nm_3 == 0ull) { r_9w_1 = 0ull; goto l_capnp_xb_1; }
+    u64 r_0f_3 = (r_nm_3 + 0xffffffffffffffffull);
+    if (ld64((r_2b_1 + (i64)((u64)(r_0f_3 << 3ull)))) == 0ull) { r_nm_3 = r_0f_3; goto l_loop_jc_3; }
+    r_9w_1 = r_nm_3;
+l_capnp_xb_1:;
+    spec_xy_1 = umax32((u32)r_9w_1, r_5w);
+    u32 r_7t_1 = (r_q6 + 1u);
+    if (!(r_7t_1 == r_5k_2)) { u32 r_4 = r_7t_1; u32 r_5 = spec_xy_1; u64 r_6 = (r_cx + r_lc); r_q6 = r_4; r_5w = r_5; r_cx = r_6; goto l_join_my; }
+    r_gw = (((spec_xy_1 + spec_xy) * r_5k_2) + 1u);
+l_join_ti:;
+    return r_gw;
+l_noarm_e1:;
+    UNREACHABLE();
+}
+
+/* capnp_messages::messages::copy_size::add_elements::<#1e87a151ef20e12e> */
+static void capnp_messages_messages_copy_size_add_elements_1e87a151ef20e12e(u8 *a_1, u8 *a_2, u16 a_3, u16 a_4, u32 a_5, u32 a_6, u8 *a_7)
+{
+    A(8) u8 slot_1[24];
+    u32 r_m2;
+    u32 r_m2_1;
+    u32 r_68;
+    u8 *r_t9;
+    u8 *r_r2;
+    u8 *r_ix;
+    u32 r_31;
+    u32 r_19;
+    u32 r_kt;
+    memset(slot_1, 0u, 24);
+    if (a_4 == 0u) goto l_then_4n;
+    goto l_join_ux;
+l_common_68:;
+    return;
+l_then_4n:;
+    st32(a_1, 0u);
+    st32(away(a_1, 4ull), a_6);
+    memset(away(a_1, 8ull), 0u, 16);
+    goto l_common_68;
+l_join_ux:;
+    r_m2 = (u32)a_3;
+    r_m2_1 = (u32)a_4;
+    r_68 = (r_m2_1 + r_m2);
+    if (a_5 == 0u) { r_kt = a_6; goto l_after_iz; }
+    r_t9 = away(a_2, 48ull);
+    r_r2 = away(a_2, 56ull);
+    r_ix = (slot_1 + 4);
+    r_31 = a_6;
+    r_19 = 0u;
+l_join_qy:;
+    capnp_messages_messages_copy_size_add_pointers_1e87a151ef20e12e(slot_1, a_2, (((r_19 * r_68) + r_m2) + ld32(r_t9)), r_m2_1, ld32(r_r2), r_31, a_7);
+    if (!(ld8(slot_1) == 0u)) goto l_arm_5d;
+    u32 r_yf_2 = ld32(r_ix);
+    u32 r_7t = (r_19 + 1u);
+    if (r_7t == a_5) { r_kt = r_yf_2; goto l_after_iz; }
+    r_31 = r_yf_2;
+    r_19 = r_7t;
+    goto l_join_qy;
+l_arm_5d:;
+    u32 r_cf = (u32)ld8((slot_1 + 8));
+    u32 r_uq = ld32((slot_1 + 12));
+    u64 r_38 = ld64((slot_1 + 16));
+    st32(a_1, 1u);
+    st32(away(a_1, 4ull), 0u);
+    st32(away(a_1, 8ull), r_cf);
+    st32(away(a_1, 12ull), r_uq);
+    st64(away(a_1, 16ull), r_38);
+    goto l_common_68;
+l_after_iz:;
+    st32(a_1, 0u);
+    st32(away(a_1, 4ull), r_kt);
+    memset(away(a_1, 8ull), 0u, 16);
+    goto l_common_68;
+}
+
+/* capnp_messages::messages::copy_size::struct_words */
+static u32 capnp_messages_messages_copy_size_struct_words(u8 *a_1, u16 a_2, u16 a_3)
+{
+    u8 *r_rv;
+    u64 r_bi;
+    u64 r_lc;
+    u64 r_z6;
+    u8 *r_2b;
+    u64 r_nm;
+    u64 r_nm_1;
+    u64 r_w7;
+    u64 r_bi_1;
+    u64 r_z6_4;
+    u8 *r_2b_1;
+    u64 r_nm_2;
+    u64 r_nm_3;
+    u64 r_yv;
+    r_rv = ldp((a_1 + 8));
+    u64 r_24 = (u64)ld32((a_1 + 24));
+    r_bi = (u64)a_2;
+    r_lc = (r_24 + r_bi);
+    r_z6 = (u64)(r_bi << 3ull);
+    r_2b = away(r_rv, (u64)(r_24 << 3ull));
+    if (a_2 < 32u) { r_nm = r_bi; goto l_loop_jc; }
+    goto l_else_wj;
+l_loop_jc:;
+    if (r_nm == 0ull) { r_w7 = 0ull; goto l_capnp_yc; }
+    u64 r_0f = (r_nm + 0xffffffffffffffffull);
+    if (ld64((r_2b + (i64)((u64)(r_0f << 3ull)))) == 0ull) { r_nm = r_0f; goto l_loop_jc; }
+    r_w7 = r_nm;
+    goto l_capnp_yc;
+l_else_wj:;
+    if (!(ld64(away(away(r_2b, r_z6), 0xfffffffffffffff8ull)) == 0ull)) { r_w7 = r_bi; goto l_capnp_yc; }
+    u64 r_qz = capnp_words_lanes_used_words_bound(r_2b, r_z6);
+    r_nm_1 = r_qz;
+l_loop_jc_1:;
+    if (r_nm_1 == 0ull) { r_w7 = 0ull; goto l_capnp_yc; }
+    u64 r_0f_1 = (r_nm_1 + 0xffffffffffffffffull);
+    if (ld64((r_2b + (i64)((u64)(r_0f_1 << 3ull)))) == 0ull) { r_nm_1 = r_0f_1; goto l_loop_jc_1; }
+    r_w7 = r_nm_1;
+l_capnp_yc:;
+    r_bi_1 = (u64)a_3;
+    r_z6_4 = (u64)(r_bi_1 << 3ull);
+    r_2b_1 = away(r_rv, (u64)(r_lc << 3ull));
+    if (a_3 < 32u) { r_nm_2 = r_bi_1; goto l_loop_jc_2; }
+    goto l_else_wj_1;
+l_loop_jc_2:;
+    if (r_nm_2 == 0ull) { r_yv = 0ull; goto l_capnp_7g; }
+    u64 r_0f_2 = (r_nm_2 + 0xffffffffffffffffull);
+    if (ld64((r_2b_1 + (i64)((u64)(r_0f_2 << 3ull)))) == 0ull) { r_nm_2 = r_0f_2; goto l_loop_jc_2; }
+    r_yv = r_nm_2;
+    goto l_capnp_7g;
+l_else_wj_1:;
+    if (!(ld64(away(away(r_2b_1, r_z6_4), 0xfffffffffffffff8ull)) == 0ull)) { r_yv = r_bi_1; goto l_capnp_7g; }
+    u64 r_qz_1 = capnp_words_lanes_used_words_bound(r_2b_1, r_z6_4);
+    r_nm_3 = r_qz_1;
+l_loop_jc_3:;
+    if (r_nm_3 == 0ull) { r_yv = 0ull; goto l_capnp_7g; }
+    u64 r_0f_3 = (r_nm_3 + 0xffffffffffffffffull);
+    if (ld64((r_2b_1 + (i64)((u64)(r_0f_3 << 3ull)))) == 0ull) { r_nm_3 = r_0f_3; goto l_loop_jc_3; }
+    r_yv = r_nm_3;
+l_capnp_7g:;
+    return (u32)(r_yv + r_w7);
+}
+
+/* capnp_messages::messages::copy_size::add_pointers::<#1e87a151ef20e12e> */
+static NEVER void capnp_messages_messages_copy_size_add_pointers_1e87a151ef20e12e(u8 *a_1, u8 *a_2, u32 a_3, u32 a_4, u32 a_5, u32 a_6, u8 *a_7)
+{
+    A(8) u8 slot_1[24];
+    u8 *r_ix;
+    u32 r_ea;
+    u32 r_2l;
+    u32 r_kt;
+    memset(slot_1, 0u, 24);
+    if (a_4 == 0u) { r_kt = a_6; goto l_after_iz; }
+    r_ix = (slot_1 + 4);
+    r_ea = 0u;
+    r_2l = a_6;
+l_join_8s:;
+    capnp_messages_messages_copy_size_add_value_1e87a151ef20e12e(slot_1, a_2, (r_ea + a_3), a_5, r_2l, a_7);
+    if (!(ld8(slot_1) == 0u)) goto l_arm_5d;
+    u32 r_yf = ld32(r_ix);
+    u32 r_7t = (r_ea + 1u);
+    if (r_7t == a_4) { r_kt = r_yf; goto l_after_iz; }
+    r_ea = r_7t;
+    r_2l = r_yf;
+    goto l_join_8s;
+l_common_68:;
+    return;
+l_arm_5d:;
+    u32 r_cf = (u32)ld8((slot_1 + 8));
+    u32 r_uq = ld32((slot_1 + 12));
+    u64 r_38 = ld64((slot_1 + 16));
+    st32(a_1, 1u);
+    st32(away(a_1, 4ull), 0u);
+    st32(away(a_1, 8ull), r_cf);
+    st32(away(a_1, 12ull), r_uq);
+    st64(away(a_1, 16ull), r_38);
+    goto l_common_68;
+l_after_iz:;
+    st32(a_1, 0u);
+    st32(away(a_1, 4ull), r_kt);
+    memset(away(a_1, 8ull), 0u, 16);
+    goto l_common_68;
 }
 
 /* capnp_messages::messages::writing::canonical_bytes::<#a36f54a6c3481657> */
@@ -16814,10 +17686,9 @@ l_capnp_i0:;
     r_nq = 0u;
     goto l_arm_z0;
 l_capnp_bv:;
+    u8 *t_5q = (slot_2 + 64);
     u32 r_yf = ld32(away(a_2, 16ull));
     u8 *r_rv = ldp(r_mb);
-    memset(slot_1, 0u, 112);
-    u8 *t_5q = (slot_2 + 64);
     memset(t_5q, 0u, 16);
     st64((slot_2 + 16), (u64)(uptr)a_2);
     memset((slot_2 + 24), 0u, 16);
@@ -16957,104 +17828,279 @@ l_join_zd:;
 /* capnp_messages::messages::canonical_copy::canonicalize_reached::<#e33111b274e9e42d> */
 static void capnp_messages_messages_canonical_copy_canonicalize_re_52be4be5(u8 *a_1, u8 *a_2, u8 *a_3)
 {
+    A(8) u8 slot_1[24];
+    A(8) u8 slot_2[64];
+    A(8) u8 slot_3[64];
+    A(8) u8 slot_4[24];
+    A(8) u8 slot_5[32];
+    A(1) u8 slot_6[7];
+    A(8) u8 slot_7[16];
+    A(8) u8 slot_8[112];
+    A(8) u8 slot_9[80];
+    A(1) u8 slot_10[7];
+    A(8) u8 slot_11[16];
+    A(8) u8 slot_12[112];
+    A(8) u8 slot_13[80];
+    A(8) u8 slot_14[72];
+    u8 r_dh;
+    u64 r_eg;
+    u8 r_dd;
+    u8 *r_h5;
+    u8 *r_rv;
+    u64 r_qw;
+    u64 r_qw_1;
+    u8 *r_su;
+    u32 r_5k;
+    u32 r_5k_1;
+    u32 r_5k_2;
+    u32 r_5k_3;
+    u16 r_br;
+    u16 r_br_1;
+    u32 r_5k_4;
+    u32 t_1v;
+    u8 *r_x5_1;
+    u8 r_r5;
+    u32 r_z4_2;
+    u64 r_38_2;
+    u8 *t_6c;
+    u8 *t_6c_1;
+    u32 r_28;
+    u32 r_uq_3;
+    u8 r_r5_1;
+    u32 r_uq_4;
+    u64 r_38_3;
+    u32 r_1v;
+    u64 r_vf;
+    u32 r_li;
+    u32 r_09;
+    u64 r_9g;
+    u32 r_ze;
+    u32 r_s2;
+    u64 r_z6;
+    u64 r_6f;
+    u32 r_3l;
+    u32 r_rk;
+    u64 r_7q;
+    u32 r_yr;
+    u32 r_c1;
+    u64 r_g3;
+    r_dh = ld8(a_2);
+    r_eg = (u64)r_dh;
+    r_dd = ld8(away(a_2, 8ull));
+    r_h5 = away(a_2, 9ull);
+    r_rv = ldp(away(a_2, 16ull));
+    r_qw = ld64(away(a_2, 24ull));
+    r_qw_1 = ld64(away(a_2, 32ull));
+    r_su = away(a_2, 40ull);
+    r_5k = ld32(away(a_2, 56ull));
+    r_5k_1 = ld32(away(a_2, 60ull));
+    r_5k_2 = ld32(away(a_2, 64ull));
+    r_5k_3 = ld32(away(a_2, 68ull));
+    r_br = ld16(away(a_2, 72ull));
+    r_br_1 = ld16(away(a_2, 74ull));
+    r_5k_4 = ld32(away(a_2, 76ull));
+    memset(slot_12, 0u, 112);
+    memset(slot_14, 0u, 72);
+    mv7(slot_10, r_h5);
+    mv16(slot_11, r_su);
+    if (!(r_dd == 0u)) { t_1v = 1u; goto l_capnp_dd; }
+    u64 r_52 = ld64(away(r_rv, 24ull));
+    t_1v = ((r_52 < 0x1fffffffull) ? ((u32)r_52 + 1u) : 0x1fffffffu);
+l_capnp_dd:;
+    st64(slot_13, r_eg);
+    st8((slot_13 + 8), r_dd);
+    mv7((slot_13 + 9), r_h5);
+    stp((slot_13 + 16), r_rv);
+    st64((slot_13 + 24), r_qw);
+    st64((slot_13 + 32), r_qw_1);
+    mv16((slot_13 + 40), r_su);
+    st32((slot_13 + 56), r_5k);
+    st32((slot_13 + 60), r_5k_1);
+    st32((slot_13 + 64), r_5k_2);
+    st32((slot_13 + 68), r_5k_3);
+    st16((slot_13 + 72), r_br);
+    st16((slot_13 + 74), r_br_1);
+    st32((slot_13 + 76), r_5k_4);
+    capnp_messages_messages_canonical_copy_canonicalize_to_302fed18(slot_12, 0u, 0ull, slot_13, a_3, t_1v);
+    r_x5_1 = (slot_12 + 8);
+    if (!(ld8(slot_12) == 0u)) goto l_arm_5e;
+    u32 r_z4 = ld32(r_x5_1);
+    u32 r_uq = ld32((slot_12 + 12));
+    u64 r_38 = ld64((slot_12 + 16));
+    u32 r_z4_1 = ld32((slot_12 + 24));
+    u32 r_uq_1 = ld32((slot_12 + 28));
+    u64 r_38_1 = ld64((slot_12 + 32));
+    memcpy(slot_14, (slot_12 + 40), 72);
+    r_6f = 0ull;
+    r_3l = r_z4;
+    r_rk = r_uq;
+    r_7q = r_38;
+    r_yr = r_z4_1;
+    r_c1 = r_uq_1;
+    r_g3 = r_38_1;
+    goto l_join_6f;
+l_arm_5e:;
+    r_r5 = ld8(r_x5_1);
+    r_z4_2 = ld32((slot_12 + 24));
+    r_38_2 = ld64((slot_12 + 32));
+    if ((t_1v != 0x1fffffffu) ? (r_r5 == 27u) : 0u) goto l_after_xs;
+    goto l_join_2x;
+l_common_68:;
+    return;
+l_join_2x:;
+    u32 r_uq_2 = ld32((slot_12 + 28));
+    u64 t_38 = ld64((slot_12 + 16));
+    u32 t_uq = ld32((slot_12 + 12));
+    st64(a_1, 1ull);
+    st32(away(a_1, 8ull), (u32)r_r5);
+    st32(away(a_1, 12ull), t_uq);
+    st64(away(a_1, 16ull), t_38);
+    st32(away(a_1, 24ull), r_z4_2);
+    st32(away(a_1, 28ull), r_uq_2);
+    st64(away(a_1, 32ull), r_38_2);
+    memset(away(a_1, 40ull), 0u, 72);
+    goto l_common_68;
+l_after_xs:;
+    mv7(slot_6, slot_10);
+    mv16(slot_7, slot_11);
+    memset(slot_8, 0u, 112);
+    memset(slot_9, 0u, 80);
+    t_6c = (slot_2 + 56);
+    u8 r_dh_1 = ld8(a_3);
+    u64 r_qw_2 = ld64(away(a_3, 8ull));
+    st64(t_6c, 0ull);
+    t_6c_1 = (slot_3 + 56);
+    st64(t_6c_1, 0ull);
+    memset(slot_4, 0u, 24);
+    st64(slot_1, (u64)r_dh_1);
+    st64((slot_1 + 8), r_qw_2);
+    st64((slot_1 + 16), 0ull);
+    if (!(r_dh == 0u)) goto l_arm_cw;
+    st64(slot_2, (u64)r_dd);
+    stp((slot_2 + 8), r_rv);
+    st64((slot_2 + 16), r_qw);
+    st64((slot_2 + 24), r_qw_1);
+    mv16((slot_2 + 32), slot_11);
+    st32((slot_2 + 48), r_5k);
+    st32((slot_2 + 52), r_5k_1);
+    st32(t_6c, r_5k_2);
+    capnp_messages_messages_copy_size_add_value_9fb2c9fcfadbb7fb(slot_4, slot_2, r_5k, r_5k_2, 1u, slot_1);
+    goto l_capnp_x0;
+l_arm_cw:;
+    st64(slot_5, r_qw_1);
+    mv16((slot_5 + 8), slot_11);
+    st32((slot_5 + 24), r_5k);
+    st32((slot_5 + 28), r_5k_1);
+    r_28 = capnp_messages_messages_copy_size_struct_words(slot_5, r_br, r_br_1);
+    if (!(r_28 > 0x1ffffffeu)) goto l_arm_u5;
+    r_1v = 0x1fffffffu;
+    goto l_arm_dd;
+l_arm_u5:;
+    u32 r_w0 = (r_5k + (u32)r_br);
+    st64(slot_3, (u64)r_dd);
+    stp((slot_3 + 8), r_rv);
+    st64((slot_3 + 16), r_qw);
+    st64((slot_3 + 24), r_qw_1);
+    mv16((slot_3 + 32), slot_11);
+    st32((slot_3 + 48), r_w0);
+    st32((slot_3 + 52), 0u);
+    st32(t_6c_1, r_5k_2);
+    capnp_messages_messages_copy_size_add_pointers_9fb2c9fcfadbb7fb(slot_4, slot_3, r_w0, (u32)r_br_1, r_5k_2, (r_28 + 1u), slot_1);
+l_capnp_x0:;
+    r_uq_3 = ld32((slot_4 + 4));
+    r_r5_1 = ld8((slot_4 + 8));
+    r_uq_4 = ld32((slot_4 + 12));
+    r_38_3 = ld64((slot_4 + 16));
+    if (!(ld8(slot_4) == 0u)) goto l_arm_1b;
+    r_1v = umin32(r_uq_3, 0x1fffffffu);
+    goto l_arm_dd;
+l_arm_1b:;
+    if (r_r5_1 == 27u) { r_1v = 0x1fffffffu; goto l_arm_dd; }
+    goto l_arm_cz;
+l_arm_dd:;
+    st64(slot_9, r_eg);
+    st8((slot_9 + 8), r_dd);
+    mv7((slot_9 + 9), slot_6);
+    stp((slot_9 + 16), r_rv);
+    st64((slot_9 + 24), r_qw);
+    st64((slot_9 + 32), r_qw_1);
+    mv16((slot_9 + 40), slot_7);
+    st32((slot_9 + 56), r_5k);
+    st32((slot_9 + 60), r_5k_1);
+    st32((slot_9 + 64), r_5k_2);
+    st32((slot_9 + 68), r_5k_3);
+    st16((slot_9 + 72), r_br);
+    st16((slot_9 + 74), r_br_1);
+    st32((slot_9 + 76), r_5k_4);
+    capnp_messages_messages_canonical_copy_canonicalize_to_302fed18(slot_8, r_z4_2, r_38_2, slot_9, a_3, r_1v);
+    r_vf = ld64((slot_8 + 32));
+    r_li = ld32((slot_8 + 28));
+    r_09 = ld32((slot_8 + 24));
+    r_9g = ld64((slot_8 + 16));
+    r_ze = ld32((slot_8 + 12));
+    r_s2 = ld32((slot_8 + 8));
+    r_z6 = (u64)ld8(slot_8);
+    goto l_capnp_7n;
+l_arm_cz:;
+    r_vf = r_38_2;
+    r_li = 0u;
+    r_09 = r_z4_2;
+    r_9g = r_38_3;
+    r_ze = r_uq_4;
+    r_s2 = (u32)r_r5_1;
+    r_z6 = 1ull;
+l_capnp_7n:;
+    memcpy(slot_14, (slot_8 + 40), 72);
+    r_6f = r_z6;
+    r_3l = r_s2;
+    r_rk = r_ze;
+    r_7q = r_9g;
+    r_yr = r_09;
+    r_c1 = r_li;
+    r_g3 = r_vf;
+l_join_6f:;
+    st64(a_1, r_6f);
+    st32(away(a_1, 8ull), r_3l);
+    st32(away(a_1, 12ull), r_rk);
+    st64(away(a_1, 16ull), r_7q);
+    st32(away(a_1, 24ull), r_yr);
+    st32(away(a_1, 28ull), r_c1);
+    st64(away(a_1, 32ull), r_g3);
+    memcpy(away(a_1, 40ull), slot_14, 72);
+    goto l_common_68;
+}
+
+/* capnp_messages::messages::canonical_copy::canonicalize_to_message::<#e33111b274e9e42d> */
+static void capnp_messages_messages_canonical_copy_canonicalize_to_302fed18(u8 *a_1, u32 a_2, u64 a_3, u8 *a_4, u8 *a_5, u32 a_6)
+{
     A(8) u8 slot_1[1];
     A(8) u8 slot_2[32];
     A(8) u8 slot_3[64];
     A(8) u8 slot_4[64];
     A(8) u8 slot_5[24];
-    A(8) u8 slot_6[104];
-    A(8) u8 slot_7[96];
-    A(8) u8 slot_8[24];
-    A(1) u8 slot_9[7];
-    A(1) u8 slot_10[7];
+    A(1) u8 slot_6[7];
+    A(1) u8 slot_7[23];
+    A(8) u8 slot_8[104];
+    A(8) u8 slot_9[96];
+    A(8) u8 slot_10[24];
     A(1) u8 slot_11[7];
     u8 r_dh;
     u8 r_dd;
-    u8 *r_rv;
     u64 r_qw;
+    u8 *r_rv;
     u64 r_qw_1;
-    u8 *r_rv_1;
-    u64 r_qw_2;
     u32 r_5k;
     u32 r_5k_1;
     u32 r_5k_2;
     u16 r_br;
     u16 r_br_1;
-    u32 t_q9;
-    u8 *r_ix;
     u8 *r_x5;
     u8 *r_zd;
     u8 *r_lk;
     u8 *r_a8;
-    u8 *r_c4;
     u8 *r_l1;
     u8 *r_k5;
-    u8 *r_x5_1;
-    u8 *r_89;
-    u8 *r_rq_1;
-    u8 *r_x5_2;
-    u8 *r_zd_1;
-    u8 t_0c_1;
-    u64 r_eg;
-    u64 r_u7;
-    u64 r_z6;
-    u8 *r_2b;
-    u8 r_c6;
-    u8 *r_l7;
-    u64 r_u7_1;
-    u64 r_z6_2;
-    u8 *r_2b_1;
-    u8 r_c6_1;
-    u8 *r_l7_1;
-    u8 *r_zd_2;
-    u64 r_tz;
-    u8 *t_6c;
-    u32 r_w0;
-    u8 *r_x5_3;
-    u8 *r_zd_3;
-    u8 *r_lk_1;
-    u8 *r_89_1;
-    u8 *r_a8_1;
-    u8 *r_c4_1;
-    u8 *r_bk;
-    u8 *r_x5_4;
-    u8 *r_k0;
-    u8 *r_zd_4;
-    u8 *r_x5_5;
-    u8 *r_zd_5;
-    u8 *r_lk_2;
-    u8 *r_89_2;
-    u8 *r_a8_2;
-    u8 *r_c4_2;
-    u8 *r_bk_1;
-    u8 *t_6c_1;
-    u8 *r_k0_1;
-    u8 *r_zd_6;
-    u8 *r_x5_6;
-    u8 *r_x5_7;
-    u8 *r_lk_3;
-    u8 *r_a8_3;
-    u8 *r_c4_3;
-    u8 *r_6c;
-    u8 *r_5q;
-    u8 *r_1e;
-    u8 *r_l1_1;
-    u8 *r_k5_1;
-    u8 *r_x5_8;
-    u8 *r_zd_7;
-    u8 *r_x5_9;
-    u8 *r_k0_2;
-    u8 *r_zd_8;
-    u8 *r_89_3;
-    u8 *r_6c_1;
-    u8 *r_1e_1;
-    u8 *r_2e;
-    u8 *r_x5_10;
-    u8 *r_zd_9;
-    u32 r_m4;
-    u32 r_uc;
-    u64 r_tp_1;
-    u8 r_r5;
+    u32 r_cf;
     u32 r_uq;
     u64 r_38;
     u8 *r_xw;
@@ -17076,19 +18122,33 @@ static void capnp_messages_messages_canonical_copy_canonicalize_re_52be4be5(u8 *
     u8 *r_a7_4;
     u32 r_z4_1;
     u64 r_38_7;
-    u64 r_es;
+    u8 *r_x5_4;
+    u8 *r_89_1;
+    u8 *r_rq_2;
+    u64 r_7l;
+    u8 *r_x5_5;
+    u8 *r_zd_4;
+    u64 r_eg_1;
     u8 r_r5_2;
     u32 r_uq_1;
     u64 r_38_8;
     u8 r_r5_3;
     u8 *r_lz_1;
-    u64 r_qw_5;
-    u8 r_2b_3;
+    u64 r_qw_4;
+    u8 r_2b_1;
     u32 r_qh;
     u64 r_ip;
+    u8 *t_b9_1;
+    u64 r_u7;
+    u64 r_lc;
+    u64 r_z6;
+    u8 *r_2b_2;
     u64 r_nm;
     u64 r_nm_1;
-    u64 r_wx;
+    u64 r_hk;
+    u64 r_u7_1;
+    u64 r_z6_4;
+    u8 *r_2b_3;
     u64 r_nm_2;
     u64 r_nm_3;
     u64 r_zw;
@@ -17096,10 +18156,11 @@ static void capnp_messages_messages_canonical_copy_canonicalize_re_52be4be5(u8 *
     u32 r_az;
     u32 r_68;
     u8 *r_lz_2;
-    u8 *r_3q_1;
+    u8 *r_3q;
     u32 r_yf;
     u64 r_24_1;
-    u32 r_ff_1;
+    u32 r_ff;
+    u64 r_52_1;
     struct s_i8_i32 r_kj;
     u64 r_1k;
     u64 r_61;
@@ -17111,6 +18172,7 @@ static void capnp_messages_messages_canonical_copy_canonicalize_re_52be4be5(u8 *
     u64 r_0l;
     u8 *r_2b_6;
     u64 r_il;
+    u8 *t_6c_1;
     u8 r_2b_7;
     u8 r_qh_1;
     u32 r_ip_1;
@@ -17119,26 +18181,29 @@ static void capnp_messages_messages_canonical_copy_canonicalize_re_52be4be5(u8 *
     u8 r_45;
     u32 r_h0;
     u64 r_r1;
-    u8 r_jk;
-    u32 r_au;
-    u64 r_km;
-    u64 r_03;
-    u8 r_cn;
-    u8 r_e6_1;
-    u32 r_3k;
-    u64 r_4i;
-    u64 r_49;
+    u8 r_ld;
+    u32 r_2q;
+    u64 r_gy;
+    u8 r_py;
+    u8 r_ub;
+    u32 r_zx;
+    u64 r_93;
+    u64 r_pp;
+    u32 r_cf_1;
+    u64 r_38_12;
+    u32 t_wt;
+    u32 t_u2;
+    u64 r_38_13;
     u64 r_38_14;
-    u64 r_38_15;
     u8 *r_xw_3;
+    u64 r_38_15;
     u64 r_38_16;
     u64 r_38_17;
-    u64 r_38_18;
     u8 r_r5_7;
-    u8 *r_xw_4;
-    u64 r_38_19;
-    u64 r_38_20;
     u8 *r_k2;
+    u8 *r_xw_4;
+    u64 r_38_18;
+    u64 r_38_19;
     u8 *r_08_1;
     u64 r_52_3;
     u64 r_3i_1;
@@ -17148,142 +18213,82 @@ static void capnp_messages_messages_canonical_copy_canonicalize_re_52be4be5(u8 *
     u8 *t_f6;
     u64 t_gg_1;
     u64 r_ax_1;
-    u64 r_du_2;
+    u64 r_du_1;
     u64 r_zn_2;
     u64 r_8n;
     u64 r_zn_3;
     u8 *r_w6_4;
-    u64 r_z5;
-    u32 r_nu;
-    u64 r_6n;
-    u32 r_jq;
-    u8 r_yl;
-    r_dh = ld8(a_2);
-    r_dd = ld8(away(a_2, 8ull));
-    r_rv = ldp(away(a_2, 16ull));
-    r_qw = ld64(away(a_2, 24ull));
-    r_qw_1 = ld64(away(a_2, 32ull));
-    r_rv_1 = ldp(away(a_2, 40ull));
-    r_qw_2 = ld64(away(a_2, 48ull));
-    r_5k = ld32(away(a_2, 56ull));
-    r_5k_1 = ld32(away(a_2, 60ull));
-    r_5k_2 = ld32(away(a_2, 64ull));
-    r_br = ld16(away(a_2, 72ull));
-    r_br_1 = ld16(away(a_2, 74ull));
-    memset(slot_10, 0u, 7);
+    u8 *r_b2;
+    u64 r_5h_1;
+    u64 r_hs;
+    u64 r_wi;
+    u8 *r_4m;
+    u64 r_eu;
+    u64 r_sb;
+    u8 r_ds;
+    u64 r_q3;
+    u32 r_b4;
+    u32 r_7d;
+    u64 r_ta;
+    u32 r_37;
+    u32 r_jn;
+    u64 r_dq;
+    r_dh = ld8(a_4);
+    r_dd = ld8(away(a_4, 8ull));
+    mv23(slot_7, away(a_4, 9ull));
+    r_qw = ld64(away(a_4, 32ull));
+    r_rv = ldp(away(a_4, 40ull));
+    r_qw_1 = ld64(away(a_4, 48ull));
+    r_5k = ld32(away(a_4, 56ull));
+    r_5k_1 = ld32(away(a_4, 60ull));
+    r_5k_2 = ld32(away(a_4, 64ull));
+    r_br = ld16(away(a_4, 72ull));
+    r_br_1 = ld16(away(a_4, 74ull));
+    memset(slot_6, 0u, 7);
+    memset(slot_9, 0u, 96);
+    memset(slot_10, 0u, 24);
     memset(slot_11, 0u, 7);
-    if (!(r_dd == 0u)) { t_q9 = 1u; goto l_capnp_rs; }
-    u64 r_52 = ld64(away(r_rv, 24ull));
-    t_q9 = ((r_52 < 0x1fffffffull) ? ((u32)r_52 + 1u) : 0x1fffffffu);
-l_capnp_rs:;
-    r_ix = (slot_6 + 4);
-    r_x5 = (slot_6 + 8);
-    r_zd = (slot_6 + 16);
-    r_lk = (slot_6 + 24);
-    r_a8 = (slot_6 + 40);
-    r_c4 = (slot_6 + 48);
-    r_l1 = (slot_6 + 80);
-    r_k5 = (slot_6 + 88);
-    r_x5_1 = (slot_7 + 8);
-    r_89 = (slot_7 + 32);
-    r_rq_1 = away(a_3, 8ull);
-    r_x5_2 = (slot_5 + 8);
-    r_zd_1 = (slot_5 + 16);
-    t_0c_1 = (r_dh == 0u);
-    r_eg = (u64)r_dd;
-    u64 r_24 = (u64)r_5k;
-    r_u7 = (u64)r_br;
-    r_z6 = (u64)(r_u7 << 3ull);
-    r_2b = away(r_rv_1, (u64)(r_24 << 3ull));
-    r_c6 = (r_br < 32u);
-    r_l7 = away(away(r_2b, r_z6), 0xfffffffffffffff8ull);
-    r_u7_1 = (u64)r_br_1;
-    r_z6_2 = (u64)(r_u7_1 << 3ull);
-    r_2b_1 = away(r_rv_1, (u64)((r_u7 + r_24) << 3ull));
-    r_c6_1 = (r_br_1 < 32u);
-    r_l7_1 = away(away(r_2b_1, r_z6_2), 0xfffffffffffffff8ull);
-    r_zd_2 = (slot_7 + 16);
-    r_tz = (u64)(uptr)r_2b;
-    t_6c = (slot_3 + 56);
-    r_w0 = (r_5k + (u32)r_br);
-    r_x5_3 = (slot_3 + 8);
-    r_zd_3 = (slot_3 + 16);
-    r_lk_1 = (slot_3 + 24);
-    r_89_1 = (slot_3 + 32);
-    r_a8_1 = (slot_3 + 40);
-    r_c4_1 = (slot_3 + 48);
-    r_bk = (slot_3 + 52);
-    r_x5_4 = (slot_2 + 8);
-    r_k0 = (slot_2 + 12);
-    r_zd_4 = (slot_2 + 16);
-    r_x5_5 = (slot_4 + 8);
-    r_zd_5 = (slot_4 + 16);
-    r_lk_2 = (slot_4 + 24);
-    r_89_2 = (slot_4 + 32);
-    r_a8_2 = (slot_4 + 40);
-    r_c4_2 = (slot_4 + 48);
-    r_bk_1 = (slot_4 + 52);
-    t_6c_1 = (slot_4 + 56);
-    r_k0_1 = (slot_3 + 12);
-    r_zd_6 = (slot_3 + 16);
-    r_x5_6 = (slot_3 + 8);
-    r_x5_7 = (slot_2 + 8);
-    r_lk_3 = (slot_7 + 24);
-    r_a8_3 = (slot_7 + 40);
-    r_c4_3 = (slot_7 + 48);
-    r_6c = (slot_7 + 56);
-    r_5q = (slot_7 + 64);
-    r_1e = (slot_7 + 72);
-    r_l1_1 = (slot_7 + 80);
-    r_k5_1 = (slot_7 + 88);
-    r_x5_8 = (slot_2 + 8);
-    r_zd_7 = (slot_2 + 16);
-    r_x5_9 = (slot_8 + 8);
-    r_k0_2 = (slot_8 + 12);
-    r_zd_8 = (slot_8 + 16);
-    r_89_3 = (slot_6 + 32);
-    r_6c_1 = (slot_6 + 56);
-    r_1e_1 = (slot_6 + 72);
-    r_2e = (slot_6 + 96);
-    r_x5_10 = (slot_2 + 8);
-    r_zd_9 = (slot_2 + 16);
-    r_m4 = t_q9;
-    r_uc = 0u;
-    r_tp_1 = 0ull;
-l_loop_xs:;
-    memset(slot_8, 0u, 24);
-    memset(slot_9, 0u, 7);
-    st32(slot_6, r_uc);
-    st32(r_ix, 0u);
-    st64(r_x5, r_tp_1);
+    st32(slot_8, a_2);
+    st32((slot_8 + 4), 0u);
+    r_x5 = (slot_8 + 8);
+    st64(r_x5, a_3);
+    r_zd = (slot_8 + 16);
     stp(r_zd, slot_1);
+    r_lk = (slot_8 + 24);
     memset(r_lk, 0u, 16);
+    r_a8 = (slot_8 + 40);
     stp(r_a8, slot_1);
-    memset(r_c4, 0u, 32);
+    memset((slot_8 + 48), 0u, 32);
+    r_l1 = (slot_8 + 80);
     stp(r_l1, slot_1);
+    r_k5 = (slot_8 + 88);
     memset(r_k5, 0u, 16);
-    capnp_messages_messages_canonical_copy_allocate_root_a_37f0c9a9(slot_8, slot_6, r_m4);
-    if (!(ld8(slot_8) == 1u)) goto l_join_dw;
-    r_r5 = ld8(r_x5_9);
-    r_uq = ld32(r_k0_2);
-    r_38 = ld64(r_zd_8);
+    capnp_messages_messages_canonical_copy_allocate_root_a_37f0c9a9(slot_10, slot_8, a_6);
+    if (ld8(slot_10) == 1u) goto l_arm_5d;
+    goto l_join_7j;
+l_common_68:;
+    return;
+l_arm_5d:;
+    r_cf = (u32)ld8((slot_10 + 8));
+    r_uq = ld32((slot_10 + 12));
+    r_38 = ld64((slot_10 + 16));
     r_xw = ldp(r_zd);
     r_38_1 = ld64(r_lk);
-    r_38_2 = ld64(r_89_3);
+    r_38_2 = ld64((slot_8 + 32));
     r_xw_1 = ldp(r_a8);
     r_xw_2 = ldp(r_l1);
     r_38_3 = ld64(r_k5);
-    r_38_4 = ld64(r_2e);
-    r_z4 = ld32(slot_6);
-    r_38_5 = ld64(r_x5);
-    r_ts = (ld64(r_6c_1) == 0ull);
-    if (!(u8)(ld8(r_1e_1) & 1)) goto l_else_ci;
-    if (r_ts) goto l_capnp_wd;
+    r_38_4 = ld64((slot_8 + 96));
+    r_z4 = ld32(slot_8);
+    r_38_5 = ld64((slot_8 + 8));
+    r_ts = (ld64((slot_8 + 56)) == 0ull);
+    if (!(u8)(ld8((slot_8 + 72)) & 1)) goto l_else_ci;
+    if (r_ts) goto l_capnp_4o;
     rattle_dealloc(r_xw_1);
-l_capnp_wd:;
+l_capnp_4o:;
     stp(slot_2, r_xw_2);
-    st64(r_x5_10, r_38_3);
-    st64(r_zd_9, r_38_4);
+    st64((slot_2 + 8), r_38_3);
+    st64((slot_2 + 16), r_38_4);
     capnp_arena_arena_builder_arena_impl_deallocate_others_70ba8108(slot_2);
     goto l_capnp_f6;
 l_else_ci:;
@@ -17322,7 +18327,7 @@ l_else_7d:;
 l_core_e6:;
     if (!(r_ax == t_gg)) { u64 r_1 = (r_ax + 1ull); u64 r_2 = r_zn; r_ax = r_1; r_du = r_2; goto l_join_73; }
 l_join_jj:;
-    if (r_38_1 == 0ull) goto l_capnp_at;
+    if (r_38_1 == 0ull) goto l_capnp_p4;
 l_arm_m6:;
     r_8r = r_38_1;
 l_arm_gj:;
@@ -17332,131 +18337,157 @@ l_arm_gj:;
     rattle_dealloc(ldp(r_a7_4));
 l_capnp_jj:;
     if (!(r_zn_1 == 0ull)) { r_8r = r_zn_1; goto l_arm_gj; }
-l_capnp_at:;
-    if (r_38_2 == 0ull) goto l_capnp_68;
+l_capnp_p4:;
+    if (r_38_2 == 0ull) goto l_std_o9;
     rattle_dealloc(r_xw);
-l_capnp_68:;
-    memset(slot_11, 0u, 7);
-    r_z5 = r_38_5;
-    r_nu = r_z4;
-    r_6n = r_38;
-    r_jq = r_uq;
-    r_yl = r_r5;
-    goto l_arm_f7;
-l_join_dw:;
-    r_z4_1 = ld32(slot_6);
+l_std_o9:;
+    st64(a_1, 1ull);
+    st32(away(a_1, 8ull), r_cf);
+    st32(away(a_1, 12ull), r_uq);
+    st64(away(a_1, 16ull), r_38);
+    st32(away(a_1, 24ull), r_z4);
+    st32(away(a_1, 28ull), 0u);
+    st64(away(a_1, 32ull), r_38_5);
+    memset(away(a_1, 40ull), 0u, 41);
+    mv7(away(a_1, 81ull), slot_6);
+    memset(away(a_1, 88ull), 0u, 24);
+    goto l_common_68;
+l_join_7j:;
+    r_z4_1 = ld32(slot_8);
     r_38_7 = ld64(r_x5);
-    st64(slot_7, 0ull);
-    mv24(r_x5_1, r_zd);
-    mv64(r_89, r_a8);
-    r_es = (u64)r_m4;
-    u64 r_qw_4 = ld64(r_rq_1);
-    st64(slot_5, (u64)ld8(a_3));
-    st64(r_x5_2, r_qw_4);
-    st64(r_zd_1, 0ull);
-    if (!t_0c_1) goto l_arm_5d;
-    stp(r_x5_5, r_rv);
-    st64(r_zd_5, r_qw);
-    st64(r_lk_2, r_qw_1);
-    stp(r_89_2, r_rv_1);
-    st64(r_a8_2, r_qw_2);
-    st32(r_c4_2, r_5k);
-    st32(r_bk_1, r_5k_1);
+    st64(slot_9, 0ull);
+    r_x5_4 = (slot_9 + 8);
+    mv24(r_x5_4, r_zd);
+    r_89_1 = (slot_9 + 32);
+    mv64(r_89_1, r_a8);
+    r_rq_2 = away(a_5, 8ull);
+    r_7l = (u64)a_6;
+    u64 r_qw_3 = ld64(r_rq_2);
+    st64(slot_5, (u64)ld8(a_5));
+    r_x5_5 = (slot_5 + 8);
+    st64(r_x5_5, r_qw_3);
+    r_zd_4 = (slot_5 + 16);
+    st64(r_zd_4, 0ull);
+    r_eg_1 = (u64)r_dd;
+    if (!(r_dh == 0u)) goto l_arm_q5;
+    mv16((slot_4 + 8), (slot_7 + 7));
+    st64((slot_4 + 24), r_qw);
+    stp((slot_4 + 32), r_rv);
+    st64((slot_4 + 40), r_qw_1);
+    st32((slot_4 + 48), r_5k);
+    st32((slot_4 + 52), r_5k_1);
     memset(slot_3, 0u, 24);
-    st64(t_6c_1, 0ull);
-    st64(slot_4, r_eg);
-    st32(t_6c_1, r_5k_2);
-    capnp_copies_copy_copy_object_254e276be25f6293(slot_3, slot_7, 0u, 0u, slot_4, slot_5, 1u);
+    u8 *t_6c = (slot_4 + 56);
+    st64(t_6c, 0ull);
+    st64(slot_4, r_eg_1);
+    st32(t_6c, r_5k_2);
+    capnp_copies_copy_copy_object_254e276be25f6293(slot_3, slot_9, 0u, 0u, slot_4, slot_5, 1u);
     r_r5_2 = ld8(slot_3);
-    r_uq_1 = ld32(r_k0_1);
-    r_38_8 = ld64(r_zd_6);
-    if (r_r5_2 == 0u) { r_2b_3 = 0u; r_qh = 0u; r_ip = 0ull; goto l_capnp_no; }
-    r_r5_3 = ld8(r_x5_6);
-    r_lz_1 = ldp(ldp(r_x5_1));
-    r_qw_5 = ld64(r_lz_1);
-    if (r_qw_5 == 0ull) goto l_capnp_8g;
-    capnp_making_landing_follow_c985307b501351a7(slot_2, slot_7, 0u, 0u);
+    r_uq_1 = ld32((slot_3 + 12));
+    r_38_8 = ld64((slot_3 + 16));
+    if (r_r5_2 == 0u) { r_2b_1 = 0u; r_qh = 0u; r_ip = 0ull; goto l_capnp_no; }
+    r_r5_3 = ld8((slot_3 + 8));
+    r_lz_1 = ldp(ldp(r_x5_4));
+    r_qw_4 = ld64(r_lz_1);
+    if (r_qw_4 == 0ull) goto l_capnp_8g;
+    capnp_making_landing_follow_c985307b501351a7(slot_2, slot_9, 0u, 0u);
     st64(r_lz_1, 0ull);
     if (!(ld8(slot_2) == 1u)) goto l_capnp_8g;
-    capnp_making_zeroing_zero_target_c985307b501351a7(slot_7, r_x5_7);
-    if (!((r_qw_5 & 3ull) == 2ull)) goto l_capnp_8g;
-    capnp_making_zeroing_zero_far_pads_c985307b501351a7(slot_7, r_qw_5);
+    capnp_making_zeroing_zero_target_c985307b501351a7(slot_9, (slot_2 + 8));
+    if (!((r_qw_4 & 3ull) == 2ull)) goto l_capnp_8g;
+    capnp_making_zeroing_zero_far_pads_c985307b501351a7(slot_9, r_qw_4);
 l_capnp_8g:;
-    r_2b_3 = r_r5_3;
+    r_2b_1 = r_r5_3;
     r_qh = r_uq_1;
     r_ip = r_38_8;
 l_capnp_no:;
     r_3i = r_r5_2;
-    r_45 = r_2b_3;
+    r_45 = r_2b_1;
     r_h0 = r_qh;
     r_r1 = r_ip;
     goto l_capnp_x6;
-l_arm_5d:;
-    if (r_c6) { r_nm = r_u7; goto l_loop_jc; }
-    goto l_else_08;
+l_arm_q5:;
+    t_b9_1 = (slot_7 + 7);
+    u64 r_24 = (u64)r_5k;
+    r_u7 = (u64)r_br;
+    r_lc = (r_u7 + r_24);
+    r_z6 = (u64)(r_u7 << 3ull);
+    r_2b_2 = away(r_rv, (u64)(r_24 << 3ull));
+    if (r_br < 32u) { r_nm = r_u7; goto l_loop_jc; }
+    goto l_else_wj;
 l_loop_jc:;
-    if (r_nm == 0ull) { r_wx = 0ull; goto l_capnp_5d; }
+    if (r_nm == 0ull) { r_hk = 0ull; goto l_capnp_ev; }
     u64 r_0f = (r_nm + 0xffffffffffffffffull);
-    if (ld64((r_2b + (i64)((u64)(r_0f << 3ull)))) == 0ull) { r_nm = r_0f; goto l_loop_jc; }
-    r_wx = r_nm;
-    goto l_capnp_5d;
-l_else_08:;
-    if (!(ld64(r_l7) == 0ull)) { r_wx = r_u7; goto l_capnp_5d; }
-    u64 r_r2_1 = capnp_words_lanes_used_words_bound(r_2b, r_z6);
+    if (ld64((r_2b_2 + (i64)((u64)(r_0f << 3ull)))) == 0ull) { r_nm = r_0f; goto l_loop_jc; }
+    r_hk = r_nm;
+    goto l_capnp_ev;
+l_else_wj:;
+    if (!(ld64(away(away(r_2b_2, r_z6), 0xfffffffffffffff8ull)) == 0ull)) { r_hk = r_u7; goto l_capnp_ev; }
+    u64 r_r2_1 = capnp_words_lanes_used_words_bound(r_2b_2, r_z6);
     r_nm_1 = r_r2_1;
 l_loop_jc_1:;
-    if (r_nm_1 == 0ull) { r_wx = 0ull; goto l_capnp_5d; }
+    if (r_nm_1 == 0ull) { r_hk = 0ull; goto l_capnp_ev; }
     u64 r_0f_1 = (r_nm_1 + 0xffffffffffffffffull);
-    if (ld64((r_2b + (i64)((u64)(r_0f_1 << 3ull)))) == 0ull) { r_nm_1 = r_0f_1; goto l_loop_jc_1; }
-    r_wx = r_nm_1;
-l_capnp_5d:;
-    if (r_c6_1) { r_nm_2 = r_u7_1; goto l_loop_jc_2; }
-    goto l_else_08_1;
+    if (ld64((r_2b_2 + (i64)((u64)(r_0f_1 << 3ull)))) == 0ull) { r_nm_1 = r_0f_1; goto l_loop_jc_1; }
+    r_hk = r_nm_1;
+l_capnp_ev:;
+    r_u7_1 = (u64)r_br_1;
+    r_z6_4 = (u64)(r_u7_1 << 3ull);
+    r_2b_3 = away(r_rv, (u64)(r_lc << 3ull));
+    if (r_br_1 < 32u) { r_nm_2 = r_u7_1; goto l_loop_jc_2; }
+    goto l_else_wj_1;
 l_loop_jc_2:;
     if (r_nm_2 == 0ull) { r_zw = 0ull; goto l_capnp_sa; }
     u64 r_0f_2 = (r_nm_2 + 0xffffffffffffffffull);
-    if (ld64((r_2b_1 + (i64)((u64)(r_0f_2 << 3ull)))) == 0ull) { r_nm_2 = r_0f_2; goto l_loop_jc_2; }
+    if (ld64((r_2b_3 + (i64)((u64)(r_0f_2 << 3ull)))) == 0ull) { r_nm_2 = r_0f_2; goto l_loop_jc_2; }
     r_zw = r_nm_2;
     goto l_capnp_sa;
-l_else_08_1:;
-    if (!(ld64(r_l7_1) == 0ull)) { r_zw = r_u7_1; goto l_capnp_sa; }
-    u64 r_r2_2 = capnp_words_lanes_used_words_bound(r_2b_1, r_z6_2);
+l_else_wj_1:;
+    if (!(ld64(away(away(r_2b_3, r_z6_4), 0xfffffffffffffff8ull)) == 0ull)) { r_zw = r_u7_1; goto l_capnp_sa; }
+    u64 r_r2_2 = capnp_words_lanes_used_words_bound(r_2b_3, r_z6_4);
     r_nm_3 = r_r2_2;
 l_loop_jc_3:;
     if (r_nm_3 == 0ull) { r_zw = 0ull; goto l_capnp_sa; }
     u64 r_0f_3 = (r_nm_3 + 0xffffffffffffffffull);
-    if (ld64((r_2b_1 + (i64)((u64)(r_0f_3 << 3ull)))) == 0ull) { r_nm_3 = r_0f_3; goto l_loop_jc_3; }
+    if (ld64((r_2b_3 + (i64)((u64)(r_0f_3 << 3ull)))) == 0ull) { r_nm_3 = r_0f_3; goto l_loop_jc_3; }
     r_zw = r_nm_3;
 l_capnp_sa:;
-    r_29 = ((u32)r_wx & 65535u);
+    r_29 = ((u32)r_hk & 65535u);
     r_az = ((u32)r_zw & 65535u);
     r_68 = (r_az + r_29);
-    r_lz_2 = ldp(r_x5_1);
+    r_lz_2 = ldp(r_x5_4);
     if (!(r_68 == 0u)) goto l_join_s3;
     st64(ldp(r_lz_2), 0xfffffffcull);
     r_7f = 0ull;
     goto l_arm_99;
 l_join_s3:;
-    r_3q_1 = away(r_lz_2, 24ull);
-    r_yf = ld32(r_3q_1);
+    r_3q = away(r_lz_2, 24ull);
+    r_yf = ld32(r_3q);
     r_24_1 = (u64)r_yf;
-    if ((r_24_1 + (u64)r_68) > (u64)(ld64(away(r_lz_2, 8ull)) >> 3ull)) goto l_capnp_z3;
-    st32(r_3q_1, (r_yf + r_68));
+    if ((r_24_1 + (u64)r_68) > (u64)(ld64(away(r_lz_2, 8ull)) >> 3ull)) goto l_capnp_mi;
+    st32(r_3q, (r_yf + r_68));
     r_1k = r_24_1;
-    r_61 = (((u64)(r_zw << 48ull) | ((u64)(r_wx << 32ull) & 0xffff00000000ull)) | (u64)((u32)(r_yf << 2u) + 0xfffffffcu));
+    r_61 = (((u64)(r_zw << 48ull) | ((u64)(r_hk << 32ull) & 0xffff00000000ull)) | (u64)((u32)(r_yf << 2u) + 0xfffffffcu));
     r_9s = 0ull;
     goto l_capnp_xw;
-l_capnp_z3:;
-    r_ff_1 = (r_68 + 1u);
-    r_kj = capnp_arena_arena_bounds_first_fit_by_bounds_e469ead029109f04(r_lz_2, ld64(r_zd_2), r_ff_1);
-    if (!(r_kj.f0 == 1u)) goto l_arm_b7;
+l_capnp_mi:;
+    r_ff = (r_68 + 1u);
+    r_52_1 = ld64((slot_9 + 16));
+    r_kj = capnp_arena_arena_bounds_first_fit_by_bounds_e469ead029109f04(r_lz_2, r_52_1, r_ff);
+    if (r_kj.f0 == 1u) goto l_capnp_tw;
+    u8 r_2i = (r_52_1 > 0xfffffffeull);
+    r_ld = (r_2i ? 27u : 0u);
+    r_2q = 0u;
+    r_gy = (u64)(0 - (u64)r_2i);
+    goto l_arm_uo;
+l_capnp_tw:;
     u64 t_24 = (u64)r_kj.f1;
     u8 *r_2b_4 = away(r_lz_2, (u64)(t_24 << 5ull));
-    u8 *r_3q_2 = away(r_2b_4, 24ull);
-    u32 r_yf_1 = ld32(r_3q_2);
-    st32(r_3q_2, (r_yf_1 + r_ff_1));
+    u8 *r_3q_1 = away(r_2b_4, 24ull);
+    u32 r_yf_1 = ld32(r_3q_1);
+    st32(r_3q_1, (r_yf_1 + r_ff));
     u64 r_z6_8 = (u64)((u64)r_yf_1 << 3ull);
-    st64((ldp(r_2b_4) + (i64)(r_z6_8)), ((u64)(r_zw << 48ull) | ((u64)(r_wx << 32ull) & 0xffff00000000ull)));
+    st64((ldp(r_2b_4) + (i64)(r_z6_8)), ((u64)(r_zw << 48ull) | ((u64)(r_hk << 32ull) & 0xffff00000000ull)));
     r_1k = (u64)(r_yf_1 + 1u);
     r_61 = (((u64)(t_24 << 32ull) | r_z6_8) | 2ull);
     r_9s = t_24;
@@ -17467,205 +18498,199 @@ l_arm_99:;
     r_wt = (u32)r_7f;
     r_ep = (u64)(r_7f >> 32ull);
     r_4r_1 = (u32)r_ep;
-    r_0l = ((u64)(r_wx << 3ull) & 0x7fff8ull);
-    if (r_0l == 0ull) goto l_capnp_5c;
+    r_0l = ((u64)(r_hk << 3ull) & 0x7fff8ull);
+    if (r_0l == 0ull) goto l_capnp_am;
     r_2b_6 = away(ldp(away(r_lz_2, ((u64)(r_7f << 5ull) & 0x1fffffffe0ull))), (u64)(r_ep << 3ull));
-    if (!(r_0l < 64ull)) goto l_else_p1;
+    if (!(r_0l < 64ull)) goto l_else_r3;
     if (!(r_0l > 31ull)) goto l_else_dg;
-    mv32(r_2b_6, r_2b);
+    mv32(r_2b_6, r_2b_2);
     u64 r_bh = (r_0l + 0xffffffffffffffe0ull);
-    mv32((r_2b_6 + (i64)(r_bh)), (r_2b + (i64)(r_bh)));
-    goto l_capnp_5c;
+    mv32((r_2b_6 + (i64)(r_bh)), (r_2b_2 + (i64)(r_bh)));
+    goto l_capnp_am;
 l_else_dg:;
     if (!(r_0l > 15ull)) goto l_then_49;
-    mv16(r_2b_6, r_2b);
+    mv16(r_2b_6, r_2b_2);
     u64 r_8f = (r_0l + 0xfffffffffffffff0ull);
-    mv16((r_2b_6 + (i64)(r_8f)), (r_2b + (i64)(r_8f)));
-    goto l_capnp_5c;
+    mv16((r_2b_6 + (i64)(r_8f)), (r_2b_2 + (i64)(r_8f)));
+    goto l_capnp_am;
 l_then_49:;
-    mv8(r_2b_6, r_2b);
+    mv8(r_2b_6, r_2b_2);
     u64 r_la = (r_0l + 0xfffffffffffffff8ull);
-    mv8((r_2b_6 + (i64)(r_la)), (r_2b + (i64)(r_la)));
-    goto l_capnp_5c;
-l_else_p1:;
-    if (((u64)(uptr)r_2b_6 - r_tz) < r_0l) { r_il = 0ull; goto l_join_fh; }
-    memmove_or_none(r_2b_6, r_2b, r_0l);
-    goto l_capnp_5c;
+    mv8((r_2b_6 + (i64)(r_la)), (r_2b_2 + (i64)(r_la)));
+    goto l_capnp_am;
+l_else_r3:;
+    if (((u64)(uptr)r_2b_6 - (u64)(uptr)r_2b_2) < r_0l) { r_il = 0ull; goto l_join_fh; }
+    memmove_or_none(r_2b_6, r_2b_2, r_0l);
+    goto l_capnp_am;
 l_join_fh:;
-    st8((r_2b_6 + (i64)(r_il)), ld8((r_2b + (i64)(r_il))));
-    u64 r_c4_5 = (r_il + 1ull);
-    if (!(r_c4_5 == r_0l)) { r_il = r_c4_5; goto l_join_fh; }
-l_capnp_5c:;
+    st8((r_2b_6 + (i64)(r_il)), ld8((r_2b_2 + (i64)(r_il))));
+    u64 r_c4_3 = (r_il + 1ull);
+    if (!(r_c4_3 == r_0l)) { r_il = r_c4_3; goto l_join_fh; }
+l_capnp_am:;
     memset(slot_2, 0u, 24);
-    st64(t_6c, 0ull);
+    t_6c_1 = (slot_3 + 56);
+    st64(t_6c_1, 0ull);
     if (r_az == 0u) { r_2b_7 = 0u; r_qh_1 = 0u; r_ip_1 = 0u; r_wq = 0ull; goto l_capnp_no_1; }
-    st64(slot_3, r_eg);
-    stp(r_x5_3, r_rv);
-    st64(r_zd_3, r_qw);
-    st64(r_lk_1, r_qw_1);
-    stp(r_89_1, r_rv_1);
-    st64(r_a8_1, r_qw_2);
-    st32(r_c4_1, r_w0);
-    st32(r_bk, 0u);
-    st32(t_6c, r_5k_2);
-    capnp_copies_copy_children_copy_children_out_of_line_2_29c958c2(slot_2, slot_7, r_wt, (r_29 + r_4r_1), slot_3, r_az, slot_5, 1u);
+    st64(slot_3, r_eg_1);
+    mv16((slot_3 + 8), t_b9_1);
+    st64((slot_3 + 24), r_qw);
+    stp((slot_3 + 32), r_rv);
+    st64((slot_3 + 40), r_qw_1);
+    st32((slot_3 + 48), (r_5k + (u32)r_br));
+    st32((slot_3 + 52), 0u);
+    st32(t_6c_1, r_5k_2);
+    capnp_copies_copy_children_copy_children_out_of_line_2_29c958c2(slot_2, slot_9, r_wt, (r_29 + r_4r_1), slot_3, r_az, slot_5, 1u);
     r_2b_7 = ld8(slot_2);
-    r_qh_1 = ld8(r_x5_4);
-    r_ip_1 = ld32(r_k0);
-    r_wq = ld64(r_zd_4);
+    r_qh_1 = ld8((slot_2 + 8));
+    r_ip_1 = ld32((slot_2 + 12));
+    r_wq = ld64((slot_2 + 16));
 l_capnp_no_1:;
     r_3i = r_2b_7;
     r_45 = r_qh_1;
     r_h0 = r_ip_1;
     r_r1 = r_wq;
 l_capnp_x6:;
-    if (!(r_3i == 0u)) goto l_arm_uo;
-    u64 r_38_12 = ld64(r_zd_2);
-    u8 r_du_1 = (r_38_12 == 1ull);
-    r_03 = r_38_12;
-    r_cn = r_du_1;
-    r_e6_1 = (r_du_1 ? ld8(slot_5) : 27u);
-    r_3k = 0u;
-    r_4i = (r_du_1 ? ld64(r_x5_2) : r_es);
-    r_49 = (r_du_1 ? ld64(r_zd_1) : 0ull);
-    goto l_capnp_in;
-l_arm_b7:;
-    goto l_t_h9;
+    if (!(r_3i == 0u)) { r_ld = r_45; r_2q = r_h0; r_gy = r_r1; goto l_arm_uo; }
+    u8 r_en = (ld64((slot_9 + 16)) != 1ull);
+    r_py = (u8)r_en;
+    r_ub = (r_en ? 27u : ld8(slot_5));
+    r_zx = 0u;
+    r_93 = (r_en ? r_7l : ld64(r_x5_5));
+    r_pp = (r_en ? 0ull : ld64(r_zd_4));
+    goto l_capnp_fs;
 l_arm_uo:;
-    switch (r_45) {
+    switch (r_ld) {
     case 0u: goto l_t_h9;
     case 27u: goto l_t_h9;
-    case 1u: { r_jk = r_45; r_au = r_h0; r_km = r_r1; goto l_capnp_hh; }
-    case 2u: { r_jk = r_45; r_au = r_h0; r_km = r_r1; goto l_capnp_hh; }
-    case 3u: { r_jk = r_45; r_au = r_h0; r_km = r_r1; goto l_capnp_hh; }
-    case 4u: { r_jk = r_45; r_au = r_h0; r_km = r_r1; goto l_capnp_hh; }
-    case 5u: { r_jk = r_45; r_au = r_h0; r_km = r_r1; goto l_capnp_hh; }
-    case 6u: { r_jk = r_45; r_au = r_h0; r_km = r_r1; goto l_capnp_hh; }
-    case 7u: { r_jk = r_45; r_au = r_h0; r_km = r_r1; goto l_capnp_hh; }
-    case 8u: { r_jk = r_45; r_au = r_h0; r_km = r_r1; goto l_capnp_hh; }
-    case 9u: { r_jk = r_45; r_au = r_h0; r_km = r_r1; goto l_capnp_hh; }
-    case 10u: { r_jk = r_45; r_au = r_h0; r_km = r_r1; goto l_capnp_hh; }
-    case 11u: { r_jk = r_45; r_au = r_h0; r_km = r_r1; goto l_capnp_hh; }
-    case 12u: { r_jk = r_45; r_au = r_h0; r_km = r_r1; goto l_capnp_hh; }
-    case 13u: { r_jk = r_45; r_au = r_h0; r_km = r_r1; goto l_capnp_hh; }
-    case 14u: { r_jk = r_45; r_au = r_h0; r_km = r_r1; goto l_capnp_hh; }
-    case 15u: { r_jk = r_45; r_au = r_h0; r_km = r_r1; goto l_capnp_hh; }
-    case 16u: { r_jk = r_45; r_au = r_h0; r_km = r_r1; goto l_capnp_hh; }
-    case 17u: { r_jk = r_45; r_au = r_h0; r_km = r_r1; goto l_capnp_hh; }
-    case 18u: { r_jk = r_45; r_au = r_h0; r_km = r_r1; goto l_capnp_hh; }
-    case 19u: { r_jk = r_45; r_au = r_h0; r_km = r_r1; goto l_capnp_hh; }
-    case 20u: { r_jk = r_45; r_au = r_h0; r_km = r_r1; goto l_capnp_hh; }
-    case 21u: { r_jk = r_45; r_au = r_h0; r_km = r_r1; goto l_capnp_hh; }
-    case 22u: { r_jk = r_45; r_au = r_h0; r_km = r_r1; goto l_capnp_hh; }
-    case 23u: { r_jk = r_45; r_au = r_h0; r_km = r_r1; goto l_capnp_hh; }
-    case 24u: { r_jk = r_45; r_au = r_h0; r_km = r_r1; goto l_capnp_hh; }
-    case 25u: { r_jk = r_45; r_au = r_h0; r_km = r_r1; goto l_capnp_hh; }
-    case 26u: { r_jk = r_45; r_au = r_h0; r_km = r_r1; goto l_capnp_hh; }
-    case 28u: { r_jk = r_45; r_au = r_h0; r_km = r_r1; goto l_capnp_hh; }
-    case 29u: { r_jk = r_45; r_au = r_h0; r_km = r_r1; goto l_capnp_hh; }
-    case 30u: { r_jk = r_45; r_au = r_h0; r_km = r_r1; goto l_capnp_hh; }
-    case 31u: { r_jk = r_45; r_au = r_h0; r_km = r_r1; goto l_capnp_hh; }
-    case 32u: { r_jk = r_45; r_au = r_h0; r_km = r_r1; goto l_capnp_hh; }
-    case 33u: { r_jk = r_45; r_au = r_h0; r_km = r_r1; goto l_capnp_hh; }
-    case 34u: { r_jk = r_45; r_au = r_h0; r_km = r_r1; goto l_capnp_hh; }
+    case 1u: { r_py = 1u; r_ub = r_ld; r_zx = r_2q; r_93 = r_gy; r_pp = 0ull; goto l_capnp_fs; }
+    case 2u: { r_py = 1u; r_ub = r_ld; r_zx = r_2q; r_93 = r_gy; r_pp = 0ull; goto l_capnp_fs; }
+    case 3u: { r_py = 1u; r_ub = r_ld; r_zx = r_2q; r_93 = r_gy; r_pp = 0ull; goto l_capnp_fs; }
+    case 4u: { r_py = 1u; r_ub = r_ld; r_zx = r_2q; r_93 = r_gy; r_pp = 0ull; goto l_capnp_fs; }
+    case 5u: { r_py = 1u; r_ub = r_ld; r_zx = r_2q; r_93 = r_gy; r_pp = 0ull; goto l_capnp_fs; }
+    case 6u: { r_py = 1u; r_ub = r_ld; r_zx = r_2q; r_93 = r_gy; r_pp = 0ull; goto l_capnp_fs; }
+    case 7u: { r_py = 1u; r_ub = r_ld; r_zx = r_2q; r_93 = r_gy; r_pp = 0ull; goto l_capnp_fs; }
+    case 8u: { r_py = 1u; r_ub = r_ld; r_zx = r_2q; r_93 = r_gy; r_pp = 0ull; goto l_capnp_fs; }
+    case 9u: { r_py = 1u; r_ub = r_ld; r_zx = r_2q; r_93 = r_gy; r_pp = 0ull; goto l_capnp_fs; }
+    case 10u: { r_py = 1u; r_ub = r_ld; r_zx = r_2q; r_93 = r_gy; r_pp = 0ull; goto l_capnp_fs; }
+    case 11u: { r_py = 1u; r_ub = r_ld; r_zx = r_2q; r_93 = r_gy; r_pp = 0ull; goto l_capnp_fs; }
+    case 12u: { r_py = 1u; r_ub = r_ld; r_zx = r_2q; r_93 = r_gy; r_pp = 0ull; goto l_capnp_fs; }
+    case 13u: { r_py = 1u; r_ub = r_ld; r_zx = r_2q; r_93 = r_gy; r_pp = 0ull; goto l_capnp_fs; }
+    case 14u: { r_py = 1u; r_ub = r_ld; r_zx = r_2q; r_93 = r_gy; r_pp = 0ull; goto l_capnp_fs; }
+    case 15u: { r_py = 1u; r_ub = r_ld; r_zx = r_2q; r_93 = r_gy; r_pp = 0ull; goto l_capnp_fs; }
+    case 16u: { r_py = 1u; r_ub = r_ld; r_zx = r_2q; r_93 = r_gy; r_pp = 0ull; goto l_capnp_fs; }
+    case 17u: { r_py = 1u; r_ub = r_ld; r_zx = r_2q; r_93 = r_gy; r_pp = 0ull; goto l_capnp_fs; }
+    case 18u: { r_py = 1u; r_ub = r_ld; r_zx = r_2q; r_93 = r_gy; r_pp = 0ull; goto l_capnp_fs; }
+    case 19u: { r_py = 1u; r_ub = r_ld; r_zx = r_2q; r_93 = r_gy; r_pp = 0ull; goto l_capnp_fs; }
+    case 20u: { r_py = 1u; r_ub = r_ld; r_zx = r_2q; r_93 = r_gy; r_pp = 0ull; goto l_capnp_fs; }
+    case 21u: { r_py = 1u; r_ub = r_ld; r_zx = r_2q; r_93 = r_gy; r_pp = 0ull; goto l_capnp_fs; }
+    case 22u: { r_py = 1u; r_ub = r_ld; r_zx = r_2q; r_93 = r_gy; r_pp = 0ull; goto l_capnp_fs; }
+    case 23u: { r_py = 1u; r_ub = r_ld; r_zx = r_2q; r_93 = r_gy; r_pp = 0ull; goto l_capnp_fs; }
+    case 24u: { r_py = 1u; r_ub = r_ld; r_zx = r_2q; r_93 = r_gy; r_pp = 0ull; goto l_capnp_fs; }
+    case 25u: { r_py = 1u; r_ub = r_ld; r_zx = r_2q; r_93 = r_gy; r_pp = 0ull; goto l_capnp_fs; }
+    case 26u: { r_py = 1u; r_ub = r_ld; r_zx = r_2q; r_93 = r_gy; r_pp = 0ull; goto l_capnp_fs; }
+    case 28u: { r_py = 1u; r_ub = r_ld; r_zx = r_2q; r_93 = r_gy; r_pp = 0ull; goto l_capnp_fs; }
+    case 29u: { r_py = 1u; r_ub = r_ld; r_zx = r_2q; r_93 = r_gy; r_pp = 0ull; goto l_capnp_fs; }
+    case 30u: { r_py = 1u; r_ub = r_ld; r_zx = r_2q; r_93 = r_gy; r_pp = 0ull; goto l_capnp_fs; }
+    case 31u: { r_py = 1u; r_ub = r_ld; r_zx = r_2q; r_93 = r_gy; r_pp = 0ull; goto l_capnp_fs; }
+    case 32u: { r_py = 1u; r_ub = r_ld; r_zx = r_2q; r_93 = r_gy; r_pp = 0ull; goto l_capnp_fs; }
+    case 33u: { r_py = 1u; r_ub = r_ld; r_zx = r_2q; r_93 = r_gy; r_pp = 0ull; goto l_capnp_fs; }
+    case 34u: { r_py = 1u; r_ub = r_ld; r_zx = r_2q; r_93 = r_gy; r_pp = 0ull; goto l_capnp_fs; }
     default: goto l_noarm_e1;
     }
 l_noarm_e1:;
     UNREACHABLE();
 l_t_h9:;
-    r_jk = 27u;
-    r_au = 0u;
-    r_km = r_es;
-l_capnp_hh:;
-    r_03 = ld64(r_zd_2);
-    r_cn = 0u;
-    r_e6_1 = r_jk;
-    r_3k = r_au;
-    r_4i = r_km;
-    r_49 = 0ull;
-l_capnp_in:;
-    r_38_14 = ld64(r_x5_1);
-    r_38_15 = ld64(r_lk_3);
-    r_xw_3 = ldp(r_89);
-    r_38_16 = ld64(r_a8_3);
-    r_38_17 = ld64(r_c4_3);
-    r_38_18 = ld64(r_6c);
-    r_r5_7 = ld8(r_5q);
-    r_xw_4 = ldp(r_1e);
-    r_38_19 = ld64(r_l1_1);
-    r_38_20 = ld64(r_k5_1);
-    if (!r_cn) goto l_arm_04;
-    r_k2 = (slot_7 + 65);
-    r_08_1 = away(a_3, 16ull);
+    r_py = 1u;
+    r_ub = 27u;
+    r_zx = 0u;
+    r_93 = r_7l;
+    r_pp = 0ull;
+l_capnp_fs:;
+    r_cf_1 = (u32)r_ub;
+    r_38_12 = ld64(r_x5_4);
+    t_wt = (u32)r_38_12;
+    t_u2 = (u32)(u64)(r_38_12 >> 32ull);
+    r_38_13 = ld64((slot_9 + 16));
+    r_38_14 = ld64((slot_9 + 24));
+    r_xw_3 = ldp(r_89_1);
+    r_38_15 = ld64((slot_9 + 40));
+    r_38_16 = ld64((slot_9 + 48));
+    r_38_17 = ld64((slot_9 + 56));
+    r_r5_7 = ld8((slot_9 + 64));
+    r_k2 = (slot_9 + 65);
+    r_xw_4 = ldp((slot_9 + 72));
+    r_38_18 = ld64((slot_9 + 80));
+    r_38_19 = ld64((slot_9 + 88));
+    if (!(r_py == 0u)) goto l_arm_04;
+    r_08_1 = away(a_5, 16ull);
     r_52_3 = ld64(r_08_1);
     if (!(r_52_3 == 0ull)) goto l_join_b0;
-    st64(a_3, (u64)r_e6_1);
-    st64(r_rq_1, r_4i);
-    st64(r_08_1, r_49);
-    goto l_capnp_gc;
+    st64(a_5, (u64)r_ub);
+    st64(r_rq_2, r_93);
+    st64(r_08_1, r_pp);
+    goto l_capnp_pr;
 l_join_b0:;
-    if (((ld8(a_3) != 1u) ? 1u : (r_e6_1 != 1u)) ? 1u : (ld64(r_rq_1) < r_4i)) goto l_after_jc;
-    st64(a_3, 1ull);
-    st64(r_rq_1, r_4i);
+    if (((ld8(a_5) != 1u) ? 1u : (r_ub != 1u)) ? 1u : (ld64(r_rq_2) < r_93)) goto l_after_jc;
+    st64(a_5, 1ull);
+    st64(r_rq_2, r_93);
 l_after_jc:;
-    if (r_49 == 0ull) goto l_capnp_gc;
+    if (r_pp == 0ull) goto l_capnp_pr;
     r_3i_1 = r_52_3;
     r_hb = 0ull;
 l_join_j4:;
     r_vg = uadd_sat64(r_3i_1, 1ull);
     u64 r_36 = (r_hb + 1ull);
-    if (!(r_36 == r_49)) { r_3i_1 = r_vg; r_hb = r_36; goto l_join_j4; }
+    if (!(r_36 == r_pp)) { r_3i_1 = r_vg; r_hb = r_36; goto l_join_j4; }
     st64(r_08_1, r_vg);
-l_capnp_gc:;
+l_capnp_pr:;
     mv7(slot_11, r_k2);
-    st64(a_1, 0ull);
-    st32(away(a_1, 8ull), r_z4_1);
-    st32(away(a_1, 12ull), 0u);
-    st64(away(a_1, 16ull), r_38_7);
-    st64(away(a_1, 24ull), r_38_14);
-    st64(away(a_1, 32ull), r_03);
-    st64(away(a_1, 40ull), r_38_15);
-    stp(away(a_1, 48ull), r_xw_3);
-    st64(away(a_1, 56ull), r_38_16);
-    st64(away(a_1, 64ull), r_38_17);
-    st64(away(a_1, 72ull), r_38_18);
-    st8(away(a_1, 80ull), r_r5_7);
-    mv7(away(a_1, 81ull), slot_11);
-    stp(away(a_1, 88ull), r_xw_4);
-    st64(away(a_1, 96ull), r_38_19);
-    st64(away(a_1, 104ull), r_38_20);
-    goto l_common_68;
+    r_b2 = r_xw_3;
+    r_5h_1 = r_38_15;
+    r_hs = r_38_16;
+    r_wi = r_38_17;
+    r_4m = r_xw_4;
+    r_eu = r_38_18;
+    r_sb = r_38_19;
+    r_ds = r_r5_7;
+    r_q3 = r_38_14;
+    r_b4 = r_z4_1;
+    r_7d = 0u;
+    r_ta = r_38_7;
+    r_37 = t_wt;
+    r_jn = t_u2;
+    r_dq = r_38_13;
+    goto l_join_19;
 l_arm_04:;
-    r_ts_20 = (r_38_17 == 0ull);
+    r_ts_20 = (r_38_16 == 0ull);
     if (!(u8)(r_r5_7 & 1)) goto l_else_ci_1;
-    if (r_ts_20) goto l_capnp_wd_1;
+    if (r_ts_20) goto l_capnp_4o_1;
     rattle_dealloc(r_xw_3);
-l_capnp_wd_1:;
+l_capnp_4o_1:;
     stp(slot_2, r_xw_4);
-    st64(r_x5_8, r_38_19);
-    st64(r_zd_7, r_38_20);
+    st64((slot_2 + 8), r_38_18);
+    st64((slot_2 + 16), r_38_19);
     capnp_arena_arena_builder_arena_impl_deallocate_others_70ba8108(slot_2);
     goto l_capnp_jm;
 l_else_ci_1:;
     if (r_ts_20) goto l_core_at_1;
     rattle_dealloc(r_xw_3);
 l_core_at_1:;
-    if (r_38_20 == 0ull) goto l_capnp_jm;
+    if (r_38_19 == 0ull) goto l_capnp_jm;
     rattle_dealloc(r_xw_4);
 l_capnp_jm:;
-    t_f6 = ((u8 *)(uptr)r_38_14);
-    if (!(r_03 > 1ull)) goto l_join_jj_1;
-    if (r_03 > 15ull) goto l_join_kp;
-    t_gg_1 = (u64)((r_03 + 0xfffffffffffffffeull) >> 1ull);
+    t_f6 = ((u8 *)(uptr)r_38_12);
+    if (!(r_38_13 > 1ull)) goto l_join_jj_1;
+    if (r_38_13 > 15ull) goto l_join_kp;
+    t_gg_1 = (u64)((r_38_13 + 0xfffffffffffffffeull) >> 1ull);
     r_ax_1 = 0ull;
-    r_du_2 = r_03;
+    r_du_1 = r_38_13;
     goto l_join_73_1;
 l_join_kp:;
-    u64 r_dt_1 = (u64)(r_03 >> 1ull);
-    core_slice_edits_mirror_88712faee6672b50(t_f6, away(t_f6, (u64)((r_03 - r_dt_1) << 5ull)), r_dt_1);
+    u64 r_dt_1 = (u64)(r_38_13 >> 1ull);
+    core_slice_edits_mirror_88712faee6672b50(t_f6, away(t_f6, (u64)((r_38_13 - r_dt_1) << 5ull)), r_dt_1);
     goto l_arm_m6_1;
 l_join_73_1:;
-    r_zn_2 = (r_du_2 + 0xffffffffffffffffull);
+    r_zn_2 = (r_du_1 + 0xffffffffffffffffull);
     if (!(r_ax_1 < r_zn_2)) goto l_else_7d_1;
     u8 *r_w6 = (t_f6 + (i64)((u64)(r_ax_1 << 5ull)));
     u8 *r_w6_1 = (t_f6 + (i64)((u64)(r_zn_2 << 5ull)));
@@ -17681,11 +18706,11 @@ l_else_7d_1:;
     mv32(r_w6_2, r_w6_3);
     mv32(r_w6_3, slot_2);
 l_core_e6_1:;
-    if (!(r_ax_1 == t_gg_1)) { u64 r_3 = (r_ax_1 + 1ull); u64 r_4 = r_zn_2; r_ax_1 = r_3; r_du_2 = r_4; goto l_join_73_1; }
+    if (!(r_ax_1 == t_gg_1)) { u64 r_3 = (r_ax_1 + 1ull); u64 r_4 = r_zn_2; r_ax_1 = r_3; r_du_1 = r_4; goto l_join_73_1; }
 l_join_jj_1:;
-    if (r_03 == 0ull) goto l_capnp_at_1;
+    if (r_38_13 == 0ull) goto l_capnp_f8;
 l_arm_m6_1:;
-    r_8n = r_03;
+    r_8n = r_38_13;
 l_arm_a7:;
     r_zn_3 = (r_8n + 0xffffffffffffffffull);
     r_w6_4 = (t_f6 + (i64)((u64)(r_zn_3 << 5ull)));
@@ -17693,40 +18718,43 @@ l_arm_a7:;
     rattle_dealloc(ldp(r_w6_4));
 l_capnp_jj_1:;
     if (!(r_zn_3 == 0ull)) { r_8n = r_zn_3; goto l_arm_a7; }
-l_capnp_at_1:;
-    if (r_38_15 == 0ull) goto l_capnp_ti;
+l_capnp_f8:;
+    if (r_38_14 == 0ull) { r_b2 = ((u8 *)0); r_5h_1 = 0ull; r_hs = 0ull; r_wi = 0ull; r_4m = ((u8 *)0); r_eu = 0ull; r_sb = 0ull; r_ds = 0u; r_q3 = 0ull; r_b4 = r_cf_1; r_7d = r_zx; r_ta = r_93; r_37 = r_z4_1; r_jn = 0u; r_dq = r_38_7; goto l_join_19; }
     rattle_dealloc(t_f6);
-l_capnp_ti:;
-    mv7(slot_11, slot_9);
-    r_z5 = r_38_7;
-    r_nu = r_z4_1;
-    r_6n = r_4i;
-    r_jq = r_3k;
-    r_yl = r_e6_1;
-    goto l_arm_f7;
-l_common_68:;
-    return;
-l_arm_f7:;
-    if ((r_m4 != 0x1fffffffu) ? (r_yl == 27u) : 0u) goto l_after_3i;
-    st64(a_1, 1ull);
-    st32(away(a_1, 8ull), (u32)r_yl);
-    st32(away(a_1, 12ull), r_jq);
-    st64(away(a_1, 16ull), r_6n);
-    st32(away(a_1, 24ull), r_nu);
-    st32(away(a_1, 28ull), 0u);
-    st64(away(a_1, 32ull), r_z5);
-    memset(away(a_1, 40ull), 0u, 41);
-    mv7(away(a_1, 81ull), slot_10);
-    memset(away(a_1, 88ull), 0u, 24);
+    r_b2 = ((u8 *)0);
+    r_5h_1 = 0ull;
+    r_hs = 0ull;
+    r_wi = 0ull;
+    r_4m = ((u8 *)0);
+    r_eu = 0ull;
+    r_sb = 0ull;
+    r_ds = 0u;
+    r_q3 = 0ull;
+    r_b4 = r_cf_1;
+    r_7d = r_zx;
+    r_ta = r_93;
+    r_37 = r_z4_1;
+    r_jn = 0u;
+    r_dq = r_38_7;
+l_join_19:;
+    st64(a_1, (u64)r_py);
+    st32(away(a_1, 8ull), r_b4);
+    st32(away(a_1, 12ull), r_7d);
+    st64(away(a_1, 16ull), r_ta);
+    st32(away(a_1, 24ull), r_37);
+    st32(away(a_1, 28ull), r_jn);
+    st64(away(a_1, 32ull), r_dq);
+    st64(away(a_1, 40ull), r_q3);
+    stp(away(a_1, 48ull), r_b2);
+    st64(away(a_1, 56ull), r_5h_1);
+    st64(away(a_1, 64ull), r_hs);
+    st64(away(a_1, 72ull), r_wi);
+    st8(away(a_1, 80ull), r_ds);
+    mv7(away(a_1, 81ull), slot_11);
+    stp(away(a_1, 88ull), r_4m);
+    st64(away(a_1, 96ull), r_eu);
+    st64(away(a_1, 104ull), r_sb);
     goto l_common_68;
-l_after_3i:;
-    u32 r_5 = umin32((u32)(r_m4 << 1u), 0x1fffffffu);
-    u32 r_6 = r_nu;
-    u64 r_7 = r_z5;
-    r_m4 = r_5;
-    r_uc = r_6;
-    r_tp_1 = r_7;
-    goto l_loop_xs;
 }
 
 /* capnp_copies::copy::copy_object::<#254e276be25f6293> */
@@ -20038,6 +21066,506 @@ l_capnp_9c:;
     st32(away(a_1, 12ull), r_n4);
     st64(away(a_1, 16ull), r_yp);
     return;
+}
+
+/* capnp_messages::messages::copy_size::add_value::<#9fb2c9fcfadbb7fb> */
+static void capnp_messages_messages_copy_size_add_value_9fb2c9fcfadbb7fb(u8 *a_1, u8 *a_2, u32 a_3, u32 a_4, u32 a_5, u8 *a_6)
+{
+    A(8) u8 slot_1[56];
+    A(8) u8 slot_2[64];
+    A(8) u8 slot_3[64];
+    A(8) u8 slot_4[64];
+    A(8) u8 slot_5[48];
+    A(8) u8 slot_6[24];
+    u64 r_52;
+    u8 *r_xw;
+    u64 r_38;
+    u8 r_y8;
+    u8 *r_rq;
+    u8 *r_xw_1;
+    u64 r_7l;
+    u64 r_gw;
+    u64 r_qw;
+    u64 t_al;
+    u8 t_pa;
+    u64 r_lc;
+    u64 r_nb;
+    u64 r_yz;
+    u32 r_gx;
+    u32 r_qd;
+    u64 r_d4;
+    u64 r_9h;
+    u64 r_27;
+    u64 r_hv;
+    u64 r_ep;
+    u64 r_y6;
+    u64 r_lc_1;
+    u8 *r_rq_1;
+    u64 r_52_2;
+    u64 r_ep_1;
+    u8 switch_wl;
+    u64 r_ij;
+    u64 r_c4_1;
+    u64 r_24_1;
+    u64 r_gw_2;
+    u8 *r_rq_2;
+    u64 r_52_3;
+    u64 r_eh;
+    u32 t_c8;
+    u32 r_12_1;
+    u32 r_az_1;
+    u32 r_68;
+    u64 r_c0;
+    u8 *r_rq_3;
+    u64 r_52_4;
+    u32 r_12_2;
+    u8 *r_rq_4;
+    u64 r_52_5;
+    u32 r_12_3;
+    u8 *r_rq_5;
+    u64 r_52_6;
+    u32 r_12_4;
+    u64 r_c6;
+    u8 *r_rq_6;
+    u64 r_52_7;
+    u64 r_2g;
+    u64 r_jg;
+    u64 r_6e;
+    u32 r_jp;
+    u32 r_eq;
+    u8 r_8e;
+    u32 r_7q;
+    u32 r_b2;
+    u32 r_pp;
+    u32 r_9q;
+    u32 r_ai;
+    u32 r_m0;
+    u64 r_ph;
+    u16 r_wc;
+    u16 r_vt;
+    u64 r_n4;
+    u64 r_n3;
+    u8 r_06;
+    u64 r_bd;
+    u32 r_1p;
+    u32 r_fp;
+    u32 r_2a;
+    u32 r_xi;
+    u32 r_14;
+    u64 r_lc_6;
+    u32 r_12_5;
+    u32 r_mx;
+    memset((slot_2 + 40), 0u, 24);
+    st64((slot_3 + 56), 0ull);
+    st64((slot_4 + 56), 0ull);
+    memset(slot_6, 0u, 24);
+    r_52 = ld64(away(a_2, 24ull));
+    r_xw = ldp(away(a_2, 32ull));
+    r_38 = ld64(away(a_2, 40ull));
+    r_y8 = ld8(a_2);
+    r_rq = away(a_2, 8ull);
+    r_xw_1 = ldp(r_rq);
+    r_7l = (u64)a_3;
+    r_gw = (u64)(r_38 >> 3ull);
+    if (!(r_gw > r_7l)) { r_wc = 0u; r_vt = 0u; r_n4 = 0ull; r_n3 = 0ull; r_06 = 0u; r_bd = 0ull; r_1p = 0u; r_fp = 0u; r_2a = 0u; r_xi = 0u; r_14 = 0u; goto l_join_07; }
+    r_qw = ld64((r_xw + (i64)((u64)(r_7l << 3ull))));
+    if (r_qw == 0ull) { r_wc = 0u; r_vt = 0u; r_n4 = 0ull; r_n3 = 0ull; r_06 = 0u; r_bd = 0ull; r_1p = 0u; r_fp = 0u; r_2a = 0u; r_xi = 0u; r_14 = 0u; goto l_join_07; }
+    t_al = (u64)(uptr)r_xw;
+    memset(slot_1, 0u, 56);
+    t_pa = (r_y8 != 0u);
+    if (t_pa) goto l_capnp_sm;
+    u8 *r_08 = away(a_6, 16ull);
+    st64(r_08, uadd_sat64(ld64(r_08), 1ull));
+    if ((r_qw & 3ull) == 2ull) goto l_capnp_hn;
+    goto l_join_bd;
+l_capnp_sm:;
+    if (!((r_qw & 3ull) == 2ull)) goto l_join_bd;
+    st32((slot_1 + 8), 32u);
+    r_2g = ld64((slot_1 + 8));
+    goto l_capnp_8g;
+l_join_bd:;
+    u64 r_m6 = ((u64)(r_qw >> 2ull) & 0x3fffffffull);
+    r_lc = ((r_7l + 1ull) + r_m6);
+    r_nb = (r_gw & 0xffffffffull);
+    if (!(r_m6 < 0x20000000ull)) goto l_else_70;
+    if (r_lc > r_nb) { r_2g = 23ull; goto l_capnp_8g; }
+    r_yz = r_lc;
+    goto l_capnp_i5;
+l_else_70:;
+    u64 r_3o = (r_lc + 0xffffffffc0000000ull);
+    if ((r_lc < 0x40000000ull) ? 1u : (r_3o > r_nb)) { r_2g = 23ull; goto l_capnp_8g; }
+    r_yz = r_3o;
+l_capnp_i5:;
+    r_gx = 0u;
+    r_qd = (u32)r_yz;
+    r_d4 = r_52;
+    r_9h = r_qw;
+    r_27 = r_38;
+    r_hv = t_al;
+    goto l_arm_wn;
+l_capnp_hn:;
+    capnp_objects_source_follow_far_9fb2c9fcfadbb7fb(slot_1, r_xw_1, r_qw, a_6);
+    u64 r_38_2 = ld64((slot_1 + 16));
+    u64 r_38_3 = ld64((slot_1 + 8));
+    if (ld8(slot_1) == 0u) { r_gx = ld32((slot_1 + 44)); r_qd = ld32((slot_1 + 40)); r_d4 = r_38_2; r_9h = r_38_3; r_27 = ld64((slot_1 + 32)); r_hv = ld64((slot_1 + 24)); goto l_arm_wn; }
+    r_jg = r_38_2;
+    r_6e = r_38_3;
+    goto l_capnp_qu;
+l_arm_wn:;
+    switch ((u8)((u8)r_9h & 3u)) {
+    case 0u: goto l_arm_9l;
+    case 1u: goto l_arm_z2;
+    case 2u: { r_pp = 1u; r_9q = 0u; r_ai = 13u; r_m0 = 0u; r_ph = 0ull; goto l_common_4n; }
+    case 3u: goto l_capnp_7o;
+    default: goto l_default_e1;
+    }
+l_arm_9l:;
+    r_ep = (u64)(r_9h >> 32ull);
+    r_y6 = (u64)(r_9h >> 48ull);
+    if ((i32)a_4 < (i32)1u) { r_pp = 1u; r_9q = 0u; r_ai = 26u; r_m0 = 0u; r_ph = 0ull; goto l_common_4n; }
+    r_lc_1 = ((r_ep & 65535ull) + r_y6);
+    if (((u64)(r_27 >> 3ull) & 0xffffffffull) < (r_lc_1 + (u64)r_qd)) { r_pp = 1u; r_9q = 0u; r_ai = 23u; r_m0 = 0u; r_ph = 0ull; goto l_common_4n; }
+    if (t_pa) goto l_arm_mf;
+    if (!(ld8(a_6) == 1u)) goto l_arm_mf;
+    r_rq_1 = away(a_6, 8ull);
+    r_52_2 = ld64(r_rq_1);
+    if (r_52_2 < r_lc_1) { r_pp = 1u; r_9q = 0u; r_ai = 30u; r_m0 = 0u; r_ph = 0ull; goto l_common_4n; }
+    st64(a_6, 1ull);
+    st64(r_rq_1, (r_52_2 - r_lc_1));
+l_arm_mf:;
+    r_jp = r_qd;
+    r_eq = r_gx;
+    r_8e = 2u;
+    r_7q = ((u32)((u32)r_y6 << 16u) | ((u32)r_ep & 65535u));
+    r_b2 = 0u;
+    goto l_arm_6k;
+l_arm_z2:;
+    r_ep_1 = (u64)(r_9h >> 32ull);
+    switch_wl = (u8)((u8)r_ep_1 & 7u);
+    r_ij = (u64)(r_9h >> 35ull);
+    switch (switch_wl) {
+    case 7u: goto l_arm_kl;
+    case 6u: goto l_arm_oi;
+    case 0u: goto l_arm_oi_1;
+    case 1u: goto l_arm_oi_2;
+    case 2u: goto l_arm_oi_2;
+    case 3u: goto l_arm_oi_2;
+    case 4u: goto l_arm_oi_2;
+    case 5u: goto l_arm_oi_2;
+    default: goto l_default_e1;
+    }
+l_arm_kl:;
+    if ((i32)a_4 < (i32)1u) { r_pp = 1u; r_9q = 0u; r_ai = 26u; r_m0 = 0u; r_ph = 0ull; goto l_common_4n; }
+    r_c4_1 = (r_ij + 1ull);
+    r_24_1 = (u64)r_qd;
+    r_gw_2 = (u64)(r_27 >> 3ull);
+    if ((r_gw_2 & 0xffffffffull) < (r_c4_1 + r_24_1)) { r_pp = 1u; r_9q = 0u; r_ai = 23u; r_m0 = 0u; r_ph = 0ull; goto l_common_4n; }
+    if (t_pa) goto l_arm_ga;
+    if (!(ld8(a_6) == 1u)) goto l_arm_ga;
+    r_rq_2 = away(a_6, 8ull);
+    r_52_3 = ld64(r_rq_2);
+    if (!(r_52_3 > r_ij)) { r_pp = 1u; r_9q = 0u; r_ai = 30u; r_m0 = 0u; r_ph = 0ull; goto l_common_4n; }
+    st64(a_6, 1ull);
+    st64(r_rq_2, (r_52_3 - r_c4_1));
+l_arm_ga:;
+    if (!(r_gw_2 > r_24_1)) { r_eh = 0ull; goto l_join_qm; }
+    u64 r_qw_1 = ld64((((u8 *)(uptr)r_hv) + (i64)((u64)(r_24_1 << 3ull))));
+    if ((r_qw_1 & 3ull) == 0ull) { r_eh = r_qw_1; goto l_join_qm; }
+    r_pp = 1u;
+    r_9q = 0u;
+    r_ai = 11u;
+    r_m0 = 0u;
+    r_ph = 0ull;
+    goto l_common_4n;
+l_join_qm:;
+    t_c8 = (u32)((u32)r_eh >> 2u);
+    r_12_1 = (u32)(u64)(r_eh >> 48ull);
+    r_az_1 = ((u32)(u64)(r_eh >> 32ull) & 65535u);
+    r_68 = (r_az_1 + r_12_1);
+    r_c0 = (u64)t_c8;
+    if (r_ij < ((u64)r_68 * r_c0)) { r_pp = 1u; r_9q = 0u; r_ai = 10u; r_m0 = 0u; r_ph = 0ull; goto l_common_4n; }
+    if ((u8)((u8)t_pa | (u8)(r_68 != 0u))) goto l_arm_8v;
+    if (!(ld8(a_6) == 1u)) goto l_arm_8v;
+    r_rq_3 = away(a_6, 8ull);
+    r_52_4 = ld64(r_rq_3);
+    if (r_52_4 < r_c0) { r_pp = 1u; r_9q = 0u; r_ai = 30u; r_m0 = 0u; r_ph = 0ull; goto l_common_4n; }
+    st64(a_6, 1ull);
+    st64(r_rq_3, (r_52_4 - r_c0));
+l_arm_8v:;
+    r_jp = (r_qd + 1u);
+    r_eq = 0u;
+    r_8e = 5u;
+    r_7q = ((u32)(r_12_1 << 16u) | r_az_1);
+    r_b2 = t_c8;
+    goto l_arm_6k;
+l_arm_oi:;
+    r_12_2 = (u32)r_ij;
+    if ((i32)a_4 < (i32)1u) { r_pp = 1u; r_9q = 0u; r_ai = 26u; r_m0 = 0u; r_ph = 0ull; goto l_common_4n; }
+    if (((u64)(r_27 >> 3ull) & 0xffffffffull) < (r_ij + (u64)r_qd)) { r_pp = 1u; r_9q = 0u; r_ai = 23u; r_m0 = 0u; r_ph = 0ull; goto l_common_4n; }
+    if (t_pa) { r_jp = r_qd; r_eq = r_gx; r_8e = 4u; r_7q = r_12_2; r_b2 = 0u; goto l_arm_6k; }
+    if (!(ld8(a_6) == 1u)) { r_jp = r_qd; r_eq = r_gx; r_8e = 4u; r_7q = r_12_2; r_b2 = 0u; goto l_arm_6k; }
+    r_rq_4 = away(a_6, 8ull);
+    r_52_5 = ld64(r_rq_4);
+    if (r_52_5 < r_ij) { r_pp = 1u; r_9q = 0u; r_ai = 30u; r_m0 = 0u; r_ph = 0ull; goto l_common_4n; }
+    st64(a_6, 1ull);
+    st64(r_rq_4, (r_52_5 - r_ij));
+    r_jp = r_qd;
+    r_eq = r_gx;
+    r_8e = 4u;
+    r_7q = r_12_2;
+    r_b2 = 0u;
+    goto l_arm_6k;
+l_arm_oi_1:;
+    r_12_3 = (u32)r_ij;
+    if ((i32)a_4 < (i32)1u) { r_pp = 1u; r_9q = 0u; r_ai = 26u; r_m0 = 0u; r_ph = 0ull; goto l_common_4n; }
+    if (((u64)(r_27 >> 3ull) & 0xffffffffull) < (u64)r_qd) { r_pp = 1u; r_9q = 0u; r_ai = 23u; r_m0 = 0u; r_ph = 0ull; goto l_common_4n; }
+    if (t_pa) { r_jp = r_qd; r_eq = r_gx; r_8e = 3u; r_7q = 0u; r_b2 = r_12_3; goto l_arm_6k; }
+    if (!(ld8(a_6) == 1u)) { r_jp = r_qd; r_eq = r_gx; r_8e = 3u; r_7q = 0u; r_b2 = r_12_3; goto l_arm_6k; }
+    st64(a_6, 1ull);
+    r_rq_5 = away(a_6, 8ull);
+    r_52_6 = ld64(r_rq_5);
+    if (r_52_6 < r_ij) { r_pp = 1u; r_9q = 0u; r_ai = 30u; r_m0 = 0u; r_ph = 0ull; goto l_common_4n; }
+    st64(r_rq_5, (r_52_6 - r_ij));
+    r_jp = r_qd;
+    r_eq = r_gx;
+    r_8e = 3u;
+    r_7q = 0u;
+    r_b2 = r_12_3;
+    goto l_arm_6k;
+l_arm_oi_2:;
+    r_12_4 = (u32)r_ij;
+    if ((i32)a_4 < (i32)1u) { r_pp = 1u; r_9q = 0u; r_ai = 26u; r_m0 = 0u; r_ph = 0ull; goto l_common_4n; }
+    r_c6 = (u64)(((ld64(away(away(((u8 *)switch_table_capnp_objects_pointers_validate_validate__e3024457), 8 * (r_ep_1 & 7ull)), 0xfffffffffffffff8ull)) * r_ij) + 63ull) >> 6ull);
+    if (((u64)(r_27 >> 3ull) & 0xffffffffull) < (r_c6 + (u64)r_qd)) { r_pp = 1u; r_9q = 0u; r_ai = 23u; r_m0 = 0u; r_ph = 0ull; goto l_common_4n; }
+    if (t_pa) goto l_arm_eq;
+    if (!(ld8(a_6) == 1u)) goto l_arm_eq;
+    r_rq_6 = away(a_6, 8ull);
+    r_52_7 = ld64(r_rq_6);
+    if (r_52_7 < r_c6) { r_pp = 1u; r_9q = 0u; r_ai = 30u; r_m0 = 0u; r_ph = 0ull; goto l_common_4n; }
+    st64(a_6, 1ull);
+    st64(r_rq_6, (r_52_7 - r_c6));
+l_arm_eq:;
+    r_jp = r_qd;
+    r_eq = r_gx;
+    r_8e = 3u;
+    r_7q = (u32)switch_wl;
+    r_b2 = r_12_4;
+    goto l_arm_6k;
+l_default_e1:;
+    UNREACHABLE();
+l_capnp_8g:;
+    r_jg = 0ull;
+    r_6e = r_2g;
+l_capnp_qu:;
+    r_pp = 1u;
+    r_9q = 0u;
+    r_ai = ((u32)r_6e & 255u);
+    r_m0 = (u32)(u64)(r_6e >> 32ull);
+    r_ph = r_jg;
+    goto l_common_4n;
+l_arm_6k:;
+    r_wc = (u16)(u32)(r_7q >> 16u);
+    r_vt = (u16)r_7q;
+    r_n4 = r_hv;
+    r_n3 = r_27;
+    r_06 = r_8e;
+    r_bd = r_d4;
+    r_1p = r_jp;
+    r_fp = r_eq;
+    r_2a = r_7q;
+    r_xi = r_b2;
+    r_14 = (u32)r_8e;
+    goto l_join_07;
+l_capnp_7o:;
+    r_pp = 1u;
+    r_9q = 0u;
+    r_ai = (((r_9h & 0xffffffffull) == 3ull) ? 1u : 34u);
+    r_m0 = 0u;
+    r_ph = 0ull;
+l_common_4n:;
+    st32(a_1, r_pp);
+    st32(away(a_1, 4ull), r_9q);
+    st32(away(a_1, 8ull), r_ai);
+    st32(away(a_1, 12ull), r_m0);
+    st64(away(a_1, 16ull), r_ph);
+    return;
+l_join_07:;
+    st32(slot_5, r_14);
+    st32((slot_5 + 4), 0u);
+    st64((slot_5 + 8), r_bd);
+    st64((slot_5 + 16), r_n4);
+    st64((slot_5 + 24), r_n3);
+    st32((slot_5 + 32), r_1p);
+    st32((slot_5 + 36), r_fp);
+    st32((slot_5 + 40), r_2a);
+    st32((slot_5 + 44), r_xi);
+    u32 r_x3 = capnp_messages_messages_copy_size_object_words(slot_5);
+    r_lc_6 = ((u64)r_x3 + (u64)a_5);
+    if (r_lc_6 > 0x1fffffffull) { r_pp = 1u; r_9q = 0u; r_ai = 27u; r_m0 = 0u; r_ph = 0x1fffffffull; goto l_common_4n; }
+    r_12_5 = (u32)r_lc_6;
+    r_mx = ((a_4 == 0x80000000u) ? 0x80000000u : (a_4 + 0xffffffffu));
+    switch (r_06) {
+    case 0u: goto l_arm_jm;
+    case 1u: goto l_arm_jm_1;
+    case 3u: goto l_arm_jm_2;
+    case 2u: goto l_arm_eo;
+    case 4u: goto l_arm_eo_1;
+    case 5u: goto l_arm_eo_2;
+    default: goto l_noarm_e1;
+    }
+l_arm_jm:;
+    st32(slot_6, 0u);
+    st32((slot_6 + 4), r_12_5);
+    goto l_join_v6;
+l_arm_jm_1:;
+    st32(slot_6, 0u);
+    st32((slot_6 + 4), r_12_5);
+    goto l_join_v6;
+l_arm_jm_2:;
+    st32(slot_6, 0u);
+    st32((slot_6 + 4), r_12_5);
+    goto l_join_v6;
+l_arm_eo:;
+    st64(slot_2, (u64)ld8(a_2));
+    mv16((slot_2 + 8), r_rq);
+    st64((slot_2 + 24), r_bd);
+    st64((slot_2 + 32), r_n4);
+    st64((slot_2 + 40), r_n3);
+    st32((slot_2 + 48), r_1p);
+    st32((slot_2 + 52), r_fp);
+    st32((slot_2 + 56), r_mx);
+    capnp_messages_messages_copy_size_add_elements_9fb2c9fcfadbb7fb(slot_6, slot_2, r_vt, r_wc, 1u, r_12_5, a_6);
+    goto l_join_v6;
+l_arm_eo_1:;
+    st64(slot_3, (u64)ld8(a_2));
+    mv16((slot_3 + 8), r_rq);
+    st64((slot_3 + 24), r_bd);
+    st64((slot_3 + 32), r_n4);
+    st64((slot_3 + 40), r_n3);
+    st32((slot_3 + 48), r_1p);
+    st32((slot_3 + 52), r_fp);
+    st32((slot_3 + 56), r_mx);
+    capnp_messages_messages_copy_size_add_pointers_9fb2c9fcfadbb7fb(slot_6, slot_3, r_1p, r_2a, r_mx, r_12_5, a_6);
+    goto l_join_v6;
+l_arm_eo_2:;
+    st64(slot_4, (u64)ld8(a_2));
+    mv16((slot_4 + 8), r_rq);
+    st64((slot_4 + 24), r_bd);
+    st64((slot_4 + 32), r_n4);
+    st64((slot_4 + 40), r_n3);
+    st32((slot_4 + 48), r_1p);
+    st32((slot_4 + 52), r_fp);
+    st32((slot_4 + 56), r_mx);
+    capnp_messages_messages_copy_size_add_elements_9fb2c9fcfadbb7fb(slot_6, slot_4, r_vt, r_wc, r_xi, r_12_5, a_6);
+l_join_v6:;
+    r_pp = (u32)ld8(slot_6);
+    r_9q = ld32((slot_6 + 4));
+    r_ai = (u32)ld8((slot_6 + 8));
+    r_m0 = ld32((slot_6 + 12));
+    r_ph = ld64((slot_6 + 16));
+    goto l_common_4n;
+l_noarm_e1:;
+    UNREACHABLE();
+}
+
+/* capnp_messages::messages::copy_size::add_elements::<#9fb2c9fcfadbb7fb> */
+static void capnp_messages_messages_copy_size_add_elements_9fb2c9fcfadbb7fb(u8 *a_1, u8 *a_2, u16 a_3, u16 a_4, u32 a_5, u32 a_6, u8 *a_7)
+{
+    A(8) u8 slot_1[24];
+    u32 r_m2;
+    u32 r_m2_1;
+    u32 r_68;
+    u8 *r_t9;
+    u8 *r_r2;
+    u8 *r_ix;
+    u32 r_31;
+    u32 r_19;
+    u32 r_kt;
+    memset(slot_1, 0u, 24);
+    if (a_4 == 0u) goto l_then_4n;
+    goto l_join_ux;
+l_common_68:;
+    return;
+l_then_4n:;
+    st32(a_1, 0u);
+    st32(away(a_1, 4ull), a_6);
+    memset(away(a_1, 8ull), 0u, 16);
+    goto l_common_68;
+l_join_ux:;
+    r_m2 = (u32)a_3;
+    r_m2_1 = (u32)a_4;
+    r_68 = (r_m2_1 + r_m2);
+    if (a_5 == 0u) { r_kt = a_6; goto l_after_iz; }
+    r_t9 = away(a_2, 48ull);
+    r_r2 = away(a_2, 56ull);
+    r_ix = (slot_1 + 4);
+    r_31 = a_6;
+    r_19 = 0u;
+l_join_qy:;
+    capnp_messages_messages_copy_size_add_pointers_9fb2c9fcfadbb7fb(slot_1, a_2, (((r_19 * r_68) + r_m2) + ld32(r_t9)), r_m2_1, ld32(r_r2), r_31, a_7);
+    if (!(ld8(slot_1) == 0u)) goto l_arm_5d;
+    u32 r_yf_2 = ld32(r_ix);
+    u32 r_7t = (r_19 + 1u);
+    if (r_7t == a_5) { r_kt = r_yf_2; goto l_after_iz; }
+    r_31 = r_yf_2;
+    r_19 = r_7t;
+    goto l_join_qy;
+l_arm_5d:;
+    u32 r_cf = (u32)ld8((slot_1 + 8));
+    u32 r_uq = ld32((slot_1 + 12));
+    u64 r_38 = ld64((slot_1 + 16));
+    st32(a_1, 1u);
+    st32(away(a_1, 4ull), 0u);
+    st32(away(a_1, 8ull), r_cf);
+    st32(away(a_1, 12ull), r_uq);
+    st64(away(a_1, 16ull), r_38);
+    goto l_common_68;
+l_after_iz:;
+    st32(a_1, 0u);
+    st32(away(a_1, 4ull), r_kt);
+    memset(away(a_1, 8ull), 0u, 16);
+    goto l_common_68;
+}
+
+/* capnp_messages::messages::copy_size::add_pointers::<#9fb2c9fcfadbb7fb> */
+static NEVER void capnp_messages_messages_copy_size_add_pointers_9fb2c9fcfadbb7fb(u8 *a_1, u8 *a_2, u32 a_3, u32 a_4, u32 a_5, u32 a_6, u8 *a_7)
+{
+    A(8) u8 slot_1[24];
+    u8 *r_ix;
+    u32 r_be;
+    u32 r_ci;
+    u32 r_kt;
+    memset(slot_1, 0u, 24);
+    if (a_4 == 0u) { r_kt = a_6; goto l_after_iz; }
+    r_ix = (slot_1 + 4);
+    r_be = 0u;
+    r_ci = a_6;
+l_join_s0:;
+    capnp_messages_messages_copy_size_add_value_9fb2c9fcfadbb7fb(slot_1, a_2, (r_be + a_3), a_5, r_ci, a_7);
+    if (!(ld8(slot_1) == 0u)) goto l_arm_5d;
+    u32 r_yf = ld32(r_ix);
+    u32 r_7t = (r_be + 1u);
+    if (r_7t == a_4) { r_kt = r_yf; goto l_after_iz; }
+    r_be = r_7t;
+    r_ci = r_yf;
+    goto l_join_s0;
+l_common_68:;
+    return;
+l_arm_5d:;
+    u32 r_cf = (u32)ld8((slot_1 + 8));
+    u32 r_uq = ld32((slot_1 + 12));
+    u64 r_38 = ld64((slot_1 + 16));
+    st32(a_1, 1u);
+    st32(away(a_1, 4ull), 0u);
+    st32(away(a_1, 8ull), r_cf);
+    st32(away(a_1, 12ull), r_uq);
+    st64(away(a_1, 16ull), r_38);
+    goto l_common_68;
+l_after_iz:;
+    st32(a_1, 0u);
+    st32(away(a_1, 4ull), r_kt);
+    memset(away(a_1, 8ull), 0u, 16);
+    goto l_common_68;
 }
 
 /* capnp_messages::messages::path::read_part::<#2204359a6e9fa1dc> */
@@ -34254,10 +35782,9 @@ l_capnp_i0:;
     r_uj = 0u;
     goto l_arm_1x;
 l_capnp_bv:;
+    u8 *t_5q = (slot_2 + 64);
     u32 r_yf = ld32(away(a_3, 16ull));
     u8 *r_rv = ldp(r_mb);
-    memset(slot_1, 0u, 112);
-    u8 *t_5q = (slot_2 + 64);
     memset(t_5q, 0u, 16);
     st64((slot_2 + 16), (u64)(uptr)a_3);
     memset((slot_2 + 24), 0u, 16);
@@ -39471,11 +40998,11 @@ static void capnp_messages_messages_whole_canonicalize_7a947658af00c805(u8 *a_1,
     u32 r_yf;
     u8 *r_u0;
     u8 *r_rq_2;
-    u64 r_5l;
-    u64 r_m9;
-    u8 *r_c1_1;
-    u64 r_vn;
-    u32 r_tm;
+    u64 r_7u;
+    u64 r_ft;
+    u8 *r_3u;
+    u64 r_2g;
+    u32 r_x7;
     u64 r_6f;
     u32 r_3l;
     u32 r_rk;
@@ -39506,29 +41033,28 @@ l_arm_on:;
     r_rq_2 = ldp(away(a_2, 8ull));
     goto l_arm_6j;
 l_arm_7p:;
-    if (ld64(r_08) == 0ull) { r_5l = 2ull; r_m9 = 0ull; r_c1_1 = ((u8 *)g_static_0); r_vn = 0ull; r_tm = 0x7fffffffu; goto l_arm_bp; }
+    if (ld64(r_08) == 0ull) { r_7u = 2ull; r_ft = 0ull; r_3u = ((u8 *)g_static_0); r_2g = 0ull; r_x7 = 0x7fffffffu; goto l_arm_vg; }
     u8 *r_lz_1 = ldp(away(a_2, 8ull));
     r_u0 = (r_lz_1 + 8);
     r_rq_2 = ((u8 *)(uptr)ld64(r_lz_1));
 l_arm_6j:;
-    r_5l = 0ull;
-    r_m9 = (u64)(uptr)a_2;
-    r_c1_1 = r_rq_2;
-    r_vn = (ld64(r_u0) & 0xfffffffffffffff8ull);
-    r_tm = r_yf;
-l_arm_bp:;
-    memset(slot_1, 0u, 112);
+    r_7u = 0ull;
+    r_ft = (u64)(uptr)a_2;
+    r_3u = r_rq_2;
+    r_2g = (ld64(r_u0) & 0xfffffffffffffff8ull);
+    r_x7 = r_yf;
+l_arm_vg:;
     u8 *t_5q = (slot_2 + 64);
     memset(t_5q, 0u, 16);
-    st64((slot_2 + 16), r_m9);
+    st64((slot_2 + 16), r_ft);
     memset((slot_2 + 24), 0u, 16);
-    stp((slot_2 + 40), r_c1_1);
-    st64((slot_2 + 48), r_vn);
+    stp((slot_2 + 40), r_3u);
+    st64((slot_2 + 48), r_2g);
     st32((slot_2 + 56), 0u);
     st32((slot_2 + 60), 0u);
     st64(slot_2, 0ull);
-    st64((slot_2 + 8), r_5l);
-    st32(t_5q, r_tm);
+    st64((slot_2 + 8), r_7u);
+    st32(t_5q, r_x7);
     capnp_messages_messages_canonical_copy_canonicalize_re_e0e98643(slot_1, slot_2, slot_3);
     u8 r_r5 = ld8(slot_1);
     u32 r_z4 = ld32((slot_1 + 8));
@@ -39560,104 +41086,279 @@ l_join_6f:;
 /* capnp_messages::messages::canonical_copy::canonicalize_reached::<#31450ac7a9874d30> */
 static void capnp_messages_messages_canonical_copy_canonicalize_re_e0e98643(u8 *a_1, u8 *a_2, u8 *a_3)
 {
+    A(8) u8 slot_1[24];
+    A(8) u8 slot_2[64];
+    A(8) u8 slot_3[64];
+    A(8) u8 slot_4[24];
+    A(8) u8 slot_5[32];
+    A(1) u8 slot_6[7];
+    A(8) u8 slot_7[16];
+    A(8) u8 slot_8[112];
+    A(8) u8 slot_9[80];
+    A(1) u8 slot_10[7];
+    A(8) u8 slot_11[16];
+    A(8) u8 slot_12[112];
+    A(8) u8 slot_13[80];
+    A(8) u8 slot_14[72];
+    u8 r_dh;
+    u64 r_eg;
+    u8 r_dd;
+    u8 *r_h5;
+    u8 *r_rv;
+    u64 r_qw;
+    u64 r_qw_1;
+    u8 *r_su;
+    u32 r_5k;
+    u32 r_5k_1;
+    u32 r_5k_2;
+    u32 r_5k_3;
+    u16 r_br;
+    u16 r_br_1;
+    u32 r_5k_4;
+    u32 t_1v;
+    u8 *r_x5_1;
+    u8 r_r5;
+    u32 r_z4_2;
+    u64 r_38_2;
+    u8 *t_6c;
+    u8 *t_6c_1;
+    u32 r_28;
+    u32 r_uq_3;
+    u8 r_r5_1;
+    u32 r_uq_4;
+    u64 r_38_3;
+    u32 r_1v;
+    u64 r_vf;
+    u32 r_li;
+    u32 r_09;
+    u64 r_9g;
+    u32 r_ze;
+    u32 r_s2;
+    u64 r_z6;
+    u64 r_6f;
+    u32 r_3l;
+    u32 r_rk;
+    u64 r_7q;
+    u32 r_yr;
+    u32 r_c1;
+    u64 r_g3;
+    r_dh = ld8(a_2);
+    r_eg = (u64)r_dh;
+    r_dd = ld8(away(a_2, 8ull));
+    r_h5 = away(a_2, 9ull);
+    r_rv = ldp(away(a_2, 16ull));
+    r_qw = ld64(away(a_2, 24ull));
+    r_qw_1 = ld64(away(a_2, 32ull));
+    r_su = away(a_2, 40ull);
+    r_5k = ld32(away(a_2, 56ull));
+    r_5k_1 = ld32(away(a_2, 60ull));
+    r_5k_2 = ld32(away(a_2, 64ull));
+    r_5k_3 = ld32(away(a_2, 68ull));
+    r_br = ld16(away(a_2, 72ull));
+    r_br_1 = ld16(away(a_2, 74ull));
+    r_5k_4 = ld32(away(a_2, 76ull));
+    memset(slot_12, 0u, 112);
+    memset(slot_14, 0u, 72);
+    mv7(slot_10, r_h5);
+    mv16(slot_11, r_su);
+    if (!(r_dd == 0u)) { t_1v = 1u; goto l_capnp_dd; }
+    u64 r_52 = ld64(away(r_rv, 40ull));
+    t_1v = ((r_52 < 0x1fffffffull) ? ((u32)r_52 + 1u) : 0x1fffffffu);
+l_capnp_dd:;
+    st64(slot_13, r_eg);
+    st8((slot_13 + 8), r_dd);
+    mv7((slot_13 + 9), r_h5);
+    stp((slot_13 + 16), r_rv);
+    st64((slot_13 + 24), r_qw);
+    st64((slot_13 + 32), r_qw_1);
+    mv16((slot_13 + 40), r_su);
+    st32((slot_13 + 56), r_5k);
+    st32((slot_13 + 60), r_5k_1);
+    st32((slot_13 + 64), r_5k_2);
+    st32((slot_13 + 68), r_5k_3);
+    st16((slot_13 + 72), r_br);
+    st16((slot_13 + 74), r_br_1);
+    st32((slot_13 + 76), r_5k_4);
+    capnp_messages_messages_canonical_copy_canonicalize_to_d080ea25(slot_12, 0u, 0ull, slot_13, a_3, t_1v);
+    r_x5_1 = (slot_12 + 8);
+    if (!(ld8(slot_12) == 0u)) goto l_arm_5e;
+    u32 r_z4 = ld32(r_x5_1);
+    u32 r_uq = ld32((slot_12 + 12));
+    u64 r_38 = ld64((slot_12 + 16));
+    u32 r_z4_1 = ld32((slot_12 + 24));
+    u32 r_uq_1 = ld32((slot_12 + 28));
+    u64 r_38_1 = ld64((slot_12 + 32));
+    memcpy(slot_14, (slot_12 + 40), 72);
+    r_6f = 0ull;
+    r_3l = r_z4;
+    r_rk = r_uq;
+    r_7q = r_38;
+    r_yr = r_z4_1;
+    r_c1 = r_uq_1;
+    r_g3 = r_38_1;
+    goto l_join_6f;
+l_arm_5e:;
+    r_r5 = ld8(r_x5_1);
+    r_z4_2 = ld32((slot_12 + 24));
+    r_38_2 = ld64((slot_12 + 32));
+    if ((t_1v != 0x1fffffffu) ? (r_r5 == 27u) : 0u) goto l_after_xs;
+    goto l_join_2x;
+l_common_68:;
+    return;
+l_join_2x:;
+    u32 r_uq_2 = ld32((slot_12 + 28));
+    u64 t_38 = ld64((slot_12 + 16));
+    u32 t_uq = ld32((slot_12 + 12));
+    st64(a_1, 1ull);
+    st32(away(a_1, 8ull), (u32)r_r5);
+    st32(away(a_1, 12ull), t_uq);
+    st64(away(a_1, 16ull), t_38);
+    st32(away(a_1, 24ull), r_z4_2);
+    st32(away(a_1, 28ull), r_uq_2);
+    st64(away(a_1, 32ull), r_38_2);
+    memset(away(a_1, 40ull), 0u, 72);
+    goto l_common_68;
+l_after_xs:;
+    mv7(slot_6, slot_10);
+    mv16(slot_7, slot_11);
+    memset(slot_8, 0u, 112);
+    memset(slot_9, 0u, 80);
+    t_6c = (slot_2 + 56);
+    u8 r_dh_1 = ld8(a_3);
+    u64 r_qw_2 = ld64(away(a_3, 8ull));
+    st64(t_6c, 0ull);
+    t_6c_1 = (slot_3 + 56);
+    st64(t_6c_1, 0ull);
+    memset(slot_4, 0u, 24);
+    st64(slot_1, (u64)r_dh_1);
+    st64((slot_1 + 8), r_qw_2);
+    st64((slot_1 + 16), 0ull);
+    if (!(r_dh == 0u)) goto l_arm_cw;
+    st64(slot_2, (u64)r_dd);
+    stp((slot_2 + 8), r_rv);
+    st64((slot_2 + 16), r_qw);
+    st64((slot_2 + 24), r_qw_1);
+    mv16((slot_2 + 32), slot_11);
+    st32((slot_2 + 48), r_5k);
+    st32((slot_2 + 52), r_5k_1);
+    st32(t_6c, r_5k_2);
+    capnp_messages_messages_copy_size_add_value_4d6e045afdcb38e0(slot_4, slot_2, r_5k, r_5k_2, 1u, slot_1);
+    goto l_capnp_x0;
+l_arm_cw:;
+    st64(slot_5, r_qw_1);
+    mv16((slot_5 + 8), slot_11);
+    st32((slot_5 + 24), r_5k);
+    st32((slot_5 + 28), r_5k_1);
+    r_28 = capnp_messages_messages_copy_size_struct_words(slot_5, r_br, r_br_1);
+    if (!(r_28 > 0x1ffffffeu)) goto l_arm_u5;
+    r_1v = 0x1fffffffu;
+    goto l_arm_dd;
+l_arm_u5:;
+    u32 r_w0 = (r_5k + (u32)r_br);
+    st64(slot_3, (u64)r_dd);
+    stp((slot_3 + 8), r_rv);
+    st64((slot_3 + 16), r_qw);
+    st64((slot_3 + 24), r_qw_1);
+    mv16((slot_3 + 32), slot_11);
+    st32((slot_3 + 48), r_w0);
+    st32((slot_3 + 52), 0u);
+    st32(t_6c_1, r_5k_2);
+    capnp_messages_messages_copy_size_add_pointers_4d6e045afdcb38e0(slot_4, slot_3, r_w0, (u32)r_br_1, r_5k_2, (r_28 + 1u), slot_1);
+l_capnp_x0:;
+    r_uq_3 = ld32((slot_4 + 4));
+    r_r5_1 = ld8((slot_4 + 8));
+    r_uq_4 = ld32((slot_4 + 12));
+    r_38_3 = ld64((slot_4 + 16));
+    if (!(ld8(slot_4) == 0u)) goto l_arm_1b;
+    r_1v = umin32(r_uq_3, 0x1fffffffu);
+    goto l_arm_dd;
+l_arm_1b:;
+    if (r_r5_1 == 27u) { r_1v = 0x1fffffffu; goto l_arm_dd; }
+    goto l_arm_cz;
+l_arm_dd:;
+    st64(slot_9, r_eg);
+    st8((slot_9 + 8), r_dd);
+    mv7((slot_9 + 9), slot_6);
+    stp((slot_9 + 16), r_rv);
+    st64((slot_9 + 24), r_qw);
+    st64((slot_9 + 32), r_qw_1);
+    mv16((slot_9 + 40), slot_7);
+    st32((slot_9 + 56), r_5k);
+    st32((slot_9 + 60), r_5k_1);
+    st32((slot_9 + 64), r_5k_2);
+    st32((slot_9 + 68), r_5k_3);
+    st16((slot_9 + 72), r_br);
+    st16((slot_9 + 74), r_br_1);
+    st32((slot_9 + 76), r_5k_4);
+    capnp_messages_messages_canonical_copy_canonicalize_to_d080ea25(slot_8, r_z4_2, r_38_2, slot_9, a_3, r_1v);
+    r_vf = ld64((slot_8 + 32));
+    r_li = ld32((slot_8 + 28));
+    r_09 = ld32((slot_8 + 24));
+    r_9g = ld64((slot_8 + 16));
+    r_ze = ld32((slot_8 + 12));
+    r_s2 = ld32((slot_8 + 8));
+    r_z6 = (u64)ld8(slot_8);
+    goto l_capnp_7n;
+l_arm_cz:;
+    r_vf = r_38_2;
+    r_li = 0u;
+    r_09 = r_z4_2;
+    r_9g = r_38_3;
+    r_ze = r_uq_4;
+    r_s2 = (u32)r_r5_1;
+    r_z6 = 1ull;
+l_capnp_7n:;
+    memcpy(slot_14, (slot_8 + 40), 72);
+    r_6f = r_z6;
+    r_3l = r_s2;
+    r_rk = r_ze;
+    r_7q = r_9g;
+    r_yr = r_09;
+    r_c1 = r_li;
+    r_g3 = r_vf;
+l_join_6f:;
+    st64(a_1, r_6f);
+    st32(away(a_1, 8ull), r_3l);
+    st32(away(a_1, 12ull), r_rk);
+    st64(away(a_1, 16ull), r_7q);
+    st32(away(a_1, 24ull), r_yr);
+    st32(away(a_1, 28ull), r_c1);
+    st64(away(a_1, 32ull), r_g3);
+    memcpy(away(a_1, 40ull), slot_14, 72);
+    goto l_common_68;
+}
+
+/* capnp_messages::messages::canonical_copy::canonicalize_to_message::<#31450ac7a9874d30> */
+static void capnp_messages_messages_canonical_copy_canonicalize_to_d080ea25(u8 *a_1, u32 a_2, u64 a_3, u8 *a_4, u8 *a_5, u32 a_6)
+{
     A(8) u8 slot_1[1];
     A(8) u8 slot_2[32];
     A(8) u8 slot_3[64];
     A(8) u8 slot_4[64];
     A(8) u8 slot_5[24];
-    A(8) u8 slot_6[104];
-    A(8) u8 slot_7[96];
-    A(8) u8 slot_8[24];
-    A(1) u8 slot_9[7];
-    A(1) u8 slot_10[7];
+    A(1) u8 slot_6[7];
+    A(1) u8 slot_7[23];
+    A(8) u8 slot_8[104];
+    A(8) u8 slot_9[96];
+    A(8) u8 slot_10[24];
     A(1) u8 slot_11[7];
     u8 r_dh;
     u8 r_dd;
-    u8 *r_rv;
     u64 r_qw;
+    u8 *r_rv;
     u64 r_qw_1;
-    u8 *r_rv_1;
-    u64 r_qw_2;
     u32 r_5k;
     u32 r_5k_1;
     u32 r_5k_2;
     u16 r_br;
     u16 r_br_1;
-    u32 t_q9;
-    u8 *r_ix;
     u8 *r_x5;
     u8 *r_zd;
     u8 *r_lk;
     u8 *r_a8;
-    u8 *r_c4;
     u8 *r_l1;
     u8 *r_k5;
-    u8 *r_x5_1;
-    u8 *r_89;
-    u8 *r_rq_1;
-    u8 *r_x5_2;
-    u8 *r_zd_1;
-    u8 t_0c_1;
-    u64 r_eg;
-    u64 r_u7;
-    u64 r_z6;
-    u8 *r_2b;
-    u8 r_c6;
-    u8 *r_l7;
-    u64 r_u7_1;
-    u64 r_z6_2;
-    u8 *r_2b_1;
-    u8 r_c6_1;
-    u8 *r_l7_1;
-    u8 *r_zd_2;
-    u64 r_tz;
-    u8 *t_6c;
-    u32 r_w0;
-    u8 *r_x5_3;
-    u8 *r_zd_3;
-    u8 *r_lk_1;
-    u8 *r_89_1;
-    u8 *r_a8_1;
-    u8 *r_c4_1;
-    u8 *r_bk;
-    u8 *r_x5_4;
-    u8 *r_k0;
-    u8 *r_zd_4;
-    u8 *r_x5_5;
-    u8 *r_zd_5;
-    u8 *r_lk_2;
-    u8 *r_89_2;
-    u8 *r_a8_2;
-    u8 *r_c4_2;
-    u8 *r_bk_1;
-    u8 *t_6c_1;
-    u8 *r_k0_1;
-    u8 *r_zd_6;
-    u8 *r_x5_6;
-    u8 *r_x5_7;
-    u8 *r_lk_3;
-    u8 *r_a8_3;
-    u8 *r_c4_3;
-    u8 *r_6c;
-    u8 *r_5q;
-    u8 *r_1e;
-    u8 *r_l1_1;
-    u8 *r_k5_1;
-    u8 *r_x5_8;
-    u8 *r_zd_7;
-    u8 *r_x5_9;
-    u8 *r_k0_2;
-    u8 *r_zd_8;
-    u8 *r_89_3;
-    u8 *r_6c_1;
-    u8 *r_1e_1;
-    u8 *r_2e;
-    u8 *r_x5_10;
-    u8 *r_zd_9;
-    u32 r_m4;
-    u32 r_uc;
-    u64 r_tp_1;
-    u8 r_r5;
+    u32 r_cf;
     u32 r_uq;
     u64 r_38;
     u8 *r_xw;
@@ -39679,19 +41380,33 @@ static void capnp_messages_messages_canonical_copy_canonicalize_re_e0e98643(u8 *
     u8 *r_a7_4;
     u32 r_z4_1;
     u64 r_38_7;
-    u64 r_es;
+    u8 *r_x5_4;
+    u8 *r_89_1;
+    u8 *r_rq_2;
+    u64 r_7l;
+    u8 *r_x5_5;
+    u8 *r_zd_4;
+    u64 r_eg_1;
     u8 r_r5_2;
     u32 r_uq_1;
     u64 r_38_8;
     u8 r_r5_3;
     u8 *r_lz_1;
-    u64 r_qw_5;
-    u8 r_2b_3;
+    u64 r_qw_4;
+    u8 r_2b_1;
     u32 r_qh;
     u64 r_ip;
+    u8 *t_b9_1;
+    u64 r_u7;
+    u64 r_lc;
+    u64 r_z6;
+    u8 *r_2b_2;
     u64 r_nm;
     u64 r_nm_1;
-    u64 r_wx;
+    u64 r_hk;
+    u64 r_u7_1;
+    u64 r_z6_4;
+    u8 *r_2b_3;
     u64 r_nm_2;
     u64 r_nm_3;
     u64 r_zw;
@@ -39702,7 +41417,8 @@ static void capnp_messages_messages_canonical_copy_canonicalize_re_e0e98643(u8 *
     u8 *r_3q;
     u32 r_yf;
     u64 r_24_1;
-    u32 r_ff_1;
+    u32 r_ff;
+    u64 r_52_1;
     struct s_i8_i32 r_kj;
     u64 r_1k;
     u64 r_61;
@@ -39714,6 +41430,7 @@ static void capnp_messages_messages_canonical_copy_canonicalize_re_e0e98643(u8 *
     u64 r_0l;
     u8 *r_2b_6;
     u64 r_il;
+    u8 *t_6c_1;
     u8 r_2b_7;
     u8 r_qh_1;
     u32 r_ip_1;
@@ -39722,26 +41439,29 @@ static void capnp_messages_messages_canonical_copy_canonicalize_re_e0e98643(u8 *
     u8 r_45;
     u32 r_h0;
     u64 r_r1;
-    u8 r_jk;
-    u32 r_au;
-    u64 r_km;
-    u64 r_03;
-    u8 r_cn;
-    u8 r_e6_1;
-    u32 r_3k;
-    u64 r_4i;
-    u64 r_49;
+    u8 r_ld;
+    u32 r_2q;
+    u64 r_gy;
+    u8 r_py;
+    u8 r_ub;
+    u32 r_zx;
+    u64 r_93;
+    u64 r_pp;
+    u32 r_cf_1;
+    u64 r_38_12;
+    u32 t_wt;
+    u32 t_u2;
+    u64 r_38_13;
     u64 r_38_14;
-    u64 r_38_15;
     u8 *r_xw_3;
+    u64 r_38_15;
     u64 r_38_16;
     u64 r_38_17;
-    u64 r_38_18;
     u8 r_r5_7;
-    u8 *r_xw_4;
-    u64 r_38_19;
-    u64 r_38_20;
     u8 *r_k2;
+    u8 *r_xw_4;
+    u64 r_38_18;
+    u64 r_38_19;
     u8 *r_08_1;
     u64 r_52_3;
     u64 r_3i_1;
@@ -39751,142 +41471,82 @@ static void capnp_messages_messages_canonical_copy_canonicalize_re_e0e98643(u8 *
     u8 *t_f6;
     u64 t_gg_1;
     u64 r_ax_1;
-    u64 r_du_2;
+    u64 r_du_1;
     u64 r_zn_2;
     u64 r_8n;
     u64 r_zn_3;
     u8 *r_w6_4;
-    u64 r_z5;
-    u32 r_nu;
-    u64 r_6n;
-    u32 r_jq;
-    u8 r_yl;
-    r_dh = ld8(a_2);
-    r_dd = ld8(away(a_2, 8ull));
-    r_rv = ldp(away(a_2, 16ull));
-    r_qw = ld64(away(a_2, 24ull));
-    r_qw_1 = ld64(away(a_2, 32ull));
-    r_rv_1 = ldp(away(a_2, 40ull));
-    r_qw_2 = ld64(away(a_2, 48ull));
-    r_5k = ld32(away(a_2, 56ull));
-    r_5k_1 = ld32(away(a_2, 60ull));
-    r_5k_2 = ld32(away(a_2, 64ull));
-    r_br = ld16(away(a_2, 72ull));
-    r_br_1 = ld16(away(a_2, 74ull));
-    memset(slot_10, 0u, 7);
+    u8 *r_b2;
+    u64 r_5h_1;
+    u64 r_hs;
+    u64 r_wi;
+    u8 *r_4m;
+    u64 r_eu;
+    u64 r_sb;
+    u8 r_ds;
+    u64 r_q3;
+    u32 r_b4;
+    u32 r_7d;
+    u64 r_ta;
+    u32 r_37;
+    u32 r_jn;
+    u64 r_dq;
+    r_dh = ld8(a_4);
+    r_dd = ld8(away(a_4, 8ull));
+    mv23(slot_7, away(a_4, 9ull));
+    r_qw = ld64(away(a_4, 32ull));
+    r_rv = ldp(away(a_4, 40ull));
+    r_qw_1 = ld64(away(a_4, 48ull));
+    r_5k = ld32(away(a_4, 56ull));
+    r_5k_1 = ld32(away(a_4, 60ull));
+    r_5k_2 = ld32(away(a_4, 64ull));
+    r_br = ld16(away(a_4, 72ull));
+    r_br_1 = ld16(away(a_4, 74ull));
+    memset(slot_6, 0u, 7);
+    memset(slot_9, 0u, 96);
+    memset(slot_10, 0u, 24);
     memset(slot_11, 0u, 7);
-    if (!(r_dd == 0u)) { t_q9 = 1u; goto l_capnp_rs; }
-    u64 r_52 = ld64(away(r_rv, 40ull));
-    t_q9 = ((r_52 < 0x1fffffffull) ? ((u32)r_52 + 1u) : 0x1fffffffu);
-l_capnp_rs:;
-    r_ix = (slot_6 + 4);
-    r_x5 = (slot_6 + 8);
-    r_zd = (slot_6 + 16);
-    r_lk = (slot_6 + 24);
-    r_a8 = (slot_6 + 40);
-    r_c4 = (slot_6 + 48);
-    r_l1 = (slot_6 + 80);
-    r_k5 = (slot_6 + 88);
-    r_x5_1 = (slot_7 + 8);
-    r_89 = (slot_7 + 32);
-    r_rq_1 = away(a_3, 8ull);
-    r_x5_2 = (slot_5 + 8);
-    r_zd_1 = (slot_5 + 16);
-    t_0c_1 = (r_dh == 0u);
-    r_eg = (u64)r_dd;
-    u64 r_24 = (u64)r_5k;
-    r_u7 = (u64)r_br;
-    r_z6 = (u64)(r_u7 << 3ull);
-    r_2b = away(r_rv_1, (u64)(r_24 << 3ull));
-    r_c6 = (r_br < 32u);
-    r_l7 = away(away(r_2b, r_z6), 0xfffffffffffffff8ull);
-    r_u7_1 = (u64)r_br_1;
-    r_z6_2 = (u64)(r_u7_1 << 3ull);
-    r_2b_1 = away(r_rv_1, (u64)((r_u7 + r_24) << 3ull));
-    r_c6_1 = (r_br_1 < 32u);
-    r_l7_1 = away(away(r_2b_1, r_z6_2), 0xfffffffffffffff8ull);
-    r_zd_2 = (slot_7 + 16);
-    r_tz = (u64)(uptr)r_2b;
-    t_6c = (slot_3 + 56);
-    r_w0 = (r_5k + (u32)r_br);
-    r_x5_3 = (slot_3 + 8);
-    r_zd_3 = (slot_3 + 16);
-    r_lk_1 = (slot_3 + 24);
-    r_89_1 = (slot_3 + 32);
-    r_a8_1 = (slot_3 + 40);
-    r_c4_1 = (slot_3 + 48);
-    r_bk = (slot_3 + 52);
-    r_x5_4 = (slot_2 + 8);
-    r_k0 = (slot_2 + 12);
-    r_zd_4 = (slot_2 + 16);
-    r_x5_5 = (slot_4 + 8);
-    r_zd_5 = (slot_4 + 16);
-    r_lk_2 = (slot_4 + 24);
-    r_89_2 = (slot_4 + 32);
-    r_a8_2 = (slot_4 + 40);
-    r_c4_2 = (slot_4 + 48);
-    r_bk_1 = (slot_4 + 52);
-    t_6c_1 = (slot_4 + 56);
-    r_k0_1 = (slot_3 + 12);
-    r_zd_6 = (slot_3 + 16);
-    r_x5_6 = (slot_3 + 8);
-    r_x5_7 = (slot_2 + 8);
-    r_lk_3 = (slot_7 + 24);
-    r_a8_3 = (slot_7 + 40);
-    r_c4_3 = (slot_7 + 48);
-    r_6c = (slot_7 + 56);
-    r_5q = (slot_7 + 64);
-    r_1e = (slot_7 + 72);
-    r_l1_1 = (slot_7 + 80);
-    r_k5_1 = (slot_7 + 88);
-    r_x5_8 = (slot_2 + 8);
-    r_zd_7 = (slot_2 + 16);
-    r_x5_9 = (slot_8 + 8);
-    r_k0_2 = (slot_8 + 12);
-    r_zd_8 = (slot_8 + 16);
-    r_89_3 = (slot_6 + 32);
-    r_6c_1 = (slot_6 + 56);
-    r_1e_1 = (slot_6 + 72);
-    r_2e = (slot_6 + 96);
-    r_x5_10 = (slot_2 + 8);
-    r_zd_9 = (slot_2 + 16);
-    r_m4 = t_q9;
-    r_uc = 0u;
-    r_tp_1 = 0ull;
-l_loop_xs:;
-    memset(slot_8, 0u, 24);
-    memset(slot_9, 0u, 7);
-    st32(slot_6, r_uc);
-    st32(r_ix, 0u);
-    st64(r_x5, r_tp_1);
+    st32(slot_8, a_2);
+    st32((slot_8 + 4), 0u);
+    r_x5 = (slot_8 + 8);
+    st64(r_x5, a_3);
+    r_zd = (slot_8 + 16);
     stp(r_zd, slot_1);
+    r_lk = (slot_8 + 24);
     memset(r_lk, 0u, 16);
+    r_a8 = (slot_8 + 40);
     stp(r_a8, slot_1);
-    memset(r_c4, 0u, 32);
+    memset((slot_8 + 48), 0u, 32);
+    r_l1 = (slot_8 + 80);
     stp(r_l1, slot_1);
+    r_k5 = (slot_8 + 88);
     memset(r_k5, 0u, 16);
-    capnp_messages_messages_canonical_copy_allocate_root_a_37f0c9a9(slot_8, slot_6, r_m4);
-    if (!(ld8(slot_8) == 1u)) goto l_join_dw;
-    r_r5 = ld8(r_x5_9);
-    r_uq = ld32(r_k0_2);
-    r_38 = ld64(r_zd_8);
+    capnp_messages_messages_canonical_copy_allocate_root_a_37f0c9a9(slot_10, slot_8, a_6);
+    if (ld8(slot_10) == 1u) goto l_arm_5d;
+    goto l_join_7j;
+l_common_68:;
+    return;
+l_arm_5d:;
+    r_cf = (u32)ld8((slot_10 + 8));
+    r_uq = ld32((slot_10 + 12));
+    r_38 = ld64((slot_10 + 16));
     r_xw = ldp(r_zd);
     r_38_1 = ld64(r_lk);
-    r_38_2 = ld64(r_89_3);
+    r_38_2 = ld64((slot_8 + 32));
     r_xw_1 = ldp(r_a8);
     r_xw_2 = ldp(r_l1);
     r_38_3 = ld64(r_k5);
-    r_38_4 = ld64(r_2e);
-    r_z4 = ld32(slot_6);
-    r_38_5 = ld64(r_x5);
-    r_ts = (ld64(r_6c_1) == 0ull);
-    if (!(u8)(ld8(r_1e_1) & 1)) goto l_else_ci;
-    if (r_ts) goto l_capnp_wd;
+    r_38_4 = ld64((slot_8 + 96));
+    r_z4 = ld32(slot_8);
+    r_38_5 = ld64((slot_8 + 8));
+    r_ts = (ld64((slot_8 + 56)) == 0ull);
+    if (!(u8)(ld8((slot_8 + 72)) & 1)) goto l_else_ci;
+    if (r_ts) goto l_capnp_4o;
     rattle_dealloc(r_xw_1);
-l_capnp_wd:;
+l_capnp_4o:;
     stp(slot_2, r_xw_2);
-    st64(r_x5_10, r_38_3);
-    st64(r_zd_9, r_38_4);
+    st64((slot_2 + 8), r_38_3);
+    st64((slot_2 + 16), r_38_4);
     capnp_arena_arena_builder_arena_impl_deallocate_others_70ba8108(slot_2);
     goto l_capnp_f6;
 l_else_ci:;
@@ -39925,7 +41585,7 @@ l_else_7d:;
 l_core_e6:;
     if (!(r_ax == t_gg)) { u64 r_1 = (r_ax + 1ull); u64 r_2 = r_zn; r_ax = r_1; r_du = r_2; goto l_join_73; }
 l_join_jj:;
-    if (r_38_1 == 0ull) goto l_capnp_at;
+    if (r_38_1 == 0ull) goto l_capnp_p4;
 l_arm_m6:;
     r_8r = r_38_1;
 l_arm_gj:;
@@ -39935,106 +41595,125 @@ l_arm_gj:;
     rattle_dealloc(ldp(r_a7_4));
 l_capnp_jj:;
     if (!(r_zn_1 == 0ull)) { r_8r = r_zn_1; goto l_arm_gj; }
-l_capnp_at:;
-    if (r_38_2 == 0ull) goto l_capnp_68;
+l_capnp_p4:;
+    if (r_38_2 == 0ull) goto l_std_o9;
     rattle_dealloc(r_xw);
-l_capnp_68:;
-    memset(slot_11, 0u, 7);
-    r_z5 = r_38_5;
-    r_nu = r_z4;
-    r_6n = r_38;
-    r_jq = r_uq;
-    r_yl = r_r5;
-    goto l_arm_f7;
-l_join_dw:;
-    r_z4_1 = ld32(slot_6);
+l_std_o9:;
+    st64(a_1, 1ull);
+    st32(away(a_1, 8ull), r_cf);
+    st32(away(a_1, 12ull), r_uq);
+    st64(away(a_1, 16ull), r_38);
+    st32(away(a_1, 24ull), r_z4);
+    st32(away(a_1, 28ull), 0u);
+    st64(away(a_1, 32ull), r_38_5);
+    memset(away(a_1, 40ull), 0u, 41);
+    mv7(away(a_1, 81ull), slot_6);
+    memset(away(a_1, 88ull), 0u, 24);
+    goto l_common_68;
+l_join_7j:;
+    r_z4_1 = ld32(slot_8);
     r_38_7 = ld64(r_x5);
-    st64(slot_7, 0ull);
-    mv24(r_x5_1, r_zd);
-    mv64(r_89, r_a8);
-    r_es = (u64)r_m4;
-    u64 r_qw_4 = ld64(r_rq_1);
-    st64(slot_5, (u64)ld8(a_3));
-    st64(r_x5_2, r_qw_4);
-    st64(r_zd_1, 0ull);
-    if (!t_0c_1) goto l_arm_5d;
-    stp(r_x5_5, r_rv);
-    st64(r_zd_5, r_qw);
-    st64(r_lk_2, r_qw_1);
-    stp(r_89_2, r_rv_1);
-    st64(r_a8_2, r_qw_2);
-    st32(r_c4_2, r_5k);
-    st32(r_bk_1, r_5k_1);
+    st64(slot_9, 0ull);
+    r_x5_4 = (slot_9 + 8);
+    mv24(r_x5_4, r_zd);
+    r_89_1 = (slot_9 + 32);
+    mv64(r_89_1, r_a8);
+    r_rq_2 = away(a_5, 8ull);
+    r_7l = (u64)a_6;
+    u64 r_qw_3 = ld64(r_rq_2);
+    st64(slot_5, (u64)ld8(a_5));
+    r_x5_5 = (slot_5 + 8);
+    st64(r_x5_5, r_qw_3);
+    r_zd_4 = (slot_5 + 16);
+    st64(r_zd_4, 0ull);
+    r_eg_1 = (u64)r_dd;
+    if (!(r_dh == 0u)) goto l_arm_q5;
+    mv16((slot_4 + 8), (slot_7 + 7));
+    st64((slot_4 + 24), r_qw);
+    stp((slot_4 + 32), r_rv);
+    st64((slot_4 + 40), r_qw_1);
+    st32((slot_4 + 48), r_5k);
+    st32((slot_4 + 52), r_5k_1);
     memset(slot_3, 0u, 24);
-    st64(t_6c_1, 0ull);
-    st64(slot_4, r_eg);
-    st32(t_6c_1, r_5k_2);
-    capnp_copies_copy_copy_object_b6c0503bf8b72334(slot_3, slot_7, 0u, 0u, slot_4, slot_5, 1u);
+    u8 *t_6c = (slot_4 + 56);
+    st64(t_6c, 0ull);
+    st64(slot_4, r_eg_1);
+    st32(t_6c, r_5k_2);
+    capnp_copies_copy_copy_object_b6c0503bf8b72334(slot_3, slot_9, 0u, 0u, slot_4, slot_5, 1u);
     r_r5_2 = ld8(slot_3);
-    r_uq_1 = ld32(r_k0_1);
-    r_38_8 = ld64(r_zd_6);
-    if (r_r5_2 == 0u) { r_2b_3 = 0u; r_qh = 0u; r_ip = 0ull; goto l_capnp_no; }
-    r_r5_3 = ld8(r_x5_6);
-    r_lz_1 = ldp(ldp(r_x5_1));
-    r_qw_5 = ld64(r_lz_1);
-    if (r_qw_5 == 0ull) goto l_capnp_8g;
-    capnp_making_landing_follow_c985307b501351a7(slot_2, slot_7, 0u, 0u);
+    r_uq_1 = ld32((slot_3 + 12));
+    r_38_8 = ld64((slot_3 + 16));
+    if (r_r5_2 == 0u) { r_2b_1 = 0u; r_qh = 0u; r_ip = 0ull; goto l_capnp_no; }
+    r_r5_3 = ld8((slot_3 + 8));
+    r_lz_1 = ldp(ldp(r_x5_4));
+    r_qw_4 = ld64(r_lz_1);
+    if (r_qw_4 == 0ull) goto l_capnp_8g;
+    capnp_making_landing_follow_c985307b501351a7(slot_2, slot_9, 0u, 0u);
     st64(r_lz_1, 0ull);
     if (!(ld8(slot_2) == 1u)) goto l_capnp_8g;
-    capnp_making_zeroing_zero_target_c985307b501351a7(slot_7, r_x5_7);
-    if (!((r_qw_5 & 3ull) == 2ull)) goto l_capnp_8g;
-    capnp_making_zeroing_zero_far_pads_c985307b501351a7(slot_7, r_qw_5);
+    capnp_making_zeroing_zero_target_c985307b501351a7(slot_9, (slot_2 + 8));
+    if (!((r_qw_4 & 3ull) == 2ull)) goto l_capnp_8g;
+    capnp_making_zeroing_zero_far_pads_c985307b501351a7(slot_9, r_qw_4);
 l_capnp_8g:;
-    r_2b_3 = r_r5_3;
+    r_2b_1 = r_r5_3;
     r_qh = r_uq_1;
     r_ip = r_38_8;
 l_capnp_no:;
     r_3i = r_r5_2;
-    r_45 = r_2b_3;
+    r_45 = r_2b_1;
     r_h0 = r_qh;
     r_r1 = r_ip;
     goto l_capnp_x6;
-l_arm_5d:;
-    if (r_c6) { r_nm = r_u7; goto l_loop_jc; }
-    goto l_else_08;
+l_arm_q5:;
+    t_b9_1 = (slot_7 + 7);
+    u64 r_24 = (u64)r_5k;
+    r_u7 = (u64)r_br;
+    r_lc = (r_u7 + r_24);
+    r_z6 = (u64)(r_u7 << 3ull);
+    r_2b_2 = away(r_rv, (u64)(r_24 << 3ull));
+    if (r_br < 32u) { r_nm = r_u7; goto l_loop_jc; }
+    goto l_else_wj;
 l_loop_jc:;
-    if (r_nm == 0ull) { r_wx = 0ull; goto l_capnp_5d; }
+    if (r_nm == 0ull) { r_hk = 0ull; goto l_capnp_ev; }
     u64 r_0f = (r_nm + 0xffffffffffffffffull);
-    if (ld64((r_2b + (i64)((u64)(r_0f << 3ull)))) == 0ull) { r_nm = r_0f; goto l_loop_jc; }
-    r_wx = r_nm;
-    goto l_capnp_5d;
-l_else_08:;
-    if (!(ld64(r_l7) == 0ull)) { r_wx = r_u7; goto l_capnp_5d; }
-    u64 r_r2_1 = capnp_words_lanes_used_words_bound(r_2b, r_z6);
+    if (ld64((r_2b_2 + (i64)((u64)(r_0f << 3ull)))) == 0ull) { r_nm = r_0f; goto l_loop_jc; }
+    r_hk = r_nm;
+    goto l_capnp_ev;
+l_else_wj:;
+    if (!(ld64(away(away(r_2b_2, r_z6), 0xfffffffffffffff8ull)) == 0ull)) { r_hk = r_u7; goto l_capnp_ev; }
+    u64 r_r2_1 = capnp_words_lanes_used_words_bound(r_2b_2, r_z6);
     r_nm_1 = r_r2_1;
 l_loop_jc_1:;
-    if (r_nm_1 == 0ull) { r_wx = 0ull; goto l_capnp_5d; }
+    if (r_nm_1 == 0ull) { r_hk = 0ull; goto l_capnp_ev; }
     u64 r_0f_1 = (r_nm_1 + 0xffffffffffffffffull);
-    if (ld64((r_2b + (i64)((u64)(r_0f_1 << 3ull)))) == 0ull) { r_nm_1 = r_0f_1; goto l_loop_jc_1; }
-    r_wx = r_nm_1;
-l_capnp_5d:;
-    if (r_c6_1) { r_nm_2 = r_u7_1; goto l_loop_jc_2; }
-    goto l_else_08_1;
+    if (ld64((r_2b_2 + (i64)((u64)(r_0f_1 << 3ull)))) == 0ull) { r_nm_1 = r_0f_1; goto l_loop_jc_1; }
+    r_hk = r_nm_1;
+l_capnp_ev:;
+    r_u7_1 = (u64)r_br_1;
+    r_z6_4 = (u64)(r_u7_1 << 3ull);
+    r_2b_3 = away(r_rv, (u64)(r_lc << 3ull));
+    if (r_br_1 < 32u) { r_nm_2 = r_u7_1; goto l_loop_jc_2; }
+    goto l_else_wj_1;
 l_loop_jc_2:;
     if (r_nm_2 == 0ull) { r_zw = 0ull; goto l_capnp_sa; }
     u64 r_0f_2 = (r_nm_2 + 0xffffffffffffffffull);
-    if (ld64((r_2b_1 + (i64)((u64)(r_0f_2 << 3ull)))) == 0ull) { r_nm_2 = r_0f_2; goto l_loop_jc_2; }
+    if (ld64((r_2b_3 + (i64)((u64)(r_0f_2 << 3ull)))) == 0ull) { r_nm_2 = r_0f_2; goto l_loop_jc_2; }
     r_zw = r_nm_2;
     goto l_capnp_sa;
-l_else_08_1:;
-    if (!(ld64(r_l7_1) == 0ull)) { r_zw = r_u7_1; goto l_capnp_sa; }
-    u64 r_r2_2 = capnp_words_lanes_used_words_bound(r_2b_1, r_z6_2);
+l_else_wj_1:;
+    if (!(ld64(away(away(r_2b_3, r_z6_4), 0xfffffffffffffff8ull)) == 0ull)) { r_zw = r_u7_1; goto l_capnp_sa; }
+    u64 r_r2_2 = capnp_words_lanes_used_words_bound(r_2b_3, r_z6_4);
     r_nm_3 = r_r2_2;
 l_loop_jc_3:;
     if (r_nm_3 == 0ull) { r_zw = 0ull; goto l_capnp_sa; }
     u64 r_0f_3 = (r_nm_3 + 0xffffffffffffffffull);
-    if (ld64((r_2b_1 + (i64)((u64)(r_0f_3 << 3ull)))) == 0ull) { r_nm_3 = r_0f_3; goto l_loop_jc_3; }
+    if (ld64((r_2b_3 + (i64)((u64)(r_0f_3 << 3ull)))) == 0ull) { r_nm_3 = r_0f_3; goto l_loop_jc_3; }
     r_zw = r_nm_3;
 l_capnp_sa:;
-    r_29 = ((u32)r_wx & 65535u);
+    r_29 = ((u32)r_hk & 65535u);
     r_az = ((u32)r_zw & 65535u);
     r_68 = (r_az + r_29);
-    r_lz_2 = ldp(r_x5_1);
+    r_lz_2 = ldp(r_x5_4);
     if (!(r_68 == 0u)) goto l_join_s3;
     st64(ldp(r_lz_2), 0xfffffffcull);
     r_7f = 0ull;
@@ -40043,23 +41722,30 @@ l_join_s3:;
     r_3q = away(r_lz_2, 24ull);
     r_yf = ld32(r_3q);
     r_24_1 = (u64)r_yf;
-    if ((r_24_1 + (u64)r_68) > (u64)(ld64(away(r_lz_2, 8ull)) >> 3ull)) goto l_capnp_z3;
+    if ((r_24_1 + (u64)r_68) > (u64)(ld64(away(r_lz_2, 8ull)) >> 3ull)) goto l_capnp_mi;
     st32(r_3q, (r_yf + r_68));
     r_1k = r_24_1;
-    r_61 = (((u64)(r_zw << 48ull) | ((u64)(r_wx << 32ull) & 0xffff00000000ull)) | (u64)((u32)(r_yf << 2u) + 0xfffffffcu));
+    r_61 = (((u64)(r_zw << 48ull) | ((u64)(r_hk << 32ull) & 0xffff00000000ull)) | (u64)((u32)(r_yf << 2u) + 0xfffffffcu));
     r_9s = 0ull;
     goto l_capnp_xw;
-l_capnp_z3:;
-    r_ff_1 = (r_68 + 1u);
-    r_kj = capnp_arena_arena_bounds_first_fit_by_bounds_e469ead029109f04(r_lz_2, ld64(r_zd_2), r_ff_1);
-    if (!(r_kj.f0 == 1u)) goto l_arm_b7;
+l_capnp_mi:;
+    r_ff = (r_68 + 1u);
+    r_52_1 = ld64((slot_9 + 16));
+    r_kj = capnp_arena_arena_bounds_first_fit_by_bounds_e469ead029109f04(r_lz_2, r_52_1, r_ff);
+    if (r_kj.f0 == 1u) goto l_capnp_tw;
+    u8 r_2i = (r_52_1 > 0xfffffffeull);
+    r_ld = (r_2i ? 27u : 0u);
+    r_2q = 0u;
+    r_gy = (u64)(0 - (u64)r_2i);
+    goto l_arm_uo;
+l_capnp_tw:;
     u64 t_24 = (u64)r_kj.f1;
     u8 *r_2b_4 = away(r_lz_2, (u64)(t_24 << 5ull));
     u8 *r_3q_1 = away(r_2b_4, 24ull);
     u32 r_yf_1 = ld32(r_3q_1);
-    st32(r_3q_1, (r_yf_1 + r_ff_1));
+    st32(r_3q_1, (r_yf_1 + r_ff));
     u64 r_z6_8 = (u64)((u64)r_yf_1 << 3ull);
-    st64((ldp(r_2b_4) + (i64)(r_z6_8)), ((u64)(r_zw << 48ull) | ((u64)(r_wx << 32ull) & 0xffff00000000ull)));
+    st64((ldp(r_2b_4) + (i64)(r_z6_8)), ((u64)(r_zw << 48ull) | ((u64)(r_hk << 32ull) & 0xffff00000000ull)));
     r_1k = (u64)(r_yf_1 + 1u);
     r_61 = (((u64)(t_24 << 32ull) | r_z6_8) | 2ull);
     r_9s = t_24;
@@ -40070,205 +41756,199 @@ l_arm_99:;
     r_wt = (u32)r_7f;
     r_ep = (u64)(r_7f >> 32ull);
     r_4r_1 = (u32)r_ep;
-    r_0l = ((u64)(r_wx << 3ull) & 0x7fff8ull);
-    if (r_0l == 0ull) goto l_capnp_5c;
+    r_0l = ((u64)(r_hk << 3ull) & 0x7fff8ull);
+    if (r_0l == 0ull) goto l_capnp_am;
     r_2b_6 = away(ldp(away(r_lz_2, ((u64)(r_7f << 5ull) & 0x1fffffffe0ull))), (u64)(r_ep << 3ull));
-    if (!(r_0l < 64ull)) goto l_else_p1;
+    if (!(r_0l < 64ull)) goto l_else_r3;
     if (!(r_0l > 31ull)) goto l_else_dg;
-    mv32(r_2b_6, r_2b);
+    mv32(r_2b_6, r_2b_2);
     u64 r_bh = (r_0l + 0xffffffffffffffe0ull);
-    mv32((r_2b_6 + (i64)(r_bh)), (r_2b + (i64)(r_bh)));
-    goto l_capnp_5c;
+    mv32((r_2b_6 + (i64)(r_bh)), (r_2b_2 + (i64)(r_bh)));
+    goto l_capnp_am;
 l_else_dg:;
     if (!(r_0l > 15ull)) goto l_then_49;
-    mv16(r_2b_6, r_2b);
+    mv16(r_2b_6, r_2b_2);
     u64 r_8f = (r_0l + 0xfffffffffffffff0ull);
-    mv16((r_2b_6 + (i64)(r_8f)), (r_2b + (i64)(r_8f)));
-    goto l_capnp_5c;
+    mv16((r_2b_6 + (i64)(r_8f)), (r_2b_2 + (i64)(r_8f)));
+    goto l_capnp_am;
 l_then_49:;
-    mv8(r_2b_6, r_2b);
+    mv8(r_2b_6, r_2b_2);
     u64 r_la = (r_0l + 0xfffffffffffffff8ull);
-    mv8((r_2b_6 + (i64)(r_la)), (r_2b + (i64)(r_la)));
-    goto l_capnp_5c;
-l_else_p1:;
-    if (((u64)(uptr)r_2b_6 - r_tz) < r_0l) { r_il = 0ull; goto l_join_fh; }
-    memmove_or_none(r_2b_6, r_2b, r_0l);
-    goto l_capnp_5c;
+    mv8((r_2b_6 + (i64)(r_la)), (r_2b_2 + (i64)(r_la)));
+    goto l_capnp_am;
+l_else_r3:;
+    if (((u64)(uptr)r_2b_6 - (u64)(uptr)r_2b_2) < r_0l) { r_il = 0ull; goto l_join_fh; }
+    memmove_or_none(r_2b_6, r_2b_2, r_0l);
+    goto l_capnp_am;
 l_join_fh:;
-    st8((r_2b_6 + (i64)(r_il)), ld8((r_2b + (i64)(r_il))));
-    u64 r_c4_5 = (r_il + 1ull);
-    if (!(r_c4_5 == r_0l)) { r_il = r_c4_5; goto l_join_fh; }
-l_capnp_5c:;
+    st8((r_2b_6 + (i64)(r_il)), ld8((r_2b_2 + (i64)(r_il))));
+    u64 r_c4_3 = (r_il + 1ull);
+    if (!(r_c4_3 == r_0l)) { r_il = r_c4_3; goto l_join_fh; }
+l_capnp_am:;
     memset(slot_2, 0u, 24);
-    st64(t_6c, 0ull);
+    t_6c_1 = (slot_3 + 56);
+    st64(t_6c_1, 0ull);
     if (r_az == 0u) { r_2b_7 = 0u; r_qh_1 = 0u; r_ip_1 = 0u; r_wq = 0ull; goto l_capnp_no_1; }
-    st64(slot_3, r_eg);
-    stp(r_x5_3, r_rv);
-    st64(r_zd_3, r_qw);
-    st64(r_lk_1, r_qw_1);
-    stp(r_89_1, r_rv_1);
-    st64(r_a8_1, r_qw_2);
-    st32(r_c4_1, r_w0);
-    st32(r_bk, 0u);
-    st32(t_6c, r_5k_2);
-    capnp_copies_copy_children_copy_children_out_of_line_b_1b5716fc(slot_2, slot_7, r_wt, (r_29 + r_4r_1), slot_3, r_az, slot_5, 1u);
+    st64(slot_3, r_eg_1);
+    mv16((slot_3 + 8), t_b9_1);
+    st64((slot_3 + 24), r_qw);
+    stp((slot_3 + 32), r_rv);
+    st64((slot_3 + 40), r_qw_1);
+    st32((slot_3 + 48), (r_5k + (u32)r_br));
+    st32((slot_3 + 52), 0u);
+    st32(t_6c_1, r_5k_2);
+    capnp_copies_copy_children_copy_children_out_of_line_b_1b5716fc(slot_2, slot_9, r_wt, (r_29 + r_4r_1), slot_3, r_az, slot_5, 1u);
     r_2b_7 = ld8(slot_2);
-    r_qh_1 = ld8(r_x5_4);
-    r_ip_1 = ld32(r_k0);
-    r_wq = ld64(r_zd_4);
+    r_qh_1 = ld8((slot_2 + 8));
+    r_ip_1 = ld32((slot_2 + 12));
+    r_wq = ld64((slot_2 + 16));
 l_capnp_no_1:;
     r_3i = r_2b_7;
     r_45 = r_qh_1;
     r_h0 = r_ip_1;
     r_r1 = r_wq;
 l_capnp_x6:;
-    if (!(r_3i == 0u)) goto l_arm_uo;
-    u64 r_38_12 = ld64(r_zd_2);
-    u8 r_du_1 = (r_38_12 == 1ull);
-    r_03 = r_38_12;
-    r_cn = r_du_1;
-    r_e6_1 = (r_du_1 ? ld8(slot_5) : 27u);
-    r_3k = 0u;
-    r_4i = (r_du_1 ? ld64(r_x5_2) : r_es);
-    r_49 = (r_du_1 ? ld64(r_zd_1) : 0ull);
-    goto l_capnp_in;
-l_arm_b7:;
-    goto l_t_h9;
+    if (!(r_3i == 0u)) { r_ld = r_45; r_2q = r_h0; r_gy = r_r1; goto l_arm_uo; }
+    u8 r_en = (ld64((slot_9 + 16)) != 1ull);
+    r_py = (u8)r_en;
+    r_ub = (r_en ? 27u : ld8(slot_5));
+    r_zx = 0u;
+    r_93 = (r_en ? r_7l : ld64(r_x5_5));
+    r_pp = (r_en ? 0ull : ld64(r_zd_4));
+    goto l_capnp_fs;
 l_arm_uo:;
-    switch (r_45) {
+    switch (r_ld) {
     case 0u: goto l_t_h9;
     case 27u: goto l_t_h9;
-    case 1u: { r_jk = r_45; r_au = r_h0; r_km = r_r1; goto l_capnp_hh; }
-    case 2u: { r_jk = r_45; r_au = r_h0; r_km = r_r1; goto l_capnp_hh; }
-    case 3u: { r_jk = r_45; r_au = r_h0; r_km = r_r1; goto l_capnp_hh; }
-    case 4u: { r_jk = r_45; r_au = r_h0; r_km = r_r1; goto l_capnp_hh; }
-    case 5u: { r_jk = r_45; r_au = r_h0; r_km = r_r1; goto l_capnp_hh; }
-    case 6u: { r_jk = r_45; r_au = r_h0; r_km = r_r1; goto l_capnp_hh; }
-    case 7u: { r_jk = r_45; r_au = r_h0; r_km = r_r1; goto l_capnp_hh; }
-    case 8u: { r_jk = r_45; r_au = r_h0; r_km = r_r1; goto l_capnp_hh; }
-    case 9u: { r_jk = r_45; r_au = r_h0; r_km = r_r1; goto l_capnp_hh; }
-    case 10u: { r_jk = r_45; r_au = r_h0; r_km = r_r1; goto l_capnp_hh; }
-    case 11u: { r_jk = r_45; r_au = r_h0; r_km = r_r1; goto l_capnp_hh; }
-    case 12u: { r_jk = r_45; r_au = r_h0; r_km = r_r1; goto l_capnp_hh; }
-    case 13u: { r_jk = r_45; r_au = r_h0; r_km = r_r1; goto l_capnp_hh; }
-    case 14u: { r_jk = r_45; r_au = r_h0; r_km = r_r1; goto l_capnp_hh; }
-    case 15u: { r_jk = r_45; r_au = r_h0; r_km = r_r1; goto l_capnp_hh; }
-    case 16u: { r_jk = r_45; r_au = r_h0; r_km = r_r1; goto l_capnp_hh; }
-    case 17u: { r_jk = r_45; r_au = r_h0; r_km = r_r1; goto l_capnp_hh; }
-    case 18u: { r_jk = r_45; r_au = r_h0; r_km = r_r1; goto l_capnp_hh; }
-    case 19u: { r_jk = r_45; r_au = r_h0; r_km = r_r1; goto l_capnp_hh; }
-    case 20u: { r_jk = r_45; r_au = r_h0; r_km = r_r1; goto l_capnp_hh; }
-    case 21u: { r_jk = r_45; r_au = r_h0; r_km = r_r1; goto l_capnp_hh; }
-    case 22u: { r_jk = r_45; r_au = r_h0; r_km = r_r1; goto l_capnp_hh; }
-    case 23u: { r_jk = r_45; r_au = r_h0; r_km = r_r1; goto l_capnp_hh; }
-    case 24u: { r_jk = r_45; r_au = r_h0; r_km = r_r1; goto l_capnp_hh; }
-    case 25u: { r_jk = r_45; r_au = r_h0; r_km = r_r1; goto l_capnp_hh; }
-    case 26u: { r_jk = r_45; r_au = r_h0; r_km = r_r1; goto l_capnp_hh; }
-    case 28u: { r_jk = r_45; r_au = r_h0; r_km = r_r1; goto l_capnp_hh; }
-    case 29u: { r_jk = r_45; r_au = r_h0; r_km = r_r1; goto l_capnp_hh; }
-    case 30u: { r_jk = r_45; r_au = r_h0; r_km = r_r1; goto l_capnp_hh; }
-    case 31u: { r_jk = r_45; r_au = r_h0; r_km = r_r1; goto l_capnp_hh; }
-    case 32u: { r_jk = r_45; r_au = r_h0; r_km = r_r1; goto l_capnp_hh; }
-    case 33u: { r_jk = r_45; r_au = r_h0; r_km = r_r1; goto l_capnp_hh; }
-    case 34u: { r_jk = r_45; r_au = r_h0; r_km = r_r1; goto l_capnp_hh; }
+    case 1u: { r_py = 1u; r_ub = r_ld; r_zx = r_2q; r_93 = r_gy; r_pp = 0ull; goto l_capnp_fs; }
+    case 2u: { r_py = 1u; r_ub = r_ld; r_zx = r_2q; r_93 = r_gy; r_pp = 0ull; goto l_capnp_fs; }
+    case 3u: { r_py = 1u; r_ub = r_ld; r_zx = r_2q; r_93 = r_gy; r_pp = 0ull; goto l_capnp_fs; }
+    case 4u: { r_py = 1u; r_ub = r_ld; r_zx = r_2q; r_93 = r_gy; r_pp = 0ull; goto l_capnp_fs; }
+    case 5u: { r_py = 1u; r_ub = r_ld; r_zx = r_2q; r_93 = r_gy; r_pp = 0ull; goto l_capnp_fs; }
+    case 6u: { r_py = 1u; r_ub = r_ld; r_zx = r_2q; r_93 = r_gy; r_pp = 0ull; goto l_capnp_fs; }
+    case 7u: { r_py = 1u; r_ub = r_ld; r_zx = r_2q; r_93 = r_gy; r_pp = 0ull; goto l_capnp_fs; }
+    case 8u: { r_py = 1u; r_ub = r_ld; r_zx = r_2q; r_93 = r_gy; r_pp = 0ull; goto l_capnp_fs; }
+    case 9u: { r_py = 1u; r_ub = r_ld; r_zx = r_2q; r_93 = r_gy; r_pp = 0ull; goto l_capnp_fs; }
+    case 10u: { r_py = 1u; r_ub = r_ld; r_zx = r_2q; r_93 = r_gy; r_pp = 0ull; goto l_capnp_fs; }
+    case 11u: { r_py = 1u; r_ub = r_ld; r_zx = r_2q; r_93 = r_gy; r_pp = 0ull; goto l_capnp_fs; }
+    case 12u: { r_py = 1u; r_ub = r_ld; r_zx = r_2q; r_93 = r_gy; r_pp = 0ull; goto l_capnp_fs; }
+    case 13u: { r_py = 1u; r_ub = r_ld; r_zx = r_2q; r_93 = r_gy; r_pp = 0ull; goto l_capnp_fs; }
+    case 14u: { r_py = 1u; r_ub = r_ld; r_zx = r_2q; r_93 = r_gy; r_pp = 0ull; goto l_capnp_fs; }
+    case 15u: { r_py = 1u; r_ub = r_ld; r_zx = r_2q; r_93 = r_gy; r_pp = 0ull; goto l_capnp_fs; }
+    case 16u: { r_py = 1u; r_ub = r_ld; r_zx = r_2q; r_93 = r_gy; r_pp = 0ull; goto l_capnp_fs; }
+    case 17u: { r_py = 1u; r_ub = r_ld; r_zx = r_2q; r_93 = r_gy; r_pp = 0ull; goto l_capnp_fs; }
+    case 18u: { r_py = 1u; r_ub = r_ld; r_zx = r_2q; r_93 = r_gy; r_pp = 0ull; goto l_capnp_fs; }
+    case 19u: { r_py = 1u; r_ub = r_ld; r_zx = r_2q; r_93 = r_gy; r_pp = 0ull; goto l_capnp_fs; }
+    case 20u: { r_py = 1u; r_ub = r_ld; r_zx = r_2q; r_93 = r_gy; r_pp = 0ull; goto l_capnp_fs; }
+    case 21u: { r_py = 1u; r_ub = r_ld; r_zx = r_2q; r_93 = r_gy; r_pp = 0ull; goto l_capnp_fs; }
+    case 22u: { r_py = 1u; r_ub = r_ld; r_zx = r_2q; r_93 = r_gy; r_pp = 0ull; goto l_capnp_fs; }
+    case 23u: { r_py = 1u; r_ub = r_ld; r_zx = r_2q; r_93 = r_gy; r_pp = 0ull; goto l_capnp_fs; }
+    case 24u: { r_py = 1u; r_ub = r_ld; r_zx = r_2q; r_93 = r_gy; r_pp = 0ull; goto l_capnp_fs; }
+    case 25u: { r_py = 1u; r_ub = r_ld; r_zx = r_2q; r_93 = r_gy; r_pp = 0ull; goto l_capnp_fs; }
+    case 26u: { r_py = 1u; r_ub = r_ld; r_zx = r_2q; r_93 = r_gy; r_pp = 0ull; goto l_capnp_fs; }
+    case 28u: { r_py = 1u; r_ub = r_ld; r_zx = r_2q; r_93 = r_gy; r_pp = 0ull; goto l_capnp_fs; }
+    case 29u: { r_py = 1u; r_ub = r_ld; r_zx = r_2q; r_93 = r_gy; r_pp = 0ull; goto l_capnp_fs; }
+    case 30u: { r_py = 1u; r_ub = r_ld; r_zx = r_2q; r_93 = r_gy; r_pp = 0ull; goto l_capnp_fs; }
+    case 31u: { r_py = 1u; r_ub = r_ld; r_zx = r_2q; r_93 = r_gy; r_pp = 0ull; goto l_capnp_fs; }
+    case 32u: { r_py = 1u; r_ub = r_ld; r_zx = r_2q; r_93 = r_gy; r_pp = 0ull; goto l_capnp_fs; }
+    case 33u: { r_py = 1u; r_ub = r_ld; r_zx = r_2q; r_93 = r_gy; r_pp = 0ull; goto l_capnp_fs; }
+    case 34u: { r_py = 1u; r_ub = r_ld; r_zx = r_2q; r_93 = r_gy; r_pp = 0ull; goto l_capnp_fs; }
     default: goto l_noarm_e1;
     }
 l_noarm_e1:;
     UNREACHABLE();
 l_t_h9:;
-    r_jk = 27u;
-    r_au = 0u;
-    r_km = r_es;
-l_capnp_hh:;
-    r_03 = ld64(r_zd_2);
-    r_cn = 0u;
-    r_e6_1 = r_jk;
-    r_3k = r_au;
-    r_4i = r_km;
-    r_49 = 0ull;
-l_capnp_in:;
-    r_38_14 = ld64(r_x5_1);
-    r_38_15 = ld64(r_lk_3);
-    r_xw_3 = ldp(r_89);
-    r_38_16 = ld64(r_a8_3);
-    r_38_17 = ld64(r_c4_3);
-    r_38_18 = ld64(r_6c);
-    r_r5_7 = ld8(r_5q);
-    r_xw_4 = ldp(r_1e);
-    r_38_19 = ld64(r_l1_1);
-    r_38_20 = ld64(r_k5_1);
-    if (!r_cn) goto l_arm_04;
-    r_k2 = (slot_7 + 65);
-    r_08_1 = away(a_3, 16ull);
+    r_py = 1u;
+    r_ub = 27u;
+    r_zx = 0u;
+    r_93 = r_7l;
+    r_pp = 0ull;
+l_capnp_fs:;
+    r_cf_1 = (u32)r_ub;
+    r_38_12 = ld64(r_x5_4);
+    t_wt = (u32)r_38_12;
+    t_u2 = (u32)(u64)(r_38_12 >> 32ull);
+    r_38_13 = ld64((slot_9 + 16));
+    r_38_14 = ld64((slot_9 + 24));
+    r_xw_3 = ldp(r_89_1);
+    r_38_15 = ld64((slot_9 + 40));
+    r_38_16 = ld64((slot_9 + 48));
+    r_38_17 = ld64((slot_9 + 56));
+    r_r5_7 = ld8((slot_9 + 64));
+    r_k2 = (slot_9 + 65);
+    r_xw_4 = ldp((slot_9 + 72));
+    r_38_18 = ld64((slot_9 + 80));
+    r_38_19 = ld64((slot_9 + 88));
+    if (!(r_py == 0u)) goto l_arm_04;
+    r_08_1 = away(a_5, 16ull);
     r_52_3 = ld64(r_08_1);
     if (!(r_52_3 == 0ull)) goto l_join_b0;
-    st64(a_3, (u64)r_e6_1);
-    st64(r_rq_1, r_4i);
-    st64(r_08_1, r_49);
-    goto l_capnp_gc;
+    st64(a_5, (u64)r_ub);
+    st64(r_rq_2, r_93);
+    st64(r_08_1, r_pp);
+    goto l_capnp_pr;
 l_join_b0:;
-    if (((ld8(a_3) != 1u) ? 1u : (r_e6_1 != 1u)) ? 1u : (ld64(r_rq_1) < r_4i)) goto l_after_jc;
-    st64(a_3, 1ull);
-    st64(r_rq_1, r_4i);
+    if (((ld8(a_5) != 1u) ? 1u : (r_ub != 1u)) ? 1u : (ld64(r_rq_2) < r_93)) goto l_after_jc;
+    st64(a_5, 1ull);
+    st64(r_rq_2, r_93);
 l_after_jc:;
-    if (r_49 == 0ull) goto l_capnp_gc;
+    if (r_pp == 0ull) goto l_capnp_pr;
     r_3i_1 = r_52_3;
     r_hb = 0ull;
 l_join_j4:;
     r_vg = uadd_sat64(r_3i_1, 1ull);
     u64 r_36 = (r_hb + 1ull);
-    if (!(r_36 == r_49)) { r_3i_1 = r_vg; r_hb = r_36; goto l_join_j4; }
+    if (!(r_36 == r_pp)) { r_3i_1 = r_vg; r_hb = r_36; goto l_join_j4; }
     st64(r_08_1, r_vg);
-l_capnp_gc:;
+l_capnp_pr:;
     mv7(slot_11, r_k2);
-    st64(a_1, 0ull);
-    st32(away(a_1, 8ull), r_z4_1);
-    st32(away(a_1, 12ull), 0u);
-    st64(away(a_1, 16ull), r_38_7);
-    st64(away(a_1, 24ull), r_38_14);
-    st64(away(a_1, 32ull), r_03);
-    st64(away(a_1, 40ull), r_38_15);
-    stp(away(a_1, 48ull), r_xw_3);
-    st64(away(a_1, 56ull), r_38_16);
-    st64(away(a_1, 64ull), r_38_17);
-    st64(away(a_1, 72ull), r_38_18);
-    st8(away(a_1, 80ull), r_r5_7);
-    mv7(away(a_1, 81ull), slot_11);
-    stp(away(a_1, 88ull), r_xw_4);
-    st64(away(a_1, 96ull), r_38_19);
-    st64(away(a_1, 104ull), r_38_20);
-    goto l_common_68;
+    r_b2 = r_xw_3;
+    r_5h_1 = r_38_15;
+    r_hs = r_38_16;
+    r_wi = r_38_17;
+    r_4m = r_xw_4;
+    r_eu = r_38_18;
+    r_sb = r_38_19;
+    r_ds = r_r5_7;
+    r_q3 = r_38_14;
+    r_b4 = r_z4_1;
+    r_7d = 0u;
+    r_ta = r_38_7;
+    r_37 = t_wt;
+    r_jn = t_u2;
+    r_dq = r_38_13;
+    goto l_join_19;
 l_arm_04:;
-    r_ts_20 = (r_38_17 == 0ull);
+    r_ts_20 = (r_38_16 == 0ull);
     if (!(u8)(r_r5_7 & 1)) goto l_else_ci_1;
-    if (r_ts_20) goto l_capnp_wd_1;
+    if (r_ts_20) goto l_capnp_4o_1;
     rattle_dealloc(r_xw_3);
-l_capnp_wd_1:;
+l_capnp_4o_1:;
     stp(slot_2, r_xw_4);
-    st64(r_x5_8, r_38_19);
-    st64(r_zd_7, r_38_20);
+    st64((slot_2 + 8), r_38_18);
+    st64((slot_2 + 16), r_38_19);
     capnp_arena_arena_builder_arena_impl_deallocate_others_70ba8108(slot_2);
     goto l_capnp_jm;
 l_else_ci_1:;
     if (r_ts_20) goto l_core_at_1;
     rattle_dealloc(r_xw_3);
 l_core_at_1:;
-    if (r_38_20 == 0ull) goto l_capnp_jm;
+    if (r_38_19 == 0ull) goto l_capnp_jm;
     rattle_dealloc(r_xw_4);
 l_capnp_jm:;
-    t_f6 = ((u8 *)(uptr)r_38_14);
-    if (!(r_03 > 1ull)) goto l_join_jj_1;
-    if (r_03 > 15ull) goto l_join_kp;
-    t_gg_1 = (u64)((r_03 + 0xfffffffffffffffeull) >> 1ull);
+    t_f6 = ((u8 *)(uptr)r_38_12);
+    if (!(r_38_13 > 1ull)) goto l_join_jj_1;
+    if (r_38_13 > 15ull) goto l_join_kp;
+    t_gg_1 = (u64)((r_38_13 + 0xfffffffffffffffeull) >> 1ull);
     r_ax_1 = 0ull;
-    r_du_2 = r_03;
+    r_du_1 = r_38_13;
     goto l_join_73_1;
 l_join_kp:;
-    u64 r_dt_1 = (u64)(r_03 >> 1ull);
-    core_slice_edits_mirror_88712faee6672b50(t_f6, away(t_f6, (u64)((r_03 - r_dt_1) << 5ull)), r_dt_1);
+    u64 r_dt_1 = (u64)(r_38_13 >> 1ull);
+    core_slice_edits_mirror_88712faee6672b50(t_f6, away(t_f6, (u64)((r_38_13 - r_dt_1) << 5ull)), r_dt_1);
     goto l_arm_m6_1;
 l_join_73_1:;
-    r_zn_2 = (r_du_2 + 0xffffffffffffffffull);
+    r_zn_2 = (r_du_1 + 0xffffffffffffffffull);
     if (!(r_ax_1 < r_zn_2)) goto l_else_7d_1;
     u8 *r_w6 = (t_f6 + (i64)((u64)(r_ax_1 << 5ull)));
     u8 *r_w6_1 = (t_f6 + (i64)((u64)(r_zn_2 << 5ull)));
@@ -40284,11 +41964,11 @@ l_else_7d_1:;
     mv32(r_w6_2, r_w6_3);
     mv32(r_w6_3, slot_2);
 l_core_e6_1:;
-    if (!(r_ax_1 == t_gg_1)) { u64 r_3 = (r_ax_1 + 1ull); u64 r_4 = r_zn_2; r_ax_1 = r_3; r_du_2 = r_4; goto l_join_73_1; }
+    if (!(r_ax_1 == t_gg_1)) { u64 r_3 = (r_ax_1 + 1ull); u64 r_4 = r_zn_2; r_ax_1 = r_3; r_du_1 = r_4; goto l_join_73_1; }
 l_join_jj_1:;
-    if (r_03 == 0ull) goto l_capnp_at_1;
+    if (r_38_13 == 0ull) goto l_capnp_f8;
 l_arm_m6_1:;
-    r_8n = r_03;
+    r_8n = r_38_13;
 l_arm_a7:;
     r_zn_3 = (r_8n + 0xffffffffffffffffull);
     r_w6_4 = (t_f6 + (i64)((u64)(r_zn_3 << 5ull)));
@@ -40296,40 +41976,43 @@ l_arm_a7:;
     rattle_dealloc(ldp(r_w6_4));
 l_capnp_jj_1:;
     if (!(r_zn_3 == 0ull)) { r_8n = r_zn_3; goto l_arm_a7; }
-l_capnp_at_1:;
-    if (r_38_15 == 0ull) goto l_capnp_ti;
+l_capnp_f8:;
+    if (r_38_14 == 0ull) { r_b2 = ((u8 *)0); r_5h_1 = 0ull; r_hs = 0ull; r_wi = 0ull; r_4m = ((u8 *)0); r_eu = 0ull; r_sb = 0ull; r_ds = 0u; r_q3 = 0ull; r_b4 = r_cf_1; r_7d = r_zx; r_ta = r_93; r_37 = r_z4_1; r_jn = 0u; r_dq = r_38_7; goto l_join_19; }
     rattle_dealloc(t_f6);
-l_capnp_ti:;
-    mv7(slot_11, slot_9);
-    r_z5 = r_38_7;
-    r_nu = r_z4_1;
-    r_6n = r_4i;
-    r_jq = r_3k;
-    r_yl = r_e6_1;
-    goto l_arm_f7;
-l_common_68:;
-    return;
-l_arm_f7:;
-    if ((r_m4 != 0x1fffffffu) ? (r_yl == 27u) : 0u) goto l_after_3i;
-    st64(a_1, 1ull);
-    st32(away(a_1, 8ull), (u32)r_yl);
-    st32(away(a_1, 12ull), r_jq);
-    st64(away(a_1, 16ull), r_6n);
-    st32(away(a_1, 24ull), r_nu);
-    st32(away(a_1, 28ull), 0u);
-    st64(away(a_1, 32ull), r_z5);
-    memset(away(a_1, 40ull), 0u, 41);
-    mv7(away(a_1, 81ull), slot_10);
-    memset(away(a_1, 88ull), 0u, 24);
+    r_b2 = ((u8 *)0);
+    r_5h_1 = 0ull;
+    r_hs = 0ull;
+    r_wi = 0ull;
+    r_4m = ((u8 *)0);
+    r_eu = 0ull;
+    r_sb = 0ull;
+    r_ds = 0u;
+    r_q3 = 0ull;
+    r_b4 = r_cf_1;
+    r_7d = r_zx;
+    r_ta = r_93;
+    r_37 = r_z4_1;
+    r_jn = 0u;
+    r_dq = r_38_7;
+l_join_19:;
+    st64(a_1, (u64)r_py);
+    st32(away(a_1, 8ull), r_b4);
+    st32(away(a_1, 12ull), r_7d);
+    st64(away(a_1, 16ull), r_ta);
+    st32(away(a_1, 24ull), r_37);
+    st32(away(a_1, 28ull), r_jn);
+    st64(away(a_1, 32ull), r_dq);
+    st64(away(a_1, 40ull), r_q3);
+    stp(away(a_1, 48ull), r_b2);
+    st64(away(a_1, 56ull), r_5h_1);
+    st64(away(a_1, 64ull), r_hs);
+    st64(away(a_1, 72ull), r_wi);
+    st8(away(a_1, 80ull), r_ds);
+    mv7(away(a_1, 81ull), slot_11);
+    stp(away(a_1, 88ull), r_4m);
+    st64(away(a_1, 96ull), r_eu);
+    st64(away(a_1, 104ull), r_sb);
     goto l_common_68;
-l_after_3i:;
-    u32 r_5 = umin32((u32)(r_m4 << 1u), 0x1fffffffu);
-    u32 r_6 = r_nu;
-    u64 r_7 = r_z5;
-    r_m4 = r_5;
-    r_uc = r_6;
-    r_tp_1 = r_7;
-    goto l_loop_xs;
 }
 
 /* capnp_copies::copy::copy_object::<#b6c0503bf8b72334> */
@@ -42641,6 +44324,506 @@ l_capnp_9c:;
     st32(away(a_1, 12ull), r_n4);
     st64(away(a_1, 16ull), r_yp);
     return;
+}
+
+/* capnp_messages::messages::copy_size::add_value::<#4d6e045afdcb38e0> */
+static void capnp_messages_messages_copy_size_add_value_4d6e045afdcb38e0(u8 *a_1, u8 *a_2, u32 a_3, u32 a_4, u32 a_5, u8 *a_6)
+{
+    A(8) u8 slot_1[56];
+    A(8) u8 slot_2[64];
+    A(8) u8 slot_3[64];
+    A(8) u8 slot_4[64];
+    A(8) u8 slot_5[48];
+    A(8) u8 slot_6[24];
+    u64 r_52;
+    u8 *r_xw;
+    u64 r_38;
+    u8 r_y8;
+    u8 *r_rq;
+    u8 *r_xw_1;
+    u64 r_7l;
+    u64 r_gw;
+    u64 r_qw;
+    u64 t_al;
+    u8 t_pa;
+    u64 r_lc;
+    u64 r_nb;
+    u64 r_yz;
+    u32 r_gx;
+    u32 r_qd;
+    u64 r_d4;
+    u64 r_9h;
+    u64 r_27;
+    u64 r_hv;
+    u64 r_ep;
+    u64 r_y6;
+    u64 r_lc_1;
+    u8 *r_rq_1;
+    u64 r_52_2;
+    u64 r_ep_1;
+    u8 switch_wl;
+    u64 r_ij;
+    u64 r_c4_1;
+    u64 r_24_1;
+    u64 r_gw_2;
+    u8 *r_rq_2;
+    u64 r_52_3;
+    u64 r_eh;
+    u32 t_c8;
+    u32 r_12_1;
+    u32 r_az_1;
+    u32 r_68;
+    u64 r_c0;
+    u8 *r_rq_3;
+    u64 r_52_4;
+    u32 r_12_2;
+    u8 *r_rq_4;
+    u64 r_52_5;
+    u32 r_12_3;
+    u8 *r_rq_5;
+    u64 r_52_6;
+    u32 r_12_4;
+    u64 r_c6;
+    u8 *r_rq_6;
+    u64 r_52_7;
+    u64 r_2g;
+    u64 r_jg;
+    u64 r_6e;
+    u32 r_jp;
+    u32 r_eq;
+    u8 r_8e;
+    u32 r_7q;
+    u32 r_b2;
+    u32 r_pp;
+    u32 r_9q;
+    u32 r_ai;
+    u32 r_m0;
+    u64 r_ph;
+    u16 r_wc;
+    u16 r_vt;
+    u64 r_n4;
+    u64 r_n3;
+    u8 r_06;
+    u64 r_bd;
+    u32 r_1p;
+    u32 r_fp;
+    u32 r_2a;
+    u32 r_xi;
+    u32 r_14;
+    u64 r_lc_6;
+    u32 r_12_5;
+    u32 r_mx;
+    memset((slot_2 + 40), 0u, 24);
+    st64((slot_3 + 56), 0ull);
+    st64((slot_4 + 56), 0ull);
+    memset(slot_6, 0u, 24);
+    r_52 = ld64(away(a_2, 24ull));
+    r_xw = ldp(away(a_2, 32ull));
+    r_38 = ld64(away(a_2, 40ull));
+    r_y8 = ld8(a_2);
+    r_rq = away(a_2, 8ull);
+    r_xw_1 = ldp(r_rq);
+    r_7l = (u64)a_3;
+    r_gw = (u64)(r_38 >> 3ull);
+    if (!(r_gw > r_7l)) { r_wc = 0u; r_vt = 0u; r_n4 = 0ull; r_n3 = 0ull; r_06 = 0u; r_bd = 0ull; r_1p = 0u; r_fp = 0u; r_2a = 0u; r_xi = 0u; r_14 = 0u; goto l_join_07; }
+    r_qw = ld64((r_xw + (i64)((u64)(r_7l << 3ull))));
+    if (r_qw == 0ull) { r_wc = 0u; r_vt = 0u; r_n4 = 0ull; r_n3 = 0ull; r_06 = 0u; r_bd = 0ull; r_1p = 0u; r_fp = 0u; r_2a = 0u; r_xi = 0u; r_14 = 0u; goto l_join_07; }
+    t_al = (u64)(uptr)r_xw;
+    memset(slot_1, 0u, 56);
+    t_pa = (r_y8 != 0u);
+    if (t_pa) goto l_capnp_sm;
+    u8 *r_08 = away(a_6, 16ull);
+    st64(r_08, uadd_sat64(ld64(r_08), 1ull));
+    if ((r_qw & 3ull) == 2ull) goto l_capnp_ln;
+    goto l_join_bd;
+l_capnp_sm:;
+    if (!((r_qw & 3ull) == 2ull)) goto l_join_bd;
+    st32((slot_1 + 8), 32u);
+    r_2g = ld64((slot_1 + 8));
+    goto l_capnp_8g;
+l_join_bd:;
+    u64 r_m6 = ((u64)(r_qw >> 2ull) & 0x3fffffffull);
+    r_lc = ((r_7l + 1ull) + r_m6);
+    r_nb = (r_gw & 0xffffffffull);
+    if (!(r_m6 < 0x20000000ull)) goto l_else_70;
+    if (r_lc > r_nb) { r_2g = 23ull; goto l_capnp_8g; }
+    r_yz = r_lc;
+    goto l_capnp_i5;
+l_else_70:;
+    u64 r_3o = (r_lc + 0xffffffffc0000000ull);
+    if ((r_lc < 0x40000000ull) ? 1u : (r_3o > r_nb)) { r_2g = 23ull; goto l_capnp_8g; }
+    r_yz = r_3o;
+l_capnp_i5:;
+    r_gx = 0u;
+    r_qd = (u32)r_yz;
+    r_d4 = r_52;
+    r_9h = r_qw;
+    r_27 = r_38;
+    r_hv = t_al;
+    goto l_arm_wn;
+l_capnp_ln:;
+    capnp_objects_source_follow_far_4d6e045afdcb38e0(slot_1, r_xw_1, r_qw, a_6);
+    u64 r_38_2 = ld64((slot_1 + 16));
+    u64 r_38_3 = ld64((slot_1 + 8));
+    if (ld8(slot_1) == 0u) { r_gx = ld32((slot_1 + 44)); r_qd = ld32((slot_1 + 40)); r_d4 = r_38_2; r_9h = r_38_3; r_27 = ld64((slot_1 + 32)); r_hv = ld64((slot_1 + 24)); goto l_arm_wn; }
+    r_jg = r_38_2;
+    r_6e = r_38_3;
+    goto l_capnp_qu;
+l_arm_wn:;
+    switch ((u8)((u8)r_9h & 3u)) {
+    case 0u: goto l_arm_9l;
+    case 1u: goto l_arm_z2;
+    case 2u: { r_pp = 1u; r_9q = 0u; r_ai = 13u; r_m0 = 0u; r_ph = 0ull; goto l_common_4n; }
+    case 3u: goto l_capnp_7o;
+    default: goto l_default_e1;
+    }
+l_arm_9l:;
+    r_ep = (u64)(r_9h >> 32ull);
+    r_y6 = (u64)(r_9h >> 48ull);
+    if ((i32)a_4 < (i32)1u) { r_pp = 1u; r_9q = 0u; r_ai = 26u; r_m0 = 0u; r_ph = 0ull; goto l_common_4n; }
+    r_lc_1 = ((r_ep & 65535ull) + r_y6);
+    if (((u64)(r_27 >> 3ull) & 0xffffffffull) < (r_lc_1 + (u64)r_qd)) { r_pp = 1u; r_9q = 0u; r_ai = 23u; r_m0 = 0u; r_ph = 0ull; goto l_common_4n; }
+    if (t_pa) goto l_arm_mf;
+    if (!(ld8(a_6) == 1u)) goto l_arm_mf;
+    r_rq_1 = away(a_6, 8ull);
+    r_52_2 = ld64(r_rq_1);
+    if (r_52_2 < r_lc_1) { r_pp = 1u; r_9q = 0u; r_ai = 30u; r_m0 = 0u; r_ph = 0ull; goto l_common_4n; }
+    st64(a_6, 1ull);
+    st64(r_rq_1, (r_52_2 - r_lc_1));
+l_arm_mf:;
+    r_jp = r_qd;
+    r_eq = r_gx;
+    r_8e = 2u;
+    r_7q = ((u32)((u32)r_y6 << 16u) | ((u32)r_ep & 65535u));
+    r_b2 = 0u;
+    goto l_arm_6k;
+l_arm_z2:;
+    r_ep_1 = (u64)(r_9h >> 32ull);
+    switch_wl = (u8)((u8)r_ep_1 & 7u);
+    r_ij = (u64)(r_9h >> 35ull);
+    switch (switch_wl) {
+    case 7u: goto l_arm_kl;
+    case 6u: goto l_arm_oi;
+    case 0u: goto l_arm_oi_1;
+    case 1u: goto l_arm_oi_2;
+    case 2u: goto l_arm_oi_2;
+    case 3u: goto l_arm_oi_2;
+    case 4u: goto l_arm_oi_2;
+    case 5u: goto l_arm_oi_2;
+    default: goto l_default_e1;
+    }
+l_arm_kl:;
+    if ((i32)a_4 < (i32)1u) { r_pp = 1u; r_9q = 0u; r_ai = 26u; r_m0 = 0u; r_ph = 0ull; goto l_common_4n; }
+    r_c4_1 = (r_ij + 1ull);
+    r_24_1 = (u64)r_qd;
+    r_gw_2 = (u64)(r_27 >> 3ull);
+    if ((r_gw_2 & 0xffffffffull) < (r_c4_1 + r_24_1)) { r_pp = 1u; r_9q = 0u; r_ai = 23u; r_m0 = 0u; r_ph = 0ull; goto l_common_4n; }
+    if (t_pa) goto l_arm_ga;
+    if (!(ld8(a_6) == 1u)) goto l_arm_ga;
+    r_rq_2 = away(a_6, 8ull);
+    r_52_3 = ld64(r_rq_2);
+    if (!(r_52_3 > r_ij)) { r_pp = 1u; r_9q = 0u; r_ai = 30u; r_m0 = 0u; r_ph = 0ull; goto l_common_4n; }
+    st64(a_6, 1ull);
+    st64(r_rq_2, (r_52_3 - r_c4_1));
+l_arm_ga:;
+    if (!(r_gw_2 > r_24_1)) { r_eh = 0ull; goto l_join_qm; }
+    u64 r_qw_1 = ld64((((u8 *)(uptr)r_hv) + (i64)((u64)(r_24_1 << 3ull))));
+    if ((r_qw_1 & 3ull) == 0ull) { r_eh = r_qw_1; goto l_join_qm; }
+    r_pp = 1u;
+    r_9q = 0u;
+    r_ai = 11u;
+    r_m0 = 0u;
+    r_ph = 0ull;
+    goto l_common_4n;
+l_join_qm:;
+    t_c8 = (u32)((u32)r_eh >> 2u);
+    r_12_1 = (u32)(u64)(r_eh >> 48ull);
+    r_az_1 = ((u32)(u64)(r_eh >> 32ull) & 65535u);
+    r_68 = (r_az_1 + r_12_1);
+    r_c0 = (u64)t_c8;
+    if (r_ij < ((u64)r_68 * r_c0)) { r_pp = 1u; r_9q = 0u; r_ai = 10u; r_m0 = 0u; r_ph = 0ull; goto l_common_4n; }
+    if ((u8)((u8)t_pa | (u8)(r_68 != 0u))) goto l_arm_8v;
+    if (!(ld8(a_6) == 1u)) goto l_arm_8v;
+    r_rq_3 = away(a_6, 8ull);
+    r_52_4 = ld64(r_rq_3);
+    if (r_52_4 < r_c0) { r_pp = 1u; r_9q = 0u; r_ai = 30u; r_m0 = 0u; r_ph = 0ull; goto l_common_4n; }
+    st64(a_6, 1ull);
+    st64(r_rq_3, (r_52_4 - r_c0));
+l_arm_8v:;
+    r_jp = (r_qd + 1u);
+    r_eq = 0u;
+    r_8e = 5u;
+    r_7q = ((u32)(r_12_1 << 16u) | r_az_1);
+    r_b2 = t_c8;
+    goto l_arm_6k;
+l_arm_oi:;
+    r_12_2 = (u32)r_ij;
+    if ((i32)a_4 < (i32)1u) { r_pp = 1u; r_9q = 0u; r_ai = 26u; r_m0 = 0u; r_ph = 0ull; goto l_common_4n; }
+    if (((u64)(r_27 >> 3ull) & 0xffffffffull) < (r_ij + (u64)r_qd)) { r_pp = 1u; r_9q = 0u; r_ai = 23u; r_m0 = 0u; r_ph = 0ull; goto l_common_4n; }
+    if (t_pa) { r_jp = r_qd; r_eq = r_gx; r_8e = 4u; r_7q = r_12_2; r_b2 = 0u; goto l_arm_6k; }
+    if (!(ld8(a_6) == 1u)) { r_jp = r_qd; r_eq = r_gx; r_8e = 4u; r_7q = r_12_2; r_b2 = 0u; goto l_arm_6k; }
+    r_rq_4 = away(a_6, 8ull);
+    r_52_5 = ld64(r_rq_4);
+    if (r_52_5 < r_ij) { r_pp = 1u; r_9q = 0u; r_ai = 30u; r_m0 = 0u; r_ph = 0ull; goto l_common_4n; }
+    st64(a_6, 1ull);
+    st64(r_rq_4, (r_52_5 - r_ij));
+    r_jp = r_qd;
+    r_eq = r_gx;
+    r_8e = 4u;
+    r_7q = r_12_2;
+    r_b2 = 0u;
+    goto l_arm_6k;
+l_arm_oi_1:;
+    r_12_3 = (u32)r_ij;
+    if ((i32)a_4 < (i32)1u) { r_pp = 1u; r_9q = 0u; r_ai = 26u; r_m0 = 0u; r_ph = 0ull; goto l_common_4n; }
+    if (((u64)(r_27 >> 3ull) & 0xffffffffull) < (u64)r_qd) { r_pp = 1u; r_9q = 0u; r_ai = 23u; r_m0 = 0u; r_ph = 0ull; goto l_common_4n; }
+    if (t_pa) { r_jp = r_qd; r_eq = r_gx; r_8e = 3u; r_7q = 0u; r_b2 = r_12_3; goto l_arm_6k; }
+    if (!(ld8(a_6) == 1u)) { r_jp = r_qd; r_eq = r_gx; r_8e = 3u; r_7q = 0u; r_b2 = r_12_3; goto l_arm_6k; }
+    st64(a_6, 1ull);
+    r_rq_5 = away(a_6, 8ull);
+    r_52_6 = ld64(r_rq_5);
+    if (r_52_6 < r_ij) { r_pp = 1u; r_9q = 0u; r_ai = 30u; r_m0 = 0u; r_ph = 0ull; goto l_common_4n; }
+    st64(r_rq_5, (r_52_6 - r_ij));
+    r_jp = r_qd;
+    r_eq = r_gx;
+    r_8e = 3u;
+    r_7q = 0u;
+    r_b2 = r_12_3;
+    goto l_arm_6k;
+l_arm_oi_2:;
+    r_12_4 = (u32)r_ij;
+    if ((i32)a_4 < (i32)1u) { r_pp = 1u; r_9q = 0u; r_ai = 26u; r_m0 = 0u; r_ph = 0ull; goto l_common_4n; }
+    r_c6 = (u64)(((ld64(away(away(((u8 *)switch_table_capnp_objects_pointers_validate_validate__e3024457), 8 * (r_ep_1 & 7ull)), 0xfffffffffffffff8ull)) * r_ij) + 63ull) >> 6ull);
+    if (((u64)(r_27 >> 3ull) & 0xffffffffull) < (r_c6 + (u64)r_qd)) { r_pp = 1u; r_9q = 0u; r_ai = 23u; r_m0 = 0u; r_ph = 0ull; goto l_common_4n; }
+    if (t_pa) goto l_arm_eq;
+    if (!(ld8(a_6) == 1u)) goto l_arm_eq;
+    r_rq_6 = away(a_6, 8ull);
+    r_52_7 = ld64(r_rq_6);
+    if (r_52_7 < r_c6) { r_pp = 1u; r_9q = 0u; r_ai = 30u; r_m0 = 0u; r_ph = 0ull; goto l_common_4n; }
+    st64(a_6, 1ull);
+    st64(r_rq_6, (r_52_7 - r_c6));
+l_arm_eq:;
+    r_jp = r_qd;
+    r_eq = r_gx;
+    r_8e = 3u;
+    r_7q = (u32)switch_wl;
+    r_b2 = r_12_4;
+    goto l_arm_6k;
+l_default_e1:;
+    UNREACHABLE();
+l_capnp_8g:;
+    r_jg = 0ull;
+    r_6e = r_2g;
+l_capnp_qu:;
+    r_pp = 1u;
+    r_9q = 0u;
+    r_ai = ((u32)r_6e & 255u);
+    r_m0 = (u32)(u64)(r_6e >> 32ull);
+    r_ph = r_jg;
+    goto l_common_4n;
+l_arm_6k:;
+    r_wc = (u16)(u32)(r_7q >> 16u);
+    r_vt = (u16)r_7q;
+    r_n4 = r_hv;
+    r_n3 = r_27;
+    r_06 = r_8e;
+    r_bd = r_d4;
+    r_1p = r_jp;
+    r_fp = r_eq;
+    r_2a = r_7q;
+    r_xi = r_b2;
+    r_14 = (u32)r_8e;
+    goto l_join_07;
+l_capnp_7o:;
+    r_pp = 1u;
+    r_9q = 0u;
+    r_ai = (((r_9h & 0xffffffffull) == 3ull) ? 1u : 34u);
+    r_m0 = 0u;
+    r_ph = 0ull;
+l_common_4n:;
+    st32(a_1, r_pp);
+    st32(away(a_1, 4ull), r_9q);
+    st32(away(a_1, 8ull), r_ai);
+    st32(away(a_1, 12ull), r_m0);
+    st64(away(a_1, 16ull), r_ph);
+    return;
+l_join_07:;
+    st32(slot_5, r_14);
+    st32((slot_5 + 4), 0u);
+    st64((slot_5 + 8), r_bd);
+    st64((slot_5 + 16), r_n4);
+    st64((slot_5 + 24), r_n3);
+    st32((slot_5 + 32), r_1p);
+    st32((slot_5 + 36), r_fp);
+    st32((slot_5 + 40), r_2a);
+    st32((slot_5 + 44), r_xi);
+    u32 r_x3 = capnp_messages_messages_copy_size_object_words(slot_5);
+    r_lc_6 = ((u64)r_x3 + (u64)a_5);
+    if (r_lc_6 > 0x1fffffffull) { r_pp = 1u; r_9q = 0u; r_ai = 27u; r_m0 = 0u; r_ph = 0x1fffffffull; goto l_common_4n; }
+    r_12_5 = (u32)r_lc_6;
+    r_mx = ((a_4 == 0x80000000u) ? 0x80000000u : (a_4 + 0xffffffffu));
+    switch (r_06) {
+    case 0u: goto l_arm_jm;
+    case 1u: goto l_arm_jm_1;
+    case 3u: goto l_arm_jm_2;
+    case 2u: goto l_arm_eo;
+    case 4u: goto l_arm_eo_1;
+    case 5u: goto l_arm_eo_2;
+    default: goto l_noarm_e1;
+    }
+l_arm_jm:;
+    st32(slot_6, 0u);
+    st32((slot_6 + 4), r_12_5);
+    goto l_join_v6;
+l_arm_jm_1:;
+    st32(slot_6, 0u);
+    st32((slot_6 + 4), r_12_5);
+    goto l_join_v6;
+l_arm_jm_2:;
+    st32(slot_6, 0u);
+    st32((slot_6 + 4), r_12_5);
+    goto l_join_v6;
+l_arm_eo:;
+    st64(slot_2, (u64)ld8(a_2));
+    mv16((slot_2 + 8), r_rq);
+    st64((slot_2 + 24), r_bd);
+    st64((slot_2 + 32), r_n4);
+    st64((slot_2 + 40), r_n3);
+    st32((slot_2 + 48), r_1p);
+    st32((slot_2 + 52), r_fp);
+    st32((slot_2 + 56), r_mx);
+    capnp_messages_messages_copy_size_add_elements_4d6e045afdcb38e0(slot_6, slot_2, r_vt, r_wc, 1u, r_12_5, a_6);
+    goto l_join_v6;
+l_arm_eo_1:;
+    st64(slot_3, (u64)ld8(a_2));
+    mv16((slot_3 + 8), r_rq);
+    st64((slot_3 + 24), r_bd);
+    st64((slot_3 + 32), r_n4);
+    st64((slot_3 + 40), r_n3);
+    st32((slot_3 + 48), r_1p);
+    st32((slot_3 + 52), r_fp);
+    st32((slot_3 + 56), r_mx);
+    capnp_messages_messages_copy_size_add_pointers_4d6e045afdcb38e0(slot_6, slot_3, r_1p, r_2a, r_mx, r_12_5, a_6);
+    goto l_join_v6;
+l_arm_eo_2:;
+    st64(slot_4, (u64)ld8(a_2));
+    mv16((slot_4 + 8), r_rq);
+    st64((slot_4 + 24), r_bd);
+    st64((slot_4 + 32), r_n4);
+    st64((slot_4 + 40), r_n3);
+    st32((slot_4 + 48), r_1p);
+    st32((slot_4 + 52), r_fp);
+    st32((slot_4 + 56), r_mx);
+    capnp_messages_messages_copy_size_add_elements_4d6e045afdcb38e0(slot_6, slot_4, r_vt, r_wc, r_xi, r_12_5, a_6);
+l_join_v6:;
+    r_pp = (u32)ld8(slot_6);
+    r_9q = ld32((slot_6 + 4));
+    r_ai = (u32)ld8((slot_6 + 8));
+    r_m0 = ld32((slot_6 + 12));
+    r_ph = ld64((slot_6 + 16));
+    goto l_common_4n;
+l_noarm_e1:;
+    UNREACHABLE();
+}
+
+/* capnp_messages::messages::copy_size::add_elements::<#4d6e045afdcb38e0> */
+static void capnp_messages_messages_copy_size_add_elements_4d6e045afdcb38e0(u8 *a_1, u8 *a_2, u16 a_3, u16 a_4, u32 a_5, u32 a_6, u8 *a_7)
+{
+    A(8) u8 slot_1[24];
+    u32 r_m2;
+    u32 r_m2_1;
+    u32 r_68;
+    u8 *r_t9;
+    u8 *r_r2;
+    u8 *r_ix;
+    u32 r_31;
+    u32 r_19;
+    u32 r_kt;
+    memset(slot_1, 0u, 24);
+    if (a_4 == 0u) goto l_then_4n;
+    goto l_join_ux;
+l_common_68:;
+    return;
+l_then_4n:;
+    st32(a_1, 0u);
+    st32(away(a_1, 4ull), a_6);
+    memset(away(a_1, 8ull), 0u, 16);
+    goto l_common_68;
+l_join_ux:;
+    r_m2 = (u32)a_3;
+    r_m2_1 = (u32)a_4;
+    r_68 = (r_m2_1 + r_m2);
+    if (a_5 == 0u) { r_kt = a_6; goto l_after_iz; }
+    r_t9 = away(a_2, 48ull);
+    r_r2 = away(a_2, 56ull);
+    r_ix = (slot_1 + 4);
+    r_31 = a_6;
+    r_19 = 0u;
+l_join_qy:;
+    capnp_messages_messages_copy_size_add_pointers_4d6e045afdcb38e0(slot_1, a_2, (((r_19 * r_68) + r_m2) + ld32(r_t9)), r_m2_1, ld32(r_r2), r_31, a_7);
+    if (!(ld8(slot_1) == 0u)) goto l_arm_5d;
+    u32 r_yf_2 = ld32(r_ix);
+    u32 r_7t = (r_19 + 1u);
+    if (r_7t == a_5) { r_kt = r_yf_2; goto l_after_iz; }
+    r_31 = r_yf_2;
+    r_19 = r_7t;
+    goto l_join_qy;
+l_arm_5d:;
+    u32 r_cf = (u32)ld8((slot_1 + 8));
+    u32 r_uq = ld32((slot_1 + 12));
+    u64 r_38 = ld64((slot_1 + 16));
+    st32(a_1, 1u);
+    st32(away(a_1, 4ull), 0u);
+    st32(away(a_1, 8ull), r_cf);
+    st32(away(a_1, 12ull), r_uq);
+    st64(away(a_1, 16ull), r_38);
+    goto l_common_68;
+l_after_iz:;
+    st32(a_1, 0u);
+    st32(away(a_1, 4ull), r_kt);
+    memset(away(a_1, 8ull), 0u, 16);
+    goto l_common_68;
+}
+
+/* capnp_messages::messages::copy_size::add_pointers::<#4d6e045afdcb38e0> */
+static NEVER void capnp_messages_messages_copy_size_add_pointers_4d6e045afdcb38e0(u8 *a_1, u8 *a_2, u32 a_3, u32 a_4, u32 a_5, u32 a_6, u8 *a_7)
+{
+    A(8) u8 slot_1[24];
+    u8 *r_ix;
+    u32 r_j7;
+    u32 r_uv;
+    u32 r_kt;
+    memset(slot_1, 0u, 24);
+    if (a_4 == 0u) { r_kt = a_6; goto l_after_iz; }
+    r_ix = (slot_1 + 4);
+    r_j7 = 0u;
+    r_uv = a_6;
+l_join_yi:;
+    capnp_messages_messages_copy_size_add_value_4d6e045afdcb38e0(slot_1, a_2, (r_j7 + a_3), a_5, r_uv, a_7);
+    if (!(ld8(slot_1) == 0u)) goto l_arm_5d;
+    u32 r_yf = ld32(r_ix);
+    u32 r_7t = (r_j7 + 1u);
+    if (r_7t == a_4) { r_kt = r_yf; goto l_after_iz; }
+    r_j7 = r_7t;
+    r_uv = r_yf;
+    goto l_join_yi;
+l_common_68:;
+    return;
+l_arm_5d:;
+    u32 r_cf = (u32)ld8((slot_1 + 8));
+    u32 r_uq = ld32((slot_1 + 12));
+    u64 r_38 = ld64((slot_1 + 16));
+    st32(a_1, 1u);
+    st32(away(a_1, 4ull), 0u);
+    st32(away(a_1, 8ull), r_cf);
+    st32(away(a_1, 12ull), r_uq);
+    st64(away(a_1, 16ull), r_38);
+    goto l_common_68;
+l_after_iz:;
+    st32(a_1, 0u);
+    st32(away(a_1, 4ull), r_kt);
+    memset(away(a_1, 8ull), 0u, 16);
+    goto l_common_68;
 }
 
 /* capnp_messages::messages::path::read_part::<#767a861cc050e0a5> */
@@ -48542,7 +50725,7 @@ l_return_ri:;
 
 uint32_t capnp_canonical_version(void)
 {
-    return 10000u;
+    return 10100u;
 }
 
 uint32_t capnp_canonical_frame_size(const uint8_t *frame, size_t size, uint64_t words, size_t *bytes)
