@@ -1,0 +1,255 @@
+//! Messages that are being built.
+
+use crate::building::{StructBuilder, NOWHERE};
+use crate::error::{Error, Reason};
+use crate::growing::Growing;
+use crate::message::{Limits, Message};
+use crate::meter::Meter;
+use crate::proved::capnp_arena::arena::{BuilderArena, BuilderArenaImpl, ReaderArena};
+use crate::proved::capnp_builders::builders::PointerBuilder;
+use crate::proved::capnp_framing::devices::{DeviceFault, Output};
+use crate::proved::capnp_framing::framing::{write, FrameError};
+use crate::proved::capnp_packing::packing::PackingOutput;
+use crate::proved::capnp_words::error::ErrorKind;
+use crate::proved::capnp_words::read_limiter::ReadLimiter;
+use crate::proved::capnp_words::wire_pointer::StructSize;
+use crate::proved::support::alloc::Global;
+use crate::proved::typed_building::value;
+use crate::reading::{Pointer, Struct};
+use crate::segments::Held;
+use core::fmt;
+use rust_alloc::vec::Vec;
+
+/// A list has fewer elements than this, and its structs have fewer words.
+const MOST: usize = 1 << 29;
+
+/// The arena of every message that is built.
+pub(crate) type BuiltArena = BuilderArenaImpl<Growing>;
+
+/// A message that is being built, in one segment that grows. If there is no memory for it, the process aborts, as when a `Vec`
+/// grows.
+///
+/// Setters return no `Result`: the first refusal, such as a text of 2^29 bytes or a source that can't be read, is kept, later
+/// calls change nothing, and each call that hands out the message returns the refusal. After a refusal indexes and offsets
+/// aren't tested.
+///
+/// ```
+/// use capnp_layout::{Builder, StructSize};
+///
+/// let mut message = Builder::new();
+/// let mut person = message.init_root(StructSize { data_words: 1, pointers: 2 });
+/// person.set_u32(0, 123).set_text(0, "Alice");
+/// let mut phones = person.init_structs(1, 2, StructSize { data_words: 1, pointers: 1 });
+/// phones.at(0).set_text(0, "555-1212").set_u16(0, 1);
+/// phones.at(1).set_text(0, "555-3434");
+/// let frame: Vec<u8> = message.to_frame()?;
+/// let digest: [u8; 32] = message.digest()?;
+/// # assert_eq!(frame.len(), 8 + 8 * 14);
+/// # assert_eq!(digest, message.as_message()?.sound()?.digest()?);
+/// # Ok::<(), capnp_layout::Error>(())
+/// ```
+pub struct Builder {
+    arena: BuiltArena,
+    refused: Option<Error>,
+}
+
+impl Default for Builder {
+    fn default() -> Self {
+        Builder::new()
+    }
+}
+
+impl Builder {
+    /// An empty message: its root is null.
+    pub fn new() -> Self {
+        Builder::with_capacity(1024)
+    }
+
+    /// An empty message, with memory for so many bytes.
+    pub fn with_capacity(bytes: usize) -> Self {
+        let mut arena = BuilderArenaImpl::new(Global, Growing::new(bytes));
+        // the root pointer, word 0 of segment 0
+        let made = arena.allocate_segment(1);
+        let refused = made.err().map(Error::from);
+        if refused.is_none() {
+            arena.allocate(0, 1);
+        }
+        Builder { arena, refused }
+    }
+
+    /// The first refusal, if there was one.
+    pub fn refused(&self) -> Option<&Error> {
+        self.refused.as_ref()
+    }
+
+    /// Keeps a refusal, unless there is one.
+    #[cold]
+    #[inline(never)]
+    fn refuse(&mut self, error: Error) {
+        self.refused.get_or_insert(error);
+    }
+
+    /// The arena, to be read, unless something was refused. A refusal leaves the arena as a message, so what is read to no
+    /// effect may be read from it.
+    fn built(&self) -> Result<&BuiltArena, Error> {
+        match &self.refused {
+            None => Ok(&self.arena),
+            Some(error) => Err(error.clone()),
+        }
+    }
+
+    /// The arena, to be read by a builder; `None` after a refusal.
+    #[inline(always)]
+    pub(crate) fn unless_refused(&self) -> Option<&BuiltArena> {
+        match &self.refused {
+            None => Some(&self.arena),
+            Some(_) => None,
+        }
+    }
+
+    /// Changes the message, and keeps a refusal. Does nothing after a refusal.
+    #[inline(always)]
+    pub(crate) fn change<T>(&mut self, change: impl FnOnce(&mut BuiltArena) -> Result<T, ErrorKind>) -> Option<T> {
+        if self.refused.is_some() {
+            return None;
+        }
+        match change(&mut self.arena) {
+            Ok(made) => Some(made),
+            Err(kind) => {
+                self.refuse(kind.into());
+                None
+            }
+        }
+    }
+
+    /// Whether a list can have so many elements of so many words; if not, refuses them.
+    #[inline(always)]
+    pub(crate) fn fits(&mut self, elements: usize, words: usize) -> bool {
+        let fits = elements < MOST && elements.saturating_mul(words) < MOST;
+        if !fits {
+            self.refuse(Reason::TooManyElements(elements).into());
+        }
+        fits
+    }
+
+    /// Makes the root a new struct, all zero and null.
+    #[inline]
+    pub fn init_root(&mut self, size: StructSize) -> StructBuilder<'_> {
+        let place = self.change(|arena| value::init_root(arena, size));
+        StructBuilder::of(self, place.unwrap_or(NOWHERE))
+    }
+
+    /// The root, to be changed: with sections at least as large as `size`, and a new struct if the root is null. If the root
+    /// isn't a struct, that is refused.
+    pub fn edit_root(&mut self, size: StructSize) -> StructBuilder<'_> {
+        let place = self.change(|arena| PointerBuilder::get_root(arena).get_struct_place(size, None));
+        StructBuilder::of(self, place.unwrap_or(NOWHERE))
+    }
+
+    /// Makes the root a copy of a struct of a message that is read, as a plain copy.
+    pub fn set_root<M: Meter>(&mut self, from: Struct<'_, M>) {
+        self.change(|arena| from.meter.charge(|lim| PointerBuilder::get_root(arena).set_struct(&from.raw, lim, false)));
+    }
+
+    /// Makes the root a copy of what a pointer of a message that is read leads to, as a plain copy.
+    pub fn set_root_pointer<M: Meter>(&mut self, from: Pointer<'_, M>) {
+        self.change(|arena| from.meter.charge(|lim| PointerBuilder::get_root(arena).copy_from(from.raw, lim, false)));
+    }
+
+    /// The message, to be read: with no limit for words, and 64 levels.
+    pub fn as_message(&self) -> Result<Message<'_>, Error> {
+        self.as_message_within(Limits::UNMETERED)
+    }
+
+    /// The message, to be read within limits.
+    pub fn as_message_within(&self, limits: Limits) -> Result<Message<'_>, Error> {
+        Ok(Message::new(Held::Built(self.built()?.get_segments_for_output()?), limits))
+    }
+
+    /// The canonical words. Like [`Message::canonical`] of [`as_message`](Builder::as_message), which has all other calls
+    /// for a whole message as well.
+    pub fn canonical(&self) -> Result<Vec<u8>, Error> {
+        self.as_message()?.canonical()
+    }
+
+    /// The SHA-256 of the canonical words.
+    pub fn digest(&self) -> Result<[u8; 32], Error> {
+        self.as_message()?.digest()
+    }
+
+    /// The words of the message's only segment, where they are.
+    pub fn words(&self) -> Result<&[u8], Error> {
+        Ok(self.built()?.get_segment(0)?)
+    }
+
+    /// The words of the message's only segment, without a copy.
+    pub fn into_words(self) -> Result<Vec<u8>, Error> {
+        self.built()?;
+        Ok(self.arena.into_allocator().into_words())
+    }
+
+    fn write_frame<W: Output>(&self, output: &mut W) -> Result<(), Error> {
+        Ok(write(output, &self.built()?.get_segments_for_output()?)?)
+    }
+
+    /// The frame, as `capnp decode` reads it.
+    pub fn to_frame(&self) -> Result<Vec<u8>, Error> {
+        let mut bytes = Bytes(Vec::with_capacity(8 + 8 * self.arena.size_in_words()));
+        self.write_frame(&mut bytes)?;
+        Ok(bytes.0)
+    }
+
+    /// The packed frame, as `capnp decode --packed` reads it.
+    pub fn to_packed(&self) -> Result<Vec<u8>, Error> {
+        let mut packing = PackingOutput::new(Bytes(Vec::new()));
+        self.write_frame(&mut packing)?;
+        match packing.write_pending() {
+            Ok(()) => Ok(packing.into_packed().0),
+            Err(DeviceFault) => Err(FrameError::WriteFailed.into()),
+        }
+    }
+
+    /// Writes the frame to a writer, without a copy. A refusal of the message has the kind `InvalidData`, and writes nothing.
+    #[cfg(feature = "std")]
+    pub fn write(&self, mut writer: impl std::io::Write) -> std::io::Result<()> {
+        let words = self.words()?;
+        let mut table = [0; 8];
+        table[4..].copy_from_slice(&((words.len() / 8) as u32).to_le_bytes());
+        writer.write_all(&table)?;
+        writer.write_all(words)
+    }
+}
+
+/// The message as it is read, or the refusal.
+impl fmt::Debug for Builder {
+    fn fmt(&self, f: &mut fmt::Formatter<'_>) -> fmt::Result {
+        match self.as_message().and_then(|it| it.sound_pointer().map(|root| write!(f, "Builder({root:?})"))) {
+            Ok(written) => written,
+            Err(error) => write!(f, "Builder({error})"),
+        }
+    }
+}
+
+/// Canonical words that `copy` makes at the root of an empty message.
+pub(crate) fn canonical_words<M: Meter>(
+    meter: M,
+    copy: impl FnOnce(&mut PointerBuilder<'_, BuiltArena>, &mut ReadLimiter) -> Result<(), ErrorKind>,
+) -> Result<Vec<u8>, Error> {
+    let mut made = Builder::new();
+    made.change(|arena| meter.charge(|lim| copy(&mut PointerBuilder::get_root(arena), lim)));
+    made.into_words()
+}
+
+/// Bytes in memory.
+struct Bytes(Vec<u8>);
+
+impl Output for Bytes {
+    fn write(&mut self, from: &[u8]) -> Result<usize, DeviceFault> {
+        self.0.extend_from_slice(from);
+        Ok(from.len())
+    }
+
+    fn failed(&self) -> bool {
+        false
+    }
+}

@@ -1,0 +1,207 @@
+//! Why a call is refused.
+
+use crate::proved::capnp_canonical::capnp_canonical_name;
+use crate::proved::capnp_framing::framing::FrameError;
+use crate::proved::capnp_words::error::ErrorKind;
+use core::fmt;
+use core::ops::Range;
+use rust_alloc::boxed::Box;
+use rust_alloc::string::String;
+
+/// What is wrong, without where.
+#[derive(Clone, Copy, Debug, PartialEq, Eq)]
+#[non_exhaustive]
+pub enum Reason {
+    /// The frame is cut short, or states too many segments or words; or it couldn't be read or written.
+    Frame(FrameError),
+    /// The words aren't what the encoding specification says or what the call expects, or a limit was reached.
+    Layout(ErrorKind),
+    /// The size of a segment isn't a multiple of 8 bytes.
+    SegmentIsNotWholeWords,
+    /// A text isn't UTF-8.
+    TextIsNotUtf8,
+    /// So many bytes follow the message, or more.
+    TrailingBytes(usize),
+    /// More bytes or elements than a list can have, or more words than its structs can have: 536,870,911.
+    TooManyElements(usize),
+}
+
+impl Reason {
+    /// The name, without the number that the reason carries.
+    pub fn name(&self) -> &'static str {
+        match self {
+            Reason::Frame(error) => error.name(),
+            Reason::Layout(kind) => kind.name(),
+            Reason::SegmentIsNotWholeWords => "SegmentIsNotWholeWords",
+            Reason::TextIsNotUtf8 => "TextIsNotUtf8",
+            Reason::TrailingBytes(_) => "TrailingBytes",
+            Reason::TooManyElements(_) => "TooManyElements",
+        }
+    }
+
+    /// The number: below 128 that of the C library's refusal with this name, from 128 on those that only this crate has.
+    pub fn number(&self) -> u32 {
+        match self {
+            Reason::SegmentIsNotWholeWords => number_of(self.name(), 1..16),
+            Reason::Frame(error) => number_of(error.name(), 16..32),
+            Reason::Layout(kind) => number_of(kind.name(), 32..128),
+            Reason::TextIsNotUtf8 => 128,
+            Reason::TrailingBytes(_) => 129,
+            Reason::TooManyElements(_) => 130,
+        }
+    }
+}
+
+/// The number that the core has for a name. Frames and layout have numbers of their own for `AllocationFailed`.
+fn number_of(name: &str, mut numbers: Range<u32>) -> u32 {
+    let is_named = |number: &u32| {
+        let mut text = [0; 128];
+        let length = capnp_canonical_name(*number, &mut text);
+        text.get(..length) == Some(name.as_bytes())
+    };
+    numbers.find(is_named).unwrap_or(0)
+}
+
+impl fmt::Display for Reason {
+    fn fmt(&self, f: &mut fmt::Formatter<'_>) -> fmt::Result {
+        match self {
+            Reason::Frame(error) => error.fmt(f),
+            Reason::Layout(kind) => kind.fmt(f),
+            Reason::TrailingBytes(n) | Reason::TooManyElements(n) => write!(f, "{}({n})", self.name()),
+            Reason::SegmentIsNotWholeWords | Reason::TextIsNotUtf8 => f.write_str(self.name()),
+        }
+    }
+}
+
+/// What only few refusals have.
+#[derive(Clone, Debug, Default)]
+struct Details {
+    /// Where the refused pointer is: the path, the segment, and the position in words.
+    pointer: Option<(String, u64, u32)>,
+    #[cfg(feature = "std")]
+    source: Option<rust_alloc::sync::Arc<std::io::Error>>,
+}
+
+/// A refusal: what is wrong, and of which pointer if that is known.
+///
+/// Two errors are equal if reason, path and place are.
+#[derive(Clone, Debug)]
+pub struct Error {
+    reason: Reason,
+    details: Option<Box<Details>>,
+}
+
+impl Error {
+    /// What is wrong.
+    pub fn reason(&self) -> Reason {
+        self.reason
+    }
+
+    /// The name of the reason, as in `docs/REFUSALS.md` of the C library.
+    pub fn name(&self) -> &'static str {
+        self.reason.name()
+    }
+
+    /// The number of the reason; see [`Reason::number`].
+    pub fn number(&self) -> u32 {
+        self.reason.number()
+    }
+
+    fn pointer(&self) -> Option<&(String, u64, u32)> {
+        self.details.as_ref()?.pointer.as_ref()
+    }
+
+    /// The path to the refused pointer, as `capnp_canon --at` takes it: `0.2.[7].1` is pointer 1 of element 7 of the list
+    /// that pointer 2 of the root's pointer 0 leads to; `root` is the root pointer. `None` if the refusal isn't that of a
+    /// check of a whole message, such as [`Message::sound`](crate::Message::sound).
+    pub fn path(&self) -> Option<&str> {
+        self.pointer().map(|(path, ..)| path.as_str())
+    }
+
+    /// The place of the refused pointer, if there is a path: its segment, and its position there in words.
+    pub fn place(&self) -> Option<(u64, u32)> {
+        self.pointer().map(|(_, segment, word)| (*segment, *word))
+    }
+
+    /// Whether a limit was reached. With other [`Limits`](crate::Limits) the message may be accepted.
+    pub fn is_limit(&self) -> bool {
+        matches!(
+            self.reason,
+            Reason::Layout(
+                ErrorKind::ReadLimitExceeded
+                    | ErrorKind::NestingLimitExceeded
+                    | ErrorKind::MessageIsTooDeeplyNested
+                    | ErrorKind::MessageIsTooDeeplyNestedOrContainsCycles
+            ) | Reason::Frame(FrameError::MessageTooLong(_))
+        )
+    }
+
+    #[cold]
+    pub(crate) fn at(reason: Reason, path: String, segment: u64, word: u32) -> Self {
+        let details = Details { pointer: Some((path, segment, word)), ..Details::default() };
+        Error { reason, details: Some(Box::new(details)) }
+    }
+
+    /// The same refusal, with the error of a reader that caused it.
+    #[cfg(feature = "std")]
+    #[cold]
+    pub(crate) fn caused_by(self, error: std::io::Error) -> Self {
+        let source = Some(rust_alloc::sync::Arc::new(error));
+        Error { details: Some(Box::new(Details { source, ..Details::default() })), ..self }
+    }
+}
+
+impl PartialEq for Error {
+    fn eq(&self, other: &Error) -> bool {
+        self.reason == other.reason && self.pointer() == other.pointer()
+    }
+}
+
+impl Eq for Error {}
+
+impl From<Reason> for Error {
+    #[inline]
+    fn from(reason: Reason) -> Self {
+        Error { reason, details: None }
+    }
+}
+
+impl From<ErrorKind> for Error {
+    #[inline]
+    fn from(kind: ErrorKind) -> Self {
+        Reason::Layout(kind).into()
+    }
+}
+
+impl From<FrameError> for Error {
+    fn from(error: FrameError) -> Self {
+        Reason::Frame(error).into()
+    }
+}
+
+/// `InvalidSegmentId(7)`, or with a path `pointer 0.2.[7].1: InvalidSegmentId(7)`.
+impl fmt::Display for Error {
+    fn fmt(&self, f: &mut fmt::Formatter<'_>) -> fmt::Result {
+        if let Some(path) = self.path() {
+            write!(f, "pointer {path}: ")?;
+        }
+        self.reason.fmt(f)
+    }
+}
+
+impl core::error::Error for Error {
+    fn source(&self) -> Option<&(dyn core::error::Error + 'static)> {
+        #[cfg(feature = "std")]
+        if let Some(error) = self.details.as_ref().and_then(|it| it.source.as_deref()) {
+            return Some(error);
+        }
+        None
+    }
+}
+
+#[cfg(feature = "std")]
+impl From<Error> for std::io::Error {
+    fn from(error: Error) -> Self {
+        std::io::Error::new(std::io::ErrorKind::InvalidData, error)
+    }
+}

@@ -1,0 +1,96 @@
+//! Cap'n Proto messages from anyone: checked once, and then read in place.
+//!
+//! [`Message`] is a message that was received, [`Builder`] one that is being made. Fields are named by index and offset, as
+//! in the [encoding specification](https://capnproto.org/encoding.html).
+//!
+//! ```
+//! use capnp_layout::{Builder, Limits, Message, StructSize};
+//!
+//! let mut built = Builder::new();
+//! let mut person = built.init_root(StructSize { data_words: 1, pointers: 1 });
+//! person.set_u32(0, 123).set_text(0, "Alice");
+//! let bytes = built.to_frame()?; // the one place where a refusal shows
+//!
+//! let message = Message::open(&bytes, Limits::default())?; // in place: no copy, no allocation
+//! let person = message.sound()?; // the whole message is checked here, once
+//! assert_eq!((person.get_u32(0), person.get_text(0)?), (123, "Alice"));
+//! # Ok::<(), capnp_layout::Error>(())
+//! ```
+//!
+//! # Checked once, or as it is read
+//!
+//! [`Message::sound`] checks the whole message. After it neither a limit nor a broken pointer can refuse a getter, and readers
+//! are `Copy`, `Send` and `Sync`. [`Message::lazy`] checks each object when it is read, and charges the message's limits
+//! through a `Cell`. Both have readers of the same types: [`Struct`], [`List`] and [`Pointer`]. A getter that follows a pointer
+//! returns a `Result`, since neither check knows what the program expects: a list where a text is wanted is refused, and so is
+//! a text that isn't UTF-8.
+//!
+//! # Building
+//!
+//! Builders borrow the message mutably, so the borrow checker refuses two of them at once:
+//!
+//! ```compile_fail,E0499
+//! # use capnp_layout::{Builder, StructSize};
+//! # let size = StructSize { data_words: 1, pointers: 2 };
+//! let mut message = Builder::new();
+//! let mut root = message.init_root(size);
+//! let mut first = root.init_struct(0, size);
+//! root.init_struct(1, size); // `root` is borrowed by `first`
+//! first.set_u32(0, 1);
+//! ```
+//!
+//! Setters return no `Result`. The first refusal, such as a text of 2^29 bytes, is kept, later calls change nothing, and each
+//! call that hands out the message returns the refusal, so that it can't be overlooked.
+//!
+//! # What is proved
+//!
+//! The modules of [`proved`] are the core. They are written in Rattle, where each function is proved to do what its contract
+//! says, and printed as Rust; no proof is about the printed text. What is outside of `proved` is written by hand, and only
+//! tested. There is no unsafe code in either. Programs that need pointers and places can call the core: its functions quote
+//! their preconditions, which a Rust compiler doesn't check.
+#![cfg_attr(not(feature = "std"), no_std)]
+#![cfg_attr(docsrs, feature(doc_cfg))]
+#![forbid(unsafe_code)]
+#![warn(missing_docs)]
+
+extern crate alloc as rust_alloc;
+
+mod builder;
+mod building;
+mod element;
+mod error;
+mod growing;
+mod list;
+mod list_building;
+mod message;
+mod meter;
+mod opening;
+#[doc(hidden)]
+#[allow(missing_docs, clippy::all)]
+pub mod proved;
+mod reading;
+mod searching;
+mod segments;
+mod showing;
+
+pub use builder::Builder;
+pub use building::StructBuilder;
+pub use element::{Element, Lists, Number, Pointers, Structs};
+pub use error::{Error, Reason};
+pub use list::{Iter, List};
+pub use list_building::ListBuilder;
+pub use message::{Checked, Limits, Message};
+pub use meter::{Lazy, Meter, Sound};
+pub use reading::{Pointer, Struct, Target};
+pub use segments::Segments;
+
+pub use proved::capnp_framing::framing::FrameError;
+pub use proved::capnp_messages::messages::MessageExtent;
+pub use proved::capnp_objects::pointers::{CanonicalFault, CanonicalFaultReason, Extent, MessageSize};
+pub use proved::capnp_walks::walks::{WalkedObject, CAPABILITY, NO_PARENT, STRUCT};
+pub use proved::capnp_words::error::ErrorKind;
+pub use proved::capnp_words::wire_pointer::{ElementSize, StructSize};
+
+#[cfg(doctest)]
+#[doc = include_str!("../README.md")]
+struct Readme;
