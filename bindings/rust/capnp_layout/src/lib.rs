@@ -94,3 +94,63 @@ pub use proved::capnp_words::wire_pointer::{ElementSize, StructSize};
 #[cfg(doctest)]
 #[doc = include_str!("../README.md")]
 struct Readme;
+
+/// What the borrow checker has to refuse, since places of builders rest on it.
+///
+/// ```compile_fail,E0502
+/// # use capnp_layout::{Builder, StructSize};
+/// let mut message = Builder::new();
+/// let mut root = message.init_root(StructSize { data_words: 1, pointers: 1 });
+/// let bytes = message.to_frame();
+/// root.set_u32(0, 1);
+/// ```
+///
+/// ```compile_fail,E0499
+/// # use capnp_layout::{Builder, StructSize};
+/// # let size = StructSize { data_words: 1, pointers: 1 };
+/// let mut message = Builder::new();
+/// let mut root = message.init_root(size);
+/// message.init_root(size);
+/// root.set_u32(0, 1);
+/// ```
+///
+/// ```compile_fail,E0499
+/// # use capnp_layout::{Builder, StructSize};
+/// # let size = StructSize { data_words: 1, pointers: 1 };
+/// # let mut message = Builder::new();
+/// # let mut root = message.init_root(size);
+/// let mut list = root.init_structs(0, 2, size);
+/// let mut first = list.at(0);
+/// list.at(1).set_u32(0, 2);
+/// first.set_u32(0, 1);
+/// ```
+///
+/// ```compile_fail,E0502
+/// # use capnp_layout::{Builder, StructSize};
+/// # let size = StructSize { data_words: 1, pointers: 1 };
+/// # let mut message = Builder::new();
+/// let read = message.as_message().unwrap();
+/// message.init_root(size);
+/// read.sound().unwrap();
+/// ```
+///
+/// A reader doesn't outlive its message:
+///
+/// ```compile_fail,E0505
+/// # use capnp_layout::{Limits, Message};
+/// let message = Message::copy(&[0; 16], Limits::default()).unwrap();
+/// let root = message.sound().unwrap();
+/// drop(message);
+/// root.get_u32(0);
+/// ```
+///
+/// Readers that charge their message stay in its thread:
+///
+/// ```compile_fail,E0277
+/// # use capnp_layout::{Limits, Message};
+/// # let message = Message::copy(&[0; 16], Limits::default()).unwrap();
+/// let root = message.lazy().unwrap();
+/// std::thread::scope(|threads| threads.spawn(|| root.get_u32(0)).join());
+/// ```
+#[cfg(doctest)]
+struct Refused;

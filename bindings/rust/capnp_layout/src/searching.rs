@@ -27,6 +27,8 @@ struct Refused {
 /// A search, with the path from the root to the pointer where it is.
 struct Search<'l> {
     lim: &'l mut ReadLimiter,
+    /// Whether a capability is refused.
+    refuses_capabilities: bool,
     path: Vec<Step>,
 }
 
@@ -36,8 +38,9 @@ impl Search<'_> {
         match from.next(self.lim) {
             Ok(Target::Struct(found)) => self.structure(found),
             Ok(Target::List(found)) => self.list(found),
-            Ok(_) => Ok(()),
-            Err(_) => Err(Refused { segment: from.place.segment, word: from.place.at }),
+            Ok(Target::Null) => Ok(()),
+            Ok(Target::Cap(_)) if !self.refuses_capabilities => Ok(()),
+            _ => Err(Refused { segment: from.place.segment, word: from.place.at }),
         }
     }
 
@@ -87,7 +90,8 @@ fn text_of(path: &[Step]) -> String {
 /// The error of a check of `root` that was refused with `kind`. `lim` is as it was before the check.
 #[cold]
 pub fn error_of(kind: ErrorKind, root: From<'_>, lim: &mut ReadLimiter) -> Error {
-    let mut search = Search { lim, path: Vec::new() };
+    let refuses_capabilities = kind == ErrorKind::CannotCreateACanonicalMessageWithACapability;
+    let mut search = Search { lim, refuses_capabilities, path: Vec::new() };
     match search.pointer(root) {
         Err(at) => Error::at(Reason::Layout(kind), text_of(&search.path), at.segment, at.word),
         Ok(()) => kind.into(),

@@ -1,5 +1,5 @@
 //! Reads a message with a field of each kind, which `capnp encode tests/all.capnp All` wrote, in both ways.
-use capnp_layout::{ElementSize, Error, ErrorKind, Limits, Lists, Message, Meter, Pointers, Reason, Struct, Structs, Target};
+use capnp_layout::{ElementSize, Error, ErrorKind, Limits, Lists, Message, Meter, Pointers, Reason, Struct, Target};
 use std::panic::catch_unwind;
 
 const WHOLE: &[u8] = include_bytes!("data/all.bin");
@@ -114,7 +114,7 @@ fn iterators() {
     assert_eq!(numbers.iter().nth(3), None);
     assert_eq!(numbers.iter().nth(usize::MAX), None);
     assert_eq!(numbers.iter().rev().collect::<Vec<_>>(), [65535, 2, 1]);
-    assert_eq!(numbers.into_iter().sum::<u16>(), 2);
+    assert_eq!(numbers.into_iter().map(u32::from).sum::<u32>(), 65538);
     assert_eq!(format!("{numbers:?} {:?}", numbers.iter()), "[1, 2, 65535] [1, 2, 65535]");
 }
 
@@ -206,5 +206,4 @@ fn a_root_that_is_no_struct() {
     assert!(message.sound_pointer().unwrap().as_list::<u8>().unwrap().iter().eq([1, 2]));
     assert!(message.lazy_pointer().unwrap().as_list::<u8>().unwrap().iter().eq([1, 2]));
     assert_eq!(message.into_checked().unwrap_err().name(), "MessageContainsNonStructPointerWhereStructPointerWasExpected");
-    let _: Option<Structs> = None;
 }
