@@ -1,4 +1,5 @@
-//! Prints the SHA-256 of the canonical words of a frame: what a signature signs. Two frames of equal values have the same.
+//! Prints the SHA-256 of the canonical words of a frame: what a signature signs. Two frames of
+//! equal values have the same.
 use capnp_layout::{Limits, Message};
 
 fn main() -> Result<(), Box<dyn std::error::Error>> {

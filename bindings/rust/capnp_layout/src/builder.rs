@@ -23,15 +23,17 @@ use rust_alloc::vec::Vec;
 /// A list has fewer elements than this, and its structs have fewer words.
 const MOST: usize = 1 << 29;
 
-/// The arena of every message that is built.
+/// The arena of a builder.
 pub(crate) type BuiltArena = BuilderArenaImpl<Growing>;
 
-/// A message that is being built, in one segment that grows. If there is no memory for it, the process aborts, as when a `Vec`
-/// grows.
+type BuiltPointer<'b> = PointerBuilder<'b, BuiltArena>;
+
+/// A message that is being built, in one segment that grows. If there is no memory for it, the
+/// process aborts, like a `Vec` that grows.
 ///
-/// Setters return no `Result`: the first refusal, such as a text of 2^29 bytes or a source that can't be read, is kept, later
-/// calls change nothing, and each call that hands out the message returns the refusal. After a refusal indexes and offsets
-/// aren't tested.
+/// Setters return no `Result`: the first refusal, such as a text of 2^29 bytes or a source that
+/// can't be read, is kept, later calls change nothing, and each call that hands out the message
+/// returns the refusal. After a refusal indexes and offsets aren't tested.
 ///
 /// ```
 /// use capnp_layout::{Builder, StructSize};
@@ -65,7 +67,7 @@ impl Builder {
         Builder::with_capacity(1024)
     }
 
-    /// An empty message, with memory for so many bytes.
+    /// An empty message, with memory for this number of bytes.
     pub fn with_capacity(bytes: usize) -> Self {
         let mut arena = BuilderArenaImpl::new(Global, Growing::new(bytes));
         // the root pointer, word 0 of segment 0
@@ -89,8 +91,8 @@ impl Builder {
         self.refused.get_or_insert(error);
     }
 
-    /// The arena, to be read, unless something was refused. A refusal leaves the arena as a message, so what is read to no
-    /// effect may be read from it.
+    /// The arena, to be read, unless something was refused. A refusal leaves the arena as a
+    /// message, so what is read to no effect may be read from it.
     fn built(&self) -> Result<&BuiltArena, Error> {
         match &self.refused {
             None => Ok(&self.arena),
@@ -109,7 +111,10 @@ impl Builder {
 
     /// Changes the message, and keeps a refusal. Does nothing after a refusal.
     #[inline(always)]
-    pub(crate) fn change<T>(&mut self, change: impl FnOnce(&mut BuiltArena) -> Result<T, ErrorKind>) -> Option<T> {
+    pub(crate) fn change<T>(
+        &mut self,
+        change: impl FnOnce(&mut BuiltArena) -> Result<T, ErrorKind>,
+    ) -> Option<T> {
         if self.refused.is_some() {
             return None;
         }
@@ -122,7 +127,8 @@ impl Builder {
         }
     }
 
-    /// Whether a list can have so many elements of so many words; if not, refuses them.
+    /// Whether a list can have this number of elements, each of `words` words; if not, refuses
+    /// them.
     #[inline(always)]
     pub(crate) fn fits(&mut self, elements: usize, words: usize) -> bool {
         let fits = elements < MOST && elements.saturating_mul(words) < MOST;
@@ -139,21 +145,28 @@ impl Builder {
         StructBuilder::of(self, place.unwrap_or(NOWHERE))
     }
 
-    /// The root, to be changed: with sections at least as large as `size`, and a new struct if the root is null. If the root
-    /// isn't a struct, that is refused.
+    /// The root, to be changed: with sections at least as large as `size`, and a new struct if the
+    /// root is null. If the root isn't a struct, that is refused.
     pub fn edit_root(&mut self, size: StructSize) -> StructBuilder<'_> {
-        let place = self.change(|arena| PointerBuilder::get_root(arena).get_struct_place(size, None));
+        let place =
+            self.change(|arena| PointerBuilder::get_root(arena).get_struct_place(size, None));
         StructBuilder::of(self, place.unwrap_or(NOWHERE))
     }
 
     /// Makes the root a copy of a struct of a message that is read, as a plain copy.
     pub fn set_root<M: Meter>(&mut self, from: Struct<'_, M>) {
-        self.change(|arena| from.meter.charge(|lim| PointerBuilder::get_root(arena).set_struct(&from.raw, lim, false)));
+        self.change(|arena| {
+            from.meter
+                .charge(|lim| PointerBuilder::get_root(arena).set_struct(&from.raw, lim, false))
+        });
     }
 
     /// Makes the root a copy of what a pointer of a message that is read leads to, as a plain copy.
     pub fn set_root_pointer<M: Meter>(&mut self, from: Pointer<'_, M>) {
-        self.change(|arena| from.meter.charge(|lim| PointerBuilder::get_root(arena).copy_from(from.raw, lim, false)));
+        self.change(|arena| {
+            from.meter
+                .charge(|lim| PointerBuilder::get_root(arena).copy_from(from.raw, lim, false))
+        });
     }
 
     /// The message, to be read: with no limit for words, and 64 levels.
@@ -163,11 +176,14 @@ impl Builder {
 
     /// The message, to be read within limits.
     pub fn as_message_within(&self, limits: Limits) -> Result<Message<'_>, Error> {
-        Ok(Message::new(Held::Built(self.built()?.get_segments_for_output()?), limits))
+        Ok(Message::new(
+            Held::Built(self.built()?.get_segments_for_output()?),
+            limits,
+        ))
     }
 
-    /// The canonical words. Like [`Message::canonical`] of [`as_message`](Builder::as_message), which has all other calls
-    /// for a whole message as well.
+    /// The canonical words. Like [`Message::canonical`] of [`as_message`](Builder::as_message),
+    /// which has all other calls for a whole message as well.
     pub fn canonical(&self) -> Result<Vec<u8>, Error> {
         self.as_message()?.canonical()
     }
@@ -177,12 +193,12 @@ impl Builder {
         self.as_message()?.digest()
     }
 
-    /// The words of the message's only segment, where they are.
+    /// The words of the message's only segment, without a copy.
     pub fn words(&self) -> Result<&[u8], Error> {
         Ok(self.built()?.get_segment(0)?)
     }
 
-    /// The words of the message's only segment, without a copy.
+    /// The words of the message's only segment, in the memory in which they were built.
     pub fn into_words(self) -> Result<Vec<u8>, Error> {
         self.built()?;
         Ok(self.arena.into_allocator().into_words())
@@ -192,14 +208,14 @@ impl Builder {
         Ok(write(output, &self.built()?.get_segments_for_output()?)?)
     }
 
-    /// The frame, as `capnp decode` reads it.
+    /// The frame, for `capnp decode` and other readers.
     pub fn to_frame(&self) -> Result<Vec<u8>, Error> {
         let mut bytes = Bytes(Vec::with_capacity(8 + 8 * self.arena.size_in_words()));
         self.write_frame(&mut bytes)?;
         Ok(bytes.0)
     }
 
-    /// The packed frame, as `capnp decode --packed` reads it.
+    /// The packed frame, for `capnp decode --packed` and other readers.
     pub fn to_packed(&self) -> Result<Vec<u8>, Error> {
         let mut packing = PackingOutput::new(Bytes(Vec::new()));
         self.write_frame(&mut packing)?;
@@ -209,7 +225,8 @@ impl Builder {
         }
     }
 
-    /// Writes the frame to a writer, without a copy. A refusal of the message has the kind `InvalidData`, and writes nothing.
+    /// Writes the frame to a writer, without a copy. A refusal of the message has the kind
+    /// `InvalidData`, and writes nothing.
     #[cfg(feature = "std")]
     pub fn write(&self, mut writer: impl std::io::Write) -> std::io::Result<()> {
         let words = self.words()?;
@@ -220,10 +237,13 @@ impl Builder {
     }
 }
 
-/// The message as it is read, or the refusal.
+/// The root that a reader shows, or the refusal.
 impl fmt::Debug for Builder {
     fn fmt(&self, f: &mut fmt::Formatter<'_>) -> fmt::Result {
-        match self.as_message().and_then(|it| it.sound_pointer().map(|root| write!(f, "Builder({root:?})"))) {
+        match self.as_message().and_then(|it| {
+            it.sound_pointer()
+                .map(|root| write!(f, "Builder({root:?})"))
+        }) {
             Ok(written) => written,
             Err(error) => write!(f, "Builder({error})"),
         }
@@ -233,7 +253,7 @@ impl fmt::Debug for Builder {
 /// Canonical words that `copy` makes at the root of an empty message.
 pub(crate) fn canonical_words<M: Meter>(
     meter: M,
-    copy: impl FnOnce(&mut PointerBuilder<'_, BuiltArena>, &mut ReadLimiter) -> Result<(), ErrorKind>,
+    copy: impl FnOnce(&mut BuiltPointer<'_>, &mut ReadLimiter) -> Result<(), ErrorKind>,
 ) -> Result<Vec<u8>, Error> {
     let mut made = Builder::new();
     made.change(|arena| meter.charge(|lim| copy(&mut PointerBuilder::get_root(arena), lim)));

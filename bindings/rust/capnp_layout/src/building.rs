@@ -13,12 +13,19 @@ use crate::proved::typed_building::{copying, opening, reading, value};
 use crate::reading::{Pointer, Struct};
 
 /// The place of a struct that was refused.
-pub(crate) const NOWHERE: StructPlace = StructPlace { segment: 0, bits: 0, byte: 0, pointers_at: 0, pointers: 0 };
+pub(crate) const NOWHERE: StructPlace = StructPlace {
+    segment: 0,
+    bits: 0,
+    byte: 0,
+    pointers_at: 0,
+    pointers: 0,
+};
 
 /// A struct of a message that is being built. Fields are named as by [`Struct`].
 ///
-/// It borrows the message mutably, so nothing else changes the message while it is there. Calls that write a field return
-/// `self`, to be chained. A field that the struct doesn't have is a mistake of the program, and panics.
+/// It borrows the message mutably, so nothing else changes the message while it is there. Calls
+/// that write a field return `self`, to be chained. A field that the struct doesn't have is a
+/// mistake of the program, and panics.
 pub struct StructBuilder<'b> {
     pub(crate) message: &'b mut Builder,
     place: StructPlace,
@@ -29,25 +36,37 @@ pub struct StructBuilder<'b> {
 #[track_caller]
 fn check_number(place: StructPlace, offset: usize, size: usize) {
     let numbers = place.bits as usize / (8 * size);
-    assert!(offset < numbers, "number {offset} of a struct that has room for {numbers} of {size} bytes");
+    assert!(
+        offset < numbers,
+        "number {offset} of a struct that has room for {numbers} of {size} bytes"
+    );
 }
 
 #[inline(always)]
 #[track_caller]
 fn check_bit(place: StructPlace, offset: usize) {
-    assert!(offset < place.bits as usize, "bit {offset} of a struct that has room for {}", place.bits);
+    assert!(
+        offset < place.bits as usize,
+        "bit {offset} of a struct that has room for {}",
+        place.bits
+    );
 }
 
 #[inline(always)]
 #[track_caller]
 fn check_pointer(place: StructPlace, index: usize) {
-    assert!(index < usize::from(place.pointers), "pointer {index} of a struct that has {}", place.pointers);
+    assert!(
+        index < usize::from(place.pointers),
+        "pointer {index} of a struct that has {}",
+        place.pointers
+    );
 }
 
 macro_rules! set_numbers {
     ($($name:ident: $t:ty),*) => {
         $(
-            #[doc = concat!("Writes the `", stringify!($t), "` at `offset`, counted in numbers of this size. Panics if the data section ends before it.")]
+            #[doc = concat!("Writes the `", stringify!($t), "` at `offset`, counted in numbers of")]
+            /// this size. Panics if the data section ends before it.
             #[inline]
             #[track_caller]
             pub fn $name(&mut self, offset: usize, number: $t) -> &mut Self {
@@ -66,15 +85,22 @@ impl<'b> StructBuilder<'b> {
     /// The same struct, borrowed from this one.
     #[inline]
     pub fn reborrow(&mut self) -> StructBuilder<'_> {
-        StructBuilder { message: self.message, place: self.place }
+        StructBuilder {
+            message: self.message,
+            place: self.place,
+        }
     }
 
     /// The struct's data words and pointers; none after a refusal.
     pub fn size(&self) -> StructSize {
-        StructSize { data_words: (self.place.bits / 64) as u16, pointers: self.place.pointers }
+        StructSize {
+            data_words: (self.place.bits / 64) as u16,
+            pointers: self.place.pointers,
+        }
     }
 
-    /// Writes the number at `offset`, counted in numbers of this size. Panics if the data section ends before it.
+    /// Writes the number at `offset`, counted in numbers of this size. Panics if the data section
+    /// ends before it.
     #[inline(always)]
     #[track_caller]
     pub fn set<T: Number>(&mut self, offset: usize, number: T) -> &mut Self {
@@ -89,14 +115,16 @@ impl<'b> StructBuilder<'b> {
         self
     }
 
-    /// Writes the number at `offset` of a field whose default value is `default`: stores the exclusive or of both.
+    /// Writes the number at `offset` of a field whose default value is `default`: stores the
+    /// exclusive or of both.
     #[inline]
     #[track_caller]
     pub fn set_or<T: Number>(&mut self, offset: usize, number: T, default: T) -> &mut Self {
         self.set(offset, number.masked(default))
     }
 
-    set_numbers!(set_u8: u8, set_u16: u16, set_u32: u32, set_u64: u64, set_i8: i8, set_i16: i16, set_i32: i32, set_i64: i64);
+    set_numbers!(set_u8: u8, set_u16: u16, set_u32: u32, set_u64: u64);
+    set_numbers!(set_i8: i8, set_i16: i16, set_i32: i32, set_i64: i64);
     set_numbers!(set_f32: f32, set_f64: f64);
 
     /// Writes the bit at `offset`. Panics if the data section ends before it.
@@ -114,12 +142,15 @@ impl<'b> StructBuilder<'b> {
         self
     }
 
-    /// The number at `offset`, counted in numbers of this size; 0 if the data section ends before it, or after a refusal.
+    /// The number at `offset`, counted in numbers of this size; 0 if the data section ends before
+    /// it, or after a refusal.
     #[inline]
     pub fn get<T: Number>(&self, offset: usize) -> T {
         let is_inside = offset < self.place.bits as usize / (8 * T::Bits::BYTES);
         match self.message.unless_refused() {
-            Some(arena) if is_inside => T::from_bits(reading::get_number(arena, self.place, offset)),
+            Some(arena) if is_inside => {
+                T::from_bits(reading::get_number(arena, self.place, offset))
+            }
             _ => T::from_bits(crate::proved::capnp_words::zero::Zero::zero()),
         }
     }
@@ -127,16 +158,21 @@ impl<'b> StructBuilder<'b> {
     /// The bit at `offset`; `false` if the data section ends before it, or after a refusal.
     pub fn get_bool(&self, offset: usize) -> bool {
         let is_inside = offset < self.place.bits as usize;
-        self.message.unless_refused().is_some_and(|arena| is_inside && reading::get_bool(arena, self.place, offset))
+        self.message
+            .unless_refused()
+            .is_some_and(|arena| is_inside && reading::get_bool(arena, self.place, offset))
     }
 
     /// Whether pointer `index` isn't null; `false` if there is no such pointer, or after a refusal.
     pub fn has(&self, index: usize) -> bool {
         let is_inside = index < usize::from(self.place.pointers);
-        self.message.unless_refused().is_some_and(|arena| is_inside && reading::has(arena, self.place, index))
+        self.message
+            .unless_refused()
+            .is_some_and(|arena| is_inside && reading::has(arena, self.place, index))
     }
 
-    /// Changes pointer `index`, which the struct has to have, and returns what was made; `None` after a refusal.
+    /// Changes pointer `index`, which the struct has to have, and returns what was made; `None`
+    /// after a refusal.
     #[inline(always)]
     #[track_caller]
     fn change_pointer<T>(
@@ -151,7 +187,8 @@ impl<'b> StructBuilder<'b> {
         self.message.change(|arena| change(arena, place))
     }
 
-    /// Makes pointer `index` null, and zeroes what it held. Panics, as all calls below do, if there is no such pointer.
+    /// Makes pointer `index` null, and zeroes what it held. Panics like all calls below if there is
+    /// no such pointer.
     #[track_caller]
     pub fn clear(&mut self, index: usize) -> &mut Self {
         self.change_pointer(index, |arena, place| {
@@ -166,7 +203,9 @@ impl<'b> StructBuilder<'b> {
     #[track_caller]
     pub fn set_text(&mut self, index: usize, text: &str) -> &mut Self {
         if self.message.fits(text.len() + 1, 1) {
-            self.change_pointer(index, |arena, place| value::set_text(arena, place, index, text.as_bytes()));
+            self.change_pointer(index, |arena, place| {
+                value::set_text(arena, place, index, text.as_bytes())
+            });
         }
         self
     }
@@ -176,12 +215,15 @@ impl<'b> StructBuilder<'b> {
     #[track_caller]
     pub fn set_data(&mut self, index: usize, data: &[u8]) -> &mut Self {
         if self.message.fits(data.len(), 1) {
-            self.change_pointer(index, |arena, place| value::set_data(arena, place, index, data));
+            self.change_pointer(index, |arena, place| {
+                value::set_data(arena, place, index, data)
+            });
         }
         self
     }
 
-    /// Makes pointer `index` a capability: entry `capability` of the message's table, which is the program's.
+    /// Makes pointer `index` a capability: entry `capability` of the message's table, which is the
+    /// program's.
     #[track_caller]
     pub fn set_capability(&mut self, index: usize, capability: u32) -> &mut Self {
         self.change_pointer(index, |arena, place| {
@@ -203,7 +245,11 @@ impl<'b> StructBuilder<'b> {
 
     /// Makes pointer `index` lead to a copy of a list that is read.
     #[track_caller]
-    pub fn set_list<T: Element + ?Sized, M: Meter>(&mut self, index: usize, from: List<'_, T, M>) -> &mut Self {
+    pub fn set_list<T: Element + ?Sized, M: Meter>(
+        &mut self,
+        index: usize,
+        from: List<'_, T, M>,
+    ) -> &mut Self {
         let (raw, meter) = (from.raw, from.meter);
         self.change_pointer(index, |arena, place| {
             meter.charge(|lim| copying::set_list_from(arena, place, index, &raw, lim))
@@ -225,28 +271,44 @@ impl<'b> StructBuilder<'b> {
     #[inline]
     #[track_caller]
     pub fn init_struct(&mut self, index: usize, size: StructSize) -> StructBuilder<'_> {
-        let place = self.change_pointer(index, |arena, place| value::init_struct(arena, place, index, size));
+        let place = self.change_pointer(index, |arena, place| {
+            value::init_struct(arena, place, index, size)
+        });
         StructBuilder::of(self.message, place.unwrap_or(NOWHERE))
     }
 
-    /// The struct of pointer `index`, to be changed: with sections at least as large as `size`, and a new struct if the
-    /// pointer is null. If the pointer leads to something else, that is refused.
+    /// The struct of pointer `index`, to be changed: with sections at least as large as `size`, and
+    /// a new struct if the pointer is null. If the pointer leads to something else, that is
+    /// refused.
     #[track_caller]
     pub fn edit_struct(&mut self, index: usize, size: StructSize) -> StructBuilder<'_> {
-        let place = self.change_pointer(index, |arena, place| opening::get_struct(arena, place, index, size));
+        let place = self.change_pointer(index, |arena, place| {
+            opening::get_struct(arena, place, index, size)
+        });
         StructBuilder::of(self.message, place.unwrap_or(NOWHERE))
     }
 
-    /// Makes pointer `index` lead to a new list of `count` elements, all zero or null. For structs there is
-    /// [`init_structs`](StructBuilder::init_structs).
+    /// Makes pointer `index` lead to a new list of `count` elements, all zero or null. For structs
+    /// there is [`init_structs`](StructBuilder::init_structs).
     #[inline]
     #[track_caller]
-    pub fn init_list<T: Element + ?Sized>(&mut self, index: usize, count: usize) -> ListBuilder<'_, T> {
-        const { assert!(!matches!(T::SIZE, crate::ElementSize::InlineComposite), "init_structs makes lists of structs") };
+    pub fn init_list<T: Element + ?Sized>(
+        &mut self,
+        index: usize,
+        count: usize,
+    ) -> ListBuilder<'_, T> {
+        const {
+            assert!(
+                !matches!(T::SIZE, crate::ElementSize::InlineComposite),
+                "init_structs makes lists of structs"
+            )
+        };
         let mut made = None;
         if self.message.fits(count, 1) {
             let few = count as u32;
-            made = self.change_pointer(index, |arena, place| value::init_list(arena, place, index, T::SIZE, few));
+            made = self.change_pointer(index, |arena, place| {
+                value::init_list(arena, place, index, T::SIZE, few)
+            });
         }
         self.list(made)
     }
@@ -254,20 +316,30 @@ impl<'b> StructBuilder<'b> {
     /// Makes pointer `index` lead to a new list of `count` structs, all zero and null.
     #[inline]
     #[track_caller]
-    pub fn init_structs(&mut self, index: usize, count: usize, size: StructSize) -> ListBuilder<'_, Structs> {
+    pub fn init_structs(
+        &mut self,
+        index: usize,
+        count: usize,
+        size: StructSize,
+    ) -> ListBuilder<'_, Structs> {
         let mut made = None;
         if self.message.fits(count, size.total() as usize) {
             let few = count as u32;
-            made = self.change_pointer(index, |arena, place| value::init_struct_list(arena, place, index, few, size));
+            made = self.change_pointer(index, |arena, place| {
+                value::init_struct_list(arena, place, index, few, size)
+            });
         }
         self.list(made)
     }
 
-    /// The list of structs of pointer `index`, to be changed: with structs at least as large as `size`, and without elements
-    /// if the pointer is null. If the pointer leads to something else, that is refused.
+    /// The list of structs of pointer `index`, to be changed: with structs at least as large as
+    /// `size`, and without elements if the pointer is null. If the pointer leads to something
+    /// else, that is refused.
     #[track_caller]
     pub fn edit_structs(&mut self, index: usize, size: StructSize) -> ListBuilder<'_, Structs> {
-        let found = self.change_pointer(index, |arena, place| opening::get_struct_list(arena, place, index, size));
+        let found = self.change_pointer(index, |arena, place| {
+            opening::get_struct_list(arena, place, index, size)
+        });
         self.list(found)
     }
 

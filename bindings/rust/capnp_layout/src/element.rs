@@ -26,17 +26,23 @@ pub trait Number: Copy + Closed + Element {
     fn masked(self, mask: Self) -> Self;
 }
 
-/// What a [`List`] can be a list of: `u8`, `u16`, `u32`, `u64`, `i8`, `i16`, `i32`, `i64`, `f32`, `f64`, `bool`, `()`, `str`,
-/// `[u8]` (data), [`Structs`], [`Lists`] of these, and [`Pointers`] of any kind.
+/// What a [`List`] can be a list of: `u8`, `u16`, `u32`, `u64`, `i8`, `i16`, `i32`, `i64`, `f32`,
+/// `f64`, `bool`, `()`, `str`, `[u8]` (data), [`Structs`], [`Lists`] of these, and [`Pointers`] of
+/// any kind.
 pub trait Element: Closed {
     /// The least size of the elements.
     #[doc(hidden)]
     const SIZE: ElementSize;
-    /// What an element is read as. For texts, data and lists it is a `Result`, since a pointer is followed.
+    /// What an element is read as. For texts, data and lists it is a `Result`, since a pointer is
+    /// followed.
     type Item<'a, M: Meter>;
     /// Element `index`, which the list has.
     #[doc(hidden)]
-    fn read<'a, M: Meter>(list: &ListReader<'a, Arena<'a>>, meter: M, index: u32) -> Self::Item<'a, M>;
+    fn read<'a, M: Meter>(
+        list: &ListReader<'a, Arena<'a>>,
+        meter: M,
+        index: u32,
+    ) -> Self::Item<'a, M>;
 }
 
 macro_rules! numbers {
@@ -133,13 +139,19 @@ impl Element for Structs {
 
     #[inline(always)]
     fn read<'a, M: Meter>(list: &ListReader<'a, Arena<'a>>, meter: M, index: u32) -> Struct<'a, M> {
-        Struct { raw: list.get_struct_element(index), meter }
+        Struct {
+            raw: list.get_struct_element(index),
+            meter,
+        }
     }
 }
 
 #[inline(always)]
 fn pointer<'a, M: Meter>(list: &ListReader<'a, Arena<'a>>, meter: M, index: u32) -> Pointer<'a, M> {
-    Pointer { raw: list.get_pointer_element(index), meter }
+    Pointer {
+        raw: list.get_pointer_element(index),
+        meter,
+    }
 }
 
 macro_rules! pointers {
@@ -150,7 +162,11 @@ macro_rules! pointers {
                 type Item<'a, M: Meter> = $item;
 
                 #[inline(always)]
-                fn read<'a, M: Meter>(list: &ListReader<'a, Arena<'a>>, meter: M, index: u32) -> $item {
+                fn read<'a, M: Meter>(
+                    list: &ListReader<'a, Arena<'a>>,
+                    meter: M,
+                    index: u32,
+                ) -> $item {
                     $read(pointer(list, meter, index))
                 }
             }
@@ -162,5 +178,6 @@ pointers! {
     [] str, Result<&'a str, Error>, |it: Pointer<'a, M>| it.as_text();
     [] [u8], Result<&'a [u8], Error>, |it: Pointer<'a, M>| it.as_data();
     [] Pointers, Pointer<'a, M>, |it| it;
-    [T: Element + ?Sized] Lists<T>, Result<List<'a, T, M>, Error>, |it: Pointer<'a, M>| it.as_list();
+    [T: Element + ?Sized] Lists<T>, Result<List<'a, T, M>, Error>,
+        |it: Pointer<'a, M>| it.as_list();
 }

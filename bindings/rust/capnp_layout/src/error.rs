@@ -12,17 +12,20 @@ use rust_alloc::string::String;
 #[derive(Clone, Copy, Debug, PartialEq, Eq)]
 #[non_exhaustive]
 pub enum Reason {
-    /// The frame is cut short, or states too many segments or words; or it couldn't be read or written.
+    /// The frame is cut short, or states too many segments or words; or it couldn't be read or
+    /// written.
     Frame(FrameError),
-    /// The words aren't what the encoding specification says or what the call expects, or a limit was reached.
+    /// The words aren't what the encoding specification says or what the call expects, or a limit
+    /// was reached.
     Layout(ErrorKind),
     /// The size of a segment isn't a multiple of 8 bytes.
     SegmentIsNotWholeWords,
     /// A text isn't UTF-8.
     TextIsNotUtf8,
-    /// So many bytes follow the message, or more.
+    /// Bytes follow the message: this number, or more.
     TrailingBytes(usize),
-    /// More bytes or elements than a list can have, or more words than its structs can have: 536,870,911.
+    /// More bytes or elements than a list can have, or more words than its structs can have:
+    /// 536,870,911.
     TooManyElements(usize),
 }
 
@@ -39,7 +42,8 @@ impl Reason {
         }
     }
 
-    /// The number: below 128 that of the C library's refusal with this name, from 128 on those that only this crate has.
+    /// The number: below 128 that of the C library's refusal with this name, from 128 on those that
+    /// only this crate has.
     pub fn number(&self) -> u32 {
         match self {
             Reason::SegmentIsNotWholeWords => number_of(self.name(), 1..16),
@@ -52,7 +56,8 @@ impl Reason {
     }
 }
 
-/// The number that the core has for a name. Frames and layout have numbers of their own for `AllocationFailed`.
+/// The number that the core has for a name. Frames and layout have numbers of their own for
+/// `AllocationFailed`.
 fn number_of(name: &str, mut numbers: Range<u32>) -> u32 {
     let is_named = |number: &u32| {
         let mut text = [0; 128];
@@ -67,7 +72,9 @@ impl fmt::Display for Reason {
         match self {
             Reason::Frame(error) => error.fmt(f),
             Reason::Layout(kind) => kind.fmt(f),
-            Reason::TrailingBytes(n) | Reason::TooManyElements(n) => write!(f, "{}({n})", self.name()),
+            Reason::TrailingBytes(n) | Reason::TooManyElements(n) => {
+                write!(f, "{}({n})", self.name())
+            }
             Reason::SegmentIsNotWholeWords | Reason::TextIsNotUtf8 => f.write_str(self.name()),
         }
     }
@@ -76,13 +83,13 @@ impl fmt::Display for Reason {
 /// What only few refusals have.
 #[derive(Clone, Debug, Default)]
 struct Details {
-    /// Where the refused pointer is: the path, the segment, and the position in words.
+    /// The refused pointer: its path, its segment, and its position in words.
     pointer: Option<(String, u64, u32)>,
     #[cfg(feature = "std")]
     source: Option<rust_alloc::sync::Arc<std::io::Error>>,
 }
 
-/// A refusal: what is wrong, and of which pointer if that is known.
+/// A refusal: what is wrong, and, if that is known, the pointer that is wrong.
 ///
 /// Two errors are equal if reason, path and place are.
 #[derive(Clone, Debug)]
@@ -97,7 +104,7 @@ impl Error {
         self.reason
     }
 
-    /// The name of the reason, as in `docs/REFUSALS.md` of the C library.
+    /// The name of the reason, which is also that of the C library.
     pub fn name(&self) -> &'static str {
         self.reason.name()
     }
@@ -111,19 +118,22 @@ impl Error {
         self.details.as_ref()?.pointer.as_ref()
     }
 
-    /// The path to the refused pointer, as `capnp_canon --at` takes it: `0.2.[7].1` is pointer 1 of element 7 of the list
-    /// that pointer 2 of the root's pointer 0 leads to; `root` is the root pointer. `None` if the refusal isn't that of a
-    /// check of a whole message, such as [`Message::sound`](crate::Message::sound).
+    /// The path to the refused pointer, in the form of `capnp_canon --at`: `0.2.[7].1` is pointer 1
+    /// of element 7 of the list that pointer 2 of the root's pointer 0 leads to; `root` is the
+    /// root pointer. `None` if the refusal isn't that of a check of a whole message, such as
+    /// [`Message::sound`](crate::Message::sound).
     pub fn path(&self) -> Option<&str> {
         self.pointer().map(|(path, ..)| path.as_str())
     }
 
-    /// The place of the refused pointer, if there is a path: its segment, and its position there in words.
+    /// The place of the refused pointer, if there is a path: its segment, and its position there in
+    /// words.
     pub fn place(&self) -> Option<(u64, u32)> {
         self.pointer().map(|(_, segment, word)| (*segment, *word))
     }
 
-    /// Whether a limit was reached. With other [`Limits`](crate::Limits) the message may be accepted.
+    /// Whether a limit was reached. With other [`Limits`](crate::Limits) the message may be
+    /// accepted.
     pub fn is_limit(&self) -> bool {
         matches!(
             self.reason,
@@ -138,8 +148,14 @@ impl Error {
 
     #[cold]
     pub(crate) fn at(reason: Reason, path: String, segment: u64, word: u32) -> Self {
-        let details = Details { pointer: Some((path, segment, word)), ..Details::default() };
-        Error { reason, details: Some(Box::new(details)) }
+        let details = Details {
+            pointer: Some((path, segment, word)),
+            ..Details::default()
+        };
+        Error {
+            reason,
+            details: Some(Box::new(details)),
+        }
     }
 
     /// The same refusal, with the error of a reader that caused it.
@@ -147,7 +163,13 @@ impl Error {
     #[cold]
     pub(crate) fn caused_by(self, error: std::io::Error) -> Self {
         let source = Some(rust_alloc::sync::Arc::new(error));
-        Error { details: Some(Box::new(Details { source, ..Details::default() })), ..self }
+        Error {
+            details: Some(Box::new(Details {
+                source,
+                ..Details::default()
+            })),
+            ..self
+        }
     }
 }
 
@@ -162,7 +184,10 @@ impl Eq for Error {}
 impl From<Reason> for Error {
     #[inline]
     fn from(reason: Reason) -> Self {
-        Error { reason, details: None }
+        Error {
+            reason,
+            details: None,
+        }
     }
 }
 

@@ -1,18 +1,20 @@
-//! The memory of a message that is being built: one segment that grows like a `Vec`, so a built message has one segment and
-//! no far pointers.
+//! The memory of a message that is being built: one segment that grows like a `Vec`, so a built
+//! message has one segment and no far pointers.
 
-use crate::proved::capnp_arena::arena::{push_or_count_refusal, Allocator, Segment, MAX_SEGMENT_WORDS};
+use crate::proved::capnp_arena::arena::{
+    push_or_count_refusal, Allocator, Segment, MAX_SEGMENT_WORDS,
+};
 use crate::proved::capnp_words::error::ErrorKind;
 use crate::proved::support::alloc::Global;
 use crate::proved::support::vec::Vec as ListOf;
 use core::mem;
 use rust_alloc::vec::Vec;
 
-/// At most so many bytes are zeroed before they are needed.
+/// The most bytes that are zeroed before they are needed.
 const PIECE: usize = 64 * 1024;
 
-/// A segment of 536,870,911 words. Memory is taken for those that are in use; if there is none, the process aborts, as when a
-/// `Vec` grows.
+/// A segment of 536,870,911 words, with memory for those that are in use. If there is no memory for
+/// more, the process aborts, like a `Vec` that grows.
 pub struct GrowingSegment {
     bytes: Vec<u8>,
     length: usize,
@@ -30,7 +32,10 @@ impl GrowingSegment {
 
 impl Segment for GrowingSegment {
     fn empty(_: Global) -> Self {
-        GrowingSegment { bytes: Vec::new(), length: 0 }
+        GrowingSegment {
+            bytes: Vec::new(),
+            length: 0,
+        }
     }
 
     #[inline(always)]
@@ -63,9 +68,12 @@ pub struct Growing {
 }
 
 impl Growing {
-    /// With memory for so many bytes.
+    /// With memory for this number of bytes.
     pub fn new(bytes: usize) -> Self {
-        Growing { kept: Vec::with_capacity(bytes), refused: 0 }
+        Growing {
+            kept: Vec::with_capacity(bytes),
+            refused: 0,
+        }
     }
 
     /// The allocated words of the segment that was returned last.
@@ -88,7 +96,10 @@ impl Allocator for Growing {
         }
         let mut bytes = mem::take(&mut self.kept);
         bytes.clear();
-        Ok(GrowingSegment { bytes, length: 8 * MAX_SEGMENT_WORDS as usize })
+        Ok(GrowingSegment {
+            bytes,
+            length: 8 * MAX_SEGMENT_WORDS as usize,
+        })
     }
 
     fn deallocate_segment(&mut self, segment: GrowingSegment, used_words: u32) {

@@ -1,7 +1,7 @@
 //! Cap'n Proto messages from anyone: checked once, and then read in place.
 //!
-//! [`Message`] is a message that was received, [`Builder`] one that is being made. Fields are named by index and offset, as
-//! in the [encoding specification](https://capnproto.org/encoding.html).
+//! [`Message`] is a message that was received, [`Builder`] one that is being made. Fields are named
+//! by index and offset, as in the [encoding specification](https://capnproto.org/encoding.html).
 //!
 //! ```
 //! use capnp_layout::{Builder, Limits, Message, StructSize};
@@ -19,11 +19,12 @@
 //!
 //! # Checked once, or as it is read
 //!
-//! [`Message::sound`] checks the whole message. After it neither a limit nor a broken pointer can refuse a getter, and readers
-//! are `Copy`, `Send` and `Sync`. [`Message::lazy`] checks each object when it is read, and charges the message's limits
-//! through a `Cell`. Both have readers of the same types: [`Struct`], [`List`] and [`Pointer`]. A getter that follows a pointer
-//! returns a `Result`, since neither check knows what the program expects: a list where a text is wanted is refused, and so is
-//! a text that isn't UTF-8.
+//! [`Message::sound`] checks the whole message. After it neither a limit nor a broken pointer can
+//! refuse a getter, and readers are `Copy`, `Send` and `Sync`. [`Message::lazy`] checks each object
+//! when it is read, and charges the message's limits through a `Cell`. Both have readers of the
+//! same types: [`Struct`], [`List`] and [`Pointer`]. A getter that follows a pointer
+//! returns a `Result`, since neither check knows what the program expects: a list where a text is
+//! wanted is refused, and so is a text that isn't UTF-8.
 //!
 //! # Building
 //!
@@ -39,14 +40,16 @@
 //! first.set_u32(0, 1);
 //! ```
 //!
-//! Setters return no `Result`. The first refusal, such as a text of 2^29 bytes, is kept, later calls change nothing, and each
-//! call that hands out the message returns the refusal, so that it can't be overlooked.
+//! Setters return no `Result`. The first refusal, such as a text of 2^29 bytes, is kept, later
+//! calls change nothing, and each call that hands out the message returns the refusal, so that it
+//! can't be overlooked.
 //!
 //! # What is proved
 //!
-//! The modules of [`proved`] are the core. They are written in Rattle, where each function is proved to do what its contract
-//! says, and printed as Rust; no proof is about the printed text. What is outside of `proved` is written by hand, and only
-//! tested. There is no unsafe code in either. Programs that need pointers and places can call the core: its functions quote
+//! The modules of [`proved`] are the core. They are written in Rattle, where each function is
+//! proved to do what its contract says, and printed as Rust; no proof is about the printed text.
+//! What is outside of `proved` is written by hand, and only tested. There is no unsafe code in
+//! either. Programs that need pointers and places can call the core: its functions quote
 //! their preconditions, which a Rust compiler doesn't check.
 #![cfg_attr(not(feature = "std"), no_std)]
 #![cfg_attr(docsrs, feature(doc_cfg))]
@@ -86,7 +89,9 @@ pub use segments::Segments;
 
 pub use proved::capnp_framing::framing::FrameError;
 pub use proved::capnp_messages::messages::MessageExtent;
-pub use proved::capnp_objects::pointers::{CanonicalFault, CanonicalFaultReason, Extent, MessageSize};
+pub use proved::capnp_objects::pointers::{
+    CanonicalFault, CanonicalFaultReason, Extent, MessageSize,
+};
 pub use proved::capnp_walks::walks::{WalkedObject, CAPABILITY, NO_PARENT, STRUCT};
 pub use proved::capnp_words::error::ErrorKind;
 pub use proved::capnp_words::wire_pointer::{ElementSize, StructSize};

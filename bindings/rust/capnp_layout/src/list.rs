@@ -44,7 +44,11 @@ impl<T: ?Sized, M: Copy> Copy for List<'_, T, M> {}
 impl<'a, T: Element + ?Sized, M: Meter> List<'a, T, M> {
     #[inline(always)]
     pub(crate) fn of(raw: ListReader<'a, Arena<'a>>, meter: M) -> Self {
-        List { raw, meter, of: PhantomData }
+        List {
+            raw,
+            meter,
+            of: PhantomData,
+        }
     }
 
     /// The number of elements.
@@ -82,7 +86,11 @@ impl<'a, T: Element + ?Sized, M: Meter> List<'a, T, M> {
     /// The elements, in order.
     #[inline]
     pub fn iter(&self) -> Iter<'a, T, M> {
-        Iter { list: *self, next: 0, end: self.raw.len() }
+        Iter {
+            list: *self,
+            next: 0,
+            end: self.raw.len(),
+        }
     }
 }
 

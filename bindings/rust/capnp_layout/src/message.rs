@@ -3,7 +3,9 @@
 use crate::error::Error;
 use crate::growing::Growing;
 use crate::meter::{Lazy, Sound};
-use crate::proved::capnp_arena::arena::{ReaderArena, ReaderArenaImpl, ReaderOptions, ReaderSegments};
+use crate::proved::capnp_arena::arena::{
+    ReaderArena, ReaderArenaImpl, ReaderOptions, ReaderSegments,
+};
 use crate::proved::capnp_messages::messages::{self, MessageExtent};
 use crate::proved::capnp_objects::pointers::{CanonicalFault, MessageSize};
 use crate::proved::capnp_readers::readers::PointerReader;
@@ -22,36 +24,47 @@ use rust_alloc::vec::Vec;
 /// What reading a message may cost.
 #[derive(Clone, Copy, Debug, PartialEq, Eq)]
 pub struct Limits {
-    /// How many words may be read: the traversal limit. Words that several pointers lead to count for each of them. A frame
-    /// with more words isn't opened.
+    /// How many words may be read: the traversal limit. Words that several pointers lead to count
+    /// for each of them. A frame with more words isn't opened.
     pub words: usize,
-    /// How many structs and lists may be inside one another: the nesting limit. Reading takes stack for each of them.
+    /// How many structs and lists may be inside one another: the nesting limit. Each takes
+    /// some 500 bytes of stack, ten times as much without optimization.
     pub depth: u16,
 }
 
 impl Limits {
     /// Any number of words, and 64 levels: for messages that the program itself has made.
-    pub const UNMETERED: Limits = Limits { words: usize::MAX, depth: 64 };
+    pub const UNMETERED: Limits = Limits {
+        words: usize::MAX,
+        depth: 64,
+    };
 
     pub(crate) fn options(self) -> ReaderOptions {
-        ReaderOptions { traversal_limit_in_words: Some(self.words), nesting_limit: i32::from(self.depth) }
+        ReaderOptions {
+            traversal_limit_in_words: Some(self.words),
+            nesting_limit: i32::from(self.depth),
+        }
     }
 }
 
 impl Default for Limits {
-    /// 8,388,608 words (64 MiB), and 64 levels, as other implementations have it.
+    /// 8,388,608 words (64 MiB), and 64 levels: the defaults of other implementations.
     fn default() -> Self {
-        Limits { words: 8 * 1024 * 1024, depth: 64 }
+        Limits {
+            words: 8 * 1024 * 1024,
+            depth: 64,
+        }
     }
 }
 
-/// A message in the memory where it was received, or in its own.
+/// A message that was received, in the memory of the program or in its own.
 ///
-/// [`sound`](Message::sound) checks all of it, and then reads at no further cost; [`lazy`](Message::lazy) checks each object
-/// when it is read. Opening looks at the frame alone, so a message that was opened may be broken.
+/// [`sound`](Message::sound) checks all of it, and then reads at no further cost;
+/// [`lazy`](Message::lazy) checks each object when it is read. Opening reads only the frame, so a
+/// message that was opened may be broken.
 ///
-/// Two messages are equal if their canonical words are, within the limits of each; a message that has none, because it is
-/// refused or has a capability, equals nothing.
+/// Two messages are equal if their canonical words are, within the limits of each; a message that
+/// has none, because it is refused or has a capability, equals nothing.
 pub struct Message<'a> {
     pub(crate) arena: Arena<'a>,
     limits: Limits,
@@ -61,7 +74,11 @@ pub struct Message<'a> {
 impl<'a> Message<'a> {
     pub(crate) fn new(segments: Held<'a>, limits: Limits) -> Self {
         let arena = ReaderArenaImpl::new(segments, limits.options());
-        Message { arena, limits, left: Cell::new(limits.words) }
+        Message {
+            arena,
+            limits,
+            left: Cell::new(limits.words),
+        }
     }
 
     /// The limits that it was opened with.
@@ -93,20 +110,24 @@ impl<'a> Message<'a> {
         }
     }
 
-    /// The root pointer, after a check of the whole message within its limits, whatever was read before. See
-    /// [`sound`](Message::sound).
+    /// The root pointer, after a check of the whole message within its limits, also if it was read
+    /// before. See [`sound`](Message::sound).
     pub fn sound_pointer(&self) -> Result<Pointer<'_>, Error> {
         let mut lim = self.limiter();
         let root = PointerReader::get_root_from_arena(&self.arena, &mut lim)?;
         match root.pointer().validate(&mut lim) {
-            Ok(_) => Ok(Pointer { raw: root, meter: Sound::NEW }),
+            Ok(_) => Ok(Pointer {
+                raw: root,
+                meter: Sound::NEW,
+            }),
             Err(kind) => Err(self.error_of(kind)),
         }
     }
 
-    /// The root struct, after a check of the whole message within its limits. From then on no limit and no broken pointer
-    /// refuses a getter: only what isn't of the type that the program wants is refused. The check takes about half of the
-    /// time of reading, and each call makes it again: pass the struct on, or keep a [`Checked`].
+    /// The root struct, after a check of the whole message within its limits. From then on no limit
+    /// and no broken pointer refuses a getter: only what isn't of the type that the program
+    /// wants is refused. The check takes about half of the time of reading, and each call makes
+    /// it again: pass the struct on, or keep a [`Checked`].
     ///
     /// The error has the path of the pointer that was refused.
     pub fn sound(&self) -> Result<Struct<'_>, Error> {
@@ -116,12 +137,15 @@ impl<'a> Message<'a> {
     /// The root pointer, unchecked. See [`lazy`](Message::lazy).
     pub fn lazy_pointer(&self) -> Result<Pointer<'_, Lazy<'_>>, Error> {
         let meter = Lazy(&self.left);
-        let raw = crate::meter::Meter::charge(meter, |lim| PointerReader::get_root_from_arena(&self.arena, lim))?;
+        let raw = crate::meter::Meter::charge(meter, |lim| {
+            PointerReader::get_root_from_arena(&self.arena, lim)
+        })?;
         Ok(Pointer { raw, meter })
     }
 
-    /// The root struct, unchecked: each getter that follows a pointer checks what it leads to, and charges the message, from
-    /// the first such call on. What was charged is never given back, so two readings cost twice as much as one.
+    /// The root struct, unchecked: each getter that follows a pointer checks what it leads to, and
+    /// charges the message, from the first such call on. What was charged is never given back,
+    /// so two readings cost twice as much as one.
     pub fn lazy(&self) -> Result<Struct<'_, Lazy<'_>>, Error> {
         self.lazy_pointer()?.as_struct()
     }
@@ -129,21 +153,34 @@ impl<'a> Message<'a> {
     /// Checks the message as [`sound`](Message::sound) does, and keeps it.
     pub fn into_checked(self) -> Result<Checked<'a>, Error> {
         self.sound()?;
-        Ok(Checked { message: self.arena })
+        Ok(Checked {
+            message: self.arena,
+        })
     }
 
-    /// The canonical words, as one segment: equal values have equal words (encoding specification, "Canonicalization").
-    /// Reads within the limits.
+    /// The canonical words, one segment: equal values have equal words (encoding specification,
+    /// "Canonicalization"). Reads within the limits.
     pub fn canonical(&self) -> Result<Vec<u8>, Error> {
-        match messages::canonicalize(Global, Growing::new(0), &self.arena, Some(self.limits.words)) {
+        match messages::canonicalize(
+            Global,
+            Growing::new(0),
+            &self.arena,
+            Some(self.limits.words),
+        ) {
             Ok(made) => Ok(made.into_allocator().into_words()),
             Err((kind, _)) => Err(self.error_of(kind)),
         }
     }
 
-    /// The SHA-256 of the canonical words. A message of fewer than 64 words, or one that is canonical, takes no memory.
+    /// The SHA-256 of the canonical words. A message of fewer than 64 words, or one that is
+    /// canonical, takes no memory.
     pub fn digest(&self) -> Result<[u8; 32], Error> {
-        let (digest, _) = messages::digest(Global, Growing::new(0), &self.arena, Some(self.limits.words));
+        let (digest, _) = messages::digest(
+            Global,
+            Growing::new(0),
+            &self.arena,
+            Some(self.limits.words),
+        );
         digest.map_err(|kind| self.error_of(kind))
     }
 
@@ -157,7 +194,8 @@ impl<'a> Message<'a> {
         Ok(self.check()?.is_none())
     }
 
-    /// Checks the whole message, and returns how deep it is, how much it holds, and what reading it costs.
+    /// Checks the whole message, and returns how deep it is, how much it holds, and what reading it
+    /// costs.
     pub fn validate(&self) -> Result<MessageExtent, Error> {
         messages::validate(&self.arena, Some(self.limits.words)).map_err(|kind| self.error_of(kind))
     }
@@ -167,8 +205,9 @@ impl<'a> Message<'a> {
         messages::size(&self.arena, Some(self.limits.words)).map_err(|kind| self.error_of(kind))
     }
 
-    /// All objects of the message, each with its place and the pointer that leads to it, before those that its own pointers
-    /// lead to. Takes memory for the objects, of which there are at most as many as words may be read.
+    /// All objects of the message, each with its place and the pointer that leads to it, before
+    /// those that its own pointers lead to. Takes memory for the objects. There are at most as
+    /// many objects as words may be read.
     pub fn walk(&self) -> Result<Vec<WalkedObject>, Error> {
         // The first walk counts.
         let count = self.walk_into(&mut [])?;
@@ -177,7 +216,8 @@ impl<'a> Message<'a> {
         Ok(objects)
     }
 
-    /// Writes the objects of the message to `objects`, as many as there is room for, and returns their number. Takes no memory.
+    /// Writes the objects of the message to `objects` until it is full, and returns the number of
+    /// all. Takes no memory.
     pub fn walk_into(&self, objects: &mut [WalkedObject]) -> Result<usize, Error> {
         let walked = walk_message(Lent(&self.arena), self.limits.options(), objects);
         match walked.refused {
@@ -219,7 +259,7 @@ impl<'b> PartialEq<Message<'b>> for Message<'_> {
     }
 }
 
-/// The root as a checked reader shows it, or why there is none.
+/// The root that a checked reader shows, or why there is none.
 impl fmt::Debug for Message<'_> {
     fn fmt(&self, f: &mut fmt::Formatter<'_>) -> fmt::Result {
         match self.sound_pointer() {
@@ -229,8 +269,8 @@ impl fmt::Debug for Message<'_> {
     }
 }
 
-/// A message that was checked as a whole. If it owns its words, as after [`Message::read`], it is `Checked<'static>`: a field
-/// of a struct, or shared by threads.
+/// A message that was checked as a whole. If it owns its words, for example after
+/// [`Message::read`], it is `Checked<'static>`: a field of a struct, or shared by threads.
 ///
 /// ```
 /// # use capnp_layout::{Builder, Checked, Limits, Message, StructSize};
@@ -253,7 +293,13 @@ impl Checked<'_> {
     /// The root. Costs no check.
     pub fn root(&self) -> Struct<'_> {
         let root = PointerReader::get_root_from_arena(&self.message, &mut ReadLimiter::new(None));
-        match root.map(|raw| Pointer { raw, meter: Sound::NEW }.as_struct()) {
+        match root.map(|raw| {
+            Pointer {
+                raw,
+                meter: Sound::NEW,
+            }
+            .as_struct()
+        }) {
             Ok(Ok(root)) => root,
             _ => unreachable!("a checked message was refused"),
         }

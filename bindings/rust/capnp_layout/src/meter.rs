@@ -9,11 +9,15 @@ pub(crate) mod sealed {
     pub trait Closed {}
 }
 
-/// How a reader pays for what it reads: not at all ([`Sound`]), or from the limits of its message ([`Lazy`]).
+/// How a reader pays for what it reads: not at all ([`Sound`]), or from the limits of its message
+/// ([`Lazy`]).
 pub trait Meter: Copy + sealed::Closed {
     /// Reads with a limiter, and takes what was charged.
     #[doc(hidden)]
-    fn charge<T>(self, read: impl FnOnce(&mut ReadLimiter) -> Result<T, ErrorKind>) -> Result<T, ErrorKind>;
+    fn charge<T>(
+        self,
+        read: impl FnOnce(&mut ReadLimiter) -> Result<T, ErrorKind>,
+    ) -> Result<T, ErrorKind>;
 }
 
 /// The message was checked as a whole, so reading costs nothing more.
@@ -28,7 +32,10 @@ impl sealed::Closed for Sound {}
 
 impl Meter for Sound {
     #[inline(always)]
-    fn charge<T>(self, read: impl FnOnce(&mut ReadLimiter) -> Result<T, ErrorKind>) -> Result<T, ErrorKind> {
+    fn charge<T>(
+        self,
+        read: impl FnOnce(&mut ReadLimiter) -> Result<T, ErrorKind>,
+    ) -> Result<T, ErrorKind> {
         read(&mut ReadLimiter::new(None))
     }
 }
@@ -47,7 +54,10 @@ impl sealed::Closed for Lazy<'_> {}
 
 impl Meter for Lazy<'_> {
     #[inline(always)]
-    fn charge<T>(self, read: impl FnOnce(&mut ReadLimiter) -> Result<T, ErrorKind>) -> Result<T, ErrorKind> {
+    fn charge<T>(
+        self,
+        read: impl FnOnce(&mut ReadLimiter) -> Result<T, ErrorKind>,
+    ) -> Result<T, ErrorKind> {
         let mut lim = ReadLimiter::new(Some(self.0.get()));
         let made = read(&mut lim);
         self.0.set(lim.left().unwrap_or(0));

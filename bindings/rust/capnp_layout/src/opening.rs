@@ -15,10 +15,12 @@ use crate::segments::Held;
 const TABLE: usize = 8;
 
 impl<'a> Message<'a> {
-    /// Opens a frame, as `capnp encode` and `writeMessage` write it, where it is: copies nothing, and takes no memory.
+    /// Opens a frame that `capnp encode` or `writeMessage` has written, in place: copies nothing,
+    /// and takes no memory.
     ///
-    /// Refuses with [`Reason::Frame`] what isn't a frame, a frame of more than 512 segments, and one of more words than
-    /// `limits` has. Refuses bytes after the frame with [`Reason::TrailingBytes`].
+    /// Refuses with [`Reason::Frame`] what isn't a frame, a frame of more than 512 segments, and
+    /// one of more words than `limits` has. Refuses bytes after the frame with
+    /// [`Reason::TrailingBytes`].
     pub fn open(bytes: &'a [u8], limits: Limits) -> Result<Self, Error> {
         let (message, rest) = Message::open_first(bytes, limits)?;
         match rest.len() {
@@ -27,7 +29,8 @@ impl<'a> Message<'a> {
         }
     }
 
-    /// Opens the first frame of `bytes`, like [`open`](Message::open), and returns it with the bytes after it.
+    /// Opens the first frame of `bytes`, like [`open`](Message::open), and returns it with the
+    /// bytes after it.
     ///
     /// ```
     /// # use capnp_layout::{Builder, Limits, Message, StructSize};
@@ -51,19 +54,24 @@ impl<'a> Message<'a> {
             return Err(FrameError::Truncated.into());
         };
         let size = segments.size_in_bytes();
-        let held = if segments.len() == 1 { Held::One(&bytes[TABLE..size]) } else { Held::Frame(segments) };
+        let held = if segments.len() == 1 {
+            Held::One(&bytes[TABLE..size])
+        } else {
+            Held::Frame(segments)
+        };
         Ok((Message::new(held, limits), &bytes[size..]))
     }
 
-    /// Opens the words of a message of one segment, without a frame, where they are.
+    /// Opens the words of a message of one segment, without a frame, in place.
     ///
-    /// Refuses with [`Reason::SegmentIsNotWholeWords`], or with `MessageTooLarge` if there are 2^32 words or more.
+    /// Refuses with [`Reason::SegmentIsNotWholeWords`], or with `MessageTooLarge` if there are 2^32
+    /// words or more.
     pub fn from_words(words: &'a [u8], limits: Limits) -> Result<Self, Error> {
         check_segment(words)?;
         Ok(Message::new(Held::One(words), limits))
     }
 
-    /// Opens segments, where they are. Refuses like [`from_words`](Message::from_words).
+    /// Opens segments in place. Refuses like [`from_words`](Message::from_words).
     pub fn from_segments(segments: &'a [&'a [u8]], limits: Limits) -> Result<Self, Error> {
         for segment in segments {
             check_segment(segment)?;
@@ -77,7 +85,7 @@ impl<'a> Message<'a> {
 
 /// Whether a segment can be one: whole words, and fewer than 2^32.
 fn check_segment(bytes: &[u8]) -> Result<(), Error> {
-    if bytes.len() % 8 != 0 {
+    if !bytes.len().is_multiple_of(8) {
         return Err(Reason::SegmentIsNotWholeWords.into());
     }
     match u32::try_from(bytes.len() / 8) {
@@ -100,8 +108,9 @@ impl Message<'static> {
         Ok(message)
     }
 
-    /// Unpacks a packed frame, as `capnp encode --packed` writes it. The memory taken grows with the bytes that arrive.
-    /// Refuses like [`open`](Message::open), and with `Truncated` packed bytes that end within a word.
+    /// Unpacks a packed frame that `capnp encode --packed` has written. The memory taken grows with
+    /// the bytes that arrive. Refuses like [`open`](Message::open), and with `Truncated` packed
+    /// bytes that end within a word.
     pub fn open_packed(packed: &[u8], limits: Limits) -> Result<Self, Error> {
         let mut input = UnpackingInput::new(MemoryInput::new(packed));
         let message = Message::read_from(&mut input, limits)?;
@@ -112,12 +121,15 @@ impl Message<'static> {
         }
     }
 
-    /// Reads one frame from a reader, and nothing after it. Reads again if a read was interrupted; any other error of the
-    /// reader is the [`source`](core::error::Error::source) of the refusal `ReadFailed`. If there is nothing to read,
-    /// refuses with `Truncated`.
+    /// Reads one frame from a reader, and nothing after it. Reads again if a read was interrupted;
+    /// any other error of the reader is the [`source`](core::error::Error::source) of the
+    /// refusal `ReadFailed`. If there is nothing to read, refuses with `Truncated`.
     #[cfg(feature = "std")]
     pub fn read(reader: impl std::io::Read, limits: Limits) -> Result<Self, Error> {
-        let mut input = PlainInput { reader, failed: None };
+        let mut input = PlainInput {
+            reader,
+            failed: None,
+        };
         match (Message::read_from(&mut input, limits), input.failed) {
             (Err(error), Some(cause)) => Err(error.caused_by(cause)),
             (made, _) => made,

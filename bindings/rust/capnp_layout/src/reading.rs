@@ -15,8 +15,8 @@ use rust_alloc::vec::Vec;
 
 /// A pointer of a message that is read.
 ///
-/// Two pointers are equal if the canonical words of their values are; a value that has none, such as one with a capability,
-/// equals nothing.
+/// Two pointers are equal if the canonical words of their values are; a value that has none, such
+/// as one with a capability, equals nothing.
 #[derive(Clone, Copy)]
 pub struct Pointer<'a, M = Sound> {
     pub(crate) raw: PointerReader<'a, Arena<'a>>,
@@ -58,7 +58,8 @@ impl<'a, M: Meter> Pointer<'a, M> {
         text_of(self.as_text_bytes()?)
     }
 
-    /// The bytes of the text, which needn't be UTF-8, without the zero byte at its end; none if the pointer is null.
+    /// The bytes of the text, which needn't be UTF-8, without the zero byte at its end; none if the
+    /// pointer is null.
     #[inline]
     pub fn as_text_bytes(&self) -> Result<&'a [u8], Error> {
         Ok(self.meter.charge(|lim| self.raw.get_text(lim, None))?)
@@ -74,14 +75,19 @@ impl<'a, M: Meter> Pointer<'a, M> {
     #[inline]
     pub fn as_struct(&self) -> Result<Struct<'a, M>, Error> {
         let raw = self.meter.charge(|lim| self.raw.get_struct(lim, None))?;
-        Ok(Struct { raw, meter: self.meter })
+        Ok(Struct {
+            raw,
+            meter: self.meter,
+        })
     }
 
-    /// The list; one without elements if the pointer is null. Its elements may be wider than `T`, or structs that begin with
-    /// a `T`, as a newer schema has them (encoding specification, "Lists").
+    /// The list; one without elements if the pointer is null. Its elements may be wider than `T`,
+    /// or structs that begin with a `T` in a newer schema (encoding specification, "Lists").
     #[inline]
     pub fn as_list<T: Element + ?Sized>(&self) -> Result<List<'a, T, M>, Error> {
-        let raw = self.meter.charge(|lim| self.raw.get_list(lim, T::SIZE, None))?;
+        let raw = self
+            .meter
+            .charge(|lim| self.raw.get_list(lim, T::SIZE, None))?;
         Ok(List::of(raw, self.meter))
     }
 
@@ -90,13 +96,17 @@ impl<'a, M: Meter> Pointer<'a, M> {
         Ok(self.raw.get_capability()?)
     }
 
-    /// What the pointer leads to, whatever that is. Checks and charges the object's words, as getters do.
+    /// What the pointer leads to, of any kind. Checks and charges the object's words like the other
+    /// calls.
     pub fn target(&self) -> Result<Target<'a, M>, Error> {
         let meter = self.meter;
         Ok(match meter.charge(|lim| self.raw.next(lim))? {
             RawTarget::Null => Target::Null,
             RawTarget::Struct(raw) => Target::Struct(Struct { raw, meter }),
-            RawTarget::List(raw) => Target::List { size: raw.get_element_size(), len: raw.len() as usize },
+            RawTarget::List(raw) => Target::List {
+                size: raw.get_element_size(),
+                len: raw.len() as usize,
+            },
             RawTarget::Cap(index) => Target::Capability(index),
         })
     }
@@ -113,7 +123,9 @@ impl<'a, M: Meter> Pointer<'a, M> {
 
     /// The words and capabilities of the value.
     pub fn size(&self) -> Result<MessageSize, Error> {
-        Ok(self.meter.charge(|lim| self.raw.pointer().total_size(lim))?)
+        Ok(self
+            .meter
+            .charge(|lim| self.raw.pointer().total_size(lim))?)
     }
 
     /// Checks the whole value, and returns how deep it is and how much it holds.
@@ -122,11 +134,13 @@ impl<'a, M: Meter> Pointer<'a, M> {
     }
 }
 
-/// A struct of a message that is read. Fields are named as the encoding specification does: numbers by their offset, counted
-/// in numbers of their size, bits by that of the bit, and pointers by their index. A field that the struct doesn't have, because
-/// an older schema wrote it, is zero or null.
+/// A struct of a message that is read. Fields are named as the encoding specification does: numbers
+/// by their offset, counted in numbers of their size, bits by that of the bit, and pointers by
+/// their index. A field that the struct doesn't have, because an older schema wrote it, is zero or
+/// null.
 ///
-/// Two structs are equal if their canonical words are; a struct that has none, such as one with a capability, equals nothing.
+/// Two structs are equal if their canonical words are; a struct that has none, such as one with a
+/// capability, equals nothing.
 ///
 /// ```
 /// # use capnp_layout::{Builder, Lists, Pointers, Structs, StructSize};
@@ -139,7 +153,7 @@ impl<'a, M: Meter> Pointer<'a, M> {
 /// # root.init_structs(2, 1, size).at(0).set_text(0, "Bob");
 /// # let message = built.as_message()?;
 /// let person = message.sound()?;
-/// let (flag, age) = (person.get_bool(33), person.get_u16(1)); // bit 33, and the second u16 of the data
+/// let (flag, age) = (person.get_bool(33), person.get_u16(1)); // bit 33, and the second u16
 /// let name: &str = person.get_text(0)?;
 /// let bytes: Vec<u8> = person.get_list::<u8>(1)?.iter().collect();
 /// for friend in person.get_structs(2)? {
@@ -157,7 +171,8 @@ pub struct Struct<'a, M = Sound> {
 macro_rules! get_numbers {
     ($($name:ident: $t:ty),*) => {
         $(
-            #[doc = concat!("The `", stringify!($t), "` at `offset`, counted in numbers of this size; 0 if the struct ends before it.")]
+            #[doc = concat!("The `", stringify!($t), "` at `offset`, counted in numbers of this")]
+            /// size; 0 if the struct ends before it.
             #[inline]
             pub fn $name(&self, offset: usize) -> $t {
                 self.get(offset)
@@ -183,13 +198,15 @@ impl<'a, M: Meter> Struct<'a, M> {
         T::from_bits(self.raw.get_data_field(offset))
     }
 
-    /// The number at `offset` of a field whose default value is `default`: the exclusive or of both.
+    /// The number at `offset` of a field whose default value is `default`: the exclusive or of
+    /// both.
     #[inline]
     pub fn get_or<T: Number>(&self, offset: usize, default: T) -> T {
         T::masked(self.get(offset), default)
     }
 
-    get_numbers!(get_u8: u8, get_u16: u16, get_u32: u32, get_u64: u64, get_i8: i8, get_i16: i16, get_i32: i32, get_i64: i64);
+    get_numbers!(get_u8: u8, get_u16: u16, get_u32: u32, get_u64: u64);
+    get_numbers!(get_i8: i8, get_i16: i16, get_i32: i32, get_i64: i64);
     get_numbers!(get_f32: f32, get_f64: f64);
 
     /// The bit at `offset`; `false` if the struct ends before it.
@@ -201,7 +218,10 @@ impl<'a, M: Meter> Struct<'a, M> {
     /// Pointer `index`; a null pointer if the struct has fewer.
     #[inline]
     pub fn get_pointer(&self, index: usize) -> Pointer<'a, M> {
-        Pointer { raw: self.raw.get_pointer_field(index), meter: self.meter }
+        Pointer {
+            raw: self.raw.get_pointer_field(index),
+            meter: self.meter,
+        }
     }
 
     /// Whether pointer `index` isn't null.

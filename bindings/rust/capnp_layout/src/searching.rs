@@ -24,7 +24,7 @@ struct Refused {
     word: u32,
 }
 
-/// A search, with the path from the root to the pointer where it is.
+/// A search, with the path from the root to the pointer that is read.
 struct Search<'l> {
     lim: &'l mut ReadLimiter,
     /// Whether a capability is refused.
@@ -40,7 +40,10 @@ impl Search<'_> {
             Ok(Target::List(found)) => self.list(found),
             Ok(Target::Null) => Ok(()),
             Ok(Target::Cap(_)) if !self.refuses_capabilities => Ok(()),
-            _ => Err(Refused { segment: from.place.segment, word: from.place.at }),
+            _ => Err(Refused {
+                segment: from.place.segment,
+                word: from.place.at,
+            }),
         }
     }
 
@@ -87,13 +90,23 @@ fn text_of(path: &[Step]) -> String {
     text
 }
 
-/// The error of a check of `root` that was refused with `kind`. `lim` is as it was before the check.
+/// The error of a check of `root` that was refused with `kind`. `lim` is as it was before the
+/// check.
 #[cold]
 pub fn error_of(kind: ErrorKind, root: From<'_>, lim: &mut ReadLimiter) -> Error {
     let refuses_capabilities = kind == ErrorKind::CannotCreateACanonicalMessageWithACapability;
-    let mut search = Search { lim, refuses_capabilities, path: Vec::new() };
+    let mut search = Search {
+        lim,
+        refuses_capabilities,
+        path: Vec::new(),
+    };
     match search.pointer(root) {
-        Err(at) => Error::at(Reason::Layout(kind), text_of(&search.path), at.segment, at.word),
+        Err(at) => Error::at(
+            Reason::Layout(kind),
+            text_of(&search.path),
+            at.segment,
+            at.word,
+        ),
         Ok(()) => kind.into(),
     }
 }

@@ -1,6 +1,8 @@
 //! Where the segments of a message are.
 
-use crate::proved::capnp_arena::arena::{OutputSegments, ReaderArena, ReaderArenaImpl, ReaderSegments, SegmentArray};
+use crate::proved::capnp_arena::arena::{
+    OutputSegments, ReaderArena, ReaderArenaImpl, ReaderSegments, SegmentArray,
+};
 use crate::proved::capnp_framing::framing::{FrameSegments, OwnedSegments};
 use core::iter::FusedIterator;
 
@@ -45,7 +47,7 @@ impl ReaderSegments for Held<'_> {
 /// The arena of every message that is read.
 pub type Arena<'a> = ReaderArenaImpl<Held<'a>>;
 
-/// The segments of a message, each as its bytes.
+/// The segments of a message: the bytes of each.
 #[derive(Clone)]
 pub struct Segments<'m> {
     arena: &'m Arena<'m>,

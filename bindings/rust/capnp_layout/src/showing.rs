@@ -22,15 +22,20 @@ struct PointersOf<'a, M>(Struct<'a, M>);
 
 impl<M: Meter> fmt::Debug for PointersOf<'_, M> {
     fn fmt(&self, f: &mut fmt::Formatter<'_>) -> fmt::Result {
-        f.debug_list().entries((0..self.0.pointer_count()).map(|index| self.0.get_pointer(index.into()))).finish()
+        f.debug_list()
+            .entries((0..self.0.pointer_count()).map(|index| self.0.get_pointer(index.into())))
+            .finish()
     }
 }
 
-/// `Struct { data: 0x7b00000000000000, pointers: [b"Alice\0", null] }`. What can't be read is shown as its error. A lazy reader
-/// charges its message.
+/// `Struct { data: 0x7b00000000000000, pointers: [b"Alice\0", null] }`. What can't be read is shown
+/// as its error. A lazy reader charges its message.
 impl<M: Meter> fmt::Debug for Struct<'_, M> {
     fn fmt(&self, f: &mut fmt::Formatter<'_>) -> fmt::Result {
-        f.debug_struct("Struct").field("data", &Hex(self.data_section())).field("pointers", &PointersOf(*self)).finish()
+        f.debug_struct("Struct")
+            .field("data", &Hex(self.data_section()))
+            .field("pointers", &PointersOf(*self))
+            .finish()
     }
 }
 

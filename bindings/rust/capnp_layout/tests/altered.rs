@@ -1,7 +1,14 @@
-//! Altered messages: readers refuse, and never panic. What is sound is never refused for a limit or a broken pointer.
-use capnp_layout::{Builder, ElementSize, ErrorKind, FrameError, Limits, Lists, Message, Meter, Pointer, Pointers, Reason, Structs, Target};
+//! Altered messages: readers refuse, and never panic. What is sound is never refused for a limit or
+//! a broken pointer.
+use capnp_layout::{
+    Builder, ElementSize, ErrorKind, FrameError, Limits, Lists, Message, Meter, Pointer, Pointers,
+    Reason, Structs, Target,
+};
 
-const MESSAGES: [&[u8]; 2] = [include_bytes!("data/all.bin"), include_bytes!("data/all-segments.bin")];
+const MESSAGES: [&[u8]; 2] = [
+    include_bytes!("data/all.bin"),
+    include_bytes!("data/all-segments.bin"),
+];
 
 /// A generator of numbers: xorshift.
 struct Random(u64);
@@ -31,31 +38,50 @@ impl Random {
     }
 }
 
-/// Reads all that a pointer leads to as what it is, and as what it isn't. Returns the refusals of the first kind.
+/// Reads all that a pointer leads to as what it is, and as what it isn't. Returns the refusals of
+/// the first kind.
 fn read<M: Meter>(from: Pointer<'_, M>, refused: &mut Vec<Reason>) {
-    let (_, _, _, _) = (from.as_text().is_ok(), from.as_list::<u32>().is_ok(), from.as_capability().is_ok(), from.as_list::<Lists<u8>>().is_ok());
+    let (_, _, _, _) = (
+        from.as_text().is_ok(),
+        from.as_list::<u32>().is_ok(),
+        from.as_capability().is_ok(),
+        from.as_list::<Lists<u8>>().is_ok(),
+    );
     match from.target() {
         Ok(Target::Struct(_)) => match from.as_struct() {
-            Ok(found) => (0..found.pointer_count()).for_each(|index| read(found.get_pointer(index.into()), refused)),
+            Ok(found) => (0..found.pointer_count())
+                .for_each(|index| read(found.get_pointer(index.into()), refused)),
             Err(error) => refused.push(error.reason()),
         },
-        Ok(Target::List { size: ElementSize::Pointer, len }) => match from.as_list::<Pointers>() {
+        Ok(Target::List {
+            size: ElementSize::Pointer,
+            len,
+        }) => match from.as_list::<Pointers>() {
             Ok(list) => {
                 assert_eq!(list.len(), len);
                 list.iter().for_each(|it| read(it, refused));
             }
             Err(error) => refused.push(error.reason()),
         },
-        Ok(Target::List { size: ElementSize::InlineComposite, len }) => match from.as_list::<Structs>() {
+        Ok(Target::List {
+            size: ElementSize::InlineComposite,
+            len,
+        }) => match from.as_list::<Structs>() {
             Ok(list) => {
                 assert_eq!(list.len(), len);
                 for it in list {
-                    (0..it.pointer_count()).for_each(|index| read(it.get_pointer(index.into()), refused));
+                    (0..it.pointer_count())
+                        .for_each(|index| read(it.get_pointer(index.into()), refused));
                 }
             }
             Err(error) => refused.push(error.reason()),
         },
-        Ok(Target::List { size: ElementSize::Bit, .. }) => assert!(from.as_list::<bool>().map_or(true, |it| it.iter().count() == it.len())),
+        Ok(Target::List {
+            size: ElementSize::Bit,
+            ..
+        }) => assert!(from
+            .as_list::<bool>()
+            .map_or(true, |it| it.iter().count() == it.len())),
         Ok(_) => {}
         Err(error) => refused.push(error.reason()),
     }
@@ -74,10 +100,17 @@ fn try_message(message: &Message<'_>) -> bool {
         let mut copy = Builder::new();
         copy.set_root_pointer(root);
         assert!(copy.refused().is_none());
-        assert_eq!(copy.as_message().unwrap().canonical().ok(), message.canonical().ok());
+        assert_eq!(
+            copy.as_message().unwrap().canonical().ok(),
+            message.canonical().ok()
+        );
         assert!(format!("{root:?}").len() < 1_000_000);
     } else if let Err(error) = &sound {
-        assert!(error.path().is_some() || error.reason() == Reason::Layout(ErrorKind::InvalidSegmentId(0)), "{error}");
+        assert!(
+            error.path().is_some()
+                || error.reason() == Reason::Layout(ErrorKind::InvalidSegmentId(0)),
+            "{error}"
+        );
     }
     if let Ok(root) = message.lazy_pointer() {
         read(root, &mut refused);
@@ -87,7 +120,10 @@ fn try_message(message: &Message<'_>) -> bool {
 }
 
 fn run(count: usize) {
-    let limits = Limits { words: 4000, depth: 16 };
+    let limits = Limits {
+        words: 4000,
+        depth: 16,
+    };
     let mut random = Random(0x9e37_79b9_7f4a_7c15);
     let mut sound = 0;
     for n in 0..count {
@@ -99,7 +135,10 @@ fn run(count: usize) {
         let words = &bytes[8..];
         sound += usize::from(try_message(&Message::from_words(words, limits).unwrap()));
     }
-    assert!(count / 10 < sound && sound < 2 * count, "{sound} of {count}");
+    assert!(
+        count / 10 < sound && sound < 2 * count,
+        "{sound} of {count}"
+    );
 }
 
 #[test]
@@ -115,9 +154,26 @@ fn altered_packed_bytes() {
         let mut bytes = packed.to_vec();
         let at = random.below(bytes.len());
         bytes[at] ^= 1 << random.below(8);
-        match Message::open_packed(&bytes, Limits { words: 4000, depth: 16 }) {
+        match Message::open_packed(
+            &bytes,
+            Limits {
+                words: 4000,
+                depth: 16,
+            },
+        ) {
             Ok(message) => drop(try_message(&message)),
-            Err(error) => assert!(matches!(error.reason(), Reason::TrailingBytes(_) | Reason::Frame(FrameError::Truncated | FrameError::MessageTooLong(_) | FrameError::TooManySegments(_))), "{error}"),
+            Err(error) => assert!(
+                matches!(
+                    error.reason(),
+                    Reason::TrailingBytes(_)
+                        | Reason::Frame(
+                            FrameError::Truncated
+                                | FrameError::MessageTooLong(_)
+                                | FrameError::TooManySegments(_)
+                        )
+                ),
+                "{error}"
+            ),
         }
     }
 }
