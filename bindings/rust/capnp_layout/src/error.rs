@@ -182,7 +182,7 @@ impl PartialEq for Error {
 impl Eq for Error {}
 
 impl From<Reason> for Error {
-    #[inline]
+    #[cold]
     fn from(reason: Reason) -> Self {
         Error {
             reason,
@@ -192,7 +192,7 @@ impl From<Reason> for Error {
 }
 
 impl From<ErrorKind> for Error {
-    #[inline]
+    #[cold]
     fn from(kind: ErrorKind) -> Self {
         Reason::Layout(kind).into()
     }

@@ -33,7 +33,7 @@ pub struct List<'a, T: ?Sized, M = Sound> {
 }
 
 impl<T: ?Sized, M: Copy> Clone for List<'_, T, M> {
-    #[inline]
+    #[inline(always)]
     fn clone(&self) -> Self {
         *self
     }
@@ -52,19 +52,19 @@ impl<'a, T: Element + ?Sized, M: Meter> List<'a, T, M> {
     }
 
     /// The number of elements.
-    #[inline]
+    #[inline(always)]
     pub fn len(&self) -> usize {
         self.raw.len() as usize
     }
 
     /// Whether there are no elements.
-    #[inline]
+    #[inline(always)]
     pub fn is_empty(&self) -> bool {
         self.len() == 0
     }
 
     /// Element `index`; `None` if there is no such element.
-    #[inline]
+    #[inline(always)]
     pub fn get(&self, index: usize) -> Option<T::Item<'a, M>> {
         if index < self.len() {
             Some(T::read(&self.raw, self.meter, index as u32))
@@ -74,7 +74,7 @@ impl<'a, T: Element + ?Sized, M: Meter> List<'a, T, M> {
     }
 
     /// Element `index`. Panics if there is no such element, like `[]` of a slice.
-    #[inline]
+    #[inline(always)]
     #[track_caller]
     pub fn at(&self, index: usize) -> T::Item<'a, M> {
         match self.get(index) {
@@ -84,7 +84,7 @@ impl<'a, T: Element + ?Sized, M: Meter> List<'a, T, M> {
     }
 
     /// The elements, in order.
-    #[inline]
+    #[inline(always)]
     pub fn iter(&self) -> Iter<'a, T, M> {
         Iter {
             list: *self,
@@ -105,7 +105,7 @@ impl<'a, T: Element + ?Sized, M: Meter> IntoIterator for List<'a, T, M> {
     type Item = T::Item<'a, M>;
     type IntoIter = Iter<'a, T, M>;
 
-    #[inline]
+    #[inline(always)]
     fn into_iter(self) -> Iter<'a, T, M> {
         self.iter()
     }
@@ -115,7 +115,7 @@ impl<'a, T: Element + ?Sized, M: Meter> IntoIterator for &List<'a, T, M> {
     type Item = T::Item<'a, M>;
     type IntoIter = Iter<'a, T, M>;
 
-    #[inline]
+    #[inline(always)]
     fn into_iter(self) -> Iter<'a, T, M> {
         self.iter()
     }
@@ -165,7 +165,7 @@ where
 impl<'a, T: Element + ?Sized, M: Meter> Iterator for Iter<'a, T, M> {
     type Item = T::Item<'a, M>;
 
-    #[inline]
+    #[inline(always)]
     fn next(&mut self) -> Option<Self::Item> {
         if self.next == self.end {
             return None;
@@ -175,13 +175,13 @@ impl<'a, T: Element + ?Sized, M: Meter> Iterator for Iter<'a, T, M> {
         Some(T::read(&self.list.raw, self.list.meter, index))
     }
 
-    #[inline]
+    #[inline(always)]
     fn size_hint(&self) -> (usize, Option<usize>) {
         let left = (self.end - self.next) as usize;
         (left, Some(left))
     }
 
-    #[inline]
+    #[inline(always)]
     fn nth(&mut self, n: usize) -> Option<Self::Item> {
         self.next += n.min((self.end - self.next) as usize) as u32;
         self.next()
@@ -189,7 +189,7 @@ impl<'a, T: Element + ?Sized, M: Meter> Iterator for Iter<'a, T, M> {
 }
 
 impl<T: Element + ?Sized, M: Meter> DoubleEndedIterator for Iter<'_, T, M> {
-    #[inline]
+    #[inline(always)]
     fn next_back(&mut self) -> Option<Self::Item> {
         if self.next == self.end {
             return None;

@@ -47,32 +47,32 @@ fn text_of(bytes: &[u8]) -> Result<&str, Error> {
 
 impl<'a, M: Meter> Pointer<'a, M> {
     /// Whether the pointer is null.
-    #[inline]
+    #[inline(always)]
     pub fn is_null(&self) -> bool {
         self.raw.is_null()
     }
 
     /// The text; `""` if the pointer is null.
-    #[inline]
+    #[inline(always)]
     pub fn as_text(&self) -> Result<&'a str, Error> {
         text_of(self.as_text_bytes()?)
     }
 
     /// The bytes of the text, which needn't be UTF-8, without the zero byte at its end; none if the
     /// pointer is null.
-    #[inline]
+    #[inline(always)]
     pub fn as_text_bytes(&self) -> Result<&'a [u8], Error> {
         Ok(self.meter.charge(|lim| self.raw.get_text(lim, None))?)
     }
 
     /// The data; no bytes if the pointer is null.
-    #[inline]
+    #[inline(always)]
     pub fn as_data(&self) -> Result<&'a [u8], Error> {
         Ok(self.meter.charge(|lim| self.raw.get_data(lim, None))?)
     }
 
     /// The struct; one without fields if the pointer is null.
-    #[inline]
+    #[inline(always)]
     pub fn as_struct(&self) -> Result<Struct<'a, M>, Error> {
         let raw = self.meter.charge(|lim| self.raw.get_struct(lim, None))?;
         Ok(Struct {
@@ -83,7 +83,7 @@ impl<'a, M: Meter> Pointer<'a, M> {
 
     /// The list; one without elements if the pointer is null. Its elements may be wider than `T`,
     /// or structs that begin with a `T` in a newer schema (encoding specification, "Lists").
-    #[inline]
+    #[inline(always)]
     pub fn as_list<T: Element + ?Sized>(&self) -> Result<List<'a, T, M>, Error> {
         let raw = self
             .meter
@@ -173,7 +173,7 @@ macro_rules! get_numbers {
         $(
             #[doc = concat!("The `", stringify!($t), "` at `offset`, counted in numbers of this")]
             /// size; 0 if the struct ends before it.
-            #[inline]
+            #[inline(always)]
             pub fn $name(&self, offset: usize) -> $t {
                 self.get(offset)
             }
@@ -193,14 +193,14 @@ impl<'a, M: Meter> Struct<'a, M> {
     }
 
     /// The number at `offset`, counted in numbers of this size; 0 if the struct ends before it.
-    #[inline]
+    #[inline(always)]
     pub fn get<T: Number>(&self, offset: usize) -> T {
         T::from_bits(self.raw.get_data_field(offset))
     }
 
     /// The number at `offset` of a field whose default value is `default`: the exclusive or of
     /// both.
-    #[inline]
+    #[inline(always)]
     pub fn get_or<T: Number>(&self, offset: usize, default: T) -> T {
         T::masked(self.get(offset), default)
     }
@@ -210,13 +210,13 @@ impl<'a, M: Meter> Struct<'a, M> {
     get_numbers!(get_f32: f32, get_f64: f64);
 
     /// The bit at `offset`; `false` if the struct ends before it.
-    #[inline]
+    #[inline(always)]
     pub fn get_bool(&self, offset: usize) -> bool {
         self.raw.get_bool_field(offset)
     }
 
     /// Pointer `index`; a null pointer if the struct has fewer.
-    #[inline]
+    #[inline(always)]
     pub fn get_pointer(&self, index: usize) -> Pointer<'a, M> {
         Pointer {
             raw: self.raw.get_pointer_field(index),
@@ -225,43 +225,43 @@ impl<'a, M: Meter> Struct<'a, M> {
     }
 
     /// Whether pointer `index` isn't null.
-    #[inline]
+    #[inline(always)]
     pub fn has(&self, index: usize) -> bool {
         !self.raw.is_pointer_field_null(index)
     }
 
     /// The text of pointer `index`; `""` if it is null.
-    #[inline]
+    #[inline(always)]
     pub fn get_text(&self, index: usize) -> Result<&'a str, Error> {
         self.get_pointer(index).as_text()
     }
 
     /// The bytes of the text of pointer `index`, which needn't be UTF-8; none if it is null.
-    #[inline]
+    #[inline(always)]
     pub fn get_text_bytes(&self, index: usize) -> Result<&'a [u8], Error> {
         self.get_pointer(index).as_text_bytes()
     }
 
     /// The data of pointer `index`; no bytes if it is null.
-    #[inline]
+    #[inline(always)]
     pub fn get_data(&self, index: usize) -> Result<&'a [u8], Error> {
         self.get_pointer(index).as_data()
     }
 
     /// The struct of pointer `index`; one without fields if it is null.
-    #[inline]
+    #[inline(always)]
     pub fn get_struct(&self, index: usize) -> Result<Struct<'a, M>, Error> {
         self.get_pointer(index).as_struct()
     }
 
     /// The list of pointer `index`; one without elements if it is null. See [`Pointer::as_list`].
-    #[inline]
+    #[inline(always)]
     pub fn get_list<T: Element + ?Sized>(&self, index: usize) -> Result<List<'a, T, M>, Error> {
         self.get_pointer(index).as_list()
     }
 
     /// The list of structs of pointer `index`; one without elements if it is null.
-    #[inline]
+    #[inline(always)]
     pub fn get_structs(&self, index: usize) -> Result<List<'a, Structs, M>, Error> {
         self.get_list(index)
     }
