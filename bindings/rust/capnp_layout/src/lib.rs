@@ -70,6 +70,8 @@ mod meter;
 mod opening;
 #[doc(hidden)]
 #[allow(missing_docs, clippy::all)]
+// In the repository; a package has the modules in `src/proved`, and not this line.
+#[path = "../../../../generated/rust/src/proved/mod.rs"]
 pub mod proved;
 mod reading;
 mod searching;
