@@ -6,7 +6,7 @@ use Rattle.std.proofs.lemmas.Bool.Decides.{eqb_tells, nat_tests}
 use Rattle.std.proofs.lemmas.List.{drop_all, length-replicate, replicate-append-replicate, take-append-drop, take_rest}
 use borrow.Rule.Slice.PartMut.{put_mid}
 use Rattle.capnp_packing.specs.Packing.{GivesAndLeads, all_given, byte_given, lead, place_after, place_at_end, place_within, unpacked_bytes, zeros_given}
-use Rattle.capnp_packing.specs.Pieces.{Piece, UnpacksNext, piece_of, taken_of, takes_next, unpacked_piece}
+use Rattle.capnp_packing.specs.Pieces.{Piece, UnpacksNext, bytes_due, piece_of, taken_of, takes_next, unpacked_piece}
 use Rattle.capnp_packing.specs.Words.{UnpacksFront}
 use Rattle.capnp_packing.proofs.SliceLemmas.{given_as}
 use Rattle.capnp_packing.proofs.UnitLemmas.{cons_at, length_front, written}
@@ -459,6 +459,28 @@ reached_end due first packed to done r stop =
     (sym (ap (take (length to)) given ∙ cut done.given done.zeros to r.within r.full))
     (left_over done.given done.zeros (length to) r.within r.full ∙ ap (λ m. m - length to) (sym (ap length given ∙ size)))
     (sym (ap (λ m. place_at_end first (take m packed)) n ∙ r.place))
+
+-- what is still to be written after these bytes, and where the packed bytes end
+pub reached_rest : (due : ℕ) (first : Place) (packed to : List ℕ) (done : Progress) → Reached due first packed to done
+    → bytes_due due first packed ≡ take done.given to ++ bytes_due done.zeros done.place (drop done.taken packed)
+reached_rest due first packed to done r =
+    let front : List ℕ = take done.taken packed in
+    let behind : List ℕ = drop done.taken packed in
+    let more : List ℕ = unpacked_bytes (place_at_end first front) behind in
+    ap (λ (xs : List ℕ). replicate due 0 ++ unpacked_bytes first xs) (sym (take-append-drop done.taken packed))
+    ∙ ap (λ (xs : List ℕ). replicate due 0 ++ xs) (unpacked-append first front behind)
+    ∙ sym (append_assoc (replicate due 0) (unpacked_bytes first front) more)
+    ∙ ap (λ (xs : List ℕ). xs ++ more) r.bytes
+    ∙ append_assoc (take done.given to) (replicate done.zeros 0) more
+    ∙ ap (λ (p : Place). take done.given to ++ (replicate done.zeros 0 ++ unpacked_bytes p behind)) r.place
+
+pub reached_place : (due : ℕ) (first : Place) (packed to : List ℕ) (done : Progress) → Reached due first packed to done
+    → place_at_end done.place (drop done.taken packed) ≡ place_at_end first packed
+reached_place due first packed to done r =
+    let front : List ℕ = take done.taken packed in
+    let behind : List ℕ = drop done.taken packed in
+    ap (λ (p : Place). place_at_end p behind) (sym r.place) ∙ sym (place_at_end-append first front behind)
+    ∙ ap (place_at_end first) (take-append-drop done.taken packed)
 
 pub none_due : (given zeros room : ℕ) (place : Place) → (zeros ≢ 0 → given ≡ room)
     → takes_next room (given + zeros) place ≡ true → zeros ≡ 0

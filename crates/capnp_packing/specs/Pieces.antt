@@ -26,6 +26,11 @@ taken_of room had place (b ∷ bytes) =
     then suc (taken_of room (had + length (all_given place b)) (place_after place b) bytes)
     else 0
 
+-- What is still to be written: `zeros` zero bytes, and then what the packed bytes unpack to from
+-- `place` on.
+abbrev pub bytes_due : ℕ → Place → List ℕ → List ℕ
+bytes_due zeros place packed = replicate zeros 0 ++ unpacked_bytes place packed
+
 -- What one call unpacks: how many packed bytes it takes, the bytes that it writes, how many zero
 -- bytes come after them, and the place of the next packed byte.
 pub record Piece : Type 0 where

@@ -132,7 +132,15 @@ impl<W: Output> Output for PackingOutput<W> {
 impl<W: BufferedOutput> BufferedOutput for PackingOutput<W> {
     ghost kept = { λ p. (p.end - p.sent) + W.kept p.packed };
 
-    fn flush(&mut self) -> Result<(), DeviceFault> {
+    fn flush(&mut self) -> Result<(), DeviceFault>
+        ensures bytes { Keeps (⟦<Self as Output>⟧.contents self.old)
+            (⟦<Self as Output>⟧.contents self.new) }
+        ensures none { OnOk result (⟦<Self as BufferedOutput>⟧.kept self.new ≡ 0) }
+        ensures works { OnOk result
+            (⟦<Self as Output>⟧.has_failed self.new ≡ ⟦<Self as Output>⟧.has_failed self.old) }
+        ensures fails { OnErr result (⟦<Self as Output>⟧.has_failed self.new ≡ true) }
+        ensures cause { OnErr result (W.has_failed self.new.packed ≡ true) }
+    {
         self.write_pending()?;
         if self.packed.flush().is_err() {
             self.failed = true;

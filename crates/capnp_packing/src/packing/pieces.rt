@@ -1,6 +1,7 @@
 //! Unpacks a packed stream piece by piece (encoding specification, "Packing").
-ghost use Rattle.std.specs.Prelude.{◌≡◌, ◌≢◌, ◌≤◌, ◌<◌, ◌+◌, ◌&&◌, ◌∷◌, [], length, take, replicate, nat_lt, true};
-ghost use Rattle.capnp_packing.specs.Pieces.{UnpacksNext, is_before_count, piece_of, takes_next, taken_of, unpacked_piece};
+ghost use Rattle.std.specs.Prelude.{◌≡◌, ◌≢◌, ◌≤◌, ◌<◌, ◌+◌, ◌++◌, ◌&&◌, ◌∷◌, [], length, take, drop, replicate, nat_lt, true};
+ghost use Rattle.capnp_packing.specs.Packing.{place_at_end};
+ghost use Rattle.capnp_packing.specs.Pieces.{UnpacksNext, bytes_due, is_before_count, piece_of, takes_next, taken_of, unpacked_piece};
 
 use super::place::{Place, step};
 use super::unpacking::{Progress, UNIT, fill_with_zeros, place_after_raw, unpack_words};
@@ -109,6 +110,10 @@ fn takes_more(done: Progress, packed: &[u8], room: usize) -> bool
 /// another.
 pub fn unpack_piece(zeros: u16, place: Place, packed: &[u8], to: &mut [u8]) -> Progress
     ensures piece { piece_of result to.new ≡ unpacked_piece (length to.old) zeros place packed.now }
+    ensures rest { bytes_due zeros place packed.now ≡ take result.given to.new
+        ++ bytes_due result.zeros result.place (drop result.taken packed.now) }
+    ensures end { place_at_end result.place (drop result.taken packed.now)
+        ≡ place_at_end place packed.now }
     ensures taken { result.taken ≤ length packed.now }
     ensures within { result.given ≤ length to.new }
 {

@@ -1,7 +1,7 @@
 use Rattle.std.proofs.Common.{◌≡◌, ◌-◌, ◌+◌, ◌∙◌, length, drop, sym, ap, arith, true, nat_lt, length-drop, length-take}
 use Rattle.std.proofs.lemmas.Bool.{and_parts}
 use Rattle.capnp_packing.specs.Pieces.{takes_next, unpacked_piece}
-use Rattle.capnp_packing.proofs.PieceLemmas.{none_due, reached_end, reached_first, reached_more}
+use Rattle.capnp_packing.proofs.PieceLemmas.{none_due, reached_end, reached_first, reached_more, reached_place, reached_rest}
 use Rattle.capnp_packing.proofs.packing.pieces.unpack_piece.Goals as goal
 
 pub loop-to-init : goal.loop-to-init
@@ -24,3 +24,9 @@ returns-clause-piece c =
     let same : length c.loop-to.to ≡ length c.args.to.now = omega (arith, c.loop-to.auto.to, c.unpack_zeros_due-done.auto.to) in
     reached_end c.args.zeros c.args.place c.args.packed.now c.loop-to.to c.loop-to.done c.loop-to.invariant (sym c.takes_more.ensures ∙ c.loop-to-test.false)
     ∙ ap (λ n. unpacked_piece n c.args.zeros c.args.place c.args.packed.now) same
+
+pub returns-clause-rest : goal.returns-clause-rest
+returns-clause-rest c = reached_rest c.args.zeros c.args.place c.args.packed.now c.loop-to.to c.loop-to.done c.loop-to.invariant
+
+pub returns-clause-end : goal.returns-clause-end
+returns-clause-end c = reached_place c.args.zeros c.args.place c.args.packed.now c.loop-to.to c.loop-to.done c.loop-to.invariant
