@@ -29,7 +29,7 @@ use Rattle.capnp_messages.specs.declared.messages.command.Form.{Form}
 use Rattle.capnp_messages.specs.declared.messages.command.Form.TheVariants.{Framed, Flat}
 use Rattle.capnp_messages.proofs.AnsweredLemmas.{answer_refused, check_alone, check_refused, size_refused}
 use Rattle.capnp_messages.proofs.FramesLemmas.{no_bytes_begin}
-use Rattle.capnp_canonical.specs.Calls.{AreWholeWords, Fills, InFrame, IsCopyOf, IsGranted, IsOneSegment, RefusesBytes, RefusesMeaning, RefusesRoom, RefusesSegments, RefusesSegment, TestFinds, TestIs, no_fault, table_bytes, c_fault}
+use Rattle.capnp_canonical.specs.Calls.{AreWholeWords, Fills, InFrame, IsCopyOf, IsGranted, IsNoRoom, IsOneSegment, RefusesBytes, RefusesMeaning, RefusesRoom, RefusesSegments, RefusesSegment, TestFinds, TestIs, no_fault, table_bytes, c_fault}
 use Rattle.capnp_canonical.specs.Numbers.{answer_number}
 use Rattle.capnp_canonical.specs.declared.fault.Fault.{Fault}
 use Rattle.capnp_canonical.specs.declared.refusal.Refusal.{Refusal}
@@ -92,6 +92,11 @@ pub where_words : (bytes : List ℕ) {r : Refusal} {P Q X : Type 0} → (P → Q
 where_words bytes both (inl (inl (named, uneven))) (one, q) = absurd (uneven one.0)
 where_words bytes both (inl (inr (named, large))) (one, q) = absurd (large one.1)
 where_words bytes both (inr (same, p)) (one, q) = both p q
+
+-- If bytes begin with a message for which P holds, P holds for the one that was found there.
+pub of_framed : {bytes : List ℕ} {words : ℕ} {S : Segments} {P : Segments → Type 0} →
+    BeginsWithFrame bytes words S → InFrame bytes words P → P S
+of_framed {P = P} begins (T, there, p) = subst P (same_message there begins) p
 
 -- what the test of a message finds, and what is reported about it
 pub test_finds : (limits : ReaderOptions) (S : Segments) (o : Option CanonicalFault) →
@@ -159,3 +164,18 @@ size_granted limits S (k, named, refused) has = size_refused S limits has refuse
 pub frame_granted : {bytes : List ℕ} {words : ℕ} {r : Refusal} {P : Segments → Type 0} →
     RefusesBytes bytes words r → InFrame bytes words P → ⊥
 frame_granted none (S, begins, p) = frame_begins none begins
+
+-- nor one that requires only segments, or the words of one
+pub lent_granted : (segments : List (Bor (List ℕ))) {r : Refusal} {P : Type 0} →
+    RefusesSegments segments r → AreWholeWords segments × AreSmall segments × P → ⊥
+lent_granted segments (inl (named, uneven)) (whole, small, p) = uneven whole
+lent_granted segments (inr (named, large)) (whole, small, p) = large small
+
+pub words_granted : (bytes : List ℕ) {r : Refusal} {P : Type 0} →
+    RefusesSegment bytes r → IsOneSegment bytes × P → ⊥
+words_granted bytes (inl (named, uneven)) (one, p) = uneven one.0
+words_granted bytes (inr (named, large)) (one, p) = large one.1
+
+-- the number of a refusal for lack of room
+pub no_room_is : {r : Refusal} → IsNoRoom r → answer_number r ≡ 1
+no_room_is (size, named) = ap answer_number named

@@ -137,6 +137,10 @@ IsNumberWhere number P = (r : Refusal) × (number ≡ answer_number r) × P r
 abbrev pub IsGranted : ℕ → Type 0
 IsGranted number = (number ≡ 0) ⊎ (number ≡ 1) ⊎ (number ≡ 32)
 
+-- The buffer has no room for a copy.
+abbrev pub IsNoRoom : Refusal → Type 0
+IsNoRoom r = (size : ℕ) × (r ≡ NoRoom size)
+
 -- The number of bytes of the table of a frame of one segment, in this form.
 abbrev pub table_bytes : Form → ℕ
 table_bytes Framed = 8

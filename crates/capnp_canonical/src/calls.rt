@@ -8,7 +8,8 @@ ghost use Rattle.capnp_framing.specs.Frames.{bytes_of_words, frame};
 ghost use Rattle.capnp_messages.specs.Messages.{HasSizeOf, arena_limits};
 ghost use Rattle.capnp_messages.specs.Commands.{form_bytes};
 ghost use Rattle.capnp_messages.specs.declared.messages.command.Command.{Command};
-ghost use Rattle.capnp_canonical.specs.Calls.{Fills, IsCopyOf, RefusesMeaning, RefusesRoom, TestFinds, limits_of, table_bytes};
+ghost use Rattle.capnp_messages.specs.SmallCopies.{NeedsNoHeap};
+ghost use Rattle.capnp_canonical.specs.Calls.{Fills, IsCopyOf, IsNoRoom, RefusesMeaning, RefusesRoom, TestFinds, limits_of, table_bytes};
 ghost use Rattle.capnp_canonical.specs.declared.refusal.Refusal.{Refusal};
 
 use crate::refusal::Refusal;
@@ -142,6 +143,9 @@ fn copy_small<S: ReaderSegments>(
     ensures refused { IfErr result (RefusesRoom form
         (arena_limits source.now.nesting_limit traversal_limit_in_words) (length to.old)
         (message (⟦<ReaderArenaImpl<S> as ReaderArena>⟧.segments source.now))) }
+    ensures lent { NeedsNoHeap (arena_limits source.now.nesting_limit traversal_limit_in_words)
+        (message (⟦<ReaderArenaImpl<S> as ReaderArena>⟧.segments source.now))
+        → IfErr result IsNoRoom }
 {
     let mut memory = [0u8; SMALL];
     let mut made = BuilderArenaImpl::new(alloc, LentMemory::new(memory.as_mut_slice()));
@@ -199,6 +203,8 @@ pub fn copy<S: ReaderSegments + Drop>(
         (message (S.segments segments))) }
     ensures refused { IfErr result
         (RefusesRoom form limits (length to.old) (message (S.segments segments))) }
+    ensures lent { NeedsNoHeap limits (message (S.segments segments))
+        → IfErr result IsNoRoom }
 {
     let source = ReaderArenaImpl::new(segments, limits);
     if source.size_in_words() < SMALL / 8 {

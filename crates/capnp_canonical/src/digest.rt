@@ -1,10 +1,11 @@
 //! The SHA-256 of a message's canonical words, for any type that holds the message's segments.
-ghost use Rattle.std.specs.Prelude.{IfErr, IfOk};
+ghost use Rattle.std.specs.Prelude.{IfErr, IfOk, IsOk};
 ghost use Rattle.capnp_format.specs.Bytes.{message};
 ghost use Rattle.capnp_arena_traits.specs.Limits.{IsSmall};
 ghost use Rattle.capnp_messages.specs.Digests.{IsDigestOf};
 ghost use Rattle.capnp_messages.specs.declared.messages.command.Command.{Command};
 ghost use Rattle.capnp_messages.specs.declared.messages.command.Form.{Form};
+ghost use Rattle.capnp_messages.specs.SmallCopies.{NeedsNoHeap};
 ghost use Rattle.capnp_canonical.specs.Calls.{RefusesMeaning};
 
 use crate::refusal::Refusal;
@@ -25,6 +26,7 @@ pub fn digest<S: ReaderSegments + Drop>(
     ensures digest { IfOk result (IsDigestOf (message (S.segments segments)) limits) }
     ensures refused { IfErr result (RefusesMeaning (Command.Canon Form.Flat) limits
         (message (S.segments segments))) }
+    ensures lent { NeedsNoHeap limits (message (S.segments segments)) → IsOk result }
 {
     let source = ReaderArenaImpl::new(segments, limits);
     let allocator = HeapAllocator::new(alloc, 0);

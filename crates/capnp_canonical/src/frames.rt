@@ -1,6 +1,6 @@
 //! Copies, tests, measures and hashes the message whose frame is at the front of a buffer (encoding
 //! specification, "Serialization Over a Stream").
-ghost use Rattle.std.specs.Prelude.{◌≡◌, ◌⊎◌, length, Ok, IfOk, IfErr};
+ghost use Rattle.std.specs.Prelude.{◌≡◌, ◌⊎◌, length, Ok, IfOk, IfErr, IsOk};
 ghost use Rattle.capnp_format.specs.Bytes.{message};
 ghost use Rattle.capnp_arena_traits.specs.Limits.{IsSmall};
 ghost use Rattle.capnp_framing.specs.Flat.{BeginsWithFrame};
@@ -10,7 +10,8 @@ ghost use Rattle.capnp_messages.specs.Messages.{HasSizeOf};
 ghost use Rattle.capnp_messages.specs.Digests.{IsDigestOf};
 ghost use Rattle.capnp_messages.specs.declared.messages.command.Command.{Command};
 ghost use Rattle.capnp_messages.specs.declared.messages.command.Form.{Form};
-ghost use Rattle.capnp_canonical.specs.Calls.{Fills, InFrame, IsCopyOf, RefusesBytes, RefusesMeaning, RefusesPrefix, RefusesRoom, TestFinds, limits_of};
+ghost use Rattle.capnp_messages.specs.SmallCopies.{NeedsNoHeap};
+ghost use Rattle.capnp_canonical.specs.Calls.{Fills, InFrame, IsCopyOf, IsNoRoom, RefusesBytes, RefusesMeaning, RefusesPrefix, RefusesRoom, TestFinds, limits_of};
 
 use crate::calls::{Limits, check, copy, size};
 use crate::digest::digest;
@@ -52,6 +53,8 @@ pub fn copy_frame(
     ensures refused { IfErr result (λ r. RefusesBytes frame.now limits.words r
         ⊎ InFrame frame.now limits.words
         (λ S. RefusesRoom form (limits_of limits.nesting limits.words) (length to.old) S r)) }
+    ensures lent { InFrame frame.now limits.words
+        (NeedsNoHeap (limits_of limits.nesting limits.words)) → IfErr result IsNoRoom }
 {
     let segments = message_in(frame, limits.words)?;
     copy(alloc, form, segments, limits.options(), to)
@@ -113,6 +116,8 @@ pub fn digest_frame(alloc: Global, frame: &[u8], limits: Limits) -> Result<[u8; 
     ensures refused { IfErr result (λ r. RefusesBytes frame.now limits.words r
         ⊎ InFrame frame.now limits.words (λ S. RefusesMeaning (Command.Canon Form.Flat)
         (limits_of limits.nesting limits.words) S r)) }
+    ensures lent { InFrame frame.now limits.words
+        (NeedsNoHeap (limits_of limits.nesting limits.words)) → IsOk result }
 {
     let segments = message_in(frame, limits.words)?;
     digest(alloc, segments, limits.options())

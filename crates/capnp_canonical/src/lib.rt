@@ -20,6 +20,7 @@ ghost use Rattle.capnp_messages.specs.declared.messages.command.Command.{Command
 ghost use Rattle.capnp_messages.specs.declared.messages.command.Form.{Form};
 ghost use Rattle.capnp_packing.specs.Packing.{IsWhole, Packs, unpacked_bytes};
 ghost use Rattle.capnp_packing.specs.Pieces.{unpacked_piece};
+ghost use Rattle.capnp_messages.specs.SmallCopies.{NeedsNoHeap};
 ghost use Rattle.capnp_canonical.specs.Calls.{FillsByNumber, InFrame, IsCopyOf, IsGranted, IsNumberWhere, RefusesBytes, RefusesMeaning, RefusesPacked, RefusesPrefix, RefusesRoom, TestIs, limits_of, no_fault};
 ghost use Rattle.capnp_canonical.specs.Validation.{ExtentIs, RefusesExtent, no_extent};
 ghost use Rattle.capnp_canonical.specs.Pieces.{next_place, unpacking_at, written_piece};
@@ -85,6 +86,8 @@ pub extern "C" fn capnp_canonical_copy(
     ensures enough { (n caps : ℕ) → InFrame frame.now words
         (λ S. HasSizeOf S (limits_of nesting words) n caps)
         → 16 + 8 * n ≤ length to.old → result ≢ 1 }
+    ensures lent { InFrame frame.now words (NeedsNoHeap (limits_of nesting words))
+        → (result ≡ 0) ⊎ (result ≡ 1) }
 {
     match copy_frame(alloc, Form::Framed, frame, Limits { nesting, words }, to) {
         Ok(size) => {
@@ -119,6 +122,8 @@ pub extern "C" fn capnp_canonical_copy_flat(
     ensures enough { (n caps : ℕ) → InFrame frame.now words
         (λ S. HasSizeOf S (limits_of nesting words) n caps)
         → 8 + 8 * n ≤ length to.old → result ≢ 1 }
+    ensures lent { InFrame frame.now words (NeedsNoHeap (limits_of nesting words))
+        → (result ≡ 0) ⊎ (result ≡ 1) }
 {
     match copy_frame(alloc, Form::Flat, frame, Limits { nesting, words }, to) {
         Ok(size) => {
@@ -291,6 +296,8 @@ pub extern "C" fn capnp_canonical_digest(
     ensures granted { InFrame frame.now words
         (HasAnswerWithin (Command.Canon Form.Flat) (limits_of nesting words))
         → (result ≡ 0) ⊎ (result ≡ 32) }
+    ensures lent { InFrame frame.now words (NeedsNoHeap (limits_of nesting words))
+        → result ≡ 0 }
 {
     match digest_frame(alloc, frame, Limits { nesting, words }) {
         Ok(made) => {

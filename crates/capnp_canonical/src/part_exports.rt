@@ -1,6 +1,7 @@
 //! The functions for C that work on a part of a message: on the value to which a path leads.
 ghost use Rattle.std.specs.Prelude.{◌≡◌, ◌≢◌, ◌⊎◌, ◌≤◌, ◌+◌, ◌*◌, ℕ, length, replicate, take, drop};
 ghost use Rattle.capnp_messages.specs.MessageParts.{IsDigestOfPart};
+ghost use Rattle.capnp_messages.specs.SmallCopies.{PartNeedsNoHeap};
 ghost use Rattle.capnp_canonical.specs.Calls.{FillsByNumber, InFrame, InSegments, InWords, IsGranted, IsNumberWhere, RefusesBytes, RefusesSegment, RefusesSegments, limits_of};
 ghost use Rattle.capnp_canonical.specs.Parts.{HasPart, HasPartSize, HasPartSizeWithin, IsCopyOfPart, RefusesPartOf, RefusesPartRoom, RefusesPartSize};
 ghost use Rattle.capnp_canonical.specs.Numbers.{wanted_room};
@@ -44,6 +45,8 @@ pub extern "C" fn capnp_canonical_copy_flat_at(
     ensures enough { (n caps : ℕ) → InFrame frame.now words
         (λ S. HasPartSize (limits_of nesting words) path.now S n caps)
         → 8 + 8 * n ≤ length to.old → result ≢ 1 }
+    ensures lent { InFrame frame.now words (PartNeedsNoHeap (limits_of nesting words) path.now)
+        → (result ≡ 0) ⊎ (result ≡ 1) }
 {
     match copy_frame_part(alloc, frame, path, Limits { nesting, words }, to) {
         Ok(size) => {
@@ -76,6 +79,8 @@ pub extern "C" fn capnp_canonical_digest_at(
     ensures none { result ≢ 0 → digest.new ≡ replicate 32 0 }
     ensures granted { InFrame frame.now words (HasPart (limits_of nesting words) path.now)
         → (result ≡ 0) ⊎ (result ≡ 32) }
+    ensures lent { InFrame frame.now words (PartNeedsNoHeap (limits_of nesting words) path.now)
+        → result ≡ 0 }
 {
     match digest_frame_part(alloc, frame, path, Limits { nesting, words }) {
         Ok(made) => {
@@ -142,6 +147,8 @@ pub extern "C" fn capnp_canonical_segments_copy_flat_at(
         (λ S. RefusesPartRoom (limits_of nesting words) path.now (length to.old) S r))) }
     ensures granted { InSegments segments.now (HasPart (limits_of nesting words) path.now)
         → IsGranted result }
+    ensures lent { InSegments segments.now (PartNeedsNoHeap (limits_of nesting words) path.now)
+        → (result ≡ 0) ⊎ (result ≡ 1) }
 {
     match copy_segments_part(alloc, segments, path, Limits { nesting, words }, to) {
         Ok(size) => {
@@ -173,6 +180,8 @@ pub extern "C" fn capnp_canonical_segments_digest_at(
     ensures none { result ≢ 0 → digest.new ≡ replicate 32 0 }
     ensures granted { InSegments segments.now (HasPart (limits_of nesting words) path.now)
         → (result ≡ 0) ⊎ (result ≡ 32) }
+    ensures lent { InSegments segments.now (PartNeedsNoHeap (limits_of nesting words) path.now)
+        → result ≡ 0 }
 {
     match digest_segments_part(alloc, segments, path, Limits { nesting, words }) {
         Ok(made) => {
@@ -238,6 +247,8 @@ pub extern "C" fn capnp_canonical_words_copy_at(
         (λ S. RefusesPartRoom (limits_of nesting words) path.now (length to.old) S r))) }
     ensures granted { InWords bytes.now (HasPart (limits_of nesting words) path.now)
         → IsGranted result }
+    ensures lent { InWords bytes.now (PartNeedsNoHeap (limits_of nesting words) path.now)
+        → (result ≡ 0) ⊎ (result ≡ 1) }
 {
     match copy_words_part(alloc, bytes, path, Limits { nesting, words }, to) {
         Ok(size) => {
@@ -269,6 +280,8 @@ pub extern "C" fn capnp_canonical_words_digest_at(
     ensures none { result ≢ 0 → digest.new ≡ replicate 32 0 }
     ensures granted { InWords bytes.now (HasPart (limits_of nesting words) path.now)
         → (result ≡ 0) ⊎ (result ≡ 32) }
+    ensures lent { InWords bytes.now (PartNeedsNoHeap (limits_of nesting words) path.now)
+        → result ≡ 0 }
 {
     match digest_words_part(alloc, bytes, path, Limits { nesting, words }) {
         Ok(made) => {

@@ -1,11 +1,12 @@
 //! Copies, measures and hashes a part of a message: the value to which a path leads.
 //! Takes the message's frame, its segments, or the words of its only segment.
-ghost use Rattle.std.specs.Prelude.{◌⊎◌, length, IfOk, IfErr};
+ghost use Rattle.std.specs.Prelude.{◌⊎◌, length, IfOk, IfErr, IsOk};
 ghost use Rattle.capnp_format.specs.Bytes.{message};
 ghost use Rattle.capnp_arena_traits.specs.Limits.{IsSmall};
 ghost use Rattle.capnp_messages.specs.MessageParts.{IsDigestOfPart};
 ghost use Rattle.capnp_messages.specs.Messages.{arena_limits};
-ghost use Rattle.capnp_canonical.specs.Calls.{Fills, InFrame, InSegments, InWords, RefusesBytes, RefusesSegment, RefusesSegments, limits_of};
+ghost use Rattle.capnp_messages.specs.SmallCopies.{PartNeedsNoHeap};
+ghost use Rattle.capnp_canonical.specs.Calls.{Fills, InFrame, InSegments, InWords, IsNoRoom, RefusesBytes, RefusesSegment, RefusesSegments, limits_of};
 ghost use Rattle.capnp_canonical.specs.Parts.{HasPartSize, IsCopyOfPart, RefusesPartOf, RefusesPartRoom, RefusesPartSize};
 
 use crate::calls::{Limits, put_flat};
@@ -64,6 +65,9 @@ fn copy_part<S: ReaderSegments>(
     ensures refused { IfErr result (RefusesPartRoom
         (arena_limits source.now.nesting_limit traversal_limit_in_words) path.now (length to.old)
         (message (⟦<ReaderArenaImpl<S> as ReaderArena>⟧.segments source.now))) }
+    ensures lent { PartNeedsNoHeap (arena_limits source.now.nesting_limit traversal_limit_in_words)
+        path.now (message (⟦<ReaderArenaImpl<S> as ReaderArena>⟧.segments source.now))
+        → IfErr result IsNoRoom }
 {
     let mut memory = [0u8; SMALL];
     let mut made = BuilderArenaImpl::new(alloc, LentMemory::new(memory.as_mut_slice()));
@@ -98,6 +102,8 @@ fn copy_at<S: ReaderSegments + Drop>(
     ensures refused { IfErr result
         (RefusesPartRoom (limits_of limits.nesting limits.words) path.now (length to.old)
         (message (S.segments segments))) }
+    ensures lent { PartNeedsNoHeap (limits_of limits.nesting limits.words) path.now
+        (message (S.segments segments)) → IfErr result IsNoRoom }
 {
     let options = limits.options();
     let source = ReaderArenaImpl::new(segments, options);
@@ -118,6 +124,8 @@ fn digest_at<S: ReaderSegments + Drop>(
     ensures refused { IfErr result
         (RefusesPartOf (limits_of limits.nesting limits.words) path.now
         (message (S.segments segments))) }
+    ensures lent { PartNeedsNoHeap (limits_of limits.nesting limits.words) path.now
+        (message (S.segments segments)) → IsOk result }
 {
     let options = limits.options();
     let source = ReaderArenaImpl::new(segments, options);
@@ -165,6 +173,8 @@ pub fn copy_frame_part(
     ensures refused { IfErr result (λ r. RefusesBytes frame.now limits.words r
         ⊎ InFrame frame.now limits.words (λ S. RefusesPartRoom
         (limits_of limits.nesting limits.words) path.now (length to.old) S r)) }
+    ensures lent { InFrame frame.now limits.words
+        (PartNeedsNoHeap (limits_of limits.nesting limits.words) path.now) → IfErr result IsNoRoom }
 {
     let segments = message_in(frame, limits.words)?;
     copy_at(alloc, segments, path, limits, to)
@@ -183,6 +193,8 @@ pub fn digest_frame_part(
     ensures refused { IfErr result (λ r. RefusesBytes frame.now limits.words r
         ⊎ InFrame frame.now limits.words
         (λ S. RefusesPartOf (limits_of limits.nesting limits.words) path.now S r)) }
+    ensures lent { InFrame frame.now limits.words
+        (PartNeedsNoHeap (limits_of limits.nesting limits.words) path.now) → IsOk result }
 {
     let segments = message_in(frame, limits.words)?;
     digest_at(alloc, segments, path, limits)
@@ -215,6 +227,8 @@ pub fn copy_segments_part(
     ensures refused { IfErr result (λ r. RefusesSegments segments.now r
         ⊎ InSegments segments.now (λ S. RefusesPartRoom
         (limits_of limits.nesting limits.words) path.now (length to.old) S r)) }
+    ensures lent { InSegments segments.now
+        (PartNeedsNoHeap (limits_of limits.nesting limits.words) path.now) → IfErr result IsNoRoom }
 {
     let lent = LentSegments::new(segments)?;
     copy_at(alloc, lent, path, limits, to)
@@ -232,6 +246,8 @@ pub fn digest_segments_part(
     ensures refused { IfErr result (λ r. RefusesSegments segments.now r
         ⊎ InSegments segments.now
         (λ S. RefusesPartOf (limits_of limits.nesting limits.words) path.now S r)) }
+    ensures lent { InSegments segments.now
+        (PartNeedsNoHeap (limits_of limits.nesting limits.words) path.now) → IsOk result }
 {
     let lent = LentSegments::new(segments)?;
     digest_at(alloc, lent, path, limits)
@@ -267,6 +283,8 @@ pub fn copy_words_part(
     ensures refused { IfErr result (λ r. RefusesSegment words.now r
         ⊎ InWords words.now (λ S. RefusesPartRoom
         (limits_of limits.nesting limits.words) path.now (length to.old) S r)) }
+    ensures lent { InWords words.now
+        (PartNeedsNoHeap (limits_of limits.nesting limits.words) path.now) → IfErr result IsNoRoom }
 {
     let message = message_of(words)?;
     copy_at(alloc, message, path, limits, to)
@@ -284,6 +302,8 @@ pub fn digest_words_part(
     ensures refused { IfErr result (λ r. RefusesSegment words.now r
         ⊎ InWords words.now
         (λ S. RefusesPartOf (limits_of limits.nesting limits.words) path.now S r)) }
+    ensures lent { InWords words.now
+        (PartNeedsNoHeap (limits_of limits.nesting limits.words) path.now) → IsOk result }
 {
     let message = message_of(words)?;
     digest_at(alloc, message, path, limits)

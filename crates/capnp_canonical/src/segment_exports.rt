@@ -5,6 +5,7 @@ ghost use Rattle.capnp_messages.specs.Messages.{HasSizeOf, IsReadable};
 ghost use Rattle.capnp_messages.specs.Commands.{HasAnswerWithin};
 ghost use Rattle.capnp_messages.specs.declared.messages.command.Command.{Command};
 ghost use Rattle.capnp_messages.specs.declared.messages.command.Form.{Form};
+ghost use Rattle.capnp_messages.specs.SmallCopies.{NeedsNoHeap};
 ghost use Rattle.capnp_canonical.specs.Calls.{FillsByNumber, InSegments, IsCopyOf, IsGranted, IsNumberWhere, RefusesMeaning, RefusesRoom, RefusesSegments, TestIs, limits_of, no_fault};
 ghost use Rattle.capnp_canonical.specs.Validation.{ExtentIs, RefusesExtent, no_extent};
 ghost use Rattle.capnp_canonical.specs.Locating.{PointerIs, no_pointer};
@@ -37,6 +38,8 @@ pub extern "C" fn capnp_canonical_segments_copy(
     ensures granted { InSegments segments.now
         (HasAnswerWithin (Command.Canon Form.Framed) (limits_of nesting words))
         → IsGranted result }
+    ensures lent { InSegments segments.now (NeedsNoHeap (limits_of nesting words))
+        → (result ≡ 0) ⊎ (result ≡ 1) }
 {
     match copy_segments(alloc, Form::Framed, segments, Limits { nesting, words }, to) {
         Ok(size) => {
@@ -69,6 +72,8 @@ pub extern "C" fn capnp_canonical_segments_copy_flat(
     ensures granted { InSegments segments.now
         (HasAnswerWithin (Command.Canon Form.Flat) (limits_of nesting words))
         → IsGranted result }
+    ensures lent { InSegments segments.now (NeedsNoHeap (limits_of nesting words))
+        → (result ≡ 0) ⊎ (result ≡ 1) }
 {
     match copy_segments(alloc, Form::Flat, segments, Limits { nesting, words }, to) {
         Ok(size) => {
@@ -222,6 +227,8 @@ pub extern "C" fn capnp_canonical_segments_digest(
     ensures granted { InSegments segments.now
         (HasAnswerWithin (Command.Canon Form.Flat) (limits_of nesting words))
         → (result ≡ 0) ⊎ (result ≡ 32) }
+    ensures lent { InSegments segments.now (NeedsNoHeap (limits_of nesting words))
+        → result ≡ 0 }
 {
     match digest_segments(alloc, segments, Limits { nesting, words }) {
         Ok(made) => {

@@ -1,11 +1,12 @@
 //! Copies, tests, measures and hashes a message in the caller's segments.
-ghost use Rattle.std.specs.Prelude.{◌≡◌, ◌⊎◌, map, length, IfOk, IfErr};
+ghost use Rattle.std.specs.Prelude.{◌≡◌, ◌⊎◌, map, length, IfOk, IfErr, IsOk};
 ghost use Rattle.capnp_arena_traits.specs.Limits.{AreSmall, IsSmall};
 ghost use Rattle.capnp_messages.specs.Messages.{HasSizeOf};
 ghost use Rattle.capnp_messages.specs.Digests.{IsDigestOf};
 ghost use Rattle.capnp_messages.specs.declared.messages.command.Command.{Command};
 ghost use Rattle.capnp_messages.specs.declared.messages.command.Form.{Form};
-ghost use Rattle.capnp_canonical.specs.Calls.{AreWholeWords, Fills, InSegments, IsCopyOf, RefusesMeaning, RefusesRoom, RefusesSegments, TestFinds, lent_bytes, limits_of};
+ghost use Rattle.capnp_messages.specs.SmallCopies.{NeedsNoHeap};
+ghost use Rattle.capnp_canonical.specs.Calls.{AreWholeWords, Fills, InSegments, IsCopyOf, IsNoRoom, RefusesMeaning, RefusesRoom, RefusesSegments, TestFinds, lent_bytes, limits_of};
 
 use crate::calls::{Limits, check, copy, size};
 use crate::digest::digest;
@@ -84,6 +85,8 @@ pub fn copy_segments(
     ensures refused { IfErr result (λ r. RefusesSegments segments.now r
         ⊎ InSegments segments.now
         (λ S. RefusesRoom form (limits_of limits.nesting limits.words) (length to.old) S r)) }
+    ensures lent { InSegments segments.now
+        (NeedsNoHeap (limits_of limits.nesting limits.words)) → IfErr result IsNoRoom }
 {
     let lent = LentSegments::new(segments)?;
     copy(alloc, form, lent, limits.options(), to)
@@ -125,6 +128,8 @@ pub fn digest_segments(
     ensures refused { IfErr result (λ r. RefusesSegments segments.now r
         ⊎ InSegments segments.now (λ S. RefusesMeaning (Command.Canon Form.Flat)
         (limits_of limits.nesting limits.words) S r)) }
+    ensures lent { InSegments segments.now
+        (NeedsNoHeap (limits_of limits.nesting limits.words)) → IsOk result }
 {
     let lent = LentSegments::new(segments)?;
     digest(alloc, lent, limits.options())

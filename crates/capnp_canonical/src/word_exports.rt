@@ -5,6 +5,7 @@ ghost use Rattle.capnp_messages.specs.Messages.{HasSizeOf, IsReadable};
 ghost use Rattle.capnp_messages.specs.Commands.{HasAnswerWithin};
 ghost use Rattle.capnp_messages.specs.declared.messages.command.Command.{Command};
 ghost use Rattle.capnp_messages.specs.declared.messages.command.Form.{Form};
+ghost use Rattle.capnp_messages.specs.SmallCopies.{NeedsNoHeap};
 ghost use Rattle.capnp_canonical.specs.Calls.{FillsByNumber, InWords, IsCopyOf, IsGranted, IsNumberWhere, RefusesMeaning, RefusesRoom, RefusesSegment, TestIs, limits_of, no_fault};
 ghost use Rattle.capnp_canonical.specs.Validation.{ExtentIs, RefusesExtent, no_extent};
 ghost use Rattle.capnp_canonical.specs.Locating.{PointerIs, no_pointer};
@@ -36,6 +37,8 @@ pub extern "C" fn capnp_canonical_words_copy(
     ensures granted { InWords bytes.now
         (HasAnswerWithin (Command.Canon Form.Flat) (limits_of nesting words))
         → IsGranted result }
+    ensures lent { InWords bytes.now (NeedsNoHeap (limits_of nesting words))
+        → (result ≡ 0) ⊎ (result ≡ 1) }
 {
     match copy_words(alloc, bytes, Limits { nesting, words }, to) {
         Ok(size) => {
@@ -187,6 +190,8 @@ pub extern "C" fn capnp_canonical_words_digest(
     ensures granted { InWords bytes.now
         (HasAnswerWithin (Command.Canon Form.Flat) (limits_of nesting words))
         → (result ≡ 0) ⊎ (result ≡ 32) }
+    ensures lent { InWords bytes.now (NeedsNoHeap (limits_of nesting words))
+        → result ≡ 0 }
 {
     match digest_words(alloc, bytes, Limits { nesting, words }) {
         Ok(made) => {

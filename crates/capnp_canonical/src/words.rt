@@ -1,13 +1,14 @@
 //! Copies, tests, measures and hashes a message given as the words of its only segment, without a
 //! frame.
-ghost use Rattle.std.specs.Prelude.{◌≡◌, ◌⊎◌, ◌∷◌, [], length, IfOk, IfErr};
+ghost use Rattle.std.specs.Prelude.{◌≡◌, ◌⊎◌, ◌∷◌, [], length, IfOk, IfErr, IsOk};
 ghost use Rattle.capnp_arena_traits.specs.Limits.{IsSmall};
 ghost use Rattle.capnp_arena.specs.Output.{output_bytes};
 ghost use Rattle.capnp_messages.specs.Messages.{HasSizeOf};
 ghost use Rattle.capnp_messages.specs.Digests.{IsDigestOf};
 ghost use Rattle.capnp_messages.specs.declared.messages.command.Command.{Command};
 ghost use Rattle.capnp_messages.specs.declared.messages.command.Form.{Form};
-ghost use Rattle.capnp_canonical.specs.Calls.{Fills, InWords, IsCopyOf, IsOneSegment, RefusesMeaning, RefusesRoom, RefusesSegment, TestFinds, limits_of};
+ghost use Rattle.capnp_messages.specs.SmallCopies.{NeedsNoHeap};
+ghost use Rattle.capnp_canonical.specs.Calls.{Fills, InWords, IsCopyOf, IsNoRoom, IsOneSegment, RefusesMeaning, RefusesRoom, RefusesSegment, TestFinds, limits_of};
 
 use crate::calls::{Limits, check, copy, size};
 use crate::digest::digest;
@@ -49,6 +50,8 @@ pub fn copy_words(
     ensures refused { IfErr result (λ r. RefusesSegment words.now r
         ⊎ InWords words.now
         (λ S. RefusesRoom Form.Flat (limits_of limits.nesting limits.words) (length to.old) S r)) }
+    ensures lent { InWords words.now
+        (NeedsNoHeap (limits_of limits.nesting limits.words)) → IfErr result IsNoRoom }
 {
     let message = message_of(words)?;
     copy(alloc, Form::Flat, message, limits.options(), to)
@@ -86,6 +89,8 @@ pub fn digest_words(alloc: Global, words: &[u8], limits: Limits) -> Result<[u8; 
     ensures refused { IfErr result (λ r. RefusesSegment words.now r
         ⊎ InWords words.now (λ S. RefusesMeaning (Command.Canon Form.Flat)
         (limits_of limits.nesting limits.words) S r)) }
+    ensures lent { InWords words.now
+        (NeedsNoHeap (limits_of limits.nesting limits.words)) → IsOk result }
 {
     let message = message_of(words)?;
     digest(alloc, message, limits.options())

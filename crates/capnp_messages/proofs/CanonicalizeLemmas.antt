@@ -170,9 +170,13 @@ pub own_copy_refused : {S : Segments} {limits : ReaderOptions} {r : Reading} {m 
 own_copy_refused {r = r} {m} {left} {k} root same refused =
     at_its_root root (inl (words_unread max_segment_words (to_pointer r) (unused m.left) k (subst (λ (l : Option ℕ). (value canonical r (unused l)).0 ≡ Err k) same refused)))
 
+pub root_needs : {S : Segments} {limits : ReaderOptions} {r : Reading} {m : Meter} {room : ℕ} →
+    AtRoot S limits r m → NeedsMoreRoom (to_pointer r) room → NeedsMoreRoom (to_pointer (root_within S limits)) room
+root_needs {room = room} root more = subst (λ (x : Reading). NeedsMoreRoom (to_pointer x) room) root.place more
+
 pub own_copy_needs : {S : Segments} {limits : ReaderOptions} {r : Reading} {m : Meter} {room : ℕ} {P : Type 0} →
     AtRoot S limits r m → NeedsMoreRoom (to_pointer r) room ⊎ P → NeedsMoreRoom (to_pointer (root_within S limits)) room ⊎ P
-own_copy_needs {room = room} root (inl more) = inl (subst (λ (x : Reading). NeedsMoreRoom (to_pointer x) room) root.place more)
+own_copy_needs root (inl more) = inl (root_needs root more)
 own_copy_needs root (inr other) = inr other
 
 pub both_ok : {A E : Type 0} {P Q R : A → Type 0} (result : Result A E) → IfOk result P → IfOk result Q → ((x : A) → P x → Q x → R x) → IfOk result R

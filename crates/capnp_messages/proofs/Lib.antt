@@ -16,6 +16,7 @@ pub mod ExtentLemmas
 pub mod PathLemmas
 pub mod PartLemmas
 pub mod MessagePartLemmas
+pub mod SmallCopyLemmas
 pub mod FittingLemmas
 pub mod OutgrownLemmas
 pub mod EndValueLemmas

@@ -16,5 +16,6 @@ pub mod Parts
 pub mod EndValues
 pub mod PathEnds
 pub mod MessageParts
+pub mod SmallCopies
 pub mod Fitting
 pub mod MadeWords

@@ -3,7 +3,7 @@
 //! words of the copy, and requests exactly as many for a second and last try. No try requests more
 //! than 536,870,911 words. During a try the message has no allocator, so the copy can't get a second
 //! segment.
-ghost use Rattle.std.specs.Prelude.{◌≡◌, ◌⊎◌, ◌<◌, ◌≤◌, ◌+◌, ◌*◌, ◌∷◌, [], false, length, min, Ok, Err, IsTrue, OnOk, IfOk, OnErr, IfErr};
+ghost use Rattle.std.specs.Prelude.{◌≡◌, ◌⊎◌, ◌<◌, ◌≤◌, ◌+◌, ◌*◌, ◌∷◌, [], false, length, min, Ok, Err, IsTrue, IsOk, OnOk, IfOk, OnErr, IfErr};
 ghost use Rattle.std.specs.Bool.{OnFalse, OnTrue};
 ghost use Rattle.capnp_format.specs.Canonical.{encoding};
 ghost use Rattle.capnp_format.specs.Segments.{segment};
@@ -157,6 +157,8 @@ fn allocate_root<A: Allocator>(made: &mut BuilderArenaImpl<A>, room: u32) -> Res
     ensures refused { IfErr result (λ e. (e ≡ AllocationFailed)
         × ((⟦<BuilderArenaImpl<A> as BuilderArena>⟧.view made.new).refusals
         ≡ one_more (⟦<BuilderArenaImpl<A> as BuilderArena>⟧.view made.old).refusals)) }
+    ensures sure { IsTrue A.first_in_arena → IsTrue (A.grants made.old.allocator room)
+        → IsOk result }
 {
     made.allocate_segment(room)?;
     let _root = made.allocate(0, 1);
@@ -295,6 +297,9 @@ pub(super) fn canonicalize_reached_into<A: Allocator, B: ReaderArena>(
         (NeedsMoreRoom (end_read B.ReaderArena from.entry) room
         ⊎ ((⟦<BuilderArenaImpl<A> as BuilderArena>⟧.view made.new).refusals
         ≡ one_more (⟦<BuilderArenaImpl<A> as BuilderArena>⟧.view made.old).refusals))) }
+    ensures sure { IsTrue A.first_in_arena → IsTrue (A.grants made.old.allocator room)
+        → IfOk result (λ fits. OnFalse fits
+        (NeedsMoreRoom (end_read B.ReaderArena from.entry) room)) }
     ensures refused { IfErr result (λ k.
         (end_value canonical (end_read B.ReaderArena from.entry) (unused left)).0 ≡ Err k) }
 {

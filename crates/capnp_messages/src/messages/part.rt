@@ -90,6 +90,11 @@ pub fn canonicalize_part_into<A: Allocator, S: ReaderSegments>(
         × NeedsMoreRoom e room)
         ⊎ ((⟦<BuilderArenaImpl<A> as BuilderArena>⟧.view made.new).refusals
         ≡ one_more (⟦<BuilderArenaImpl<A> as BuilderArena>⟧.view made.old).refusals))) }
+    ensures sure { IsTrue A.first_in_arena → IsTrue (A.grants made.old.allocator room)
+        → IfOk result (λ fits. OnFalse fits ((e : PathEnd) × (m : Meter) × (part_within
+        (message (⟦<ReaderArenaImpl<S> as ReaderArena>⟧.segments source.now))
+        (arena_limits source.now.nesting_limit traversal_limit_in_words) path.now ≡ (Ok e, m))
+        × NeedsMoreRoom e room)) }
     ensures refused { IfErr result (RefusesPart
         (message (⟦<ReaderArenaImpl<S> as ReaderArena>⟧.segments source.now))
         (arena_limits source.now.nesting_limit traversal_limit_in_words) path.now) }

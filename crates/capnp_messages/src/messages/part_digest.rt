@@ -1,9 +1,10 @@
 //! The SHA-256 of the canonical words of a part of a message, which names the part's value.
-ghost use Rattle.std.specs.Prelude.{◌≡◌, IfOk, IfErr, OnOk};
+ghost use Rattle.std.specs.Prelude.{◌≡◌, IsOk, IfOk, IfErr, OnOk};
 ghost use Rattle.capnp_format.specs.Bytes.{message};
 ghost use Rattle.capnp_messages.specs.Copies.{LacksMemoryOr};
 ghost use Rattle.capnp_messages.specs.MessageParts.{IsDigestOfPart, RefusesPart};
 ghost use Rattle.capnp_messages.specs.Messages.{arena_limits};
+ghost use Rattle.capnp_messages.specs.SmallCopies.{PartNeedsNoHeap};
 
 use super::lent_memory::LentMemory;
 use super::part::{canonicalize_part, canonicalize_part_into};
@@ -67,6 +68,9 @@ pub fn digest_of_part<A: Allocator, S: ReaderSegments>(
         (message (⟦<ReaderArenaImpl<S> as ReaderArena>⟧.segments source.now))
         (arena_limits source.now.nesting_limit traversal_limit_in_words) path.now k)) }
     ensures kept { OnOk result.0 (A.refusals result.1 ≡ A.refusals allocator) }
+    ensures lent { PartNeedsNoHeap
+        (arena_limits source.now.nesting_limit traversal_limit_in_words) path.now
+        (message (⟦<ReaderArenaImpl<S> as ReaderArena>⟧.segments source.now)) → IsOk result.0 }
 {
     let mut memory = [0u8; SMALL];
     let mut made = BuilderArenaImpl::new(alloc, LentMemory::new(memory.as_mut_slice()));

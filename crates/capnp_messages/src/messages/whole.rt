@@ -87,6 +87,10 @@ pub fn canonicalize_into<A: Allocator, S: ReaderSegments>(
         (arena_limits source.now.nesting_limit traversal_limit_in_words))) room
         ⊎ ((⟦<BuilderArenaImpl<A> as BuilderArena>⟧.view made.new).refusals
         ≡ one_more (⟦<BuilderArenaImpl<A> as BuilderArena>⟧.view made.old).refusals))) }
+    ensures sure { IsTrue A.first_in_arena → IsTrue (A.grants made.old.allocator room)
+        → IfOk result (λ fits. OnFalse fits (NeedsMoreRoom (to_pointer (root_within
+        (message (⟦<ReaderArenaImpl<S> as ReaderArena>⟧.segments source.now))
+        (arena_limits source.now.nesting_limit traversal_limit_in_words))) room)) }
     ensures refused { IfErr result (RefusesCanon
         (message (⟦<ReaderArenaImpl<S> as ReaderArena>⟧.segments source.now))
         (arena_limits source.now.nesting_limit traversal_limit_in_words)) }

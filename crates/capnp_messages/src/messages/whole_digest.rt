@@ -1,9 +1,10 @@
 //! The SHA-256 of a message's canonical words, which names the message's value.
-ghost use Rattle.std.specs.Prelude.{◌≡◌, IfOk, IfErr, OnOk};
+ghost use Rattle.std.specs.Prelude.{◌≡◌, IsOk, IfOk, IfErr, OnOk};
 ghost use Rattle.capnp_format.specs.Bytes.{message};
 ghost use Rattle.capnp_messages.specs.Copies.{LacksMemoryOr};
 ghost use Rattle.capnp_messages.specs.Digests.{IsDigestOf};
 ghost use Rattle.capnp_messages.specs.Messages.{RefusesCanon, arena_limits};
+ghost use Rattle.capnp_messages.specs.SmallCopies.{NeedsNoHeap};
 
 use super::already_canonical::canonical_segment;
 use super::lent_memory::LentMemory;
@@ -60,6 +61,9 @@ fn digest_of_small<A: Allocator, S: ReaderSegments>(
         (message (⟦<ReaderArenaImpl<S> as ReaderArena>⟧.segments source.now))
         (arena_limits source.now.nesting_limit traversal_limit_in_words) k)) }
     ensures kept { OnOk result.0 (A.refusals result.1 ≡ A.refusals allocator) }
+    ensures lent { NeedsNoHeap
+        (arena_limits source.now.nesting_limit traversal_limit_in_words)
+        (message (⟦<ReaderArenaImpl<S> as ReaderArena>⟧.segments source.now)) → IsOk result.0 }
 {
     let mut memory = [0u8; SMALL];
     let mut made = BuilderArenaImpl::new(alloc, LentMemory::new(memory.as_mut_slice()));
@@ -121,6 +125,9 @@ pub fn digest<A: Allocator, S: ReaderSegments>(
         (message (⟦<ReaderArenaImpl<S> as ReaderArena>⟧.segments source.now))
         (arena_limits source.now.nesting_limit traversal_limit_in_words) k)) }
     ensures kept { OnOk result.0 (A.refusals result.1 ≡ A.refusals allocator) }
+    ensures lent { NeedsNoHeap
+        (arena_limits source.now.nesting_limit traversal_limit_in_words)
+        (message (⟦<ReaderArenaImpl<S> as ReaderArena>⟧.segments source.now)) → IsOk result.0 }
 {
     if source.size_in_words() < SMALL / 8 {
         digest_of_small(alloc, allocator, source, traversal_limit_in_words)

@@ -1,8 +1,8 @@
-use Rattle.std.proofs.Common.{◌∙◌, sym, subst}
+use Rattle.std.proofs.Common.{◌∙◌, sym, subst, inr}
 use Rattle.std.proofs.lemmas.Int.{to_z-of_z}
 use mir.Syntax.{w32}
 use Rattle.capnp_canonical.specs.Calls.{IsGranted, limits_of}
-use Rattle.capnp_canonical.proofs.CallLemmas.{where_framed}
+use Rattle.capnp_canonical.proofs.CallLemmas.{where_framed, no_room_is}
 use Rattle.capnp_canonical.proofs.PartLemmas.{part_room_enough, part_room_granted}
 use Rattle.capnp_canonical.proofs.part_exports.capnp_canonical_copy_flat_at.Goals as goal
 
@@ -22,3 +22,8 @@ returns-in-Err-clause-enough c = λ n caps size wide is.
     let limits = limits_of c.args.nesting c.args.words in
     let refused = rw (to_z-of_z w32 c.args.nesting c.ranges.nesting) at c.in-Err.ensures.refused in
     where_framed (part_room_enough limits c.args.path.now _ n caps wide) refused size (sym c.number.ensures.number ∙ is)
+
+pub returns-in-Err-clause-lent : goal.returns-in-Err-clause-lent
+returns-in-Err-clause-lent c = λ small.
+    let full = rw (c.in-Err.is, to_z-of_z w32 c.args.nesting c.ranges.nesting) at c.copy_frame_part.ensures.lent in
+    inr (c.number.ensures.number ∙ no_room_is (full small))

@@ -1,9 +1,9 @@
-use Rattle.std.proofs.Common.{◌∷◌, [], sym, subst}
+use Rattle.std.proofs.Common.{◌∷◌, [], sym, subst, ◌∙◌, inr}
 use Rattle.std.proofs.lemmas.Int.{to_z-of_z}
 use mir.Syntax.{w32}
 use Rattle.capnp_format.specs.Bytes.{message}
 use Rattle.capnp_canonical.specs.Calls.{IsGranted, limits_of}
-use Rattle.capnp_canonical.proofs.CallLemmas.{where_words}
+use Rattle.capnp_canonical.proofs.CallLemmas.{where_words, no_room_is}
 use Rattle.capnp_canonical.proofs.PartLemmas.{part_room_granted}
 use Rattle.capnp_canonical.proofs.part_exports.capnp_canonical_words_copy_at.Goals as goal
 
@@ -17,3 +17,8 @@ returns-in-Err-clause-granted c = λ can.
     let limits = limits_of c.args.nesting c.args.words in
     let refused = rw (to_z-of_z w32 c.args.nesting c.ranges.nesting) at c.in-Err.ensures.refused in
     subst IsGranted (sym c.number.ensures.number) (where_words c.args.bytes.now (part_room_granted limits c.args.path.now _ (message (c.args.bytes.now ∷ []))) refused can)
+
+pub returns-in-Err-clause-lent : goal.returns-in-Err-clause-lent
+returns-in-Err-clause-lent c = λ small.
+    let full = rw (c.in-Err.is, to_z-of_z w32 c.args.nesting c.ranges.nesting) at c.copy_words_part.ensures.lent in
+    inr (c.number.ensures.number ∙ no_room_is (full small))

@@ -1,9 +1,10 @@
-use Rattle.std.proofs.Common.{List, ℕ, inr, length, subst}
+use Rattle.std.proofs.Common.{List, ℕ, inr, length, subst, sym}
 use Rattle.std.proofs.lemmas.Result.{IfErr-weaker}
 use Rattle.capnp_format.specs.Bytes.{message}
 use Rattle.capnp_canonical.specs.Calls.{limits_of}
 use Rattle.capnp_canonical.specs.Parts.{IsCopyOfPart, RefusesPartRoom}
-use Rattle.capnp_canonical.proofs.CallLemmas.{fills_weaker}
+use Rattle.capnp_canonical.proofs.CallLemmas.{fills_weaker, lent_granted}
+use Rattle.capnp_messages.specs.SmallCopies.{PartNeedsNoHeap}
 use Rattle.capnp_canonical.proofs.parts.copy_segments_part.Goals as goal
 
 pub returns-clause-copied : goal.returns-clause-copied
@@ -16,3 +17,11 @@ returns-clause-refused c =
     let limits = limits_of c.args.limits.nesting c.args.limits.words in
     IfErr-weaker c.copy_at.result _ _ (λ r no.
     inr (c.in_ok-lent.ensures.whole.0, c.in_ok-lent.ensures.whole.1, subst (λ (B : List (List ℕ)). RefusesPartRoom limits c.args.path.now (length c.args.to.now) (message B) r) c.in_ok-lent.ensures.segments no)) c.copy_at.ensures.refused
+
+pub returns-in_err-lent-clause-lent : goal.returns-in_err-lent-clause-lent
+returns-in_err-lent-clause-lent c = λ small. absurd (lent_granted c.args.segments.now c.in_err-lent.ensures.refused small)
+
+pub returns-clause-lent : goal.returns-clause-lent
+returns-clause-lent c = λ (whole, few, small).
+    let limits = limits_of c.args.limits.nesting c.args.limits.words in
+    c.copy_at.ensures.lent (subst (λ (B : List (List ℕ)). PartNeedsNoHeap limits c.args.path.now (message B)) (sym c.in_ok-lent.ensures.segments) small)

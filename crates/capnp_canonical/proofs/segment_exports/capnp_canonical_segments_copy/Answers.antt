@@ -1,9 +1,9 @@
-use Rattle.std.proofs.Common.{sym, subst}
+use Rattle.std.proofs.Common.{sym, subst, ◌∙◌, inr}
 use Rattle.std.proofs.lemmas.Int.{to_z-of_z}
 use mir.Syntax.{w32}
 use Rattle.capnp_messages.specs.declared.messages.command.Form.TheVariants.{Framed}
 use Rattle.capnp_canonical.specs.Calls.{IsGranted, limits_of}
-use Rattle.capnp_canonical.proofs.CallLemmas.{room_granted, where_lent}
+use Rattle.capnp_canonical.proofs.CallLemmas.{room_granted, where_lent, no_room_is}
 use Rattle.capnp_canonical.proofs.segment_exports.capnp_canonical_segments_copy.Goals as goal
 
 pub returns-in-Err-clause-refused : goal.returns-in-Err-clause-refused
@@ -16,3 +16,8 @@ returns-in-Err-clause-granted c = λ can.
     let limits = limits_of c.args.nesting c.args.words in
     let refused = rw (to_z-of_z w32 c.args.nesting c.ranges.nesting) at c.in-Err.ensures.refused in
     subst IsGranted (sym c.number.ensures.number) (where_lent c.args.segments.now (room_granted Framed limits _ _) refused can)
+
+pub returns-in-Err-clause-lent : goal.returns-in-Err-clause-lent
+returns-in-Err-clause-lent c = λ small.
+    let full = rw (c.in-Err.is, to_z-of_z w32 c.args.nesting c.ranges.nesting) at c.copy_segments.ensures.lent in
+    inr (c.number.ensures.number ∙ no_room_is (full small))

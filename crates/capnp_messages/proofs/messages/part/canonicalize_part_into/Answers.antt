@@ -27,6 +27,12 @@ returns-clause-small g c =
     let leads = part_here S (arena_limits c.args.source.now.nesting_limit c.args.traversal_limit_in_words) c.args.path.now _ _ c.new-lim.ensures c.in_ok-part.ensures in
     IfOk-weaker c.canonicalize_reached_into.result _ _ (λ fits h. OnFalse_from fits _ (λ e. own_part_needs S (arena_limits c.args.source.now.nesting_limit c.args.traversal_limit_in_words) c.args.path.now leads (OnFalse_at e h))) c.canonicalize_reached_into.ensures.small
 
+pub returns-clause-sure : goal.returns-clause-sure
+returns-clause-sure g c = λ first grants.
+    let S : Segments = message (map whole (g.S.ReaderSegments.segments c.args.source.now.segments)) in
+    let leads = part_here S (arena_limits c.args.source.now.nesting_limit c.args.traversal_limit_in_words) c.args.path.now _ _ c.new-lim.ensures c.in_ok-part.ensures in
+    IfOk-weaker c.canonicalize_reached_into.result _ _ (λ fits h. OnFalse_from fits _ (λ e. (_, _, leads, OnFalse_at e h))) (c.canonicalize_reached_into.ensures.sure first grants)
+
 pub returns-clause-refused : goal.returns-clause-refused
 returns-clause-refused g c =
     let S : Segments = message (map whole (g.S.ReaderSegments.segments c.args.source.now.segments)) in
