@@ -185,7 +185,8 @@ fn copy_unless_canonical<S: ReaderSegments>(
 }
 
 /// Makes a canonical copy of the message in `segments`, and writes the copy to the front of `to`,
-/// in a frame or without one, as `form` says. Returns the number of bytes written.
+/// in a frame or without one, as `form` says. Returns the number of bytes written. Precondition:
+/// `segments` has fewer than 2^32 segments, each of fewer than 2^32 words.
 ///
 /// Copying a message of fewer than 64 words takes heap memory only if the copy has more than 64
 /// words. A message of 64 words or more isn't copied if it is canonical already and has at most
@@ -214,7 +215,8 @@ pub fn copy<S: ReaderSegments + Drop>(
     }
 }
 
-/// Returns why and where the message in `segments` isn't canonical; `None` if it is.
+/// Returns why and where the message in `segments` isn't canonical; `None` if it is. Precondition:
+/// `segments` has fewer than 2^32 segments, each of fewer than 2^32 words.
 pub fn check<S: ReaderSegments + Drop>(
     segments: S,
     limits: Limits,
@@ -235,7 +237,8 @@ pub fn check<S: ReaderSegments + Drop>(
 }
 
 /// Counts the words and capabilities of the message in `segments`, without the root pointer and
-/// landing pads.
+/// landing pads. Precondition: `segments` has fewer than 2^32 segments, each of fewer than 2^32
+/// words.
 pub fn size<S: ReaderSegments + Drop>(segments: S, limits: Limits) -> Result<MessageSize, Refusal>
     requires { IsSmall (S.segments segments) }
     ensures size { IfOk result (λ z. HasSizeOf (message (S.segments segments))

@@ -13,7 +13,8 @@ use capnp_arena::arena::{HeapAllocator, ReaderArenaImpl, ReaderOptions, ReaderSe
 use capnp_messages::messages;
 use std::alloc::Global;
 
-/// Returns the SHA-256 of the canonical words of the message in `segments`.
+/// Returns the SHA-256 of the canonical words of the message in `segments`. Precondition:
+/// `segments` has fewer than 2^32 segments, each of fewer than 2^32 words.
 ///
 /// Takes heap memory if a message of fewer than 64 words has more than 64 canonical words, or if a
 /// larger one isn't canonical.

@@ -10,7 +10,7 @@ use capnp_arena_traits::arena::BuilderArena;
 use capnp_words::primitive::Primitive;
 
 /// Writes `value` into segment `id` at byte `byte`. Preconditions: `byte` is a multiple of the
-/// number's width, and the number is inside the segment.
+/// number's width; the number is in allocated words of segment `id`.
 pub fn set_number<A: BuilderArena, T: Primitive>(arena: &mut A, id: u32, byte: u64, value: T)
     requires inside { byte + T.BYTES ≤ 8 * length (segment (A.view arena.old).words id) }
     requires aligned { byte % T.BYTES ≡ 0 }
@@ -28,7 +28,7 @@ pub fn set_number<A: BuilderArena, T: Primitive>(arena: &mut A, id: u32, byte: u
 }
 
 /// Writes bit `bit` of segment `id`, which is counted from the lowest bit of the segment's first
-/// byte on. Precondition: the bit is inside the segment.
+/// byte on. Precondition: bit `bit` is in an allocated word of segment `id`.
 pub fn set_bit<A: BuilderArena>(arena: &mut A, id: u32, bit: u64, value: bool)
     requires inside { bit < 64 * length (segment (A.view arena.old).words id) }
     ensures written { A.view arena.new
@@ -47,7 +47,7 @@ pub fn set_bit<A: BuilderArena>(arena: &mut A, id: u32, bit: u64, value: bool)
 }
 
 /// Returns the number in segment `id` at byte `byte`. Preconditions: `byte` is a multiple of the
-/// number's width, and the number is inside the segment.
+/// number's width; the number is in allocated words of segment `id`.
 pub fn get_number<A: BuilderArena, T: Primitive>(arena: &A, id: u32, byte: u64) -> T
     requires inside { byte + T.BYTES ≤ 8 * length (segment (A.view arena.now).words id) }
     requires aligned { byte % T.BYTES ≡ 0 }
@@ -73,7 +73,7 @@ fn number_in<T: Primitive>(bytes: &[u8], byte: u64) -> T
 }
 
 /// Returns bit `bit` of segment `id`, which is counted from the lowest bit of the segment's first
-/// byte on. Precondition: the bit is inside the segment.
+/// byte on. Precondition: bit `bit` is in an allocated word of segment `id`.
 pub fn get_bit<A: BuilderArena>(arena: &A, id: u32, bit: u64) -> bool
     requires inside { bit < 64 * length (segment (A.view arena.now).words id) }
     ensures { IsTrue result ↔ (field_in (segment (A.view arena.now).words id) bit 1 ≡ 1) }

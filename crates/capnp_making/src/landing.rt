@@ -62,7 +62,8 @@ pub(crate) fn follow<A: BuilderArena>(arena: &A, id: u32, at: u32) -> Option<Poi
 }
 
 /// Where the pointer at `at` of segment `id` leads. The result has no meaning if the pointer is
-/// null or leads out of the message. Precondition: `word` is the pointer's word.
+/// null or leads out of the message. Precondition: `word` is word `at` of segment `id`, or zero if
+/// there is no such word.
 #[inline(always)]
 pub fn follow_word<A: BuilderArena>(
     arena: &A,

@@ -18,7 +18,7 @@ use capnp_words::wire_pointer::{
 };
 
 /// Zeroes the `n` words of segment `id` from `start` on. Changes nothing unless all of them are
-/// inside the segment.
+/// inside the segment. Precondition: `n` is below 2^63.
 pub fn zero_if_inside<A: BuilderArena>(arena: &mut A, id: u32, start: u32, n: u64)
     requires { n < 2 ^ 63 }
     ensures zeroed { start + n ≤ length (segment (A.view arena.old).words id)
@@ -73,6 +73,8 @@ fn zero_far_pads<A: BuilderArena>(arena: &mut A, word: WirePointer)
 /// that, and their landing pads. If the pointer doesn't lead to a value in which no word is used
 /// twice, may zero any words, but writes only zeros. In a message that a builder made, this can't
 /// happen.
+///
+/// Precondition: word `at` of segment `id` is allocated.
 #[cycle(zeroing)]
 #[inline(always)]
 pub fn zero_object<A: BuilderArena>(arena: &mut A, id: u32, at: u32)

@@ -38,7 +38,7 @@ pub fn parse_traversal_limit(text: &str) -> Option<Option<usize>>
     }
 }
 
-/// Writes a number in decimal digits.
+/// Writes a number in decimal digits. Precondition: `output` hasn't failed.
 pub fn write_number<W: Output>(output: &mut W, n: u64) -> Result<(), DeviceFault>
     requires { W.has_failed output.old ≡ false }
     ensures { Writes W.Output result output.old output.new (decimal n) }
@@ -50,6 +50,7 @@ pub fn write_number<W: Output>(output: &mut W, n: u64) -> Result<(), DeviceFault
 }
 
 /// Writes a line with the numbers of words and capabilities of `size`: `words N caps M`.
+/// Precondition: `output` hasn't failed.
 pub fn write_size<W: Output>(output: &mut W, size: MessageSize) -> Result<(), DeviceFault>
     requires { W.has_failed output.old ≡ false }
     ensures { Writes W.Output result output.old output.new
@@ -63,7 +64,7 @@ pub fn write_size<W: Output>(output: &mut W, size: MessageSize) -> Result<(), De
 }
 
 /// Writes a line that says that a message is sound, with the extent of its value: `sound: depth N,
-/// words N, capabilities N`.
+/// words N, capabilities N`. Precondition: `output` hasn't failed.
 pub fn write_extent<W: Output>(output: &mut W, extent: Extent) -> Result<(), DeviceFault>
     requires { W.has_failed output.old ≡ false }
     ensures { Writes W.Output result output.old output.new (extent_line extent) }

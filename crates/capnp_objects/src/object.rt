@@ -21,7 +21,8 @@ pub struct Place<'a> {
 }
 
 impl<'a> Place<'a> {
-    /// The number of whole words in the segment.
+    /// The number of whole words in the segment. Precondition: the segment has fewer than 2^32
+    /// whole words.
     pub fn length(self) -> u32
         requires { length self.bytes.now < 8 * 2 ^ 32 }
         ensures { result ≡ length (words_of self.entry.bytes.now) }

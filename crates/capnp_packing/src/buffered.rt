@@ -41,7 +41,8 @@ impl BufferedOutput for MemoryOutput {
     }
 }
 
-/// Flushes the output, unless `is_ahead` of the input is `true`.
+/// Flushes the output, unless `is_ahead` of the input is `true`. Precondition: `output` hasn't
+/// failed.
 pub fn flush_before_waiting<R: BufferedInput, W: BufferedOutput>(
     input: &R,
     output: &mut W,

@@ -8,7 +8,7 @@ ghost use borrow.Rule.Slice.PartMut.{put_mid};
 use crate::lanes;
 use std::simd::prelude::*;
 
-/// The word at position `at`.
+/// The word at position `at`. Precondition: `bytes` has at least `at + 1` words.
 #[tactic(auto, using(capnp_format::proofs::WordsOf::word_bytes))]
 pub fn word_at(bytes: &[u8], at: usize) -> u64
     requires { 8 * at + 8 ≤ length bytes.now }
@@ -27,7 +27,7 @@ pub fn word_at(bytes: &[u8], at: usize) -> u64
     ])
 }
 
-/// Writes `word` at position `at`.
+/// Writes `word` at position `at`. Precondition: `bytes` has at least `at + 1` words.
 #[tactic(auto, using(capnp_format::proofs::WordsOf::put_words))]
 pub fn put_word(bytes: &mut [u8], at: usize, word: u64)
     requires { 8 * at + 8 ≤ length bytes.old }
@@ -38,8 +38,8 @@ pub fn put_word(bytes: &mut [u8], at: usize, word: u64)
         .copy_to_slice(&mut bytes[8 * at..]);
 }
 
-/// Copies the words of `from` over those of `bytes` from position `at` on. Precondition: the length
-/// of `from` is a multiple of 8.
+/// Copies the words of `from` over those of `bytes` from position `at` on. Preconditions: the
+/// length of `from` is a multiple of 8; `bytes` has at least `at` words more than `from`.
 #[tactic(auto, using(capnp_format::proofs::WordsOf::put_words))]
 pub fn copy_words(bytes: &mut [u8], at: usize, from: &[u8])
     requires whole { length from.now ≡ 8 * length (words_of from.now) }
@@ -51,7 +51,7 @@ pub fn copy_words(bytes: &mut [u8], at: usize, from: &[u8])
     lanes::copy(from, &mut bytes[start..start + from.len()]);
 }
 
-/// Zeroes `n` words from position `at` on.
+/// Zeroes `n` words from position `at` on. Precondition: `bytes` has at least `at + n` words.
 #[tactic(auto, using(capnp_format::proofs::WordsOf::put_words))]
 pub fn zero_words(bytes: &mut [u8], at: usize, n: usize)
     requires { 8 * (at + n) ≤ length bytes.old }
@@ -70,7 +70,7 @@ pub fn used_words(bytes: &[u8]) -> usize
     words - lanes::trailing_zero_words(&bytes[..8 * words])
 }
 
-/// The `n` words from position `at` on.
+/// The `n` words from position `at` on. Precondition: `bytes` has at least `at + n` words.
 #[tactic(auto, using(capnp_format::proofs::WordsOf::part_words))]
 pub fn word_range(bytes: &[u8], at: usize, n: usize) -> &[u8]
     requires { 8 * (at + n) ≤ length bytes.now }
@@ -90,7 +90,7 @@ pub fn count(bytes: &[u8]) -> usize
 }
 
 /// Of the `n` words from position `at` on, the number up to and including the last one that isn't
-/// zero; 0 if all are zero.
+/// zero; 0 if all are zero. Precondition: `bytes` has at least `at + n` words.
 pub fn used_words_in(bytes: &[u8], at: usize, n: usize) -> usize
     requires { 8 * (at + n) ≤ length bytes.now }
     ensures value { result ≡ used_words (take n (drop at (words_of bytes.now))) }
@@ -100,6 +100,7 @@ pub fn used_words_in(bytes: &[u8], at: usize, n: usize) -> usize
 }
 
 /// Copies `n` words from position `from` to position `to`; the two ranges may overlap.
+/// Precondition: `bytes` has at least `from + n` words, and at least `to + n`.
 pub fn move_words(bytes: &mut [u8], from: usize, to: usize, n: usize)
     requires there { 8 * (from + n) ≤ length bytes.old }
     requires room { 8 * (to + n) ≤ length bytes.old }

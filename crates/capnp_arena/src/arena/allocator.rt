@@ -43,7 +43,8 @@ pub trait Segment {
             (with_ready self.old)) }
         ensures now { result.now ≡ ready self.old };
 
-    /// Makes at least the first `bytes` bytes ready, and takes no memory.
+    /// Makes at least the first `bytes` bytes ready, and takes no memory. Precondition: the segment
+    /// has at least `bytes` bytes.
     fn make_ready(&mut self, bytes: usize)
         requires { bytes ≤ length (content self.old) }
         ensures ready { bytes ≤ length (ready self.new) }
@@ -94,8 +95,8 @@ pub trait Allocator: Drop {
             × (refusals self.new ≡ one_more (refusals self.old))) }
         ensures offers { offers self.new ≡ offers self.old };
 
-    /// Takes `segment` back. Its first `used_words` words were allocated. Precondition: all bytes
-    /// after these words are zero.
+    /// Takes `segment` back. Its first `used_words` words were allocated. Preconditions: `segment`
+    /// has at least `used_words` words; all bytes after these words are zero.
     fn deallocate_segment(&mut self, segment: Self::Segment, used_words: u32)
         requires within { 8 * used_words ≤ length (Self.Segment.content segment) }
         requires clear { IsClearFrom used_words (Self.Segment.content segment) }

@@ -42,8 +42,8 @@ pub struct ReaderArenaImpl<S: ReaderSegments> {
 }
 
 impl<S: ReaderSegments> ReaderArenaImpl<S> {
-    /// Makes the arena of `segments`, with the nesting limit of `options`. Precondition: there are
-    /// fewer than 2^32 segments, each of fewer than 2^32 words.
+    /// Makes the arena of `segments`, with the nesting limit of `options`. Precondition: `segments`
+    /// has fewer than 2^32 segments, each of fewer than 2^32 words.
     #[tactic(auto, using(capnp_arena_traits::proofs::MessageLemmas::message_wholes))]
     pub fn new(segments: S, options: ReaderOptions) -> Self
         requires { IsSmall (S.segments segments) }

@@ -28,7 +28,7 @@ pub trait BuilderArena: ReaderArena + sealed::Closed {
     ghost with_bytes: { Self → ℕ → List ℕ → Self };
 
     /// Lends the bytes of the allocated words of segment `id` for writing. The segment's words that
-    /// aren't allocated stay zero.
+    /// aren't allocated stay zero. Precondition: segment `id` exists.
     fn segment_mut(&mut self, id: u32) -> &mut [u8]
         requires { id < length (Self.segments self.old) }
         ensures* lends { sem 𝓛 (Lends Self.row (Array byte 0) self.entry result
@@ -45,13 +45,14 @@ pub trait BuilderArena: ReaderArena + sealed::Closed {
         ensures there { IsSome result ↔ (id < length (Self.segments self.old)) }
         ensures bytes { IfSome result (λ s. slice_get (Self.segments self.old) id ≡ Some s.now) };
 
-    /// Returns word `at` of segment `id`.
+    /// Returns word `at` of segment `id`. Precondition: word `at` of segment `id` is allocated.
     fn get_word(&self, id: u32, at: u32) -> u64
         requires { IsPlace (view self.now).words id at }
         ensures { result ≡ word_at (view self.now).words id at };
 
     /// Copies `n` words from place `from` to place `to`, in the same segment or another one; the
-    /// two ranges may overlap. If `n` is 0, nothing changes.
+    /// two ranges may overlap. If `n` is 0, nothing changes. Preconditions: segment `from.segment`
+    /// has at least `from.at + n` allocated words; segment `to.segment` has at least `to.at + n`.
     fn move_words(&mut self, from: WordPlace, to: WordPlace, n: u32)
         requires there { from.at + n ≤ length (segment (view self.old).words from.segment) }
         requires inside { to.at + n ≤ length (segment (view self.old).words to.segment) }
@@ -63,7 +64,7 @@ pub trait BuilderArena: ReaderArena + sealed::Closed {
 
     /// Allocates `amount` words after the allocated ones of segment `id`, and returns their
     /// position. The new words are zero. Returns `None`, and changes nothing, if the segment has no
-    /// room for them.
+    /// room for them. Precondition: segment `id` exists.
     fn allocate(&mut self, id: u32, amount: u32) -> Option<u32>
         requires { id < length (view self.old).words }
         ensures exactly { IsSome result

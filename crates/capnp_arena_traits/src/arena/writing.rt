@@ -7,7 +7,8 @@ ghost use Rattle.capnp_arena_traits.specs.Written.{with_word, with_words};
 use crate::arena::BuilderArena;
 use capnp_words::words;
 
-/// Writes `word` at position `at` of segment `id`.
+/// Writes `word` at position `at` of segment `id`. Precondition: word `at` of segment `id` is
+/// allocated.
 #[inline(always)]
 pub fn set_word<A: BuilderArena>(arena: &mut A, id: u32, at: u32, word: u64)
     requires { IsPlace (A.view arena.old).words id at }
@@ -19,7 +20,8 @@ pub fn set_word<A: BuilderArena>(arena: &mut A, id: u32, at: u32, word: u64)
 }
 
 /// Writes the words of `from` over those of segment `id` from position `at` on. If `from` is empty,
-/// nothing changes.
+/// nothing changes. Preconditions: the length of `from` is a multiple of 8; segment `id` has at
+/// least `at` allocated words more than there are in `from`.
 pub fn copy_words<A: BuilderArena>(arena: &mut A, id: u32, at: u32, from: &[u8])
     requires whole { length from.now ≡ 8 * length (words_of from.now) }
     requires inside { at + length (words_of from.now)
@@ -34,6 +36,7 @@ pub fn copy_words<A: BuilderArena>(arena: &mut A, id: u32, at: u32, from: &[u8])
 }
 
 /// Zeroes `n` words of segment `id` from position `at` on. If `n` is 0, nothing changes.
+/// Precondition: segment `id` has at least `at + n` allocated words.
 pub fn zero_words<A: BuilderArena>(arena: &mut A, id: u32, at: u32, n: u32)
     requires { at + n ≤ length (segment (A.view arena.old).words id) }
     ensures { A.view arena.new

@@ -41,6 +41,8 @@ impl<'a, A: BuilderArena> PointerBuilder<'a, A> {
     /// pointer that isn't null stays as it is. A null pointer stays null if `default` is `None` or
     /// starts with a null word.
     ///
+    /// Preconditions: the pointer's word is allocated; `default` has fewer than 2^32 words.
+    ///
     /// Reading `default` charges nothing, and may enter `i32::MAX` levels of structs and lists.
     /// Refuses only if the pointer is null. Refusals: `MessageContainsOutOfBoundsPointer` if
     /// `default` has fewer than 8 bytes, or one of its pointers leads out of it;
@@ -66,7 +68,8 @@ impl<'a, A: BuilderArena> PointerBuilder<'a, A> {
     }
 
     /// Does what `get_struct` does, but returns the struct's place. `into_struct` makes the builder
-    /// from the place. The contract also states what the message is after a refusal.
+    /// from the place. The contract also states what the message is after a refusal. Preconditions:
+    /// the pointer's word is allocated; `default` has fewer than 2^32 words.
     #[inline(always)]
     pub fn get_struct_place(
         &mut self,
@@ -112,6 +115,8 @@ impl<'a, A: BuilderArena> PointerBuilder<'a, A> {
     /// `default` to it, like `PointerBuilder::put_default`; if the pointer is still null then,
     /// makes a struct of exactly `size`, all zero.
     ///
+    /// Preconditions: the pointer's word is allocated; `default` has fewer than 2^32 words.
+    ///
     /// Refusals: `MessageContainsNonStructPointerWhereStructPointerWasExpected` if the pointer
     /// leads to something other than a struct; those of `put_default`. If no segment has room for
     /// the new struct, or for a landing pad: `AllocationFailed` if memory runs out;
@@ -154,6 +159,7 @@ impl<'a, A: BuilderArena> PointerBuilder<'a, A> {
 
     /// Does what `get_struct_list` does, but returns the list's place. `into_list` makes the
     /// builder from the place. The contract also states what the message is after a refusal.
+    /// Preconditions: the pointer's word is allocated; `default` has fewer than 2^32 words.
     pub fn get_struct_list_place(
         &mut self,
         size: StructSize,
@@ -178,7 +184,8 @@ impl<'a, A: BuilderArena> PointerBuilder<'a, A> {
     }
 
     /// Returns the list that the pointer leads to, for writing, as a list of structs with sections
-    /// at least as large as in `size` ("Lists").
+    /// at least as large as in `size` ("Lists"). Preconditions: the pointer's word is allocated;
+    /// `default` has fewer than 2^32 words.
     ///
     /// If the elements are structs that are large enough, the list is unchanged. Any other list,
     /// except a list of bits, is moved to new words as a list of structs. Each section has the
@@ -214,7 +221,9 @@ impl<'a, A: BuilderArena> PointerBuilder<'a, A> {
     }
 
     /// Does what `get_list` does, but returns the list's place. `into_list` makes the builder from
-    /// the place. The contract also states what the message is after a refusal.
+    /// the place. The contract also states what the message is after a refusal. Preconditions: the
+    /// pointer's word is allocated; `default` has fewer than 2^32 words; `size` isn't
+    /// `InlineComposite`.
     pub fn get_list_place(
         &mut self,
         size: ElementSize,
@@ -236,7 +245,8 @@ impl<'a, A: BuilderArena> PointerBuilder<'a, A> {
     /// Returns the list that the pointer leads to, for writing. Never changes the list, and refuses
     /// one whose elements are narrower than `size`. If the pointer is null, first copies the value
     /// of `default` to it, like `PointerBuilder::put_default`; if the pointer is still null then,
-    /// returns a list of void without elements. Precondition: `size` isn't `InlineComposite`.
+    /// returns a list of void without elements. Preconditions: the pointer's word is allocated;
+    /// `default` has fewer than 2^32 words; `size` isn't `InlineComposite`.
     ///
     /// Refusals: `ExistingPointerIsNotAList` if the pointer leads to something other than a list;
     /// `FoundStructListWhereBitListWasExpected` for a list of structs if `size` is `Bit`; those of
@@ -265,6 +275,7 @@ impl<'a, A: BuilderArena> PointerBuilder<'a, A> {
 
     /// Does what `get_data` does, but returns where the data is instead of lending its bytes.
     /// `bytes_mut` then lends them. The contract also states what the message is after a refusal.
+    /// Preconditions: the pointer's word is allocated; `default` has fewer than 2^32 words.
     pub fn get_data_place(&mut self, default: Option<&[u8]>) -> Result<ExistingBytes, ErrorKind>
         requires { TakesDefault (built A.view self.old) default }
         ensures found { LooksUp A.view (FindsBytes data_in default.entry)
@@ -280,7 +291,8 @@ impl<'a, A: BuilderArena> PointerBuilder<'a, A> {
 
     /// Lends the data that the pointer leads to, for writing in place ("Lists"). If the pointer is
     /// null, first copies the value of `default` to it, like `PointerBuilder::put_default`, or
-    /// lends no bytes if there is no default.
+    /// lends no bytes if there is no default. Preconditions: the pointer's word is allocated;
+    /// `default` has fewer than 2^32 words.
     ///
     /// Refusals: `ExistingPointerIsNotAList` if the pointer leads to something other than a list,
     /// or if both the pointer and the first word of `default` are null;
@@ -299,6 +311,7 @@ impl<'a, A: BuilderArena> PointerBuilder<'a, A> {
 
     /// Does what `get_text` does, but returns where the text is instead of lending its bytes.
     /// `bytes_mut` then lends them. The contract also states what the message is after a refusal.
+    /// Preconditions: the pointer's word is allocated; `default` has fewer than 2^32 words.
     pub fn get_text_place(&mut self, default: Option<&[u8]>) -> Result<ExistingBytes, ErrorKind>
         requires { TakesDefault (built A.view self.old) default }
         ensures found { LooksUp A.view (FindsBytes text_in default.entry)
@@ -314,7 +327,8 @@ impl<'a, A: BuilderArena> PointerBuilder<'a, A> {
 
     /// Lends the text that the pointer leads to, without the zero byte after it, for writing in
     /// place ("Lists"). If the pointer is null, first copies the value of `default` to it, like
-    /// `PointerBuilder::put_default`, or lends no bytes if there is no default.
+    /// `PointerBuilder::put_default`, or lends no bytes if there is no default. Preconditions: the
+    /// pointer's word is allocated; `default` has fewer than 2^32 words.
     ///
     /// Refusals: those of `get_data`; `TextBlobMissingNULTerminator` if the bytes don't end in a
     /// zero byte. `get_text_place` followed by `bytes_mut` does the same. The contracts of these

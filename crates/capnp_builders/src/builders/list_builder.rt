@@ -28,8 +28,8 @@ pub struct ListBuilder<'a, A> {
 #[tactic(auto, using(capnp_readers::proofs::Sections::elements, crate::proofs::ElementPlaces::element_inside))]
 /// Returns the place of element `index` of `list` as a struct: a struct has its own sections, a
 /// pointer becomes a struct's only pointer, and a number a struct's data section. Preconditions:
-/// the elements aren't bits; `index` is below the number of elements; the list is inside a segment,
-/// and starts at a word.
+/// the elements aren't bits; `index` is below the number of elements; `list.byte` is a multiple of
+/// 8; the segment has fewer than 2^29 words up to the end of the elements.
 pub fn element_place(list: ListPlace, index: u32) -> StructPlace
     requires range { index < list.count }
     requires whole { size_number list.size ≢ 1 }
@@ -176,7 +176,7 @@ impl<'a, A: BuilderArena> ListBuilder<'a, A> {
     }
 
     /// Returns a reader of the list. Reading charges nothing, and may enter `i32::MAX` levels of
-    /// structs and lists.
+    /// structs and lists. Precondition: the list is inside the message.
     pub fn as_reader(&self) -> ListReader<'_, A>
         requires { IsListPlace (A.view self.now.arena.now).words self.now.place }
         ensures { IsListReader A.ReaderArena self.now result }
@@ -185,7 +185,8 @@ impl<'a, A: BuilderArena> ListBuilder<'a, A> {
     }
 
     /// Turns the builder into a reader of the list, for when building is over. Reading charges
-    /// nothing, and may enter `i32::MAX` levels of structs and lists.
+    /// nothing, and may enter `i32::MAX` levels of structs and lists. Precondition: the list is
+    /// inside the message.
     pub fn into_reader(self) -> ListReader<'a, A>
         requires { IsListPlace (A.view self.arena.now).words self.place }
         ensures { IsListReader A.ReaderArena self.entry result }
@@ -195,8 +196,8 @@ impl<'a, A: BuilderArena> ListBuilder<'a, A> {
     }
 
     /// Returns a builder of element `index` as a struct: a number becomes a struct whose data
-    /// section is that number, a pointer a struct with one pointer. Preconditions: the elements
-    /// aren't bits; `index` is below the number of elements.
+    /// section is that number, a pointer a struct with one pointer. Preconditions: the list is
+    /// inside the message; the elements aren't bits; `index` is below the number of elements.
     pub fn get_struct_element(self, index: u32) -> StructBuilder<'a, A>
         requires inside { IsListPlace (A.view self.arena.now).words self.place }
         requires range { index < self.place.count }
@@ -214,8 +215,8 @@ impl<'a, A: BuilderArena> ListBuilder<'a, A> {
 
     #[tactic(auto, using(crate::proofs::ElementPlaces::pointer_inside))]
     /// Returns a builder of the pointer in element `index`: the element itself, or a struct
-    /// element's first pointer. Preconditions: the elements are pointers, or structs with pointers;
-    /// `index` is below the number of elements.
+    /// element's first pointer. Preconditions: the list is inside the message; the elements are
+    /// pointers, or structs with pointers; `index` is below the number of elements.
     pub fn get_pointer_element(self, index: u32) -> PointerBuilder<'a, A>
         requires inside { IsListPlace (A.view self.arena.now).words self.place }
         requires range { index < self.place.count }

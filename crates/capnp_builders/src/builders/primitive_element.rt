@@ -33,9 +33,9 @@ pub trait PrimitiveElement {
     /// Reads element `index` of `list`: the number in the lowest bytes of the element's data, or
     /// the lowest bit of that data.
     ///
-    /// Preconditions, except for `()`: `index` is below the number of elements, and each element
-    /// has at least as many bits of data as the value. The data of a struct is its data section, so
-    /// a list of numbers that became a list of structs reads as before.
+    /// Precondition: unless `Self` is `()`, `index` is below the number of elements of `list`, and
+    /// each of these has at least as many bits of data as the value. The data of a struct is its
+    /// data section, so a list of numbers that became a list of structs reads as before.
     fn get<A: ReaderArena>(list: &ListReader<'_, A>, index: u32) -> Self
         requires range { 0 < element_bits (size_number size) → index < list.now.count }
         requires wide { element_bits (size_number size)
@@ -43,7 +43,9 @@ pub trait PrimitiveElement {
         ensures { result ≡ value_at list.now.content.now
             (element_start A.ReaderArena list.now index) };
 
-    /// Like `get`, for a list being built, with the same preconditions.
+    /// Like `get`, for a list being built. Preconditions: `list` is inside the message; unless
+    /// `Self` is `()`, `index` is below the number of elements, and each element has at least as
+    /// many bits of data as the value.
     fn get_from_builder<A: BuilderArena>(list: &ListBuilder<'_, A>, index: u32) -> Self
         requires inside { IsListPlace (A.view list.now.arena.now).words list.now.place }
         requires range { 0 < element_bits (size_number size) → index < list.now.place.count }
@@ -53,9 +55,9 @@ pub trait PrimitiveElement {
             (lowest_bits list.now.place index (element_bits (size_number size)) (bits_of result)) };
 
     /// Writes element `index` of `list`: replaces the lowest bits of the element's data by the bits
-    /// of `value`. The data of a struct is its data section. Preconditions, except for `()`, which
-    /// writes nothing: `index` is below the number of elements, and each element has at least as
-    /// many bits of data as the value.
+    /// of `value`. The data of a struct is its data section. Preconditions: `list` is inside the
+    /// message; unless `Self` is `()`, `index` is below the number of elements, and each element
+    /// has at least as many bits of data as the value.
     fn set<A: BuilderArena>(list: &mut ListBuilder<'_, A>, index: u32, value: Self)
         requires inside { IsListPlace (A.view list.old.arena.now).words list.old.place }
         requires range { 0 < element_bits (size_number size) → index < list.old.place.count }

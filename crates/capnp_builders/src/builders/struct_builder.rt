@@ -54,7 +54,7 @@ impl<'a, A: BuilderArena> StructBuilder<'a, A> {
     }
 
     /// Returns a reader of the struct. Reading charges nothing, and may enter `i32::MAX` levels of
-    /// structs and lists.
+    /// structs and lists. Precondition: the struct is inside the message.
     pub fn as_reader(&self) -> StructReader<'_, A>
         requires { IsStructPlace (A.view self.now.arena.now).words self.now.place }
         ensures { IsStructReader A.ReaderArena self.now result }
@@ -63,7 +63,8 @@ impl<'a, A: BuilderArena> StructBuilder<'a, A> {
     }
 
     /// Turns the builder into a reader of the struct, for when building is over. Reading charges
-    /// nothing, and may enter `i32::MAX` levels of structs and lists.
+    /// nothing, and may enter `i32::MAX` levels of structs and lists. Precondition: the struct is
+    /// inside the message.
     pub fn into_reader(self) -> StructReader<'a, A>
         requires { IsStructPlace (A.view self.arena.now).words self.place }
         ensures { IsStructReader A.ReaderArena self.entry result }
@@ -72,8 +73,8 @@ impl<'a, A: BuilderArena> StructBuilder<'a, A> {
         StructReader::at(arena, place, i32::MAX)
     }
 
-    /// Returns a builder of pointer `index` of the pointer section. Precondition: `index` is below
-    /// the number of pointers.
+    /// Returns a builder of pointer `index` of the pointer section. Preconditions: the struct is
+    /// inside the message; `index` is below the struct's number of pointers.
     pub fn get_pointer_field(self, index: usize) -> PointerBuilder<'a, A>
         requires inside { IsStructPlace (A.view self.arena.now).words self.place }
         requires field { index < self.place.pointers }
@@ -95,6 +96,8 @@ impl<'a, A: BuilderArena> StructBuilder<'a, A> {
     /// all pointers of `self` null, zeroes what they held, and copies, in order, the pointers that
     /// both structs have. Charges `lim` what reading the values of the copied pointers costs, and
     /// nothing else. These values are read under the nesting limit of `value`.
+    ///
+    /// Precondition: the struct is inside the message.
     ///
     /// Refusals: the first refusal of reading the values of the copied pointers. If the copies
     /// don't fit after the words of the struct's segment, and no other segment has room for one of
@@ -144,8 +147,8 @@ impl<'a, A: BuilderArena> StructBuilder<'a, A> {
         copy::copy_each(&mut *self.arena, to, from, count, lim)
     }
 
-    /// Whether pointer `index` of the pointer section is null. Precondition: `index` is below the
-    /// number of pointers.
+    /// Whether pointer `index` of the pointer section is null. Preconditions: the struct is inside
+    /// the message; `index` is below the struct's number of pointers.
     pub fn is_pointer_field_null(&self, index: usize) -> bool
         requires inside { IsStructPlace (A.view self.now.arena.now).words self.now.place }
         requires field { index < self.now.place.pointers }
@@ -156,8 +159,8 @@ impl<'a, A: BuilderArena> StructBuilder<'a, A> {
         self.as_reader().is_pointer_field_null(index)
     }
 
-    /// Writes the field of the data section at `offset`, counted in values of `T`. Precondition:
-    /// the field is inside the section.
+    /// Writes the field of the data section at `offset`, counted in values of `T`. Preconditions:
+    /// the struct is inside the message; the field at `offset` is inside the data section.
     pub fn set_data_field<T: Primitive + Zero>(&mut self, offset: usize, value: T)
         requires { HoldsField A.view self.old (8 * T.BYTES) offset }
         ensures written { WritesField (A.view self.old.arena.now)
@@ -170,7 +173,8 @@ impl<'a, A: BuilderArena> StructBuilder<'a, A> {
     }
 
     /// Like `set_data_field`, for a field with the default `mask`: `get_data_field_mask` with the
-    /// same mask then returns `value`.
+    /// same mask then returns `value`. Preconditions: the struct is inside the message; the field
+    /// at `offset` is inside the data section.
     pub fn set_data_field_mask<T: Primitive + Zero + Mask>(
         &mut self,
         offset: usize,
@@ -187,7 +191,8 @@ impl<'a, A: BuilderArena> StructBuilder<'a, A> {
         self.set_data_field(offset, T::mask(value, mask));
     }
 
-    /// Writes bit `offset` of the data section. Precondition: the bit is inside the section.
+    /// Writes bit `offset` of the data section. Preconditions: the struct is inside the message;
+    /// bit `offset` is inside the data section.
     pub fn set_bool_field(&mut self, offset: usize, value: bool)
         requires { HoldsBit A.view self.old offset }
         ensures written { WritesField (A.view self.old.arena.now)
@@ -200,7 +205,8 @@ impl<'a, A: BuilderArena> StructBuilder<'a, A> {
     }
 
     /// Like `set_bool_field`, for a bit with the default `mask`: `get_bool_field_mask` with the
-    /// same mask then returns `value`.
+    /// same mask then returns `value`. Preconditions: the struct is inside the message; bit
+    /// `offset` is inside the data section.
     pub fn set_bool_field_mask(&mut self, offset: usize, value: bool, mask: bool)
         requires { HoldsBit A.view self.old offset }
         ensures written { WritesField (A.view self.old.arena.now)
@@ -212,8 +218,8 @@ impl<'a, A: BuilderArena> StructBuilder<'a, A> {
         self.set_bool_field(offset, value != mask);
     }
 
-    /// Returns the field of the data section at `offset`, counted in values of `T`. Precondition:
-    /// the field is inside the section.
+    /// Returns the field of the data section at `offset`, counted in values of `T`. Preconditions:
+    /// the struct is inside the message; the field at `offset` is inside the data section.
     pub fn get_data_field<T: Primitive + Zero>(&self, offset: usize) -> T
         requires { HoldsField A.view self.now (8 * T.BYTES) offset }
         ensures { HasField (A.view self.now.arena.now) self.now.place.segment self.now.place.byte
@@ -224,7 +230,8 @@ impl<'a, A: BuilderArena> StructBuilder<'a, A> {
     }
 
     /// Returns what `get_data_field` returns, with the field's default `mask` applied.
-    /// Precondition: the field is inside the section.
+    /// Preconditions: the struct is inside the message; the field at `offset` is inside the data
+    /// section.
     pub fn get_data_field_mask<T: Primitive + Zero + Mask>(
         &self,
         offset: usize,
@@ -239,7 +246,8 @@ impl<'a, A: BuilderArena> StructBuilder<'a, A> {
         T::mask(self.get_data_field(offset), mask)
     }
 
-    /// Returns bit `offset` of the data section. Precondition: the bit is inside the section.
+    /// Returns bit `offset` of the data section. Preconditions: the struct is inside the message;
+    /// bit `offset` is inside the data section.
     pub fn get_bool_field(&self, offset: usize) -> bool
         requires { HoldsBit A.view self.now offset }
         ensures { IsTrue result
@@ -250,8 +258,8 @@ impl<'a, A: BuilderArena> StructBuilder<'a, A> {
         numbers::get_bit(&*self.arena, self.place.segment, bit)
     }
 
-    /// Returns what `get_bool_field` returns, with the bit's default `mask` applied. Precondition:
-    /// the bit is inside the section.
+    /// Returns what `get_bool_field` returns, with the bit's default `mask` applied. Preconditions:
+    /// the struct is inside the message; bit `offset` is inside the data section.
     pub fn get_bool_field_mask(&self, offset: usize, mask: bool) -> bool
         requires { HoldsBit A.view self.now offset }
         ensures plain { mask ≡ false

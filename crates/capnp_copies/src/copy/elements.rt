@@ -86,6 +86,8 @@ pub(crate) fn copy_elements<A: BuilderArena, B: ReaderArena>(
 }
 
 /// Writes `words` over the words of segment `id` from `at` on; nothing if `words` is empty.
+/// Preconditions: the length of `words` is a multiple of 8; segment `id` has at least `at`
+/// allocated words more than there are in `words`.
 pub fn put_words<A: BuilderArena>(arena: &mut A, id: u32, at: u32, words: &[u8])
     requires whole { length words.now ≡ 8 * length (words_of words.now) }
     requires inside { at + length (words_of words.now)

@@ -21,7 +21,9 @@ use capnp_words::words;
 
 /// Copies a list of `count` numbers of the element size `size`, which are in the words `elements`,
 /// and makes the pointer at `to` lead to the copy. Refuses only if the arena refuses the words;
-/// then no word changes.
+/// then no word changes. Preconditions: the word at `to` is allocated; `size` is neither `Pointer`
+/// nor `InlineComposite`; `count` is below 2^29; `elements` has exactly the words that `count`
+/// elements take.
 #[inline(always)]
 pub fn copy_primitive_list<A: BuilderArena>(
     arena: &mut A,

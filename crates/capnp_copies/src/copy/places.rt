@@ -11,6 +11,7 @@ use capnp_objects::object::Place;
 use capnp_objects::pointers::Pointer;
 
 /// The pointer `words` words after `from`, in the same segment and with the same nesting limit.
+/// Precondition: `from.place.at + words` is below 2^32.
 pub fn pointer_past<B: ReaderArena>(from: Pointer<'_, B>, words: u32) -> Pointer<'_, B>
     requires { from.place.at + words < 2 ^ 32 }
     ensures { reading B.ReaderArena result ≡ place_past (reading B.ReaderArena from.entry) words }
@@ -25,7 +26,8 @@ pub fn pointer_past<B: ReaderArena>(from: Pointer<'_, B>, words: u32) -> Pointer
     }
 }
 
-/// The place `words` words after `place`, in the same segment.
+/// The place `words` words after `place`, in the same segment. Precondition: `place.at + words` is
+/// below 2^32.
 pub fn place_past(place: WordPlace, words: u32) -> WordPlace
     requires { place.at + words < 2 ^ 32 }
     ensures { result ≡ record place { at = place.at + words } }

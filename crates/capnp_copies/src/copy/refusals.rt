@@ -9,7 +9,8 @@ use capnp_making::making::clear;
 use capnp_words::error::ErrorKind;
 
 /// Ends a copy to the pointer at `to`. If the copy was refused, makes the pointer null, and zeroes
-/// what was made for the copy. Returns `copied`.
+/// what was made for the copy. Returns `copied`. Precondition: if `copied` is a refusal, the word
+/// at `to` is allocated.
 #[inline(always)]
 pub fn clear_if_refused<A: BuilderArena>(
     arena: &mut A,

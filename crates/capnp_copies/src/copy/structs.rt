@@ -23,7 +23,8 @@ use capnp_words::words::{used_words_in, word_range};
 
 /// Copies the struct whose first word is at `from`, with the sections `size`, to the null pointer
 /// at `to.place`. In canonical form, drops the zeros and null pointers at the ends of the struct's
-/// sections.
+/// sections. Preconditions: the word at `to.place` is allocated and zero; the segment of `from` has
+/// all words of a struct of `size` from `from` on.
 #[cycle(copies)]
 #[inline(always)]
 pub fn copy_struct<A: BuilderArena, B: ReaderArena>(

@@ -11,7 +11,7 @@ use capnp_framing::devices::Output;
 use capnp_framing::framing::{FrameError, write};
 
 /// Writes a message as a frame: the allocated words of each segment, after a table of the segments'
-/// sizes. Takes memory only if there isn't exactly one segment. Precondition: the output hasn't
+/// sizes. Takes memory only if there isn't exactly one segment. Precondition: `output` hasn't
 /// failed.
 ///
 /// Refusals: `AllocationFailed` if memory runs out; `NoSegments` if there are no segments;
