@@ -122,6 +122,7 @@ def main():
         counted('header', [sys.executable, str(TOP / 'tests/library/header.py')]),
         counted('generated', [sys.executable, str(TOP / 'tools/generated.py'), '--sums']),
         counted('printer', [sys.executable, str(TOP / 'tests/rust/texts.py')]),
+        counted('preconditions', [sys.executable, '-B', str(TOP / 'tests/rust/preconditions.py')]),
         counted('rust', [sys.executable, str(TOP / 'tools/rust/generated.py'), '--check']),
         counted('toolchain', [sys.executable, str(TOP / 'tests/toolchain.py')]),
         counted('scripts', [sys.executable, '-B', str(TOP / 'tests/scripts.py')]),

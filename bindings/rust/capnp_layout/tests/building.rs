@@ -365,6 +365,29 @@ fn fields_that_are_not_there_panic() {
     }
 }
 
+/// The getters of a builder, at the last field that is there and at the first that isn't.
+#[test]
+fn fields_that_are_not_there_are_zero() {
+    let mut message = Builder::new();
+    let mut root = message.init_root(StructSize {
+        data_words: 1,
+        pointers: 2,
+    });
+    root.set_u64(0, u64::MAX).set_text(1, "text");
+    assert_eq!((root.get::<u8>(7), root.get::<u16>(3)), (255, 0xffff));
+    assert_eq!((root.get::<i32>(1), root.get::<u64>(0)), (-1, u64::MAX));
+    assert!(root.get_bool(63) && root.has(1) && !root.has(0));
+    for beyond in [8, 1 << 32, usize::MAX] {
+        assert_eq!((root.get::<u8>(beyond), root.get::<u16>(beyond)), (0, 0));
+        assert_eq!((root.get::<i32>(beyond), root.get::<f64>(beyond)), (0, 0.0));
+        assert!(!root.get_bool(8 * beyond.min(1 << 60)) && !root.has(beyond));
+    }
+    assert_eq!((root.get::<u16>(4), root.get::<u32>(2)), (0, 0));
+    assert_eq!((root.get::<u64>(1), root.get_bool(64)), (0, false));
+    assert!(!root.has(2) && !root.get_bool(usize::MAX));
+    assert_eq!(message.refused(), None);
+}
+
 #[test]
 fn elements_that_are_not_there_panic() {
     let size = StructSize {
@@ -455,6 +478,37 @@ fn too_many_elements_are_refused() {
         with_root(|it| it.init_list::<Lists<u8>>(0, 1).init(0, MOST + 1).set(9, 1)),
         refused(MOST + 1)
     );
+    assert_eq!(
+        with_root(|it| {
+            it.init_list::<Lists<Structs>>(0, 1)
+                .init_structs(0, MOST / 12 + 1, size);
+        }),
+        refused(MOST / 12 + 1)
+    );
+    let nothing = StructSize {
+        data_words: 0,
+        pointers: 0,
+    };
+    for count in [MOST, MOST + 1, usize::MAX] {
+        let expected = if count == MOST {
+            (true, None)
+        } else {
+            refused(count)
+        };
+        assert_eq!(
+            with_root(|it| {
+                it.init_structs(0, count, nothing);
+            }),
+            expected
+        );
+        assert_eq!(
+            with_root(|it| {
+                it.init_list::<Lists<Structs>>(0, 1)
+                    .init_structs(0, count, nothing);
+            }),
+            expected
+        );
+    }
     let large = vec![b' '; MOST + 1];
     assert_eq!(
         with_root(|it| {

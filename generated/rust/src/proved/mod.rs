@@ -3,9 +3,9 @@
 //! contracts say. Here it is printed without contracts and proofs, by `tools/rust/generated.py`. No
 //! proof is about the printed text; `support` is written by hand.
 //!
-//! Some functions have preconditions, which Rattle's callers prove. They are quoted in the doc
-//! comments. A call that breaks one may panic or return a wrong result, but is never undefined
-//! behavior.
+//! Some functions have preconditions, which Rattle's callers prove. The doc comments state them, and
+//! quote them from the contracts. A call that breaks one may panic or return a wrong result, but is
+//! never undefined behavior.
 #![allow(
     dead_code,
     unexpected_cfgs,

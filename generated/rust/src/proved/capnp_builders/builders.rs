@@ -40,7 +40,8 @@ pub struct PointerBuilder<'a, A> {
     pub arena: &'a mut A,
     /// The segment of the pointer's word.
     pub segment: u32,
-    /// The position of the pointer's word in the segment, in words.
+    /// The position of the pointer's word in the segment, in words. Calls require that this word is
+    /// allocated, and it is allocated for each builder that a call returns.
     pub at: u32,
 }
 
@@ -71,7 +72,7 @@ impl<'a, A: BuilderArena> PointerBuilder<'a, A> {
         PointerBuilder { arena, segment, at }
     }
 
-    /// Whether the pointer is null.
+    /// Whether the pointer is null. Precondition: the pointer's word is allocated.
     ///
     /// # Preconditions
     ///
@@ -99,7 +100,7 @@ impl<'a, A: BuilderArena> PointerBuilder<'a, A> {
     }
 
     /// Makes the pointer null, and zeroes what it held: its object, all objects below it, and their
-    /// landing pads. These words stay allocated.
+    /// landing pads. These words stay allocated. Precondition: the pointer's word is allocated.
     ///
     /// # Preconditions
     ///
@@ -112,7 +113,7 @@ impl<'a, A: BuilderArena> PointerBuilder<'a, A> {
     }
 
     /// Makes the pointer the capability with index `index` (encoding specification, "Capabilities
-    /// (Interfaces)").
+    /// (Interfaces)"). Precondition: the pointer's word is allocated.
     ///
     /// # Preconditions
     ///
@@ -128,6 +129,8 @@ impl<'a, A: BuilderArena> PointerBuilder<'a, A> {
     /// the struct's place. `into_struct` makes a builder from the place; `init_struct` does both
     /// steps. `self` can still be used after the call, and the contract states what the message is
     /// then, also after a refusal.
+    ///
+    /// Precondition: the pointer's word is allocated.
     ///
     /// Refusals, if no segment has room: `AllocationFailed` if memory runs out;
     /// `MessageTooLarge(usize::MAX)` if the message already has 4,294,967,295 segments. After a
@@ -163,6 +166,7 @@ impl<'a, A: BuilderArena> PointerBuilder<'a, A> {
     }
 
     /// Zeroes what the pointer held, and makes the pointer lead to a new struct, all zero.
+    /// Precondition: the pointer's word is allocated.
     ///
     /// Refusals, if no segment has room: `AllocationFailed` if memory runs out;
     /// `MessageTooLarge(usize::MAX)` if the message already has 4,294,967,295 segments. After a
@@ -180,10 +184,10 @@ impl<'a, A: BuilderArena> PointerBuilder<'a, A> {
     }
 
     /// Zeroes what the pointer held, makes the pointer lead to a new list of `count` elements that
-    /// aren't structs, all zero or null, and returns the list's place. Preconditions: `size` isn't
-    /// `InlineComposite`; `count` is below 2^29. `into_list` makes a builder from the place;
-    /// `init_list` does both steps. The contract states what the message is afterwards, also after
-    /// a refusal.
+    /// aren't structs, all zero or null, and returns the list's place. Preconditions: the pointer's
+    /// word is allocated; `size` isn't `InlineComposite`; `count` is below 2^29. `into_list` makes
+    /// a builder from the place; `init_list` does both steps. The contract states what the message
+    /// is afterwards, also after a refusal.
     ///
     /// Refusals, if no segment has room: `AllocationFailed` if memory runs out;
     /// `MessageTooLarge(n)` if n is above 536,870,911, where n is the number of the list's words,
@@ -218,8 +222,8 @@ impl<'a, A: BuilderArena> PointerBuilder<'a, A> {
     }
 
     /// Zeroes what the pointer held, and makes the pointer lead to a new list of `count` elements
-    /// that aren't structs, all zero or null. Preconditions: `size` isn't `InlineComposite`;
-    /// `count` is below 2^29.
+    /// that aren't structs, all zero or null. Preconditions: the pointer's word is allocated;
+    /// `size` isn't `InlineComposite`; `count` is below 2^29.
     ///
     /// Refusals, if no segment has room: `AllocationFailed` if memory runs out;
     /// `MessageTooLarge(n)` if n is above 536,870,911, where n is the number of the list's words,
@@ -245,10 +249,10 @@ impl<'a, A: BuilderArena> PointerBuilder<'a, A> {
     }
 
     /// Zeroes what the pointer held, makes the pointer lead to a new list of `count` structs, all
-    /// zero, and returns the list's place. Preconditions: `count` is below 2^30, and the structs
-    /// together have fewer than 2^29 words. `into_list` makes a builder from the place;
-    /// `init_struct_list` does both steps. The contract states what the message is afterwards, also
-    /// after a refusal.
+    /// zero, and returns the list's place. Preconditions: the pointer's word is allocated; `count`
+    /// is below 2^30; `count` structs of `size` have fewer than 2^29 words. `into_list` makes a
+    /// builder from the place; `init_struct_list` does both steps. The contract states what the
+    /// message is afterwards, also after a refusal.
     ///
     /// Refusals, if no segment has room: `AllocationFailed` if memory runs out;
     /// `MessageTooLarge(n)` if n is above 536,870,911, where n is the number of the structs' words,
@@ -272,8 +276,8 @@ impl<'a, A: BuilderArena> PointerBuilder<'a, A> {
     }
 
     /// Zeroes what the pointer held, and makes the pointer lead to a new list of `count` structs,
-    /// all zero. Preconditions: `count` is below 2^30, and the structs together have fewer than
-    /// 2^29 words.
+    /// all zero. Preconditions: the pointer's word is allocated; `count` is below 2^30; `count`
+    /// structs of `size` have fewer than 2^29 words.
     ///
     /// Refusals, if no segment has room: `AllocationFailed` if memory runs out;
     /// `MessageTooLarge(n)` if n is above 536,870,911, where n is the number of the structs' words,
@@ -298,8 +302,9 @@ impl<'a, A: BuilderArena> PointerBuilder<'a, A> {
         Ok(self.into_list(place))
     }
 
-    /// Lends the bytes of the message that `bytes` names, for writing in place. Precondition: they
-    /// are inside the message. No other bytes change.
+    /// Lends the bytes of the message that `bytes` names, for writing in place. Preconditions:
+    /// segment `bytes.segment` exists; the words that hold `bytes` are allocated. No other bytes
+    /// change.
     ///
     /// # Preconditions
     ///
@@ -314,7 +319,8 @@ impl<'a, A: BuilderArena> PointerBuilder<'a, A> {
     }
 
     /// Zeroes what the pointer held, makes the pointer lead to new data of `size` bytes, all zero,
-    /// and lends these bytes for writing in place ("Lists"). Precondition: `size` is below 2^29.
+    /// and lends these bytes for writing in place ("Lists"). Preconditions: the pointer's word is
+    /// allocated; `size` is below 2^29.
     ///
     /// Refusals, if no segment has room: `AllocationFailed` if memory runs out;
     /// `MessageTooLarge(usize::MAX)` if the message already has 4,294,967,295 segments. After a
@@ -335,7 +341,7 @@ impl<'a, A: BuilderArena> PointerBuilder<'a, A> {
 
     /// Zeroes what the pointer held, makes the pointer lead to a new text of `size` bytes, all
     /// zero, and lends these bytes, but not the zero byte after them, for writing in place
-    /// ("Lists"). Precondition: `size + 1` is below 2^29.
+    /// ("Lists"). Preconditions: the pointer's word is allocated; `size` is below 2^29 - 1.
     ///
     /// Refusals, if no segment has room: `AllocationFailed` if memory runs out;
     /// `MessageTooLarge(usize::MAX)` if the message already has 4,294,967,295 segments. After a
@@ -355,7 +361,8 @@ impl<'a, A: BuilderArena> PointerBuilder<'a, A> {
     }
 
     /// Zeroes what the pointer held, and makes the pointer lead to new data: a copy of `bytes`
-    /// ("Lists"). Precondition: there are fewer than 2^29 bytes.
+    /// ("Lists"). Preconditions: the pointer's word is allocated; `bytes` has fewer than 2^29
+    /// bytes.
     ///
     /// Refusals, if no segment has room: `AllocationFailed` if memory runs out;
     /// `MessageTooLarge(usize::MAX)` if the message already has 4,294,967,295 segments. After a
@@ -373,8 +380,8 @@ impl<'a, A: BuilderArena> PointerBuilder<'a, A> {
     }
 
     /// Zeroes what the pointer held, and makes the pointer lead to a new text: a copy of `bytes`,
-    /// followed by a zero byte ("Lists"). Precondition: with the zero byte, there are fewer than
-    /// 2^29 bytes.
+    /// followed by a zero byte ("Lists"). Preconditions: the pointer's word is allocated; `bytes`
+    /// has fewer than 2^29 - 1 bytes.
     ///
     /// Refusals, if no segment has room: `AllocationFailed` if memory runs out;
     /// `MessageTooLarge(usize::MAX)` if the message already has 4,294,967,295 segments. After a
@@ -392,7 +399,7 @@ impl<'a, A: BuilderArena> PointerBuilder<'a, A> {
     }
 
     /// Returns the index in the capability pointer ("Capabilities (Interfaces)"). Doesn't follow
-    /// far pointers.
+    /// far pointers. Precondition: the pointer's word is allocated.
     ///
     /// Refusals: `MessageContainsNullCapabilityPointer` if the pointer is null;
     /// `MessageContainsNonCapabilityPointerWhereCapabilityPointerWasExpected` if it is neither null
@@ -409,7 +416,8 @@ impl<'a, A: BuilderArena> PointerBuilder<'a, A> {
     }
 
     /// Copies the value of `from` to this pointer, in canonical form if `canonicalize`, otherwise
-    /// plain ("Canonicalization"). Charges `lim` what reading the whole value costs.
+    /// plain ("Canonicalization"). Charges `lim` what reading the whole value costs. Precondition:
+    /// the pointer's word is allocated.
     ///
     /// First zeroes what the pointer held; those words stay allocated. If the copy fits the
     /// pointer's segment, or the message has one segment afterwards, the copy's words follow the
@@ -460,6 +468,8 @@ impl<'a, A: BuilderArena> PointerBuilder<'a, A> {
     /// words. Charges `lim` what reading the values of the struct's pointers costs, and nothing for
     /// the struct's own words. These values are read under the nesting limit of `value`.
     ///
+    /// Precondition: the pointer's word is allocated.
+    ///
     /// First zeroes what the pointer held. If the copy fits the pointer's segment, or the message
     /// has one segment afterwards, the copy's words follow the old words of the pointer's segment,
     /// in the canonical order of objects.
@@ -501,6 +511,8 @@ impl<'a, A: BuilderArena> PointerBuilder<'a, A> {
     /// of numbers are zero, up to the end of its word. Charges `lim` what reading the values of the
     /// list's pointers costs, and nothing for the list's own words or its number of elements. These
     /// values are read under the nesting limit of `value`.
+    ///
+    /// Precondition: the pointer's word is allocated.
     ///
     /// First zeroes what the pointer held. If the copy fits the pointer's segment, or the message
     /// has one segment afterwards, the copy's words follow the old words of the pointer's segment,

@@ -16,6 +16,7 @@ use crate::proved::capnp_words::wire_pointer::{ElementSize, StructSize};
 use crate::proved::capnp_words::zero::Zero;
 
 /// Makes the root pointer lead to a new struct, all zero, and returns the struct's place.
+/// Precondition: word 0 of segment 0 is allocated.
 ///
 /// Refusals, if no segment has room: `AllocationFailed` if memory runs out;
 /// `MessageTooLarge(usize::MAX)` if the message already has 4,294,967,295 segments. After a refusal
@@ -34,8 +35,8 @@ pub fn init_root<A: BuilderArena>(
     new_struct(arena, 0, 0, size)
 }
 
-/// Writes the field of the data section at `offset`, counted in values of `T`. Precondition: the
-/// field is inside the section.
+/// Writes the field of the data section at `offset`, counted in values of `T`. Preconditions:
+/// `place` is inside the message and aligned; the field at `offset` is inside the data section.
 ///
 /// # Preconditions
 ///
@@ -54,7 +55,8 @@ pub fn set_number<A: BuilderArena, T: Primitive + Zero>(
     write_number(arena, place, offset, value);
 }
 
-/// Writes bit `offset` of the data section. Precondition: the bit is inside the section.
+/// Writes bit `offset` of the data section. Preconditions: `place` is inside the message; bit
+/// `offset` is inside the data section.
 ///
 /// # Preconditions
 ///
@@ -68,7 +70,8 @@ pub fn set_bool<A: BuilderArena>(arena: &mut A, place: StructPlace, offset: usiz
 }
 
 /// Makes pointer `index` of the pointer section lead to a new text: the bytes of `text`, followed
-/// by a zero byte. Precondition: `index` is below the number of pointers.
+/// by a zero byte. Preconditions: `place` is inside the message; `index` is below `place.pointers`;
+/// `text` has fewer than 2^29 - 1 bytes.
 ///
 /// Refusals, if no segment has room: `AllocationFailed` if memory runs out;
 /// `MessageTooLarge(usize::MAX)` if the message already has 4,294,967,295 segments. After a refusal
@@ -92,7 +95,8 @@ pub fn set_text<A: BuilderArena>(
 }
 
 /// Makes pointer `index` of the pointer section lead to new data, the bytes of `contents`.
-/// Precondition: `index` is below the number of pointers.
+/// Preconditions: `place` is inside the message; `index` is below `place.pointers`; `contents` has
+/// fewer than 2^29 bytes.
 ///
 /// Refusals, if no segment has room: `AllocationFailed` if memory runs out;
 /// `MessageTooLarge(usize::MAX)` if the message already has 4,294,967,295 segments. After a refusal
@@ -121,7 +125,7 @@ pub fn set_data<A: BuilderArena>(
 }
 
 /// Makes pointer `index` of the pointer section lead to a new struct, all zero, and returns the
-/// struct's place. Precondition: `index` is below the number of pointers.
+/// struct's place. Preconditions: `place` is inside the message; `index` is below `place.pointers`.
 ///
 /// Refusals, if no segment has room: `AllocationFailed` if memory runs out;
 /// `MessageTooLarge(usize::MAX)` if the message already has 4,294,967,295 segments. After a refusal
@@ -144,8 +148,9 @@ pub fn init_struct<A: BuilderArena>(
 }
 
 /// Makes pointer `index` of the pointer section lead to a new list of `count` elements that aren't
-/// structs, all zero or null, and returns the list's place. Preconditions: `index` is below the
-/// number of pointers; `size` isn't `InlineComposite`.
+/// structs, all zero or null, and returns the list's place. Preconditions: `place` is inside the
+/// message; `index` is below `place.pointers`; `size` isn't `InlineComposite`; `count` is below
+/// 2^29.
 ///
 /// Refusals, if no segment has room: `AllocationFailed` if memory runs out; `MessageTooLarge(n)` if
 /// n is above 536,870,911, where n is the number of the list's words, plus one for a landing pad;
@@ -179,7 +184,8 @@ pub fn init_list<A: BuilderArena>(
 
 /// Makes pointer `index` of the pointer section lead to a new list of `count` structs, all zero,
 /// and returns the list's place. `builders::element_place` says where each of the structs is.
-/// Preconditions: `index` is below the number of pointers; the structs have fewer than 2^29 words.
+/// Preconditions: `place` is inside the message; `index` is below `place.pointers`; `count` is
+/// below 2^30; `count` structs of `size` have fewer than 2^29 words.
 ///
 /// Refusals, if no segment has room: `AllocationFailed` if memory runs out; `MessageTooLarge(n)` if
 /// n is above 536,870,911, where n is the number of the structs' words, plus two for the tag and a
@@ -213,8 +219,8 @@ pub fn init_struct_list<A: BuilderArena>(
 
 /// Returns the list that pointer `index` of the pointer section leads to. Changes nothing. If the
 /// pointer is null, returns a list of void without elements. The elements may be wider than `size`,
-/// and may be structs that begin with such an element. Preconditions: `index` is below the number
-/// of pointers; `size` isn't `InlineComposite`.
+/// and may be structs that begin with such an element. Preconditions: `place` is inside the
+/// message; `index` is below `place.pointers`; `size` isn't `InlineComposite`.
 ///
 /// Refusals: `ExistingPointerIsNotAList` if the pointer leads to something other than a list;
 /// `ExistingListValueIsIncompatibleWithExpectedType` if the elements are narrower than `size`;
@@ -237,8 +243,8 @@ pub fn get_list<A: BuilderArena>(
     find_list(arena, place.segment, place.pointers_at + index as u32, size)
 }
 
-/// Writes element `index` of a list of numbers that are as wide as `T`. Precondition: `index` is
-/// below the number of elements.
+/// Writes element `index` of a list of numbers that are as wide as `T`. Preconditions: `list` is
+/// inside the message; the elements are numbers as wide as `T`; `index` is below `list.count`.
 ///
 /// # Preconditions
 ///

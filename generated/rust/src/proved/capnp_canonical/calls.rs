@@ -141,7 +141,8 @@ fn copy_unless_canonical<S: ReaderSegments>(
 }
 
 /// Makes a canonical copy of the message in `segments`, and writes the copy to the front of `to`,
-/// in a frame or without one, as `form` says. Returns the number of bytes written.
+/// in a frame or without one, as `form` says. Returns the number of bytes written. Precondition:
+/// `segments` has fewer than 2^32 segments, each of fewer than 2^32 words.
 ///
 /// Copying a message of fewer than 64 words takes heap memory only if the copy has more than 64
 /// words. A message of 64 words or more isn't copied if it is canonical already and has at most
@@ -168,7 +169,8 @@ pub fn copy<S: ReaderSegments>(
     }
 }
 
-/// Returns why and where the message in `segments` isn't canonical; `None` if it is.
+/// Returns why and where the message in `segments` isn't canonical; `None` if it is. Precondition:
+/// `segments` has fewer than 2^32 segments, each of fewer than 2^32 words.
 ///
 /// # Preconditions
 ///
@@ -188,7 +190,8 @@ pub fn check<S: ReaderSegments>(
 }
 
 /// Counts the words and capabilities of the message in `segments`, without the root pointer and
-/// landing pads.
+/// landing pads. Precondition: `segments` has fewer than 2^32 segments, each of fewer than 2^32
+/// words.
 ///
 /// # Preconditions
 ///

@@ -7,7 +7,8 @@ use crate::proved::capnp_canonical::refusal::Refusal;
 use crate::proved::capnp_messages::messages;
 use crate::proved::support::alloc::Global;
 
-/// Returns the SHA-256 of the canonical words of the message in `segments`.
+/// Returns the SHA-256 of the canonical words of the message in `segments`. Precondition:
+/// `segments` has fewer than 2^32 segments, each of fewer than 2^32 words.
 ///
 /// Takes heap memory if a message of fewer than 64 words has more than 64 canonical words, or if a
 /// larger one isn't canonical.

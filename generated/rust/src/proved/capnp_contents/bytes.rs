@@ -9,7 +9,8 @@ use crate::proved::capnp_words::lanes;
 use crate::proved::capnp_words::wire_pointer::ElementSize;
 
 /// Makes the pointer at `at` of segment `id` lead to new data, which are the bytes of `from`
-/// ("Lists").
+/// ("Lists"). Preconditions: word `at` of segment `id` is allocated; `from` has fewer than 2^29
+/// bytes.
 ///
 /// First zeroes the object that the pointer led to. Refusals: `AllocationFailed` if memory runs
 /// out; `MessageTooLarge` if the object needs a new segment, and the object and a landing pad have
@@ -33,7 +34,8 @@ pub fn set_data<A: BuilderArena>(
 }
 
 /// Makes the pointer at `at` of segment `id` lead to a new text: the bytes of `from`, followed by a
-/// zero byte ("Lists").
+/// zero byte ("Lists"). Preconditions: word `at` of segment `id` is allocated; `from` has fewer
+/// than 2^29 - 1 bytes.
 ///
 /// First zeroes the object that the pointer led to. Refusals: `AllocationFailed` if memory runs
 /// out; `MessageTooLarge` if the object needs a new segment, and the object and a landing pad have

@@ -8,7 +8,8 @@ use crate::proved::capnp_making::zeroing::zero_object;
 use crate::proved::capnp_words::error::ErrorKind;
 use crate::proved::capnp_words::wire_pointer::{ElementSize, StructSize, WirePointer};
 
-/// Turns the pointer at `at` of segment `id` into the capability with index `index`.
+/// Turns the pointer at `at` of segment `id` into the capability with index `index`. Precondition:
+/// word `at` of segment `id` is allocated.
 ///
 /// # Preconditions
 ///
@@ -22,7 +23,7 @@ pub fn set_capability<A: BuilderArena>(arena: &mut A, id: u32, at: u32, index: u
 }
 
 /// Makes the pointer at `at` of segment `id` lead to a new struct, all zero. A struct without
-/// sections takes no words.
+/// sections takes no words. Precondition: word `at` of segment `id` is allocated.
 ///
 /// Refusals: `AllocationFailed` if memory runs out; `MessageTooLarge` if the object needs a new
 /// segment, and the object and a landing pad have more than 536,870,911 words, or the message can't
@@ -45,7 +46,8 @@ pub fn init_struct<A: BuilderArena>(
 }
 
 /// Makes the pointer at `at` of segment `id` lead to a new list of `count` elements that aren't
-/// structs, all zero or null.
+/// structs, all zero or null. Preconditions: word `at` of segment `id` is allocated; `count` is
+/// below 2^29; `size` isn't `InlineComposite`.
 ///
 /// Refusals: `AllocationFailed` if memory runs out; `MessageTooLarge` if the object needs a new
 /// segment, and the object and a landing pad have more than 536,870,911 words, or the message can't
@@ -71,7 +73,8 @@ pub fn init_list<A: BuilderArena>(
 }
 
 /// Makes the pointer at `at` of segment `id` lead to a new list of `count` structs, all zero. The
-/// first word of the list is the tag.
+/// first word of the list is the tag. Preconditions: word `at` of segment `id` is allocated;
+/// `count` is below 2^30; `count` structs of `size` have fewer than 2^29 words.
 ///
 /// Refusals: `AllocationFailed` if memory runs out; `MessageTooLarge` if the object needs a new
 /// segment, and the object and a landing pad have more than 536,870,911 words, or the message can't

@@ -28,6 +28,7 @@ fn bytes_between_mut<A: BuilderArena>(
 }
 
 /// Lends the bytes at `bytes`, for writing in place; nothing else of the message changes.
+/// Preconditions: segment `bytes.segment` exists; the words that hold `bytes` are allocated.
 ///
 /// # Preconditions
 ///
@@ -43,7 +44,8 @@ pub fn bytes_mut<A: BuilderArena>(arena: &mut A, bytes: ExistingBytes) -> &mut [
 }
 
 /// Makes the pointer at `at` of segment `id` lead to new data of `size` zero bytes, and lends these
-/// bytes for writing in place ("Lists").
+/// bytes for writing in place ("Lists"). Preconditions: word `at` of segment `id` is allocated;
+/// `size` is below 2^29.
 ///
 /// First zeroes the object that the pointer led to. Refusals: `AllocationFailed` if memory runs
 /// out; `MessageTooLarge` if the object needs a new segment, and the object and a landing pad have
@@ -68,7 +70,7 @@ pub fn init_data<A: BuilderArena>(
 
 /// Makes the pointer at `at` of segment `id` lead to a new text of `size` zero bytes, followed by
 /// the zero byte at a text's end. Lends the `size` bytes for writing in place, without that last
-/// one ("Lists").
+/// one ("Lists"). Preconditions: word `at` of segment `id` is allocated; `size` is below 2^29 - 1.
 ///
 /// First zeroes the object that the pointer led to. Refusals: `AllocationFailed` if memory runs
 /// out; `MessageTooLarge` if the object needs a new segment, and the object and a landing pad have

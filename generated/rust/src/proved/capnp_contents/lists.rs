@@ -15,6 +15,8 @@ use crate::proved::capnp_words::wire_pointer::{ElementSize, StructSize};
 /// Each section gets the larger one of its size in `size` and its old size, which is one data word
 /// for a number and one pointer for a pointer.
 ///
+/// Precondition: word `at` of segment `id` is allocated.
+///
 /// Refusals: `ExistingPointerIsNotAList` for anything but a list;
 /// `FoundBitListWhereStructListWasExpected` for a list of bits; `MessageTooLarge(n)`, where n is
 /// the number of words of the new elements, if n is 2^29 or more; the arena's `AllocationFailed` or

@@ -17,7 +17,7 @@ use crate::proved::capnp_words::wire_pointer::{WirePointer, WirePointerKind};
 
 /// Replaces the null pointer at `to` by a pointer to the object that the pointer at `from` leads
 /// to. Copies a far pointer or a capability unchanged. Writes nothing if the pointer at `from` is
-/// null or leads out of its segment.
+/// null or leads out of its segment. Precondition: the words at `from` and at `to` are allocated.
 ///
 /// Refuses only if the arena refuses two words for a landing pad. A refusal changes no word; if it
 /// is `AllocationFailed`, the allocator has counted it.
@@ -154,7 +154,8 @@ fn tag_of(shape: Shape) -> WirePointer {
 }
 
 /// Replaces the `count` consecutive null pointers from `to` on by pointers to the objects that the
-/// `count` pointers from `from` on lead to.
+/// `count` pointers from `from` on lead to. Preconditions: segment `from.segment` has at least
+/// `from.at + count` allocated words; segment `to.segment` has at least `to.at + count`.
 ///
 /// Refuses only if the arena refuses two words for a landing pad. The pointers before the refused
 /// one, and their landing pads, are then already written.
@@ -227,7 +228,8 @@ fn transfer_each<A: BuilderArena>(
 }
 
 /// Zeroes the landing pads that `transfer_row` wrote when it moved `count` pointers from `from` to
-/// `to`.
+/// `to`. Preconditions: segment `from.segment` has at least `from.at + count` allocated words;
+/// segment `to.segment` has at least `to.at + count`.
 ///
 /// # Preconditions
 ///
@@ -270,7 +272,9 @@ pub struct PointerRows {
 }
 
 /// Replaces the null pointers in the first `count` rows of `to`, `pointers` pointers in each row,
-/// by pointers to the objects that the pointers in the same rows of `from` lead to.
+/// by pointers to the objects that the pointers in the same rows of `from` lead to. Precondition:
+/// for `from` and for `to`, `step` is below 2^18, and `at + count * step + pointers` is at most
+/// `step` more than the number of allocated words of the segment.
 ///
 /// Refuses only if the arena refuses two words for a landing pad. The pointers before the refused
 /// one, and their landing pads, are then already written.
@@ -307,7 +311,9 @@ pub fn transfer_rows<A: BuilderArena>(
 }
 
 /// Zeroes the landing pads that `transfer_rows` wrote when it moved the pointers of `count` rows,
-/// `pointers` pointers in each row.
+/// `pointers` pointers in each row. Precondition: for `from` and for `to`, `step` is below 2^18,
+/// and `at + count * step + pointers` is at most `step` more than the number of allocated words of
+/// the segment.
 ///
 /// # Preconditions
 ///

@@ -5,7 +5,7 @@ use crate::proved::capnp_arena_traits::arena::BuilderArena;
 use crate::proved::capnp_words::primitive::Primitive;
 
 /// Writes `value` into segment `id` at byte `byte`. Preconditions: `byte` is a multiple of the
-/// number's width, and the number is inside the segment.
+/// number's width; the number is in allocated words of segment `id`.
 ///
 /// # Preconditions
 ///
@@ -21,7 +21,7 @@ pub fn set_number<A: BuilderArena, T: Primitive>(arena: &mut A, id: u32, byte: u
 }
 
 /// Writes bit `bit` of segment `id`, which is counted from the lowest bit of the segment's first
-/// byte on. Precondition: the bit is inside the segment.
+/// byte on. Precondition: bit `bit` is in an allocated word of segment `id`.
 ///
 /// # Preconditions
 ///
@@ -41,7 +41,7 @@ pub fn set_bit<A: BuilderArena>(arena: &mut A, id: u32, bit: u64, value: bool) {
 }
 
 /// Returns the number in segment `id` at byte `byte`. Preconditions: `byte` is a multiple of the
-/// number's width, and the number is inside the segment.
+/// number's width; the number is in allocated words of segment `id`.
 ///
 /// # Preconditions
 ///
@@ -74,7 +74,7 @@ fn number_in<T: Primitive>(bytes: &[u8], byte: u64) -> T {
 }
 
 /// Returns bit `bit` of segment `id`, which is counted from the lowest bit of the segment's first
-/// byte on. Precondition: the bit is inside the segment.
+/// byte on. Precondition: bit `bit` is in an allocated word of segment `id`.
 ///
 /// # Preconditions
 ///

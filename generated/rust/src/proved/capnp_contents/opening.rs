@@ -12,7 +12,8 @@ use crate::proved::capnp_words::wire_pointer::StructSize;
 
 /// Returns the struct that the pointer at `at` of segment `id` leads to, with sections at least as
 /// large as in `size`. If the pointer is null, makes a new struct, all zero. If a section is too
-/// small, moves the struct to new words. Otherwise the struct is unchanged.
+/// small, moves the struct to new words. Otherwise the struct is unchanged. Precondition: word `at`
+/// of segment `id` is allocated.
 ///
 /// Refusals: `MessageContainsNonStructPointerWhereStructPointerWasExpected` if the pointer leads to
 /// something else than a struct, and then nothing changes; the arena's `AllocationFailed` or
@@ -109,6 +110,8 @@ fn open_narrow_struct<A: BuilderArena>(
 /// sections at least as large as in `size`. If the pointer is null, returns `None` and changes
 /// nothing. A list of structs that are large enough is unchanged; any other list is turned into a
 /// list of structs in new words.
+///
+/// Precondition: word `at` of segment `id` is allocated.
 ///
 /// Refusals that change nothing: `ExistingPointerIsNotAList` if the pointer leads to something else
 /// than a list; `FoundBitListWhereStructListWasExpected` for a list of bits; `MessageTooLarge(n)`,

@@ -32,7 +32,8 @@ pub use refusals::clear_if_refused;
 pub use structs::copy_struct;
 
 /// Copies the value of `from` to the null pointer at `to`, in canonical form if `canonicalize`,
-/// otherwise plain. Does what `copy_in_form` does.
+/// otherwise plain. Does what `copy_in_form` does. Precondition: the word at `to` is allocated and
+/// zero.
 ///
 /// # Preconditions
 ///
@@ -51,6 +52,7 @@ pub fn copy_value<A: BuilderArena, B: ReaderArena>(
 }
 
 /// Copies the value of `from` to the null pointer at `to.place`, in the form `to.form`.
+/// Precondition: the word at `to.place` is allocated and zero.
 ///
 /// If all words of the copy fit the pointer's segment, or the message has one segment afterwards,
 /// the copy comes after the other words of the pointer's segment, in the canonical order of

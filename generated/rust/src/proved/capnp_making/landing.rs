@@ -57,7 +57,8 @@ pub(in crate::proved::capnp_making) fn follow<A: BuilderArena>(
 }
 
 /// Where the pointer at `at` of segment `id` leads. The result has no meaning if the pointer is
-/// null or leads out of the message. Precondition: `word` is the pointer's word.
+/// null or leads out of the message. Precondition: `word` is word `at` of segment `id`, or zero if
+/// there is no such word.
 ///
 /// # Preconditions
 ///

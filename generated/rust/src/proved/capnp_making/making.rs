@@ -28,7 +28,8 @@ pub enum Shape {
 }
 
 /// Returns the word of a pointer that is at `position` of a segment, and leads to an object at
-/// `target` of the same segment.
+/// `target` of the same segment. Preconditions: the offset from word `position + 1` to word
+/// `target` is from -2^29 to 2^29 - 1; the number of a list in `shape` is below 2^29.
 ///
 /// # Preconditions
 ///
@@ -119,7 +120,8 @@ fn make_far_object<A: BuilderArena>(
 }
 
 /// Makes the pointer at `at` of segment `id` null, and zeroes what it led to: its object, all
-/// objects below that, and their landing pads.
+/// objects below that, and their landing pads. Precondition: word `at` of segment `id` is
+/// allocated.
 ///
 /// # Preconditions
 ///
@@ -132,7 +134,7 @@ pub fn clear<A: BuilderArena>(arena: &mut A, id: u32, at: u32) {
 }
 
 /// Makes a struct, all zero, and makes the pointer at `at` of segment `id` lead to it. A struct
-/// without sections takes no words.
+/// without sections takes no words. Precondition: word `at` of segment `id` is allocated.
 ///
 /// Refuses like `BuilderArena::allocate_anywhere` for the struct's words and one for a landing pad.
 /// A refusal changes nothing, except that `AllocationFailed` adds 1 to the allocator's `refused`.
@@ -158,7 +160,8 @@ pub fn make_struct<A: BuilderArena>(
 }
 
 /// Makes a list of `count` elements that aren't structs, all zero or null, and makes the pointer at
-/// `at` of segment `id` lead to it.
+/// `at` of segment `id` lead to it. Preconditions: word `at` of segment `id` is allocated; `count`
+/// is below 2^29; `size` isn't `InlineComposite`.
 ///
 /// Refuses like `BuilderArena::allocate_anywhere` for the list's words and one for a landing pad. A
 /// refusal changes nothing, except that `AllocationFailed` adds 1 to the allocator's `refused`.
@@ -199,7 +202,8 @@ fn words_of_list(size: ElementSize, count: u32) -> u32 {
 }
 
 /// Makes a list of `count` structs, all zero, and makes the pointer at `at` of segment `id` lead to
-/// it. The first word of the list is the tag.
+/// it. The first word of the list is the tag. Preconditions: word `at` of segment `id` is
+/// allocated; `count` is below 2^30; `count` structs of `size` have fewer than 2^29 words.
 ///
 /// Refuses like `BuilderArena::allocate_anywhere` for the list's words, its tag included, and one
 /// for a landing pad. A refusal changes nothing, except that `AllocationFailed` adds 1 to the

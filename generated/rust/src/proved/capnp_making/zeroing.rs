@@ -7,7 +7,7 @@ use crate::proved::capnp_words::wire_pointer::{
 };
 
 /// Zeroes the `n` words of segment `id` from `start` on. Changes nothing unless all of them are
-/// inside the segment.
+/// inside the segment. Precondition: `n` is below 2^63.
 ///
 /// # Preconditions
 ///
@@ -66,6 +66,8 @@ fn zero_far_pads<A: BuilderArena>(arena: &mut A, word: WirePointer) {
 /// that, and their landing pads. If the pointer doesn't lead to a value in which no word is used
 /// twice, may zero any words, but writes only zeros. In a message that a builder made, this can't
 /// happen.
+///
+/// Precondition: word `at` of segment `id` is allocated.
 ///
 /// # Preconditions
 ///

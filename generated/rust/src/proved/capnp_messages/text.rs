@@ -28,7 +28,7 @@ pub fn parse_traversal_limit(text: &str) -> Option<Option<usize>> {
     }
 }
 
-/// Writes a number in decimal digits.
+/// Writes a number in decimal digits. Precondition: `output` hasn't failed.
 ///
 /// # Preconditions
 ///
@@ -43,6 +43,7 @@ pub fn write_number<W: Output>(output: &mut W, n: u64) -> Result<(), DeviceFault
 }
 
 /// Writes a line with the numbers of words and capabilities of `size`: `words N caps M`.
+/// Precondition: `output` hasn't failed.
 ///
 /// # Preconditions
 ///
@@ -58,7 +59,7 @@ pub fn write_size<W: Output>(output: &mut W, size: MessageSize) -> Result<(), De
 }
 
 /// Writes a line that says that a message is sound, with the extent of its value: `sound: depth N,
-/// words N, capabilities N`.
+/// words N, capabilities N`. Precondition: `output` hasn't failed.
 ///
 /// # Preconditions
 ///

@@ -18,7 +18,8 @@ pub struct Place<'a> {
 }
 
 impl<'a> Place<'a> {
-    /// The number of whole words in the segment.
+    /// The number of whole words in the segment. Precondition: the segment has fewer than 2^32
+    /// whole words.
     ///
     /// # Preconditions
     ///

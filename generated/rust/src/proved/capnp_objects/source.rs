@@ -49,7 +49,8 @@ struct Found<'a> {
 impl<'a, A: ReaderArena> Source<'a, A> {
     /// Reads the object that the pointer at `place` leads to, but none of its children (encoding
     /// specification, "Structs", "Lists", "Inter-Segment Pointers" and "Capabilities
-    /// (Interfaces)").
+    /// (Interfaces)"). Precondition: `place.bytes` has exactly the whole words of segment
+    /// `place.segment` of `self`, fewer than 2^32.
     ///
     /// If the word at `place` is zero, or `place` is outside of its segment, returns
     /// `Object::Null`, and counts and charges nothing in `lim`. Otherwise counts the pointer in
@@ -118,8 +119,9 @@ impl<'a, A: ReaderArena> Source<'a, A> {
     }
 
     /// Reads the struct that `pointer` leads to, like `read_object`. Returns the position, in
-    /// words, where the struct starts in the pointer's segment. Precondition: `pointer` is itself a
-    /// struct pointer, not a far pointer.
+    /// words, where the struct starts in the pointer's segment. Preconditions: `pointer.word` is
+    /// the word at `pointer.place`, and itself a struct pointer, neither far nor null;
+    /// `pointer.place` is as for `read_object`.
     ///
     /// # Preconditions
     ///
@@ -138,8 +140,8 @@ impl<'a, A: ReaderArena> Source<'a, A> {
 
     /// Reads the list of bits or numbers that `pointer` leads to, like `read_object`. Returns the
     /// position, in words, where the elements start in the pointer's segment. Preconditions:
-    /// `pointer` is itself a pointer to such a list, not a far pointer; the list claims `words`
-    /// words.
+    /// `pointer.word` is the word at `pointer.place`, and itself the pointer to such a list, not a
+    /// far one; the list claims `words` words; `pointer.place` is as for `read_object`.
     ///
     /// # Preconditions
     ///

@@ -28,7 +28,8 @@ impl BufferedOutput for MemoryOutput {
     }
 }
 
-/// Flushes the output, unless `is_ahead` of the input is `true`.
+/// Flushes the output, unless `is_ahead` of the input is `true`. Precondition: `output` hasn't
+/// failed.
 ///
 /// # Preconditions
 ///

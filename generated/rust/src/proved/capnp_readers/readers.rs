@@ -260,6 +260,8 @@ impl<'a, A: ReaderArena> PointerReader<'a, A> {
     /// the list of `default`. If there is no default either, or the default's pointer is null too,
     /// returns a list of void without elements.
     ///
+    /// Precondition: `default` has fewer than 2^32 words.
+    ///
     /// Takes a level: the list's nesting limit is one less than that of `self`. Refuses with
     /// `NestingLimitExceeded` if the nesting limit of `self` is below 1. Otherwise counts, charges
     /// and refuses like `PointerReader::next`, except for an object that isn't a list: refuses it
@@ -299,7 +301,8 @@ impl<'a, A: ReaderArena> PointerReader<'a, A> {
 
     /// Returns the bytes of the text that the pointer leads to, as a slice of the message, without
     /// the zero byte at the text's end ("Lists"). If the pointer is null, returns the text of
-    /// `default`, or no bytes if there is no default.
+    /// `default`, or no bytes if there is no default. Precondition: `default` has fewer than 2^32
+    /// words.
     ///
     /// Takes no level of the nesting limit. If the pointer isn't null, counts it in `lim` as
     /// followed, and charges `lim` the words of its landing pads and of the bytes, before it reads
@@ -339,7 +342,7 @@ impl<'a, A: ReaderArena> PointerReader<'a, A> {
 
     /// Returns the bytes of the data that the pointer leads to, as a slice of the message
     /// ("Lists"). If the pointer is null, returns the data of `default`, or no bytes if there is no
-    /// default.
+    /// default. Precondition: `default` has fewer than 2^32 words.
     ///
     /// Counts, charges and refuses like `PointerReader::get_text`, with three differences. The data
     /// may be empty, and its last byte, which can have any value, is returned as well. An object

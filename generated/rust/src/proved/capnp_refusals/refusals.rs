@@ -30,7 +30,8 @@ fn demands_of(command: Command) -> Demands {
 
 /// Returns the pointer at which `command` stops reading the message in `segments` within `limits`,
 /// with the refusal; `None` if `command` reads the whole value. If the root pointer itself is
-/// refused, returns its place, word 0 of segment 0. Takes no memory.
+/// refused, returns its place, word 0 of segment 0. Takes no memory. Precondition: `segments` has
+/// fewer than 2^32 segments, each of fewer than 2^32 words.
 ///
 /// `Canon`, `Digest`: the pointer whose object can't be read, or is a capability. `Validate` and
 /// `Check`: the pointer whose object can't be read; for `Check` this is so only if the message has
@@ -69,7 +70,8 @@ fn has_pointer(refusal: ErrorKind) -> bool {
 }
 
 /// Returns the pointer at which `command` was refused with `refusal`, like `refused_pointer`;
-/// `None` for a refusal that no pointer has: `AllocationFailed` or `MessageTooLarge`.
+/// `None` for a refusal that no pointer has: `AllocationFailed` or `MessageTooLarge`. Precondition:
+/// `segments` has fewer than 2^32 segments, each of fewer than 2^32 words.
 ///
 /// # Preconditions
 ///

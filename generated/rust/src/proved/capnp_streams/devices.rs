@@ -227,6 +227,7 @@ fn is_escaped(byte: u8) -> bool {
 }
 
 /// Writes the backslash with which `sha256sum` begins a line if `name` has a byte that it escapes.
+/// Precondition: `output` hasn't failed.
 ///
 /// # Preconditions
 ///
@@ -240,7 +241,8 @@ pub fn write_escape_mark<W: Output>(output: &mut W, name: &str) -> Result<(), De
     Ok(())
 }
 
-/// Writes `name` with the escapes of `sha256sum`, a `:`, and `number`.
+/// Writes `name` with the escapes of `sha256sum`, a `:`, and `number`. Precondition: `output`
+/// hasn't failed.
 ///
 /// # Preconditions
 ///

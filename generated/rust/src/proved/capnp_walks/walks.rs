@@ -25,6 +25,8 @@ pub struct WalkedMessage {
 /// entry, and neither has an element of a list of structs. An object that several pointers lead to
 /// has one entry for each of them. Takes no memory.
 ///
+/// Precondition: `segments` has fewer than 2^32 segments, each of fewer than 2^32 words.
+///
 /// Reads within `limits`, in the order of the pointers, and counts, charges and refuses like
 /// `validate` of `capnp_messages`. A walk that is refused ends at that pointer; the entries before it are kept.
 ///

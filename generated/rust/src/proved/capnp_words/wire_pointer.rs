@@ -43,7 +43,7 @@ pub fn data_bits_per_element(size: ElementSize) -> BitCount32 {
 }
 
 /// The number of words that `count` elements take together ("Lists"): the fewest that hold their
-/// bits; 0 for pointers and structs.
+/// bits; 0 for pointers and structs. Precondition: `count` is below 2^29.
 ///
 /// # Preconditions
 ///
@@ -385,7 +385,7 @@ impl WirePointer {
 }
 
 /// The offset of a pointer at `position` that leads to `target`, both in words from the start of
-/// the same segment. Precondition: the offset, counted in words from the pointer's end, is from
+/// the same segment. Precondition: the offset from word `position + 1` to word `target` is from
 /// -2^29 to 2^29 - 1.
 ///
 /// # Preconditions

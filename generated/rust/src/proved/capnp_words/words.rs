@@ -4,7 +4,7 @@
 use crate::proved::capnp_words::lanes;
 use crate::proved::support::simd::prelude::*;
 
-/// The word at position `at`.
+/// The word at position `at`. Precondition: `bytes` has at least `at + 1` words.
 ///
 /// # Preconditions
 ///
@@ -20,7 +20,7 @@ pub fn word_at(bytes: &[u8], at: usize) -> u64 {
     }
 }
 
-/// Writes `word` at position `at`.
+/// Writes `word` at position `at`. Precondition: `bytes` has at least `at + 1` words.
 ///
 /// # Preconditions
 ///
@@ -34,8 +34,8 @@ pub fn put_word(bytes: &mut [u8], at: usize, word: u64) {
         .copy_to_slice(&mut bytes[8 * at..]);
 }
 
-/// Copies the words of `from` over those of `bytes` from position `at` on. Precondition: the length
-/// of `from` is a multiple of 8.
+/// Copies the words of `from` over those of `bytes` from position `at` on. Preconditions: the
+/// length of `from` is a multiple of 8; `bytes` has at least `at` words more than `from`.
 ///
 /// # Preconditions
 ///
@@ -49,7 +49,7 @@ pub fn copy_words(bytes: &mut [u8], at: usize, from: &[u8]) {
     lanes::copy(from, &mut bytes[start..start + from.len()]);
 }
 
-/// Zeroes `n` words from position `at` on.
+/// Zeroes `n` words from position `at` on. Precondition: `bytes` has at least `at + n` words.
 ///
 /// # Preconditions
 ///
@@ -69,7 +69,7 @@ pub fn used_words(bytes: &[u8]) -> usize {
     words - lanes::trailing_zero_words(&bytes[..8 * words])
 }
 
-/// The `n` words from position `at` on.
+/// The `n` words from position `at` on. Precondition: `bytes` has at least `at + n` words.
 ///
 /// # Preconditions
 ///
@@ -88,7 +88,7 @@ pub fn count(bytes: &[u8]) -> usize {
 }
 
 /// Of the `n` words from position `at` on, the number up to and including the last one that isn't
-/// zero; 0 if all are zero.
+/// zero; 0 if all are zero. Precondition: `bytes` has at least `at + n` words.
 ///
 /// # Preconditions
 ///
@@ -101,6 +101,7 @@ pub fn used_words_in(bytes: &[u8], at: usize, n: usize) -> usize {
 }
 
 /// Copies `n` words from position `from` to position `to`; the two ranges may overlap.
+/// Precondition: `bytes` has at least `from + n` words, and at least `to + n`.
 ///
 /// # Preconditions
 ///

@@ -10,7 +10,8 @@ use crate::proved::typed_building::value;
 
 /// Copies the struct `from` to pointer `index`, with all words of its sections, and zeroes what the
 /// pointer held. Charges `lim` what reading the values of the struct's pointers costs, and nothing
-/// for the struct's own words. Precondition: `index` is below the number of pointers.
+/// for the struct's own words. Preconditions: `place` is inside the message; `index` is below
+/// `place.pointers`.
 ///
 /// Refusals: the first refusal of reading the values of the struct's pointers;
 /// `MessageTooLarge(n)` if the struct has n data words, and n is above 65535. If the copy doesn't
@@ -45,7 +46,8 @@ pub fn set_struct_from<A: BuilderArena, B: ReaderArena>(
 
 /// Copies the list `from` to pointer `index`, with all words of its elements, and zeroes what the
 /// pointer held. Charges `lim` what reading the values of the list's pointers costs, and nothing
-/// for the list's own words. Precondition: `index` is below the number of pointers.
+/// for the list's own words. Preconditions: `place` is inside the message; `index` is below
+/// `place.pointers`.
 ///
 /// Refusals: the first refusal of reading the values of the list's pointers;
 /// `MessageTooLarge(usize::MAX)` if the list has more elements or words than a list pointer can
@@ -79,9 +81,10 @@ pub fn set_list_from<A: BuilderArena, B: ReaderArena>(
     pointer.set_list(from, lim, false)
 }
 
-/// Copies the value of the pointer of `from`, of any type, to pointer `index`, with all words
-/// of its sections and elements. Zeroes what pointer `index` held. Charges `lim` what reading the
-/// whole value costs. Precondition: `index` is below the number of pointers.
+/// Copies the value of the pointer of `from`, of any type, to pointer `index`, with all words of
+/// its sections and elements. Zeroes what pointer `index` held. Charges `lim` what reading the
+/// whole value costs. Preconditions: `place` is inside the message; `index` is below
+/// `place.pointers`.
 ///
 /// Refusals: the first refusal of reading the value. If the copy doesn't fit the pointer's segment,
 /// and no other segment has room for one of its objects: `AllocationFailed` if memory runs out;
@@ -114,7 +117,8 @@ pub fn set_pointer_from<A: BuilderArena, B: ReaderArena>(
 }
 
 /// Sets the member of a union that is a struct: writes its tag, and then does what
-/// `set_struct_from` does. Precondition: tag and pointer are inside the struct.
+/// `set_struct_from` does. Preconditions: `place` is inside the message and aligned; `tag` is
+/// inside the data section; `index` is below `place.pointers`.
 ///
 /// The refusals are those of `set_struct_from`. After a refusal the tag is written, and the pointer
 /// is null.
@@ -141,7 +145,8 @@ pub fn set_struct_from_member<A: BuilderArena, B: ReaderArena>(
 }
 
 /// Sets the member of a union that is a list: writes its tag, and then does what `set_list_from`
-/// does. Precondition: tag and pointer are inside the struct.
+/// does. Preconditions: `place` is inside the message and aligned; `tag` is inside the data
+/// section; `index` is below `place.pointers`.
 ///
 /// The refusals are those of `set_list_from`. After a refusal the tag is written, and the pointer
 /// is null.
@@ -168,7 +173,8 @@ pub fn set_list_from_member<A: BuilderArena, B: ReaderArena>(
 }
 
 /// Sets the member of a union that is any pointer: writes its tag, and then does what
-/// `set_pointer_from` does. Precondition: tag and pointer are inside the struct.
+/// `set_pointer_from` does. Preconditions: `place` is inside the message and aligned; `tag` is
+/// inside the data section; `index` is below `place.pointers`.
 ///
 /// The refusals are those of `set_pointer_from`. After a refusal the tag is written, and the
 /// pointer is null.

@@ -7,8 +7,8 @@ use crate::proved::typed_building::slots::Slot;
 use crate::proved::typed_building::tag::UnionTag;
 use crate::proved::typed_building::value;
 
-/// Makes a part of a struct zero, or null, and zeroes what a pointer held. Precondition: the part
-/// is inside the struct.
+/// Makes a part of a struct zero, or null, and zeroes what a pointer held. Preconditions: `place`
+/// is inside the message and aligned; `slot` is inside the struct.
 ///
 /// # Preconditions
 ///
@@ -30,7 +30,7 @@ pub fn zero_slot<A: BuilderArena>(arena: &mut A, place: StructPlace, slot: Slot)
 }
 
 /// Makes parts of a struct zero, or null, in their order, and zeroes what pointers held.
-/// Precondition: each part is inside the struct.
+/// Preconditions: `place` is inside the message and aligned; each of `slots` is inside the struct.
 ///
 /// # Preconditions
 ///
@@ -47,7 +47,8 @@ pub fn zero_slots<A: BuilderArena>(arena: &mut A, place: StructPlace, slots: &[S
 }
 
 /// Sets the member of a union that is a group: writes its tag, and makes the parts of the struct
-/// that the group has zero or null. Precondition: the tag and each part are inside the struct.
+/// that the group has zero or null. Preconditions: `place` is inside the message and aligned; `tag`
+/// is inside the data section; each of `slots` is inside the struct.
 ///
 /// # Preconditions
 ///

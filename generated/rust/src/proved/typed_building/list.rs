@@ -9,7 +9,8 @@ use crate::proved::capnp_words::error::ErrorKind;
 use crate::proved::capnp_words::wire_pointer::{ElementSize, StructSize};
 
 /// Returns the place of element `index` of a list of structs at least as large as `size`.
-/// Precondition: `index` is below the number of elements.
+/// Preconditions: `list` is inside the message; the elements are structs with sections at least as
+/// large as in `size`; `index` is below `list.count`.
 ///
 /// # Preconditions
 ///
@@ -27,7 +28,8 @@ pub fn element<A: BuilderArena>(
     builders::element_place(list, index)
 }
 
-/// Writes element `index` of a list of bits. Precondition: `index` is below the number of elements.
+/// Writes element `index` of a list of bits. Preconditions: `list` is inside the message; the
+/// elements are bits; `index` is below `list.count`.
 ///
 /// # Preconditions
 ///
@@ -55,7 +57,8 @@ fn pointer_place<A: BuilderArena>(arena: &A, list: ListPlace, index: u32) -> Str
 }
 
 /// Makes element `index` of a list of pointers lead to a new text: the bytes of `text`, followed by
-/// a zero byte. Precondition: `index` is below the number of elements.
+/// a zero byte. Preconditions: `list` is inside the message; the elements are pointers; `index` is
+/// below `list.count`; `text` has fewer than 2^29 - 1 bytes.
 ///
 /// Refusals, if no segment has room: `AllocationFailed` if memory runs out;
 /// `MessageTooLarge(usize::MAX)` if the message already has 4,294,967,295 segments. After a refusal
@@ -80,7 +83,8 @@ pub fn set_text<A: BuilderArena>(
 }
 
 /// Makes element `index` of a list of pointers lead to new data, the bytes of `contents`.
-/// Precondition: `index` is below the number of elements.
+/// Preconditions: `list` is inside the message; the elements are pointers; `index` is below
+/// `list.count`; `contents` has fewer than 2^29 bytes.
 ///
 /// Refusals, if no segment has room: `AllocationFailed` if memory runs out;
 /// `MessageTooLarge(usize::MAX)` if the message already has 4,294,967,295 segments. After a refusal
@@ -105,8 +109,9 @@ pub fn set_data<A: BuilderArena>(
 }
 
 /// Makes element `index` of a list of pointers lead to a new list of `count` elements that aren't
-/// structs, all zero or null, and returns the list's place. Preconditions: `index` is below the
-/// number of elements; `size` isn't `InlineComposite`.
+/// structs, all zero or null, and returns the list's place. Preconditions: `list` is inside the
+/// message; the elements are pointers; `index` is below `list.count`; `size` isn't
+/// `InlineComposite`; `count` is below 2^29.
 ///
 /// Refusals, if no segment has room: `AllocationFailed` if memory runs out;
 /// `MessageTooLarge(usize::MAX)` if the message already has 4,294,967,295 segments. After a refusal
@@ -133,8 +138,9 @@ pub fn init_list<A: BuilderArena>(
 }
 
 /// Makes element `index` of a list of pointers lead to a new list of `count` structs, all zero, and
-/// returns the list's place. Preconditions: `index` is below the number of elements; the structs
-/// have fewer than 2^29 words.
+/// returns the list's place. Preconditions: `list` is inside the message; the elements are
+/// pointers; `index` is below `list.count`; `count` is below 2^30; `count` structs of `size` have
+/// fewer than 2^29 words.
 ///
 /// Refusals, if no segment has room: `AllocationFailed` if memory runs out;
 /// `MessageTooLarge(usize::MAX)` if the message already has 4,294,967,295 segments. After a refusal

@@ -10,7 +10,7 @@ use crate::proved::capnp_words::wire_pointer::{ElementSize, StructSize};
 /// Returns the struct that pointer `index` leads to, for writing, with sections at least as large
 /// as in `size`. If a section is too small, moves the struct to new words, and fills its sections
 /// up with zeros and null pointers. If the pointer is null, makes a new struct of `size`, all zero.
-/// Precondition: `index` is below the number of pointers.
+/// Preconditions: `place` is inside the message; `index` is below `place.pointers`.
 ///
 /// Refusals: `MessageContainsNonStructPointerWhereStructPointerWasExpected` if the pointer leads to
 /// something other than a struct. If no segment has room for the new struct, or for a landing pad:
@@ -42,8 +42,8 @@ pub fn get_struct<A: BuilderArena>(
 /// Returns the list that pointer `index` leads to, for writing, as a list of structs with sections
 /// at least as large as in `size`. A list of structs that are too small, and a list of numbers or
 /// pointers, is moved to new words, as a list of structs with sections of that size. If the pointer
-/// is null, returns a list without elements, and changes nothing. Precondition: `index` is below
-/// the number of pointers.
+/// is null, returns a list without elements, and changes nothing. Preconditions: `place` is inside
+/// the message; `index` is below `place.pointers`.
 ///
 /// Refusals: `ExistingPointerIsNotAList` if the pointer leads to something other than a list;
 /// `FoundBitListWhereStructListWasExpected` for a list of bits; `MessageTooLarge(n)` if the new
@@ -77,8 +77,8 @@ pub fn get_struct_list<A: BuilderArena>(
 
 /// Returns the list that pointer `index` leads to, for writing. Changes nothing. If the pointer is
 /// null, returns a list without elements. The elements may be wider than `size`, and may be structs
-/// that begin with such an element. Preconditions: `index` is below the number of pointers; `size`
-/// isn't `InlineComposite`.
+/// that begin with such an element. Preconditions: `place` is inside the message; `index` is below
+/// `place.pointers`; `size` isn't `InlineComposite`.
 ///
 /// Refusals: `ExistingPointerIsNotAList` if the pointer leads to something other than a list;
 /// `ExistingListValueIsIncompatibleWithExpectedType` if the elements are narrower than `size`;

@@ -21,7 +21,7 @@ pub trait FromListPlace {
 }
 
 /// Makes the root of a message a new struct, all zero, and returns its place, like
-/// `value::init_root`.
+/// `value::init_root`. Precondition: word 0 of segment 0 is allocated.
 ///
 /// # Preconditions
 ///
@@ -40,7 +40,8 @@ pub fn init_root<A: BuilderArena, B: FromStructPlace>(
 }
 
 /// Makes pointer `index` lead to a new struct, all zero, and returns its place, like
-/// `value::init_struct`. Precondition: `index` is below the number of pointers.
+/// `value::init_struct`. Preconditions: `place` is inside the message; `index` is below
+/// `place.pointers`.
 ///
 /// # Preconditions
 ///
@@ -62,8 +63,8 @@ pub fn init_struct<A: BuilderArena, B: FromStructPlace>(
 }
 
 /// Sets the member of a union that is a struct: writes its tag, and makes pointer `index` lead to a
-/// new struct, all zero, whose place it returns. Precondition: tag and pointer are inside the
-/// struct.
+/// new struct, all zero, whose place it returns. Preconditions: `place` is inside the message and
+/// aligned; `tag` is inside the data section; `index` is below `place.pointers`.
 ///
 /// Refusals, if no segment has room: `AllocationFailed` if memory runs out;
 /// `MessageTooLarge(usize::MAX)` if the message already has 4,294,967,295 segments.
@@ -90,8 +91,8 @@ pub fn init_struct_member<A: BuilderArena, B: FromStructPlace>(
 }
 
 /// Makes pointer `index` lead to a new list of `count` structs, all zero, and returns its place,
-/// like `value::init_struct_list`. Preconditions: `index` is below the number of pointers; the
-/// structs have fewer than 2^29 words.
+/// like `value::init_struct_list`. Preconditions: `place` is inside the message; `index` is below
+/// `place.pointers`; `count` is below 2^30; `count` structs of `size` have fewer than 2^29 words.
 ///
 /// # Preconditions
 ///
@@ -116,8 +117,9 @@ pub fn init_struct_list<A: BuilderArena, B: FromListPlace>(
 }
 
 /// Sets the member of a union that is a list of structs: writes its tag, and makes pointer `index`
-/// lead to a new list of `count` structs, all zero, whose place it returns. Preconditions: tag and
-/// pointer are inside the struct; the structs have fewer than 2^29 words.
+/// lead to a new list of `count` structs, all zero, whose place it returns. Preconditions: `place`
+/// is inside the message and aligned; `tag` is inside the data section; `index` is below
+/// `place.pointers`; `count` is below 2^30; `count` structs of `size` have fewer than 2^29 words.
 ///
 /// Refusals, if no segment has room: `AllocationFailed` if memory runs out;
 /// `MessageTooLarge(usize::MAX)` if the message already has 4,294,967,295 segments.
@@ -147,7 +149,7 @@ pub fn init_struct_list_member<A: BuilderArena, B: FromListPlace>(
 }
 
 /// Returns the struct that pointer `index` leads to, for writing, like `opening::get_struct`.
-/// Precondition: `index` is below the number of pointers.
+/// Preconditions: `place` is inside the message; `index` is below `place.pointers`.
 ///
 /// # Preconditions
 ///
@@ -169,7 +171,8 @@ pub fn get_struct<A: BuilderArena, B: FromStructPlace>(
 }
 
 /// Returns the list that pointer `index` leads to, for writing, as a list of structs, like
-/// `opening::get_struct_list`. Precondition: `index` is below the number of pointers.
+/// `opening::get_struct_list`. Preconditions: `place` is inside the message; `index` is below
+/// `place.pointers`.
 ///
 /// # Preconditions
 ///

@@ -9,8 +9,9 @@ use crate::proved::capnp_words::mask::Mask;
 use crate::proved::capnp_words::primitive::Primitive;
 use crate::proved::capnp_words::zero::Zero;
 
-/// Returns the number at `offset` of a struct's data, counted in numbers of type `T`. Precondition:
-/// the number is inside the data section.
+/// Returns the number at `offset` of a struct's data, counted in numbers of type `T`.
+/// Preconditions: `place` is inside the message and aligned; the field at `offset` is inside the
+/// data section.
 ///
 /// # Preconditions
 ///
@@ -30,7 +31,8 @@ pub fn get_number<A: BuilderArena, T: Primitive + Zero>(
 }
 
 /// Returns the number at `offset` of a struct's data, like `get_number`, of a field whose default
-/// value is `default`: the exclusive or of what is stored and the default.
+/// value is `default`: the exclusive or of what is stored and the default. Preconditions: `place`
+/// is inside the message and aligned; the field at `offset` is inside the data section.
 ///
 /// # Preconditions
 ///
@@ -49,7 +51,8 @@ pub fn get_number_or<A: BuilderArena, T: Primitive + Zero + Mask>(
     T::mask(get_number(arena, place, offset), default)
 }
 
-/// Returns bit `offset` of a struct's data. Precondition: the bit is inside the data section.
+/// Returns bit `offset` of a struct's data. Preconditions: `place` is inside the message; bit
+/// `offset` is inside the data section.
 ///
 /// # Preconditions
 ///
@@ -63,8 +66,8 @@ pub fn get_bool<A: BuilderArena>(arena: &A, place: StructPlace, offset: usize) -
     numbers::get_bit(arena, place.segment, bit)
 }
 
-/// Returns whether a pointer of a struct isn't null. Precondition: `index` is below the number of
-/// pointers.
+/// Returns whether a pointer of a struct isn't null. Preconditions: `place` is inside the message;
+/// `index` is below `place.pointers`.
 ///
 /// # Preconditions
 ///

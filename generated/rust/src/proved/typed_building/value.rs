@@ -17,7 +17,8 @@ use crate::proved::typed_building::tag::UnionTag;
 
 /// Writes the number at `offset` of a struct's data, counted in numbers of type `T`, of a field
 /// whose default value is `default`: stores the exclusive or of `value` and the default.
-/// Precondition: the field is inside the data section.
+/// Preconditions: `place` is inside the message and aligned; the field at `offset` is inside the
+/// data section.
 ///
 /// # Preconditions
 ///
@@ -38,7 +39,8 @@ pub fn set_number_or<A: BuilderArena, T: Primitive + Zero + Mask>(
 }
 
 /// Writes bit `offset` of a struct's data, of a field whose default value is `true`: stores the
-/// opposite of `value`. Precondition: the bit is inside the data section.
+/// opposite of `value`. Preconditions: `place` is inside the message; bit `offset` is inside the
+/// data section.
 ///
 /// # Preconditions
 ///
@@ -56,8 +58,8 @@ pub fn set_bool_default_true<A: BuilderArena>(
     fields::set_bool(arena, place, offset, !value);
 }
 
-/// Writes the tag of a union: sets a member without a value. Precondition: the tag is inside the
-/// data section.
+/// Writes the tag of a union: sets a member without a value. Preconditions: `place` is inside the
+/// message and aligned; `tag` is inside the data section.
 ///
 /// # Preconditions
 ///
@@ -72,7 +74,8 @@ pub fn set_tag<A: BuilderArena>(arena: &mut A, place: StructPlace, tag: UnionTag
 }
 
 /// Sets the member of a union that is a number: writes its tag, and then the number at `offset`,
-/// counted in numbers of type `T`. Precondition: tag and number are inside the data section.
+/// counted in numbers of type `T`. Preconditions: `place` is inside the message and aligned; `tag`
+/// and the field at `offset` are inside the data section.
 ///
 /// # Preconditions
 ///
@@ -95,7 +98,8 @@ pub fn set_number_member<A: BuilderArena, T: Primitive + Zero>(
 }
 
 /// Sets the member of a union that is a number with a default value, like `set_number_member` and
-/// `set_number_or`. Precondition: tag and number are inside the data section.
+/// `set_number_or`. Preconditions: `place` is inside the message and aligned; `tag` and the field
+/// at `offset` are inside the data section.
 ///
 /// # Preconditions
 ///
@@ -118,8 +122,8 @@ pub fn set_number_or_member<A: BuilderArena, T: Primitive + Zero + Mask>(
     set_number_or(arena, place, offset, value, default);
 }
 
-/// Sets the member of a union that is a bit: writes its tag, and then bit `offset`. Precondition:
-/// tag and bit are inside the data section.
+/// Sets the member of a union that is a bit: writes its tag, and then bit `offset`. Preconditions:
+/// `place` is inside the message and aligned; `tag` and bit `offset` are inside the data section.
 ///
 /// # Preconditions
 ///
@@ -142,7 +146,8 @@ pub fn set_bool_member<A: BuilderArena>(
 }
 
 /// Sets the member of a union that is a bit whose default value is `true`, like `set_bool_member`
-/// and `set_bool_default_true`. Precondition: tag and bit are inside the data section.
+/// and `set_bool_default_true`. Preconditions: `place` is inside the message and aligned; `tag` and
+/// bit `offset` are inside the data section.
 ///
 /// # Preconditions
 ///
@@ -165,8 +170,9 @@ pub fn set_bool_default_true_member<A: BuilderArena>(
 }
 
 /// Sets the member of a union that is a text: writes its tag, and makes pointer `index` lead to a
-/// new text, the bytes of `text`, followed by a zero byte. Precondition: tag and pointer are inside
-/// the struct.
+/// new text, the bytes of `text`, followed by a zero byte. Preconditions: `place` is inside the
+/// message and aligned; `tag` is inside the data section; `index` is below `place.pointers`; `text`
+/// has fewer than 2^29 - 1 bytes.
 ///
 /// Refusals, if no segment has room: `AllocationFailed` if memory runs out;
 /// `MessageTooLarge(usize::MAX)` if the message already has 4,294,967,295 segments.
@@ -194,7 +200,9 @@ pub fn set_text_member<A: BuilderArena>(
 }
 
 /// Sets the member of a union that is data: writes its tag, and makes pointer `index` lead to new
-/// data, the bytes of `contents`. Precondition: tag and pointer are inside the struct.
+/// data, the bytes of `contents`. Preconditions: `place` is inside the message and aligned; `tag`
+/// is inside the data section; `index` is below `place.pointers`; `contents` has fewer than 2^29
+/// bytes.
 ///
 /// Refusals, if no segment has room: `AllocationFailed` if memory runs out;
 /// `MessageTooLarge(usize::MAX)` if the message already has 4,294,967,295 segments.
@@ -223,7 +231,9 @@ pub fn set_data_member<A: BuilderArena>(
 
 /// Sets the member of a union that is a list of elements that aren't structs: writes its tag, and
 /// makes pointer `index` lead to a new list of `count` elements, all zero or null, whose place it
-/// returns. Preconditions: tag and pointer are inside the struct; `size` isn't `InlineComposite`.
+/// returns. Preconditions: `place` is inside the message and aligned; `tag` is inside the data
+/// section; `index` is below `place.pointers`; `size` isn't `InlineComposite`; `count` is below
+/// 2^29.
 ///
 /// Refusals, if no segment has room: `AllocationFailed` if memory runs out;
 /// `MessageTooLarge(usize::MAX)` if the message already has 4,294,967,295 segments.
@@ -252,8 +262,8 @@ pub fn init_list_member<A: BuilderArena>(
     fields::init_list(arena, place, index, size, count)
 }
 
-/// Makes a pointer of a struct null, and zeroes what it held. Precondition: `index` is below the
-/// number of pointers.
+/// Makes a pointer of a struct null, and zeroes what it held. Preconditions: `place` is inside the
+/// message; `index` is below `place.pointers`.
 ///
 /// # Preconditions
 ///
@@ -268,7 +278,8 @@ pub fn clear<A: BuilderArena>(arena: &mut A, place: StructPlace, index: usize) {
 }
 
 /// Makes a pointer of a struct the capability with index `capability` in the message's capability
-/// table, and zeroes what it held. Precondition: `index` is below the number of pointers.
+/// table, and zeroes what it held. Preconditions: `place` is inside the message; `index` is below
+/// `place.pointers`.
 ///
 /// # Preconditions
 ///
@@ -288,8 +299,9 @@ pub fn set_capability<A: BuilderArena>(
 }
 
 /// Sets the member of a union that is a capability: writes its tag, and makes pointer `index` the
-/// capability with index `capability`. Zeroes what the pointer held. Precondition: tag and pointer
-/// are inside the struct.
+/// capability with index `capability`. Zeroes what the pointer held. Preconditions: `place` is
+/// inside the message and aligned; `tag` is inside the data section; `index` is below
+/// `place.pointers`.
 ///
 /// # Preconditions
 ///

@@ -19,9 +19,9 @@ pub struct MessageReader<S: ReaderSegments> {
 }
 
 impl<S: ReaderSegments> MessageReader<S> {
-    /// Makes the message of `segments`, with the limits of `options`. Precondition: there are fewer
-    /// than 2^32 segments, each of fewer than 2^32 words. Ignores the bytes, at most 7, after a
-    /// segment's last whole word.
+    /// Makes the message of `segments`, with the limits of `options`. Precondition: `segments` has
+    /// fewer than 2^32 segments, each of fewer than 2^32 words. Ignores the bytes, at most 7, after
+    /// a segment's last whole word.
     ///
     /// # Preconditions
     ///

@@ -19,7 +19,8 @@ pub trait Segment {
     /// The bytes that are ready, for writing.
     fn bytes_mut(&mut self) -> &mut [u8];
 
-    /// Makes at least the first `bytes` bytes ready, and takes no memory.
+    /// Makes at least the first `bytes` bytes ready, and takes no memory. Precondition: the segment
+    /// has at least `bytes` bytes.
     ///
     /// # Preconditions
     ///
@@ -49,8 +50,8 @@ pub trait Allocator {
     /// `AllocationFailed`, which adds 1 to `refused`, for any other reason.
     fn allocate_segment(&mut self, min_words: u32) -> Result<Self::Segment, ErrorKind>;
 
-    /// Takes `segment` back. Its first `used_words` words were allocated. Precondition: all bytes
-    /// after these words are zero.
+    /// Takes `segment` back. Its first `used_words` words were allocated. Preconditions: `segment`
+    /// has at least `used_words` words; all bytes after these words are zero.
     ///
     /// # Preconditions
     ///

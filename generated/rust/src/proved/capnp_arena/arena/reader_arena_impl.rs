@@ -32,8 +32,8 @@ pub struct ReaderArenaImpl<S: ReaderSegments> {
 }
 
 impl<S: ReaderSegments> ReaderArenaImpl<S> {
-    /// Makes the arena of `segments`, with the nesting limit of `options`. Precondition: there are
-    /// fewer than 2^32 segments, each of fewer than 2^32 words.
+    /// Makes the arena of `segments`, with the nesting limit of `options`. Precondition: `segments`
+    /// has fewer than 2^32 segments, each of fewer than 2^32 words.
     ///
     /// # Preconditions
     ///

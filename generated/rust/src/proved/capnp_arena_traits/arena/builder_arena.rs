@@ -12,7 +12,7 @@ pub mod sealed {
 /// if it proves the contracts of all calls and the laws below.
 pub trait BuilderArena: ReaderArena + sealed::Closed {
     /// Lends the bytes of the allocated words of segment `id` for writing. The segment's words that
-    /// aren't allocated stay zero.
+    /// aren't allocated stay zero. Precondition: segment `id` exists.
     ///
     /// # Preconditions
     ///
@@ -29,7 +29,7 @@ pub trait BuilderArena: ReaderArena + sealed::Closed {
     /// states exactly what the arena is afterwards.
     fn allocated_mut(&mut self, id: u32) -> Option<&mut [u8]>;
 
-    /// Returns word `at` of segment `id`.
+    /// Returns word `at` of segment `id`. Precondition: word `at` of segment `id` is allocated.
     ///
     /// # Preconditions
     ///
@@ -39,7 +39,8 @@ pub trait BuilderArena: ReaderArena + sealed::Closed {
     fn get_word(&self, id: u32, at: u32) -> u64;
 
     /// Copies `n` words from place `from` to place `to`, in the same segment or another one; the
-    /// two ranges may overlap. If `n` is 0, nothing changes.
+    /// two ranges may overlap. If `n` is 0, nothing changes. Preconditions: segment `from.segment`
+    /// has at least `from.at + n` allocated words; segment `to.segment` has at least `to.at + n`.
     ///
     /// # Preconditions
     ///
@@ -51,7 +52,7 @@ pub trait BuilderArena: ReaderArena + sealed::Closed {
 
     /// Allocates `amount` words after the allocated ones of segment `id`, and returns their
     /// position. The new words are zero. Returns `None`, and changes nothing, if the segment has no
-    /// room for them.
+    /// room for them. Precondition: segment `id` exists.
     ///
     /// # Preconditions
     ///

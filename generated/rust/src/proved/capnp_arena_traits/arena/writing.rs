@@ -3,7 +3,8 @@
 use crate::proved::capnp_arena_traits::arena::BuilderArena;
 use crate::proved::capnp_words::words;
 
-/// Writes `word` at position `at` of segment `id`.
+/// Writes `word` at position `at` of segment `id`. Precondition: word `at` of segment `id` is
+/// allocated.
 ///
 /// # Preconditions
 ///
@@ -16,7 +17,8 @@ pub fn set_word<A: BuilderArena>(arena: &mut A, id: u32, at: u32, word: u64) {
 }
 
 /// Writes the words of `from` over those of segment `id` from position `at` on. If `from` is empty,
-/// nothing changes.
+/// nothing changes. Preconditions: the length of `from` is a multiple of 8; segment `id` has at
+/// least `at` allocated words more than there are in `from`.
 ///
 /// # Preconditions
 ///
@@ -33,6 +35,7 @@ pub fn copy_words<A: BuilderArena>(arena: &mut A, id: u32, at: u32, from: &[u8])
 }
 
 /// Zeroes `n` words of segment `id` from position `at` on. If `n` is 0, nothing changes.
+/// Precondition: segment `id` has at least `at + n` allocated words.
 ///
 /// # Preconditions
 ///

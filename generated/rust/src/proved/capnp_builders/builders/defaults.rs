@@ -12,8 +12,8 @@ use crate::proved::capnp_words::words;
 
 /// Copies the value of `default`, plain, to the null pointer at `at` of segment `id` ("Default
 /// Values"). `default` is one segment, and its first word is the pointer to the value.
-/// Preconditions: the pointer at `at` is null; `default` has at least one word and fewer than 2^32
-/// words.
+/// Preconditions: word `at` of segment `id` is allocated and zero; `default` has at least one word
+/// and fewer than 2^32.
 ///
 /// Reading `default` charges nothing, and may enter `i32::MAX` levels of structs and lists.
 /// Refusals: `UnknownPointerType` for a capability in `default`; `TriedToReadFromNullArena` for a

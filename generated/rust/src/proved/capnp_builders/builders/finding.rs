@@ -22,6 +22,8 @@ impl<'a, A: BuilderArena> PointerBuilder<'a, A> {
     /// pointer that isn't null stays as it is. A null pointer stays null if `default` is `None` or
     /// starts with a null word.
     ///
+    /// Preconditions: the pointer's word is allocated; `default` has fewer than 2^32 words.
+    ///
     /// Reading `default` charges nothing, and may enter `i32::MAX` levels of structs and lists.
     /// Refuses only if the pointer is null. Refusals: `MessageContainsOutOfBoundsPointer` if
     /// `default` has fewer than 8 bytes, or one of its pointers leads out of it;
@@ -44,7 +46,8 @@ impl<'a, A: BuilderArena> PointerBuilder<'a, A> {
     }
 
     /// Does what `get_struct` does, but returns the struct's place. `into_struct` makes the builder
-    /// from the place. The contract also states what the message is after a refusal.
+    /// from the place. The contract also states what the message is after a refusal. Preconditions:
+    /// the pointer's word is allocated; `default` has fewer than 2^32 words.
     ///
     /// # Preconditions
     ///
@@ -70,6 +73,8 @@ impl<'a, A: BuilderArena> PointerBuilder<'a, A> {
     /// `default` to it, like `PointerBuilder::put_default`; if the pointer is still null then,
     /// makes a struct of exactly `size`, all zero.
     ///
+    /// Preconditions: the pointer's word is allocated; `default` has fewer than 2^32 words.
+    ///
     /// Refusals: `MessageContainsNonStructPointerWhereStructPointerWasExpected` if the pointer
     /// leads to something other than a struct; those of `put_default`. If no segment has room for
     /// the new struct, or for a landing pad: `AllocationFailed` if memory runs out;
@@ -94,6 +99,7 @@ impl<'a, A: BuilderArena> PointerBuilder<'a, A> {
 
     /// Does what `get_struct_list` does, but returns the list's place. `into_list` makes the
     /// builder from the place. The contract also states what the message is after a refusal.
+    /// Preconditions: the pointer's word is allocated; `default` has fewer than 2^32 words.
     ///
     /// # Preconditions
     ///
@@ -112,7 +118,8 @@ impl<'a, A: BuilderArena> PointerBuilder<'a, A> {
     }
 
     /// Returns the list that the pointer leads to, for writing, as a list of structs with sections
-    /// at least as large as in `size` ("Lists").
+    /// at least as large as in `size` ("Lists"). Preconditions: the pointer's word is allocated;
+    /// `default` has fewer than 2^32 words.
     ///
     /// If the elements are structs that are large enough, the list is unchanged. Any other list,
     /// except a list of bits, is moved to new words as a list of structs. Each section has the
@@ -146,7 +153,9 @@ impl<'a, A: BuilderArena> PointerBuilder<'a, A> {
     }
 
     /// Does what `get_list` does, but returns the list's place. `into_list` makes the builder from
-    /// the place. The contract also states what the message is after a refusal.
+    /// the place. The contract also states what the message is after a refusal. Preconditions: the
+    /// pointer's word is allocated; `default` has fewer than 2^32 words; `size` isn't
+    /// `InlineComposite`.
     ///
     /// # Preconditions
     ///
@@ -167,7 +176,8 @@ impl<'a, A: BuilderArena> PointerBuilder<'a, A> {
     /// Returns the list that the pointer leads to, for writing. Never changes the list, and refuses
     /// one whose elements are narrower than `size`. If the pointer is null, first copies the value
     /// of `default` to it, like `PointerBuilder::put_default`; if the pointer is still null then,
-    /// returns a list of void without elements. Precondition: `size` isn't `InlineComposite`.
+    /// returns a list of void without elements. Preconditions: the pointer's word is allocated;
+    /// `default` has fewer than 2^32 words; `size` isn't `InlineComposite`.
     ///
     /// Refusals: `ExistingPointerIsNotAList` if the pointer leads to something other than a list;
     /// `FoundStructListWhereBitListWasExpected` for a list of structs if `size` is `Bit`; those of
@@ -194,6 +204,7 @@ impl<'a, A: BuilderArena> PointerBuilder<'a, A> {
 
     /// Does what `get_data` does, but returns where the data is instead of lending its bytes.
     /// `bytes_mut` then lends them. The contract also states what the message is after a refusal.
+    /// Preconditions: the pointer's word is allocated; `default` has fewer than 2^32 words.
     ///
     /// # Preconditions
     ///
@@ -209,7 +220,8 @@ impl<'a, A: BuilderArena> PointerBuilder<'a, A> {
 
     /// Lends the data that the pointer leads to, for writing in place ("Lists"). If the pointer is
     /// null, first copies the value of `default` to it, like `PointerBuilder::put_default`, or
-    /// lends no bytes if there is no default.
+    /// lends no bytes if there is no default. Preconditions: the pointer's word is allocated;
+    /// `default` has fewer than 2^32 words.
     ///
     /// Refusals: `ExistingPointerIsNotAList` if the pointer leads to something other than a list,
     /// or if both the pointer and the first word of `default` are null;
@@ -231,6 +243,7 @@ impl<'a, A: BuilderArena> PointerBuilder<'a, A> {
 
     /// Does what `get_text` does, but returns where the text is instead of lending its bytes.
     /// `bytes_mut` then lends them. The contract also states what the message is after a refusal.
+    /// Preconditions: the pointer's word is allocated; `default` has fewer than 2^32 words.
     ///
     /// # Preconditions
     ///
@@ -246,7 +259,8 @@ impl<'a, A: BuilderArena> PointerBuilder<'a, A> {
 
     /// Lends the text that the pointer leads to, without the zero byte after it, for writing in
     /// place ("Lists"). If the pointer is null, first copies the value of `default` to it, like
-    /// `PointerBuilder::put_default`, or lends no bytes if there is no default.
+    /// `PointerBuilder::put_default`, or lends no bytes if there is no default. Preconditions: the
+    /// pointer's word is allocated; `default` has fewer than 2^32 words.
     ///
     /// Refusals: those of `get_data`; `TextBlobMissingNULTerminator` if the bytes don't end in a
     /// zero byte. `get_text_place` followed by `bytes_mut` does the same. The contracts of these

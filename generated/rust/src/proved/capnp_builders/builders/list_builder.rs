@@ -19,8 +19,8 @@ pub struct ListBuilder<'a, A> {
 
 /// Returns the place of element `index` of `list` as a struct: a struct has its own sections, a
 /// pointer becomes a struct's only pointer, and a number a struct's data section. Preconditions:
-/// the elements aren't bits; `index` is below the number of elements; the list is inside a segment,
-/// and starts at a word.
+/// the elements aren't bits; `index` is below the number of elements; `list.byte` is a multiple of
+/// 8; the segment has fewer than 2^29 words up to the end of the elements.
 ///
 /// # Preconditions
 ///
@@ -163,7 +163,7 @@ impl<'a, A: BuilderArena> ListBuilder<'a, A> {
     }
 
     /// Returns a reader of the list. Reading charges nothing, and may enter `i32::MAX` levels of
-    /// structs and lists.
+    /// structs and lists. Precondition: the list is inside the message.
     ///
     /// # Preconditions
     ///
@@ -176,7 +176,8 @@ impl<'a, A: BuilderArena> ListBuilder<'a, A> {
     }
 
     /// Turns the builder into a reader of the list, for when building is over. Reading charges
-    /// nothing, and may enter `i32::MAX` levels of structs and lists.
+    /// nothing, and may enter `i32::MAX` levels of structs and lists. Precondition: the list is
+    /// inside the message.
     ///
     /// # Preconditions
     ///
@@ -190,8 +191,8 @@ impl<'a, A: BuilderArena> ListBuilder<'a, A> {
     }
 
     /// Returns a builder of element `index` as a struct: a number becomes a struct whose data
-    /// section is that number, a pointer a struct with one pointer. Preconditions: the elements
-    /// aren't bits; `index` is below the number of elements.
+    /// section is that number, a pointer a struct with one pointer. Preconditions: the list is
+    /// inside the message; the elements aren't bits; `index` is below the number of elements.
     ///
     /// # Preconditions
     ///
@@ -210,8 +211,8 @@ impl<'a, A: BuilderArena> ListBuilder<'a, A> {
     }
 
     /// Returns a builder of the pointer in element `index`: the element itself, or a struct
-    /// element's first pointer. Preconditions: the elements are pointers, or structs with pointers;
-    /// `index` is below the number of elements.
+    /// element's first pointer. Preconditions: the list is inside the message; the elements are
+    /// pointers, or structs with pointers; `index` is below the number of elements.
     ///
     /// # Preconditions
     ///

@@ -13,9 +13,9 @@ pub trait PrimitiveElement {
     /// Reads element `index` of `list`: the number in the lowest bytes of the element's data, or
     /// the lowest bit of that data.
     ///
-    /// Preconditions, except for `()`: `index` is below the number of elements, and each element
-    /// has at least as many bits of data as the value. The data of a struct is its data section, so
-    /// a list of numbers that became a list of structs reads as before.
+    /// Precondition: unless `Self` is `()`, `index` is below the number of elements of `list`, and
+    /// each of these has at least as many bits of data as the value. The data of a struct is its
+    /// data section, so a list of numbers that became a list of structs reads as before.
     ///
     /// # Preconditions
     ///
@@ -26,7 +26,9 @@ pub trait PrimitiveElement {
     /// ```
     fn get<A: ReaderArena>(list: &ListReader<'_, A>, index: u32) -> Self;
 
-    /// Like `get`, for a list being built, with the same preconditions.
+    /// Like `get`, for a list being built. Preconditions: `list` is inside the message; unless
+    /// `Self` is `()`, `index` is below the number of elements, and each element has at least as
+    /// many bits of data as the value.
     ///
     /// # Preconditions
     ///
@@ -39,9 +41,9 @@ pub trait PrimitiveElement {
     fn get_from_builder<A: BuilderArena>(list: &ListBuilder<'_, A>, index: u32) -> Self;
 
     /// Writes element `index` of `list`: replaces the lowest bits of the element's data by the bits
-    /// of `value`. The data of a struct is its data section. Preconditions, except for `()`, which
-    /// writes nothing: `index` is below the number of elements, and each element has at least as
-    /// many bits of data as the value.
+    /// of `value`. The data of a struct is its data section. Preconditions: `list` is inside the
+    /// message; unless `Self` is `()`, `index` is below the number of elements, and each element
+    /// has at least as many bits of data as the value.
     ///
     /// # Preconditions
     ///

@@ -31,7 +31,7 @@ impl<'a, A: BuilderArena> StructBuilder<'a, A> {
     }
 
     /// Returns a reader of the struct. Reading charges nothing, and may enter `i32::MAX` levels of
-    /// structs and lists.
+    /// structs and lists. Precondition: the struct is inside the message.
     ///
     /// # Preconditions
     ///
@@ -44,7 +44,8 @@ impl<'a, A: BuilderArena> StructBuilder<'a, A> {
     }
 
     /// Turns the builder into a reader of the struct, for when building is over. Reading charges
-    /// nothing, and may enter `i32::MAX` levels of structs and lists.
+    /// nothing, and may enter `i32::MAX` levels of structs and lists. Precondition: the struct is
+    /// inside the message.
     ///
     /// # Preconditions
     ///
@@ -57,8 +58,8 @@ impl<'a, A: BuilderArena> StructBuilder<'a, A> {
         StructReader::at(arena, place, i32::MAX)
     }
 
-    /// Returns a builder of pointer `index` of the pointer section. Precondition: `index` is below
-    /// the number of pointers.
+    /// Returns a builder of pointer `index` of the pointer section. Preconditions: the struct is
+    /// inside the message; `index` is below the struct's number of pointers.
     ///
     /// # Preconditions
     ///
@@ -81,6 +82,8 @@ impl<'a, A: BuilderArena> StructBuilder<'a, A> {
     /// all pointers of `self` null, zeroes what they held, and copies, in order, the pointers that
     /// both structs have. Charges `lim` what reading the values of the copied pointers costs, and
     /// nothing else. These values are read under the nesting limit of `value`.
+    ///
+    /// Precondition: the struct is inside the message.
     ///
     /// Refusals: the first refusal of reading the values of the copied pointers. If the copies
     /// don't fit after the words of the struct's segment, and no other segment has room for one of
@@ -118,8 +121,8 @@ impl<'a, A: BuilderArena> StructBuilder<'a, A> {
         copy::copy_each(&mut *self.arena, to, from, count, lim)
     }
 
-    /// Whether pointer `index` of the pointer section is null. Precondition: `index` is below the
-    /// number of pointers.
+    /// Whether pointer `index` of the pointer section is null. Preconditions: the struct is inside
+    /// the message; `index` is below the struct's number of pointers.
     ///
     /// # Preconditions
     ///
@@ -132,8 +135,8 @@ impl<'a, A: BuilderArena> StructBuilder<'a, A> {
         self.as_reader().is_pointer_field_null(index)
     }
 
-    /// Writes the field of the data section at `offset`, counted in values of `T`. Precondition:
-    /// the field is inside the section.
+    /// Writes the field of the data section at `offset`, counted in values of `T`. Preconditions:
+    /// the struct is inside the message; the field at `offset` is inside the data section.
     ///
     /// # Preconditions
     ///
@@ -146,7 +149,8 @@ impl<'a, A: BuilderArena> StructBuilder<'a, A> {
     }
 
     /// Like `set_data_field`, for a field with the default `mask`: `get_data_field_mask` with the
-    /// same mask then returns `value`.
+    /// same mask then returns `value`. Preconditions: the struct is inside the message; the field
+    /// at `offset` is inside the data section.
     ///
     /// # Preconditions
     ///
@@ -163,7 +167,8 @@ impl<'a, A: BuilderArena> StructBuilder<'a, A> {
         self.set_data_field(offset, T::mask(value, mask));
     }
 
-    /// Writes bit `offset` of the data section. Precondition: the bit is inside the section.
+    /// Writes bit `offset` of the data section. Preconditions: the struct is inside the message;
+    /// bit `offset` is inside the data section.
     ///
     /// # Preconditions
     ///
@@ -176,7 +181,8 @@ impl<'a, A: BuilderArena> StructBuilder<'a, A> {
     }
 
     /// Like `set_bool_field`, for a bit with the default `mask`: `get_bool_field_mask` with the
-    /// same mask then returns `value`.
+    /// same mask then returns `value`. Preconditions: the struct is inside the message; bit
+    /// `offset` is inside the data section.
     ///
     /// # Preconditions
     ///
@@ -188,8 +194,8 @@ impl<'a, A: BuilderArena> StructBuilder<'a, A> {
         self.set_bool_field(offset, value != mask);
     }
 
-    /// Returns the field of the data section at `offset`, counted in values of `T`. Precondition:
-    /// the field is inside the section.
+    /// Returns the field of the data section at `offset`, counted in values of `T`. Preconditions:
+    /// the struct is inside the message; the field at `offset` is inside the data section.
     ///
     /// # Preconditions
     ///
@@ -203,7 +209,8 @@ impl<'a, A: BuilderArena> StructBuilder<'a, A> {
     }
 
     /// Returns what `get_data_field` returns, with the field's default `mask` applied.
-    /// Precondition: the field is inside the section.
+    /// Preconditions: the struct is inside the message; the field at `offset` is inside the data
+    /// section.
     ///
     /// # Preconditions
     ///
@@ -219,7 +226,8 @@ impl<'a, A: BuilderArena> StructBuilder<'a, A> {
         T::mask(self.get_data_field(offset), mask)
     }
 
-    /// Returns bit `offset` of the data section. Precondition: the bit is inside the section.
+    /// Returns bit `offset` of the data section. Preconditions: the struct is inside the message;
+    /// bit `offset` is inside the data section.
     ///
     /// # Preconditions
     ///
@@ -232,8 +240,8 @@ impl<'a, A: BuilderArena> StructBuilder<'a, A> {
         numbers::get_bit(&*self.arena, self.place.segment, bit)
     }
 
-    /// Returns what `get_bool_field` returns, with the bit's default `mask` applied. Precondition:
-    /// the bit is inside the section.
+    /// Returns what `get_bool_field` returns, with the bit's default `mask` applied. Preconditions:
+    /// the struct is inside the message; bit `offset` is inside the data section.
     ///
     /// # Preconditions
     ///

@@ -7,7 +7,9 @@ use crate::proved::capnp_words::error::ErrorKind;
 use crate::proved::capnp_words::read_limiter::ReadLimiter;
 
 /// Makes plain copies of the values of `count` consecutive pointers, from `from` on, to the `count`
-/// null pointers from `to` on.
+/// null pointers from `to` on. Preconditions: the segment of `from` has at least `from.place.at +
+/// count` words; segment `to.segment` has at least `to.at + count` allocated words; the `count`
+/// words from `to` on are zero.
 ///
 /// Refuses with the first refusal of `copy_value`. The pointers before the refused one are then
 /// copied; the refused one and those after it are null. Never refuses if all the pointers can be

@@ -18,6 +18,8 @@ use crate::proved::capnp_words::wire_pointer::{ElementSize, StructSize};
 /// what reading the values of the list's pointers costs, and nothing for the list's own words or
 /// its number of elements.
 ///
+/// Precondition: the word at `to` is allocated and zero.
+///
 /// If all words of the copy fit the pointer's segment, or the message has one segment afterwards,
 /// they follow the old words of the pointer's segment, in the canonical order of objects, and of
 /// the old words only the pointer changes.

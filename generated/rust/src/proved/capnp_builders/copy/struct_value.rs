@@ -16,6 +16,7 @@ use crate::proved::capnp_words::words::used_words_in;
 /// Copies the struct `value` to the null pointer at `to`, in canonical form if `canonicalize`,
 /// otherwise plain. Pads the struct's data section with zeros to whole words. Charges `lim` what
 /// reading the values of the struct's pointers costs, and nothing for the struct's own words.
+/// Precondition: the word at `to` is allocated and zero.
 ///
 /// If the whole copy fits the pointer's segment, or the message has one segment afterwards, the
 /// copy follows the segment's old words, in the canonical order of objects. Of the old words only

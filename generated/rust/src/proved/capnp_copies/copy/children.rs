@@ -15,7 +15,9 @@ use crate::proved::capnp_words::wire_pointer::{
 use crate::proved::capnp_words::words::word_range;
 
 /// Copies the values of `count` consecutive pointers, from `from` on, to the `count` null pointers
-/// from `to.place` on.
+/// from `to.place` on. Preconditions: the segment of `from` has at least `from.place.at + count`
+/// words; the segment of `to.place` has at least `to.place.at + count` allocated words; the `count`
+/// words from `to.place` on are zero.
 ///
 /// # Preconditions
 ///

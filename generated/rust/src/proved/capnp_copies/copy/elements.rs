@@ -69,6 +69,8 @@ pub(in crate::proved::capnp_copies) fn copy_elements<A: BuilderArena, B: ReaderA
 }
 
 /// Writes `words` over the words of segment `id` from `at` on; nothing if `words` is empty.
+/// Preconditions: the length of `words` is a multiple of 8; segment `id` has at least `at`
+/// allocated words more than there are in `words`.
 ///
 /// # Preconditions
 ///

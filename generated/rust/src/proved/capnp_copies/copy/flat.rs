@@ -9,7 +9,9 @@ use crate::proved::capnp_words::words;
 
 /// Copies a list of `count` numbers of the element size `size`, which are in the words `elements`,
 /// and makes the pointer at `to` lead to the copy. Refuses only if the arena refuses the words;
-/// then no word changes.
+/// then no word changes. Preconditions: the word at `to` is allocated; `size` is neither `Pointer`
+/// nor `InlineComposite`; `count` is below 2^29; `elements` has exactly the words that `count`
+/// elements take.
 ///
 /// # Preconditions
 ///

@@ -13,7 +13,9 @@ use crate::proved::capnp_words::read_limiter::ReadLimiter;
 use crate::proved::capnp_words::wire_pointer::{ElementSize, StructSize};
 
 /// Copies the list of pointers whose elements are the `count` pointers from `from` on. Makes the
-/// null pointer at `to.place` lead to the copy.
+/// null pointer at `to.place` lead to the copy. Preconditions: the word at `to.place` is allocated
+/// and zero; `count` is below 2^29; the segment of `from` has at least `from.place.at + count`
+/// words.
 ///
 /// # Preconditions
 ///
@@ -41,7 +43,9 @@ pub fn copy_pointer_list<A: BuilderArena, B: ReaderArena>(
 
 /// Copies the list of structs `list`, whose first element starts at `from`, to the null pointer at
 /// `to.place`. In canonical form, the elements of the copy have the smallest sections with which
-/// each element loses only zero words and null pointers.
+/// each element loses only zero words and null pointers. Preconditions: the word at `to.place` is
+/// allocated and zero; `list.count` is below 2^30; the structs of `list` have fewer than 2^29
+/// words; the segment of `from` has all of these from `from` on.
 ///
 /// # Preconditions
 ///

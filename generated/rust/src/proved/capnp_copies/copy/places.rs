@@ -6,6 +6,7 @@ use crate::proved::capnp_objects::object::Place;
 use crate::proved::capnp_objects::pointers::Pointer;
 
 /// The pointer `words` words after `from`, in the same segment and with the same nesting limit.
+/// Precondition: `from.place.at + words` is below 2^32.
 ///
 /// # Preconditions
 ///
@@ -23,7 +24,8 @@ pub fn pointer_past<B: ReaderArena>(from: Pointer<'_, B>, words: u32) -> Pointer
     }
 }
 
-/// The place `words` words after `place`, in the same segment.
+/// The place `words` words after `place`, in the same segment. Precondition: `place.at + words` is
+/// below 2^32.
 ///
 /// # Preconditions
 ///

@@ -5,7 +5,8 @@ use crate::proved::capnp_making::making::clear;
 use crate::proved::capnp_words::error::ErrorKind;
 
 /// Ends a copy to the pointer at `to`. If the copy was refused, makes the pointer null, and zeroes
-/// what was made for the copy. Returns `copied`.
+/// what was made for the copy. Returns `copied`. Precondition: if `copied` is a refusal, the word
+/// at `to` is allocated.
 ///
 /// # Preconditions
 ///

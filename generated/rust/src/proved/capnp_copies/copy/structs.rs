@@ -14,7 +14,8 @@ use crate::proved::capnp_words::words::{used_words_in, word_range};
 
 /// Copies the struct whose first word is at `from`, with the sections `size`, to the null pointer
 /// at `to.place`. In canonical form, drops the zeros and null pointers at the ends of the struct's
-/// sections.
+/// sections. Preconditions: the word at `to.place` is allocated and zero; the segment of `from` has
+/// all words of a struct of `size` from `from` on.
 ///
 /// # Preconditions
 ///

@@ -2,7 +2,7 @@
 
 use super::{DeviceFault, Output};
 
-/// Writes all of `from`, in as many writes as it takes.
+/// Writes all of `from`, in as many writes as it takes. Precondition: `output` hasn't failed.
 ///
 /// # Preconditions
 ///

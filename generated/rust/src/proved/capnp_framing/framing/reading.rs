@@ -229,7 +229,7 @@ fn read_segment_count<R: Input>(
 
 /// Reads a message from the front of `input` into `into`, whose memory is reused, and leaves what
 /// follows the message unread. Returns `true` if a message was read. Returns `false` if the input
-/// is at its end; `into` has no segments then.
+/// is at its end; `into` has no segments then. Precondition: `input` hasn't failed.
 ///
 /// Refusals, in this order: `Truncated` if there are fewer than four bytes; `TooManySegments(n)` if
 /// there are n segments, and n is above 512; `Truncated` if the table is cut short, padding
@@ -279,7 +279,8 @@ pub fn read_into_with<A: Allocator, R: Input>(
     Ok(true)
 }
 
-/// Like `read_into_with`, without an allocator: all memory comes from the heap.
+/// Like `read_into_with`, without an allocator: all memory comes from the heap. Precondition:
+/// `input` hasn't failed.
 ///
 /// # Preconditions
 ///
@@ -296,7 +297,7 @@ pub fn read_into<R: Input>(
 }
 
 /// Reads a message from the front of `input`, and leaves what follows the message unread. Returns
-/// `None` if the input is at its end.
+/// `None` if the input is at its end. Precondition: `input` hasn't failed.
 ///
 /// Refuses what `read_into` refuses, and has then read as much of the input as `read_into` would.
 ///

@@ -79,7 +79,8 @@ fn set_single_segment<A: Allocator>(
 }
 
 /// Reads all of `input` as the words of a message's only segment into `into`, whose memory is
-/// reused. From an input without bytes, reads a segment of no words.
+/// reused. From an input without bytes, reads a segment of no words. Precondition: `input` hasn't
+/// failed.
 ///
 /// Refusals: `MessageTooLong(n)` if there are more than `max_words` words, or more than 2^32 - 1,
 /// the most that a segment can have. Here n is the number of the first word that is too many,
@@ -126,6 +127,7 @@ pub fn read_segment_into_with<A: Allocator, R: Input>(
 }
 
 /// Like `read_segment_into_with`, without an allocator: all memory comes from the heap.
+/// Precondition: `input` hasn't failed.
 ///
 /// # Preconditions
 ///

@@ -111,6 +111,8 @@ fn write_all_segments<W: Output, S: ReaderSegments>(
 
 /// Writes a message as a frame: a table of its segments' sizes, with zero padding, and then the
 /// words of each segment. Bytes after a segment's last whole word aren't written. Takes no memory.
+/// Preconditions: `output` hasn't failed; `segments` has fewer than 2^32 segments, each of fewer
+/// than 2^32 words.
 ///
 /// Refusals: `NoSegments` if there are no segments; `TooManySegments(n)` if there are n segments,
 /// and n is above 512. After these two refusals, nothing is written. `WriteFailed` if the output

@@ -50,7 +50,7 @@ pub fn canonicalize_pointer<A: Allocator, B: ReaderArena>(
 }
 
 /// Writes the value of `from` as the frame of a canonical message: one segment with the value's
-/// canonical words.
+/// canonical words. Precondition: `output` hasn't failed.
 ///
 /// Copies the value first, like `canonicalize_pointer`, with memory from the heap. `lim` is charged
 /// for one copy, and counts each non-null pointer once, even if a segment was too small and the copy

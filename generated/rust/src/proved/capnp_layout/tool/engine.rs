@@ -151,7 +151,8 @@ fn run_command<A: Allocator, W: Output>(
 
 /// Reads lines from `input`, and writes to `output` the answer to the command in `args`, or a line
 /// with `refused` and the name of the refusal. `allocator` grants the segments of copies. Its
-/// `keep` appends the bytes that were read to lists, and may refuse memory for them.
+/// `keep` appends the bytes that were read to lists, and may refuse memory for them. Precondition:
+/// neither `input` nor `output` has failed.
 ///
 /// The answers are, by command:
 ///
@@ -195,7 +196,8 @@ pub fn run_with<A: Allocator, R: Input, W: Output>(
 }
 
 /// Reads lines from `input`, and writes to `output` the answer to the command in `args`, or a line
-/// with `refused` and the name of the refusal.
+/// with `refused` and the name of the refusal. Precondition: neither `input` nor `output` has
+/// failed.
 ///
 /// A line of the input is a segment, in pairs of hex digits in either case. An input without bytes
 /// has no segments. The root pointer costs one word of the traversal limit. The answers are, by

@@ -48,8 +48,8 @@ pub(super) fn write_framed<W: Output>(output: &mut W, segment: &[u8]) -> Result<
     }
 }
 
-/// Writes `bytes`, in a frame of one segment or without a frame, as `form` says. Precondition:
-/// `bytes` is whole words.
+/// Writes `bytes`, in a frame of one segment or without a frame, as `form` says. Preconditions:
+/// `output` hasn't failed; `bytes` is whole words, fewer than 2^32.
 ///
 /// # Preconditions
 ///
@@ -65,8 +65,8 @@ pub fn write_words<W: Output>(output: &mut W, bytes: &[u8], form: Form) -> Resul
     }
 }
 
-/// Writes the message `made` as a frame. Precondition: `made` has exactly one segment. Refuses only
-/// with `Frame(WriteFailed)`, if the output fails.
+/// Writes the message `made` as a frame. Preconditions: `output` hasn't failed; `made` has exactly
+/// one segment. Refuses only with `Frame(WriteFailed)`, if the output fails.
 ///
 /// # Preconditions
 ///
@@ -85,7 +85,7 @@ pub fn write_copy<W: Output, A: Allocator>(
 }
 
 /// Writes the value of `from` as the frame of a canonical message: one segment with the value's
-/// canonical words.
+/// canonical words. Precondition: `output` hasn't failed.
 ///
 /// Copies the value first, like `canonicalize_pointer`. `lim` is charged for one copy, and counts
 /// each non-null pointer once, even if a segment was too small and the copy was made again.

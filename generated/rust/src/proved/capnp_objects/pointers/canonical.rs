@@ -66,7 +66,8 @@ impl<'a, A: ReaderArena> Pointer<'a, A> {
     }
 
     /// Tests whether `count` consecutive pointers, from `self` on, lead to values in canonical form
-    /// whose first object starts at `head`.
+    /// whose first object starts at `head`. Precondition: the segment has at least `self.place.at +
+    /// count` words.
     ///
     /// If so, returns `true` and moves `head` past the values' words. Otherwise returns `false` and
     /// leaves `head`. Tests, counts, charges and refuses each pointer like `canonical_fault`.
@@ -544,6 +545,7 @@ fn whole_words(bytes: &[u8]) -> usize {
 }
 
 /// Whether the last of the `count` words from position `at` on isn't zero, or `count` is 0.
+/// Precondition: `at + count` is below 2^32.
 ///
 /// # Preconditions
 ///

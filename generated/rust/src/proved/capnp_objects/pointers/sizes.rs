@@ -54,7 +54,8 @@ impl<'a, A: ReaderArena> Pointer<'a, A> {
     }
 
     /// Counts the size of an object and of all objects below it. The object has `own_words` words,
-    /// and its `count` consecutive pointers start with `self`.
+    /// and its `count` consecutive pointers start with `self`. Precondition: the segment has at
+    /// least `self.place.at + count` words.
     ///
     /// The sum of words starts at `own_words`, which aren't charged; the object itself takes no
     /// level. Counts, charges and refuses each of its pointers like `total_size`, in order.

@@ -15,7 +15,9 @@ use crate::proved::capnp_words::words::word_at;
 
 impl<'a, A: ReaderArena> Source<'a, A> {
     /// Reads the object that the pointer at `place` leads to, and refuses the object if it isn't
-    /// what `expected` says (encoding specification, "Structs" and "Lists").
+    /// what `expected` says (encoding specification, "Structs" and "Lists"). Precondition:
+    /// `place.bytes` has exactly the whole words of segment `place.segment` of `self`, fewer than
+    /// 2^32.
     ///
     /// If the word at `place` is zero, returns `Object::Null`, and counts and charges nothing in
     /// `lim`. Otherwise checks, counts and charges like `Source::read_object`, except as follows.

@@ -10,7 +10,8 @@ use crate::proved::capnp_words::read_limiter::ReadLimiter;
 impl<'a, A: ReaderArena> Source<'a, A> {
     /// Reads the object that the pointer at `place` leads to, but none of its children, only for
     /// its size (encoding specification, "Structs", "Lists", "Inter-Segment Pointers" and
-    /// "Capabilities (Interfaces)").
+    /// "Capabilities (Interfaces)"). Precondition: `place.bytes` has exactly the whole words of
+    /// segment `place.segment` of `self`, fewer than 2^32.
     ///
     /// If the word at `place` is zero, or `place` is outside of its segment, returns
     /// `Object::Null`, and counts and charges nothing in `lim`. Any other pointer takes a level,
@@ -43,8 +44,9 @@ impl<'a, A: ReaderArena> Source<'a, A> {
 
     /// Reads the object that `pointer` leads to only for its size, like `measure_object`. Returns
     /// the position, in words, where the object starts in the pointer's segment. Preconditions:
-    /// `pointer` isn't a far pointer; it leads to a struct or a list, but not to a list of void or
-    /// of structs; the object claims `words` words.
+    /// `pointer.word` is the word at `pointer.place`, and itself the pointer to a struct, or to a
+    /// list that is neither of void nor of structs, neither far nor null; the object claims `words`
+    /// words; `pointer.place` is as for `read_object`.
     ///
     /// # Preconditions
     ///

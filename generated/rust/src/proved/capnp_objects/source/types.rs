@@ -13,6 +13,9 @@ impl<'a, A: ReaderArena> Source<'a, A> {
     /// pointer, the second word of the landing pad. The object itself is neither checked nor
     /// charged.
     ///
+    /// Precondition: `place.bytes` has exactly the whole words of segment `place.segment` of
+    /// `self`, fewer than 2^32.
+    ///
     /// If the word at `place` is zero, returns `PointerType::Null`, and counts and charges nothing
     /// in `lim`. Otherwise counts the pointer in `lim` as followed, and charges the words of its
     /// landing pads. Refusals: `UnexpectedFarPointer` if the word that describes the object is a

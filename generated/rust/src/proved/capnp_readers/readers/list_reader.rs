@@ -12,6 +12,9 @@ use crate::proved::capnp_words::wire_pointer::{
 };
 
 /// The place of a list in an arena.
+///
+/// The place is *inside* a message if `byte` is a multiple of 8, and its segment exists and has all
+/// elements, in allocated words if the message is being built.
 #[derive(Clone, Copy, Debug)]
 pub struct ListPlace {
     /// The number of the segment.
@@ -95,8 +98,8 @@ impl<'a, A: ReaderArena> ListReader<'a, A> {
         }
     }
 
-    /// Returns a reader of the list at `place` of `arena`. Precondition: the list's elements are
-    /// inside a segment of `arena`.
+    /// Returns a reader of the list at `place` of `arena`. Preconditions: `place.byte` is a
+    /// multiple of 8; the elements are inside segment `place.segment` of `arena`.
     ///
     /// # Preconditions
     ///
@@ -321,7 +324,8 @@ impl<'a, A: ReaderArena> ListReader<'a, A> {
         self.element_with_limit(index, self.nesting_limit)
     }
 
-    /// The same call as `ListReader::get_struct_element`.
+    /// The same call as `ListReader::get_struct_element`. Preconditions: the elements aren't bits;
+    /// `index` is below the number of elements.
     ///
     /// # Preconditions
     ///

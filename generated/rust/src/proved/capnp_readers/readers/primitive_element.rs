@@ -10,10 +10,10 @@ pub trait PrimitiveElement {
     /// Reads element `index` of `list`: the number in the lowest bytes of the element's data, or
     /// the lowest bit of that data.
     ///
-    /// Preconditions, except for `()`: `index` is below the number of elements, and each element
-    /// has at least as many bits of data as the value. The data of a struct is its data section, so
-    /// a list of numbers that became a list of structs reads as before (encoding specification,
-    /// "Lists").
+    /// Precondition: unless `Self` is `()`, `index` is below the number of elements of `list`, and
+    /// each of these has at least as many bits of data as the value. The data of a struct is its
+    /// data section, so a list of numbers that became a list of structs reads as before (encoding
+    /// specification, "Lists").
     ///
     /// # Preconditions
     ///

@@ -14,6 +14,11 @@ use crate::proved::capnp_words::zero::Zero;
 
 /// The place of a struct in an arena. The size of its data section is in bits, since an element of
 /// a list of numbers can be read as a struct. Its pointer section needn't follow its data section.
+///
+/// The place is *inside* a message if its segment exists and has both sections, in allocated words
+/// if the message is being built. It is *aligned* if the data section has 8 bytes or more and starts
+/// at a multiple of 8, or has 4, 2 or 1 whole bytes and starts at a multiple of that number, or has
+/// less than a byte.
 #[derive(Clone, Copy, Debug, PartialEq, Eq)]
 pub struct StructPlace {
     /// The number of the segment.

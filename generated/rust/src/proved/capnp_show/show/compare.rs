@@ -39,6 +39,9 @@ struct Difference {
 /// `left`; `>` and its text in `right`. Of a text, at most 1,024 bytes are written, and then two dots.
 /// If all this has more than `MOST_BYTES` bytes, it ends with a line that says so.
 ///
+/// Preconditions: `left` and `right` each have fewer than 2^32 segments, each of fewer than 2^32
+/// words; `output` hasn't failed.
+///
 /// A pointer that can't be read has the name of its refusal in the line. If both messages are sound
 /// (`validate` of `capnp_messages`), they are the same exactly if their values are equal.
 ///

@@ -33,9 +33,10 @@ pub enum ShowFault {
     WriteFailed,
 }
 
-/// Shows the message in `segments`, or the part of it to which `path` leads: writes what it holds to
-/// `output`, in the form that `showing` describes. Returns whether each pointer that was followed
-/// could be read.
+/// Shows the message in `segments`, or the part of it to which `path` leads: writes what it holds
+/// to `output`, in the form that `showing` describes. Returns whether each pointer that was
+/// followed could be read. Preconditions: `segments` has fewer than 2^32 segments, each of fewer
+/// than 2^32 words; `output` hasn't failed.
 ///
 /// The first pointer is the one that `read_part` of `capnp_messages` finds; with an empty `path` it
 /// is the root pointer. If the path leads to an element of a list of structs, what is shown first is

@@ -355,6 +355,8 @@ fn flush_before_reading<L: BufferedInput, R: BufferedInput, W: BufferedOutput>(
 /// `message N: only in the first file` or `.. the second file`, where N is the number of the first
 /// of them, and reads no further.
 ///
+/// Precondition: none of `left`, `right` and `output` has failed.
+///
 /// Both inputs are streams of frames. The number of words of each message may be at most the
 /// traversal limit. Each message has to be sound within the limits.
 ///
@@ -398,7 +400,8 @@ pub fn run_diff<L: BufferedInput, R: BufferedInput, W: BufferedOutput>(
 
 /// Unpacks both inputs (encoding specification, "Packing"), and does with the unpacked bytes what
 /// `run_diff` does with its inputs. If the packed bytes of an input are cut short after its last
-/// message, the run is refused with `Truncated`.
+/// message, the run is refused with `Truncated`. Precondition: none of `left`, `right` and `output`
+/// has failed.
 ///
 /// # Preconditions
 ///
@@ -467,6 +470,7 @@ fn check_whole_at_end<R: Input>(
 }
 
 /// Compares the messages that both inputs hold as raw words, without a frame, like `run_diff`.
+/// Precondition: none of `left`, `right` and `output` has failed.
 ///
 /// # Preconditions
 ///

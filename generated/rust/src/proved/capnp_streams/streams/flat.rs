@@ -11,7 +11,7 @@ use crate::proved::support::alloc::Global;
 
 /// Does `task` with the one message that the input holds as raw words, and writes the answer.
 /// Returns `false` if the command is `Check` and the message isn't canonical; returns `true` after
-/// any other answer.
+/// any other answer. Precondition: neither `input` nor `output` has failed.
 ///
 /// All bytes of the input are read as the words of the message's only segment, without a frame, as
 /// `Canon` writes them in the form `Flat` (encoding specification, "Canonicalization"). The number
@@ -65,7 +65,8 @@ pub fn run_flat_with<A: Allocator, R: Input, W: Output>(
     }
 }
 
-/// Like `run_flat_with`, but without an allocator: all memory comes from the heap.
+/// Like `run_flat_with`, but without an allocator: all memory comes from the heap. Precondition:
+/// neither `input` nor `output` has failed.
 ///
 /// # Preconditions
 ///

@@ -12,7 +12,7 @@ use crate::proved::capnp_packing::packing::UnpackingInput;
 use crate::proved::support::alloc::Global;
 
 /// Unpacks the input `packed` (encoding specification, "Packing"), and does with the unpacked bytes
-/// what `run_with` does with its input.
+/// what `run_with` does with its input. Precondition: neither `packed` nor `output` has failed.
 ///
 /// If the packed bytes end inside a packed word, or where the count after a tag is missing, the run
 /// stops with `Truncated`. It has then answered all messages whose frames are complete, and has
@@ -43,7 +43,8 @@ pub fn run_packed_with<A: Allocator, R: Input, W: BufferedOutput>(
     }
 }
 
-/// Like `run_packed_with`, without an allocator: all memory comes from the heap.
+/// Like `run_packed_with`, without an allocator: all memory comes from the heap. Precondition:
+/// neither `packed` nor `output` has failed.
 ///
 /// # Preconditions
 ///

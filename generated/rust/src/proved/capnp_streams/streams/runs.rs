@@ -114,6 +114,7 @@ fn flush_and_answer_next<A: Allocator, R: BufferedInput, W: BufferedOutput>(
 }
 
 /// Does `task` with each message of the input, and writes the answers in the order of the messages.
+/// Precondition: neither `input` nor `output` has failed.
 ///
 /// The input is a stream of frames. The number of words of each message may be at most the
 /// traversal limit. The nesting limit and the traversal limit apply to each message separately. The
@@ -194,7 +195,7 @@ pub fn run_with<A: Allocator, R: BufferedInput, W: BufferedOutput>(
 }
 
 /// Like `run_with`, but without an allocator: all memory comes from the heap, and is reused from
-/// one message to the next.
+/// one message to the next. Precondition: neither `input` nor `output` has failed.
 ///
 /// # Preconditions
 ///

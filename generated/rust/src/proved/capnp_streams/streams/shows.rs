@@ -96,6 +96,7 @@ fn flush_and_show_next<R: BufferedInput, W: BufferedOutput>(
 
 /// Shows each message of the input, a stream of frames, and writes the texts in the order of the
 /// messages. `holds` of the summary says whether each pointer that was followed could be read.
+/// Precondition: neither `input` nor `output` has failed.
 ///
 /// The number of words of each message may be at most the traversal limit. At most `MOST_BYTES`
 /// bytes are written for a message. What `bytes` of the task says isn't looked at: a caller bounds
@@ -148,7 +149,8 @@ pub fn run_show<R: BufferedInput, W: BufferedOutput>(
 
 /// Unpacks the input `packed` (encoding specification, "Packing"), and does with the unpacked bytes
 /// what `run_show` does with its input. If the packed bytes are cut short, the run stops with
-/// `Truncated` after the messages whose frames are complete.
+/// `Truncated` after the messages whose frames are complete. Precondition: neither `packed` nor
+/// `output` has failed.
 ///
 /// # Preconditions
 ///
@@ -173,7 +175,8 @@ pub fn run_show_packed<R: Input, W: BufferedOutput>(
 }
 
 /// Shows the one message that the input holds as raw words, without a frame, like `run_flat` reads
-/// it. Returns whether each pointer that was followed could be read.
+/// it. Returns whether each pointer that was followed could be read. Precondition: neither `input`
+/// nor `output` has failed.
 ///
 /// # Preconditions
 ///

@@ -9,7 +9,7 @@ use crate::proved::support::alloc::Global;
 use crate::proved::typed_messages::message::{MessageReader, ReaderOptions};
 
 /// Reads a message from the front of `input`, and leaves what follows it unread. Returns `None` if
-/// the input is at its end. Precondition: the input hasn't failed.
+/// the input is at its end. Precondition: `input` hasn't failed.
 ///
 /// Refusals, in this order: `Truncated` if there are fewer than four bytes; `TooManySegments(n)` if
 /// there are n segments, and n is above 512; `Truncated` if the segment table is cut short;
@@ -36,7 +36,7 @@ pub fn try_read_message<R: Input>(
 }
 
 /// Like `try_read_message`, for an input that has a message: refuses with `Truncated` also if the
-/// input is at its end.
+/// input is at its end. Precondition: `input` hasn't failed.
 ///
 /// # Preconditions
 ///

@@ -6,7 +6,7 @@ use crate::proved::capnp_framing::framing::{write, FrameError};
 use crate::proved::typed_messages::message::{HeapArena, MessageBuilder};
 
 /// Writes a message as a frame: the allocated words of each segment, after a table of the segments'
-/// sizes. Takes memory only if there isn't exactly one segment. Precondition: the output hasn't
+/// sizes. Takes memory only if there isn't exactly one segment. Precondition: `output` hasn't
 /// failed.
 ///
 /// Refusals: `AllocationFailed` if memory runs out; `NoSegments` if there are no segments;
