@@ -1,12 +1,13 @@
 #!/usr/bin/env python3
-"""Plants bugs in a copy of the printed crate, of the departures and the support, and of the printer, and checks that each is found.
+"""Plants bugs in a copy of the printed crate, of the departures and the support, of the printer, and of doc comments that state
+preconditions, and checks that each is found.
 
     planted.py
 
 A bug in the crate is found by the sums and, if somebody has written the sums again, by printing again. One in the printer is
 found by the texts of texts.txt or by the audit, although the sums are those of the wrong printer. One in a departure or in the
-support is found by the sums, and by the tests of by_hand/ if all is printed again. Needs cargo and rustfmt. The last line is
-`N passed, M failed`."""
+support is found by the sums, and by the tests of by_hand/ if all is printed again. One in a doc comment is found by
+preconditions.py. Needs cargo and rustfmt. The last line is `N passed, M failed`."""
 import pathlib
 import shutil
 import subprocess
@@ -52,6 +53,15 @@ BY_HAND = (
     ('a list that is cut short', 'lists', 'tools/rust/support/vec.rs', 'self.0.resize(n, value);\n        Ok(())', 'self.0.resize(n.min(999), value);\n        Ok(())'),
     ('another digest', 'digests', 'tools/rust/support/sha2.rs', 'rest.len() < 56', 'rest.len() < 57'),
     ('lanes in another order', 'lanes', 'tools/rust/support/simd.rs', 'self.0[0].to_le_bytes()', 'self.0[0].to_be_bytes()'),
+)
+# In what a doc comment says that its function requires.
+SOURCE = 'crates/capnp_words/src/words.rt'
+IN_COMMENTS = (
+    ('a clause that no sentence states', SOURCE, '/// The word at position `at`. Precondition: `bytes` has at least `at + 1` words.', '/// The word at position `at`.'),
+    ('a clause about a parameter that isn\'t named', SOURCE, '/// The `n` words from position `at` on. Precondition: `bytes` has at least `at + n` words.', '/// The `n` words from position `at` on. Precondition: `bytes` has them.'),
+    ('a clause that is new', SOURCE, 'pub fn put_word(bytes: &mut [u8], at: usize, word: u64)\n', 'pub fn put_word(bytes: &mut [u8], at: usize, word: u64)\n    requires small { word < 2 ^ 63 }\n'),
+    ('two preconditions in the singular', SOURCE, 'Preconditions: the', 'Precondition: the'),
+    ('a precondition without a clause', SOURCE, '/// The number of whole words in `bytes`.', '/// The number of whole words in `bytes`. Precondition: there is one.'),
 )
 
 
@@ -133,8 +143,20 @@ def by_hand(room, counts):
         counts.told(f'\n    {test}\n' in found, 'by hand, printed again', what, f'the test {test}')
 
 
+def in_comments(counts):
+    """Plants each of these bugs in a folder that has only this source."""
+    for what, path, old, new in IN_COMMENTS:
+        with tempfile.TemporaryDirectory(prefix='planted-') as room:
+            (pathlib.Path(room) / path).parent.mkdir(parents=True)
+            shutil.copy(TOP / path, pathlib.Path(room) / path)
+            plant(pathlib.Path(room), path, old, new)
+            found = run(room, TOP / 'tests/rust/preconditions.py', room)[1]
+        counts.told(found.endswith(' 1 failed\n'), 'in a comment', what, 'the check of preconditions')
+
+
 def main():
     counts = Counts()
+    in_comments(counts)
     for part in in_crate, in_printer, by_hand:
         with tempfile.TemporaryDirectory(prefix='planted-') as room:
             copy(pathlib.Path(room))

@@ -8,7 +8,7 @@ NAMEs choose some of the parts:
 - texts: small texts in Rattle, and what they are printed as (texts.txt).
 - check: sums, the audit, and printing again (tools/rust/generated.py).
 - by_hand: departures and support, by tests in Rust.
-- planted: bugs planted in the crate, in the printer and in what is written by hand: each must be found.
+- planted: bugs planted in the crate, in the printer, in what is written by hand and in doc comments: each must be found.
 - programs: programs over the crate, tested as the proved ones are; minutes.
 
 Needs cargo, and rustfmt for check and planted. The last line is `N passed, M failed`."""

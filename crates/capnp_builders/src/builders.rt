@@ -193,8 +193,7 @@ impl<'a, A: BuilderArena> PointerBuilder<'a, A> {
     }
 
     /// Returns a builder of the struct at `place`, in the message of `self`. Precondition: `place`
-    /// is aligned: its data section starts at a multiple of the size of the widest number that it
-    /// holds.
+    /// is aligned (see `StructPlace`).
     pub fn into_struct(self, place: StructPlace) -> StructBuilder<'a, A>
         requires { IsAligned place }
         ensures arena { IsSameArena self.entry.arena result.arena }

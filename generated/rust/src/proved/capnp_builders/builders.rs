@@ -147,8 +147,7 @@ impl<'a, A: BuilderArena> PointerBuilder<'a, A> {
     }
 
     /// Returns a builder of the struct at `place`, in the message of `self`. Precondition: `place`
-    /// is aligned: its data section starts at a multiple of the size of the widest number that it
-    /// holds.
+    /// is aligned (see `StructPlace`).
     ///
     /// # Preconditions
     ///
