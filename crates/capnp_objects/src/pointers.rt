@@ -38,6 +38,9 @@ pub struct PointerPlace {
 
 /// A pointer being read, with the bytes of its segment: a `PointerReader` without the calls that
 /// return what it leads to.
+///
+/// Required of the fields: `place.bytes` has exactly the whole words of segment `place.segment` of
+/// `source`, fewer than 2^32.
 pub struct Pointer<'a, A: ReaderArena> {
     /// What the pointer is read from.
     pub source: Source<'a, A>,

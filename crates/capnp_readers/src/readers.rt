@@ -54,6 +54,9 @@ const NO_SECTIONS: StructSize = StructSize {
 };
 
 /// A pointer being read, with the bytes of its segment.
+///
+/// Required of the fields: `place.bytes` has exactly the whole words of segment `place.segment` of
+/// `source`, fewer than 2^32.
 pub struct PointerReader<'a, A: ReaderArena> {
     /// What the pointer is read from.
     pub source: Source<'a, A>,

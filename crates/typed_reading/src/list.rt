@@ -27,7 +27,7 @@ use std::marker::PhantomData;
 
 /// A list of structs that is read.
 pub struct StructsReader<'a, A: ReaderArena> {
-    /// The list.
+    /// The list. Required: its elements aren't bits.
     pub reader: ListReader<'a, A>,
     ghost whole: { size_number reader.element_size ≢ 1 },
 }
@@ -116,7 +116,7 @@ impl<'a, A: ReaderArena, T: PrimitiveElement> NumbersReader<'a, A, T> {
 
 /// A list of texts that is read.
 pub struct TextsReader<'a, A: ReaderArena> {
-    /// The list.
+    /// The list. Required: its elements, if there are any, are pointers or structs with pointers.
     pub reader: ListReader<'a, A>,
     ghost pointers: { 0 < reader.count → size_number reader.element_size ≢ 6
         → 0 < reader.struct_size.pointers },
@@ -171,7 +171,7 @@ impl<'a, A: ReaderArena> TextsReader<'a, A> {
 
 /// A list of data that is read.
 pub struct DataListReader<'a, A: ReaderArena> {
-    /// The list.
+    /// The list. Required: its elements, if there are any, are pointers or structs with pointers.
     pub reader: ListReader<'a, A>,
     ghost pointers: { 0 < reader.count → size_number reader.element_size ≢ 6
         → 0 < reader.struct_size.pointers },
@@ -226,7 +226,7 @@ impl<'a, A: ReaderArena> DataListReader<'a, A> {
 
 /// A list of pointers that is read: of lists, of capabilities, or of anything.
 pub struct PointersReader<'a, A: ReaderArena> {
-    /// The list.
+    /// The list. Required: its elements aren't bits.
     pub reader: ListReader<'a, A>,
     ghost whole: { size_number reader.element_size ≢ 1 },
 }

@@ -26,7 +26,8 @@ use capnp_words::zero::Zero;
 /// A struct of a message being built.
 #[derive(Drop)]
 pub struct StructBuilder<'a, A> {
-    /// Where the struct is. Calls require that both sections are inside the message.
+    /// Where the struct is. Required: the place is aligned. Calls also require that it is inside the
+    /// message.
     pub place: StructPlace,
     /// The message.
     pub arena: &'a mut A,

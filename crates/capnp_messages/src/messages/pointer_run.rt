@@ -17,6 +17,8 @@ use capnp_words::wire_pointer::StructSize;
 use std::alloc::AllocError;
 
 /// An element of a list of structs, which is a struct to which no pointer leads.
+///
+/// Required of the fields: both sections are inside the segment, from `first` on.
 pub struct ElementPlace<'a, A: ReaderArena> {
     /// The place of the element's first word, with the nesting limit of the element's pointers.
     pub first: Pointer<'a, A>,

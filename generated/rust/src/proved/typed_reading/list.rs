@@ -12,7 +12,7 @@ use core::marker::PhantomData;
 
 /// A list of structs that is read.
 pub struct StructsReader<'a, A: ReaderArena> {
-    /// The list.
+    /// The list. Required: its elements aren't bits.
     pub reader: ListReader<'a, A>,
 }
 
@@ -85,7 +85,7 @@ impl<'a, A: ReaderArena, T: PrimitiveElement> NumbersReader<'a, A, T> {
 
 /// A list of texts that is read.
 pub struct TextsReader<'a, A: ReaderArena> {
-    /// The list.
+    /// The list. Required: its elements, if there are any, are pointers or structs with pointers.
     pub reader: ListReader<'a, A>,
 }
 
@@ -123,7 +123,7 @@ impl<'a, A: ReaderArena> TextsReader<'a, A> {
 
 /// A list of data that is read.
 pub struct DataListReader<'a, A: ReaderArena> {
-    /// The list.
+    /// The list. Required: its elements, if there are any, are pointers or structs with pointers.
     pub reader: ListReader<'a, A>,
 }
 
@@ -161,7 +161,7 @@ impl<'a, A: ReaderArena> DataListReader<'a, A> {
 
 /// A list of pointers that is read: of lists, of capabilities, or of anything.
 pub struct PointersReader<'a, A: ReaderArena> {
-    /// The list.
+    /// The list. Required: its elements aren't bits.
     pub reader: ListReader<'a, A>,
 }
 

@@ -8,6 +8,8 @@ use crate::proved::capnp_words::error::ErrorKind;
 use crate::proved::capnp_words::wire_pointer::StructSize;
 
 /// An element of a list of structs, which is a struct to which no pointer leads.
+///
+/// Required of the fields: both sections are inside the segment, from `first` on.
 pub struct ElementPlace<'a, A: ReaderArena> {
     /// The place of the element's first word, with the nesting limit of the element's pointers.
     pub first: Pointer<'a, A>,

@@ -31,6 +31,10 @@ pub struct ListPlace {
 }
 
 /// A list being read, with the words of its elements.
+///
+/// Required of the fields: `start.bytes` has exactly the whole words of segment `start.segment` of
+/// `source`, fewer than 2^32; `content` is the part of `start.bytes` from word `start.at` on that
+/// has exactly the words of the elements; unless these are structs, `struct_size` is 0 and 0.
 pub struct ListReader<'a, A: ReaderArena> {
     /// What the list is read from.
     pub source: Source<'a, A>,

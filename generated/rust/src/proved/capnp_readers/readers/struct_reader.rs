@@ -34,6 +34,10 @@ pub struct StructPlace {
 }
 
 /// A struct being read, with its data section.
+///
+/// Required of the fields: `pointers.bytes` has exactly the whole words of segment
+/// `pointers.segment` of `source`, fewer than 2^32; `content` is the part of `pointers.bytes` from
+/// `byte` on that holds `bits` bits; the segment has at least `pointers.at + pointer_count` words.
 pub struct StructReader<'a, A: ReaderArena> {
     /// What the struct is read from.
     pub source: Source<'a, A>,
