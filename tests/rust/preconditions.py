@@ -34,17 +34,12 @@ class Function(NamedTuple):
     doc: list[str]
 
 
-def signature_of(s, keyword):
-    """The index after the name and the generic parameters of a function, which is that of its `(`."""
-    at = s.next(s.next(keyword))
-    return s.back(s.angle(at)) + 1 if s.is_at(at, '<') else at
-
-
 def parameters_of(s, keyword):
     """The names of a function's parameters."""
-    opening = s.find(signature_of(s, keyword), '(')
-    inside = range(opening, s.closing(opening))
-    return {s.tokens[it].text for it in inside if s.tokens[it].kind == 'word' and s.is_at(s.next(it), ':') and s.is_at(s.back(it), '(', ',', 'mut')}
+    at = s.next(s.next(keyword))
+    opening = s.find(s.angle(at) if s.is_at(at, '<') else at, '(')
+    words = (it for it in range(opening, s.closing(opening)) if s.tokens[it].kind == 'word')
+    return {s.tokens[it].text for it in words if s.is_at(s.next(it), ':') and s.is_at(s.back(it), '(', ',', 'mut')}
 
 
 def requires_of(s, keyword):
