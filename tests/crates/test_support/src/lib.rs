@@ -16,5 +16,5 @@ pub use capnp_proved::capnp_framing::framing::OwnedSegments;
 pub use devices::{Strain, StrainedInput, StrainedOutput};
 pub use first::FirstInArena;
 pub use lines::{answer_lines, parse_limit, split_arguments};
-pub use message::{arena_from_hex, arena_with_root, decode_hex, has_words};
+pub use message::{arena_from_hex, arena_with_root, decode_hex, encode_hex, has_words};
 pub use noting::{NotingAllocator, Request};

@@ -19,6 +19,12 @@ pub fn decode_hex(text: &str) -> Option<Vec<u8>> {
     Some(bytes)
 }
 
+/// Returns the hex digits of `bytes`, in lower case.
+pub fn encode_hex(bytes: &[u8]) -> String {
+    let digits = hex::encode(Global, bytes).expect("memory");
+    digits.to_owned()
+}
+
 /// Makes the arena of a message. `text` has the bytes of its segments in hex digits, as in
 /// [`decode_hex`], with commas between segments; only whole words count.
 ///
