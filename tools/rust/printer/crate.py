@@ -11,7 +11,7 @@ from .tokens import NotPrintable
 LIBRARIES = ('capnp_format', 'capnp_words', 'capnp_arena_traits', 'capnp_arena', 'capnp_framing', 'capnp_packing', 'capnp_making',
              'capnp_contents', 'capnp_objects', 'capnp_readers', 'capnp_copies', 'capnp_messages', 'capnp_refusals', 'capnp_walks',
              'capnp_builders', 'typed_messages', 'typed_reading', 'typed_building', 'capnp_canonical')
-OF_PROGRAMS = 'capnp_edits', 'capnp_layout', 'capnp_show', 'capnp_streams'
+OF_PROGRAMS = 'capnp_edits', 'capnp_layout', 'capnp_show', 'capnp_streams', 'layout_vectors'
 # Which departures are for these libraries. The others are for programs.
 DEPARTURES = 'drop', 'io_error', 'speed'
 NAME = 'capnp_proved'

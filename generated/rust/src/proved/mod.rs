@@ -41,6 +41,8 @@ pub mod capnp_show;
 pub mod capnp_streams;
 pub mod capnp_walks;
 pub mod capnp_words;
+#[cfg(feature = "programs")]
+pub mod layout_vectors;
 pub mod support;
 pub mod typed_building;
 pub mod typed_messages;
