@@ -7,22 +7,35 @@ use capnp_proved::capnp_arena::arena::{
 use capnp_proved::capnp_framing::devices::{MemoryInput, MemoryOutput};
 use capnp_proved::capnp_framing::framing::{read, write, OwnedSegments};
 use capnp_proved::support::alloc::Global;
-use capnp_proved::support::hex;
 
 /// Returns the bytes that `text` has as pairs of hex digits. Spaces between the pairs are ignored.
 /// Returns `None` if the text has anything else.
 pub fn decode_hex(text: &str) -> Option<Vec<u8>> {
-    let mut bytes = Vec::new();
+    let mut bytes = Vec::with_capacity(text.len() / 2);
     for word in text.split(' ') {
-        bytes.extend_from_slice(&hex::decode(Global, word).ok()?);
+        let (pairs, rest) = word.as_bytes().as_chunks();
+        if !rest.is_empty() {
+            return None;
+        }
+        for [high, low] in pairs {
+            bytes.push(16 * digit_value(*high)? + digit_value(*low)?);
+        }
     }
     Some(bytes)
 }
 
+fn digit_value(digit: u8) -> Option<u8> {
+    let value = char::from(digit).to_digit(16)?;
+    value.try_into().ok()
+}
+
 /// Returns the hex digits of `bytes`, in lower case.
 pub fn encode_hex(bytes: &[u8]) -> String {
-    let digits = hex::encode(Global, bytes).expect("memory");
-    digits.to_owned()
+    let digit = |value: u8| char::from(b"0123456789abcdef"[usize::from(value)]);
+    let pairs = bytes
+        .iter()
+        .map(|byte| [digit(byte >> 4), digit(byte & 15)]);
+    pairs.flatten().collect()
 }
 
 /// Makes the arena of a message. `text` has the bytes of its segments in hex digits, as in
