@@ -97,8 +97,8 @@ $(BUILD)/%: generated/%.c
 check test: $(INSTALLED)
 	BUILD='$(BUILD)' CC='$(CC)' FLAGS='$(CPPFLAGS) $(CFLAGS) $(LDFLAGS)' PYTHON='$(PYTHON)' RUNNER='$(RUNNER)' sh tests/release/check.sh
 
-check-streams: $(BUILD)/capnp_canon $(BUILD)/stream_runs
-	$(PYTHON) -B tests/streams/run.py $(BUILD)/capnp_canon $(BUILD)/stream_runs
+check-streams: $(BUILD)/capnp_canon
+	$(PYTHON) -B tests/streams/run.py $(BUILD)/capnp_canon
 
 install: $(INSTALLED)
 	$(INSTALL) -d $(DESTDIR)$(LIBDIR) $(DESTDIR)$(PKGCONFIGDIR) $(DESTDIR)$(CMAKEDIR) $(DESTDIR)$(INCLUDEDIR) $(DESTDIR)$(BINDIR) \

@@ -2,8 +2,9 @@
 """The gate. Checks the names of definitions, the prose, the quotations in pages, the header for C, whether a crate has changed
 since the C in generated/ was written, the logic of the toolchain, the scripts at the top, the printer of Rust, and that
 generated/rust is what the sources are printed as. Then runs `rt ci`, which proves and builds everything; compares what it
-reports that the proofs rest on with `tests/axioms.txt`; tries the mutants with the libraries that it built; and runs the
-outside vectors, the cases, the hostile runs and the streams with the programs that it built.
+reports that the proofs rest on with `tests/axioms.txt`; and tries the mutants with the libraries that it built. Builds the
+programs and runs the tests of tests/crates with cargo, which are plain Rust over generated/rust. Then runs the outside vectors and
+the streams with the programs that `rt ci` built, and the cases, the hostile runs and the streams with those that cargo built.
 
     gate.py [--anew]
 
@@ -13,8 +14,8 @@ between runs doesn't know the option, and proves everything anyway.
 Shows what each part prints. Each part ends with a line `N passed, M failed`, which is shown after the name of the part.
 The last line is the sum of all. The exit status is 0 exactly if nothing failed.
 
-`rt ci` starts without `out/` folders and leaves there the programs that it built. Programs of earlier runs are removed
-first, so that no old program is tested. A part whose program is missing counts as one failure.
+`rt ci` starts without `out/` folders and leaves there the programs that it built; cargo leaves its own in build/cargo. Programs
+of earlier runs are removed first, so that no old program is tested. A part whose program is missing counts as one failure.
 
 `rt ci` checks one crate per processor, each in one job (RT_JOBS, unless that is set already). With four jobs for one
 crate, the first check of capnp_words took a third more processor time."""
@@ -26,20 +27,20 @@ import subprocess
 import sys
 
 import axioms
+from crates.run import PROGRAMS, ROWS, RUNS, STREAM_RUNS
 from mutants.run import side_by_side
 
 TOP = pathlib.Path(__file__).resolve().parents[1]
 sys.path.append(str(TOP / 'tools'))
 from libraries import Crates
 
-TOOL, CASES, RUNS, CANON, STREAM_RUNS = PROGRAMS = [
-    TOP / f'crates/{name}/out/{name}' for name in ('layout_tool', 'layout_rows', 'layout_runs', 'capnp_canon', 'stream_runs')
-]
-# What runs with programs that `rt ci` built: the name of the part, its script and the programs.
+# The programs that `rt ci` builds.
+TOOL, CANON = PROVED_PROGRAMS = [TOP / f'crates/{name}/out/{name}' for name in ('layout_tool', 'capnp_canon')]
+# What runs with programs that were built: the name of the part, its script and the programs.
 OVER_PROGRAMS = (
     ('vectors', TOP / 'tests/vectors/run.py', (TOOL,)),
-    ('cases', TOP / 'tests/cases/run.py', (CASES,)),
-    ('hostile', TOP / 'tests/hostile/run.py', (RUNS, CASES)),
+    ('cases', TOP / 'tests/cases/run.py', (ROWS,)),
+    ('hostile', TOP / 'tests/hostile/run.py', (RUNS, ROWS)),
     ('streams', TOP / 'tests/streams/run.py', (CANON, STREAM_RUNS)),
 )
 COUNTS = re.compile(r'(\d+) passed, (\d+) failed')
@@ -112,7 +113,7 @@ def main():
     sys.stdout.reconfigure(encoding='utf-8', errors='surrogateescape')
     if sys.argv[1:] not in ([], ['--anew']):
         sys.exit(__doc__)
-    for program in PROGRAMS:
+    for program in (*PROVED_PROGRAMS, *PROGRAMS):
         remove(program)
     printed = []
     parts = [
@@ -129,6 +130,7 @@ def main():
         counted('rt ci', proving(sys.argv[1:]), printed, Crates().stands_on, RT_JOBS=str(side_by_side())),
         resting(printed),
         counted('mutants', [sys.executable, str(TOP / 'tests/mutants/run.py')]),
+        counted('crates', [sys.executable, '-B', str(TOP / 'tests/crates/run.py')]),
         *(over_programs(*it) for it in OVER_PROGRAMS),
     ]
     passed, failed = (sum(it) for it in zip(*parts))

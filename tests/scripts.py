@@ -151,7 +151,7 @@ def by_make(tree):
     yield 'by a link, and from another folder', tree.run('sh', '-c', 'ln -s "$PWD/capnp_canon" "$1/linked" && cd / && "$1/linked" x', 'sh', str(tree.tools)) == (answer('x'), '', 1)
     yield 'the version, and which program it is', tree.run('./capnp_canon', '--version') == (f'capnp_canon 0\n{BY_MAKE}', '', 0)
     yield 'no second line for a file of that name', tree.run('./capnp_canon', '--', '--version')[0] == answer('-- --version')
-    tree.write('generated/stream_runs.c', '')
+    tree.write('generated/layout_tool.c', '')
     yield 'other C is newer', tree.run('./capnp_canon', 'x') == (answer('x'), '', 1) and tree.made() == 0
     tree.write('generated/capnp_canon.c', PROGRAM.format('new'))
     yield 'its C is newer: it is built again', tree.run('./capnp_canon', 'x') == (answer('x', program='new'), BUILT_AGAIN, 1)

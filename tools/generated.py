@@ -25,8 +25,8 @@ from libraries import PARTS, TOP, Crates
 NAME = 'capnp_canonical'
 HEADER = f'bindings/c/{NAME}.h'
 EXPORTS = 'tools/exports.txt'
-# The library and the programs. The last one is for tests.
-CRATES = NAME, 'capnp_canon', 'layout_tool', 'stream_runs'
+# The library and the programs.
+CRATES = NAME, 'capnp_canon', 'layout_tool'
 WRITER = 'tools/generate.py', 'tools/c_of_module'
 WASM = 'bindings/js'
 AGAIN = 'run python3 tools/generated.py'

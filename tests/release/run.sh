@@ -103,16 +103,14 @@ build() {
 
 streams() {
     name=$1
-    shift
-    make -C "$release" "$work/$name/stream_runs" BUILD="$work/$name" CC="$1" CFLAGS="$2" >"$work/log" 2>&1
-    summed "streams, $name" python3 -B "$release/tests/streams/run.py" "$work/$name/capnp_canon" "$work/$name/stream_runs" --limit 300
+    summed "streams, $name" python3 -B "$release/tests/streams/run.py" "$work/$name/capnp_canon" --limit 300
 }
 
-# Runs only the cases and the hostile runs: for builds that are slow to start, or take more memory.
+# Runs only the cases and the altered streams: for builds that are slow to start, or take more memory.
+#
+#     some_streams NAME RUNNER
 some_streams() {
-    name=$1 runner=$4
-    make -C "$release" "$work/$name/stream_runs" BUILD="$work/$name" CC="$2" CFLAGS="$3" >"$work/log" 2>&1
-    summed "streams, $name" env RUNNER="$runner" python3 -B "$here/streams.py" "$release/tests/streams" "$work/$name/capnp_canon" "$work/$name/stream_runs"
+    summed "streams, $1" env RUNNER="$2" python3 -B "$here/streams.py" "$release/tests/streams" "$work/$1/capnp_canon"
 }
 
 installed() {
@@ -122,7 +120,7 @@ installed() {
 by_compiler() {
     for level in -O0 -O2 -O3; do
         build "$1$level" "$1" "$level $warnings"
-        if [ -z "$is_short" ] || [ "$1$level" = "$first-O2" ]; then streams "$1$level" "$1" "$level"; fi
+        if [ -z "$is_short" ] || [ "$1$level" = "$first-O2" ]; then streams "$1$level"; fi
     done
     build "$1-hardened" "$1" "$hardened $warnings" LDFLAGS='-Wl,-z,relro,-z,now'
     for cpu in x86-64 x86-64-v2 x86-64-v3; do
@@ -133,7 +131,7 @@ by_compiler() {
         fi
     done
     build "$1-sanitized" "$1" "$sanitized $warnings"
-    some_streams "$1-sanitized" "$1" "$sanitized" ''
+    some_streams "$1-sanitized" ''
     case $1 in clang*) build "$1-memory" "$1" "-O1 -g -fsanitize=memory -fno-sanitize-recover=all $warnings" ;; esac
     if has valgrind "$1 under it"; then
         part "make check, $1 under valgrind" checked "$1-O2" "$1" "-O2 $warnings" RUNNER='valgrind -q --error-exitcode=9 --leak-check=full --show-leak-kinds=all'
@@ -151,7 +149,7 @@ on_aarch64() {
         part "make check, aarch64$level" checked "aarch64$level" aarch64-linux-gnu-gcc "$level $warnings" RUNNER="qemu-aarch64 -L $cross"
         part "altered messages, aarch64$level" same_digest "aarch64$level" qemu-aarch64 -L "$cross"
     done
-    some_streams aarch64-O2 aarch64-linux-gnu-gcc -O2 "qemu-aarch64 -L $cross"
+    some_streams aarch64-O2 "qemu-aarch64 -L $cross"
 }
 
 by_cmake() {

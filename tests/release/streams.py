@@ -1,8 +1,8 @@
 #!/usr/bin/env python3
-"""Runs only two parts of tests/streams/run.py, the cases and the hostile runs: for builds that are slow to start, or take more
+"""Runs only two parts of tests/streams/run.py, the cases and the altered streams: for builds that are slow to start, or take more
 memory. The variable RUNNER has the command that runs programs for another machine.
 
-    streams.py TESTS_STREAMS CAPNP_CANON STREAM_RUNS"""
+    streams.py TESTS_STREAMS CAPNP_CANON"""
 import os
 import pathlib
 import shlex
@@ -30,10 +30,9 @@ def run_by(runner, program, folder):
 def main():
     counts = Counts(10)
     with tempfile.TemporaryDirectory(prefix='streams-') as folder:
-        canon, runs = (run_by(os.environ.get('RUNNER'), it, folder) for it in sys.argv[2:])
-        program = Program(canon, 300)
+        program = Program(run_by(os.environ.get('RUNNER'), sys.argv[2], folder), 300)
         stored(program, counts)
-        hostile.runs(runs, counts)
+        hostile.altered(program, counts)
     print(f'{counts.passed} passed, {counts.failed} failed')
     return 1 if counts.failed else 0
 

@@ -1,12 +1,16 @@
-"""Runs the engine of capnp_canon on a stream of six messages, with the program stream_runs. Its devices move few bytes at a
-time and fail at each call in turn; the stream is cut short after each byte and has each bit flipped; all of this plain
+"""Runs the engine of capnp_canon on a stream of six messages. The stream is cut short after each byte and has each bit flipped, plain
 and packed. The answers to the messages before a refused one must be written, and nothing of the refused one.
+
+`runs` does this with the program stream_runs, whose devices also move few bytes at a time and fail at each call in turn.
+`altered` does it with a built capnp_canon, in a process for each stream, and leaves out devices that fail and `canon --flat`.
 
 The expected answers to the six messages were worked out by hand. The expected answer to an altered message is what the
 program answers to a stream of this message only. tests/hostile/frames.py finds the frames of an altered stream, and
 packing.py unpacks packed bytes."""
 import collections
+import concurrent.futures
 import hashlib
+import os
 import re
 
 from frames import framed, refusal, table_of
@@ -37,6 +41,9 @@ SIX = (
 FORMS = 'canon', 'canon,--flat', 'check', 'size', 'digest', 'validate'
 ALL = 'none,none'
 ANSWER = re.compile(r'(?:(done|stopped) (\d+) (\w+)|(unflushed)) -([0-9a-f]*)')
+# What capnp_canon writes after the digest of a message on standard input, and says when it refuses one.
+NAMED = re.compile(rb'(?m)  -:\d+$')
+REFUSED = re.compile(r'capnp_canon: message (\d+) at byte \d+: refused (\w+)\b.*\n')
 Answer = collections.namedtuple('Answer', 'how number word written')
 
 
@@ -103,28 +110,49 @@ def is_front(form, answer):
     return without_reasons(front, answer.written) == front
 
 
+def number_of_answers(form, written):
+    """How many messages a run of capnp_canon answered that wrote this: one frame or one line for each."""
+    return len(frames(written)[0]) if form == 'canon' else written.count(b'\n')
+
+
+def asked_of_canon(program, text):
+    """What capnp_canon answers to a line for stream_runs whose devices don't fail, in a process of its own."""
+    words, _, _, digits = text.split(' ')
+    written, status, error = program.run(words.split(','), bytes.fromhex(digits.strip('-')))
+    if words.startswith('digest'):
+        written = NAMED.sub(b'', written)
+    found = REFUSED.fullmatch(error)
+    if status == 2 and found:
+        return Answer('stopped', int(found[1]) - 1, found[2], written)
+    if status not in (0, 1) or error:
+        return Answer(f'status {status}: {error}', 0, '', written)
+    return Answer('done', number_of_answers(words.split(',')[0], written), 'true' if status == 0 else 'false', written)
+
+
 class Runs:
-    def __init__(self, program, counts):
-        self.program, self.counts = [program], counts
+    """Runs of a program, which is asked by a function that takes it and lines."""
+
+    def __init__(self, program, counts, forms=FORMS, asked=asked):
+        self.program, self.counts, self.forms, self.asked = program, counts, forms, asked
 
     def strained(self):
         """Devices that move few bytes at a time."""
         lines = [
             (form, packing, line(form + packing, packed(STREAM) if packing else STREAM, f'none,{reads}', f'none,{writes}'))
-            for form in FORMS
+            for form in self.forms
             for packing in ('', ',--packed')
             for reads in range(1, 12)
             for writes in range(1, 12)
         ]
-        for (form, packing, text), got in zip(lines, asked(self.program, [it[2] for it in lines])):
+        for (form, packing, text), got in zip(lines, self.asked(self.program, [it[2] for it in lines])):
             good = (got.how, got.number, got.word) == ('done', len(SIX), holds(form)) and is_front(form, got)
             self.counts.told(good, 'few bytes at a time', text, got)
 
     def failed_reads(self):
         """Lets each read in turn fail, of reads of one byte. The messages that were read before must be answered."""
-        for form in FORMS:
+        for form in self.forms:
             lines = [line(form, STREAM, f'{calls},1') for calls in range(len(STREAM) + 2)]
-            for calls, got in enumerate(asked(self.program, lines)):
+            for calls, got in enumerate(self.asked(self.program, lines)):
                 how = 'stopped', whole_below(MESSAGES, calls), 'ReadFailed'
                 if calls > len(STREAM):
                     how = 'done', len(SIX), holds(form)
@@ -133,9 +161,9 @@ class Runs:
     def failed_packed_reads(self):
         """Lets each read of a packed input in turn fail. The run may read more than a message takes, and may read the end twice."""
         data = packed(STREAM)
-        for form in FORMS:
+        for form in self.forms:
             lines = [line(form + ',--packed', data, f'{calls},1') for calls in range(len(data) + 3)]
-            for calls, got in enumerate(asked(self.program, lines)):
+            for calls, got in enumerate(self.asked(self.program, lines)):
                 ways = [('stopped', 'ReadFailed')] if calls <= len(data) + 1 else []
                 if calls > len(data):
                     ways.append(('done', holds(form)))
@@ -143,10 +171,10 @@ class Runs:
 
     def failed_writes(self):
         """Lets each write in turn fail, of writes of one byte. The output must be the first bytes of the answers."""
-        for form in FORMS:
-            output = asked(self.program, [line(form, STREAM)])[0].written
+        for form in self.forms:
+            output = self.asked(self.program, [line(form, STREAM)])[0].written
             lines = [line(form, STREAM, ALL, f'{calls},1') for calls in range(len(output) + 1)]
-            for calls, got in enumerate(asked(self.program, lines)):
+            for calls, got in enumerate(self.asked(self.program, lines)):
                 good = got.written == output[:calls]
                 if calls == len(output):
                     good &= (got.how, got.number, got.word) == ('done', len(SIX), holds(form))
@@ -159,17 +187,17 @@ class Runs:
     def failed_packed_writes(self):
         """Lets each write of packed output in turn fail. The complete output must unpack to the answers."""
         for form in 'canon', 'canon,--flat':
-            output = asked(self.program, [line(form + ',--pack', STREAM)])[0].written
+            output = self.asked(self.program, [line(form + ',--pack', STREAM)])[0].written
             self.counts.told(unpacked(output) == (b''.join(WANTED[form]), True), 'packed output', form, output)
             lines = [line(form + ',--pack', STREAM, ALL, f'{calls},1') for calls in range(len(output) + 1)]
-            for calls, got in enumerate(asked(self.program, lines)):
+            for calls, got in enumerate(self.asked(self.program, lines)):
                 how = 'done' if calls == len(output) else 'unflushed'
                 self.counts.told(got.how == how and got.written == output[:calls], 'a failed packed write', form, calls, got)
 
     def cut(self):
         """Cuts the stream short after each byte."""
-        for form in FORMS:
-            found = asked(self.program, [line(form, STREAM[:end]) for end in range(len(STREAM) + 1)])
+        for form in self.forms:
+            found = self.asked(self.program, [line(form, STREAM[:end]) for end in range(len(STREAM) + 1)])
             for end, got in enumerate(found):
                 number = whole_below(MESSAGES, end)
                 at_end = end == ends(MESSAGES)[number]
@@ -179,8 +207,8 @@ class Runs:
     def cut_packed(self):
         """Cuts the packed stream short after each byte. If the count after a word is missing, that word may be used or not."""
         data = packed(STREAM)
-        for form in FORMS:
-            found = asked(self.program, [line(form + ',--packed', data[:end]) for end in range(len(data) + 1)])
+        for form in self.forms:
+            found = self.asked(self.program, [line(form + ',--packed', data[:end]) for end in range(len(data) + 1)])
             for end, got in enumerate(found):
                 given, is_whole = unpacked(data[:end])
                 most = whole_below(MESSAGES, len(given))
@@ -200,12 +228,12 @@ class Runs:
         pairs = [(it, unpacked(it)) for it in packed_ones]
         parts = {given: frames(given) for given in [*altered, *(it for _, (it, _) in pairs)]}
         single = {frame: None for found, _ in parts.values() for frame in found}
-        for form in FORMS:
-            alone = dict(zip(single, asked(self.program, [line(form, it) for it in single])))
-            for given, got in zip(altered, asked(self.program, [line(form, it) for it in altered])):
+        for form in self.forms:
+            alone = dict(zip(single, self.asked(self.program, [line(form, it) for it in single])))
+            for given, got in zip(altered, self.asked(self.program, [line(form, it) for it in altered])):
                 want = expected(form, *parts[given], alone)
                 self.counts.told(got == want, 'a flipped bit', form, given.hex(), want, got)
-            found = asked(self.program, [line(form + ',--packed', it) for it, _ in pairs])
+            found = self.asked(self.program, [line(form + ',--packed', it) for it, _ in pairs])
             for (_, (given, is_whole)), got in zip(pairs, found):
                 want = expected(form, *parts[given], alone)
                 good = got == want if is_whole else is_cut(got, want)
@@ -255,9 +283,21 @@ def is_cut(got, want):
 
 
 def runs(program, counts):
-    it = Runs(program, counts)
+    """All runs, with the program stream_runs."""
+    it = Runs([program], counts)
     for part in (
         it.strained, it.failed_reads, it.failed_packed_reads, it.failed_writes,
         it.failed_packed_writes, it.cut, it.cut_packed, it.turned,
     ):
         part()
+
+
+def altered(program, counts):
+    """The runs over altered streams, with capnp_canon, as many at a time as there are processors."""
+    with concurrent.futures.ThreadPoolExecutor(os.cpu_count()) as pool:
+        def asked_each(_, lines):
+            return list(pool.map(lambda text: asked_of_canon(program, text), lines))
+
+        it = Runs(program, counts, [form for form in FORMS if form != 'canon,--flat'], asked_each)
+        for part in it.cut, it.cut_packed, it.turned:
+            part()

@@ -1,7 +1,7 @@
 #!/usr/bin/env python3
 """Runs a built capnp_canon on streams of messages, and prints the runs that went wrong.
 
-    run.py CAPNP_CANON STREAM_RUNS [--limit SECONDS] [--show N]
+    run.py CAPNP_CANON [STREAM_RUNS] [--limit SECONDS] [--show N]
 
 - Each line of a .jsonl file is one case: a run with its arguments, its input, its files if it has any, and the expected
   output (these three in hex digits), standard error and exit status. The cases of peer.jsonl are real messages with the
@@ -16,8 +16,9 @@
   that is written from docs/PROGRAM.md and docs/FORMAT.md.
 - differences.py compares what `diff` writes about two messages with a model that is written from docs/PROGRAM.md.
 - coprocess.py waits for each answer before it writes the next message.
-- hostile.py uses STREAM_RUNS, a program with the same engine. Its devices fail at each call in turn, and its streams are
-  cut short after each byte and have each bit flipped."""
+- hostile.py uses STREAM_RUNS, a program of tests/crates with the same engine. Its devices fail at each call in turn, and its
+  streams are cut short after each byte and have each bit flipped. Without STREAM_RUNS, only these altered streams are run,
+  with CAPNP_CANON."""
 import argparse
 import pathlib
 import sys
@@ -39,7 +40,7 @@ from runs import Program, stored
 def main():
     parser = argparse.ArgumentParser(description=__doc__, formatter_class=argparse.RawDescriptionHelpFormatter)
     parser.add_argument('canon')
-    parser.add_argument('runs')
+    parser.add_argument('runs', nargs='?')
     parser.add_argument('--limit', type=float, default=60)
     parser.add_argument('--show', type=int, default=10)
     options = parser.parse_args()
@@ -55,7 +56,7 @@ def main():
         ('altered messages, shown', lambda: shown.runs(program, counts)),
         ('pairs of messages, compared', lambda: differences.runs(program, counts)),
         ('coprocesses', lambda: coprocess.answered(program, counts)),
-        ('hostile runs', lambda: hostile.runs(options.runs, counts)),
+        ('hostile runs', lambda: hostile.runs(options.runs, counts)) if options.runs else ('altered streams', lambda: hostile.altered(program, counts)),
     ):
         before = counts.passed + counts.failed
         part()
