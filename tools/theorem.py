@@ -291,6 +291,7 @@ def tries():
         ('vectors that were worked out by hand', '`tests/vectors/worked.jsonl`', lines_of('tests/vectors/worked.jsonl')),
         ('cases: lines of text with calls of readers and builders, and edits', '`tests/cases/`', lines_of('tests/cases/*.jsonl')),
         ('facts from outside: messages whose values, sizes and refusals the checker computes and compares', '`crates/outside_facts/specs/`', facts),
+        ('tests in Rust over `generated/rust/`', '`tests/crates/`', sum(path.read_text(encoding='utf-8').count('#[test]') for path in TOP.glob('tests/crates/*/tests/**/*.rs'))),
         ('streams: runs of `capnp_canon`', '`tests/streams/`', lines_of('tests/streams/*.jsonl')),
     )
     return ['| What | Where | How many |', '|---|---|---|', *(f'| {what} | {where} | {number:,} |' for what, where, number in table)]
