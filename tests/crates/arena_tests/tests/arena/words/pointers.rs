@@ -9,14 +9,23 @@ const ONE_AND_TWO: StructSize = StructSize {
     pointers: 2,
 };
 
+/// The offset of a pointer, checked to be from -2^29 to 2^29 - 1.
+fn offset_of(pointer: WirePointer) -> i32 {
+    let offset = pointer.offset();
+    assert!((-536_870_912..=536_870_911).contains(&offset), "{offset}");
+    offset
+}
+
 /// Rebuilds the word from its fields. A word of no known kind has none.
 fn rebuild_from_fields(pointer: WirePointer) -> WirePointer {
     let position = pointer.far_position_in_segment();
     let segment = pointer.far_segment_id();
     match pointer.kind() {
-        WirePointerKind::Struct => WirePointer::new_struct(pointer.offset(), pointer.struct_size()),
+        WirePointerKind::Struct => {
+            WirePointer::new_struct(offset_of(pointer), pointer.struct_size())
+        }
         WirePointerKind::List => WirePointer::new_list(
-            pointer.offset(),
+            offset_of(pointer),
             pointer.list_element_size(),
             pointer.list_element_count(),
         ),
@@ -91,6 +100,9 @@ fn parts_of_pointers_are_read() {
     let pair = pointer(0x0400_0000_0100_0200);
     let list = pointer(0x0100_0000_1f00_0000);
     assert!(pair.is_positional() && !pair.is_null());
+    assert_eq!(pair.offset(), 1);
+    assert_eq!(pointer(0xfcff_ff7f_0100_0200).offset(), 536_870_911);
+    assert_eq!(pointer(0x0000_0080_0100_0200).offset(), -536_870_912);
     assert_eq!(pair.struct_data_size(), 1);
     assert_eq!(pair.struct_ptr_count(), 2);
     assert_eq!(pair.struct_word_size(), 3);

@@ -24,6 +24,24 @@ fn struct_at_place_is_read() {
     assert!(found.is_pointer_field_null(0));
 }
 
+/// The first bit after a data section of 13 bits is set, but isn't read.
+#[test]
+fn bits_after_the_section_are_zero() {
+    let arena = message_arena(SHORTS);
+    let place = StructPlace {
+        segment: 0,
+        byte: 33,
+        bits: 13,
+        pointers_at: 5,
+        pointers: 0,
+    };
+    let found = StructReader::at(&arena, place, 3);
+    assert_eq!(found.data_bytes(), [0xaa, 0xaa]);
+    assert!(!found.get_bool_field(13));
+    assert!(!found.get_bool_field(15));
+    assert!(found.get_bool_field_mask(13, true));
+}
+
 /// Reads words 2 to 5 as two structs.
 #[test]
 fn list_at_place_is_read() {
