@@ -4,8 +4,9 @@
     programs.py [--debug] [--keep FOLDER] [NAME..]
 
 Prints the programs and the libraries that only they need into a temporary folder, or FOLDER, with the printer of tools/rust;
-runtime/ has what they take from Rattle's library in addition. NAMEs choose some of the tests: features, typed, vectors, cases,
-streams, hostile. With --debug, numbers that overflow end a program. Two processes build at most.
+runtime/ has what they take from Rattle's library in addition. NAMEs choose some of the tests: features, typed, vectors, streams.
+Streams also takes `stream_runs`, which tests/crates/run.py builds. With --debug, numbers that overflow end a program. Two processes
+build at most.
 
 Of the runs of streams those with a closed input aren't counted: Rust opens `/dev/null` in its place before `main` runs. The last
 line is `N passed, M failed`."""
@@ -20,14 +21,14 @@ import tempfile
 
 TOP = pathlib.Path(__file__).resolve().parents[2]
 HERE = TOP / 'tests/rust'
-sys.path += [str(TOP / 'tools'), str(TOP / 'tools/rust')]
+sys.path += [str(TOP / 'tests'), str(TOP / 'tools'), str(TOP / 'tools/rust')]
 
+import crates.run as workspace
 from libraries import Crates
 from printer import crate, library
 from printer.departures import Departures
 
-PROGRAMS = 'layout_rows', 'layout_runs', 'layout_tool', 'capnp_canon', 'stream_runs', 'example_typed'
-DEPARTURES = 'collect', 'read_to_string'
+PROGRAMS = 'layout_tool', 'capnp_canon', 'example_typed'
 MANIFEST = '''[package]
 name = "programs"
 version = "0.0.0"
@@ -55,9 +56,7 @@ def files():
     crates = Crates(TOP)
     needed = dict.fromkeys(it for name in PROGRAMS for it in crates.below(name))
     extra = [it for it in needed if it not in crate.LIBRARIES + crate.OF_PROGRAMS]
-    departures = Departures([HERE / f'departures/{it}.txt' for it in DEPARTURES])
-    texts = {name: library.without_contracts(name, library.sources_of(TOP / 'crates' / name), departures) for name in (*extra, *PROGRAMS)}
-    departures.check_used()
+    texts = {name: library.without_contracts(name, library.sources_of(TOP / 'crates' / name), Departures([])) for name in (*extra, *PROGRAMS)}
     yield 'Cargo.toml', MANIFEST.format(crate=crate.NAME, path=TOP / 'generated/rust')
     yield 'src/lib.rs', ALLOWED + '#[macro_use]\npub mod runtime;\n' + ''.join(f'pub mod {it};\n' for it in extra)
     for path in (HERE / 'runtime').glob('*.rs'):
@@ -115,18 +114,20 @@ def typed(program, _):
     return int(is_right), int(not is_right)
 
 
-def over(name, *programs):
-    """A test with a script of tests/."""
-    return lambda program, _: counted(name, [TOP / f'tests/{name}/run.py', *map(program, programs), '--show', '1000'])
+def vectors(program, _):
+    return counted('vectors', [TOP / 'tests/vectors/run.py', program('layout_tool'), '--show', '1000'])
+
+
+def streams(program, _):
+    workspace.build()
+    return counted('streams', [TOP / 'tests/streams/run.py', program('capnp_canon'), workspace.STREAM_RUNS, '--show', '1000'])
 
 
 TESTS = {
     'features': features,
     'typed': typed,
-    'vectors': over('vectors', 'layout_tool'),
-    'cases': over('cases', 'layout_rows'),
-    'streams': over('streams', 'capnp_canon', 'stream_runs'),
-    'hostile': over('hostile', 'layout_runs', 'layout_rows'),
+    'vectors': vectors,
+    'streams': streams,
 }
 
 

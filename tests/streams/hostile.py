@@ -43,7 +43,7 @@ ALL = 'none,none'
 ANSWER = re.compile(r'(?:(done|stopped) (\d+) (\w+)|(unflushed)) -([0-9a-f]*)')
 # What capnp_canon writes after the digest of a message on standard input, and says when it refuses one.
 NAMED = re.compile(rb'(?m)  -:\d+$')
-REFUSED = re.compile(r'capnp_canon: message (\d+) at byte \d+: refused (\w+)\b.*\n')
+REFUSED = re.compile(r'capnp_canon: message (\d+) at byte \d+: refused (\w+)')
 Answer = collections.namedtuple('Answer', 'how number word written')
 
 
@@ -121,7 +121,7 @@ def asked_of_canon(program, text):
     written, status, error = program.run(words.split(','), bytes.fromhex(digits.strip('-')))
     if words.startswith('digest'):
         written = NAMED.sub(b'', written)
-    found = REFUSED.fullmatch(error)
+    found = REFUSED.match(error)
     if status == 2 and found:
         return Answer('stopped', int(found[1]) - 1, found[2], written)
     if status not in (0, 1) or error:
@@ -293,7 +293,7 @@ def runs(program, counts):
 
 
 def altered(program, counts):
-    """The runs over altered streams, with capnp_canon, as many at a time as there are processors."""
+    """The runs over altered streams, with capnp_canon; each processor makes one at a time."""
     with concurrent.futures.ThreadPoolExecutor(os.cpu_count()) as pool:
         def asked_each(_, lines):
             return list(pool.map(lambda text: asked_of_canon(program, text), lines))

@@ -1,10 +1,8 @@
 //! The arguments of a program.
 
-use capnp_proved::support::alloc::{AllocError, Global};
 use super::io::{Error, ErrorKind, Result};
 use super::rt::HostRuntime;
 use capnp_proved::support::string::String;
-use capnp_proved::support::vec::Vec;
 
 /// The arguments; the first one is the program's name.
 pub struct Args(std::vec::IntoIter<std::string::String>);
@@ -25,10 +23,6 @@ impl Args {
             self.0.next();
         }
         self
-    }
-
-    pub fn collect(self, _alloc: Global) -> core::result::Result<Vec<String>, AllocError> {
-        Ok(Vec::from(self.0.map(String::from).collect::<std::vec::Vec<_>>()))
     }
 }
 

@@ -1,7 +1,6 @@
 //! Reading and writing, with standard input and output from the runtime.
 
 use super::rt::HostRuntime;
-use capnp_proved::support::string::String;
 use capnp_proved::support::vec::Vec;
 use std::io;
 
@@ -24,23 +23,10 @@ pub fn read_to_end<R: Read>(reader: &mut R, to: &mut Vec<u8>) -> Result<usize> {
     }
 }
 
-/// Reads the rest of what `reader` reads to `to`, which must be empty.
-pub fn read_to_string<R: Read>(reader: &mut R, to: &mut String) -> Result<usize> {
-    assert!(to.is_empty());
-    let mut text = std::string::String::new();
-    let count = reader.read_to_string(&mut text)?;
-    *to = String::from(text);
-    Ok(count)
-}
-
 /// Standard input.
 pub struct Reader;
 
 impl Reader {
-    pub fn read_to_string(&mut self, to: &mut String) -> Result<usize> {
-        read_to_string(self, to)
-    }
-
     pub fn read_to_end(&mut self, to: &mut Vec<u8>) -> Result<usize> {
         read_to_end(self, to)
     }

@@ -1,8 +1,7 @@
 //! The runtime, which Rattle's `main` is given.
 
 use super::io::{Reader, Result};
-use capnp_proved::support::alloc::{AllocError, Global};
-use capnp_proved::support::vec::Vec;
+use capnp_proved::support::alloc::Global;
 use std::fmt;
 use std::io::Write;
 
@@ -45,15 +44,6 @@ impl Print for HostRuntime {
     fn eprint_line(&self, line: fmt::Arguments<'_>) -> Result<()> {
         writeln!(std::io::stderr(), "{line}")
     }
-}
-
-/// The items of `items`, in order.
-pub fn collect<T>(alloc: Global, items: impl Iterator<Item = T>) -> core::result::Result<Vec<T>, AllocError> {
-    let mut list = Vec::new(alloc);
-    for item in items {
-        list.push(item)?;
-    }
-    Ok(list)
 }
 
 /// Prints a line to standard output.
