@@ -1,8 +1,8 @@
 //! The frames of a packed stream that is read as it comes.
-use crate::ffi::{self, RawUnpacking};
 use crate::incoming::{read_some, Came, Incoming};
 use crate::{Error, Frame};
 use alloc::vec::Vec;
+use capnp_layout::proved::capnp_packing::packing::{unpack_piece, Place};
 use std::io::{self, Read};
 
 /// The most packed bytes that are read ahead.
@@ -35,7 +35,9 @@ pub struct PackedFrameReader<R> {
 #[derive(Debug)]
 struct Unpacked<R> {
     reader: R,
-    unpacking: RawUnpacking,
+    // How far it is unpacked: the zero bytes that are due, and the place of the next packed byte.
+    zeros: u16,
+    place: Place,
     // The packed bytes that were read and not yet unpacked are from `first` to `end`.
     packed: Vec<u8>,
     first: usize,
@@ -49,7 +51,8 @@ impl<R: Read> PackedFrameReader<R> {
         PackedFrameReader {
             stream: Unpacked {
                 reader,
-                unpacking: RawUnpacking::default(),
+                zeros: 0,
+                place: Place::Tag,
                 packed: Vec::new(),
                 first: 0,
                 end: 0,
@@ -98,21 +101,11 @@ impl<R: Read> Unpacked<R> {
     /// of bytes written.
     fn unpack(&mut self, to: &mut [u8]) -> usize {
         let packed = &self.packed[self.first..self.end];
-        let mut taken = 0;
-        // SAFETY: the slices are pointers and their lengths, and they don't overlap.
-        let written = unsafe {
-            ffi::capnp_canonical_unpack_piece(
-                &mut self.unpacking,
-                packed.as_ptr(),
-                packed.len(),
-                to.as_mut_ptr(),
-                to.len(),
-                &mut taken,
-            )
-        };
-        self.first += taken;
-        self.packed_bytes += taken as u64;
-        written
+        let done = unpack_piece(self.zeros, self.place, packed, to);
+        (self.zeros, self.place) = (done.zeros, done.place);
+        self.first += done.taken;
+        self.packed_bytes += done.taken as u64;
+        done.given
     }
 
     /// Reads more packed bytes, over those that are unpacked. Returns whether some came.
@@ -125,6 +118,6 @@ impl<R: Read> Unpacked<R> {
 
     /// Whether the packed bytes so far may be all.
     fn is_whole(&self) -> bool {
-        self.unpacking.zeros == 0 && self.unpacking.place == 0
+        self.zeros == 0 && self.place == Place::Tag
     }
 }

@@ -1,9 +1,8 @@
 //! The same calls, for a message whose segments you have. The length of each segment is a multiple of 8 bytes.
-use crate::answers::{append, broken_of, digest_of, extent_of, fault_of, size_of};
-use crate::ffi::{self, RawSegment};
-use crate::walk::walk_of;
+use crate::message::{reserve, segmented};
 use crate::{Broken, Error, Extent, Fault, Limits, Reading, Size, Walk};
 use alloc::vec::Vec;
+use capnp_layout::proved::capnp_messages::messages::Form;
 
 /// Something that holds the segments of a message, like `capnp::message::ReaderSegments`: for example a slice or a
 /// vector of segments.
@@ -36,35 +35,22 @@ impl<S: Segments + ?Sized> Segments for &S {
     }
 }
 
-/// Segments in the form that the C calls take, and their size in bytes.
-struct Raw<'a> {
-    segments: Vec<RawSegment>,
-    bytes: usize,
-    lent: core::marker::PhantomData<&'a [u8]>,
-}
-
-impl<'a> Raw<'a> {
-    fn of<S: Segments + ?Sized>(segments: &'a S) -> Result<Self, Error> {
-        let mut raw = Raw {
-            segments: Vec::new(),
-            bytes: 0,
-            lent: core::marker::PhantomData,
-        };
-        for segment in (0..=u32::MAX).map_while(|id| segments.segment(id)) {
-            raw.segments
-                .try_reserve(1)
-                .map_err(|_| Error::ALLOCATION_FAILED)?;
-            raw.segments.push(RawSegment {
-                bytes: segment.as_ptr(),
-                size: segment.len(),
-            });
-            raw.bytes = raw.bytes.saturating_add(segment.len());
-        }
-        Ok(raw)
+/// All segments.
+fn gathered<S: Segments + ?Sized>(segments: &S) -> Result<Vec<&[u8]>, Error> {
+    let mut gathered = Vec::new();
+    for segment in (0..=u32::MAX).map_while(|id| segments.segment(id)) {
+        reserve(&mut gathered, 1)?;
+        gathered.push(segment);
     }
+    Ok(gathered)
 }
 
 /// Makes the message canonical, as a frame of one segment.
+///
+/// # Errors
+///
+/// Refused if a segment isn't whole words; otherwise like [`canonical_copy`](crate::canonical_copy) of the crate. So are
+/// the other calls of this module.
 pub fn canonical_copy<S: Segments + ?Sized>(
     segments: &S,
     limits: Limits,
@@ -81,21 +67,7 @@ pub fn canonical_copy_into<S: Segments + ?Sized>(
     limits: Limits,
     to: &mut Vec<u8>,
 ) -> Result<usize, Error> {
-    let raw = Raw::of(segments)?;
-    append(to, raw.bytes.saturating_add(8), |to, room, written| {
-        // SAFETY: the segments are pointers and lengths, and `to` has this room.
-        unsafe {
-            ffi::capnp_canonical_segments_copy(
-                raw.segments.as_ptr(),
-                raw.segments.len(),
-                limits.levels(),
-                limits.words,
-                to,
-                room,
-                written,
-            )
-        }
-    })
+    segmented(&gathered(segments)?, limits)?.copy_into(Form::Framed, to)
 }
 
 /// Makes the message canonical, and returns its raw words, without the table of a frame: the bytes to hash or sign.
@@ -115,38 +87,12 @@ pub fn canonical_words_into<S: Segments + ?Sized>(
     limits: Limits,
     to: &mut Vec<u8>,
 ) -> Result<usize, Error> {
-    let raw = Raw::of(segments)?;
-    append(to, raw.bytes, |to, room, written| {
-        // SAFETY: as in `canonical_copy_into`.
-        unsafe {
-            ffi::capnp_canonical_segments_copy_flat(
-                raw.segments.as_ptr(),
-                raw.segments.len(),
-                limits.levels(),
-                limits.words,
-                to,
-                room,
-                written,
-            )
-        }
-    })
+    segmented(&gathered(segments)?, limits)?.copy_into(Form::Flat, to)
 }
 
 /// The SHA-256 of the canonical words of the message, which are the bytes that [`canonical_words`] returns.
 pub fn digest<S: Segments + ?Sized>(segments: &S, limits: Limits) -> Result<[u8; 32], Error> {
-    let raw = Raw::of(segments)?;
-    digest_of(|to| {
-        // SAFETY: the segments are pointers and lengths, and `to` has room for 32 bytes.
-        unsafe {
-            ffi::capnp_canonical_segments_digest(
-                raw.segments.as_ptr(),
-                raw.segments.len(),
-                limits.levels(),
-                limits.words,
-                to,
-            )
-        }
-    })
+    segmented(&gathered(segments)?, limits)?.digest()
 }
 
 /// Makes a part of the message canonical, and returns its raw words, like `canonical_words_at` of the crate.
@@ -155,25 +101,9 @@ pub fn canonical_words_at<S: Segments + ?Sized>(
     path: &[u32],
     limits: Limits,
 ) -> Result<Vec<u8>, Error> {
-    let raw = Raw::of(segments)?;
-    let mut words = Vec::new();
-    append(&mut words, raw.bytes.min(4096), |to, room, written| {
-        // SAFETY: the segments and the path are pointers and lengths, and `to` has this room.
-        unsafe {
-            ffi::capnp_canonical_segments_copy_flat_at(
-                raw.segments.as_ptr(),
-                raw.segments.len(),
-                path.as_ptr(),
-                path.len(),
-                limits.levels(),
-                limits.words,
-                to,
-                room,
-                written,
-            )
-        }
-    })?;
-    Ok(words)
+    let mut to = Vec::new();
+    segmented(&gathered(segments)?, limits)?.part_into(path, &mut to)?;
+    Ok(to)
 }
 
 /// The SHA-256 of the bytes that [`canonical_words_at`] returns.
@@ -182,21 +112,7 @@ pub fn digest_at<S: Segments + ?Sized>(
     path: &[u32],
     limits: Limits,
 ) -> Result<[u8; 32], Error> {
-    let raw = Raw::of(segments)?;
-    digest_of(|to| {
-        // SAFETY: the segments and the path are pointers and lengths, and `to` has room for 32 bytes.
-        unsafe {
-            ffi::capnp_canonical_segments_digest_at(
-                raw.segments.as_ptr(),
-                raw.segments.len(),
-                path.as_ptr(),
-                path.len(),
-                limits.levels(),
-                limits.words,
-                to,
-            )
-        }
-    })
+    segmented(&gathered(segments)?, limits)?.digest_part(path)
 }
 
 /// The size of the part of the message that [`canonical_words_at`] copies.
@@ -205,81 +121,29 @@ pub fn size_at<S: Segments + ?Sized>(
     path: &[u32],
     limits: Limits,
 ) -> Result<Size, Error> {
-    let raw = Raw::of(segments)?;
-    size_of(|words, capabilities| {
-        // SAFETY: the segments and the path are pointers and lengths.
-        unsafe {
-            ffi::capnp_canonical_segments_size_at(
-                raw.segments.as_ptr(),
-                raw.segments.len(),
-                path.as_ptr(),
-                path.len(),
-                limits.levels(),
-                limits.words,
-                words,
-                capabilities,
-            )
-        }
-    })
+    segmented(&gathered(segments)?, limits)?.size_part(path)
 }
 
 /// Says why and where the message isn't canonical; `None` if it is: one segment that holds the canonical words of a
 /// value and nothing else.
 pub fn check<S: Segments + ?Sized>(segments: &S, limits: Limits) -> Result<Option<Fault>, Error> {
-    let raw = Raw::of(segments)?;
-    fault_of(|is_canonical, fault| {
-        // SAFETY: the segments are pointers and lengths.
-        unsafe {
-            ffi::capnp_canonical_segments_check(
-                raw.segments.as_ptr(),
-                raw.segments.len(),
-                limits.levels(),
-                limits.words,
-                is_canonical,
-                fault,
-            )
-        }
-    })
+    segmented(&gathered(segments)?, limits)?.check()
 }
 
 /// Whether the message is canonical. Also false if it can't be read, because a limit is exceeded.
+#[must_use]
 pub fn is_canonical<S: Segments + ?Sized>(segments: &S, limits: Limits) -> bool {
-    check(segments, limits) == Ok(None)
+    gathered(segments).is_ok_and(|it| segmented(&it, limits).is_ok_and(|it| it.is_canonical()))
 }
 
 /// The size of the message.
 pub fn size<S: Segments + ?Sized>(segments: &S, limits: Limits) -> Result<Size, Error> {
-    let raw = Raw::of(segments)?;
-    size_of(|words, capabilities| {
-        // SAFETY: the segments are pointers and lengths.
-        unsafe {
-            ffi::capnp_canonical_segments_size(
-                raw.segments.as_ptr(),
-                raw.segments.len(),
-                limits.levels(),
-                limits.words,
-                words,
-                capabilities,
-            )
-        }
-    })
+    segmented(&gathered(segments)?, limits)?.size()
 }
 
 /// Refuses the message unless it is sound, like `validate` of the crate.
 pub fn validate<S: Segments + ?Sized>(segments: &S, limits: Limits) -> Result<Extent, Error> {
-    let raw = Raw::of(segments)?;
-    extent_of(|extent| {
-        // SAFETY: the segments are pointers and lengths.
-        unsafe {
-            ffi::capnp_canonical_segments_validate(
-                raw.segments.as_ptr(),
-                raw.segments.len(),
-                limits.levels(),
-                limits.words,
-                extent,
-            )
-        }
-    })
+    segmented(&gathered(segments)?, limits)?.validate()
 }
 
 /// The pointer at which the message is broken, like `locate` of the crate.
@@ -288,20 +152,7 @@ pub fn locate<S: Segments + ?Sized>(
     reading: Reading,
     limits: Limits,
 ) -> Result<Option<Broken>, Error> {
-    let raw = Raw::of(segments)?;
-    broken_of(|pointer| {
-        // SAFETY: the segments are pointers and lengths.
-        unsafe {
-            ffi::capnp_canonical_segments_locate(
-                raw.segments.as_ptr(),
-                raw.segments.len(),
-                limits.levels(),
-                limits.words,
-                reading as u32,
-                pointer,
-            )
-        }
-    })
+    Ok(segmented(&gathered(segments)?, limits)?.locate(reading))
 }
 
 /// The structs, lists and capabilities of the message, at most `most` of them, like `walk` of the crate.
@@ -310,23 +161,5 @@ pub fn walk<S: Segments + ?Sized>(
     most: usize,
     limits: Limits,
 ) -> Result<Walk, Error> {
-    let raw = Raw::of(segments)?;
-    walk_of(
-        most,
-        |objects, count| {
-            // SAFETY: the segments are pointers and lengths, and so are the objects.
-            unsafe {
-                ffi::capnp_canonical_segments_walk(
-                    raw.segments.as_ptr(),
-                    raw.segments.len(),
-                    limits.levels(),
-                    limits.words,
-                    objects.as_mut_ptr(),
-                    objects.len(),
-                    count,
-                )
-            }
-        },
-        || locate(segments, Reading::Value, limits),
-    )
+    segmented(&gathered(segments)?, limits)?.walk(most)
 }

@@ -1,8 +1,7 @@
 //! The objects of a message.
-use crate::ffi::RawObject;
-use crate::{Broken, Error};
-use alloc::vec;
+use crate::Broken;
 use alloc::vec::Vec;
+use capnp_layout::proved::capnp_walks::walks::{WalkedObject, CAPABILITY, NO_PARENT, STRUCT};
 
 /// What an object of a message is.
 #[derive(Clone, Copy, Debug, PartialEq, Eq, Hash)]
@@ -42,8 +41,9 @@ impl Kind {
             5 => Kind::ListOfEightBytes,
             6 => Kind::ListOfPointers,
             7 => Kind::ListOfStructs,
-            8 => Kind::Struct,
-            _ => Kind::Capability,
+            STRUCT => Kind::Struct,
+            CAPABILITY => Kind::Capability,
+            _ => unreachable!("no kind has the number {number}"),
         }
     }
 }
@@ -88,43 +88,33 @@ pub struct Walk {
     pub broken: Option<Broken>,
 }
 
-const DONE: u32 = 0;
-const NO_ROOM: u32 = 1;
+/// What is in a list of objects before they are found.
+pub(crate) const NO_OBJECT: WalkedObject = WalkedObject {
+    parent: NO_PARENT,
+    pointer_segment: 0,
+    segment: 0,
+    pointer_word: 0,
+    word: 0,
+    kind: STRUCT,
+    count: 0,
+    capability: 0,
+    data_words: 0,
+    pointers: 0,
+};
 
 impl Object {
-    fn of(raw: &RawObject) -> Self {
+    pub(crate) fn of(found: &WalkedObject) -> Self {
         Object {
-            kind: Kind::of(raw.kind),
-            parent: (raw.parent != u64::MAX).then_some(raw.parent as usize),
-            pointer_segment: raw.pointer_segment,
-            pointer_word: raw.pointer_word,
-            segment: raw.segment,
-            word: raw.word,
-            count: raw.count,
-            capability: raw.capability,
-            data_words: raw.data_words,
-            pointers: raw.pointers,
+            kind: Kind::of(found.kind),
+            parent: (found.parent != NO_PARENT).then_some(found.parent as usize),
+            pointer_segment: found.pointer_segment,
+            pointer_word: found.pointer_word,
+            segment: found.segment,
+            word: found.word,
+            count: found.count,
+            capability: found.capability,
+            data_words: found.data_words,
+            pointers: found.pointers,
         }
     }
-}
-
-/// The objects that `call` lists, at most `most` of them. `locate` finds the pointer of a refusal, and refuses the whole call
-/// if the bytes aren't a message.
-pub(crate) fn walk_of(
-    most: usize,
-    call: impl FnOnce(&mut [RawObject], &mut usize) -> u32,
-    locate: impl FnOnce() -> Result<Option<Broken>, Error>,
-) -> Result<Walk, Error> {
-    let mut raw = vec![RawObject::default(); most];
-    let mut count = 0;
-    let broken = match call(&mut raw, &mut count) {
-        DONE | NO_ROOM => None,
-        _ => locate()?,
-    };
-    raw.truncate(count);
-    Ok(Walk {
-        objects: raw.iter().map(Object::of).collect(),
-        count,
-        broken,
-    })
 }

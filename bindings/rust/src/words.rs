@@ -2,12 +2,21 @@
 //! them and you have stored them. If you pass a frame here it is read as words, and is another value.
 //!
 //! [`canonical_words`]: crate::canonical_words
-use crate::{segments, Broken, Error, Extent, Fault, Limits, Reading, Size, Walk};
+use crate::message::segmented;
+use crate::{Broken, Error, Extent, Fault, Limits, Reading, Size, Walk};
 use alloc::vec::Vec;
+use capnp_layout::proved::capnp_messages::messages::Form;
 
 /// The canonical words of the value that the words hold.
+///
+/// # Errors
+///
+/// Refused if the bytes aren't whole words; otherwise like [`canonical_copy`](crate::canonical_copy) of the crate. So are
+/// the other calls of this module.
 pub fn canonical_words(words: impl AsRef<[u8]>, limits: Limits) -> Result<Vec<u8>, Error> {
-    segments::canonical_words(&[words], limits)
+    let mut to = Vec::new();
+    canonical_words_into(words, limits, &mut to)?;
+    Ok(to)
 }
 
 /// Like the call above, but appends to a vector. Returns the number of bytes appended. A refusal leaves the vector as
@@ -17,12 +26,12 @@ pub fn canonical_words_into(
     limits: Limits,
     to: &mut Vec<u8>,
 ) -> Result<usize, Error> {
-    segments::canonical_words_into(&[words], limits, to)
+    segmented(&[words.as_ref()], limits)?.copy_into(Form::Flat, to)
 }
 
 /// The SHA-256 of the canonical words of the value that the words hold.
 pub fn digest(words: impl AsRef<[u8]>, limits: Limits) -> Result<[u8; 32], Error> {
-    segments::digest(&[words], limits)
+    segmented(&[words.as_ref()], limits)?.digest()
 }
 
 /// Makes a part of the value canonical, and returns its raw words, like `canonical_words_at` of the crate.
@@ -31,38 +40,41 @@ pub fn canonical_words_at(
     path: &[u32],
     limits: Limits,
 ) -> Result<Vec<u8>, Error> {
-    segments::canonical_words_at(&[words], path, limits)
+    let mut to = Vec::new();
+    segmented(&[words.as_ref()], limits)?.part_into(path, &mut to)?;
+    Ok(to)
 }
 
 /// The SHA-256 of the bytes that [`canonical_words_at`] returns.
 pub fn digest_at(words: impl AsRef<[u8]>, path: &[u32], limits: Limits) -> Result<[u8; 32], Error> {
-    segments::digest_at(&[words], path, limits)
+    segmented(&[words.as_ref()], limits)?.digest_part(path)
 }
 
 /// The size of the part of the value that [`canonical_words_at`] copies.
 pub fn size_at(words: impl AsRef<[u8]>, path: &[u32], limits: Limits) -> Result<Size, Error> {
-    segments::size_at(&[words], path, limits)
+    segmented(&[words.as_ref()], limits)?.size_part(path)
 }
 
 /// Says why and where the words aren't canonical; `None` if they are the canonical words of a value and nothing else.
 pub fn check(words: impl AsRef<[u8]>, limits: Limits) -> Result<Option<Fault>, Error> {
-    segments::check(&[words], limits)
+    segmented(&[words.as_ref()], limits)?.check()
 }
 
 /// Whether the words are canonical. Also false if they can't be read, because a limit is exceeded or they are no
 /// message.
+#[must_use]
 pub fn is_canonical(words: impl AsRef<[u8]>, limits: Limits) -> bool {
-    segments::is_canonical(&[words], limits)
+    segmented(&[words.as_ref()], limits).is_ok_and(|it| it.is_canonical())
 }
 
 /// The size of the message.
 pub fn size(words: impl AsRef<[u8]>, limits: Limits) -> Result<Size, Error> {
-    segments::size(&[words], limits)
+    segmented(&[words.as_ref()], limits)?.size()
 }
 
 /// Refuses the message unless it is sound, like `validate` of the crate.
 pub fn validate(words: impl AsRef<[u8]>, limits: Limits) -> Result<Extent, Error> {
-    segments::validate(&[words], limits)
+    segmented(&[words.as_ref()], limits)?.validate()
 }
 
 /// The pointer at which the message is broken, like `locate` of the crate.
@@ -71,10 +83,10 @@ pub fn locate(
     reading: Reading,
     limits: Limits,
 ) -> Result<Option<Broken>, Error> {
-    segments::locate(&[words], reading, limits)
+    Ok(segmented(&[words.as_ref()], limits)?.locate(reading))
 }
 
 /// The structs, lists and capabilities of the message, at most `most` of them, like `walk` of the crate.
 pub fn walk(words: impl AsRef<[u8]>, most: usize, limits: Limits) -> Result<Walk, Error> {
-    segments::walk(&[words], most, limits)
+    segmented(&[words.as_ref()], limits)?.walk(most)
 }
