@@ -16,6 +16,8 @@ pub(crate) enum Came {
     Part(usize),
     /// This many bytes, which tell that it is refused.
     Refused(usize, Error),
+    /// Nothing, because an error came before.
+    Nothing,
 }
 
 /// The frame that a reader of a stream holds, and where in the stream it is. Makes room for at most as many bytes as
@@ -26,6 +28,8 @@ pub(crate) struct Incoming {
     buffer: Vec<u8>,
     message: u64,
     byte: u64,
+    /// Whether a frame was refused, or couldn't be read.
+    has_failed: bool,
 }
 
 impl Incoming {
@@ -36,12 +40,25 @@ impl Incoming {
             buffer: Vec::new(),
             message: 0,
             byte: 0,
+            has_failed: false,
         }
     }
 
-    /// Reads the next frame. `read` works like `Read::read`: it writes bytes to the front of a slice, and returns how
-    /// many; 0 only at the end of the stream. It never gets more room than the frame has bytes left.
+    /// Reads the next frame; after an error there is none. `read` works like `Read::read`: it writes bytes to the front of
+    /// a slice, and returns how many; 0 only at the end of the stream. It never gets more room than the frame has bytes left.
     pub(crate) fn next(
+        &mut self,
+        read: impl FnMut(&mut [u8]) -> io::Result<usize>,
+    ) -> io::Result<Came> {
+        if self.has_failed {
+            return Ok(Came::Nothing);
+        }
+        let came = self.read_next(read);
+        self.has_failed = came.is_err();
+        came
+    }
+
+    fn read_next(
         &mut self,
         mut read: impl FnMut(&mut [u8]) -> io::Result<usize>,
     ) -> io::Result<Came> {
@@ -83,18 +100,27 @@ impl Incoming {
         &self.buffer[..held]
     }
 
-    /// The error of the frame.
-    pub(crate) fn refused(&self, error: Error) -> StreamError {
+    /// The error of the frame, after which there is none.
+    pub(crate) fn refused(&mut self, error: Error) -> StreamError {
+        self.has_failed = true;
         error.at(self.message, self.byte)
     }
 }
 
-/// Reads like `Read::read`, and again if it was interrupted.
+/// Reads like `Read::read`, and again if it was interrupted. Panics if the reader says that it read more bytes than it had
+/// room for.
 pub(crate) fn read_some(reader: &mut impl Read, to: &mut [u8]) -> io::Result<usize> {
     loop {
         match reader.read(to) {
             Err(error) if error.kind() == ErrorKind::Interrupted => {}
-            came => return came,
+            Ok(came) => {
+                assert!(
+                    came <= to.len(),
+                    "a reader returned more bytes than it had room for"
+                );
+                return Ok(came);
+            }
+            refused => return refused,
         }
     }
 }

@@ -1,9 +1,20 @@
-//! Canonical form of Cap'n Proto messages, over the library `capnp_canonical`.
+//! Canonical form of Cap'n Proto messages: one string of bytes for each value, to hash, sign, compare or deduplicate
+//! messages.
 //!
 //! You pass a message as a frame, as `capnp::serialize::write_message` writes it, or as its segments ([`segments`]).
 //! Bytes may lie at any address, and bytes after the frame are ignored. Unpack packed bytes first, with [`unpack`]. No
-//! call keeps anything, so several threads may call at once. A level of nesting takes up to 768 bytes of stack,
-//! and 11,056 if the compiler doesn't optimise the C, which the build script always lets it do.
+//! call keeps anything, so several threads may call at once.
+//!
+//! An [`Error`] has a name, a number that all languages share, and the place of the pointer that is refused. For that place
+//! the message is read once more, so a refusal costs up to twice as much as an answer. [`Limits`] say how much may be read.
+//!
+//! The functions that read messages are proved. They are written in Rattle, which is Rust with contracts, and printed as
+//! Rust in the crate `capnp_layout`; no proof is about the printed text. What this crate adds is written by hand, and
+//! tested. There is no unsafe code in either, and no C. Targets need 64-bit addresses.
+//!
+//! A level of nesting takes up to 620 bytes of stack, so the [most levels](Limits::MAX_NESTING) fit in a thread of 2 MiB.
+//! In a build without optimization it takes up to 19.3 KB; there a call with a nesting limit above 64 runs in a
+//! thread of its own, with a stack that is large enough, unless the crate is built without `std`.
 //!
 //! Raw words aren't a frame. Read back what [`canonical_words`] returns with the module [`words`]. A call that takes a
 //! frame may **succeed** on raw words, and then reads **another** value, because the pointer to a root without
@@ -33,6 +44,9 @@
 //! # Ok::<(), capnp_canonical::Error>(())
 //! ```
 #![no_std]
+#![cfg_attr(docsrs, feature(doc_cfg))]
+#![forbid(unsafe_code)]
+#![warn(missing_docs)]
 
 extern crate alloc;
 #[cfg(feature = "std")]
@@ -51,6 +65,7 @@ mod packed_reader;
 #[cfg(feature = "std")]
 mod reader;
 pub mod segments;
+mod stack;
 mod stream;
 mod texts;
 mod walk;
@@ -278,3 +293,7 @@ pub fn frame_size_from_prefix(prefix: impl AsRef<[u8]>, words: u64) -> Result<us
 pub fn version() -> u32 {
     capnp_canonical_version()
 }
+
+#[cfg(doctest)]
+#[doc = include_str!("../README.md")]
+struct Readme;

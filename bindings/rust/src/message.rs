@@ -1,6 +1,7 @@
 //! What the calls do with a message, in whichever form it comes. Each reads it by the proved functions of `capnp_messages`,
 //! which the library for C calls too.
 use crate::error::{Broken, Error, Pointer};
+use crate::stack::with_room;
 use crate::walk::{Object, Walk, NO_OBJECT};
 use crate::{Extent, Fault, Limits, Reading, Size};
 use alloc::vec::Vec;
@@ -56,7 +57,7 @@ pub(crate) fn segmented<'a>(
     Ok(Message { segments, limits })
 }
 
-impl<S: ReaderSegments + Copy> Message<S> {
+impl<S: ReaderSegments + Copy + Send + Sync> Message<S> {
     fn options(self) -> ReaderOptions {
         ReaderOptions {
             traversal_limit_in_words: self.words(),
@@ -73,6 +74,11 @@ impl<S: ReaderSegments + Copy> Message<S> {
         ReaderArenaImpl::new(self.segments, self.options())
     }
 
+    /// Reads the message in this way.
+    fn read<T: Send>(self, way: impl FnOnce(&ReaderArenaImpl<S>, Option<usize>) -> T + Send) -> T {
+        with_room(self.limits.levels(), || way(&self.source(), self.words()))
+    }
+
     /// The error of a command that was refused, with the pointer at which it was. Reads the message once more.
     #[cold]
     fn refused(self, kind: ErrorKind, command: Command) -> Error {
@@ -85,87 +91,93 @@ impl<S: ReaderSegments + Copy> Message<S> {
 
     /// Appends the canonical copy in this form. Returns the number of bytes appended. A refusal leaves the vector as it was.
     pub(crate) fn copy_into(self, form: Form, to: &mut Vec<u8>) -> Result<usize, Error> {
-        let (source, limit) = (self.source(), self.words());
-        let refused = |kind| self.refused(kind, Command::Canon(form));
-        if source.size_in_words() >= SMALL {
-            if let Some(words) = canonical_segment(&source, limit) {
-                return append(form, words, to);
+        self.read(|source, limit| {
+            let refused = |kind| self.refused(kind, Command::Canon(form));
+            if source.size_in_words() >= SMALL {
+                if let Some(words) = canonical_segment(source, limit) {
+                    return append(form, words, to);
+                }
+            } else {
+                let mut memory = [0; 8 * SMALL];
+                let mut made = BuilderArenaImpl::new(Global, LentMemory::new(&mut memory));
+                if canonicalize_into(&mut made, SMALL as u32, source, limit).map_err(refused)? {
+                    return append(form, canonical_bytes(&made), to);
+                }
             }
-        } else {
-            let mut memory = [0; 8 * SMALL];
-            let mut made = BuilderArenaImpl::new(Global, LentMemory::new(&mut memory));
-            if canonicalize_into(&mut made, SMALL as u32, &source, limit).map_err(refused)? {
-                return append(form, canonical_bytes(&made), to);
+            match canonicalize(Global, CopyMemory::new(Global), source, limit) {
+                Ok(made) => append(form, canonical_bytes(&made), to),
+                Err((kind, _)) => Err(refused(kind)),
             }
-        }
-        match canonicalize(Global, CopyMemory::new(Global), &source, limit) {
-            Ok(made) => append(form, canonical_bytes(&made), to),
-            Err((kind, _)) => Err(refused(kind)),
-        }
+        })
     }
 
     /// Appends the canonical words of the part to which a path leads.
     pub(crate) fn part_into(self, path: &[u32], to: &mut Vec<u8>) -> Result<usize, Error> {
-        let (source, limit) = (self.source(), self.words());
-        let mut memory = [0; 8 * SMALL];
-        let mut made = BuilderArenaImpl::new(Global, LentMemory::new(&mut memory));
-        if canonicalize_part_into(&mut made, SMALL as u32, &source, path, limit)
-            .map_err(Error::of_layout)?
-        {
-            return append(Form::Flat, canonical_bytes(&made), to);
-        }
-        match canonicalize_part(Global, CopyMemory::new(Global), &source, path, limit) {
-            Ok(made) => append(Form::Flat, canonical_bytes(&made), to),
-            Err((kind, _)) => Err(Error::of_layout(kind)),
-        }
+        self.read(|source, limit| {
+            let mut memory = [0; 8 * SMALL];
+            let mut made = BuilderArenaImpl::new(Global, LentMemory::new(&mut memory));
+            let fits = canonicalize_part_into(&mut made, SMALL as u32, source, path, limit);
+            if fits.map_err(Error::of_layout)? {
+                return append(Form::Flat, canonical_bytes(&made), to);
+            }
+            match canonicalize_part(Global, CopyMemory::new(Global), source, path, limit) {
+                Ok(made) => append(Form::Flat, canonical_bytes(&made), to),
+                Err((kind, _)) => Err(Error::of_layout(kind)),
+            }
+        })
     }
 
     pub(crate) fn digest(self) -> Result<[u8; 32], Error> {
-        let memory = CopyMemory::new(Global);
-        let (digest, _) = messages::digest(Global, memory, &self.source(), self.words());
-        digest.map_err(|kind| self.refused(kind, Command::Digest))
+        self.read(|source, limit| {
+            let (digest, _) = messages::digest(Global, CopyMemory::new(Global), source, limit);
+            digest.map_err(|kind| self.refused(kind, Command::Digest))
+        })
     }
 
     pub(crate) fn digest_part(self, path: &[u32]) -> Result<[u8; 32], Error> {
-        let memory = CopyMemory::new(Global);
-        let (digest, _) = digest_of_part(Global, memory, &self.source(), path, self.words());
-        digest.map_err(Error::of_layout)
+        self.read(|source, limit| {
+            let (digest, _) = digest_of_part(Global, CopyMemory::new(Global), source, path, limit);
+            digest.map_err(Error::of_layout)
+        })
     }
 
     pub(crate) fn check(self) -> Result<Option<Fault>, Error> {
-        match messages::check(&self.source(), self.words()) {
+        self.read(|source, limit| match messages::check(source, limit) {
             Ok(fault) => Ok(fault.map(Fault::of)),
             Err(kind) => Err(self.refused(kind, Command::Check)),
-        }
+        })
     }
 
     pub(crate) fn is_canonical(self) -> bool {
-        messages::check(&self.source(), self.words()) == Ok(None)
+        self.read(|source, limit| messages::check(source, limit) == Ok(None))
     }
 
     pub(crate) fn size(self) -> Result<Size, Error> {
-        match messages::size(&self.source(), self.words()) {
+        self.read(|source, limit| match messages::size(source, limit) {
             Ok(size) => Ok(Size::of(size)),
             Err(kind) => Err(self.refused(kind, Command::Size)),
-        }
+        })
     }
 
     pub(crate) fn size_part(self, path: &[u32]) -> Result<Size, Error> {
-        match size_of_part(&self.source(), path, self.words()) {
+        self.read(|source, limit| match size_of_part(source, path, limit) {
             Ok(size) => Ok(Size::of(size)),
             Err(kind) => Err(Error::of_layout(kind)),
-        }
+        })
     }
 
     pub(crate) fn validate(self) -> Result<Extent, Error> {
-        match messages::validate(&self.source(), self.words()) {
+        self.read(|source, limit| match messages::validate(source, limit) {
             Ok(extent) => Ok(Extent::of(extent)),
             Err(kind) => Err(self.refused(kind, Command::Validate)),
-        }
+        })
     }
 
     pub(crate) fn locate(self, reading: Reading) -> Option<Broken> {
-        refused_pointer(reading.command(), self.segments, self.options()).map(Broken::of)
+        let found = with_room(self.limits.levels(), || {
+            refused_pointer(reading.command(), self.segments, self.options())
+        });
+        found.map(Broken::of)
     }
 
     /// The objects, at most `most` of them. Takes memory for those that there are.
@@ -175,7 +187,9 @@ impl<S: ReaderSegments + Copy> Message<S> {
         let found = loop {
             reserve(&mut objects, room)?;
             objects.resize(room, NO_OBJECT);
-            let found = walk_message(self.segments, self.options(), &mut objects);
+            let found = with_room(self.limits.levels(), || {
+                walk_message(self.segments, self.options(), &mut objects)
+            });
             let wanted = most.min(found.count as usize);
             if wanted <= room {
                 objects.truncate(wanted);

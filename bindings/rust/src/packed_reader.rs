@@ -62,14 +62,23 @@ impl<R: Read> PackedFrameReader<R> {
         }
     }
 
-    /// The next frame, unpacked; `None` at the end of the stream. A refusal is an error with a `StreamError` inside:
-    /// `Error::TRUNCATED` also if the stream ends before the count after a word. After an error, the reader isn't at the
-    /// start of a frame any more.
+    /// The next frame, unpacked; `None` at the end of the stream, and after an error.
+    ///
+    /// # Errors
+    ///
+    /// A refusal of the frame, with a [`StreamError`](crate::StreamError) inside, which is [`Error::TRUNCATED`] also if the
+    /// stream ends before the count after a word; or the error of the reader. After either, the reader isn't at the start of
+    /// a frame any more.
+    ///
+    /// # Panics
+    ///
+    /// If the reader says that it read more bytes than it had room for.
     pub fn next_frame(&mut self) -> io::Result<Option<Frame<'_>>> {
         let stream = &mut self.stream;
         match self.incoming.next(|to| stream.read(to))? {
             Came::Whole(size) => Ok(Some(self.incoming.frame(size))),
             Came::Part(0) if self.stream.is_whole() => Ok(None),
+            Came::Nothing => Ok(None),
             Came::Part(_) => Err(self.incoming.refused(Error::TRUNCATED).into()),
             Came::Refused(_, error) => Err(self.incoming.refused(error).into()),
         }

@@ -34,13 +34,21 @@ impl<R: Read> FrameReader<R> {
         }
     }
 
-    /// The next frame; `None` at the end of the stream. A refusal is an error with a `StreamError` inside. After an
-    /// error, the reader isn't at the start of a frame any more.
+    /// The next frame; `None` at the end of the stream, and after an error.
+    ///
+    /// # Errors
+    ///
+    /// A refusal of the frame, with a [`StreamError`](crate::StreamError) inside; or the error of the reader, which then isn't
+    /// at the start of a frame any more.
+    ///
+    /// # Panics
+    ///
+    /// If the reader says that it read more bytes than it had room for.
     pub fn next_frame(&mut self) -> io::Result<Option<Frame<'_>>> {
         let reader = &mut self.reader;
         match self.incoming.next(|to| read_some(reader, to))? {
             Came::Whole(size) => Ok(Some(self.incoming.frame(size))),
-            Came::Part(0) => Ok(None),
+            Came::Part(0) | Came::Nothing => Ok(None),
             Came::Part(held) => Err(self.refused(Error::TRUNCATED, held)),
             Came::Refused(held, error) => Err(self.refused(error, held)),
         }
@@ -52,7 +60,7 @@ impl<R: Read> FrameReader<R> {
     }
 
     /// The error for a frame that has sent `held` bytes so far.
-    fn refused(&self, error: Error, held: usize) -> io::Error {
+    fn refused(&mut self, error: Error, held: usize) -> io::Error {
         let mut error = self.incoming.refused(error);
         error.looks_like = looks_like(self.incoming.prefix(held));
         error.into()

@@ -1,4 +1,6 @@
-//! The messages of tests/library/messages.txt, and what that file can't say.
+//! The messages of tests/library/messages.txt, and what that file can't say. As version 1.0.0 had them, so they also show
+//! that programs for it go on to compile.
+#![allow(deprecated)]
 use capnp_canonical::{
     canonical_copy, canonical_words, canonical_words_at, canonical_words_into, check, digest,
     digest_at, frame_size, frames, is_canonical, locate, looks_like, segments, size, size_at,
