@@ -42,7 +42,8 @@ where
 {
     let mut copy = Builder::new_default();
     set_root(&mut copy).map_err(ValueError::Copy)?;
-    canonical_words(&copy, limits).map_err(ValueError::Refused)
+    // a place in the copy is none in the message
+    canonical_words(&copy, limits).map_err(|error| ValueError::Refused(Error::from(error.number())))
 }
 
 /// Makes the message of a reader canonical, as raw words. The reader stays yours.
@@ -80,7 +81,7 @@ pub fn canonical_words_of_reader<S: ReaderSegments>(
 pub enum ValueError {
     /// `capnp` couldn't copy the value.
     Copy(capnp::Error),
-    /// The copy is refused.
+    /// The copy is refused. The error has no place, because it would be one of the copy.
     Refused(Error),
 }
 

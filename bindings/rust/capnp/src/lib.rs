@@ -29,6 +29,9 @@
 //! The crate is `no_std` with `alloc`. The calls that copy need its feature `std`, which is on by default and turns on
 //! the default features of `capnp`.
 #![no_std]
+#![cfg_attr(docsrs, feature(doc_cfg))]
+#![forbid(unsafe_code)]
+#![warn(missing_docs)]
 
 extern crate alloc;
 
@@ -39,12 +42,28 @@ use alloc::vec::Vec;
 pub use capnp;
 use capnp::message::{ReaderOptions, ReaderSegments};
 use capnp_canonical::segments::{self, Segments};
-use capnp_canonical::{Error, Fault, Limits, Size};
+use capnp_canonical::{Broken, Error, Extent, Fault, Limits, Reading, Size, Walk};
 #[cfg(feature = "std")]
 pub use copied::{canonical_words_of, canonical_words_of_reader, ValueError};
+use core::fmt;
 
 /// A message of the crate `capnp`, in the form that `capnp_canonical::segments` takes.
 pub struct Of<'a, S: ReaderSegments + ?Sized>(pub &'a S);
+
+impl<S: ReaderSegments + ?Sized> Clone for Of<'_, S> {
+    fn clone(&self) -> Self {
+        *self
+    }
+}
+
+impl<S: ReaderSegments + ?Sized> Copy for Of<'_, S> {}
+
+/// The number of segments.
+impl<S: ReaderSegments + ?Sized> fmt::Debug for Of<'_, S> {
+    fn fmt(&self, f: &mut fmt::Formatter<'_>) -> fmt::Result {
+        f.debug_tuple("Of").field(&self.0.len()).finish()
+    }
+}
 
 impl<S: ReaderSegments + ?Sized> Segments for Of<'_, S> {
     fn segment(&self, id: u32) -> Option<&[u8]> {
@@ -57,15 +76,31 @@ pub fn limits(options: &ReaderOptions) -> Limits {
     let words = options
         .traversal_limit_in_words
         .map_or(u64::MAX, |it| it as u64);
-    Limits::new(options.nesting_limit, words)
+    Limits::default()
+        .with_nesting(options.nesting_limit)
+        .with_words(words)
 }
 
 /// Makes the message canonical, as a frame of one segment.
+///
+/// # Errors
+///
+/// Those of [`canonical_copy`](capnp_canonical::canonical_copy) of `capnp_canonical`. So are those of the other calls.
 pub fn canonical_copy<S: ReaderSegments + ?Sized>(
     message: &S,
     limits: Limits,
 ) -> Result<Vec<u8>, Error> {
     segments::canonical_copy(&Of(message), limits)
+}
+
+/// Like the call above, but appends to a vector. Returns the number of bytes appended. A refusal leaves the vector as
+/// it was.
+pub fn canonical_copy_into<S: ReaderSegments + ?Sized>(
+    message: &S,
+    limits: Limits,
+    to: &mut Vec<u8>,
+) -> Result<usize, Error> {
+    segments::canonical_copy_into(&Of(message), limits, to)
 }
 
 /// Makes the message canonical, and returns its raw words, without the table of a frame: the bytes to hash or sign.
@@ -91,6 +126,34 @@ pub fn digest<S: ReaderSegments + ?Sized>(message: &S, limits: Limits) -> Result
     segments::digest(&Of(message), limits)
 }
 
+/// Makes a part of the message canonical, and returns its raw words: the value at the end of a path of indexes, from the
+/// root pointer on.
+pub fn canonical_words_at<S: ReaderSegments + ?Sized>(
+    message: &S,
+    path: &[u32],
+    limits: Limits,
+) -> Result<Vec<u8>, Error> {
+    segments::canonical_words_at(&Of(message), path, limits)
+}
+
+/// The SHA-256 of the bytes that [`canonical_words_at`] returns.
+pub fn digest_at<S: ReaderSegments + ?Sized>(
+    message: &S,
+    path: &[u32],
+    limits: Limits,
+) -> Result<[u8; 32], Error> {
+    segments::digest_at(&Of(message), path, limits)
+}
+
+/// The size of the part of the message that [`canonical_words_at`] copies.
+pub fn size_at<S: ReaderSegments + ?Sized>(
+    message: &S,
+    path: &[u32],
+    limits: Limits,
+) -> Result<Size, Error> {
+    segments::size_at(&Of(message), path, limits)
+}
+
 /// Says why and where the message isn't canonical; `None` if it is: one segment that holds the canonical words of a
 /// value and nothing else.
 pub fn check<S: ReaderSegments + ?Sized>(
@@ -101,6 +164,7 @@ pub fn check<S: ReaderSegments + ?Sized>(
 }
 
 /// Whether the message is canonical. Also false if it can't be read, because a limit is exceeded.
+#[must_use]
 pub fn is_canonical<S: ReaderSegments + ?Sized>(message: &S, limits: Limits) -> bool {
     segments::is_canonical(&Of(message), limits)
 }
@@ -108,4 +172,28 @@ pub fn is_canonical<S: ReaderSegments + ?Sized>(message: &S, limits: Limits) -> 
 /// The size of the message.
 pub fn size<S: ReaderSegments + ?Sized>(message: &S, limits: Limits) -> Result<Size, Error> {
     segments::size(&Of(message), limits)
+}
+
+/// Refuses the message unless it is sound: unless its root means a value within both limits. The value may have
+/// capabilities.
+pub fn validate<S: ReaderSegments + ?Sized>(message: &S, limits: Limits) -> Result<Extent, Error> {
+    segments::validate(&Of(message), limits)
+}
+
+/// The pointer at which the message is broken, for the calls that read it in this way.
+pub fn locate<S: ReaderSegments + ?Sized>(
+    message: &S,
+    reading: Reading,
+    limits: Limits,
+) -> Result<Option<Broken>, Error> {
+    segments::locate(&Of(message), reading, limits)
+}
+
+/// The structs, lists and capabilities of the message, at most `most` of them.
+pub fn walk<S: ReaderSegments + ?Sized>(
+    message: &S,
+    most: usize,
+    limits: Limits,
+) -> Result<Walk, Error> {
+    segments::walk(&Of(message), most, limits)
 }

@@ -1,4 +1,5 @@
 //! Messages as the crate `capnp` has them, beside its own canonical form.
+#![allow(deprecated)]
 use capnp::message::{Builder, Reader, ReaderOptions, SegmentArray};
 use capnp_canonical::{Error, Limits};
 use capnp_canonical_capnp::{
@@ -130,4 +131,46 @@ fn values_that_are_refused() {
     };
     assert!((2..=6).contains(&copies), "{copies}");
     assert!(matches!(refused, ValueError::Copy(_)));
+}
+
+#[test]
+fn the_other_calls() {
+    use capnp_canonical_capnp::{
+        canonical_copy_into, canonical_words_at, digest_at, locate, size_at, validate, walk, Of,
+    };
+    // a struct of one data word and two pointers, to a text and out of the segment
+    let words = [
+        1 << 32 | 2 << 48,
+        7,
+        1 << 2 | 1 | 2 << 32 | 3 << 35,
+        9 << 2 | 1 << 32,
+        0x6161,
+    ];
+    let words = words.map(u64::to_le_bytes).concat();
+    let segments = [&words[..]];
+    let message = SegmentArray::new(&segments);
+    let limits = Limits::default();
+    let text = [1 | 2 << 32 | 3 << 35, 0x6161]
+        .map(u64::to_le_bytes)
+        .concat();
+    assert_eq!(canonical_words_at(&message, &[0], limits), Ok(text.clone()));
+    assert_eq!(size_at(&message, &[0], limits).map(|it| it.words), Ok(1));
+    let alone = [&text[..]];
+    let alone = SegmentArray::new(&alone);
+    assert_eq!(digest_at(&message, &[0], limits), digest(&alone, limits));
+    assert_eq!(validate(&alone, limits).map(|it| it.depth), Ok(1));
+    let mut to = Vec::new();
+    assert_eq!(canonical_copy_into(&alone, limits, &mut to), Ok(24));
+    assert_eq!(to[8..], text);
+    let refused = validate(&message, limits).unwrap_err();
+    let place = refused.pointer().map(|it| (it.segment, it.word));
+    assert_eq!(place, Some((0, 3)));
+    let found = locate(&message, capnp_canonical::Reading::Value, limits);
+    assert_eq!(found.map(|it| it.map(|it| it.word)), Ok(Some(3)));
+    let objects = walk(&message, 9, limits).unwrap();
+    assert_eq!(
+        (objects.count, objects.broken.map(|it| it.word)),
+        (2, Some(3))
+    );
+    assert_eq!(format!("{:?}", Of(&message)), "Of(1)");
 }

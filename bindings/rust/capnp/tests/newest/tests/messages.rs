@@ -1,4 +1,5 @@
 //! The crate over the stand-in: messages by their segments, by their reader and by the reader of a struct.
+#![allow(deprecated)]
 use capnp::message::{Reader, ReaderOptions, SegmentArray};
 use capnp_canonical::Limits;
 use capnp_canonical_capnp::{canonical_copy, check, is_canonical, limits, size};
