@@ -62,21 +62,29 @@ impl<'a, M: Meter> Pointer<'a, M> {
     /// pointer is null.
     #[inline(always)]
     pub fn as_text_bytes(&self) -> Result<&'a [u8], Error> {
-        Ok(self.meter.charge(|lim| self.raw.get_text(lim, None))?)
+        let mut lim = self.meter.limiter();
+        let read = self.raw.get_text(&mut lim, None);
+        self.meter.settle(&lim);
+        Ok(read?)
     }
 
     /// The data; no bytes if the pointer is null.
     #[inline(always)]
     pub fn as_data(&self) -> Result<&'a [u8], Error> {
-        Ok(self.meter.charge(|lim| self.raw.get_data(lim, None))?)
+        let mut lim = self.meter.limiter();
+        let read = self.raw.get_data(&mut lim, None);
+        self.meter.settle(&lim);
+        Ok(read?)
     }
 
     /// The struct; one without fields if the pointer is null.
     #[inline(always)]
     pub fn as_struct(&self) -> Result<Struct<'a, M>, Error> {
-        let raw = self.meter.charge(|lim| self.raw.get_struct(lim, None))?;
+        let mut lim = self.meter.limiter();
+        let read = self.raw.get_struct(&mut lim, None);
+        self.meter.settle(&lim);
         Ok(Struct {
-            raw,
+            raw: read?,
             meter: self.meter,
         })
     }
@@ -85,10 +93,10 @@ impl<'a, M: Meter> Pointer<'a, M> {
     /// or structs that begin with a `T` in a newer schema (encoding specification, "Lists").
     #[inline(always)]
     pub fn as_list<T: Element + ?Sized>(&self) -> Result<List<'a, T, M>, Error> {
-        let raw = self
-            .meter
-            .charge(|lim| self.raw.get_list(lim, T::SIZE, None))?;
-        Ok(List::of(raw, self.meter))
+        let mut lim = self.meter.limiter();
+        let read = self.raw.get_list(&mut lim, T::SIZE, None);
+        self.meter.settle(&lim);
+        Ok(List::of(read?, self.meter))
     }
 
     /// The index of the capability; refused if the pointer is null.
