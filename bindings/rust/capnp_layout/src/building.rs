@@ -31,35 +31,56 @@ pub struct StructBuilder<'b> {
     place: StructPlace,
 }
 
+/// Says which number a struct doesn't have.
+#[cold]
+#[inline(never)]
+#[track_caller]
+fn no_number(offset: usize, numbers: usize, size: usize) -> ! {
+    panic!("number {offset} of a struct that has room for {numbers} of {size} bytes")
+}
+
 /// Panics if the data section has no number of `size` bytes at `offset`.
 #[inline(always)]
 #[track_caller]
 fn check_number(place: StructPlace, offset: usize, size: usize) {
     let numbers = place.bits as usize / (8 * size);
-    assert!(
-        offset < numbers,
-        "number {offset} of a struct that has room for {numbers} of {size} bytes"
-    );
+    if offset >= numbers {
+        no_number(offset, numbers, size);
+    }
 }
 
+/// Says which bit a struct doesn't have.
+#[cold]
+#[inline(never)]
+#[track_caller]
+fn no_bit(offset: usize, bits: u32) -> ! {
+    panic!("bit {offset} of a struct that has room for {bits}")
+}
+
+/// Panics if the data section has no bit at `offset`.
 #[inline(always)]
 #[track_caller]
 fn check_bit(place: StructPlace, offset: usize) {
-    assert!(
-        offset < place.bits as usize,
-        "bit {offset} of a struct that has room for {}",
-        place.bits
-    );
+    if offset >= place.bits as usize {
+        no_bit(offset, place.bits);
+    }
 }
 
+/// Says which pointer a struct doesn't have.
+#[cold]
+#[inline(never)]
+#[track_caller]
+fn no_pointer(index: usize, pointers: u16) -> ! {
+    panic!("pointer {index} of a struct that has {pointers}")
+}
+
+/// Panics if the struct has no pointer `index`.
 #[inline(always)]
 #[track_caller]
 fn check_pointer(place: StructPlace, index: usize) {
-    assert!(
-        index < usize::from(place.pointers),
-        "pointer {index} of a struct that has {}",
-        place.pointers
-    );
+    if index >= usize::from(place.pointers) {
+        no_pointer(index, place.pointers);
+    }
 }
 
 macro_rules! set_numbers {

@@ -96,6 +96,7 @@ impl<'a, T: Element + ?Sized, M: Meter> List<'a, T, M> {
 
 /// Says which element a list doesn't have.
 #[cold]
+#[inline(never)]
 #[track_caller]
 pub(crate) fn no_element(index: usize, count: usize) -> ! {
     panic!("index {index} of a list of {count} elements")

@@ -110,6 +110,7 @@ impl ListBuilder<'_, bool> {
 
 impl ListBuilder<'_, str> {
     /// Writes text `index`. Panics if there is no such element.
+    #[inline]
     #[track_caller]
     pub fn set(&mut self, index: usize, text: &str) {
         if self.message.fits(text.len() + 1, 1) {
@@ -122,6 +123,7 @@ impl ListBuilder<'_, str> {
 
 impl ListBuilder<'_, [u8]> {
     /// Writes data `index`. Panics if there is no such element.
+    #[inline]
     #[track_caller]
     pub fn set(&mut self, index: usize, data: &[u8]) {
         if self.message.fits(data.len(), 1) {
