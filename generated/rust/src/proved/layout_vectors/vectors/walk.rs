@@ -20,7 +20,7 @@ use crate::proved::support::vec::Vec;
 /// of lists are zero; lists of structs claim exactly the words of their elements; and every other
 /// word is zero.
 ///
-/// Preconditions: there are fewer than 2^32 segments, each of fewer than 2^32 words, and segment 0
+/// Preconditions: `segments` has fewer than 2^32 segments, each of fewer than 2^32 words; segment 0
 /// has a word. Fails with `AllocationFailed` if memory runs out. Uses a byte of memory for each
 /// word, and eight for each pointer still to be visited. Reads each word at most twice, and uses no
 /// more stack for deeper messages.
