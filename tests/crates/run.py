@@ -43,7 +43,8 @@ def build():
 
 def tests():
     """Runs the tests. Returns how many passed and failed."""
-    wanted = sum(len(TEST.findall(it.read_text(encoding='utf-8'))) for part in ('src', 'tests') for it in HERE.glob(f'*/{part}/**/*.rs'))
+    sources = (it for folder in ('src', 'tests') for it in HERE.glob(f'*/{folder}/**/*.rs'))
+    wanted = sum(len(TEST.findall(it.read_text(encoding='utf-8'))) for it in sources)
     run = cargo('test', '--no-fail-fast', stdout=subprocess.PIPE, stderr=subprocess.STDOUT)
     counts = [(int(it[1]), int(it[2])) for it in TESTED.finditer(run.stdout)]
     passed, failed = sum(it[0] for it in counts), sum(it[1] for it in counts)
