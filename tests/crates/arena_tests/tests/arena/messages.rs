@@ -67,6 +67,17 @@ fn a_stream_ends_with_its_first_error() {
     assert!(messages.next().is_none());
 }
 
+/// The head of a frame of 2^32 segments, and a whole frame.
+#[test]
+fn nothing_is_read_after_an_error() {
+    let bytes = [b"\xff\xff\xff\xff\0\0\0\0", FRAME].concat();
+    let input = MemoryInput::new(&bytes);
+    let mut messages = Messages::new(Global, input, ReaderOptions::default());
+    let refused = messages.next().unwrap().err();
+    assert_eq!(refused, Some(FrameError::TooManySegments(1 << 32)));
+    assert!(messages.next().is_none());
+}
+
 /// The number of messages in `packed`, and whether it ends where it may.
 fn count_packed(packed: &[u8]) -> (usize, bool) {
     let input = UnpackingInput::new(MemoryInput::new(packed));
