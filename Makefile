@@ -8,7 +8,7 @@
 #     make install            installs them below PREFIX, with DESTDIR in front; LIBDIR and others can be set separately
 #     make install-python     installs the Python module into PYTHONDIR
 #     make wasm               the library for JavaScript, with clang and wasm-ld
-#     make crate              a package of the Rust crate that contains the C, in bindings/rust/target/package, with cargo
+#     make crate              packages of the Rust crates, in build/crates/target/package, with cargo 1.90 or later and python3
 #
 # CC, CFLAGS, CPPFLAGS, LDFLAGS, AR and INSTALL are as usual. If CFLAGS has no option -O, the C is compiled with -O2, since each
 # level of a message takes much more stack if it isn't optimised. `make -j` compiles the files of the program side by side.
@@ -125,9 +125,10 @@ wasm:
 	sh bindings/js/build.sh generated
 
 crate:
-	mkdir -p bindings/rust/native
-	cp generated/$(NAME).c bindings/c/$(NAME).h bindings/rust/native
-	cargo package --offline --allow-dirty --manifest-path bindings/rust/Cargo.toml; status=$$?; rm -r bindings/rust/native; exit $$status
+	rm -rf $(BUILD)/crates
+	@mkdir -p $(BUILD)
+	$(PYTHON) -B tools/rust/package.py $(BUILD)/crates
+	cd $(BUILD)/crates && CARGO_TARGET_DIR=target cargo package --workspace --offline --allow-dirty
 
 clean:
 	rm -rf $(BUILD)

@@ -27,7 +27,7 @@ VERSIONS = {
 # The other files that have the header's largest nesting limit.
 LEVELS = {
     'bindings/python/capnp_canonical/_answers.py': r'^MAX_NESTING = (\d+)$', 'bindings/js/library.js': r'^export const MAX_NESTING = (\d+);$',
-    'bindings/rust/src/lib.rs': r'^    pub const MAX_NESTING: i32 = (\d+);$',
+    'bindings/rust/src/limits.rs': r'^    pub const MAX_NESTING: i32 = (\d+);$',
 }
 # The files of the repository that the package for cargo has a copy of.
 PACKAGED = {'LICENSE': 'LICENSE', **{f'tests/{it}': f'tests/library/{it}' for it in ('messages.txt', 'packed.txt', 'parts.txt', 'streams.txt')}}
@@ -78,8 +78,8 @@ def of_python():
 
 def of_rust():
     """The numbers, the names and the texts of the crate for Rust."""
-    answers, texts = file('bindings/rust/src/answers.rs'), file('bindings/rust/src/texts.rs')
-    errors = re.findall(r'pub const (\w+): Error = Error\((\d+)\);', answers)
+    errors, answers, texts = (file(f'bindings/rust/src/{it}.rs') for it in ('error', 'answers', 'texts'))
+    errors = re.findall(r'pub const (\w+): Error = Error::new\((\d+)\);', errors)
     reasons = re.findall(r'pub const (\w+): Reason = Reason\((\d+)\);', answers)
     of_errors = re.findall(r'^ +(\d+) => \(\s*"(.*)",\s*"(.*)",?\s*\),$', texts, re.M)
     return errors, reasons, of_errors, re.findall(r'^ +(\d+) => "(.*)",$', texts, re.M)
@@ -87,7 +87,8 @@ def of_rust():
 
 def comments_of_rust():
     """The comment above each constant of the crate for Rust, by the kind of constant and its name."""
-    found = re.findall(r'((?: +///.*\n)+) +pub const (\w+): (\w+) = ', file('bindings/rust/src/answers.rs'))
+    sources = file('bindings/rust/src/error.rs') + file('bindings/rust/src/answers.rs')
+    found = re.findall(r'((?: +///.*\n)+) +pub const (\w+): (\w+) = ', sources)
     return {(kind, name): ' '.join(text.replace('///', ' ').split()) for text, name, kind in found}
 
 

@@ -106,8 +106,8 @@ example_cpp() {
 }
 
 example_rust() {
-    CAPNP_CANONICAL_LIB_DIR=$prefix/lib cargo build --offline --locked --example canonical \
-        --manifest-path "$top/bindings/rust/Cargo.toml" && example target/debug/examples/canonical
+    cargo build --offline --locked --example canonical --manifest-path "$top/bindings/rust/Cargo.toml" &&
+        example target/debug/examples/canonical
 }
 
 example_python() {
@@ -119,72 +119,59 @@ page() {
 }
 
 cargo_test() {
-    CAPNP_CANONICAL_LIB_DIR=$prefix/lib cargo test --offline --locked --manifest-path "$top/bindings/rust/Cargo.toml"
+    cargo test --offline --locked --manifest-path "$top/bindings/rust/Cargo.toml" && no_unsafe
 }
 
-# Tests the crate with the library, without its features and as a package, and makes its documentation without the library.
-cargo_package() {
-    cd "$work" && cp -RL "$top/bindings/rust" crate && rm -rf crate/target && cd crate || return 1
-    # without the library: documentation, and a build that isn't linked
-    env -u PKG_CONFIG_PATH PKG_CONFIG_LIBDIR="$work" cargo doc --offline --locked --no-deps && echo 'ok: cargo doc without the library'
-    CAPNP_CANONICAL_LIB_DIR=$prefix/lib cargo build --offline --locked --no-default-features && echo 'ok: no_std'
-    CAPNP_CANONICAL_LIB_DIR=$prefix/lib cargo package --offline --allow-dirty && echo 'ok: cargo package' || return 1
-    cd "$CARGO_TARGET_DIR/package/capnp_canonical-$(sed -n 's/^version = "\(.*\)"$/\1/p' Cargo.toml)" &&
-        CAPNP_CANONICAL_LIB_DIR=$prefix/lib CARGO_TARGET_DIR=$work/packaged cargo test --offline
-    CAPNP_CANONICAL_STATIC=0 CAPNP_CANONICAL_LIB_DIR=$prefix/lib LD_LIBRARY_PATH=$prefix/lib CARGO_TARGET_DIR=$work/shared \
-        cargo test --offline --test library
+# Whether no code is unsafe. Comments may have the word.
+no_unsafe() {
+    if grep -rnw unsafe --include='*.rs' "$top/bindings/rust" "$top/generated/rust" | grep -v '^[^:]*:[0-9]*: *//'; then
+        echo 'FAILED: no unsafe code'
+    else
+        echo 'ok: no unsafe code'
+    fi
 }
 
-# Builds the crate with C to compile, as a release has it. Here the C has no functions.
-cargo_compiling() {
-    cd "$work" && cp -RL "$top/bindings/rust" compiling && mkdir -p compiling/native && cd compiling || return 1
-    : >native/capnp_canonical.h && echo 'int nothing;' >native/capnp_canonical.c
-    for compiler in cc 'env cc' ''; do
-        CC=$compiler CARGO_TARGET_DIR=$work/compiled env -u CAPNP_CANONICAL_LIB_DIR cargo build --offline --locked && echo "ok: CC='$compiler'"
-    done
-    # the C is optimised with any flags, and its stack is protected by compilers that can do that
-    printf '#ifndef __OPTIMIZE__\n#error "not optimised"\n#endif\nint nothing;\n' >native/capnp_canonical.c
-    flag=-fstack-clash-protection
-    cat >compiler <<'END'
-#!/bin/sh
-printf '%s\n' "$*" >>commands
-for it; do [ "$it" != "$REFUSED" ] || exit 1; done
-exec cc "$@"
+# Compares the crate with the library in C, on all vectors and on altered ones.
+cargo_beside_c() {
+    mkdir -p beside/src && cp "$here/beside_c.rs" beside/src/main.rs && cat >beside/Cargo.toml <<END || return 1
+[package]
+name = "beside"
+version = "0.0.0"
+edition = "2021"
+[dependencies]
+capnp_canonical = { path = "$top/bindings/rust" }
+[workspace]
 END
-    chmod +x compiler
-    for flags in -O0 '-g -O0' -O3; do
-        rm -f commands
-        CFLAGS=$flags REFUSED=none CC=$PWD/compiler CARGO_TARGET_DIR=$work/compiled env -u CAPNP_CANONICAL_LIB_DIR cargo build --offline --locked &&
-            tail -n 1 commands | grep -q -e "-O2.*$flag" && echo "ok: CFLAGS='$flags'" || echo "FAILED: CFLAGS='$flags'"
-    done
-    rm -f commands
-    CFLAGS=-g REFUSED=$flag CC=$PWD/compiler CARGO_TARGET_DIR=$work/compiled env -u CAPNP_CANONICAL_LIB_DIR cargo build --offline --locked &&
-        ! tail -n 1 commands | grep -q -e "$flag" && echo "ok: a compiler without $flag" || echo "FAILED: a compiler without $flag"
+    RUSTFLAGS="-L native=$prefix/lib" cargo build --offline --release --manifest-path beside/Cargo.toml &&
+        python3 -B "$here/../release/lines.py" >lines && target/release/beside 10 <lines
 }
 
-# Builds the crate with a library of another version: it is refused, with what was found.
-cargo_older() {
-    cd "$top/bindings/rust" || return 1
-    for version in 1.0.0 1.0.7 2.0.0; do
-        mkdir -p "$work/lib_$version/pkgconfig" && : >"$work/lib_$version/libcapnp_canonical.a" &&
-            printf 'libdir=%s\nName: capnp_canonical\nDescription: none\nVersion: %s\n' "$work/lib_$version" $version >"$work/lib_$version/pkgconfig/capnp_canonical.pc" || return 1
-        CAPNP_CANONICAL_LIB_DIR=$work/lib_$version cargo build --offline --locked 2>&1 | grep -q "lib_$version has version $version: the crate needs" &&
-            echo "ok: a library of version $version" || echo "FAILED: a library of version $version"
-    done
+# Tests the crate without its features and as a package, with nothing else of the repository, and makes its documentation.
+cargo_package() {
+    python3 -B "$top/tools/rust/package.py" "$work/crates" && cd "$work/crates" || return 1
+    RUSTDOCFLAGS='-D warnings' cargo doc --offline --no-deps -p capnp_canonical && echo 'ok: cargo doc' || echo 'FAILED: cargo doc'
+    RUSTFLAGS='-D warnings' cargo build --offline -p capnp_canonical --no-default-features && echo 'ok: no_std' || echo 'FAILED: no_std'
+    if has cargo-clippy; then
+        RUSTFLAGS='-D warnings' cargo clippy --offline --all-targets -p capnp_canonical && echo 'ok: clippy' || echo 'FAILED: clippy'
+    fi
+    cargo package --workspace --offline --allow-dirty --no-verify && echo 'ok: cargo package' || return 1
+    mkdir "$work/packaged" "$work/nothing" && cd "$work/packaged" || return 1
+    for it in "$CARGO_TARGET_DIR"/package/*.crate; do tar xzf "$it" || return 1; done
+    cd capnp_canonical-* &&
+        cargo_with "$work/nothing" test --config "patch.crates-io.capnp_layout.path='$(echo "$work"/packaged/capnp_layout-*)'"
 }
 
 # Copies the crate that uses the crate `capnp` to a folder, in which cargo may write.
 capnp_crate() {
-    mkdir -p "$1/bindings" "$1/tests/library" && cp -RL "$top/bindings/rust" "$1/bindings/rust" && cp "$here/messages.txt" "$1/tests/library" &&
-        cd "$1/bindings/rust/capnp"
+    mkdir -p "$1/bindings" "$1/generated/rust" "$1/tests/library" && cp -R "$top/bindings/rust" "$1/bindings/rust" &&
+        cp -R "$top/generated/rust/src" "$1/generated/rust" && cp "$here/messages.txt" "$1/tests/library" && cd "$1/bindings/rust/capnp"
 }
 
 # Runs cargo with the crates of a folder and no others.
 cargo_with() {
     crates=$1
     shift
-    CAPNP_CANONICAL_LIB_DIR=$prefix/lib cargo "$@" --offline --config 'source.crates-io.replace-with="folder"' \
-        --config "source.folder.directory='$crates'"
+    cargo "$@" --offline --config 'source.crates-io.replace-with="folder"' --config "source.folder.directory='$crates'"
 }
 
 # Tests the crate that uses the crate `capnp`, which must be where Debian puts it.
@@ -284,9 +271,12 @@ done
 if [ "$has_cxx" ]; then part 'temporaries of C++' sh "$here/temporaries.sh" "$prefix/include"; fi
 if [ "$has_cargo" ]; then
     part Rust cargo_test
-    part 'package for cargo' cargo_package
-    part 'cargo with other versions' cargo_older
-    if [ "$has_cc" ]; then part 'C compiled by cargo' cargo_compiling; else skip 'C compiled by cargo' cc; fi
+    if [ "$has_python" ]; then
+        part 'package for cargo' cargo_package
+        summed 'Rust beside C' cargo_beside_c
+    else
+        skip 'package for cargo, Rust beside C' python3
+    fi
     if [ -d "$debian_crates" ]; then part 'crate over capnp' cargo_capnp; else skip 'crate over capnp' "$debian_crates"; fi
     part 'crate over capnp 0.27' cargo_newest
 else

@@ -33,7 +33,7 @@ TABLE_OF_CALLS = {it: row(it, 1) for it in BUILDS}
 PAGES = {
     'bindings/c/capnp_canonical.h': (SENTENCE, CALL), 'docs/LIBRARY.md': (TABLE, TABLE_OF_CALLS),
     'release_files/README.md': (TABLE, TABLE_OF_CALLS), 'README.md': (TABLE, TABLE_OF_CALLS),
-    'bindings/rust/src/lib.rs': (SHORT, None), 'bindings/python/capnp_canonical/__init__.py': (SHORT, None),
+    'bindings/python/capnp_canonical/__init__.py': (SHORT, None),
 }
 
 

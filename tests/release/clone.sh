@@ -248,7 +248,15 @@ if is_wanted cargo && has cargo cargo; then
     part 'cargo add --path' by_cargo path --path "$clone/bindings/rust"
     part 'cargo add --git' by_cargo git --git "file://$clone" capnp_canonical
     part 'cargo test' env CARGO_TARGET_DIR="$work/target" cargo test --offline --locked --manifest-path bindings/rust/Cargo.toml
-    part 'cargo package' env CARGO_TARGET_DIR="$work/target" make crate
+    if has 'cargo package' python3; then part 'cargo package' make crate BUILD="$work/packages"; fi
+    # for another system, if rustup has Rust's library for it; a library needs no linker
+    for target in aarch64-unknown-linux-gnu x86_64-pc-windows-msvc aarch64-apple-darwin x86_64-unknown-none; do
+        if [ -d "$(rustc --print sysroot)/lib/rustlib/$target" ]; then
+            part "cargo build, $target" env CARGO_TARGET_DIR="$work/target" cargo build --offline --locked --lib --no-default-features --target $target --manifest-path bindings/rust/Cargo.toml
+        else
+            say "cargo build, $target: skipped, no library of Rust for it"
+        fi
+    done
 fi
 if is_wanted release && has release python3; then part 'release' released; fi
 if is_wanted wasm && has 'make wasm' clang wasm-ld; then part 'make wasm' by_wasm; fi

@@ -191,7 +191,6 @@ by_standard() {
 }
 
 by_cargo() {
-    unset CAPNP_CANONICAL_LIB_DIR
     CARGO_TARGET_DIR="$work/target" cargo test --offline --locked --manifest-path "$release/bindings/rust/Cargo.toml"
 }
 

@@ -53,7 +53,7 @@ def printed_modules():
 def packaged(work, target):
     """Makes the package, compares the printed modules in it, and tests it outside of the repository."""
     subprocess.run([sys.executable, '-B', str(TOP / 'tools/rust/package.py'), str(work / 'crate')], check=True)
-    status, output = cargo(['package', '--allow-dirty', '--no-verify'], work / 'crate', target)
+    status, output = cargo(['package', '--allow-dirty', '--no-verify'], work / 'crate/capnp_layout', target)
     found = sorted((target / 'package').glob('capnp_layout-*.crate'))
     part('cargo package', status == 0 and len(found) == 1, output)
     if not found:
