@@ -1,6 +1,6 @@
 //! Messages that are being built.
 
-use crate::building::{StructBuilder, NOWHERE};
+use crate::building::StructBuilder;
 use crate::error::{Error, Reason};
 use crate::growing::Growing;
 use crate::message::{Limits, Message};
@@ -109,16 +109,21 @@ impl Builder {
         }
     }
 
-    /// Changes the message, and keeps a refusal. Does nothing after a refusal.
+    /// The arena, to be changed; `None` after a refusal. What the change returns goes to
+    /// [`keep`](Builder::keep).
+    // Not a call with a closure: rustc passes what a closure needs through memory.
     #[inline(always)]
-    pub(crate) fn change<T>(
-        &mut self,
-        change: impl FnOnce(&mut BuiltArena) -> Result<T, ErrorKind>,
-    ) -> Option<T> {
-        if self.refused.is_some() {
-            return None;
+    pub(crate) fn to_change(&mut self) -> Option<&mut BuiltArena> {
+        match &self.refused {
+            None => Some(&mut self.arena),
+            Some(_) => None,
         }
-        match change(&mut self.arena) {
+    }
+
+    /// What a change has made; keeps its refusal.
+    #[inline(always)]
+    pub(crate) fn keep<T>(&mut self, made: Result<T, ErrorKind>) -> Option<T> {
+        match made {
             Ok(made) => Some(made),
             Err(kind) => {
                 self.refuse(kind.into());
@@ -127,46 +132,63 @@ impl Builder {
         }
     }
 
-    /// Whether a list can have this number of elements, each of `words` words; if not, refuses
-    /// them.
+    /// The number of elements of a list, each of `words` words, as the core counts them. Refuses
+    /// more than a list can have.
     #[inline(always)]
-    pub(crate) fn fits(&mut self, elements: usize, words: usize) -> bool {
-        let fits = elements < MOST && elements.saturating_mul(words) < MOST;
-        if !fits {
+    pub(crate) fn count_of(&mut self, elements: usize, words: usize) -> Option<u32> {
+        if elements < MOST && elements.saturating_mul(words) < MOST {
+            Some(elements as u32)
+        } else {
             self.refuse(Reason::TooManyElements(elements).into());
+            None
         }
-        fits
     }
 
     /// Makes the root a new struct, all zero and null.
     #[inline]
     pub fn init_root(&mut self, size: StructSize) -> StructBuilder<'_> {
-        let place = self.change(|arena| value::init_root(arena, size));
-        StructBuilder::of(self, place.unwrap_or(NOWHERE))
+        let place = match self.to_change() {
+            Some(arena) => {
+                let made = value::init_root(arena, size);
+                self.keep(made)
+            }
+            None => None,
+        };
+        StructBuilder::of(self, place)
     }
 
     /// The root, to be changed: with sections at least as large as `size`, and a new struct if the
     /// root is null. If the root isn't a struct, that is refused.
     pub fn edit_root(&mut self, size: StructSize) -> StructBuilder<'_> {
-        let place =
-            self.change(|arena| PointerBuilder::get_root(arena).get_struct_place(size, None));
-        StructBuilder::of(self, place.unwrap_or(NOWHERE))
+        let place = match self.to_change() {
+            Some(arena) => {
+                let found = PointerBuilder::get_root(arena).get_struct_place(size, None);
+                self.keep(found)
+            }
+            None => None,
+        };
+        StructBuilder::of(self, place)
     }
 
     /// Makes the root a copy of a struct of a message that is read, as a plain copy.
     pub fn set_root<M: Meter>(&mut self, from: Struct<'_, M>) {
-        self.change(|arena| {
-            from.meter
-                .charge(|lim| PointerBuilder::get_root(arena).set_struct(&from.raw, lim, false))
-        });
+        self.copy_to_root(from.meter, |to, lim| to.set_struct(&from.raw, lim, false));
     }
 
     /// Makes the root a copy of what a pointer of a message that is read leads to, as a plain copy.
     pub fn set_root_pointer<M: Meter>(&mut self, from: Pointer<'_, M>) {
-        self.change(|arena| {
-            from.meter
-                .charge(|lim| PointerBuilder::get_root(arena).copy_from(from.raw, lim, false))
-        });
+        self.copy_to_root(from.meter, |to, lim| to.copy_from(from.raw, lim, false));
+    }
+
+    fn copy_to_root<M: Meter>(
+        &mut self,
+        meter: M,
+        copy: impl FnOnce(&mut BuiltPointer<'_>, &mut ReadLimiter) -> Result<(), ErrorKind>,
+    ) {
+        if let Some(arena) = self.to_change() {
+            let made = meter.charge(|lim| copy(&mut PointerBuilder::get_root(arena), lim));
+            self.keep(made);
+        }
     }
 
     /// The message, to be read: with no limit for words, and 64 levels.
@@ -256,7 +278,7 @@ pub(crate) fn canonical_words<M: Meter>(
     copy: impl FnOnce(&mut BuiltPointer<'_>, &mut ReadLimiter) -> Result<(), ErrorKind>,
 ) -> Result<Vec<u8>, Error> {
     let mut made = Builder::new();
-    made.change(|arena| meter.charge(|lim| copy(&mut PointerBuilder::get_root(arena), lim)));
+    made.copy_to_root(meter, copy);
     made.into_words()
 }
 

@@ -3,17 +3,16 @@
 use crate::builder::{Builder, BuiltArena};
 use crate::element::{Element, Number, Structs};
 use crate::list::List;
-use crate::list_building::{ListBuilder, NO_LIST};
+use crate::list_building::{check_element, ListBuilder};
 use crate::meter::Meter;
 use crate::proved::capnp_readers::readers::{ListPlace, StructPlace};
-use crate::proved::capnp_words::error::ErrorKind;
 use crate::proved::capnp_words::primitive::Primitive;
-use crate::proved::capnp_words::wire_pointer::StructSize;
+use crate::proved::capnp_words::wire_pointer::{ElementSize, StructSize};
 use crate::proved::typed_building::{copying, opening, reading, value};
 use crate::reading::{Pointer, Struct};
 
 /// The place of a struct that was refused.
-pub(crate) const NOWHERE: StructPlace = StructPlace {
+const NOWHERE: StructPlace = StructPlace {
     segment: 0,
     bits: 0,
     byte: 0,
@@ -99,8 +98,11 @@ macro_rules! set_numbers {
 
 impl<'b> StructBuilder<'b> {
     #[inline(always)]
-    pub(crate) fn of(message: &'b mut Builder, place: StructPlace) -> Self {
-        StructBuilder { message, place }
+    pub(crate) fn of(message: &'b mut Builder, place: Option<StructPlace>) -> Self {
+        StructBuilder {
+            message,
+            place: place.unwrap_or(NOWHERE),
+        }
     }
 
     /// The same struct, borrowed from this one.
@@ -126,12 +128,9 @@ impl<'b> StructBuilder<'b> {
     #[track_caller]
     pub fn set<T: Number>(&mut self, offset: usize, number: T) -> &mut Self {
         let place = self.place;
-        if self.message.unless_refused().is_some() {
+        if let Some(arena) = self.message.to_change() {
             check_number(place, offset, T::Bits::BYTES);
-            self.message.change(|arena| {
-                value::set_number(arena, place, offset, number.into_bits());
-                Ok(())
-            });
+            value::set_number(arena, place, offset, number.into_bits());
         }
         self
     }
@@ -153,12 +152,9 @@ impl<'b> StructBuilder<'b> {
     #[track_caller]
     pub fn set_bool(&mut self, offset: usize, bit: bool) -> &mut Self {
         let place = self.place;
-        if self.message.unless_refused().is_some() {
+        if let Some(arena) = self.message.to_change() {
             check_bit(place, offset);
-            self.message.change(|arena| {
-                value::set_bool(arena, place, offset, bit);
-                Ok(())
-            });
+            value::set_bool(arena, place, offset, bit);
         }
         self
     }
@@ -192,30 +188,24 @@ impl<'b> StructBuilder<'b> {
             .is_some_and(|arena| is_inside && reading::has(arena, self.place, index))
     }
 
-    /// Changes pointer `index`, which the struct has to have, and returns what was made; `None`
-    /// after a refusal.
+    /// The arena, to change pointer `index`, which the struct has to have; `None` after a refusal.
     #[inline(always)]
     #[track_caller]
-    fn change_pointer<T>(
-        &mut self,
-        index: usize,
-        change: impl FnOnce(&mut BuiltArena, StructPlace) -> Result<T, ErrorKind>,
-    ) -> Option<T> {
+    fn to_change(&mut self, index: usize) -> Option<&mut BuiltArena> {
         let place = self.place;
-        if self.message.unless_refused().is_some() {
-            check_pointer(place, index);
-        }
-        self.message.change(|arena| change(arena, place))
+        let arena = self.message.to_change()?;
+        check_pointer(place, index);
+        Some(arena)
     }
 
     /// Makes pointer `index` null, and zeroes what it held. Panics like all calls below if there is
     /// no such pointer.
     #[track_caller]
     pub fn clear(&mut self, index: usize) -> &mut Self {
-        self.change_pointer(index, |arena, place| {
+        let place = self.place;
+        if let Some(arena) = self.to_change(index) {
             value::clear(arena, place, index);
-            Ok(())
-        });
+        }
         self
     }
 
@@ -223,11 +213,7 @@ impl<'b> StructBuilder<'b> {
     #[inline]
     #[track_caller]
     pub fn set_text(&mut self, index: usize, text: &str) -> &mut Self {
-        if self.message.fits(text.len() + 1, 1) {
-            self.change_pointer(index, |arena, place| {
-                value::set_text(arena, place, index, text.as_bytes())
-            });
-        }
+        self.write_text(index, text);
         self
     }
 
@@ -235,11 +221,7 @@ impl<'b> StructBuilder<'b> {
     #[inline]
     #[track_caller]
     pub fn set_data(&mut self, index: usize, data: &[u8]) -> &mut Self {
-        if self.message.fits(data.len(), 1) {
-            self.change_pointer(index, |arena, place| {
-                value::set_data(arena, place, index, data)
-            });
-        }
+        self.write_data(index, data);
         self
     }
 
@@ -247,20 +229,22 @@ impl<'b> StructBuilder<'b> {
     /// program's.
     #[track_caller]
     pub fn set_capability(&mut self, index: usize, capability: u32) -> &mut Self {
-        self.change_pointer(index, |arena, place| {
+        let place = self.place;
+        if let Some(arena) = self.to_change(index) {
             value::set_capability(arena, place, index, capability);
-            Ok(())
-        });
+        }
         self
     }
 
     /// Makes pointer `index` lead to a copy of a struct that is read.
     #[track_caller]
     pub fn set_struct<M: Meter>(&mut self, index: usize, from: Struct<'_, M>) -> &mut Self {
-        let (raw, meter) = (from.raw, from.meter);
-        self.change_pointer(index, |arena, place| {
-            meter.charge(|lim| copying::set_struct_from(arena, place, index, &raw, lim))
-        });
+        let (place, raw) = (self.place, from.raw);
+        if let Some(arena) = self.to_change(index) {
+            let read = |lim: &mut _| copying::set_struct_from(arena, place, index, &raw, lim);
+            let made = from.meter.charge(read);
+            self.message.keep(made);
+        }
         self
     }
 
@@ -271,20 +255,24 @@ impl<'b> StructBuilder<'b> {
         index: usize,
         from: List<'_, T, M>,
     ) -> &mut Self {
-        let (raw, meter) = (from.raw, from.meter);
-        self.change_pointer(index, |arena, place| {
-            meter.charge(|lim| copying::set_list_from(arena, place, index, &raw, lim))
-        });
+        let (place, raw) = (self.place, from.raw);
+        if let Some(arena) = self.to_change(index) {
+            let read = |lim: &mut _| copying::set_list_from(arena, place, index, &raw, lim);
+            let made = from.meter.charge(read);
+            self.message.keep(made);
+        }
         self
     }
 
     /// Makes pointer `index` lead to a copy of what a pointer that is read leads to.
     #[track_caller]
     pub fn set_pointer<M: Meter>(&mut self, index: usize, from: Pointer<'_, M>) -> &mut Self {
-        let (raw, meter) = (from.raw, from.meter);
-        self.change_pointer(index, |arena, place| {
-            meter.charge(|lim| copying::set_pointer_from(arena, place, index, raw, lim))
-        });
+        let (place, raw) = (self.place, from.raw);
+        if let Some(arena) = self.to_change(index) {
+            let read = |lim: &mut _| copying::set_pointer_from(arena, place, index, raw, lim);
+            let made = from.meter.charge(read);
+            self.message.keep(made);
+        }
         self
     }
 
@@ -292,10 +280,8 @@ impl<'b> StructBuilder<'b> {
     #[inline]
     #[track_caller]
     pub fn init_struct(&mut self, index: usize, size: StructSize) -> StructBuilder<'_> {
-        let place = self.change_pointer(index, |arena, place| {
-            value::init_struct(arena, place, index, size)
-        });
-        StructBuilder::of(self.message, place.unwrap_or(NOWHERE))
+        let made = self.new_struct(index, size);
+        StructBuilder::of(self.message, made)
     }
 
     /// The struct of pointer `index`, to be changed: with sections at least as large as `size`, and
@@ -303,10 +289,8 @@ impl<'b> StructBuilder<'b> {
     /// refused.
     #[track_caller]
     pub fn edit_struct(&mut self, index: usize, size: StructSize) -> StructBuilder<'_> {
-        let place = self.change_pointer(index, |arena, place| {
-            opening::get_struct(arena, place, index, size)
-        });
-        StructBuilder::of(self.message, place.unwrap_or(NOWHERE))
+        let found = self.old_struct(index, size);
+        StructBuilder::of(self.message, found)
     }
 
     /// Makes pointer `index` lead to a new list of `count` elements, all zero or null. For structs
@@ -318,20 +302,9 @@ impl<'b> StructBuilder<'b> {
         index: usize,
         count: usize,
     ) -> ListBuilder<'_, T> {
-        const {
-            assert!(
-                !matches!(T::SIZE, crate::ElementSize::InlineComposite),
-                "init_structs makes lists of structs"
-            )
-        };
-        let mut made = None;
-        if self.message.fits(count, 1) {
-            let few = count as u32;
-            made = self.change_pointer(index, |arena, place| {
-                value::init_list(arena, place, index, T::SIZE, few)
-            });
-        }
-        self.list(made)
+        const { check_element(T::SIZE) };
+        let made = self.new_list(index, T::SIZE, count);
+        ListBuilder::of(self.message, made)
     }
 
     /// Makes pointer `index` lead to a new list of `count` structs, all zero and null.
@@ -343,14 +316,8 @@ impl<'b> StructBuilder<'b> {
         count: usize,
         size: StructSize,
     ) -> ListBuilder<'_, Structs> {
-        let mut made = None;
-        if self.message.fits(count, size.total() as usize) {
-            let few = count as u32;
-            made = self.change_pointer(index, |arena, place| {
-                value::init_struct_list(arena, place, index, few, size)
-            });
-        }
-        self.list(made)
+        let made = self.new_structs(index, count, size);
+        ListBuilder::of(self.message, made)
     }
 
     /// The list of structs of pointer `index`, to be changed: with structs at least as large as
@@ -358,13 +325,68 @@ impl<'b> StructBuilder<'b> {
     /// else, that is refused.
     #[track_caller]
     pub fn edit_structs(&mut self, index: usize, size: StructSize) -> ListBuilder<'_, Structs> {
-        let found = self.change_pointer(index, |arena, place| {
-            opening::get_struct_list(arena, place, index, size)
-        });
-        self.list(found)
+        let found = self.old_structs(index, size);
+        ListBuilder::of(self.message, found)
+    }
+}
+
+/// What the calls above do, unless something is or was refused.
+impl StructBuilder<'_> {
+    #[inline(always)]
+    #[track_caller]
+    fn write_text(&mut self, index: usize, text: &str) -> Option<()> {
+        let place = self.place;
+        self.message.count_of(text.len() + 1, 1)?;
+        let made = value::set_text(self.to_change(index)?, place, index, text.as_bytes());
+        self.message.keep(made)
     }
 
-    fn list<T: ?Sized>(&mut self, place: Option<ListPlace>) -> ListBuilder<'_, T> {
-        ListBuilder::of(self.message, place.unwrap_or(NO_LIST))
+    #[inline(always)]
+    #[track_caller]
+    fn write_data(&mut self, index: usize, data: &[u8]) -> Option<()> {
+        let place = self.place;
+        self.message.count_of(data.len(), 1)?;
+        let made = value::set_data(self.to_change(index)?, place, index, data);
+        self.message.keep(made)
+    }
+
+    #[inline(always)]
+    #[track_caller]
+    fn new_struct(&mut self, index: usize, size: StructSize) -> Option<StructPlace> {
+        let place = self.place;
+        let made = value::init_struct(self.to_change(index)?, place, index, size);
+        self.message.keep(made)
+    }
+
+    #[track_caller]
+    fn old_struct(&mut self, index: usize, size: StructSize) -> Option<StructPlace> {
+        let place = self.place;
+        let found = opening::get_struct(self.to_change(index)?, place, index, size);
+        self.message.keep(found)
+    }
+
+    #[inline(always)]
+    #[track_caller]
+    fn new_list(&mut self, index: usize, size: ElementSize, count: usize) -> Option<ListPlace> {
+        let place = self.place;
+        let count = self.message.count_of(count, 1)?;
+        let made = value::init_list(self.to_change(index)?, place, index, size, count);
+        self.message.keep(made)
+    }
+
+    #[inline(always)]
+    #[track_caller]
+    fn new_structs(&mut self, index: usize, count: usize, size: StructSize) -> Option<ListPlace> {
+        let place = self.place;
+        let count = self.message.count_of(count, size.total() as usize)?;
+        let made = value::init_struct_list(self.to_change(index)?, place, index, count, size);
+        self.message.keep(made)
+    }
+
+    #[track_caller]
+    fn old_structs(&mut self, index: usize, size: StructSize) -> Option<ListPlace> {
+        let place = self.place;
+        let found = opening::get_struct_list(self.to_change(index)?, place, index, size);
+        self.message.keep(found)
     }
 }

@@ -1,18 +1,17 @@
 //! Lists of messages that are being built.
 
 use crate::builder::{Builder, BuiltArena};
-use crate::building::{StructBuilder, NOWHERE};
+use crate::building::StructBuilder;
 use crate::element::{Element, Lists, Number, Structs};
 use crate::list::no_element;
 use crate::proved::capnp_builders::builders::element_place;
 use crate::proved::capnp_readers::readers::ListPlace;
-use crate::proved::capnp_words::error::ErrorKind;
 use crate::proved::capnp_words::wire_pointer::{ElementSize, StructSize};
 use crate::proved::typed_building::list;
 use core::marker::PhantomData;
 
 /// The place of a list that was refused.
-pub(crate) const NO_LIST: ListPlace = ListPlace {
+const NO_LIST: ListPlace = ListPlace {
     segment: 0,
     byte: 0,
     size: ElementSize::Void,
@@ -37,10 +36,10 @@ pub struct ListBuilder<'b, T: ?Sized> {
 
 impl<'b, T: ?Sized> ListBuilder<'b, T> {
     #[inline(always)]
-    pub(crate) fn of(message: &'b mut Builder, list: ListPlace) -> Self {
+    pub(crate) fn of(message: &'b mut Builder, list: Option<ListPlace>) -> Self {
         ListBuilder {
             message,
-            list,
+            list: list.unwrap_or(NO_LIST),
             next: 0,
             of: PhantomData,
         }
@@ -58,22 +57,25 @@ impl<'b, T: ?Sized> ListBuilder<'b, T> {
         self.len() == 0
     }
 
-    /// Changes element `index`, which the list has to have, and returns what was made; `None` after
-    /// a refusal.
+    /// The arena, to change element `index`, which the list has to have; `None` after a refusal.
     #[inline(always)]
     #[track_caller]
-    fn change<R>(
-        &mut self,
-        index: usize,
-        change: impl FnOnce(&mut BuiltArena, ListPlace, u32) -> Result<R, ErrorKind>,
-    ) -> Option<R> {
-        let place = self.list;
-        if self.message.unless_refused().is_some() && index >= self.len() {
-            no_element(index, self.len());
+    fn to_change(&mut self, index: usize) -> Option<&mut BuiltArena> {
+        let count = self.len();
+        let arena = self.message.to_change()?;
+        if index >= count {
+            no_element(index, count);
         }
-        self.message
-            .change(|arena| change(arena, place, index as u32))
+        Some(arena)
     }
+}
+
+/// Refuses, when it is compiled, elements that are structs: only `init_structs` is told their size.
+pub(crate) const fn check_element(size: ElementSize) {
+    assert!(
+        !matches!(size, ElementSize::InlineComposite),
+        "init_structs makes lists of structs"
+    );
 }
 
 impl<T: Number> ListBuilder<'_, T> {
@@ -81,10 +83,10 @@ impl<T: Number> ListBuilder<'_, T> {
     #[inline]
     #[track_caller]
     pub fn set(&mut self, index: usize, number: T) {
-        self.change(index, |arena, place, index| {
-            list::set_element(arena, place, index, number.into_bits());
-            Ok(())
-        });
+        let place = self.list;
+        if let Some(arena) = self.to_change(index) {
+            list::set_element(arena, place, index as u32, number.into_bits());
+        }
     }
 
     /// Writes an element for each number: the first elements if there are fewer numbers, the first
@@ -101,10 +103,10 @@ impl ListBuilder<'_, bool> {
     #[inline]
     #[track_caller]
     pub fn set(&mut self, index: usize, bit: bool) {
-        self.change(index, |arena, place, index| {
-            list::set_bool(arena, place, index, bit);
-            Ok(())
-        });
+        let place = self.list;
+        if let Some(arena) = self.to_change(index) {
+            list::set_bool(arena, place, index as u32, bit);
+        }
     }
 }
 
@@ -113,11 +115,16 @@ impl ListBuilder<'_, str> {
     #[inline]
     #[track_caller]
     pub fn set(&mut self, index: usize, text: &str) {
-        if self.message.fits(text.len() + 1, 1) {
-            self.change(index, |arena, place, index| {
-                list::set_text(arena, place, index, text.as_bytes())
-            });
-        }
+        self.write(index, text);
+    }
+
+    #[inline(always)]
+    #[track_caller]
+    fn write(&mut self, index: usize, text: &str) -> Option<()> {
+        let place = self.list;
+        self.message.count_of(text.len() + 1, 1)?;
+        let made = list::set_text(self.to_change(index)?, place, index as u32, text.as_bytes());
+        self.message.keep(made)
     }
 }
 
@@ -126,11 +133,16 @@ impl ListBuilder<'_, [u8]> {
     #[inline]
     #[track_caller]
     pub fn set(&mut self, index: usize, data: &[u8]) {
-        if self.message.fits(data.len(), 1) {
-            self.change(index, |arena, place, index| {
-                list::set_data(arena, place, index, data)
-            });
-        }
+        self.write(index, data);
+    }
+
+    #[inline(always)]
+    #[track_caller]
+    fn write(&mut self, index: usize, data: &[u8]) -> Option<()> {
+        let place = self.list;
+        self.message.count_of(data.len(), 1)?;
+        let made = list::set_data(self.to_change(index)?, place, index as u32, data);
+        self.message.keep(made)
     }
 }
 
@@ -139,20 +151,17 @@ impl<T: Element + ?Sized> ListBuilder<'_, Lists<T>> {
     /// no such element.
     #[track_caller]
     pub fn init(&mut self, index: usize, count: usize) -> ListBuilder<'_, T> {
-        const {
-            assert!(
-                !matches!(T::SIZE, ElementSize::InlineComposite),
-                "init_structs makes lists of structs"
-            )
-        };
-        let mut made = None;
-        if self.message.fits(count, 1) {
-            let few = count as u32;
-            made = self.change(index, |arena, place, index| {
-                list::init_list(arena, place, index, T::SIZE, few)
-            });
-        }
-        ListBuilder::of(self.message, made.unwrap_or(NO_LIST))
+        const { check_element(T::SIZE) };
+        let made = self.new_list(index, count);
+        ListBuilder::of(self.message, made)
+    }
+
+    #[track_caller]
+    fn new_list(&mut self, index: usize, count: usize) -> Option<ListPlace> {
+        let place = self.list;
+        let count = self.message.count_of(count, 1)?;
+        let made = list::init_list(self.to_change(index)?, place, index as u32, T::SIZE, count);
+        self.message.keep(made)
     }
 }
 
@@ -166,14 +175,17 @@ impl ListBuilder<'_, Lists<Structs>> {
         count: usize,
         size: StructSize,
     ) -> ListBuilder<'_, Structs> {
-        let mut made = None;
-        if self.message.fits(count, size.total() as usize) {
-            let few = count as u32;
-            made = self.change(index, |arena, place, index| {
-                list::init_struct_list(arena, place, index, few, size)
-            });
-        }
-        ListBuilder::of(self.message, made.unwrap_or(NO_LIST))
+        let made = self.new_structs(index, count, size);
+        ListBuilder::of(self.message, made)
+    }
+
+    #[track_caller]
+    fn new_structs(&mut self, index: usize, count: usize, size: StructSize) -> Option<ListPlace> {
+        let place = self.list;
+        let count = self.message.count_of(count, size.total() as usize)?;
+        let arena = self.to_change(index)?;
+        let made = list::init_struct_list(arena, place, index as u32, count, size);
+        self.message.keep(made)
     }
 }
 
@@ -182,8 +194,12 @@ impl ListBuilder<'_, Structs> {
     #[inline]
     #[track_caller]
     pub fn at(&mut self, index: usize) -> StructBuilder<'_> {
-        let place = self.change(index, |_, place, index| Ok(element_place(place, index)));
-        StructBuilder::of(self.message, place.unwrap_or(NOWHERE))
+        let list = self.list;
+        let place = match self.to_change(index) {
+            Some(_) => Some(element_place(list, index as u32)),
+            None => None,
+        };
+        StructBuilder::of(self.message, place)
     }
 
     /// Struct `index`; `None` if there is no such element, or after a refusal.
