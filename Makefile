@@ -56,14 +56,26 @@ STACK_FLAGS := $(call tried,-fstack-clash-protection)
 LEVEL = $(if $(filter -O%,$(CFLAGS)),,-O2)
 ALL_FLAGS = -std=c11 -Ibindings/c $(CPPFLAGS) $(LEVEL) $(CFLAGS) $(STACK_FLAGS)
 # Most of the program's C runs once for each file or each report. Compiled with -Og, which takes less than half of the time of
-# -O2, no command executes more instructions; the one of streams, which runs once for each message, takes -O1.
+# -O2, no command executes more instructions; the one of streams, which runs once for each message, takes -O1. With gcc, `show`
+# takes -Og and the options that bring its instructions within 2 % of -O2, and the rest lacks passes that save no instructions.
 SELDOM_FLAGS = $(patsubst -O2,-Og,$(ALL_FLAGS))
 STREAMS_FLAGS = $(patsubst -O2,-O1,$(ALL_FLAGS))
+ifneq ($(call tried,-fexpensive-optimizations),)
+SHOW_FLAGS = $(SELDOM_FLAGS) -fexpensive-optimizations -fstrict-aliasing -fpeephole2 -fcaller-saves -fipa-ra
+LAYER_FLAGS = $(ALL_FLAGS) -fno-gcse -fno-schedule-insns2
+else
+SHOW_FLAGS = $(ALL_FLAGS)
+LAYER_FLAGS = $(ALL_FLAGS)
+endif
 
 INSTALLED = $(BUILD)/lib$(NAME).a $(BUILD)/$(SHARED_FILE) $(BUILD)/capnp_canon
 PARTS = $(patsubst generated/%.c,$(BUILD)/%.o,$(wildcard generated/capnp_canon.c generated/capnp_canon_*.c))
 SELDOM = $(addprefix $(BUILD)/,capnp_canon.o capnp_canon_diffs.o capnp_canon_inputs.o capnp_canon_io.o)
-STREAMS = $(BUILD)/capnp_canon_streams.o
+$(PARTS): PART_FLAGS = $(ALL_FLAGS)
+$(SELDOM): PART_FLAGS = $(SELDOM_FLAGS)
+$(BUILD)/capnp_canon_streams.o: PART_FLAGS = $(STREAMS_FLAGS)
+$(BUILD)/capnp_canon_show.o: PART_FLAGS = $(SHOW_FLAGS)
+$(BUILD)/capnp_canon_layer.o: PART_FLAGS = $(LAYER_FLAGS)
 
 program: $(BUILD)/capnp_canon
 
@@ -71,7 +83,7 @@ all: $(INSTALLED) $(BUILD)/layout_tool
 
 $(PARTS): $(BUILD)/%.o: generated/%.c generated/capnp_canon.h
 	@mkdir -p $(BUILD)
-	$(CC) $(if $(filter $@,$(SELDOM)),$(SELDOM_FLAGS),$(if $(filter $@,$(STREAMS)),$(STREAMS_FLAGS),$(ALL_FLAGS))) -c -o $@ generated/$*.c
+	$(CC) $(PART_FLAGS) -c -o $@ generated/$*.c
 
 $(BUILD)/capnp_canon: $(PARTS)
 	$(CC) $(CFLAGS) $(LDFLAGS) -o $@ $(PARTS)
