@@ -3,9 +3,9 @@
 
     layout_crate.py
 
-Runs its tests in place; makes its package, with the printed modules in it, and runs the tests of the package outside of
-the repository; builds it without `std`; and asks rustdoc and, if it is there, clippy for remarks. Needs cargo, but no
-network. CARGO_TARGET_DIR names the folder for what is built; by default one that is removed afterwards. The last line is
+Runs its tests in place; compares the examples of the repository's README with those of the crate, which are doc tests;
+makes its package, with the printed modules in it, and runs the tests of the package outside of the repository; builds it
+without `std`; and asks rustdoc and, if it is there, clippy for remarks. Needs cargo, but no network. CARGO_TARGET_DIR names the folder for what is built; by default one that is removed afterwards. The last line is
 `N passed, M failed`."""
 import os
 import pathlib
@@ -44,6 +44,14 @@ def test(name, folder, target):
     part(name, status == 0 and sum(counts) > 40, output)
 
 
+def first_page():
+    """Compares the examples in the repository's README with those of the crate's, which cargo runs as doc tests."""
+    examples = re.findall(r'```rust\n(use capnp_layout::.*?)```', (TOP / 'README.md').read_text(encoding='utf-8'), re.S)
+    tested = (CRATE / 'README.md').read_text(encoding='utf-8')
+    differ = [it for it in examples if f'```rust\n{it}```' not in tested]
+    part('examples of the README', len(examples) == 3 and not differ, '\n'.join(differ))
+
+
 def printed_modules():
     """The names of the printed files that the package has to contain."""
     names = (it.relative_to(PROVED).as_posix() for it in PROVED.rglob('*.rs'))
@@ -77,6 +85,7 @@ def main():
         test('cargo test', CRATE, target)
         if not shutil.which('capnp'):
             print('skipped: encode and decode of Cap\'n Proto, no capnp')
+        first_page()
         packaged(work, target)
         status, output = cargo(['build', '--no-default-features'], CRATE, target, RUSTFLAGS='-D warnings')
         part('without std', status == 0, output)
