@@ -1,7 +1,7 @@
-//! Compares the crate `capnp_canonical` with the library in C, in one process: all bytes, numbers, names and places that each
-//! call gives. Reads the lines of tests/release/lines.py from standard input:
+//! Compares the crate `capnp_canonical` with the library in C, in one process: the bytes, numbers, names and places of
+//! each call. Reads the lines of tests/release/lines.py from standard input:
 //!
-//!     beside N    compares what both answer to each message, and to N altered ones of each
+//!     beside_c N    compares what both answer to each message, and to N altered ones of each
 //!
 //! The last line is `N passed, M failed`; each message counts.
 use capnp_canonical::{self as rust, segments, words, Error, Limits, Reading};
@@ -111,8 +111,14 @@ fn of_rust<T: std::fmt::Debug>(answer: Result<T, Error>) -> String {
     }
 }
 
+/// The number of these bytes, and a sum that tells other bytes from them (FNV-1a).
+fn sum(bytes: Vec<u8>) -> (usize, u64) {
+    let add = |sum: u64, byte: &u8| (sum ^ u64::from(*byte)).wrapping_mul(0x0100_0000_01b3);
+    (bytes.len(), bytes.iter().fold(0xcbf2_9ce4_8422_2325, add))
+}
+
 /// The bytes that a call of C writes, with as much room as it asks for.
-fn written(call: impl Fn(*mut u8, usize, &mut usize) -> u32) -> (u32, Vec<u8>) {
+fn written(call: impl Fn(*mut u8, usize, &mut usize) -> u32) -> (u32, (usize, u64)) {
     let (mut to, mut size) = (Vec::new(), 0);
     let mut answer = call(ptr::null_mut(), 0, &mut size);
     if answer == 1 {
@@ -120,7 +126,7 @@ fn written(call: impl Fn(*mut u8, usize, &mut usize) -> u32) -> (u32, Vec<u8>) {
         answer = call(to.as_mut_ptr(), to.len(), &mut size);
     }
     to.truncate(if answer == 0 { size } else { 0 });
-    (answer, to)
+    (answer, sum(to))
 }
 
 const NOWHERE: fn(&mut Fault) -> u32 = |_| 1;
@@ -167,7 +173,7 @@ impl Message {
             said.push((
                 name,
                 of_c(answer, bytes, locate(1)),
-                of_rust(ours(&slices, self.limits)),
+                of_rust(ours(&slices, self.limits).map(sum)),
             ));
         }
         let (answer, bytes) = written(|to, room, size| unsafe {
@@ -178,11 +184,7 @@ impl Message {
         said.push((
             "copy_flat_at",
             of_c(answer, bytes, NOWHERE),
-            of_rust(segments::canonical_words_at(
-                &slices,
-                &self.path,
-                self.limits,
-            )),
+            of_rust(segments::canonical_words_at(&slices, &self.path, self.limits).map(sum)),
         ));
         let mut digest = [0; 32];
         let answer = unsafe {
@@ -324,7 +326,7 @@ impl Message {
         ));
     }
 
-    /// The same for calls that take bytes, as a frame, as words and as packed bytes.
+    /// The same for calls that take bytes: a frame, words, packed bytes.
     fn compare_bytes(&self, bytes: &[u8], said: &mut Vec<(&'static str, String, String)>) {
         let (at, length) = (bytes.as_ptr(), bytes.len());
         let (nesting, most) = (
@@ -342,7 +344,7 @@ impl Message {
         said.push((
             "frame, copy",
             of_c(answer, copy, locate(1)),
-            of_rust(rust::canonical_copy(bytes, self.limits)),
+            of_rust(rust::canonical_copy(bytes, self.limits).map(sum)),
         ));
         let (mut is, mut fault) = (false, Fault::default());
         let answer =
@@ -402,7 +404,7 @@ impl Message {
         said.push((
             "unpack",
             of_c(answer, unpacked, NOWHERE),
-            of_rust(rust::unpack(bytes, u64::MAX)),
+            of_rust(rust::unpack(bytes, u64::MAX).map(sum)),
         ));
     }
 

@@ -143,7 +143,7 @@ capnp_canonical = { path = "$top/bindings/rust" }
 [workspace]
 END
     RUSTFLAGS="-L native=$prefix/lib" cargo build --offline --release --manifest-path beside/Cargo.toml &&
-        python3 -B "$here/../release/lines.py" >lines && target/release/beside 10 <lines
+        python3 -B "$here/../release/lines.py" >lines && target/release/beside 1 <lines
 }
 
 # Tests the crate without its features and as a package, with nothing else of the repository, and makes its documentation.

@@ -13,7 +13,7 @@ import sys
 TOP = pathlib.Path(__file__).resolve().parents[2]
 CRATES = {'capnp_layout': TOP / 'bindings/rust/capnp_layout', 'capnp_canonical': TOP / 'bindings/rust'}
 PROVED = TOP / 'generated/rust/src/proved'
-# What capnp_canonical's folder has beside its package.
+# What capnp_canonical's folder has, and its package doesn't.
 NOT_PACKAGED = ('target', 'capnp', 'capnp_layout')
 # What a file of the repository has, and what it has in a package.
 CHANGES = {

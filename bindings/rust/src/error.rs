@@ -24,9 +24,9 @@ impl fmt::Display for Pointer {
 
 /// Why a call is refused, and at which pointer, if it is one. `{}` writes its name, the place and a text, such as
 /// `UnknownPointerType at segment 0, word 17: a pointer is of an unknown kind`. 57, 58 and 60 all mean that the message is
-/// nested too deeply: treat them alike, as [`kind`](Error::kind) does.
+/// nested too deeply: treat them alike. [`kind`](Error::kind) does.
 ///
-/// Two errors are equal if their numbers are, wherever their pointers are. So `error == Error::TRUNCATED` works, but a
+/// Two errors are equal if their numbers are; the pointers don't count. So `error == Error::TRUNCATED` works, but a
 /// constant can't be a pattern: write `match error.kind()`, or `match error { it if it == Error::TRUNCATED => .. }`.
 #[derive(Clone, Copy)]
 pub struct Error {

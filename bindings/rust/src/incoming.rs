@@ -44,7 +44,7 @@ impl Incoming {
         }
     }
 
-    /// Reads the next frame; after an error there is none. `read` works like `Read::read`: it writes bytes to the front of
+    /// Reads the next frame, or nothing after an error. `read` works like `Read::read`: it writes bytes to the front of
     /// a slice, and returns how many; 0 only at the end of the stream. It never gets more room than the frame has bytes left.
     pub(crate) fn next(
         &mut self,
@@ -100,7 +100,7 @@ impl Incoming {
         &self.buffer[..held]
     }
 
-    /// The error of the frame, after which there is none.
+    /// The error of the frame. Nothing is read after it.
     pub(crate) fn refused(&mut self, error: Error) -> StreamError {
         self.has_failed = true;
         error.at(self.message, self.byte)

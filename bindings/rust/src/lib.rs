@@ -248,8 +248,8 @@ pub fn locate(
 }
 
 /// The structs, lists and capabilities of the message, at most `most` of them. A broken message is listed up to its first
-/// broken pointer. No message has more objects than `limits.words`. Takes memory for the objects that there are, whatever
-/// `most` is.
+/// broken pointer. No message has more objects than `limits.words`. Takes memory for the objects that there are, also
+/// if `most` is larger.
 ///
 /// ```
 /// use capnp_canonical::{walk, Kind, Limits};

@@ -1,4 +1,4 @@
-//! What the calls do with a message, in whichever form it comes. Each reads it by the proved functions of `capnp_messages`,
+//! What the calls do with a message, in each form. Each reads it by the proved functions of `capnp_messages`,
 //! which the library for C calls too.
 use crate::error::{Broken, Error, Pointer};
 use crate::stack::with_room;

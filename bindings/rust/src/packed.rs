@@ -19,7 +19,7 @@ use capnp_layout::proved::capnp_packing::packing::{unpack_to_slice, unpacked_siz
 /// # Errors
 ///
 /// [`Error::TRUNCATED`] if the packed bytes are cut short; [`Error::MESSAGE_TOO_LONG`] if there are more than `words` words,
-/// before memory is taken for them; [`Error::ALLOCATION_FAILED`] if there is none.
+/// before memory is taken for them; [`Error::ALLOCATION_FAILED`] if it runs out.
 pub fn unpack(packed: impl AsRef<[u8]>, words: u64) -> Result<Vec<u8>, Error> {
     let mut to = Vec::new();
     unpack_into(packed, words, &mut to)?;

@@ -1,8 +1,8 @@
 //! Room on the stack for the levels of a message.
 //!
-//! A level takes up to 620 bytes of stack in a build with optimization, at whichever level, so 1,024 levels fit in the 2 MiB
-//! that a thread of Rust has. Without optimization it takes up to 19.3 KB. So in builds that have debug assertions, as those
-//! without optimization do, a call for more levels than usual gets a thread with a stack that is large enough.
+//! A level takes up to 620 bytes of stack in a build with optimization, at any level, so 1,024 levels fit in the 2 MiB
+//! that a thread of Rust has. Without optimization it takes up to 19.3 KB. So in builds with debug assertions, which
+//! those without optimization have, a call for more levels than usual gets a thread with a stack that is large enough.
 
 /// Calls on a stack with room for so many levels.
 #[cfg(not(all(feature = "std", debug_assertions)))]

@@ -185,7 +185,7 @@ fn readers_end_after_an_error() {
     let mut frames = FrameReader::new(&stream[..], 8);
     assert!(frames.next_frame().is_err());
     assert_eq!(frames.next_frame().unwrap(), None);
-    // a reset in the middle of a frame, and an interruption, which is no error
+    // a reset in the middle of a frame, and an interruption, which the reader passes over
     let reset = || Interrupted {
         parts: vec![
             Ok(&whole),

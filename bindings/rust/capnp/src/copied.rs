@@ -42,7 +42,7 @@ where
 {
     let mut copy = Builder::new_default();
     set_root(&mut copy).map_err(ValueError::Copy)?;
-    // a place in the copy is none in the message
+    // a place in the copy isn't one in the message
     canonical_words(&copy, limits).map_err(|error| ValueError::Refused(Error::from(error.number())))
 }
 
