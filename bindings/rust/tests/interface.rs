@@ -57,7 +57,7 @@ fn errors_have_the_place_of_the_pointer() {
         assert_eq!(format!("{error:?}"), name);
     }
     let stream = frames(&frame, 9).next().unwrap().unwrap();
-    let error = canonical_words(&stream, limits).map_err(|error| stream.refused(error));
+    let error = canonical_words(stream, limits).map_err(|error| stream.refused(error));
     assert_eq!(
         error.unwrap_err().to_string(),
         "message 1 at byte 0: MessageContainsOutOfBoundsPointer at segment 0, word 3: a pointer points outside its segment"

@@ -148,6 +148,8 @@ impl Error {
 
     #[cold]
     pub(crate) fn at(reason: Reason, path: String, segment: u64, word: u32) -> Self {
+        // without std there is no other field
+        #[allow(clippy::needless_update)]
         let details = Details {
             pointer: Some((path, segment, word)),
             ..Details::default()
