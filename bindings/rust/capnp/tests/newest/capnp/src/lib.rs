@@ -240,11 +240,12 @@ pub mod message {
         use crate::Result;
         use alloc::vec::Vec;
 
-        pub unsafe trait Allocator {}
+        // an unsafe trait in capnp; nothing here relies on that
+        pub trait Allocator {}
 
         pub struct HeapAllocator(());
 
-        unsafe impl Allocator for HeapAllocator {}
+        impl Allocator for HeapAllocator {}
 
         pub struct Builder<A: Allocator> {
             segments: Vec<Vec<u8>>,
