@@ -1,13 +1,17 @@
 #!/usr/bin/env python3
-"""Plants bugs in a copy of the printed crate, of the departures and the support, of the printer, and of doc comments that state
-preconditions, and checks that each is found.
+"""Plants bugs in a copy of the printed crate, of the departures and the support, of the printer, of doc comments that state
+preconditions, and of the crate capnp_layout, and checks that each is found.
 
-    planted.py
+    planted.py [PART..]
+
+PARTs choose some of in_comments, in_crate, in_printer, by_hand and in_layer.
 
 A bug in the crate is found by the sums and, if somebody has written the sums again, by printing again. One in the printer is
 found by the texts of texts.txt or by the audit, although the sums are those of the wrong printer. One in a departure or in the
 support is found by the sums, and by the tests of by_hand/ if all is printed again. One in a doc comment is found by
-preconditions.py. Needs cargo and rustfmt. The last line is `N passed, M failed`."""
+preconditions.py. One in what is written by hand in capnp_layout is found by the test of the crate that is named with it. Needs
+cargo and rustfmt. The last line is `N passed, M failed`."""
+import os
 import pathlib
 import shutil
 import subprocess
@@ -63,6 +67,29 @@ IN_COMMENTS = (
     ('two preconditions in the singular', SOURCE, 'Preconditions: the', 'Precondition: the'),
     ('a precondition without a clause', SOURCE, '/// The number of whole words in `bytes`.', '/// The number of whole words in `bytes`. Precondition: there is one.'),
 )
+LAYER = 'bindings/rust/capnp_layout'
+# Each bug, with the file of tests and the test that fails then.
+IN_LAYER = (
+    ('the last word of a frame is left out', 'opening', 'all_ways_are_the_same_message', 'opening.rs', '&bytes[TABLE..size]', '&bytes[TABLE..size - 8]'),
+    ('bytes after a frame are let through', 'opening', 'bytes_after_a_message', 'opening.rs', 'more => Err(Reason::TrailingBytes(more).into())', '_ => Ok(message)'),
+    ('a check without the traversal limit', 'limits', 'the_least_limits', 'message.rs', 'ReadLimiter::new(Some(self.limits.words))', 'ReadLimiter::new(None)'),
+    ('a level too many', 'limits', 'the_least_limits', 'message.rs', 'i32::from(self.depth)', 'i32::from(self.depth) + 1'),
+    ('lazy readers charge nothing', 'limits', 'lazy_readers_charge_the_message', 'meter.rs', 'self.0.set(lim.left().unwrap_or(0));', 'let _ = lim;'),
+    ('the path names another element', 'limits', 'broken_pointers_have_a_path', 'searching.rs', 'Step::Element(index));', 'Step::Element(index + 1));'),
+    ('words that are not in use are handed out', 'building', 'the_same_message_as_capnp_encode_makes', 'growing.rs', 'self.kept.truncate(8 * used_words as usize);', 'let _ = used_words;'),
+    ('memory grows too late', 'building', 'memory_grows', 'growing.rs', 'if bytes > self.bytes.len() {', 'if bytes > self.bytes.len() + 8 {'),
+    ('one element too many', 'building', 'too_many_elements_are_refused', 'builder.rs', 'if elements < MOST &&', 'if elements <= MOST &&'),
+    ('a refusal is forgotten', 'building', 'refusals_are_kept', 'builder.rs', 'self.refused.get_or_insert(error);', 'let _ = error;'),
+    ('a message is changed after a refusal', 'building', 'refusals_are_kept', 'builder.rs', 'None => Some(&mut self.arena),\n            Some(_) => None,', '_ => Some(&mut self.arena),'),
+    ('a number behind the data section is written', 'building', 'fields_that_are_not_there_panic', 'building.rs', 'if offset >= numbers {', 'if offset > numbers {'),
+    ('an element behind the list is written', 'building', 'elements_that_are_not_there_panic', 'list_building.rs', 'if index >= count {', 'if index > count {'),
+    ('a default value is not stored', 'building', 'numbers_of_each_kind', 'building.rs', 'self.set(offset, number.masked(default))', 'self.set(offset, number.masked(number.masked(number)))'),
+    ('an element behind the list is read', 'reading', 'indexes_out_of_range', 'list.rs', 'if index < self.len() {', 'if index <= self.len() {'),
+    ('elements from behind are off by one', 'reading', 'iterators', 'list.rs', 'self.list.meter, self.end))', 'self.list.meter, self.end - 1))'),
+    ('lists of other lengths are equal', 'reading', 'equal_values', 'list.rs', 'self.len() == other.len() && ', ''),
+    ('null is taken for a value', 'reading', 'fields_that_are_not_there_are_zero_or_null', 'reading.rs', '!self.raw.is_pointer_field_null(index)', 'self.raw.is_pointer_field_null(index)'),
+    ('a text that is not UTF-8 is empty', 'reading', 'texts_have_to_be_utf8', 'reading.rs', 'str::from_utf8(bytes).map_err(|_| Reason::TextIsNotUtf8.into())', 'Ok(str::from_utf8(bytes).unwrap_or_default())'),
+)
 
 
 def copy(room):
@@ -70,6 +97,7 @@ def copy(room):
     shutil.copytree(TOP / 'tools/rust', room / 'tools/rust', ignore=shutil.ignore_patterns('__pycache__'))
     shutil.copytree(TOP / 'generated/rust', room / 'generated/rust', ignore=shutil.ignore_patterns('target'))
     shutil.copy(TOP / 'tools/libraries.py', room / 'tools')
+    shutil.copytree(TOP / LAYER, room / LAYER, ignore=shutil.ignore_patterns('target'))
     for name in 'crates', 'crates.txt', 'rustfmt.toml':
         (room / name).symlink_to(TOP / name)
 
@@ -143,7 +171,7 @@ def by_hand(room, counts):
         counts.told(f'\n    {test}\n' in found, 'by hand, printed again', what, f'the test {test}')
 
 
-def in_comments(counts):
+def in_comments(_, counts):
     """Plants each of these bugs in a folder that has only this source."""
     for what, path, old, new in IN_COMMENTS:
         with tempfile.TemporaryDirectory(prefix='planted-') as room:
@@ -154,10 +182,34 @@ def in_comments(counts):
         counts.told(found.endswith(' 1 failed\n'), 'in a comment', what, 'the check of preconditions')
 
 
-def main():
+def tests_of_layer(room, *words):
+    """What tests of the crate capnp_layout print."""
+    command = ['cargo', 'test', '--offline', '-j2', '--quiet', *words]
+    settings = {**os.environ, 'CARGO_TARGET_DIR': str(room / 'target')}
+    done = subprocess.run(command, cwd=room / LAYER, env=settings, stdin=subprocess.DEVNULL, stdout=subprocess.PIPE, stderr=subprocess.STDOUT, encoding='utf-8', errors='replace')
+    return done.returncode == 0, done.stdout
+
+
+def in_layer(room, counts):
+    """Plants each of these bugs, and runs its test, which passes without it."""
+    is_right, printed = tests_of_layer(room, *(it for name in ('building', 'limits', 'opening', 'reading') for it in ('--test', name)))
+    if not is_right:
+        sys.exit(f'{printed}planted.py: tests of {LAYER} fail without a bug')
+    for what, tests, test, path, *bug in IN_LAYER:
+        before = plant(room, f'{LAYER}/src/{path}', *bug)
+        found = tests_of_layer(room, '--test', tests, '--', '--exact', test)[1]
+        counts.told(f'\n    {test}\n' in found, 'in capnp_layout', what, f'the test {test}')
+        (room / LAYER / 'src' / path).write_text(before, encoding='utf-8')
+
+
+PARTS = {it.__name__: it for it in (in_comments, in_crate, in_printer, by_hand, in_layer)}
+
+
+def main(names):
+    if unknown := [it for it in names if it not in PARTS]:
+        sys.exit(f'planted.py: there is no part {" ".join(unknown)}\n\n{__doc__}')
     counts = Counts()
-    in_comments(counts)
-    for part in in_crate, in_printer, by_hand:
+    for part in (PARTS[it] for it in names or PARTS):
         with tempfile.TemporaryDirectory(prefix='planted-') as room:
             copy(pathlib.Path(room))
             part(pathlib.Path(room), counts)
@@ -165,4 +217,4 @@ def main():
     return 1 if counts.failed else 0
 
 
-sys.exit(main())
+sys.exit(main(sys.argv[1:]))

@@ -132,8 +132,8 @@ impl Builder {
         }
     }
 
-    /// The number of elements of a list, each of `words` words, as the core counts them. Refuses
-    /// more than a list can have.
+    /// How many elements, each of `words` words, a list is to have. Refuses more than a list can
+    /// have.
     #[inline(always)]
     pub(crate) fn count_of(&mut self, elements: usize, words: usize) -> Option<u32> {
         if elements < MOST && elements.saturating_mul(words) < MOST {
