@@ -75,7 +75,7 @@ IN_LAYER = (
     ('a check without the traversal limit', 'limits', 'the_least_limits', 'message.rs', 'ReadLimiter::new(Some(self.limits.words))', 'ReadLimiter::new(None)'),
     ('a level too many', 'limits', 'the_least_limits', 'message.rs', 'i32::from(self.depth)', 'i32::from(self.depth) + 1'),
     ('lazy readers charge nothing', 'limits', 'lazy_readers_charge_the_message', 'meter.rs', 'self.0.set(lim.left().unwrap_or(0));', 'let _ = lim;'),
-    ('the path names another element', 'limits', 'broken_pointers_have_a_path', 'searching.rs', 'Step::Element(index));', 'Step::Element(index + 1));'),
+    ('the path names another element', 'limits', 'many_pointers_to_one_list_cost_each_time', 'searching.rs', 'Step::Element(index));', 'Step::Element(index + 1));'),
     ('words that are not in use are handed out', 'building', 'the_same_message_as_capnp_encode_makes', 'growing.rs', 'self.kept.truncate(8 * used_words as usize);', 'let _ = used_words;'),
     ('memory grows too late', 'building', 'memory_grows', 'growing.rs', 'if bytes > self.bytes.len() {', 'if bytes > self.bytes.len() + 8 {'),
     ('one element too many', 'building', 'too_many_elements_are_refused', 'builder.rs', 'if elements < MOST &&', 'if elements <= MOST &&'),
