@@ -8,6 +8,10 @@ const SIZE: StructSize = StructSize {
     data_words: 2,
     pointers: 11,
 };
+const NONE: StructSize = StructSize {
+    data_words: 0,
+    pointers: 0,
+};
 const MOST: usize = (1 << 29) - 1;
 
 fn build_all(message: &mut Builder) {
@@ -473,6 +477,12 @@ fn too_many_elements_are_refused() {
             it.init_structs(0, usize::MAX, size);
         }),
         refused(usize::MAX)
+    );
+    assert_eq!(
+        with_root(|it| {
+            it.init_structs(0, MOST + 1, NONE);
+        }),
+        refused(MOST + 1)
     );
     assert_eq!(
         with_root(|it| it.init_list::<Lists<u8>>(0, 1).init(0, MOST + 1).set(9, 1)),
