@@ -260,6 +260,10 @@ fn equal_values() {
     let inner = one.sound().unwrap().get_struct(6).unwrap();
     assert_ne!(one.sound().unwrap(), inner);
     assert_eq!(inner, inner);
+    let texts = one.sound().unwrap().get_list::<str>(2).unwrap();
+    let none = inner.get_list::<str>(2).unwrap();
+    assert_eq!((texts.len(), none.len()), (3, 0));
+    assert_ne!(texts, none);
     // a capability has no canonical words
     let mut bytes = WHOLE.to_vec();
     bytes[8 + 8 * (1 + 2 + 8)] = 3;
