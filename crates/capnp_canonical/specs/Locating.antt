@@ -7,7 +7,7 @@ use Rattle.capnp_messages.specs.declared.messages.command.Command.TheVariants.{C
 use Rattle.capnp_messages.specs.declared.messages.command.Form.TheVariants.{Flat}
 use Rattle.capnp_refusals.specs.RefusedPointers.{refused_pointer}
 use Rattle.capnp_refusals.specs.declared.refusals.search.RefusedPointer.{RefusedPointer}
-use Rattle.capnp_canonical.specs.Numbers.{error_number}
+use Rattle.capnp_numbers.specs.Numbers.{error_number}
 use Rattle.capnp_canonical.specs.declared.locating.BrokenPointer.{BrokenPointer}
 
 -- The command that reads a message like the reading with this number.

@@ -5,7 +5,7 @@ use Rattle.capnp_refusals.specs.Search.{Finding}
 use Rattle.capnp_walks.specs.Walks.{Walking, written_over}
 use Rattle.capnp_walks.specs.declared.walks.listing.WalkedObject.{WalkedObject}
 use Rattle.capnp_canonical.specs.Calls.{IsNumberWhere}
-use Rattle.capnp_canonical.specs.Numbers.{error_number}
+use Rattle.capnp_numbers.specs.Numbers.{error_number}
 use Rattle.capnp_canonical.specs.declared.refusal.Refusal.{Refusal}
 
 -- The answer for a walk that has stopped there, or at the end of the message, with this number of

@@ -1,8 +1,9 @@
 //! The refusals of calls, with their numbers and names.
 ghost use Rattle.std.specs.Prelude.{◌≡◌, ◌<◌};
-ghost use Rattle.capnp_canonical.specs.Numbers.{frame_error_number, error_number, answer_name, answer_number, wanted_room};
+ghost use Rattle.capnp_canonical.specs.Numbers.{answer_name, answer_number, wanted_room};
 
 use capnp_framing::framing::FrameError;
+use capnp_numbers::{NO_MESSAGE, NO_ROOM, frame_number, layout_number};
 use capnp_words::error::ErrorKind;
 
 /// Why a call is refused.
@@ -27,8 +28,8 @@ impl Refusal {
         ensures some { 0 < result }
     {
         match self {
-            Refusal::NoRoom(_) => 1,
-            Refusal::NoMessage => 2,
+            Refusal::NoRoom(_) => NO_ROOM,
+            Refusal::NoMessage => NO_MESSAGE,
             Refusal::SegmentIsNotWholeWords => 3,
             Refusal::Frame(error) => frame_number(error),
             Refusal::Layout(kind) => layout_number(kind),
@@ -66,65 +67,5 @@ impl From<ErrorKind> for Refusal {
 
     fn from(kind: ErrorKind) -> Self {
         Refusal::Layout(kind)
-    }
-}
-
-/// The number of a refusal to read or write a frame.
-fn frame_number(error: FrameError) -> u32
-    ensures number { result ≡ frame_error_number error }
-    ensures some { 0 < result }
-{
-    match error {
-        FrameError::NoSegments => 16,
-        FrameError::TooManySegments(_) => 17,
-        FrameError::MessageTooLong(_) => 18,
-        FrameError::Truncated => 19,
-        FrameError::ReadFailed => 20,
-        FrameError::WriteFailed => 21,
-        FrameError::AllocationFailed => 22,
-    }
-}
-
-/// The number of a refusal to read or copy a message.
-fn layout_number(kind: ErrorKind) -> u32
-    ensures number { result ≡ error_number kind }
-    ensures some { 0 < result }
-{
-    match kind {
-        ErrorKind::AllocationFailed => 32,
-        ErrorKind::CannotCreateACanonicalMessageWithACapability => 33,
-        ErrorKind::CantHandleNonStructInlineComposite => 34,
-        ErrorKind::ExistingListPointerIsNotByteSized => 35,
-        ErrorKind::ExistingListValueIsIncompatibleWithExpectedType => 36,
-        ErrorKind::ExistingPointerIsNotAList => 37,
-        ErrorKind::ExpectedAPointerListButGotAListOfDataOnlyStructs => 38,
-        ErrorKind::ExpectedAPrimitiveListButGotAListOfPointerOnlyStructs => 39,
-        ErrorKind::FoundBitListWhereStructListWasExpected => 40,
-        ErrorKind::FoundStructListWhereBitListWasExpected => 41,
-        ErrorKind::InlineCompositeListsElementsOverrunItsWordCount => 42,
-        ErrorKind::InlineCompositeListsOfNonStructTypeAreNotSupported => 43,
-        ErrorKind::InvalidSegmentId(_) => 44,
-        ErrorKind::MalformedDoubleFarPointer => 45,
-        ErrorKind::MessageContainsListPointerOfNonBytesWhereDataWasExpected => 46,
-        ErrorKind::MessageContainsListPointerOfNonBytesWhereTextWasExpected => 47,
-        ErrorKind::MessageContainsListWithIncompatibleElementType => 48,
-        ErrorKind::MessageContainsNonCapabilityPointerWhereCapabilityPointerWasExpected => 49,
-        ErrorKind::MessageContainsNonListPointerWhereDataWasExpected => 50,
-        ErrorKind::MessageContainsNonListPointerWhereListPointerWasExpected => 51,
-        ErrorKind::MessageContainsNonListPointerWhereTextWasExpected => 52,
-        ErrorKind::MessageContainsNonStructPointerWhereStructPointerWasExpected => 53,
-        ErrorKind::MessageContainsNullCapabilityPointer => 54,
-        ErrorKind::MessageContainsOutOfBoundsPointer => 55,
-        ErrorKind::MessageContainsTextThatIsNotNULTerminated => 56,
-        ErrorKind::MessageIsTooDeeplyNested => 57,
-        ErrorKind::MessageIsTooDeeplyNestedOrContainsCycles => 58,
-        ErrorKind::MessageTooLarge(_) => 59,
-        ErrorKind::NestingLimitExceeded => 60,
-        ErrorKind::NoSuchPlace => 61,
-        ErrorKind::ReadLimitExceeded => 62,
-        ErrorKind::TextBlobMissingNULTerminator => 63,
-        ErrorKind::TriedToReadFromNullArena => 64,
-        ErrorKind::UnexpectedFarPointer => 65,
-        ErrorKind::UnknownPointerType => 66,
     }
 }

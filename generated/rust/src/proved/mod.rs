@@ -31,6 +31,7 @@ pub mod capnp_framing;
 pub mod capnp_layout;
 pub mod capnp_making;
 pub mod capnp_messages;
+pub mod capnp_numbers;
 pub mod capnp_objects;
 pub mod capnp_packing;
 pub mod capnp_readers;

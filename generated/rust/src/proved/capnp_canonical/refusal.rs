@@ -1,6 +1,7 @@
 //! The refusals of calls, with their numbers and names.
 
 use crate::proved::capnp_framing::framing::FrameError;
+use crate::proved::capnp_numbers::{frame_number, layout_number, NO_MESSAGE, NO_ROOM};
 use crate::proved::capnp_words::error::ErrorKind;
 
 /// Why a call is refused.
@@ -22,8 +23,8 @@ impl Refusal {
     /// The number of the refusal, never 0.
     pub fn number(self) -> u32 {
         match self {
-            Refusal::NoRoom(_) => 1,
-            Refusal::NoMessage => 2,
+            Refusal::NoRoom(_) => NO_ROOM,
+            Refusal::NoMessage => NO_MESSAGE,
             Refusal::SegmentIsNotWholeWords => 3,
             Refusal::Frame(error) => frame_number(error),
             Refusal::Layout(kind) => layout_number(kind),
@@ -53,59 +54,5 @@ impl Refusal {
 impl From<ErrorKind> for Refusal {
     fn from(kind: ErrorKind) -> Self {
         Refusal::Layout(kind)
-    }
-}
-
-/// The number of a refusal to read or write a frame.
-fn frame_number(error: FrameError) -> u32 {
-    match error {
-        FrameError::NoSegments => 16,
-        FrameError::TooManySegments(_) => 17,
-        FrameError::MessageTooLong(_) => 18,
-        FrameError::Truncated => 19,
-        FrameError::ReadFailed => 20,
-        FrameError::WriteFailed => 21,
-        FrameError::AllocationFailed => 22,
-    }
-}
-
-/// The number of a refusal to read or copy a message.
-fn layout_number(kind: ErrorKind) -> u32 {
-    match kind {
-        ErrorKind::AllocationFailed => 32,
-        ErrorKind::CannotCreateACanonicalMessageWithACapability => 33,
-        ErrorKind::CantHandleNonStructInlineComposite => 34,
-        ErrorKind::ExistingListPointerIsNotByteSized => 35,
-        ErrorKind::ExistingListValueIsIncompatibleWithExpectedType => 36,
-        ErrorKind::ExistingPointerIsNotAList => 37,
-        ErrorKind::ExpectedAPointerListButGotAListOfDataOnlyStructs => 38,
-        ErrorKind::ExpectedAPrimitiveListButGotAListOfPointerOnlyStructs => 39,
-        ErrorKind::FoundBitListWhereStructListWasExpected => 40,
-        ErrorKind::FoundStructListWhereBitListWasExpected => 41,
-        ErrorKind::InlineCompositeListsElementsOverrunItsWordCount => 42,
-        ErrorKind::InlineCompositeListsOfNonStructTypeAreNotSupported => 43,
-        ErrorKind::InvalidSegmentId(_) => 44,
-        ErrorKind::MalformedDoubleFarPointer => 45,
-        ErrorKind::MessageContainsListPointerOfNonBytesWhereDataWasExpected => 46,
-        ErrorKind::MessageContainsListPointerOfNonBytesWhereTextWasExpected => 47,
-        ErrorKind::MessageContainsListWithIncompatibleElementType => 48,
-        ErrorKind::MessageContainsNonCapabilityPointerWhereCapabilityPointerWasExpected => 49,
-        ErrorKind::MessageContainsNonListPointerWhereDataWasExpected => 50,
-        ErrorKind::MessageContainsNonListPointerWhereListPointerWasExpected => 51,
-        ErrorKind::MessageContainsNonListPointerWhereTextWasExpected => 52,
-        ErrorKind::MessageContainsNonStructPointerWhereStructPointerWasExpected => 53,
-        ErrorKind::MessageContainsNullCapabilityPointer => 54,
-        ErrorKind::MessageContainsOutOfBoundsPointer => 55,
-        ErrorKind::MessageContainsTextThatIsNotNULTerminated => 56,
-        ErrorKind::MessageIsTooDeeplyNested => 57,
-        ErrorKind::MessageIsTooDeeplyNestedOrContainsCycles => 58,
-        ErrorKind::MessageTooLarge(_) => 59,
-        ErrorKind::NestingLimitExceeded => 60,
-        ErrorKind::NoSuchPlace => 61,
-        ErrorKind::ReadLimitExceeded => 62,
-        ErrorKind::TextBlobMissingNULTerminator => 63,
-        ErrorKind::TriedToReadFromNullArena => 64,
-        ErrorKind::UnexpectedFarPointer => 65,
-        ErrorKind::UnknownPointerType => 66,
     }
 }
