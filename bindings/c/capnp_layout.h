@@ -1,0 +1,514 @@
+/* Readers of Cap'n Proto messages for C and C++: the values of a message, read in place, without copies, without malloc
+ * and without global state.
+ *
+ * The functions capnp_layout_* are in the library, and proved. The others are small functions of this header: they keep
+ * the first refusal, go from an object to its pointers, and load fields and elements.
+ *
+ * A message is an array of segments, which you own and keep while you read. Every value, text and reader points into it,
+ * and nothing is freed. Readers are values: copy them as you like.
+ *
+ * Refusals. A message is checked while it is read. A function that reads a pointer never fails: if the pointer can't be
+ * read, it returns an empty struct, list, text or data, and the message keeps the number and the place of the first
+ * refusal. So read everything, and then test `refusal` once. A field that its struct doesn't have, a null pointer and an
+ * element after the end of a list have the default value. That isn't a refusal.
+ *
+ * Limits. Reading an object takes its words from `left`, each time that it is read, so a short message can't make a caller
+ * read for long. `nesting` limits how deep structs and lists are nested.
+ *
+ * What you have to keep. `bytes` and `size` of each segment are true, nothing changes the bytes while you read, and what a
+ * function writes to overlaps nothing else that you pass to it. Use only structs and lists that these functions returned,
+ * with the message that they were read from. A pointer to bytes or segments may be null if their number is 0. */
+#ifndef CAPNP_LAYOUT_H
+#define CAPNP_LAYOUT_H
+
+#include <stdbool.h>
+#include <stddef.h>
+#include <stdint.h>
+#include <string.h>
+
+#if defined(__BYTE_ORDER__) && defined(__ORDER_LITTLE_ENDIAN__)
+#if __BYTE_ORDER__ != __ORDER_LITTLE_ENDIAN__
+#error "capnp_layout needs a little-endian machine"
+#endif
+#endif
+
+/* Functions defined in this header, not in the library. */
+#define CAPNP_INLINE static inline
+
+#ifdef __cplusplus
+extern "C" {
+#endif
+
+/* The default limits of a message, those of C++ and Rust. */
+#define CAPNP_NESTING 64
+#define CAPNP_WORDS UINT64_C(8388608)
+
+/* In the structs that the library reads or writes, a pointer takes 8 bytes on every machine. On one of 32 bits the last 4
+ * are unused; this is CAPNP_CANONICAL_SLOTS_OF_8 of the generated C. */
+#if UINTPTR_MAX == UINT64_MAX
+#define CAPNP_LAYOUT_UPPER
+#else
+#define CAPNP_LAYOUT_UPPER unsigned int : 32;
+#endif
+#define CAPNP_LAYOUT_SIZE(TYPE, BYTES) typedef char TYPE##_has_##BYTES##_bytes[sizeof(struct TYPE) == (BYTES) ? 1 : -1]
+
+/* What a call returns: the numbers of enum capnp_canonical_answer in capnp_canonical.h, which never change their meaning. */
+enum capnp_refusal {
+    CAPNP_DONE = 0,
+    /* The frame has more segments than there is room for. The call stores their number. */
+    CAPNP_NO_ROOM = 1,
+    /* There are no bytes where a frame was expected. */
+    CAPNP_NO_MESSAGE = 2,
+    /* The frame has more than 512 segments. */
+    CAPNP_TOO_MANY_SEGMENTS = 17,
+    /* The frame has more words than the limit. */
+    CAPNP_MESSAGE_TOO_LONG = 18,
+    /* The bytes end inside the frame. */
+    CAPNP_TRUNCATED = 19,
+    /* A list of pointers was expected, and the elements are structs without pointers. */
+    CAPNP_EXPECTED_A_POINTER_LIST_BUT_GOT_A_LIST_OF_DATA_ONLY_STRUCTS = 38,
+    /* A list of numbers was expected, and the elements are structs without data. */
+    CAPNP_EXPECTED_A_PRIMITIVE_LIST_BUT_GOT_A_LIST_OF_POINTER_ONLY_STRUCTS = 39,
+    /* A list of bits where another list was expected. */
+    CAPNP_FOUND_BIT_LIST_WHERE_STRUCT_LIST_WAS_EXPECTED = 40,
+    /* A list of structs where a list of bits was expected. */
+    CAPNP_FOUND_STRUCT_LIST_WHERE_BIT_LIST_WAS_EXPECTED = 41,
+    /* The elements of a list of structs take more words than its pointer claims. */
+    CAPNP_INLINE_COMPOSITE_LISTS_ELEMENTS_OVERRUN_ITS_WORD_COUNT = 42,
+    /* The tag of a list of structs isn't a struct pointer. */
+    CAPNP_INLINE_COMPOSITE_LISTS_OF_NON_STRUCT_TYPE_ARE_NOT_SUPPORTED = 43,
+    /* A far pointer names a segment that doesn't exist, or there are no segments. */
+    CAPNP_INVALID_SEGMENT_ID = 44,
+    /* A one-word landing pad, or the tag of a two-word landing pad, is itself a far pointer. */
+    CAPNP_MALFORMED_DOUBLE_FAR_POINTER = 45,
+    /* Data was expected, and the list's elements aren't bytes. */
+    CAPNP_MESSAGE_CONTAINS_LIST_POINTER_OF_NON_BYTES_WHERE_DATA_WAS_EXPECTED = 46,
+    /* A text was expected, and the list's elements aren't bytes. */
+    CAPNP_MESSAGE_CONTAINS_LIST_POINTER_OF_NON_BYTES_WHERE_TEXT_WAS_EXPECTED = 47,
+    /* The elements of a list are narrower than expected. */
+    CAPNP_MESSAGE_CONTAINS_LIST_WITH_INCOMPATIBLE_ELEMENT_TYPE = 48,
+    /* A capability was expected, and the pointer is another one. */
+    CAPNP_MESSAGE_CONTAINS_NON_CAPABILITY_POINTER_WHERE_CAPABILITY_POINTER_WAS_EXPECTED = 49,
+    /* Data was expected, and the pointer doesn't lead to a list. */
+    CAPNP_MESSAGE_CONTAINS_NON_LIST_POINTER_WHERE_DATA_WAS_EXPECTED = 50,
+    /* A list was expected, and the pointer doesn't lead to one. */
+    CAPNP_MESSAGE_CONTAINS_NON_LIST_POINTER_WHERE_LIST_POINTER_WAS_EXPECTED = 51,
+    /* A text was expected, and the pointer doesn't lead to a list. */
+    CAPNP_MESSAGE_CONTAINS_NON_LIST_POINTER_WHERE_TEXT_WAS_EXPECTED = 52,
+    /* A struct was expected, and the pointer doesn't lead to one. */
+    CAPNP_MESSAGE_CONTAINS_NON_STRUCT_POINTER_WHERE_STRUCT_POINTER_WAS_EXPECTED = 53,
+    /* A capability was expected, and the pointer is null. */
+    CAPNP_MESSAGE_CONTAINS_NULL_CAPABILITY_POINTER = 54,
+    /* A pointer points outside its segment. */
+    CAPNP_MESSAGE_CONTAINS_OUT_OF_BOUNDS_POINTER = 55,
+    /* A text doesn't end with a zero byte. */
+    CAPNP_MESSAGE_CONTAINS_TEXT_THAT_IS_NOT_NUL_TERMINATED = 56,
+    /* The nesting limit is exceeded, perhaps by a cycle of pointers, at a struct. */
+    CAPNP_MESSAGE_IS_TOO_DEEPLY_NESTED_OR_CONTAINS_CYCLES = 58,
+    /* There are 2^32 segments or more, or a segment has 2^32 words or more. From capnp_open. */
+    CAPNP_MESSAGE_TOO_LARGE = 59,
+    /* The nesting limit is exceeded, at a list. */
+    CAPNP_NESTING_LIMIT_EXCEEDED = 60,
+    /* The traversal limit is exceeded. */
+    CAPNP_READ_LIMIT_EXCEEDED = 62,
+    /* A landing pad is a far pointer. From capnp_layout_type. */
+    CAPNP_UNEXPECTED_FAR_POINTER = 65,
+    /* A pointer is of an unknown kind. */
+    CAPNP_UNKNOWN_POINTER_TYPE = 66
+};
+
+/* A segment. Its bytes may be at any address; those after its last whole word are ignored. */
+struct capnp_segment {
+    const uint8_t *bytes;
+    CAPNP_LAYOUT_UPPER
+    uint64_t size;
+};
+
+/* Segments that capnp_layout_open has taken. Pass only those to the other calls. */
+struct capnp_segments {
+    const struct capnp_segment *list;
+    CAPNP_LAYOUT_UPPER
+    uint64_t count;
+};
+
+/* The library's part. A pointer is named by its segment and word. A pointer that isn't in the message is null. */
+
+/* A struct that was found. */
+struct capnp_found_struct {
+    /* The data section. */
+    const uint8_t *data;
+    CAPNP_LAYOUT_UPPER
+    uint64_t size;
+    /* The pointers: consecutive words of a segment, from word `pointers_at` on. */
+    uint64_t segment;
+    uint32_t pointers_at;
+    int32_t nesting;
+    uint16_t pointers;
+    unsigned int : 16;
+    unsigned int : 32;
+};
+
+/* A list that was found. Each element is `data_bits` bits of data, and then `pointers` pointers. */
+struct capnp_found_list {
+    /* The words of the elements, without the tag of a list of structs. */
+    const uint8_t *data;
+    CAPNP_LAYOUT_UPPER
+    uint64_t size;
+    /* Where these words are: from word `at` of a segment on. */
+    uint64_t segment;
+    uint32_t at;
+    uint32_t count;
+    uint32_t data_bits;
+    int32_t nesting;
+    uint16_t pointers;
+    unsigned int : 16;
+    unsigned int : 32;
+};
+
+/* The bytes of a text, without the zero byte at its end, or of data. */
+struct capnp_found_bytes {
+    const uint8_t *bytes;
+    CAPNP_LAYOUT_UPPER
+    uint64_t size;
+};
+
+CAPNP_LAYOUT_SIZE(capnp_segment, 16);
+CAPNP_LAYOUT_SIZE(capnp_segments, 16);
+CAPNP_LAYOUT_SIZE(capnp_found_struct, 40);
+CAPNP_LAYOUT_SIZE(capnp_found_list, 48);
+CAPNP_LAYOUT_SIZE(capnp_found_bytes, 16);
+
+/* The element size that a list is expected to have: its elements have at least that data, and a pointer if it is
+ * CAPNP_POINTER. CAPNP_VOID and CAPNP_STRUCT take elements of any size but bits. */
+enum capnp_size {
+    CAPNP_VOID = 0,
+    CAPNP_BIT = 1,
+    CAPNP_BYTE = 2,
+    CAPNP_TWO_BYTES = 3,
+    CAPNP_FOUR_BYTES = 4,
+    CAPNP_EIGHT_BYTES = 5,
+    CAPNP_POINTER = 6,
+    CAPNP_STRUCT = 7
+};
+
+/* What a pointer leads to. */
+enum capnp_type {
+    CAPNP_TYPE_NULL = 0,
+    CAPNP_TYPE_STRUCT = 1,
+    CAPNP_TYPE_LIST = 2,
+    CAPNP_TYPE_CAPABILITY = 3
+};
+
+/* Takes the segments of a message. Returns false if there are 2^32 segments or more, or if one has 2^32 words or more. */
+bool capnp_layout_open(const struct capnp_segment *list, size_t count, struct capnp_segments *to);
+
+/* Finds the segments of the frame at the front of `size` bytes ("Serialization Over a Stream"), and writes them to the
+ * front of `room`, which has room for `rooms` of them. Stores the number of segments in `count`, and the size of the frame
+ * in bytes in `bytes`. Bytes after the frame are ignored. The frame may have at most `words` words and 512 segments.
+ * After CAPNP_NO_ROOM `count` and `bytes` are those of the frame; after any other refusal both are 0. `room` stays as it
+ * is after a refusal. */
+uint32_t capnp_layout_open_frame(const uint8_t *frame, size_t size, uint64_t words, struct capnp_segment *room, size_t rooms,
+                                 uint32_t *count, uint64_t *bytes);
+
+/* The calls that read: 0, or the number of a refusal. They charge `left`. `to` is always written: for a
+ * null pointer, and if the call is refused, it is an empty struct, an empty list, or no bytes. */
+uint32_t capnp_layout_root(const struct capnp_segments *segments, uint64_t *left, int32_t nesting, struct capnp_found_struct *to);
+uint32_t capnp_layout_struct(const struct capnp_segments *segments, uint64_t *left, uint64_t segment, uint32_t word,
+                             int32_t nesting, struct capnp_found_struct *to);
+uint32_t capnp_layout_list(const struct capnp_segments *segments, uint64_t *left, uint64_t segment, uint32_t word,
+                           int32_t nesting, uint32_t expected, struct capnp_found_list *to);
+uint32_t capnp_layout_text(const struct capnp_segments *segments, uint64_t *left, uint64_t segment, uint32_t word,
+                           int32_t nesting, struct capnp_found_bytes *to);
+uint32_t capnp_layout_data(const struct capnp_segments *segments, uint64_t *left, uint64_t segment, uint32_t word,
+                           int32_t nesting, struct capnp_found_bytes *to);
+
+/* Stores the index of a capability in the message's capability table. Charges nothing. */
+uint32_t capnp_layout_capability(const struct capnp_segments *segments, uint64_t segment, uint32_t word, uint32_t *index);
+
+/* Stores what a pointer leads to, a number of enum capnp_type. Charges its landing pads, and doesn't look at the object. */
+uint32_t capnp_layout_type(const struct capnp_segments *segments, uint64_t *left, uint64_t segment, uint32_t word, uint32_t *kind);
+
+/* Messages. */
+
+/* A message that is read. Doesn't move while readers of it are used. */
+struct capnp_message {
+    struct capnp_segments segments;
+    /* The words that may still be read. */
+    uint64_t left;
+    /* The levels of structs and lists, from the root on. */
+    int32_t nesting;
+    /* The first refusal, a number of enum capnp_refusal, and the place of its pointer; 0 if there is none. */
+    uint32_t refusal;
+    uint32_t refused_word;
+    uint64_t refused_segment;
+};
+
+/* Takes the segments of a message, with the default limits; change `left` and `nesting` afterwards if you want others.
+ * Returns 0 or CAPNP_MESSAGE_TOO_LARGE. The message is then empty, and keeps the refusal. */
+CAPNP_INLINE uint32_t capnp_open(struct capnp_message *message, const struct capnp_segment *list, size_t count) {
+    memset(message, 0, sizeof *message);
+    message->left = CAPNP_WORDS;
+    message->nesting = CAPNP_NESTING;
+    if (!capnp_layout_open(list, count, &message->segments)) message->refusal = CAPNP_MESSAGE_TOO_LARGE;
+    return message->refusal;
+}
+
+/* Takes the message whose frame is at the front of `size` bytes, with the default limits. Writes its segments to `room`,
+ * which has room for `rooms`, and which you keep while you read. Stores the size of the frame in `used`, unless it is
+ * null. Returns 0 or a refusal of capnp_layout_open_frame. The message is then empty, and keeps the refusal. */
+CAPNP_INLINE uint32_t capnp_open_frame(struct capnp_message *message, const uint8_t *frame, size_t size, struct capnp_segment *room,
+                                       size_t rooms, size_t *used) {
+    uint32_t count = 0;
+    uint64_t bytes = 0;
+    uint32_t refusal = capnp_layout_open_frame(frame, size, CAPNP_WORDS, room, rooms, &count, &bytes);
+    if (used) *used = (size_t)bytes;
+    capnp_open(message, room, refusal == 0 ? count : 0);
+    if (refusal != 0) message->refusal = refusal;
+    return message->refusal;
+}
+
+/* Keeps the refusal of the pointer at this place, if it is the first. */
+CAPNP_INLINE void capnp_refuse(struct capnp_message *message, uint32_t refusal, uint64_t segment, uint32_t word) {
+    if (message->refusal == 0) {
+        message->refusal = refusal;
+        message->refused_segment = segment;
+        message->refused_word = word;
+    }
+}
+
+/* Structs. */
+
+struct capnp_struct {
+    struct capnp_message *message;
+    struct capnp_found_struct at;
+};
+
+struct capnp_list {
+    struct capnp_message *message;
+    struct capnp_found_list at;
+};
+
+/* A text. text[size] is 0. It may have other zero bytes, and needn't be UTF-8. Never null. */
+struct capnp_text {
+    const char *text;
+    size_t size;
+};
+
+struct capnp_data {
+    const uint8_t *bytes;
+    size_t size;
+};
+
+/* The root of the message. Charges one word for its pointer. */
+CAPNP_INLINE struct capnp_struct capnp_root(struct capnp_message *message) {
+    struct capnp_struct to;
+    uint32_t refusal;
+    to.message = message;
+    refusal = capnp_layout_root(&message->segments, &message->left, message->nesting, &to.at);
+    if (refusal != 0) capnp_refuse(message, refusal, 0, 0);
+    return to;
+}
+
+/* The pointer field with this index. `index` counts the pointers of the struct. */
+CAPNP_INLINE struct capnp_struct capnp_get_struct(const struct capnp_struct *from, uint16_t index) {
+    struct capnp_struct to;
+    to.message = from->message;
+    if (index < from->at.pointers) {
+        uint32_t word = from->at.pointers_at + index;
+        uint32_t refusal = capnp_layout_struct(&from->message->segments, &from->message->left, from->at.segment, word,
+                                               from->at.nesting, &to.at);
+        if (refusal != 0) capnp_refuse(from->message, refusal, from->at.segment, word);
+    } else {
+        memset(&to.at, 0, sizeof to.at);
+    }
+    return to;
+}
+
+CAPNP_INLINE struct capnp_list capnp_get_list(const struct capnp_struct *from, uint16_t index, enum capnp_size size) {
+    struct capnp_list to;
+    to.message = from->message;
+    if (index < from->at.pointers) {
+        uint32_t word = from->at.pointers_at + index;
+        uint32_t refusal = capnp_layout_list(&from->message->segments, &from->message->left, from->at.segment, word,
+                                             from->at.nesting, (uint32_t)size, &to.at);
+        if (refusal != 0) capnp_refuse(from->message, refusal, from->at.segment, word);
+    } else {
+        memset(&to.at, 0, sizeof to.at);
+    }
+    return to;
+}
+
+CAPNP_INLINE struct capnp_text capnp_get_text(const struct capnp_struct *from, uint16_t index) {
+    struct capnp_text to = {"", 0};
+    if (index < from->at.pointers) {
+        struct capnp_found_bytes found;
+        uint32_t word = from->at.pointers_at + index;
+        uint32_t refusal = capnp_layout_text(&from->message->segments, &from->message->left, from->at.segment, word,
+                                             from->at.nesting, &found);
+        if (refusal != 0) capnp_refuse(from->message, refusal, from->at.segment, word);
+        if (found.size != 0) {
+            to.text = (const char *)found.bytes;
+            to.size = (size_t)found.size;
+        }
+    }
+    return to;
+}
+
+CAPNP_INLINE struct capnp_data capnp_get_data(const struct capnp_struct *from, uint16_t index) {
+    struct capnp_data to = {NULL, 0};
+    if (index < from->at.pointers) {
+        struct capnp_found_bytes found;
+        uint32_t word = from->at.pointers_at + index;
+        uint32_t refusal = capnp_layout_data(&from->message->segments, &from->message->left, from->at.segment, word,
+                                             from->at.nesting, &found);
+        if (refusal != 0) capnp_refuse(from->message, refusal, from->at.segment, word);
+        if (found.size != 0) {
+            to.bytes = found.bytes;
+            to.size = (size_t)found.size;
+        }
+    }
+    return to;
+}
+
+/* Whether the struct has this pointer, and it isn't null. */
+CAPNP_INLINE bool capnp_has(const struct capnp_struct *from, uint16_t index) {
+    uint64_t word;
+    if (index >= from->at.pointers) return false;
+    memcpy(&word, from->message->segments.list[(size_t)from->at.segment].bytes + 8 * (size_t)(from->at.pointers_at + index), 8);
+    return word != 0;
+}
+
+/* Whether the pointer is a capability; stores its index in the capability table, or 0. Null isn't refused. */
+CAPNP_INLINE bool capnp_get_capability(const struct capnp_struct *from, uint16_t index, uint32_t *capability) {
+    *capability = 0;
+    if (capnp_has(from, index)) {
+        uint32_t word = from->at.pointers_at + index;
+        uint32_t refusal = capnp_layout_capability(&from->message->segments, from->at.segment, word, capability);
+        if (refusal == 0) return true;
+        capnp_refuse(from->message, refusal, from->at.segment, word);
+    }
+    return false;
+}
+
+/* What the pointer leads to, for a field of type AnyPointer; then read it as that. CAPNP_TYPE_NULL if it is refused. */
+CAPNP_INLINE enum capnp_type capnp_get_type(const struct capnp_struct *from, uint16_t index) {
+    uint32_t kind = CAPNP_TYPE_NULL;
+    if (index < from->at.pointers) {
+        uint32_t word = from->at.pointers_at + index;
+        uint32_t refusal = capnp_layout_type(&from->message->segments, &from->message->left, from->at.segment, word, &kind);
+        if (refusal != 0) capnp_refuse(from->message, refusal, from->at.segment, word);
+    }
+    return (enum capnp_type)kind;
+}
+
+/* Fields of the data section. `offset` is in bytes from its start, for a bool in bits. `missing` is the schema's default, of
+ * a float as its bits; a message holds a field's value xor its default. */
+#define CAPNP_FIELD(NAME, TYPE)                                                                                      \
+    CAPNP_INLINE TYPE capnp_get_##NAME(const struct capnp_struct *from, uint32_t offset, TYPE missing) {             \
+        TYPE value;                                                                                                  \
+        if ((uint64_t)offset + sizeof value > from->at.size) return missing;                                         \
+        memcpy(&value, from->at.data + offset, sizeof value);                                                        \
+        return (TYPE)(value ^ missing);                                                                              \
+    }
+CAPNP_FIELD(u8, uint8_t)
+CAPNP_FIELD(u16, uint16_t)
+CAPNP_FIELD(u32, uint32_t)
+CAPNP_FIELD(u64, uint64_t)
+CAPNP_FIELD(i8, int8_t)
+CAPNP_FIELD(i16, int16_t)
+CAPNP_FIELD(i32, int32_t)
+CAPNP_FIELD(i64, int64_t)
+#undef CAPNP_FIELD
+
+CAPNP_INLINE bool capnp_get_bool(const struct capnp_struct *from, uint32_t offset, bool missing) {
+    if (offset / 8 >= from->at.size) return missing;
+    return ((from->at.data[offset / 8] >> (offset % 8)) & 1) != missing;
+}
+
+CAPNP_INLINE float capnp_get_f32(const struct capnp_struct *from, uint32_t offset, uint32_t missing) {
+    uint32_t bits = capnp_get_u32(from, offset, missing);
+    float value;
+    memcpy(&value, &bits, sizeof value);
+    return value;
+}
+
+CAPNP_INLINE double capnp_get_f64(const struct capnp_struct *from, uint32_t offset, uint64_t missing) {
+    uint64_t bits = capnp_get_u64(from, offset, missing);
+    double value;
+    memcpy(&value, &bits, sizeof value);
+    return value;
+}
+
+/* Lists. */
+
+CAPNP_INLINE uint32_t capnp_count(const struct capnp_list *from) { return from->at.count; }
+
+/* Element `index` as a struct: a struct is itself, a number a struct of its bytes, a pointer a struct of one pointer. So
+ * its pointers are read by capnp_get_struct, _list, _text and _data, with index 0 in a list of pointers. An element after
+ * the end of the list is a struct without data and pointers. */
+CAPNP_INLINE struct capnp_struct capnp_get_element(const struct capnp_list *from, uint32_t index) {
+    struct capnp_struct to;
+    to.message = from->message;
+    memset(&to.at, 0, sizeof to.at);
+    if (index < from->at.count) {
+        uint32_t bytes = from->at.data_bits / 8;
+        uint64_t start = (uint64_t)index * (bytes + 8u * from->at.pointers);
+        to.at.data = from->at.data + (size_t)start;
+        to.at.size = bytes;
+        to.at.segment = from->at.segment;
+        to.at.pointers_at = from->at.at + (uint32_t)((start + bytes) / 8);
+        to.at.nesting = from->at.nesting;
+        to.at.pointers = from->at.pointers;
+    }
+    return to;
+}
+
+/* Element `index` of a list of numbers, or the first field of a struct in a list of structs. 0 if the list has no such
+ * element, or its elements have too little data: for data of that size, read the list with the size of its elements. */
+#define CAPNP_ELEMENT(NAME, TYPE)                                                                                    \
+    CAPNP_INLINE TYPE capnp_element_##NAME(const struct capnp_list *from, uint32_t index) {                          \
+        TYPE value;                                                                                                  \
+        if (index >= from->at.count || from->at.data_bits < 8 * sizeof value) return 0;                              \
+        memcpy(&value,                                                                                               \
+               from->at.data + (size_t)index * (from->at.data_bits / 8 + 8u * (size_t)from->at.pointers),            \
+               sizeof value);                                                                                        \
+        return value;                                                                                                \
+    }
+CAPNP_ELEMENT(u8, uint8_t)
+CAPNP_ELEMENT(u16, uint16_t)
+CAPNP_ELEMENT(u32, uint32_t)
+CAPNP_ELEMENT(u64, uint64_t)
+CAPNP_ELEMENT(i8, int8_t)
+CAPNP_ELEMENT(i16, int16_t)
+CAPNP_ELEMENT(i32, int32_t)
+CAPNP_ELEMENT(i64, int64_t)
+CAPNP_ELEMENT(f32, float)
+CAPNP_ELEMENT(f64, double)
+#undef CAPNP_ELEMENT
+
+/* Element `index` of a list of bits. */
+CAPNP_INLINE bool capnp_element_bool(const struct capnp_list *from, uint32_t index) {
+    return index < from->at.count && from->at.data_bits == 1 && ((from->at.data[index / 8] >> (index % 8)) & 1);
+}
+
+/* Element `index` of a list of texts, data, lists or structs. */
+CAPNP_INLINE struct capnp_text capnp_element_text(const struct capnp_list *from, uint32_t index) {
+    struct capnp_struct element = capnp_get_element(from, index);
+    return capnp_get_text(&element, 0);
+}
+
+CAPNP_INLINE struct capnp_data capnp_element_data(const struct capnp_list *from, uint32_t index) {
+    struct capnp_struct element = capnp_get_element(from, index);
+    return capnp_get_data(&element, 0);
+}
+
+CAPNP_INLINE struct capnp_list capnp_element_list(const struct capnp_list *from, uint32_t index, enum capnp_size size) {
+    struct capnp_struct element = capnp_get_element(from, index);
+    return capnp_get_list(&element, 0, size);
+}
+
+#ifdef __cplusplus
+}
+#endif
+
+#endif
