@@ -2,7 +2,7 @@
 # any 64-bit little-endian machine. The C is in generated/, which `tools/generated.py` writes from the proved sources.
 #
 #     make                    the program capnp_canon
-#     make all                the library too, static and shared, and the program layout_tool
+#     make all                the library too, static and shared; the static library capnp_layout; and the program layout_tool
 #     make check              tests both: one message, the C test, and, if python3 is there, all vectors
 #     make check-streams      runs the program over all streams, with python3; this takes minutes
 #     make install            installs them below PREFIX, with DESTDIR in front; LIBDIR and others can be set separately
@@ -79,7 +79,7 @@ $(BUILD)/capnp_canon_layer.o: PART_FLAGS = $(LAYER_FLAGS)
 
 program: $(BUILD)/capnp_canon
 
-all: $(INSTALLED) $(BUILD)/layout_tool
+all: $(INSTALLED) $(BUILD)/libcapnp_layout.a $(BUILD)/layout_tool
 
 $(PARTS): $(BUILD)/%.o: generated/%.c generated/capnp_canon.h
 	@mkdir -p $(BUILD)
@@ -88,13 +88,13 @@ $(PARTS): $(BUILD)/%.o: generated/%.c generated/capnp_canon.h
 $(BUILD)/capnp_canon: $(PARTS)
 	$(CC) $(CFLAGS) $(LDFLAGS) -o $@ $(PARTS)
 
-$(BUILD)/$(NAME).o: generated/$(NAME).c $(wildcard bindings/c/*.h)
+$(BUILD)/$(NAME).o $(BUILD)/capnp_layout.o: $(BUILD)/%.o: generated/%.c $(wildcard bindings/c/*.h)
 	@mkdir -p $(BUILD)
-	$(CC) $(ALL_FLAGS) -fPIC -c -o $@ generated/$(NAME).c
+	$(CC) $(ALL_FLAGS) -fPIC -c -o $@ generated/$*.c
 
-$(BUILD)/lib$(NAME).a: $(BUILD)/$(NAME).o
+$(BUILD)/lib$(NAME).a $(BUILD)/libcapnp_layout.a: $(BUILD)/lib%.a: $(BUILD)/%.o
 	rm -f $@
-	$(AR) rcs $@ $(BUILD)/$(NAME).o
+	$(AR) rcs $@ $(BUILD)/$*.o
 
 $(BUILD)/$(SHARED_FILE): $(BUILD)/$(NAME).o generated/$(NAME).map
 	sed -n 's/^ *\($(NAME)_.*\);$$/_\1/p' generated/$(NAME).map >$(BUILD)/names
@@ -122,7 +122,7 @@ install: $(INSTALLED)
 	$(FILLED) bindings/c/$(NAME).pc.in >$(DESTDIR)$(PKGCONFIGDIR)/$(NAME).pc
 	$(FILLED) bindings/c/cmake/$(NAME)-config.cmake.in >$(DESTDIR)$(CMAKEDIR)/$(NAME)-config.cmake
 	$(FILLED) bindings/c/cmake/$(NAME)-config-version.cmake.in >$(DESTDIR)$(CMAKEDIR)/$(NAME)-config-version.cmake
-	$(INSTALL) -m 644 $(wildcard bindings/c/*.h bindings/cpp/*.hpp) $(DESTDIR)$(INCLUDEDIR)
+	$(INSTALL) -m 644 bindings/c/$(NAME).h $(wildcard bindings/cpp/*.hpp) $(DESTDIR)$(INCLUDEDIR)
 	$(INSTALL) -m 755 $(BUILD)/capnp_canon $(DESTDIR)$(BINDIR)
 	$(INSTALL) -m 644 share/capnp_canon.1 $(DESTDIR)$(MANDIR)/man1
 	$(INSTALL) -m 644 share/capnp_canon.bash $(DESTDIR)$(BASHDIR)/capnp_canon

@@ -3,8 +3,8 @@
 
     generate.py FOLDER CRATE..
 
-Writes FOLDER/CRATE.c for the library `capnp_canonical` or a program, from the current sources; for a program of several files
-FOLDER/CRATE.h and FOLDER/CRATE_PART.c too. proved.py proves the crates
+Writes FOLDER/CRATE.c for a library or a program, from the current sources; for a program of several files FOLDER/CRATE.h and
+FOLDER/CRATE_PART.c too; for a library whose header has another name, FOLDER/HEADER.c. proved.py proves the crates
 first, over the libraries that `./test` has left in this tree if they are of the current sources. `rattle build` lowers a crate
 to an LLVM module and passes it to clang. Here a script takes the place of clang: it also makes the toolchain's clang write the
 module as optimised text. c_of_module translates that text to C."""
@@ -13,6 +13,7 @@ import subprocess
 import sys
 
 import proved
+from libraries import FOR_C
 
 sys.path.append(str(proved.TOP / 'tools/c_of_module'))
 import constants
@@ -50,14 +51,17 @@ def write(room, crate, to):
     """Writes the C of a crate. Its module is compiled for the oldest x86-64 processor, so it depends on no newer one."""
     module = room.at / f'{crate}.ll'
     room.build(crate, room.at / f'{crate}.built', with_script(room.crates.kit, room.at / f'toolchain_of_{crate}', module), '--cpu', 'x86-64')
-    writer = [sys.executable, '-B', str(proved.TOP / 'tools/c_of_module'), str(module), str(proved.TOP / 'bindings/c/capnp_canonical.h')]
+    name = FOR_C.get(crate, crate)
+    # a program exports nothing that a header declares
+    header = proved.TOP / f'bindings/c/{FOR_C.get(crate, "capnp_canonical")}.h'
+    writer = [sys.executable, '-B', str(proved.TOP / 'tools/c_of_module'), str(module), str(header)]
     parts = PARTS.get(crate)
     run = subprocess.run([*writer, *([str(to), crate, *parts] if parts else [])], stdout=subprocess.PIPE, stderr=subprocess.PIPE, encoding='utf-8')
     if run.returncode:
         sys.exit(f'generate.py: {crate}: {run.stderr}')
     if not parts:
-        (to / f'{crate}.c').write_text(run.stdout, encoding='utf-8')
-    written = (to / (f'{crate}.h' if parts else f'{crate}.c')).read_text(encoding='utf-8')
+        (to / f'{name}.c').write_text(run.stdout, encoding='utf-8')
+    written = (to / (f'{crate}.h' if parts else f'{name}.c')).read_text(encoding='utf-8')
     if wrong := constants.differing(module.read_text(encoding='latin-1'), written)[0]:
         sys.exit(f'generate.py: {crate}: the C of {wrong} isn\'t what the module has')
 

@@ -20,13 +20,12 @@ import subprocess
 import sys
 import tempfile
 
-from libraries import PARTS, TOP, Crates
+from libraries import FOR_C, PARTS, TOP, Crates
 
 NAME = 'capnp_canonical'
-HEADER = f'bindings/c/{NAME}.h'
 EXPORTS = 'tools/exports.txt'
-# The library and the programs.
-CRATES = NAME, 'capnp_canon', 'layout_tool'
+# The libraries and the programs.
+CRATES = *FOR_C, 'capnp_canon', 'layout_tool'
 WRITER = 'tools/generate.py', 'tools/c_of_module'
 WASM = 'bindings/js'
 AGAIN = 'run python3 tools/generated.py'
@@ -43,18 +42,23 @@ def sum_of(paths):
     return digest(''.join(lines).encode())
 
 
-def declarations():
-    """The functions that the header declares: the result, the name and the arguments of each."""
-    return re.findall(r'(?m)^([a-z][^()]*\b)(%s_\w+)\(([^)]*)\);' % NAME, (TOP / HEADER).read_text(encoding='utf-8'))
+def header_of(name):
+    return f'bindings/c/{name}.h'
+
+
+def declarations(name):
+    """The functions that a library's header declares: the result, the name and the arguments of each."""
+    return re.findall(r'(?m)^([a-z][^()]*\b)(%s_\w+)\(([^)]*)\);' % name, (TOP / header_of(name)).read_text(encoding='utf-8'))
 
 
 def sums():
-    """The sums of the sources: of what each crate has and depends on, of what writes the C, and of what the header declares."""
+    """The sums of the sources: of what each crate has and depends on, of what writes the C, and of what the headers declare."""
     crates = Crates()
     wanted = dict.fromkeys(it for crate in CRATES for it in (*crates.below(crate), crate))
     made = {f'crates/{it}': sum_of([f'crates/{it}/{part}' for part in PARTS]) for it in wanted}
     edges = ''.join(f'{it}: {" ".join([*crates.kind[it], *crates.stands_on[it]])}\n' for it in wanted)
-    return {**made, 'crates.txt': digest(edges.encode()), 'writer': sum_of(WRITER), HEADER: digest(repr(declarations()).encode()), EXPORTS: sum_of([EXPORTS])}
+    headers = {header_of(it): digest(repr(declarations(it)).encode()) for it in FOR_C.values()}
+    return {**made, 'crates.txt': digest(edges.encode()), 'writer': sum_of(WRITER), **headers, EXPORTS: sum_of([EXPORTS])}
 
 
 def came_with():
@@ -65,9 +69,9 @@ def came_with():
 
 def exports():
     """The linker script of the shared library: its visible names, in a node for each version that functions came with."""
-    versions, declared = came_with(), {name for _, name, _ in declarations()}
+    versions, declared = came_with(), {name for _, name, _ in declarations(NAME)}
     if declared != versions.keys():
-        sys.exit(f'generated.py: {EXPORTS} and {HEADER} differ: {" ".join(sorted(declared ^ versions.keys()))}')
+        sys.exit(f'generated.py: {EXPORTS} and {header_of(NAME)} differ: {" ".join(sorted(declared ^ versions.keys()))}')
     nodes, before, local = [], '', 'local:\n    *;\n'
     for version in sorted({*versions.values()}):
         node = f'{NAME.upper()}_{".".join(map(str, version))}'
@@ -116,7 +120,7 @@ def differing():
     for name in sorted({*files, *(it for it in said if it.startswith('generated/'))}):
         yield name, None if said.get(name) == sum_now(name) else f'{name} is not the file that generated/ORIGIN names: {AGAIN}'
     said = listed(f'{WASM}/ORIGIN')
-    for path in f'generated/{NAME}.c', HEADER, f'{WASM}/{NAME}.wasm':
+    for path in f'generated/{NAME}.c', header_of(NAME), f'{WASM}/{NAME}.wasm':
         is_right = said.get(f'sha256 of {pathlib.PurePath(path).name}') == sum_now(path)
         yield f'{WASM}: {path}', None if is_right else f'{path} is not what {WASM}/ORIGIN names: run make wasm'
 

@@ -8,6 +8,8 @@ import subprocess
 TOP = pathlib.Path(__file__).resolve().parents[1]
 # The folders of a crate that a check reads.
 PARTS = 'src', 'specs', 'proofs'
+# The static libraries for C, each with the name that its C file in generated/ and its header in bindings/c/ have.
+FOR_C = {'capnp_canonical': 'capnp_canonical', 'capnp_layout_c': 'capnp_layout'}
 
 
 class Crates:

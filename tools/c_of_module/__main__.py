@@ -30,15 +30,24 @@ from writing import offset
 
 ABOUT = '''/* This file is generated: don't edit it. It is the compiled form of the repository's proved sources, translated to C by
  * tools/c_of_module. docs/PROVED.md says what you have to trust. */'''
+# Structs that runtime.h declares.
 STRUCTS_OUTSIDE = {'s_i64_i64'}
 # The arguments of a program, which program.h declares.
 KEPT = 'struct arguments arguments;'
+# What module.h asks for on a machine of 32 bits: the structs of a header that names it have 8 bytes for each pointer and size.
+SLOTS = 'CAPNP_CANONICAL_SLOTS_OF_8'
+# There C makes a size shorter when it passes one to memcpy, for example.
+NARROWED = '''#if __SIZEOF_POINTER__ == 4
+#pragma GCC diagnostic ignored "-Wconversion"
+#endif'''
 # C promises to read lines and texts of this many characters.
 LONGEST = 4095
 
 
 class Module:
-    def __init__(self, text, header):
+    def __init__(self, text, header, header_name):
+        self.header_name = header_name
+        self.has_slots = SLOTS in header
         self.names, self.structs, self.moves = Names(), {}, set()
         self.statics, self.functions = [], []
         self.attributes = dict(re.findall(r'(?m)^attributes (#\d+) = \{ (.*) \}$', text))
@@ -119,12 +128,14 @@ class Module:
         if self.is_program:
             yield '#define _POSIX_C_SOURCE 200809L'
             yield from (f'#include <{it}.h>' for it in ('errno', 'fcntl', 'signal', 'unistd'))
+        yield from [f'#define {SLOTS}', NARROWED] * self.has_slots
         has_vectors = re.search(r'\b(ldv|stv|any|mask)', written)
-        for part in 'module', *['vectors'] * bool(has_vectors), 'runtime', *['program'] * self.is_program:
+        has_runtime = re.search(r'\b(rattle|c)_', written)
+        for part in 'module', *['vectors'] * bool(has_vectors), *['runtime'] * bool(has_runtime), *['program'] * self.is_program:
             yield '\n' + (pathlib.Path(__file__).parent / f'{part}.h').read_text(encoding='utf-8').rstrip('\n')
-        yield from ['', '#include "capnp_canonical.h"'] * is_library
+        yield from ['', f'#include "{self.header_name}"'] * is_library
         yield ''
-        for name in sorted(self.structs.keys() - STRUCTS_OUTSIDE):
+        for name in sorted(self.structs.keys() - (STRUCTS_OUTSIDE if has_runtime else set())):
             fields = ' '.join(f'{declared(it, f"f{number}")};' for number, it in enumerate(self.structs[name][1]))
             yield f'struct {name} {{ {fields} }};'
         yield from ('', '/* mvN moves N bytes between places that may overlap. */', *map(move, sorted(self.moves)), '', *self.statics, '')
@@ -200,7 +211,8 @@ def move(size):
 def main(words):
     if len(words) != 2 and len(words) < 4:
         sys.exit(__doc__)
-    module = Module(*(pathlib.Path(word).read_text(encoding='latin-1') for word in words[:2]))
+    text, header = map(pathlib.Path, words[:2])
+    module = Module(text.read_text(encoding='latin-1'), header.read_text(encoding='latin-1'), header.name)
     if len(words) == 2:
         return print('\n'.join(it for line in '\n'.join(module.text()).split('\n') for it in broken(line)))
     folder, name, *parts = words[2:]
