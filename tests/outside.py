@@ -5,7 +5,7 @@ the comparison with C++ Cap'n Proto.
 
     outside.py [NAME..]
 
-NAMEs choose the parts: start, completion, shell, peer, js, rust, crate, typed, viewer, library, clone, release; by default all,
+NAMEs choose the parts: start, completion, shell, peer, js, rust, crate, typed, viewer, library, layout_c, clone, release; by default all,
 which takes more than an hour. Some parts prove and build what isn't built yet; start, clone and release test the last commit.
 
 Prints the last line of each part, and the lines that say what the part itself skipped. If a part fails, also prints the end
@@ -31,6 +31,7 @@ PARTS = (
     ('typed', (sys.executable, '-B', 'tests/typed/run.py'), ('rt', 'capnp')),
     ('viewer', ('sh', 'tests/viewer/run.sh'), ('node', os.environ.get('CHROMIUM', 'chromium'))),
     ('library', ('sh', 'tests/library/run.sh'), ('rt',)),
+    ('layout_c', ('sh', 'tests/layout_c/run.sh'), ('gcc', 'capnp')),
     ('clone', ('sh', 'tests/release/clone.sh'), ('git', 'make', 'cc')),
     ('release', ('sh', 'tests/release/run.sh'), ('git', 'make', 'gcc|clang')),
 )

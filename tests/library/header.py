@@ -1,7 +1,8 @@
 #!/usr/bin/env python3
 """Checks that bindings/c/capnp_canonical.h agrees with crates/capnp_canonical: the numbers, names and texts of answers and
-reasons, the functions and the version; that each function has a symbol version; and that the other bindings and the pages
-have the header's numbers, texts and version.
+reasons, the functions and the version; that each function has a symbol version; that the other bindings and the pages
+have the header's numbers, texts and version; and that bindings/c/capnp_layout.h has the same numbers, and declares what
+crates/capnp_layout_c exports.
 
     header.py
 
@@ -12,7 +13,9 @@ import sys
 
 TOP = pathlib.Path(__file__).resolve().parents[2]
 HEADER = (TOP / 'bindings/c/capnp_canonical.h').read_text(encoding='utf-8')
-NUMBERS = (TOP / 'crates/capnp_canonical/specs/Numbers.antt').read_text(encoding='utf-8')
+NUMBERS = ''.join((TOP / f'crates/{it}/specs/Numbers.antt').read_text(encoding='utf-8') for it in ('capnp_numbers', 'capnp_canonical'))
+# The header for reading, whose refusals have the same numbers.
+LAYOUT = (TOP / 'bindings/c/capnp_layout.h').read_text(encoding='utf-8')
 REASONS = (TOP / 'crates/capnp_objects/specs/CanonicalFaults.antt').read_text(encoding='utf-8')
 EXPORTS = ''.join(it.read_text(encoding='utf-8') for it in sorted((TOP / 'crates/capnp_canonical/src').glob('*.rt')))
 PREFIX = 'CAPNP_CANONICAL_'
@@ -40,9 +43,10 @@ def in_capitals(name):
 
 def numbers(*functions):
     """The number of each variant, from functions of Numbers.antt, with its C name. The two errors for lack of memory share one."""
-    pattern = rf'^(?:{"|".join(functions)}) \(?(\w+)(?: _\))? = (\d+)$'
+    pattern = rf'^(?:{"|".join(functions)}) \(?(\w+)(?: _\))? = (\w+)$'
     renamed = {'NoMemory': 'AllocationFailed'}
-    return [(in_capitals(renamed.get(name, name)), int(number)) for name, number in re.findall(pattern, NUMBERS, re.M)]
+    named = dict(re.findall(r'^(\w+_number) = (\d+)$', NUMBERS, re.M))
+    return [(in_capitals(renamed.get(name, name)), int(named.get(number, number))) for name, number in re.findall(pattern, NUMBERS, re.M)]
 
 
 def enumerators(enum):
@@ -138,6 +142,19 @@ def facts_of_bindings():
         yield f'the text of reason {number} in Rust', (number, faults[name]) in of_reasons
 
 
+def facts_of_layout(answers):
+    """That the header for reading has these numbers, and declares what its library exports."""
+    body = re.search(r'enum capnp_refusal \{(.*?)\n\};', LAYOUT, re.S)[1]
+    found = [(name, int(number)) for name, number in re.findall(r'^ +CAPNP_(\w+) = (\d+),?$', body, re.M)]
+    exports = ''.join(it.read_text(encoding='utf-8') for it in (TOP / 'crates/capnp_layout_c/src').glob('*.rt'))
+    declared = re.findall(r'^[a-z].* (capnp_layout_\w+)\(', LAYOUT, re.M)
+    exported = re.findall(r'^pub extern "C" fn (\w+)', exports, re.M)
+    for it in found:
+        yield f'{it[0]} = {it[1]} for reading', it in answers
+    for name in sorted({*declared, *exported}):
+        yield f'{name} is declared and exported', name in declared and name in exported
+
+
 def declared_in_library():
     """The functions that the header declares without a body."""
     return re.findall(r'^[a-z].* (capnp_canonical_\w+)\([^{]*\);$', HEADER, re.M)
@@ -156,7 +173,7 @@ def main():
     facts += [(f'{name} is declared and exported', name in declared and name in exported) for name in sorted({*declared, *exported})]
     facts += [('the number of the version', int(version[0]) == parts[0] * 10000 + parts[1] * 100 + parts[2])]
     facts += [(f'{text} is the version that the library gives', re.search(text, EXPORTS)) for text in (rf'result ≡ {version[0]} ', f'put_text\\("{version[1]}", to\\)')]
-    facts += list(facts_of_bindings()) + list(facts_of_texts())
+    facts += list(facts_of_bindings()) + list(facts_of_texts()) + list(facts_of_layout(answers))
     facts += [(f'{name} has the version', re.findall(pattern, file(name), re.M) == [version[1]]) for name, pattern in VERSIONS.items()]
     levels = re.findall(rf'{PREFIX}MAX_NESTING (\d+)$', HEADER, re.M)
     facts += [(f'{name} has the largest nesting limit', re.findall(pattern, file(name), re.M) == levels) for name, pattern in LEVELS.items()]

@@ -1,0 +1,159 @@
+#!/bin/sh
+# run.sh [FOLDER]: tests reading from C: FOLDER/capnp_layout.c, by default that of generated/, and bindings/c/capnp_layout.h.
+# Compiles both with each compiler that is there, for 64 and 32 bits. ROUNDS is the number of mutated messages, by default
+# 20,000 for each part that has any. If the tools for a part are missing, the part is skipped, and a line says so. The last line
+# is `N passed, M failed`.
+set -u
+here=$(cd "$(dirname "$0")" && pwd)
+top=$(cd "$here/../.." && pwd)
+folder=$(cd "${1:-$top/generated}" && pwd)
+rounds=${ROUNDS:-20000}
+work=$(mktemp -d)
+trap 'rm -rf "$work"' EXIT
+trap 'exit 1' INT TERM
+passed=0 failed=0 skipped=
+include="-I$top/bindings/c -I$here"
+warnings='-Wall -Wextra -Wpedantic -Wconversion -Wshadow -Werror'
+sanitizers='-fsanitize=address,undefined -fno-sanitize-recover=undefined'
+
+has() {
+    for tool; do command -v "$tool" >/dev/null || return 1; done
+}
+
+skip() {
+    echo "$1: skipped, no $2"
+    skipped="$skipped${skipped:+, }$1"
+}
+
+# Counts a part that is one test: its name and its command.
+part() {
+    name=$1
+    shift
+    if ("$@") >"$work/log" 2>&1; then
+        passed=$((passed + 1))
+        echo "$name: ok"
+    else
+        failed=$((failed + 1))
+        cat "$work/log"
+        echo "$name: FAILED"
+    fi
+}
+
+# Counts a part whose last line is `N passed, M failed`.
+summed() {
+    name=$1
+    shift
+    ("$@") >"$work/log" 2>&1
+    status=$?
+    sums=$(sed -n '$s/^\([0-9]*\) passed, \([0-9]*\) failed.*/\1 \2/p' "$work/log")
+    good=${sums% *} bad=${sums#* }
+    if [ -z "$sums" ]; then good=0 bad=1; elif [ "$status" != 0 ] && [ "$bad" = 0 ]; then bad=1; fi
+    if [ "$bad" != 0 ]; then cat "$work/log"; else sed -n '$!p' "$work/log"; fi
+    echo "$name: $good passed, $bad failed"
+    passed=$((passed + good)) failed=$((failed + bad))
+}
+
+# Whether a compiler makes programs of these bits that run.
+runs() {
+    # shellcheck disable=SC2086
+    echo 'int main(void) { return 0; }' >"$work/runs.c" && "$1" $2 -o "$work/runs" "$work/runs.c" 2>/dev/null && "$work/runs"
+}
+
+# The header, a program over it and the generated C, without a warning.
+header_c() {
+    for standard in c99 c11; do
+        for program in edges.c calls.c lists.c print_addressbook.c; do
+            # shellcheck disable=SC2086
+            "$1" $2 -std=$standard -O1 $warnings $include -c -o "$work/it.o" "$here/$program" || return 1
+        done
+        # shellcheck disable=SC2086
+        "$1" $2 -std=$standard -O1 $warnings $include -c -o "$work/it.o" "$top/bindings/c/reading.c" || return 1
+        # shellcheck disable=SC2086
+        "$1" $2 -std=$standard -O1 $warnings $include -c -o "$work/it.o" "$folder/capnp_layout.c" || return 1
+    done
+}
+
+header_cpp() {
+    for standard in c++11 c++17; do
+        # shellcheck disable=SC2086
+        "$1" -std=$standard -O1 $warnings $include -x c++ -c -o "$work/it.o" "$here/edges.c" || return 1
+    done
+}
+
+# The library has no name but its own, and calls nothing but memcpy and the like.
+names() {
+    # shellcheck disable=SC2086
+    "$1" -O2 -DNDEBUG $include -c -o "$work/names.o" "$folder/capnp_layout.c" || return 1
+    nm "$work/names.o" | sed 's/^[0-9a-f ]*//' | sort >"$work/names"
+    ! grep -v -e '^T capnp_layout_' -e '^U mem\(cpy\|move\|set\)$' -e '^[tr] ' -e '^U __stack_chk_fail$' -e '^U _GLOBAL_OFFSET_TABLE_$' "$work/names" || return 1
+    grep '^T ' "$work/names" | cut -d ' ' -f 2 >"$work/defined"
+    sed -n 's/^[a-z].*[ *]\(capnp_layout_[a-z_]*\)(.*/\1/p' "$top/bindings/c/capnp_layout.h" | sort | cmp - "$work/defined"
+}
+
+# A program of this folder with sanitizers: the compiler, its bits, the program, and its arguments.
+sanitized() {
+    compiler=$1 bits=$2 program=$3
+    shift 3
+    # shellcheck disable=SC2086
+    "$compiler" $bits -std=gnu11 -O1 -g $sanitizers $include -o "$work/$program" "$here/$program.c" "$folder/capnp_layout.c" && "$work/$program" "$@"
+}
+
+plain() {
+    # shellcheck disable=SC2086
+    "$1" $2 -std=gnu11 -O2 $include -o "$work/it" "$3" "$folder/capnp_layout.c"
+}
+
+example() {
+    plain "$1" "$2" "$top/bindings/c/reading.c" || return 1
+    printf '%s' '(people = [(id = 1, name = "Alice", email = "alice@example.com"), (id = 2, name = "Bob")])' |
+        capnp encode "$top/tests/typed/addressbook.capnp" AddressBook | "$work/it" >"$work/said" || return 1
+    printf '1: Alice <alice@example.com>\n2: Bob <>\n' | cmp - "$work/said"
+}
+
+# Random address books: what is read is what `capnp decode` prints.
+books() {
+    plain "$1" "$2" "$here/print_addressbook.c" || return 1
+    for seed in 1 2 3 4 5 6 7 8 9 10; do
+        python3 "$here/book.py" $seed $((seed * seed - 1)) | capnp encode "$top/tests/typed/addressbook.capnp" AddressBook >"$work/book" || return 1
+        capnp decode --short "$top/tests/typed/addressbook.capnp" AddressBook <"$work/book" >"$work/wanted" || return 1
+        "$work/it" <"$work/book" | cmp - "$work/wanted" || return 1
+    done
+}
+
+lists() {
+    sanitized "$1" "$2" lists <"$work/message" >"$work/said" && diff "$here/lists.txt" "$work/said"
+}
+
+beside() {
+    mkdir -p "$work/cpp" && cp "$top/tests/typed/addressbook.capnp" "$work" && cd "$work" && capnp compile -oc++:cpp addressbook.capnp &&
+        cc -std=gnu11 -O1 -g -fsanitize=address,undefined -I"$top/bindings/c" -c -o layout.o "$folder/capnp_layout.c" &&
+        c++ -std=c++17 -O1 -g -fsanitize=address -Wall -Wextra -I. -I"$top/bindings/c" -I"$here" -o beside "$here/beside.cc" cpp/addressbook.capnp.c++ layout.o \
+            -fsanitize=undefined -lcapnp -lkj && ./beside "$rounds" "${SEED:-1}"
+}
+
+if has capnp; then capnp eval -b "$here/lists.capnp" lists >"$work/message"; fi
+for compiler in gcc clang; do
+    for bits in -m64 -m32; do
+        if ! has $compiler || ! runs $compiler $bits; then
+            skip "$compiler $bits" "compiler"
+            continue
+        fi
+        part "$compiler $bits, no warnings" header_c $compiler $bits
+        summed "$compiler $bits, edges" sanitized $compiler $bits edges
+        summed "$compiler $bits, calls" sanitized $compiler $bits calls "$rounds" "${SEED:-1}"
+        if has capnp; then
+            part "$compiler $bits, lists" lists $compiler $bits
+            part "$compiler $bits, example" example $compiler $bits
+            if has python3; then part "$compiler $bits, address books" books $compiler $bits; fi
+        else
+            skip "$compiler $bits, messages" capnp
+        fi
+    done
+done
+for compiler in g++ clang++; do
+    if has $compiler; then part "$compiler, no warnings" header_cpp $compiler; else skip "$compiler" compiler; fi
+done
+if has gcc nm; then part 'names' names gcc; fi
+if has capnp c++ && [ -f /usr/include/capnp/serialize.h ]; then summed 'beside C++' beside; else skip 'beside C++' 'C++ Cap'\''n Proto'; fi
+echo "$passed passed, $failed failed${skipped:+; skipped: $skipped}"
+[ "$failed" = 0 ]
