@@ -129,7 +129,8 @@ impl<'a, M: Meter> Pointer<'a, M> {
         Ok(Sha256::digest(&self.canonical()?))
     }
 
-    /// The words and capabilities of the value.
+    /// The words and capabilities of the value. Each capability takes a level here, but not in a
+    /// check of the whole message. So even after that this is refused if a capability is too deep.
     pub fn size(&self) -> Result<MessageSize, Error> {
         Ok(self
             .meter
@@ -289,7 +290,9 @@ impl<'a, M: Meter> Struct<'a, M> {
         Ok(Sha256::digest(&self.canonical()?))
     }
 
-    /// The words and capabilities of the struct and all below it.
+    /// The words and capabilities of the struct and all below it. Each capability takes a level
+    /// here, but not in a check of the whole message. So even after that this is refused if a
+    /// capability is too deep.
     pub fn size(&self) -> Result<MessageSize, Error> {
         Ok(self.meter.charge(|lim| self.raw.total_size(lim))?)
     }
