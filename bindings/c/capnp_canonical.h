@@ -32,7 +32,7 @@
  * Stack. `nesting` is all that bounds the stack of a call, which must have room for so many levels. A level of nesting
  * takes up to 624 bytes as ./install builds the library, which is for x86-64-v2 and later. As make builds it from
  * generated/, for any 64-bit processor, it takes up to 640 bytes with clang, 768 with gcc, and 11,056 if the compiler
- * doesn't optimise. A call takes another 8 KB, or 21 KB if it doesn't. This is measured on x86-64, not proved.
+ * doesn't optimise. A call takes another 9 KB, or 21 KB if it doesn't. This is measured on x86-64, not proved.
  *
  * What you have to keep. A pointer to bytes or segments goes with their number, and may be null if that is 0. No other
  * pointer may be null. What a call writes to must overlap nothing else that you pass to it, and nothing may change what
