@@ -80,6 +80,7 @@ class Tree:
         self.tools.mkdir()
         self.write('Makefile', MAKEFILE)
         self.write('bindings/c/capnp_canonical.h', '#define CAPNP_CANONICAL_VERSION_TEXT "1.0.0"\n')
+        self.write('bindings/c/capnp_layout.h', '')
         self.write('crates/capnp_words/src/lib.rt', '')
         self.write('crates/capnp_words/specs/Lib.antt', '')
         self.write('crates/capnp_layout/src/lib.rt', '')
@@ -226,8 +227,9 @@ def proving(tree):
     tree.write('crates/capnp_show/src/lib.rt', 'changed')
     said = 'prove: 3 crates are to be proved\n' + ''.join(f'prove: {n} of 3 proved: {it}\n' for n, it in enumerate(('capnp_show', 'capnp_streams', 'capnp_canon'), 1))
     yield 'after a change, it and what is above it', prove('capnp_canon') == (said, 0, ['build capnp_show', 'build capnp_streams', 'build capnp_canon'])
-    said = 'prove: 2 crates are to be proved\nprove: 1 of 2 proved: capnp_walks\nprove: 2 of 2 proved: capnp_canonical\n'
-    yield 'the library for C', prove('capnp_canonical') == (said, 0, ['build capnp_walks', 'build capnp_canonical']) and (tree.top / 'crates/capnp_canonical/out/libcapnp_canonical.a').is_file()
+    above = 'capnp_walks', 'capnp_numbers', 'capnp_canonical'
+    said = 'prove: 3 crates are to be proved\n' + ''.join(f'prove: {n} of 3 proved: {it}\n' for n, it in enumerate(above, 1))
+    yield 'the library for C', prove('capnp_canonical') == (said, 0, [f'build {it}' for it in above]) and (tree.top / 'crates/capnp_canonical/out/libcapnp_canonical.a').is_file()
     yield 'and the processor that it is for', (tree.top / 'crates/capnp_canonical/out/cpu').read_text(encoding='utf-8') == 'x86-64-v2\n'
     tree.write('crates/capnp_canon/src/main.rt', 'wrong')
     err, status, said = prove('capnp_canon')

@@ -113,7 +113,7 @@ impl Builder {
     /// [`keep`](Builder::keep).
     // Not a call with a closure: rustc passes what a closure needs through memory.
     #[inline(always)]
-    pub(crate) fn to_change(&mut self) -> Option<&mut BuiltArena> {
+    pub(crate) fn changeable(&mut self) -> Option<&mut BuiltArena> {
         match &self.refused {
             None => Some(&mut self.arena),
             Some(_) => None,
@@ -147,7 +147,7 @@ impl Builder {
     /// Makes the root a new struct, all zero and null.
     #[inline]
     pub fn init_root(&mut self, size: StructSize) -> StructBuilder<'_> {
-        let place = match self.to_change() {
+        let place = match self.changeable() {
             Some(arena) => {
                 let made = value::init_root(arena, size);
                 self.keep(made)
@@ -160,7 +160,7 @@ impl Builder {
     /// The root, to be changed: with sections at least as large as `size`, and a new struct if the
     /// root is null. If the root isn't a struct, that is refused.
     pub fn edit_root(&mut self, size: StructSize) -> StructBuilder<'_> {
-        let place = match self.to_change() {
+        let place = match self.changeable() {
             Some(arena) => {
                 let found = PointerBuilder::get_root(arena).get_struct_place(size, None);
                 self.keep(found)
@@ -185,7 +185,7 @@ impl Builder {
         meter: M,
         copy: impl FnOnce(&mut BuiltPointer<'_>, &mut ReadLimiter) -> Result<(), ErrorKind>,
     ) {
-        if let Some(arena) = self.to_change() {
+        if let Some(arena) = self.changeable() {
             let made = meter.charge(|lim| copy(&mut PointerBuilder::get_root(arena), lim));
             self.keep(made);
         }

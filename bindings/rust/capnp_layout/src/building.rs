@@ -128,7 +128,7 @@ impl<'b> StructBuilder<'b> {
     #[track_caller]
     pub fn set<T: Number>(&mut self, offset: usize, number: T) -> &mut Self {
         let place = self.place;
-        if let Some(arena) = self.message.to_change() {
+        if let Some(arena) = self.message.changeable() {
             check_number(place, offset, T::Bits::BYTES);
             value::set_number(arena, place, offset, number.into_bits());
         }
@@ -152,7 +152,7 @@ impl<'b> StructBuilder<'b> {
     #[track_caller]
     pub fn set_bool(&mut self, offset: usize, bit: bool) -> &mut Self {
         let place = self.place;
-        if let Some(arena) = self.message.to_change() {
+        if let Some(arena) = self.message.changeable() {
             check_bit(place, offset);
             value::set_bool(arena, place, offset, bit);
         }
@@ -191,9 +191,9 @@ impl<'b> StructBuilder<'b> {
     /// The arena, to change pointer `index`, which the struct has to have; `None` after a refusal.
     #[inline(always)]
     #[track_caller]
-    fn to_change(&mut self, index: usize) -> Option<&mut BuiltArena> {
+    fn changeable(&mut self, index: usize) -> Option<&mut BuiltArena> {
         let place = self.place;
-        let arena = self.message.to_change()?;
+        let arena = self.message.changeable()?;
         check_pointer(place, index);
         Some(arena)
     }
@@ -203,7 +203,7 @@ impl<'b> StructBuilder<'b> {
     #[track_caller]
     pub fn clear(&mut self, index: usize) -> &mut Self {
         let place = self.place;
-        if let Some(arena) = self.to_change(index) {
+        if let Some(arena) = self.changeable(index) {
             value::clear(arena, place, index);
         }
         self
@@ -230,7 +230,7 @@ impl<'b> StructBuilder<'b> {
     #[track_caller]
     pub fn set_capability(&mut self, index: usize, capability: u32) -> &mut Self {
         let place = self.place;
-        if let Some(arena) = self.to_change(index) {
+        if let Some(arena) = self.changeable(index) {
             value::set_capability(arena, place, index, capability);
         }
         self
@@ -240,7 +240,7 @@ impl<'b> StructBuilder<'b> {
     #[track_caller]
     pub fn set_struct<M: Meter>(&mut self, index: usize, from: Struct<'_, M>) -> &mut Self {
         let (place, raw) = (self.place, from.raw);
-        if let Some(arena) = self.to_change(index) {
+        if let Some(arena) = self.changeable(index) {
             let read = |lim: &mut _| copying::set_struct_from(arena, place, index, &raw, lim);
             let made = from.meter.charge(read);
             self.message.keep(made);
@@ -256,7 +256,7 @@ impl<'b> StructBuilder<'b> {
         from: List<'_, T, M>,
     ) -> &mut Self {
         let (place, raw) = (self.place, from.raw);
-        if let Some(arena) = self.to_change(index) {
+        if let Some(arena) = self.changeable(index) {
             let read = |lim: &mut _| copying::set_list_from(arena, place, index, &raw, lim);
             let made = from.meter.charge(read);
             self.message.keep(made);
@@ -268,7 +268,7 @@ impl<'b> StructBuilder<'b> {
     #[track_caller]
     pub fn set_pointer<M: Meter>(&mut self, index: usize, from: Pointer<'_, M>) -> &mut Self {
         let (place, raw) = (self.place, from.raw);
-        if let Some(arena) = self.to_change(index) {
+        if let Some(arena) = self.changeable(index) {
             let read = |lim: &mut _| copying::set_pointer_from(arena, place, index, raw, lim);
             let made = from.meter.charge(read);
             self.message.keep(made);
@@ -337,7 +337,7 @@ impl StructBuilder<'_> {
     fn write_text(&mut self, index: usize, text: &str) -> Option<()> {
         let place = self.place;
         self.message.count_of(text.len() + 1, 1)?;
-        let made = value::set_text(self.to_change(index)?, place, index, text.as_bytes());
+        let made = value::set_text(self.changeable(index)?, place, index, text.as_bytes());
         self.message.keep(made)
     }
 
@@ -346,7 +346,7 @@ impl StructBuilder<'_> {
     fn write_data(&mut self, index: usize, data: &[u8]) -> Option<()> {
         let place = self.place;
         self.message.count_of(data.len(), 1)?;
-        let made = value::set_data(self.to_change(index)?, place, index, data);
+        let made = value::set_data(self.changeable(index)?, place, index, data);
         self.message.keep(made)
     }
 
@@ -354,14 +354,14 @@ impl StructBuilder<'_> {
     #[track_caller]
     fn new_struct(&mut self, index: usize, size: StructSize) -> Option<StructPlace> {
         let place = self.place;
-        let made = value::init_struct(self.to_change(index)?, place, index, size);
+        let made = value::init_struct(self.changeable(index)?, place, index, size);
         self.message.keep(made)
     }
 
     #[track_caller]
     fn old_struct(&mut self, index: usize, size: StructSize) -> Option<StructPlace> {
         let place = self.place;
-        let found = opening::get_struct(self.to_change(index)?, place, index, size);
+        let found = opening::get_struct(self.changeable(index)?, place, index, size);
         self.message.keep(found)
     }
 
@@ -370,7 +370,7 @@ impl StructBuilder<'_> {
     fn new_list(&mut self, index: usize, size: ElementSize, count: usize) -> Option<ListPlace> {
         let place = self.place;
         let count = self.message.count_of(count, 1)?;
-        let made = value::init_list(self.to_change(index)?, place, index, size, count);
+        let made = value::init_list(self.changeable(index)?, place, index, size, count);
         self.message.keep(made)
     }
 
@@ -379,14 +379,14 @@ impl StructBuilder<'_> {
     fn new_structs(&mut self, index: usize, count: usize, size: StructSize) -> Option<ListPlace> {
         let place = self.place;
         let count = self.message.count_of(count, size.total() as usize)?;
-        let made = value::init_struct_list(self.to_change(index)?, place, index, count, size);
+        let made = value::init_struct_list(self.changeable(index)?, place, index, count, size);
         self.message.keep(made)
     }
 
     #[track_caller]
     fn old_structs(&mut self, index: usize, size: StructSize) -> Option<ListPlace> {
         let place = self.place;
-        let found = opening::get_struct_list(self.to_change(index)?, place, index, size);
+        let found = opening::get_struct_list(self.changeable(index)?, place, index, size);
         self.message.keep(found)
     }
 }

@@ -60,9 +60,9 @@ impl<'b, T: ?Sized> ListBuilder<'b, T> {
     /// The arena, to change element `index`, which the list has to have; `None` after a refusal.
     #[inline(always)]
     #[track_caller]
-    fn to_change(&mut self, index: usize) -> Option<&mut BuiltArena> {
+    fn changeable(&mut self, index: usize) -> Option<&mut BuiltArena> {
         let count = self.len();
-        let arena = self.message.to_change()?;
+        let arena = self.message.changeable()?;
         if index >= count {
             no_element(index, count);
         }
@@ -84,7 +84,7 @@ impl<T: Number> ListBuilder<'_, T> {
     #[track_caller]
     pub fn set(&mut self, index: usize, number: T) {
         let place = self.list;
-        if let Some(arena) = self.to_change(index) {
+        if let Some(arena) = self.changeable(index) {
             list::set_element(arena, place, index as u32, number.into_bits());
         }
     }
@@ -104,7 +104,7 @@ impl ListBuilder<'_, bool> {
     #[track_caller]
     pub fn set(&mut self, index: usize, bit: bool) {
         let place = self.list;
-        if let Some(arena) = self.to_change(index) {
+        if let Some(arena) = self.changeable(index) {
             list::set_bool(arena, place, index as u32, bit);
         }
     }
@@ -123,7 +123,12 @@ impl ListBuilder<'_, str> {
     fn write(&mut self, index: usize, text: &str) -> Option<()> {
         let place = self.list;
         self.message.count_of(text.len() + 1, 1)?;
-        let made = list::set_text(self.to_change(index)?, place, index as u32, text.as_bytes());
+        let made = list::set_text(
+            self.changeable(index)?,
+            place,
+            index as u32,
+            text.as_bytes(),
+        );
         self.message.keep(made)
     }
 }
@@ -141,7 +146,7 @@ impl ListBuilder<'_, [u8]> {
     fn write(&mut self, index: usize, data: &[u8]) -> Option<()> {
         let place = self.list;
         self.message.count_of(data.len(), 1)?;
-        let made = list::set_data(self.to_change(index)?, place, index as u32, data);
+        let made = list::set_data(self.changeable(index)?, place, index as u32, data);
         self.message.keep(made)
     }
 }
@@ -160,7 +165,7 @@ impl<T: Element + ?Sized> ListBuilder<'_, Lists<T>> {
     fn new_list(&mut self, index: usize, count: usize) -> Option<ListPlace> {
         let place = self.list;
         let count = self.message.count_of(count, 1)?;
-        let made = list::init_list(self.to_change(index)?, place, index as u32, T::SIZE, count);
+        let made = list::init_list(self.changeable(index)?, place, index as u32, T::SIZE, count);
         self.message.keep(made)
     }
 }
@@ -183,7 +188,7 @@ impl ListBuilder<'_, Lists<Structs>> {
     fn new_structs(&mut self, index: usize, count: usize, size: StructSize) -> Option<ListPlace> {
         let place = self.list;
         let count = self.message.count_of(count, size.total() as usize)?;
-        let arena = self.to_change(index)?;
+        let arena = self.changeable(index)?;
         let made = list::init_struct_list(arena, place, index as u32, count, size);
         self.message.keep(made)
     }
@@ -194,12 +199,11 @@ impl ListBuilder<'_, Structs> {
     #[inline]
     #[track_caller]
     pub fn at(&mut self, index: usize) -> StructBuilder<'_> {
-        let list = self.list;
-        let place = match self.to_change(index) {
-            Some(_) => Some(element_place(list, index as u32)),
-            None => None,
-        };
-        StructBuilder::of(self.message, place)
+        if self.changeable(index).is_none() {
+            return StructBuilder::of(self.message, None);
+        }
+        let place = element_place(self.list, index as u32);
+        StructBuilder::of(self.message, Some(place))
     }
 
     /// Struct `index`; `None` if there is no such element, or after a refusal.
