@@ -199,7 +199,8 @@ enum capnp_type {
     CAPNP_TYPE_CAPABILITY = 3
 };
 
-/* Takes the segments of a message. Returns false if there are 2^32 segments or more, or if one has 2^32 words or more. */
+/* Takes the segments of a message. Returns false, and leaves `to` unchanged, if there are 2^32 segments or more, or if one has
+ * 2^32 words or more. */
 bool capnp_layout_open(const struct capnp_segment *list, size_t count, struct capnp_segments *to);
 
 /* Finds the segments of the frame at the front of `size` bytes ("Serialization Over a Stream"), and writes them to the

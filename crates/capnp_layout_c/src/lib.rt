@@ -6,7 +6,7 @@
 //! message is null. A function returns 0 if it succeeded, otherwise the number of a refusal.
 #![tactic(auto)]
 
-ghost use Rattle.std.specs.Prelude.{◌≡◌, ◌≢◌, ◌≤◌, ◌+◌, ◌-◌, ◌↔◌, ◌^◌, ◌<◌, [], ℕ, length, min, pos, Some, IsTrue};
+ghost use Rattle.std.specs.Prelude.{◌≡◌, ◌≢◌, ◌≤◌, ◌+◌, ◌-◌, ◌↔◌, ◌^◌, ◌<◌, [], ℕ, length, min, pos, false, Some, IsTrue};
 ghost use Rattle.capnp_words.specs.Meter.{Meter, unused, Affords};
 ghost use Rattle.capnp_words.specs.Sizes.{size_number, pointers_per_element};
 ghost use Rattle.capnp_words.specs.declared.error.ErrorKind.TheVariants.{MessageContainsNonCapabilityPointerWhereCapabilityPointerWasExpected, MessageContainsNullCapabilityPointer};
@@ -69,12 +69,13 @@ fn found_struct<'a>(r: StructReader<'a, Segments<'_>>) -> FoundStruct<'a>
     }
 }
 
-/// Takes the segments of a message. Answers `false` if there are 2^32 segments or more, or if a
-/// segment has 2^32 words or more.
+/// Takes the segments of a message. Answers `false`, and leaves `to` unchanged, if there are 2^32
+/// segments or more, or if a segment has 2^32 words or more.
 #[unsafe(no_mangle)]
 pub extern "C" fn capnp_layout_open<'a>(list: &'a [&'a [u8]], to: &mut Segments<'a>) -> bool
     ensures exactly { IsTrue result ↔ AreSmall list.now }
     ensures opened { IsTrue result → to.new.list.now ≡ list.now }
+    ensures kept { result ≡ false → to.new ≡ to.old }
 {
     match Segments::new(list) {
         Some(segments) => {
