@@ -26,6 +26,7 @@ IN_CRATE = (
     ('a token is dropped', f'{MODULES}/capnp_words/words.rs', 'bytes.len() / 8\n', 'bytes.len()\n'),
     ('a bound is moved', f'{MODULES}/capnp_words/read_limiter.rs', 'left < amount', 'left <= amount'),
     ('operands are swapped', f'{MODULES}/capnp_words/words.rs', 'words - lanes', 'lanes - words'),
+    ('another word is read', f'{MODULES}/capnp_words/words.rs', 'let word = &bytes[i..i + 8];', 'let word = &bytes[i + 1..i + 9];'),
     ('a check is left out', f'{MODULES}/capnp_objects/nesting.rs', 'nesting_limit.max(0) as u32', 'nesting_limit as u32'),
     ('another refusal', f'{MODULES}/capnp_arena/arena/null_allocator.rs', 'Err(ErrorKind::AllocationFailed)', 'Err(ErrorKind::UnknownPointerType)'),
     ('a departure is changed', f'{MODULES}/capnp_arena/arena/builder_arena_impl.rs', 'if let Some((mut allocator, listed, apart)) = self.take_apart()', 'if let Some((mut allocator, apart, listed)) = self.take_apart()'),
@@ -51,7 +52,6 @@ IN_PRINTER = (
 )
 # Here also the test that fails then.
 BY_HAND = (
-    ('the wrong word', 'each_word_is_read_lowest_byte_first', 'tools/rust/departures/speed.txt', 'match bytes[i..].first_chunk()', 'match bytes[i + 1..].first_chunk()'),
     ('segments that aren\'t returned', 'a_dropped_arena_returns_each_segment_once_in_order', 'tools/rust/departures/drop.txt', 'deallocate_all(&mut allocator, listed, apart);\n        }\n    }\n}\n\n/// What', 'let _ = (&mut allocator, listed, apart);\n        }\n    }\n}\n\n/// What'),
     ('an error that is forgotten', 'the_error_of_a_device_is_noted', 'tools/rust/departures/io_error.txt', 'self.fault.set(fault.as_ref().map(same_error));\n', ''),
     ('a list that is cut short', 'lists', 'tools/rust/support/vec.rs', 'self.0.resize(n, value);\n        Ok(())', 'self.0.resize(n.min(999), value);\n        Ok(())'),

@@ -11,6 +11,7 @@ pub mod PutLemmas
 pub mod RangeLemmas
 pub mod Refused
 pub mod RowLemmas
+pub mod RowPut
 pub mod RowsCopied
 pub mod RowsLemmas
 pub mod Small

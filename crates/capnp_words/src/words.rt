@@ -9,21 +9,14 @@ use crate::lanes;
 use std::simd::prelude::*;
 
 /// The word at position `at`. Precondition: `bytes` has at least `at + 1` words.
-#[tactic(auto, using(capnp_format::proofs::WordsOf::word_bytes))]
 pub fn word_at(bytes: &[u8], at: usize) -> u64
     requires { 8 * at + 8 ≤ length bytes.now }
     ensures { result ≡ slice_index (words_of bytes.now) at }
 {
     let i = 8 * at;
+    let word = &bytes[i..i + 8];
     u64::from_le_bytes([
-        bytes[i],
-        bytes[i + 1],
-        bytes[i + 2],
-        bytes[i + 3],
-        bytes[i + 4],
-        bytes[i + 5],
-        bytes[i + 6],
-        bytes[i + 7],
+        word[0], word[1], word[2], word[3], word[4], word[5], word[6], word[7],
     ])
 }
 

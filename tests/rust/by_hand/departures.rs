@@ -1,4 +1,4 @@
-//! Tests of the texts of tools/rust/departures.
+//! Tests of the texts of tools/rust/departures, and of reading a word, where Rust tests the bound that Rattle proves.
 
 use capnp_proved::capnp_arena::arena::{
     push_or_count_refusal, Allocator, BuilderArena, BuilderArenaImpl, ReaderArena, Segment,

@@ -13,7 +13,7 @@ LIBRARIES = ('capnp_format', 'capnp_words', 'capnp_arena_traits', 'capnp_arena',
              'capnp_builders', 'typed_messages', 'typed_reading', 'typed_building', 'capnp_numbers', 'capnp_canonical')
 OF_PROGRAMS = 'capnp_edits', 'capnp_layout', 'capnp_show', 'capnp_streams', 'layout_vectors'
 # Which departures are for these libraries. The others are for programs.
-DEPARTURES = 'drop', 'io_error', 'speed'
+DEPARTURES = 'drop', 'io_error'
 NAME = 'capnp_proved'
 MANIFEST = f'''# Written by tools/rust/generated.py.
 [package]

@@ -7,7 +7,7 @@ ghost use Rattle.capnp_arena_traits.specs.Allocations.{max_segments};
 ghost use Rattle.capnp_arena.specs.Bounds.{FindsFit, HasBounds};
 ghost use Rattle.capnp_arena.specs.Rewritten.{RewritesRows};
 ghost use Rattle.capnp_arena.specs.Row.{shown, capacity_at};
-ghost use Rattle.capnp_arena_traits.specs.Written.{extended, with_words};
+ghost use Rattle.capnp_arena_traits.specs.Written.{extended, with_word, with_words};
 
 use crate::arena::row::Row;
 use crate::arena::rows::{At, allocated_in, copy_across_in};
@@ -103,6 +103,18 @@ impl<S: Segment> Listed<S> {
         ensures { result ≡ word_at (message (shown S.Segment self.now.rows.items)) id at }
     {
         self.rows[id as usize].word(at)
+    }
+
+    /// Writes `word` over word `at` of row `id`.
+    #[inline(always)]
+    #[tactic(auto, using(crate::proofs::RowsLemmas::rows_written))]
+    pub(crate) fn put_word(&mut self, id: u32, at: u32, word: u64)
+        requires { IsPlace (message (shown S.Segment self.old.rows.items)) id at }
+        ensures { RewritesRows S.Segment self.old.rows.items self.new.rows.items
+            (with_word (message (shown S.Segment self.old.rows.items)) id at word) }
+    {
+        let row = &mut self.rows[id as usize];
+        row.put_word(at, word);
     }
 
     /// Copies `n` words from place `from` to place `to`. Precondition: the two places are in

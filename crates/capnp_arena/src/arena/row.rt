@@ -1,5 +1,5 @@
 //! A segment of a builder arena, and how much of it is allocated.
-ghost use Rattle.std.specs.Prelude.{◌≡◌, ◌<◌, ◌≤◌, ◌+◌, ◌-◌, ◌*◌, ◌/◌, ◌↔◌, ◌++◌, [], ℕ, List, length, take, replicate, slice_index, IsTrue};
+ghost use Rattle.std.specs.Prelude.{◌≡◌, ◌<◌, ◌≤◌, ◌+◌, ◌-◌, ◌*◌, ◌/◌, ◌↔◌, ◌++◌, [], ℕ, List, length, take, replicate, slice_index, slice_set, IsTrue};
 ghost use Rattle.capnp_format.specs.Bytes.{words_of};
 ghost use Rattle.capnp_arena_traits.specs.Allocations.{IsRow, max_segment_words, zeros};
 ghost use Rattle.capnp_arena_traits.specs.Written.{with_copied, with_front};
@@ -104,7 +104,19 @@ impl<S: Segment> Row<S> {
         requires { at < self.now.used }
         ensures { result ≡ slice_index (words_of (allocated S.Segment self.now)) at }
     {
-        words::word_at(self.allocated(), at as usize)
+        words::word_at(self.segment.bytes(), at as usize)
+    }
+
+    /// Writes `word` over allocated word `at`.
+    #[inline(always)]
+    pub(crate) fn put_word(&mut self, at: u32, word: u64)
+        requires { at < self.old.used }
+        ensures { RewritesRow S.Segment self.old self.new
+            (slice_set (words_of (allocated S.Segment self.old)) at word) }
+    {
+        let start = 8 * at as usize;
+        let bytes = self.segment.bytes_mut();
+        words::put_word(&mut bytes[start..start + 8], 0, word);
     }
 
     /// Copies `n` words from position `from` of `row` to position `at` of this row.

@@ -13,7 +13,7 @@ ghost use Rattle.capnp_arena_traits.specs.Allocations.{IsFresh};
 ghost use Rattle.capnp_arena.specs.Bounds.{FindsFit, HasBounds};
 ghost use Rattle.capnp_arena.specs.Rewritten.{KeepsList, RewritesList, RewritesRows};
 ghost use Rattle.capnp_arena.specs.Row.{GainsRow, most_others, shown, capacity_at};
-ghost use Rattle.capnp_arena_traits.specs.Written.{extended, with_words};
+ghost use Rattle.capnp_arena_traits.specs.Written.{extended, with_word, with_words};
 
 use crate::arena::row::Row;
 use crate::arena::{Segment, WordPlace, bounds};
@@ -69,6 +69,19 @@ fn word_in<S: Segment>(rows: &[Row<S>], id: usize, at: u32) -> u64
     ensures { result ≡ word_at (message (shown S.Segment rows.now)) id at }
 {
     rows[id].word(at)
+}
+
+/// Writes `word` over word `at` of row `id`.
+#[cold]
+#[inline(never)]
+#[tactic(auto, using(crate::proofs::RowsLemmas::rows_written))]
+fn put_word_in<S: Segment>(rows: &mut [Row<S>], id: usize, at: u32, word: u64)
+    requires { IsPlace (message (shown S.Segment rows.old)) id at }
+    ensures { RewritesList S.Segment rows.old rows.new
+        (with_word (message (shown S.Segment rows.old)) id at word) }
+{
+    let row = &mut rows[id];
+    row.put_word(at, word);
 }
 
 /// A place in a list of rows: a row, by its index in the list, and a position in that row, in
@@ -231,6 +244,21 @@ impl<S: Segment> Rows<S> {
             self.first.word(at)
         } else {
             word_in(&self.others, id as usize - 1, at)
+        }
+    }
+
+    /// Writes `word` over word `at` of row `id`.
+    #[inline(always)]
+    #[tactic(auto, using(crate::proofs::ListedLemmas::listing))]
+    pub(crate) fn put_word(&mut self, id: u32, at: u32, word: u64)
+        requires { IsPlace (message (shown S.Segment (all S.Segment self.old))) id at }
+        ensures { RewritesRows S.Segment (all S.Segment self.old) (all S.Segment self.new)
+            (with_word (message (shown S.Segment (all S.Segment self.old))) id at word) }
+    {
+        if id == 0 {
+            self.first.put_word(at, word);
+        } else {
+            put_word_in(&mut self.others, id as usize - 1, at, word);
         }
     }
 

@@ -7,7 +7,7 @@ ghost use Rattle.capnp_words.specs.declared.error.ErrorKind.TheVariants.{Invalid
 ghost use Rattle.capnp_arena_traits.specs.Allocations.{max_segments, max_segment_words};
 ghost use Rattle.capnp_arena_traits.specs.View.{View};
 ghost use Rattle.capnp_arena_traits.specs.Taking.{GrowsSegment, IsFull, GainsSegment, IsAllocationRefusal, IsFirstFit, IsTaken, SameRoomBelow};
-ghost use Rattle.capnp_arena_traits.specs.Written.{with_words};
+ghost use Rattle.capnp_arena_traits.specs.Written.{with_word, with_words};
 
 use crate::arena::{ReaderArena, SegmentId, WordPlace};
 use capnp_words::error::ErrorKind;
@@ -49,6 +49,14 @@ pub trait BuilderArena: ReaderArena + sealed::Closed {
     fn get_word(&self, id: u32, at: u32) -> u64
         requires { IsPlace (view self.now).words id at }
         ensures { result ≡ word_at (view self.now).words id at };
+
+    /// Writes `word` at position `at` of segment `id`. Precondition: word `at` of segment `id` is
+    /// allocated.
+    fn put_word(&mut self, id: u32, at: u32, word: u64)
+        requires { IsPlace (view self.old).words id at }
+        ensures { view self.new
+            ≡ record (view self.old)
+            { words = with_word (view self.old).words id at word } };
 
     /// Copies `n` words from place `from` to place `to`, in the same segment or another one; the
     /// two ranges may overlap. If `n` is 0, nothing changes. Preconditions: segment `from.segment`

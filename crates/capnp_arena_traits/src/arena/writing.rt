@@ -1,4 +1,5 @@
-//! Writes whole words of a segment, through the bytes that `BuilderArena::segment_mut` lends.
+//! Writes whole words of a segment, by `BuilderArena::put_word` or through the bytes that
+//! `BuilderArena::segment_mut` lends.
 ghost use Rattle.std.specs.Prelude.{◌≡◌, ◌≤◌, ◌+◌, ◌*◌, length, replicate};
 ghost use Rattle.capnp_format.specs.Bytes.{words_of};
 ghost use Rattle.capnp_format.specs.Segments.{segment, IsPlace};
@@ -16,7 +17,7 @@ pub fn set_word<A: BuilderArena>(arena: &mut A, id: u32, at: u32, word: u64)
         ≡ record (A.view arena.old)
         { words = with_word (A.view arena.old).words id at word } }
 {
-    words::put_word(arena.segment_mut(id), at as usize, word);
+    arena.put_word(id, at, word);
 }
 
 /// Writes the words of `from` over those of segment `id` from position `at` on. If `from` is empty,

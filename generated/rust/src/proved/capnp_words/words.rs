@@ -14,10 +14,10 @@ use crate::proved::support::simd::prelude::*;
 #[inline]
 pub fn word_at(bytes: &[u8], at: usize) -> u64 {
     let i = 8 * at;
-    match bytes[i..].first_chunk() {
-        Some(word) => u64::from_le_bytes(*word),
-        None => unreachable!(),
-    }
+    let word = &bytes[i..i + 8];
+    u64::from_le_bytes([
+        word[0], word[1], word[2], word[3], word[4], word[5], word[6], word[7],
+    ])
 }
 
 /// Writes `word` at position `at`. Precondition: `bytes` has at least `at + 1` words.

@@ -525,6 +525,15 @@ impl<A: Allocator> BuilderArena for BuilderArenaImpl<A> {
     }
 
     #[inline]
+    fn put_word(&mut self, id: u32, at: u32, word: u64) {
+        if A::keeps_first_in_arena() {
+            self.apart.put_word(id, at, word);
+        } else {
+            self.listed.put_word(id, at, word);
+        }
+    }
+
+    #[inline]
     fn move_words(&mut self, from: WordPlace, to: WordPlace, n: u32) {
         if n == 0 {
             return;

@@ -83,6 +83,19 @@ impl<S: Segment> Listed<S> {
         self.rows[id as usize].word(at)
     }
 
+    /// Writes `word` over word `at` of row `id`.
+    ///
+    /// # Preconditions
+    ///
+    /// ```text
+    /// requires { IsPlace (message (shown S.Segment self.old.rows.items)) id at }
+    /// ```
+    #[inline(always)]
+    pub(in crate::proved::capnp_arena) fn put_word(&mut self, id: u32, at: u32, word: u64) {
+        let row = &mut self.rows[id as usize];
+        row.put_word(at, word);
+    }
+
     /// Copies `n` words from place `from` to place `to`. Precondition: the two places are in
     /// different rows.
     ///

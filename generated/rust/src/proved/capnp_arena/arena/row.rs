@@ -90,7 +90,21 @@ impl<S: Segment> Row<S> {
     /// ```
     #[inline]
     pub(in crate::proved::capnp_arena) fn word(&self, at: u32) -> u64 {
-        words::word_at(self.allocated(), at as usize)
+        words::word_at(self.segment.bytes(), at as usize)
+    }
+
+    /// Writes `word` over allocated word `at`.
+    ///
+    /// # Preconditions
+    ///
+    /// ```text
+    /// requires { at < self.old.used }
+    /// ```
+    #[inline(always)]
+    pub(in crate::proved::capnp_arena) fn put_word(&mut self, at: u32, word: u64) {
+        let start = 8 * at as usize;
+        let bytes = self.segment.bytes_mut();
+        words::put_word(&mut bytes[start..start + 8], 0, word);
     }
 
     /// Copies `n` words from position `from` of `row` to position `at` of this row.

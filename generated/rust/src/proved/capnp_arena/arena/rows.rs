@@ -60,6 +60,20 @@ fn word_in<S: Segment>(rows: &[Row<S>], id: usize, at: u32) -> u64 {
     rows[id].word(at)
 }
 
+/// Writes `word` over word `at` of row `id`.
+///
+/// # Preconditions
+///
+/// ```text
+/// requires { IsPlace (message (shown S.Segment rows.old)) id at }
+/// ```
+#[cold]
+#[inline(never)]
+fn put_word_in<S: Segment>(rows: &mut [Row<S>], id: usize, at: u32, word: u64) {
+    let row = &mut rows[id];
+    row.put_word(at, word);
+}
+
 /// A place in a list of rows: a row, by its index in the list, and a position in that row, in
 /// words.
 #[derive(Clone, Copy)]
@@ -212,6 +226,22 @@ impl<S: Segment> Rows<S> {
             self.first.word(at)
         } else {
             word_in(&self.others, id as usize - 1, at)
+        }
+    }
+
+    /// Writes `word` over word `at` of row `id`.
+    ///
+    /// # Preconditions
+    ///
+    /// ```text
+    /// requires { IsPlace (message (shown S.Segment (all S.Segment self.old))) id at }
+    /// ```
+    #[inline(always)]
+    pub(in crate::proved::capnp_arena) fn put_word(&mut self, id: u32, at: u32, word: u64) {
+        if id == 0 {
+            self.first.put_word(at, word);
+        } else {
+            put_word_in(&mut self.others, id as usize - 1, at, word);
         }
     }
 

@@ -38,6 +38,16 @@ pub trait BuilderArena: ReaderArena + sealed::Closed {
     /// ```
     fn get_word(&self, id: u32, at: u32) -> u64;
 
+    /// Writes `word` at position `at` of segment `id`. Precondition: word `at` of segment `id` is
+    /// allocated.
+    ///
+    /// # Preconditions
+    ///
+    /// ```text
+    /// requires { IsPlace (view self.old).words id at }
+    /// ```
+    fn put_word(&mut self, id: u32, at: u32, word: u64);
+
     /// Copies `n` words from place `from` to place `to`, in the same segment or another one; the
     /// two ranges may overlap. If `n` is 0, nothing changes. Preconditions: segment `from.segment`
     /// has at least `from.at + n` allocated words; segment `to.segment` has at least `to.at + n`.

@@ -1,4 +1,5 @@
-//! Writes whole words of a segment, through the bytes that `BuilderArena::segment_mut` lends.
+//! Writes whole words of a segment, by `BuilderArena::put_word` or through the bytes that
+//! `BuilderArena::segment_mut` lends.
 
 use crate::proved::capnp_arena_traits::arena::BuilderArena;
 use crate::proved::capnp_words::words;
@@ -13,7 +14,7 @@ use crate::proved::capnp_words::words;
 /// ```
 #[inline(always)]
 pub fn set_word<A: BuilderArena>(arena: &mut A, id: u32, at: u32, word: u64) {
-    words::put_word(arena.segment_mut(id), at as usize, word);
+    arena.put_word(id, at, word);
 }
 
 /// Writes the words of `from` over those of segment `id` from position `at` on. If `from` is empty,
