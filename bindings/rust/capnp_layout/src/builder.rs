@@ -31,9 +31,10 @@ type BuiltPointer<'b> = PointerBuilder<'b, BuiltArena>;
 /// A message that is being built, in one segment that grows. If there is no memory for it, the
 /// process aborts, like a `Vec` that grows.
 ///
-/// Setters return no `Result`: the first refusal, such as a text of 2^29 bytes or a source that
-/// can't be read, is kept, later calls change nothing, and each call that hands out the message
-/// returns the refusal. After a refusal indexes and offsets aren't tested.
+/// Setters return no `Result`: the first refusal, such as a text of 2^29 bytes, a source that can't
+/// be read, or more than 2^29 - 1 words in all (`AllocationFailed`), is kept, later calls change
+/// nothing, and each call that hands out the message returns the refusal. After a refusal indexes
+/// and offsets aren't tested.
 ///
 /// ```
 /// use capnp_layout::{Builder, StructSize};

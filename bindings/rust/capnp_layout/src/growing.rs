@@ -7,7 +7,6 @@ use crate::proved::capnp_arena::arena::{
 use crate::proved::capnp_words::error::ErrorKind;
 use crate::proved::support::alloc::Global;
 use crate::proved::support::vec::Vec as ListOf;
-use core::mem;
 use rust_alloc::vec::Vec;
 
 /// The most bytes that are zeroed before they are needed.
@@ -24,9 +23,13 @@ impl GrowingSegment {
     #[cold]
     #[inline(never)]
     fn grow(&mut self, bytes: usize) {
-        let ahead = self.bytes.len().clamp(1024, PIECE);
-        let ready = bytes.max((self.bytes.len() + ahead).min(self.length));
-        self.bytes.resize(ready, 0);
+        let ready = self.bytes.len() + self.bytes.len().clamp(1024, PIECE);
+        let room = if bytes <= self.bytes.capacity() {
+            self.bytes.capacity()
+        } else {
+            self.length
+        };
+        self.bytes.resize(bytes.max(ready.min(room)), 0);
     }
 }
 
@@ -61,9 +64,11 @@ impl Segment for GrowingSegment {
     }
 }
 
-/// Grants growing segments, and keeps the memory of the last one that was returned.
+/// Grants one growing segment, and keeps its memory when it is returned. Refuses a second segment
+/// until then, so a message has one, of at most 4 GiB.
 pub struct Growing {
-    kept: Vec<u8>,
+    /// The memory of the segment; `None` while it is granted.
+    kept: Option<Vec<u8>>,
     refused: u64,
 }
 
@@ -71,14 +76,14 @@ impl Growing {
     /// With memory for this number of bytes.
     pub fn new(bytes: usize) -> Self {
         Growing {
-            kept: Vec::with_capacity(bytes),
+            kept: Some(Vec::with_capacity(bytes)),
             refused: 0,
         }
     }
 
-    /// The allocated words of the segment that was returned last.
+    /// The allocated words of the segment that was returned.
     pub fn into_words(self) -> Vec<u8> {
-        self.kept
+        self.kept.unwrap_or_default()
     }
 }
 
@@ -94,7 +99,10 @@ impl Allocator for Growing {
         if min_words > MAX_SEGMENT_WORDS {
             return Err(ErrorKind::MessageTooLarge(min_words as usize));
         }
-        let mut bytes = mem::take(&mut self.kept);
+        let Some(mut bytes) = self.kept.take() else {
+            self.refused = self.refused.saturating_add(1);
+            return Err(ErrorKind::AllocationFailed);
+        };
         bytes.clear();
         Ok(GrowingSegment {
             bytes,
@@ -103,8 +111,9 @@ impl Allocator for Growing {
     }
 
     fn deallocate_segment(&mut self, segment: GrowingSegment, used_words: u32) {
-        self.kept = segment.bytes;
-        self.kept.truncate(8 * used_words as usize);
+        let mut bytes = segment.bytes;
+        bytes.truncate(8 * used_words as usize);
+        self.kept = Some(bytes);
     }
 
     fn keep<T>(&mut self, list: &mut ListOf<T>, row: T) -> Option<T> {
@@ -113,5 +122,45 @@ impl Allocator for Growing {
 
     fn refused(&self) -> u64 {
         self.refused
+    }
+}
+
+#[cfg(test)]
+mod tests {
+    use super::*;
+    use rust_alloc::vec;
+
+    #[test]
+    fn a_second_segment_is_refused() {
+        let mut allocator = Growing::new(16);
+        let mut segment = allocator.allocate_segment(1).unwrap();
+        segment.make_ready(16);
+        segment.bytes_mut()[8] = 1;
+        let refused = allocator.allocate_segment(1).err();
+        assert_eq!(
+            (refused, allocator.refused()),
+            (Some(ErrorKind::AllocationFailed), 1)
+        );
+        allocator.deallocate_segment(segment, 2);
+        let again = allocator.allocate_segment(1).unwrap();
+        assert!(again.bytes().is_empty(), "what was written is gone");
+        allocator.deallocate_segment(again, 0);
+        assert!(allocator.into_words().is_empty());
+    }
+
+    #[test]
+    fn memory_that_is_there_is_used_up_first() {
+        for (capacity, bytes, ready) in [
+            (0, 8, 1024),
+            (0, 2000, 2000),
+            (328, 8, 328),
+            (328, 328, 328),
+            (328, 336, 1024),
+            (1 << 20, 8, 1024),
+        ] {
+            let mut segment = Growing::new(capacity).allocate_segment(1).unwrap();
+            segment.make_ready(bytes);
+            assert_eq!(segment.bytes(), vec![0; ready]);
+        }
     }
 }

@@ -163,7 +163,7 @@ impl<'a> Message<'a> {
     pub fn canonical(&self) -> Result<Vec<u8>, Error> {
         match messages::canonicalize(
             Global,
-            Growing::new(0),
+            Growing::new(8 * (self.size_in_words() + 1)),
             &self.arena,
             Some(self.limits.words),
         ) {
