@@ -81,6 +81,7 @@ impl Builder {
     }
 
     /// The first refusal, if there was one.
+    #[inline]
     pub fn refused(&self) -> Option<&Error> {
         self.refused.as_ref()
     }
@@ -108,6 +109,13 @@ impl Builder {
             None => Some(&self.arena),
             Some(_) => None,
         }
+    }
+
+    /// The arena, also after a refusal, to write a number of a struct or a list that is there. That
+    /// takes no memory, and after a refusal nobody sees it, so it isn't worth a test.
+    #[inline(always)]
+    pub(crate) fn arena(&mut self) -> &mut BuiltArena {
+        &mut self.arena
     }
 
     /// The arena, to be changed; `None` after a refusal. What the change returns goes to

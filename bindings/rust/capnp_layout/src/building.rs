@@ -38,31 +38,12 @@ fn no_number(offset: usize, numbers: usize, size: usize) -> ! {
     panic!("number {offset} of a struct that has room for {numbers} of {size} bytes")
 }
 
-/// Panics if the data section has no number of `size` bytes at `offset`.
-#[inline(always)]
-#[track_caller]
-fn check_number(place: StructPlace, offset: usize, size: usize) {
-    let numbers = place.bits as usize / (8 * size);
-    if offset >= numbers {
-        no_number(offset, numbers, size);
-    }
-}
-
 /// Says which bit a struct doesn't have.
 #[cold]
 #[inline(never)]
 #[track_caller]
 fn no_bit(offset: usize, bits: u32) -> ! {
     panic!("bit {offset} of a struct that has room for {bits}")
-}
-
-/// Panics if the data section has no bit at `offset`.
-#[inline(always)]
-#[track_caller]
-fn check_bit(place: StructPlace, offset: usize) {
-    if offset >= place.bits as usize {
-        no_bit(offset, place.bits);
-    }
 }
 
 /// Says which pointer a struct doesn't have.
@@ -105,6 +86,16 @@ impl<'b> StructBuilder<'b> {
         }
     }
 
+    /// Where the struct is. If rustc knows the segment, it leaves out the code for others.
+    #[inline(always)]
+    fn place(&self) -> StructPlace {
+        debug_assert_eq!(self.place.segment, 0, "a built message has one segment");
+        StructPlace {
+            segment: 0,
+            ..self.place
+        }
+    }
+
     /// The same struct, borrowed from this one.
     #[inline]
     pub fn reborrow(&mut self) -> StructBuilder<'_> {
@@ -127,10 +118,12 @@ impl<'b> StructBuilder<'b> {
     #[inline(always)]
     #[track_caller]
     pub fn set<T: Number>(&mut self, offset: usize, number: T) -> &mut Self {
-        let place = self.place;
-        if let Some(arena) = self.message.changeable() {
-            check_number(place, offset, T::Bits::BYTES);
-            value::set_number(arena, place, offset, number.into_bits());
+        let place = self.place();
+        let numbers = place.bits as usize / (8 * T::Bits::BYTES);
+        if offset < numbers {
+            value::set_number(self.message.arena(), place, offset, number.into_bits());
+        } else if self.message.refused().is_none() {
+            no_number(offset, numbers, T::Bits::BYTES);
         }
         self
     }
@@ -151,10 +144,11 @@ impl<'b> StructBuilder<'b> {
     #[inline]
     #[track_caller]
     pub fn set_bool(&mut self, offset: usize, bit: bool) -> &mut Self {
-        let place = self.place;
-        if let Some(arena) = self.message.changeable() {
-            check_bit(place, offset);
-            value::set_bool(arena, place, offset, bit);
+        let place = self.place();
+        if offset < place.bits as usize {
+            value::set_bool(self.message.arena(), place, offset, bit);
+        } else if self.message.refused().is_none() {
+            no_bit(offset, place.bits);
         }
         self
     }
@@ -166,7 +160,7 @@ impl<'b> StructBuilder<'b> {
         let is_inside = offset < self.place.bits as usize / (8 * T::Bits::BYTES);
         match self.message.unless_refused() {
             Some(arena) if is_inside => {
-                T::from_bits(reading::get_number(arena, self.place, offset))
+                T::from_bits(reading::get_number(arena, self.place(), offset))
             }
             _ => T::from_bits(crate::proved::capnp_words::zero::Zero::zero()),
         }
@@ -177,7 +171,7 @@ impl<'b> StructBuilder<'b> {
         let is_inside = offset < self.place.bits as usize;
         self.message
             .unless_refused()
-            .is_some_and(|arena| is_inside && reading::get_bool(arena, self.place, offset))
+            .is_some_and(|arena| is_inside && reading::get_bool(arena, self.place(), offset))
     }
 
     /// Whether pointer `index` isn't null; `false` if there is no such pointer, or after a refusal.
@@ -185,14 +179,14 @@ impl<'b> StructBuilder<'b> {
         let is_inside = index < usize::from(self.place.pointers);
         self.message
             .unless_refused()
-            .is_some_and(|arena| is_inside && reading::has(arena, self.place, index))
+            .is_some_and(|arena| is_inside && reading::has(arena, self.place(), index))
     }
 
     /// The arena, to change pointer `index`, which the struct has to have; `None` after a refusal.
     #[inline(always)]
     #[track_caller]
     fn changeable(&mut self, index: usize) -> Option<&mut BuiltArena> {
-        let place = self.place;
+        let place = self.place();
         let arena = self.message.changeable()?;
         check_pointer(place, index);
         Some(arena)
@@ -202,7 +196,7 @@ impl<'b> StructBuilder<'b> {
     /// no such pointer.
     #[track_caller]
     pub fn clear(&mut self, index: usize) -> &mut Self {
-        let place = self.place;
+        let place = self.place();
         if let Some(arena) = self.changeable(index) {
             value::clear(arena, place, index);
         }
@@ -229,7 +223,7 @@ impl<'b> StructBuilder<'b> {
     /// program's.
     #[track_caller]
     pub fn set_capability(&mut self, index: usize, capability: u32) -> &mut Self {
-        let place = self.place;
+        let place = self.place();
         if let Some(arena) = self.changeable(index) {
             value::set_capability(arena, place, index, capability);
         }
@@ -239,7 +233,7 @@ impl<'b> StructBuilder<'b> {
     /// Makes pointer `index` lead to a copy of a struct that is read.
     #[track_caller]
     pub fn set_struct<M: Meter>(&mut self, index: usize, from: Struct<'_, M>) -> &mut Self {
-        let (place, raw) = (self.place, from.raw);
+        let (place, raw) = (self.place(), from.raw);
         if let Some(arena) = self.changeable(index) {
             let read = |lim: &mut _| copying::set_struct_from(arena, place, index, &raw, lim);
             let made = from.meter.charge(read);
@@ -255,7 +249,7 @@ impl<'b> StructBuilder<'b> {
         index: usize,
         from: List<'_, T, M>,
     ) -> &mut Self {
-        let (place, raw) = (self.place, from.raw);
+        let (place, raw) = (self.place(), from.raw);
         if let Some(arena) = self.changeable(index) {
             let read = |lim: &mut _| copying::set_list_from(arena, place, index, &raw, lim);
             let made = from.meter.charge(read);
@@ -267,7 +261,7 @@ impl<'b> StructBuilder<'b> {
     /// Makes pointer `index` lead to a copy of what a pointer that is read leads to.
     #[track_caller]
     pub fn set_pointer<M: Meter>(&mut self, index: usize, from: Pointer<'_, M>) -> &mut Self {
-        let (place, raw) = (self.place, from.raw);
+        let (place, raw) = (self.place(), from.raw);
         if let Some(arena) = self.changeable(index) {
             let read = |lim: &mut _| copying::set_pointer_from(arena, place, index, raw, lim);
             let made = from.meter.charge(read);
@@ -335,7 +329,7 @@ impl StructBuilder<'_> {
     #[inline(always)]
     #[track_caller]
     fn write_text(&mut self, index: usize, text: &str) -> Option<()> {
-        let place = self.place;
+        let place = self.place();
         self.message.count_of(text.len() + 1, 1)?;
         let made = value::set_text(self.changeable(index)?, place, index, text.as_bytes());
         self.message.keep(made)
@@ -344,7 +338,7 @@ impl StructBuilder<'_> {
     #[inline(always)]
     #[track_caller]
     fn write_data(&mut self, index: usize, data: &[u8]) -> Option<()> {
-        let place = self.place;
+        let place = self.place();
         self.message.count_of(data.len(), 1)?;
         let made = value::set_data(self.changeable(index)?, place, index, data);
         self.message.keep(made)
@@ -353,14 +347,14 @@ impl StructBuilder<'_> {
     #[inline(always)]
     #[track_caller]
     fn new_struct(&mut self, index: usize, size: StructSize) -> Option<StructPlace> {
-        let place = self.place;
+        let place = self.place();
         let made = value::init_struct(self.changeable(index)?, place, index, size);
         self.message.keep(made)
     }
 
     #[track_caller]
     fn old_struct(&mut self, index: usize, size: StructSize) -> Option<StructPlace> {
-        let place = self.place;
+        let place = self.place();
         let found = opening::get_struct(self.changeable(index)?, place, index, size);
         self.message.keep(found)
     }
@@ -368,7 +362,7 @@ impl StructBuilder<'_> {
     #[inline(always)]
     #[track_caller]
     fn new_list(&mut self, index: usize, size: ElementSize, count: usize) -> Option<ListPlace> {
-        let place = self.place;
+        let place = self.place();
         let count = self.message.count_of(count, 1)?;
         let made = value::init_list(self.changeable(index)?, place, index, size, count);
         self.message.keep(made)
@@ -377,7 +371,7 @@ impl StructBuilder<'_> {
     #[inline(always)]
     #[track_caller]
     fn new_structs(&mut self, index: usize, count: usize, size: StructSize) -> Option<ListPlace> {
-        let place = self.place;
+        let place = self.place();
         let count = self.message.count_of(count, size.total() as usize)?;
         let made = value::init_struct_list(self.changeable(index)?, place, index, count, size);
         self.message.keep(made)
@@ -385,7 +379,7 @@ impl StructBuilder<'_> {
 
     #[track_caller]
     fn old_structs(&mut self, index: usize, size: StructSize) -> Option<ListPlace> {
-        let place = self.place;
+        let place = self.place();
         let found = opening::get_struct_list(self.changeable(index)?, place, index, size);
         self.message.keep(found)
     }

@@ -45,6 +45,16 @@ impl<'b, T: ?Sized> ListBuilder<'b, T> {
         }
     }
 
+    /// Where the list is. If rustc knows the segment, it leaves out the code for others.
+    #[inline(always)]
+    fn place(&self) -> ListPlace {
+        debug_assert_eq!(self.list.segment, 0, "a built message has one segment");
+        ListPlace {
+            segment: 0,
+            ..self.list
+        }
+    }
+
     /// The number of elements; none after a refusal.
     #[inline]
     pub fn len(&self) -> usize {
@@ -57,16 +67,26 @@ impl<'b, T: ?Sized> ListBuilder<'b, T> {
         self.len() == 0
     }
 
+    /// Whether there is an element `index`. Panics if there is none, unless something was refused.
+    #[inline(always)]
+    #[track_caller]
+    fn has(&self, index: usize) -> bool {
+        let is_inside = index < self.len();
+        if !is_inside && self.message.refused().is_none() {
+            no_element(index, self.len());
+        }
+        is_inside
+    }
+
     /// The arena, to change element `index`, which the list has to have; `None` after a refusal.
     #[inline(always)]
     #[track_caller]
     fn changeable(&mut self, index: usize) -> Option<&mut BuiltArena> {
-        let count = self.len();
-        let arena = self.message.changeable()?;
-        if index >= count {
-            no_element(index, count);
+        if self.has(index) {
+            self.message.changeable()
+        } else {
+            None
         }
-        Some(arena)
     }
 }
 
@@ -83,9 +103,14 @@ impl<T: Number> ListBuilder<'_, T> {
     #[inline]
     #[track_caller]
     pub fn set(&mut self, index: usize, number: T) {
-        let place = self.list;
-        if let Some(arena) = self.changeable(index) {
-            list::set_element(arena, place, index as u32, number.into_bits());
+        let place = self.place();
+        if self.has(index) {
+            list::set_element(
+                self.message.arena(),
+                place,
+                index as u32,
+                number.into_bits(),
+            );
         }
     }
 
@@ -103,9 +128,9 @@ impl ListBuilder<'_, bool> {
     #[inline]
     #[track_caller]
     pub fn set(&mut self, index: usize, bit: bool) {
-        let place = self.list;
-        if let Some(arena) = self.changeable(index) {
-            list::set_bool(arena, place, index as u32, bit);
+        let place = self.place();
+        if self.has(index) {
+            list::set_bool(self.message.arena(), place, index as u32, bit);
         }
     }
 }
@@ -121,7 +146,7 @@ impl ListBuilder<'_, str> {
     #[inline(always)]
     #[track_caller]
     fn write(&mut self, index: usize, text: &str) -> Option<()> {
-        let place = self.list;
+        let place = self.place();
         self.message.count_of(text.len() + 1, 1)?;
         let made = list::set_text(
             self.changeable(index)?,
@@ -144,7 +169,7 @@ impl ListBuilder<'_, [u8]> {
     #[inline(always)]
     #[track_caller]
     fn write(&mut self, index: usize, data: &[u8]) -> Option<()> {
-        let place = self.list;
+        let place = self.place();
         self.message.count_of(data.len(), 1)?;
         let made = list::set_data(self.changeable(index)?, place, index as u32, data);
         self.message.keep(made)
@@ -163,7 +188,7 @@ impl<T: Element + ?Sized> ListBuilder<'_, Lists<T>> {
 
     #[track_caller]
     fn new_list(&mut self, index: usize, count: usize) -> Option<ListPlace> {
-        let place = self.list;
+        let place = self.place();
         let count = self.message.count_of(count, 1)?;
         let made = list::init_list(self.changeable(index)?, place, index as u32, T::SIZE, count);
         self.message.keep(made)
@@ -186,7 +211,7 @@ impl ListBuilder<'_, Lists<Structs>> {
 
     #[track_caller]
     fn new_structs(&mut self, index: usize, count: usize, size: StructSize) -> Option<ListPlace> {
-        let place = self.list;
+        let place = self.place();
         let count = self.message.count_of(count, size.total() as usize)?;
         let arena = self.changeable(index)?;
         let made = list::init_struct_list(arena, place, index as u32, count, size);
@@ -199,11 +224,15 @@ impl ListBuilder<'_, Structs> {
     #[inline]
     #[track_caller]
     pub fn at(&mut self, index: usize) -> StructBuilder<'_> {
-        if self.changeable(index).is_none() {
+        if !self.has(index) {
             return StructBuilder::of(self.message, None);
         }
-        let place = element_place(self.list, index as u32);
-        StructBuilder::of(self.message, Some(place))
+        debug_assert!(self.list.size == ElementSize::InlineComposite);
+        let list = ListPlace {
+            size: ElementSize::InlineComposite,
+            ..self.place()
+        };
+        StructBuilder::of(self.message, Some(element_place(list, index as u32)))
     }
 
     /// Struct `index`; `None` if there is no such element, or after a refusal.
