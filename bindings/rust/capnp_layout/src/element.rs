@@ -4,7 +4,7 @@ use crate::error::Error;
 use crate::list::List;
 use crate::meter::sealed::Closed;
 use crate::meter::Meter;
-use crate::proved::capnp_readers::readers::{ListReader, PrimitiveElement};
+use crate::proved::capnp_readers::readers::{ListReader, PrimitiveElement, StructReader};
 use crate::proved::capnp_words::primitive::Primitive;
 use crate::proved::capnp_words::wire_pointer::ElementSize;
 use crate::proved::capnp_words::zero::Zero;
@@ -139,11 +139,20 @@ impl Element for Structs {
 
     #[inline(always)]
     fn read<'a, M: Meter>(list: &ListReader<'a, Arena<'a>>, meter: M, index: u32) -> Struct<'a, M> {
-        Struct {
-            raw: list.get_struct_element(index),
-            meter,
-        }
+        let raw = match list.get_element_size() {
+            ElementSize::InlineComposite => list.get_struct_element(index),
+            _ => narrow_element(*list, index),
+        };
+        Struct { raw, meter }
     }
+}
+
+/// An element that isn't a struct, as a struct. Takes the list itself: what a call borrows, rustc
+/// keeps in memory, and with it the iterator that holds it.
+#[cold]
+#[inline(never)]
+fn narrow_element<'a>(list: ListReader<'a, Arena<'a>>, index: u32) -> StructReader<'a, Arena<'a>> {
+    list.get_struct_element(index)
 }
 
 #[inline(always)]
