@@ -9,7 +9,9 @@ use crate::proved::support::alloc::Global;
 use crate::proved::support::vec::Vec as ListOf;
 use rust_alloc::vec::Vec;
 
-/// The most bytes that are zeroed before they are needed.
+/// How many bytes are zeroed before they are needed: at least and at most. The first of a builder
+/// are fewer, 1024, since it has no memory for more; the next growth makes it 4096.
+const FIRST: usize = 3 * 1024;
 const PIECE: usize = 64 * 1024;
 
 /// A segment of 536,870,911 words, with memory for those that are in use. If there is no memory for
@@ -23,7 +25,7 @@ impl GrowingSegment {
     #[cold]
     #[inline(never)]
     fn grow(&mut self, bytes: usize) {
-        let ready = self.bytes.len() + self.bytes.len().clamp(1024, PIECE);
+        let ready = self.bytes.len() + self.bytes.len().clamp(FIRST, PIECE);
         let room = if bytes <= self.bytes.capacity() {
             self.bytes.capacity()
         } else {
@@ -151,12 +153,12 @@ mod tests {
     #[test]
     fn memory_that_is_there_is_used_up_first() {
         for (capacity, bytes, ready) in [
-            (0, 8, 1024),
-            (0, 2000, 2000),
+            (0, 8, 3072),
+            (0, 4000, 4000),
             (328, 8, 328),
             (328, 328, 328),
-            (328, 336, 1024),
-            (1 << 20, 8, 1024),
+            (328, 336, 3072),
+            (1 << 20, 8, 3072),
         ] {
             let mut segment = Growing::new(capacity).allocate_segment(1).unwrap();
             segment.make_ready(bytes);
