@@ -1,11 +1,14 @@
-# Builds and installs the library capnp_canonical and the program capnp_canon with just a C compiler: gcc or clang, for
-# any 64-bit little-endian machine. The C is in generated/, which `tools/generated.py` writes from the proved sources.
+# Builds and installs the libraries capnp_canonical and capnp_layout and the program capnp_canon with just a C compiler: gcc or
+# clang, for any little-endian machine of 64 bits; capnp_layout for one of 32 bits, too. The C is in generated/, which
+# `tools/generated.py` writes from the proved sources.
 #
-#     make                    the program capnp_canon
-#     make all                the library too, static and shared; the static library capnp_layout; and the program layout_tool
-#     make check              tests both: one message, the C test, and, if python3 is there, all vectors
+#     make                    the program capnp_canon, and the static library capnp_layout
+#     make all                both libraries, static and shared, and the programs capnp_canon and layout_tool
+#     make check              tests them: one message, the C tests, and, if python3 is there, all vectors
 #     make check-streams      runs the program over all streams, with python3; this takes minutes
 #     make install            installs them below PREFIX, with DESTDIR in front; LIBDIR and others can be set separately
+#     make layout             the static library capnp_layout only
+#     make check-layout, make install-layout    test and install only capnp_layout, both forms
 #     make install-python     installs the Python module into PYTHONDIR
 #     make wasm               the library for JavaScript, with clang and wasm-ld
 #     make crate              packages of the Rust crates, in build/crates/target/package, with cargo 1.90 or later and python3
@@ -23,9 +26,11 @@ MANDIR ?= $(PREFIX)/share/man
 BASHDIR ?= $(PREFIX)/share/bash-completion/completions
 ZSHDIR ?= $(PREFIX)/share/zsh/site-functions
 DOCDIR ?= $(PREFIX)/share/doc/capnp_canonical
+LAYOUT_DOCDIR ?= $(PREFIX)/share/doc/capnp_layout
 PYTHONDIR ?= $(PREFIX)/python
 PKGCONFIGDIR ?= $(LIBDIR)/pkgconfig
 CMAKEDIR ?= $(LIBDIR)/cmake/capnp_canonical
+LAYOUT_CMAKEDIR ?= $(LIBDIR)/cmake/capnp_layout
 
 AR ?= ar
 INSTALL ?= install
@@ -34,19 +39,19 @@ CFLAGS ?= -O2
 BUILD ?= build
 VERSION := $(shell sed -n 's/^.define CAPNP_CANONICAL_VERSION_TEXT "\(.*\)"/\1/p' bindings/c/capnp_canonical.h)
 MAJOR := $(firstword $(subst ., ,$(VERSION)))
-NAME = capnp_canonical
+# How the files of a shared library end. In SHARED_FLAGS, $* is the library's name.
 ifeq ($(findstring apple,$(shell $(CC) -dumpmachine)),)
-SHARED = lib$(NAME).so
-SHARED_MAJOR = $(SHARED).$(MAJOR)
-SHARED_FILE = $(SHARED).$(VERSION)
-SHARED_FLAGS = -shared -Wl,-soname,$(SHARED_MAJOR) -Wl,--version-script=generated/$(NAME).map
+SHARED = so
+SHARED_MAJOR = so.$(MAJOR)
+SHARED_FILE = so.$(VERSION)
+SHARED_FLAGS = -shared -Wl,-soname,lib$*.$(SHARED_MAJOR) -Wl,--version-script=generated/$*.map
 else
 # a linker without sonames, which takes a list of names
-SHARED = lib$(NAME).dylib
-SHARED_MAJOR = lib$(NAME).$(MAJOR).dylib
-SHARED_FILE = lib$(NAME).$(VERSION).dylib
-SHARED_FLAGS = -dynamiclib -Wl,-install_name,$(LIBDIR)/$(SHARED_MAJOR) -Wl,-compatibility_version,$(MAJOR) -Wl,-current_version,$(VERSION) \
-	-Wl,-exported_symbols_list,$(BUILD)/names
+SHARED = dylib
+SHARED_MAJOR = $(MAJOR).dylib
+SHARED_FILE = $(VERSION).dylib
+SHARED_FLAGS = -dynamiclib -Wl,-install_name,$(LIBDIR)/lib$*.$(SHARED_MAJOR) -Wl,-compatibility_version,$(MAJOR) -Wl,-current_version,$(VERSION) \
+	-Wl,-exported_symbols_list,$(BUILD)/$*.names
 endif
 FILLED = sed -e 's|@PREFIX@|$(PREFIX)|' -e 's|@LIBDIR@|$(LIBDIR)|' -e 's|@INCLUDEDIR@|$(INCLUDEDIR)|' -e 's|@VERSION@|$(VERSION)|' -e 's|@MAJOR@|$(MAJOR)|' \
 	-e 's|@PYTHONDIR@|$(PYTHONDIR)|' -e 's|@SHARED_FILE@|$(SHARED_FILE)|' -e 's|@SHARED_MAJOR@|$(SHARED_MAJOR)|'
@@ -68,7 +73,8 @@ SHOW_FLAGS = $(ALL_FLAGS)
 LAYER_FLAGS = $(ALL_FLAGS)
 endif
 
-INSTALLED = $(BUILD)/lib$(NAME).a $(BUILD)/$(SHARED_FILE) $(BUILD)/capnp_canon
+CANONICAL = $(BUILD)/libcapnp_canonical.a $(BUILD)/libcapnp_canonical.$(SHARED_FILE)
+LAYOUT = $(BUILD)/libcapnp_layout.a $(BUILD)/libcapnp_layout.$(SHARED_FILE)
 PARTS = $(patsubst generated/%.c,$(BUILD)/%.o,$(wildcard generated/capnp_canon.c generated/capnp_canon_*.c))
 SELDOM = $(addprefix $(BUILD)/,capnp_canon.o capnp_canon_diffs.o capnp_canon_inputs.o capnp_canon_io.o)
 $(PARTS): PART_FLAGS = $(ALL_FLAGS)
@@ -77,9 +83,11 @@ $(BUILD)/capnp_canon_streams.o: PART_FLAGS = $(STREAMS_FLAGS)
 $(BUILD)/capnp_canon_show.o: PART_FLAGS = $(SHOW_FLAGS)
 $(BUILD)/capnp_canon_layer.o: PART_FLAGS = $(LAYER_FLAGS)
 
-program: $(BUILD)/capnp_canon
+program: $(BUILD)/capnp_canon layout
 
-all: $(INSTALLED) $(BUILD)/libcapnp_layout.a $(BUILD)/layout_tool
+all: program $(CANONICAL) $(LAYOUT) $(BUILD)/layout_tool
+
+layout: $(BUILD)/libcapnp_layout.a
 
 $(PARTS): $(BUILD)/%.o: generated/%.c generated/capnp_canon.h
 	@mkdir -p $(BUILD)
@@ -88,49 +96,65 @@ $(PARTS): $(BUILD)/%.o: generated/%.c generated/capnp_canon.h
 $(BUILD)/capnp_canon: $(PARTS)
 	$(CC) $(CFLAGS) $(LDFLAGS) -o $@ $(PARTS)
 
-$(BUILD)/$(NAME).o $(BUILD)/capnp_layout.o: $(BUILD)/%.o: generated/%.c $(wildcard bindings/c/*.h)
+$(BUILD)/capnp_canonical.o $(BUILD)/capnp_layout.o: $(BUILD)/%.o: generated/%.c $(wildcard bindings/c/*.h)
 	@mkdir -p $(BUILD)
 	$(CC) $(ALL_FLAGS) -fPIC -c -o $@ generated/$*.c
 
-$(BUILD)/lib$(NAME).a $(BUILD)/libcapnp_layout.a: $(BUILD)/lib%.a: $(BUILD)/%.o
+$(BUILD)/libcapnp_canonical.a $(BUILD)/libcapnp_layout.a: $(BUILD)/lib%.a: $(BUILD)/%.o
 	rm -f $@
 	$(AR) rcs $@ $(BUILD)/$*.o
 
-$(BUILD)/$(SHARED_FILE): $(BUILD)/$(NAME).o generated/$(NAME).map
-	sed -n 's/^ *\($(NAME)_.*\);$$/_\1/p' generated/$(NAME).map >$(BUILD)/names
-	$(CC) $(CFLAGS) $(LDFLAGS) $(SHARED_FLAGS) -o $@ $(BUILD)/$(NAME).o
-	ln -sf $(SHARED_FILE) $(BUILD)/$(SHARED_MAJOR)
-	ln -sf $(SHARED_MAJOR) $(BUILD)/$(SHARED)
+$(filter-out %.a,$(CANONICAL) $(LAYOUT)): $(BUILD)/lib%.$(SHARED_FILE): $(BUILD)/%.o generated/%.map
+	sed -n 's/^ *\($*_.*\);$$/_\1/p' generated/$*.map >$(BUILD)/$*.names
+	$(CC) $(CFLAGS) $(LDFLAGS) $(SHARED_FLAGS) -o $@ $(BUILD)/$*.o
+	ln -sf lib$*.$(SHARED_FILE) $(BUILD)/lib$*.$(SHARED_MAJOR)
+	ln -sf lib$*.$(SHARED_MAJOR) $(BUILD)/lib$*.$(SHARED)
 
 $(BUILD)/%: generated/%.c
 	@mkdir -p $(BUILD)
 	$(CC) $(ALL_FLAGS) $(LDFLAGS) -o $@ generated/$*.c
 
-check test: $(INSTALLED)
-	BUILD='$(BUILD)' CC='$(CC)' FLAGS='$(CPPFLAGS) $(CFLAGS) $(LDFLAGS)' PYTHON='$(PYTHON)' RUNNER='$(RUNNER)' sh tests/release/check.sh
+TESTED_BY = BUILD='$(BUILD)' CC='$(CC)' FLAGS='$(CPPFLAGS) $(CFLAGS) $(LDFLAGS)' PYTHON='$(PYTHON)' RUNNER='$(RUNNER)' sh
+
+check test: program $(CANONICAL) check-layout
+	$(TESTED_BY) tests/release/check.sh
+
+check-layout: $(LAYOUT)
+	$(TESTED_BY) tests/release/layout.sh
 
 check-streams: $(BUILD)/capnp_canon
 	$(PYTHON) -B tests/streams/run.py $(BUILD)/capnp_canon
 
-install: $(INSTALLED)
-	$(INSTALL) -d $(DESTDIR)$(LIBDIR) $(DESTDIR)$(PKGCONFIGDIR) $(DESTDIR)$(CMAKEDIR) $(DESTDIR)$(INCLUDEDIR) $(DESTDIR)$(BINDIR) \
-		$(DESTDIR)$(MANDIR)/man1 $(DESTDIR)$(BASHDIR) $(DESTDIR)$(ZSHDIR) $(DESTDIR)$(DOCDIR)
-	$(INSTALL) -m 644 $(BUILD)/lib$(NAME).a $(DESTDIR)$(LIBDIR)
-	$(INSTALL) -m 755 $(BUILD)/$(SHARED_FILE) $(DESTDIR)$(LIBDIR)
-	ln -sf $(SHARED_FILE) $(DESTDIR)$(LIBDIR)/$(SHARED_MAJOR)
-	ln -sf $(SHARED_MAJOR) $(DESTDIR)$(LIBDIR)/$(SHARED)
-	$(FILLED) bindings/c/$(NAME).pc.in >$(DESTDIR)$(PKGCONFIGDIR)/$(NAME).pc
-	$(FILLED) bindings/c/cmake/$(NAME)-config.cmake.in >$(DESTDIR)$(CMAKEDIR)/$(NAME)-config.cmake
-	$(FILLED) bindings/c/cmake/$(NAME)-config-version.cmake.in >$(DESTDIR)$(CMAKEDIR)/$(NAME)-config-version.cmake
-	$(INSTALL) -m 644 bindings/c/$(NAME).h $(wildcard bindings/cpp/*.hpp) $(DESTDIR)$(INCLUDEDIR)
+# installs a library: both forms, the files for pkg-config and CMake, and the licence
+#
+#     $(call installed,NAME,FOLDER FOR CMAKE,FOLDER FOR DOCUMENTS)
+define installed
+	$(INSTALL) -d $(DESTDIR)$(LIBDIR) $(DESTDIR)$(PKGCONFIGDIR) $(DESTDIR)$(2) $(DESTDIR)$(INCLUDEDIR) $(DESTDIR)$(3)
+	$(INSTALL) -m 644 $(BUILD)/lib$(1).a $(DESTDIR)$(LIBDIR)
+	$(INSTALL) -m 755 $(BUILD)/lib$(1).$(SHARED_FILE) $(DESTDIR)$(LIBDIR)
+	ln -sf lib$(1).$(SHARED_FILE) $(DESTDIR)$(LIBDIR)/lib$(1).$(SHARED_MAJOR)
+	ln -sf lib$(1).$(SHARED_MAJOR) $(DESTDIR)$(LIBDIR)/lib$(1).$(SHARED)
+	$(FILLED) bindings/c/$(1).pc.in >$(DESTDIR)$(PKGCONFIGDIR)/$(1).pc
+	for it in config config-version; do \
+		$(FILLED) -e 's|@NAME@|$(1)|g' bindings/c/cmake/$$it.cmake.in >$(DESTDIR)$(2)/$(1)-$$it.cmake || exit 1; done
+	$(INSTALL) -m 644 bindings/c/$(1).h $(DESTDIR)$(INCLUDEDIR)
+	$(INSTALL) -m 644 LICENSE $(DESTDIR)$(3)
+endef
+
+install: program $(CANONICAL) install-layout
+	$(call installed,capnp_canonical,$(CMAKEDIR),$(DOCDIR))
+	$(INSTALL) -d $(DESTDIR)$(BINDIR) $(DESTDIR)$(MANDIR)/man1 $(DESTDIR)$(BASHDIR) $(DESTDIR)$(ZSHDIR)
+	$(INSTALL) -m 644 $(wildcard bindings/cpp/*.hpp) $(DESTDIR)$(INCLUDEDIR)
 	$(INSTALL) -m 755 $(BUILD)/capnp_canon $(DESTDIR)$(BINDIR)
 	$(INSTALL) -m 644 share/capnp_canon.1 $(DESTDIR)$(MANDIR)/man1
 	$(INSTALL) -m 644 share/capnp_canon.bash $(DESTDIR)$(BASHDIR)/capnp_canon
 	$(INSTALL) -m 644 share/_capnp_canon $(DESTDIR)$(ZSHDIR)
-	$(INSTALL) -m 644 LICENSE $(DESTDIR)$(DOCDIR)
+
+install-layout: $(LAYOUT)
+	$(call installed,capnp_layout,$(LAYOUT_CMAKEDIR),$(LAYOUT_DOCDIR))
 
 install-python:
-	for it in $$(cd bindings/python && find $(NAME)* -name '*.py' -o -name py.typed); do \
+	for it in $$(cd bindings/python && find capnp_canonical* -name '*.py' -o -name py.typed); do \
 		$(INSTALL) -d $(DESTDIR)$(PYTHONDIR)/$$(dirname $$it) && $(INSTALL) -m 644 bindings/python/$$it $(DESTDIR)$(PYTHONDIR)/$$it || exit 1; done
 
 wasm:
@@ -145,4 +169,4 @@ crate:
 clean:
 	rm -rf $(BUILD)
 
-.PHONY: all check check-streams clean crate install install-python program test wasm
+.PHONY: all check check-layout check-streams clean crate install install-layout install-python layout program test wasm

@@ -4,7 +4,7 @@
     generated.py            writes it again from the current sources, over the libraries that `./test` left here; minutes
     generated.py --check    writes it into a temporary folder and compares every byte
     generated.py --sums     compares the sums in generated/ORIGIN with the files; needs no toolchain, takes milliseconds
-    generated.py --map      prints generated/capnp_canonical.map as it is written, for ./install
+    generated.py --map NAME prints generated/NAME.map as it is written, for ./install
 
 generated/ORIGIN names the toolchain's logic, and has one sum for each crate that the C is made from, over `src`, `specs` and `proofs`,
 one for the scripts that write the C, and one for each file. So --sums says which crate has changed since the C was written.
@@ -61,20 +61,20 @@ def sums():
     return {**made, 'crates.txt': digest(edges.encode()), 'writer': sum_of(WRITER), **headers, EXPORTS: sum_of([EXPORTS])}
 
 
-def came_with():
-    """The version that each function of the library came with, such as (1, 1)."""
+def came_with(library):
+    """The version that each function of a library came with, such as (1, 1)."""
     lines = [it.split() for it in (TOP / EXPORTS).read_text(encoding='utf-8').splitlines() if not it.startswith('#')]
-    return {name: tuple(map(int, version.split('.'))) for version, name in lines}
+    return {name: tuple(map(int, version.split('.'))) for version, name in lines if name.startswith(f'{library}_')}
 
 
-def exports():
-    """The linker script of the shared library: its visible names, in a node for each version that functions came with."""
-    versions, declared = came_with(), {name for _, name, _ in declarations(NAME)}
+def exports(library):
+    """The linker script of a shared library: its visible names, in a node for each version that functions came with."""
+    versions, declared = came_with(library), {name for _, name, _ in declarations(library)}
     if declared != versions.keys():
-        sys.exit(f'generated.py: {EXPORTS} and {header_of(NAME)} differ: {" ".join(sorted(declared ^ versions.keys()))}')
+        sys.exit(f'generated.py: {EXPORTS} and {header_of(library)} differ: {" ".join(sorted(declared ^ versions.keys()))}')
     nodes, before, local = [], '', 'local:\n    *;\n'
     for version in sorted({*versions.values()}):
-        node = f'{NAME.upper()}_{".".join(map(str, version))}'
+        node = f'{library.upper()}_{".".join(map(str, version))}'
         names = ''.join(f'    {it};\n' for it in sorted(versions) if versions[it] == version)
         nodes.append(f'{node} {{\nglobal:\n{names}{local}}}{before};\n')
         before, local = f' {node}', ''
@@ -96,7 +96,7 @@ def made():
         if run.returncode or sums() != before:
             sys.exit('generated.py: nothing is written' + ('' if run.returncode else ': the sources have changed in the meantime'))
         files = {it.name: it.read_bytes() for it in pathlib.Path(room).iterdir()}
-    files[f'{NAME}.map'] = exports()
+    files.update({f'{it}.map': exports(it) for it in FOR_C.values()})
     version = subprocess.run(['rt', 'version'], stdin=subprocess.DEVNULL, stdout=subprocess.PIPE, encoding='utf-8', check=True).stdout
     return {**files, 'ORIGIN': origin(version.split()[-1], files)}
 
@@ -156,8 +156,8 @@ def write():
 def main(words):
     if words == []:
         return write()
-    if words == ['--map']:
-        print(exports().decode(), end='')
+    if words[:1] == ['--map'] and words[1:] in ([it] for it in FOR_C.values()):
+        print(exports(words[1]).decode(), end='')
         return 0
     if words not in (['--check'], ['--sums']):
         sys.exit(__doc__)

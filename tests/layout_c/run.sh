@@ -1,8 +1,8 @@
 #!/bin/sh
 # run.sh [FOLDER]: tests reading from C: FOLDER/capnp_layout.c, by default that of generated/, and bindings/c/capnp_layout.h.
-# Compiles both with each compiler that is there, for 64 and 32 bits. ROUNDS is the number of mutated messages, by default
-# 20,000 for each part that has any. If the tools for a part are missing, the part is skipped, and a line says so. The last line
-# is `N passed, M failed`.
+# Compiles both with each compiler that is there, for 64 and 32 bits, and for two ARMs, whose programs run in qemu. ROUNDS is the
+# number of mutated messages, by default 20,000 for each part that has any. If the tools for a part are missing, the part is
+# skipped, and a line says so. The last line is `N passed, M failed`.
 set -u
 here=$(cd "$(dirname "$0")" && pwd)
 top=$(cd "$here/../.." && pwd)
@@ -15,6 +15,8 @@ passed=0 failed=0 skipped=
 include="-I$top/bindings/c -I$here"
 warnings='-Wall -Wextra -Wpedantic -Wconversion -Wshadow -Werror'
 sanitizers='-fsanitize=address,undefined -fno-sanitize-recover=undefined'
+# what runs a program, if it is for another machine
+runner=
 
 has() {
     for tool; do command -v "$tool" >/dev/null || return 1; done
@@ -53,10 +55,17 @@ summed() {
     passed=$((passed + good)) failed=$((failed + bad))
 }
 
-# Whether a compiler makes programs of these bits that run.
+# Runs a program, which may be for another machine.
+run() {
+    # shellcheck disable=SC2086
+    $runner "$@"
+}
+
+# Whether a compiler makes programs with these flags that run.
 runs() {
     # shellcheck disable=SC2086
-    echo 'int main(void) { return 0; }' >"$work/runs.c" && "$1" $2 -o "$work/runs" "$work/runs.c" 2>/dev/null && "$work/runs"
+    printf '#include <stdio.h>\nint main(void) { return puts("") < 0; }\n' >"$work/runs.c" && "$1" $2 -o "$work/runs" "$work/runs.c" 2>/dev/null &&
+        run "$work/runs" >"$work/said"
 }
 
 # The header, a program over it and the generated C, without a warning.
@@ -90,12 +99,12 @@ names() {
     sed -n 's/^[a-z].*[ *]\(capnp_layout_[a-z_]*\)(.*/\1/p' "$top/bindings/c/capnp_layout.h" | sort | cmp - "$work/defined"
 }
 
-# A program of this folder with sanitizers: the compiler, its bits, the program, and its arguments.
+# A program of this folder with sanitizers: the compiler, its flags, the program, and its arguments.
 sanitized() {
     compiler=$1 bits=$2 program=$3
     shift 3
     # shellcheck disable=SC2086
-    "$compiler" $bits -std=gnu11 -O1 -g $sanitizers $include -o "$work/$program" "$here/$program.c" "$folder/capnp_layout.c" && "$work/$program" "$@"
+    "$compiler" $bits -std=gnu11 -O1 -g $sanitizers $include -o "$work/$program" "$here/$program.c" "$folder/capnp_layout.c" && run "$work/$program" "$@"
 }
 
 plain() {
@@ -106,8 +115,15 @@ plain() {
 example() {
     plain "$1" "$2" "$top/bindings/c/reading.c" || return 1
     printf '%s' '(people = [(id = 1, name = "Alice", email = "alice@example.com"), (id = 2, name = "Bob")])' |
-        capnp encode "$top/tests/typed/addressbook.capnp" AddressBook | "$work/it" >"$work/said" || return 1
-    printf '1: Alice <alice@example.com>\n2: Bob <>\n' | cmp - "$work/said"
+        capnp encode "$top/tests/typed/addressbook.capnp" AddressBook >"$work/book" || return 1
+    run "$work/it" <"$work/book" >"$work/said" && cmp "$here/people.txt" "$work/said" && cmp "$here/book.bin" "$work/book"
+}
+
+# What the other example builds is what `capnp decode` and the first example read.
+example_that_builds() {
+    plain "$1" "$2" "$top/bindings/c/building.c" && run "$work/it" >"$work/book" &&
+        capnp decode "$top/tests/typed/addressbook.capnp" AddressBook <"$work/book" | grep -q 'people = \[' || return 1
+    plain "$1" "$2" "$top/bindings/c/reading.c" && run "$work/it" <"$work/book" | grep -q '^1: '
 }
 
 # Random address books: what is read is what `capnp decode` prints.
@@ -116,7 +132,7 @@ books() {
     for seed in 1 2 3 4 5 6 7 8 9 10; do
         python3 "$here/book.py" $seed $((seed * seed - 1)) | capnp encode "$top/tests/typed/addressbook.capnp" AddressBook >"$work/book" || return 1
         capnp decode --short "$top/tests/typed/addressbook.capnp" AddressBook <"$work/book" >"$work/wanted" || return 1
-        "$work/it" <"$work/book" | cmp - "$work/wanted" || return 1
+        run "$work/it" <"$work/book" | cmp - "$work/wanted" || return 1
     done
 }
 
@@ -132,24 +148,38 @@ beside() {
 }
 
 if has capnp; then capnp eval -b "$here/lists.capnp" lists >"$work/message"; fi
+# All parts with a compiler and its flags; the first word is what they are called.
+parts_with() {
+    called=$1 compiler=$2 flags=$3
+    if ! has "$compiler" || ! runs "$compiler" "$flags"; then
+        skip "$called" "compiler${runner:+ or no ${runner%% *}}"
+        return
+    fi
+    part "$called, no warnings" header_c "$compiler" "$flags"
+    summed "$called, edges" sanitized "$compiler" "$flags" edges
+    summed "$called, calls" sanitized "$compiler" "$flags" calls "$rounds" "${SEED:-1}"
+    if ! has capnp; then
+        skip "$called, messages" capnp
+        return
+    fi
+    part "$called, lists" lists "$compiler" "$flags"
+    part "$called, example" example "$compiler" "$flags"
+    if [ -f "$top/bindings/c/building.c" ]; then part "$called, example that builds" example_that_builds "$compiler" "$flags"; fi
+    if has python3; then part "$called, address books" books "$compiler" "$flags"; fi
+}
+
 for compiler in gcc clang; do
-    for bits in -m64 -m32; do
-        if ! has $compiler || ! runs $compiler $bits; then
-            skip "$compiler $bits" "compiler"
-            continue
-        fi
-        part "$compiler $bits, no warnings" header_c $compiler $bits
-        summed "$compiler $bits, edges" sanitized $compiler $bits edges
-        summed "$compiler $bits, calls" sanitized $compiler $bits calls "$rounds" "${SEED:-1}"
-        if has capnp; then
-            part "$compiler $bits, lists" lists $compiler $bits
-            part "$compiler $bits, example" example $compiler $bits
-            if has python3; then part "$compiler $bits, address books" books $compiler $bits; fi
-        else
-            skip "$compiler $bits, messages" capnp
-        fi
-    done
+    for bits in -m64 -m32; do parts_with "$compiler $bits" $compiler $bits; done
 done
+# for other machines: their programs need no file of the system, and no library for sanitizers
+of_this_machine=$sanitizers
+sanitizers='-fsanitize=undefined -fsanitize-undefined-trap-on-error'
+for machine in arm-linux-gnueabihf aarch64-linux-gnu; do
+    runner=qemu-${machine%%-*}
+    parts_with "$machine-gcc" "$machine-gcc" -static
+    parts_with "clang, $machine" clang "--target=$machine -static"
+done
+sanitizers=$of_this_machine runner=
 for compiler in g++ clang++; do
     if has $compiler; then part "$compiler, no warnings" header_cpp $compiler; else skip "$compiler" compiler; fi
 done

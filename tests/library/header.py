@@ -156,8 +156,8 @@ def facts_of_layout(answers):
 
 
 def declared_in_library():
-    """The functions that the header declares without a body."""
-    return re.findall(r'^[a-z].* (capnp_canonical_\w+)\([^{]*\);$', HEADER, re.M)
+    """The functions that the headers declare without a body."""
+    return re.findall(r'^[a-z].* (capnp_(?:canonical|layout)_\w+)\([^{;]*\);$', HEADER + LAYOUT, re.M)
 
 
 def main():
@@ -178,7 +178,8 @@ def main():
     levels = re.findall(rf'{PREFIX}MAX_NESTING (\d+)$', HEADER, re.M)
     facts += [(f'{name} has the largest nesting limit', re.findall(pattern, file(name), re.M) == levels) for name, pattern in LEVELS.items()]
     listed = re.findall(r'^[\d.]+ (\w+)$', file('tools/exports.txt'), re.M)
-    facts += [(f'{name} is declared, and has a version in tools/exports.txt', name in declared and listed.count(name) == 1) for name in sorted({*declared_in_library(), *listed})]
+    facts += [(f'{name} is declared, and has a version in tools/exports.txt', name in declared_in_library() and listed.count(name) == 1)
+              for name in sorted({*declared_in_library(), *listed})]
     # the package for cargo has copies of these files in its folder, because the gate takes no links
     facts += [(f'bindings/rust/{name} is {of}', file(f'bindings/rust/{name}') == file(of)) for name, of in PACKAGED.items()]
     failed = [what for what, holds in facts if not holds]

@@ -1,6 +1,6 @@
 #!/bin/sh
 # clone.sh [NAME..]: clones the last commit into a temporary folder, and builds and tests it there like a newcomer, with the C
-# compiler $CC, or cc, and without the toolchain's command `rt`. NAMEs choose the parts: first, check, compilers, sanitized,
+# compiler $CC, or cc, and without the toolchain's command `rt`. NAMEs choose the parts: first, layout, check, compilers, sanitized,
 # library, musl, machines, cmake, pip, cargo, wasm, release; by default all. On Windows, `library` is all that works.
 #
 # If a tool is missing, its part is skipped, and a line says so. The last line is `N passed, M failed`.
@@ -64,6 +64,32 @@ first() {
     make CC="$CC" && ./capnp_canon canon --flat "$message" | is_canonical
 }
 
+# Whether standard input is what bindings/c/reading.c prints of tests/layout_c/book.bin.
+is_read() {
+    cmp - "$clone/tests/layout_c/people.txt"
+}
+
+# The program that reads, with the library capnp_layout as make leaves it, and with its C among the sources.
+reading() {
+    make layout CC="$CC" && $CC -Ibindings/c -o "$work/reading" bindings/c/reading.c build/libcapnp_layout.a && "$work/reading" <tests/layout_c/book.bin | is_read &&
+        $CC -std=c99 -Ibindings/c -o "$work/reading_too" bindings/c/reading.c generated/capnp_layout.c && "$work/reading_too" <tests/layout_c/book.bin | is_read
+}
+
+# Builds only the library capnp_layout, for another machine, into a folder of this name, and tests it.
+#
+#     layout NAME CC [VARIABLE=VALUE..]
+layout() {
+    name=$1 cc=$2
+    shift 2
+    make check-layout BUILD="$work/layout_$name" CC="$cc" "$@"
+}
+
+# On a machine of 32 bits CMake builds and installs only capnp_layout.
+layout_by_cmake() {
+    cmake -B "$work/cmake_32" -DCMAKE_C_FLAGS=-m32 -DCMAKE_INSTALL_LIBDIR=lib && cmake --build "$work/cmake_32" && cmake --install "$work/cmake_32" --prefix "$work/of_32" &&
+        (cd "$work/of_32/lib" && printf '%s\n' *.*) | grep -qx libcapnp_layout.a
+}
+
 # The script of the program that isn't in the quick start, and that scripts pass on input.
 programs() {
     make all CC="$CC" && ./capnp_canon canon --flat <"$message" | is_canonical &&
@@ -105,28 +131,35 @@ by_musl() {
         "$work/musl/capnp_canon" canon --flat "$message" | is_canonical
 }
 
-# Whether the compiler for such a machine refuses each file, and says why.
+# Whether the compiler for such a machine refuses each file, and says why. One of 32 bits takes capnp_layout.
 #
 #     refused WHY CC..
 refused() {
     why=$1
     shift
     for it in generated/*.c; do
+        case $why:$it in *'64 bits:generated/capnp_layout.c') continue ;; esac
         if "$@" -std=c11 -Ibindings/c -fsyntax-only "$it" 2>"$work/refused" || ! grep "error.*\"$why\"" "$work/refused"; then cat "$work/refused"; return 1; fi
     done
 }
 
-# A CMake project that uses the library as its lines say.
+# A CMake project that uses both libraries as its lines say. If it has them as a part of itself, nothing of them is installed.
 #
 #     by_cmake NAME LINE..
 by_cmake() {
-    project=$work/cmake_$1
+    project=$work/cmake_$1 name=$1
     shift
     mkdir "$project" && {
-        printf 'cmake_minimum_required(VERSION 3.14)\nproject(user C)\n' && printf '%s\n' "$@" &&
-            printf 'add_executable(example "%s/bindings/c/example.c")\ntarget_link_libraries(example capnp_canonical::capnp_canonical)\n' "$clone"
-    } >"$project/CMakeLists.txt" && cmake -S "$project" -B "$project/build" -DCMAKE_PREFIX_PATH="$work/prefix" && cmake --build "$project/build" --target example &&
-        "$project/build/example" <"$message" | is_canonical
+        printf 'cmake_minimum_required(VERSION 3.14)\nproject(user C)\n' && printf '%s\n' "$@" && cat <<END
+add_executable(example "$clone/bindings/c/example.c")
+target_link_libraries(example capnp_canonical::capnp_canonical)
+add_executable(reading "$clone/bindings/c/reading.c")
+target_link_libraries(reading capnp_layout::capnp_layout)
+END
+    } >"$project/CMakeLists.txt" && cmake -S "$project" -B "$project/build" -DCMAKE_PREFIX_PATH="$work/prefix" &&
+        cmake --build "$project/build" --target example --target reading && "$project/build/example" <"$message" | is_canonical &&
+        "$project/build/reading" <tests/layout_c/book.bin | is_read || return 1
+    [ "$name" = found ] || { cmake --install "$project/build" --prefix "$project/installed" && [ ! -e "$project/installed" ]; }
 }
 
 installed_by_cmake() {
@@ -135,6 +168,14 @@ installed_by_cmake() {
 
 installed_by_make() {
     make install PREFIX="$work/made" && "$work/made/bin/capnp_canon" canon --flat "$message" | is_canonical
+}
+
+# make installs capnp_layout by itself too, and pkg-config finds it.
+layout_installed() {
+    make install-layout PREFIX="$work/lone" CC="$CC" || return 1
+    flags=$(PKG_CONFIG_PATH="$work/lone/lib/pkgconfig" pkg-config --cflags --libs capnp_layout) || return 1
+    # shellcheck disable=SC2086
+    $CC -o "$work/lone/reading" bindings/c/reading.c $flags -Wl,-rpath,"$work/lone/lib" && "$work/lone/reading" <tests/layout_c/book.bin | is_read
 }
 
 # Installs the package into an environment of its own, and uses it.
@@ -182,13 +223,32 @@ unchanged() {
 }
 
 is_wanted() {
-    case " ${parts:=first check compilers sanitized library musl machines cmake pip cargo wasm release} " in *" $1 "*) ;; *) return 1 ;; esac
+    case " ${parts:=first layout check compilers sanitized library musl machines cmake pip cargo wasm release} " in *" $1 "*) ;; *) return 1 ;; esac
 }
 
 parts="$*"
 without_rt || exit 2
 mkdir "$clone" && part 'git clone' git clone -q "$top" . || exit 1
 if is_wanted first; then part 'make, and the first answer' first; fi
+if is_wanted layout; then
+    part 'a program that reads' reading
+    if has 'make install-layout' pkg-config; then part 'make install-layout' layout_installed; fi
+    # Debian's names of compilers
+    if $CC -m32 -o "$work/runs" -x c - <<END 2>/dev/null && "$work/runs"; then
+int main(void) { return sizeof(void *) != 4; }
+END
+        part 'capnp_layout, 32 bits' layout m32 "$CC -m32"
+        if has 'CMake, 32 bits' cmake; then part 'CMake, 32 bits' layout_by_cmake; fi
+    else
+        say 'capnp_layout, 32 bits: skipped, no compiler for it'
+    fi
+    if has 'capnp_layout, armhf' arm-linux-gnueabihf-gcc qemu-arm; then
+        part 'capnp_layout, armhf' layout armhf arm-linux-gnueabihf-gcc RUNNER='qemu-arm -L /usr/arm-linux-gnueabihf'
+    fi
+    if has 'capnp_layout, aarch64' aarch64-linux-gnu-gcc qemu-aarch64; then
+        part 'capnp_layout, aarch64' layout aarch64 aarch64-linux-gnu-gcc RUNNER='qemu-aarch64 -L /usr/aarch64-linux-gnu'
+    fi
+fi
 if is_wanted check; then
     part 'the programs' programs
     part "make check, $CC" make check CC="$CC"
@@ -232,7 +292,7 @@ if is_wanted cmake; then
     part 'make install' installed_by_make
     if has CMake cmake; then
         part 'CMake' installed_by_cmake
-        part 'CMake, find_package' by_cmake found 'find_package(capnp_canonical 1.0 REQUIRED)'
+        part 'CMake, find_package' by_cmake found 'find_package(capnp_canonical 1.0 REQUIRED)' 'find_package(capnp_layout 1.1 REQUIRED)'
         part 'CMake, add_subdirectory' by_cmake within "add_subdirectory(\"$clone\" capnp_canonical)"
         part 'CMake, FetchContent' by_cmake fetched 'include(FetchContent)' \
             "FetchContent_Declare(capnp_canonical GIT_REPOSITORY \"file://$clone\" GIT_TAG $(git -C "$clone" rev-parse HEAD))" 'FetchContent_MakeAvailable(capnp_canonical)'
