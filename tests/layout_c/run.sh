@@ -119,11 +119,14 @@ example() {
     run "$work/it" <"$work/book" >"$work/said" && cmp "$here/people.txt" "$work/said" && cmp "$here/book.bin" "$work/book"
 }
 
+decoded() {
+    capnp decode "$top/tests/typed/addressbook.capnp" AddressBook <"$1"
+}
+
 # What the other example builds is what `capnp decode` and the first example read.
 example_that_builds() {
-    plain "$1" "$2" "$top/bindings/c/building.c" && run "$work/it" >"$work/book" &&
-        capnp decode "$top/tests/typed/addressbook.capnp" AddressBook <"$work/book" | grep -q 'people = \[' || return 1
-    plain "$1" "$2" "$top/bindings/c/reading.c" && run "$work/it" <"$work/book" | grep -q '^1: '
+    plain "$1" "$2" "$top/bindings/c/building.c" && run "$work/it" >"$work/book" && decoded "$work/book" >"$work/said" && decoded "$here/book.bin" | cmp - "$work/said" || return 1
+    plain "$1" "$2" "$top/bindings/c/reading.c" && run "$work/it" <"$work/book" | cmp - "$here/people.txt"
 }
 
 # Random address books: what is read is what `capnp decode` prints.
@@ -169,7 +172,7 @@ parts_with() {
 }
 
 for compiler in gcc clang; do
-    for bits in -m64 -m32; do parts_with "$compiler $bits" $compiler $bits; done
+    for bits in -m64 -m32; do parts_with "$compiler $bits" "$compiler" $bits; done
 done
 # for other machines: their programs need no file of the system, and no library for sanitizers
 of_this_machine=$sanitizers
@@ -185,5 +188,9 @@ for compiler in g++ clang++; do
 done
 if has gcc nm; then part 'names' names gcc; fi
 if has capnp c++ && [ -f /usr/include/capnp/serialize.h ]; then summed 'beside C++' beside; else skip 'beside C++' 'C++ Cap'\''n Proto'; fi
+if has python3; then
+    python3 -B "$here/sizes.py" --check >"$work/sizes"
+    if grep -q '^skipped' "$work/sizes"; then skip 'sizes in docs/C.md' "$(sed 's/^skipped, no //' "$work/sizes")"; else summed 'sizes in docs/C.md' cat "$work/sizes"; fi
+fi
 echo "$passed passed, $failed failed${skipped:+; skipped: $skipped}"
 [ "$failed" = 0 ]

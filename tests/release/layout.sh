@@ -21,6 +21,10 @@ compile reading_shared bindings/c/reading.c -L"$build" -lcapnp_layout
 for program in reading_static reading_shared; do
     run "$build/$program" <tests/layout_c/book.bin | cmp - tests/layout_c/people.txt
 done
+if [ -f bindings/c/building.c ]; then
+    compile building bindings/c/building.c "$build/libcapnp_layout.a"
+    run "$build/building" | run "$build/reading_static" | cmp - tests/layout_c/people.txt
+fi
 echo 'capnp_layout, one message: passed'
 compile edges tests/layout_c/edges.c "$build/libcapnp_layout.a"
 compile calls tests/layout_c/calls.c -L"$build" -lcapnp_layout
