@@ -143,7 +143,8 @@ refused() {
     done
 }
 
-# A CMake project that uses both libraries as its lines say. If it has them as a part of itself, nothing of them is installed.
+# A CMake project that uses both libraries as its lines say. If it has them as a part of itself, nothing of them is installed, and
+# nothing is built that isn't linked.
 #
 #     by_cmake NAME LINE..
 by_cmake() {
@@ -157,9 +158,23 @@ add_executable(reading "$clone/bindings/c/reading.c")
 target_link_libraries(reading capnp_layout::capnp_layout)
 END
     } >"$project/CMakeLists.txt" && cmake -S "$project" -B "$project/build" -DCMAKE_PREFIX_PATH="$work/prefix" &&
-        cmake --build "$project/build" --target example --target reading && "$project/build/example" <"$message" | is_canonical &&
+        cmake --build "$project/build" && "$project/build/example" <"$message" | is_canonical &&
         "$project/build/reading" <tests/layout_c/book.bin | is_read || return 1
-    [ "$name" = found ] || { cmake --install "$project/build" --prefix "$project/installed" && [ ! -e "$project/installed" ]; }
+    [ "$name" = found ] || { cmake --install "$project/build" --prefix "$project/installed" && [ ! -e "$project/installed" ]; } || return 1
+    [ -z "$(find "$project/build" -name capnp_canon -type f)" ]
+}
+
+# A CMake project that links only capnp_layout builds only that.
+layout_within() {
+    project=$work/cmake_layout
+    mkdir "$project" && cat >"$project/CMakeLists.txt" <<END && cmake -S "$project" -B "$project/build" && cmake --build "$project/build" && "$project/build/reading" <tests/layout_c/book.bin | is_read || return 1
+cmake_minimum_required(VERSION 3.14)
+project(user C)
+add_subdirectory("$clone" of_capnp)
+add_executable(reading "$clone/bindings/c/reading.c")
+target_link_libraries(reading capnp_layout::capnp_layout)
+END
+    [ "$(find "$project/build" -name '*.a' | wc -l)" = 1 ]
 }
 
 installed_by_cmake() {
@@ -293,6 +308,7 @@ if is_wanted cmake; then
     if has CMake cmake; then
         part 'CMake' installed_by_cmake
         part 'CMake, find_package' by_cmake found 'find_package(capnp_canonical 1.0 REQUIRED)' 'find_package(capnp_layout 1.1 REQUIRED)'
+        part 'CMake, add_subdirectory, capnp_layout only' layout_within
         part 'CMake, add_subdirectory' by_cmake within "add_subdirectory(\"$clone\" capnp_canonical)"
         part 'CMake, FetchContent' by_cmake fetched 'include(FetchContent)' \
             "FetchContent_Declare(capnp_canonical GIT_REPOSITORY \"file://$clone\" GIT_TAG $(git -C "$clone" rev-parse HEAD))" 'FetchContent_MakeAvailable(capnp_canonical)'
