@@ -160,7 +160,7 @@ by_cmake() {
     found "$work/prefix_$first-O2" make && same_files "$work/prefix_$first-O2" "$work/by_cmake_ON"
 }
 
-# Builds a CMake project that finds the library installed at a prefix.
+# Builds a CMake project that finds the libraries installed at a prefix.
 found() {
     mkdir "$work/user_$2" && cat >"$work/user_$2/CMakeLists.txt" <<END
 cmake_minimum_required(VERSION 3.13)
@@ -170,10 +170,18 @@ add_executable(example $release/bindings/c/example.c)
 target_link_libraries(example capnp_canonical::capnp_canonical)
 add_executable(static $release/bindings/c/example.c)
 target_link_libraries(static capnp_canonical::static)
+find_package(capnp_layout 1.1 REQUIRED)
+add_executable(reading $release/bindings/c/reading.c)
+target_link_libraries(reading capnp_layout::capnp_layout)
+add_executable(reading_static $release/bindings/c/reading.c)
+target_link_libraries(reading_static capnp_layout::static)
 END
     cmake -S "$work/user_$2" -B "$work/user_$2/build" -DCMAKE_PREFIX_PATH="$1" && cmake --build "$work/user_$2/build" || return 1
     for program in example static; do
         "$work/user_$2/build/$program" <"$work/$first-O2/frame" | cmp - "$work/$first-O2/words" || return 1
+    done
+    for program in reading reading_static; do
+        "$work/user_$2/build/$program" <"$release/tests/layout_c/book.bin" | cmp - "$release/tests/layout_c/people.txt" || return 1
     done
 }
 
@@ -186,7 +194,9 @@ same_files() {
 # The library among the sources of another program, whose standard is an older one.
 by_standard() {
     for standard in c99 gnu99 c11 gnu17; do
-        "$1" -std=$standard -O1 -Wall -Wextra -Werror -I"$release/bindings/c" -c -o "$work/standard.o" "$release/generated/capnp_canonical.c" || return 1
+        for library in capnp_canonical capnp_layout; do
+            "$1" -std=$standard -O1 -Wall -Wextra -Werror -I"$release/bindings/c" -c -o "$work/standard.o" "$release/generated/$library.c" || return 1
+        done
     done
 }
 
@@ -238,6 +248,7 @@ for compiler in ${CCS:-gcc clang}; do
 done
 on_aarch64
 summed 'vectors over layout_tool' layout_tool
+summed 'capnp_layout' env ROUNDS="${ROUNDS:-2000}" sh "$release/tests/layout_c/run.sh"
 summed 'run.sh over it' sh "$release/tests/library/run.sh" "$work/prefix_$first-O2"
 sed -n 's/^ *\(ratio .*\)/    \1/p' "$work/log"
 part 'README' readme
