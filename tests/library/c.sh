@@ -84,17 +84,29 @@ mistakes() {
     [ "$(cat "$folder/error")" = 'standard output: No space left on device' ]
 }
 
-# Checks that the shared library has no visible names except those of the header.
+# Checks that a library has no visible names except those of its header.
+#
+#     names LIBRARY
 names() {
-    sed -n 's/^[a-z].* \(capnp_canonical_[a-z_]*\)(.*/\1/p' "$top/bindings/c/capnp_canonical.h" | sort >"$folder/declared"
-    nm -D --defined-only "$prefix/lib/libcapnp_canonical.so" | awk '$2 == "T" { sub("@.*", "", $3); print $3 }' | sort | cmp - "$folder/declared" \
-        && nm -g --defined-only "$prefix/lib/libcapnp_canonical.a" | awk '$2 == "T" { print $3 }' | sort | cmp - "$folder/declared"
+    sed -n "s/^[a-z].* \\($1_[a-z_]*\\)(.*/\\1/p" "$top/bindings/c/$1.h" | sort >"$folder/declared"
+    nm -D --defined-only "$prefix/lib/lib$1.so" | awk '$2 == "T" { sub("@.*", "", $3); print $3 }' | sort | cmp - "$folder/declared" \
+        && nm -g --defined-only "$prefix/lib/lib$1.a" | awk '$2 == "T" { print $3 }' | sort | cmp - "$folder/declared"
 }
 
-# Checks that each function has the symbol version of tools/exports.txt.
+# Checks that each function of a library has the symbol version of tools/exports.txt.
+#
+#     versions LIBRARY
 versions() {
-    awk '!/^#/ { print $2 "@@CAPNP_CANONICAL_" $1 }' "$top/tools/exports.txt" | sort >"$folder/listed"
-    nm -D --defined-only "$prefix/lib/libcapnp_canonical.so" | awk '$2 == "T" { print $3 }' | sort | diff "$folder/listed" -
+    awk -v library="$1" '!/^#/ && index($2, library "_") == 1 { print $2 "@@" toupper(library) "_" $1 }' "$top/tools/exports.txt" | sort >"$folder/listed"
+    nm -D --defined-only "$prefix/lib/lib$1.so" | awk '$2 == "T" { print $3 }' | sort | diff "$folder/listed" -
+}
+
+# Reads a message with capnp_layout.
+#
+#     reading FLAG..
+reading() {
+    "$CC" $flags $(pkg-config --cflags capnp_layout) -o "$folder/reading" "$top/bindings/c/reading.c" "$@" &&
+        "$folder/reading" <"$top/tests/layout_c/book.bin" | cmp - "$top/tests/layout_c/people.txt"
 }
 
 # Starts a program with a library of version 1.0.0, which lacks functions that it calls: the loader says so.
@@ -108,8 +120,12 @@ older() {
 }
 
 has "$CC" "all of it" && has pkg-config "all of it" || { echo "0 passed, 0 failed"; exit 0; }
-part "names" names
-part "versions of names" versions
+for library in capnp_canonical capnp_layout; do
+    part "names, $library" names $library
+    part "versions of names, $library" versions $library
+done
+part "capnp_layout, static" reading "$(pkg-config --variable=libdir capnp_layout)/libcapnp_layout.a"
+part "capnp_layout, shared" reading $(pkg-config --libs capnp_layout) -Wl,-rpath,"$prefix/lib"
 for which in static shared; do
     part "example, $which, built" build "example_$which" bindings/c/example.c "$which"
     has xxd "the examples' answers" && part "example, $which" example "example_$which"

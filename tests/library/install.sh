@@ -32,6 +32,12 @@ refuses() {
     [ $? = 2 ] && same "$(wc -l <"$work/error")" 1
 }
 
+# Compiles the example of capnp_layout with the installed files, for a form of the library, and runs it.
+reads() {
+    cc -o "$work/reading" -I"$stage/usr/include" "$top/bindings/c/reading.c" "$1" &&
+        LD_LIBRARY_PATH=$stage$libdir "$work/reading" <"$top/tests/layout_c/book.bin" | cmp - "$top/tests/layout_c/people.txt"
+}
+
 stage=$work/stage
 libdir=/usr/lib/x86_64-linux-gnu
 install_staged() {
@@ -43,13 +49,18 @@ test_that 'the list has every file' lists_all
 test_that 'the library is in the folder for libraries' [ -f "$stage$libdir/libcapnp_canonical.so.1" ]
 test_that 'no file names the stage' sh -c "! grep -rlF '$work' '$stage'"
 test_that 'pkg-config says the folders' same "$(PKG_CONFIG_LIBDIR=$stage$libdir/pkgconfig pkg-config --variable=libdir capnp_canonical)" $libdir
+test_that 'pkg-config says the folders of capnp_layout' same "$(PKG_CONFIG_LIBDIR=$stage$libdir/pkgconfig pkg-config --variable=libdir capnp_layout)" $libdir
+test_that 'a program reads with capnp_layout, static' reads "$stage$libdir/libcapnp_layout.a"
+test_that 'a program reads with capnp_layout, shared' reads "$stage$libdir/libcapnp_layout.so"
 test_that 'the program runs' "$stage/usr/bin/capnp_canon" --version
 test_that 'the package runs' env PYTHONPATH="$stage/usr/lib/python3/dist-packages" CAPNP_CANONICAL_LIBRARY="$stage$libdir/libcapnp_canonical.so" \
     python3 -m capnp_canonical --version
 test_that 'the man page' [ -s "$stage/usr/share/man/man1/capnp_canon.1" ]
 test_that 'the completion for bash' cmp "$top/share/capnp_canon.bash" "$stage/usr/share/bash-completion/completions/capnp_canon"
 test_that 'the completion for zsh' cmp "$top/share/_capnp_canon" "$stage/usr/share/zsh/site-functions/_capnp_canon"
-test_that 'the licence' cmp "$top/LICENSE" "$stage/usr/share/doc/capnp_canonical/LICENSE"
+for library in capnp_canonical capnp_layout; do
+    test_that "the licence of $library" cmp "$top/LICENSE" "$stage/usr/share/doc/$library/LICENSE"
+done
 echo kept >"$stage/usr/lib/python3/dist-packages/other"
 # a file that an older version may have left
 echo old >"$stage/usr/include/older.h" && echo /usr/include/older.h >>"$stage/usr/share/capnp_canonical/installed"
