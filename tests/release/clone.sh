@@ -161,7 +161,7 @@ END
         cmake --build "$project/build" && "$project/build/example" <"$message" | is_canonical &&
         "$project/build/reading" <tests/layout_c/book.bin | is_read || return 1
     [ "$name" = found ] || { cmake --install "$project/build" --prefix "$project/installed" && [ ! -e "$project/installed" ]; } || return 1
-    [ -z "$(find "$project/build" -name capnp_canon -type f)" ]
+    [ -z "$(find "$project/build" -name capnp_canon.dir)" ]
 }
 
 # A CMake project that links only capnp_layout builds only that.
