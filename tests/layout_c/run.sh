@@ -75,8 +75,11 @@ header_c() {
             # shellcheck disable=SC2086
             "$1" $2 -std=$standard -O1 $warnings $include -c -o "$work/it.o" "$here/$program" || return 1
         done
-        # shellcheck disable=SC2086
-        "$1" $2 -std=$standard -O1 $warnings $include -c -o "$work/it.o" "$top/bindings/c/reading.c" || return 1
+        for program in reading.c building.c; do
+            [ -f "$top/bindings/c/$program" ] || continue
+            # shellcheck disable=SC2086
+            "$1" $2 -std=$standard -O1 $warnings $include -c -o "$work/it.o" "$top/bindings/c/$program" || return 1
+        done
         # shellcheck disable=SC2086
         "$1" $2 -std=$standard -O1 $warnings $include -c -o "$work/it.o" "$folder/capnp_layout.c" || return 1
     done

@@ -20,13 +20,16 @@ HEADERS = TOP / 'bindings/c'
 PAGE = TOP / 'docs/C.md'
 MARKS = '<!-- sizes -->\n', '<!-- end -->\n'
 MACHINES = {'x86-64': 'x86_64-linux-gnu', 'aarch64': 'aarch64-linux-gnu', 'Cortex-M3': 'thumbv7m-none-eabi'}
-# The parts, each with a pattern for the functions of the library that it consists of. The first pattern that fits counts.
+# The parts, each with a pattern for the functions of the library that it consists of. The first pattern that fits counts, and a
+# part without functions isn't in the table.
 PARTS = (
     ('segments, the root, structs and their fields', r'open|root|struct'),
     ('lists', r'list'),
     ('texts and data', r'text|data'),
     ('types of pointers, capabilities', r'type|capability'),
     ('frames', r'open_frame'),
+    ('checking a whole message first', r'validate\w*'),
+    ('building', r'start|finish|grow|clear|(?:init|get|set|copy)_\w+'),
     ('the rest', r'\w+'),
 )
 # What the C needs of the C library. It is declared here, so that no machine's own headers are needed.
