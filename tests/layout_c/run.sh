@@ -99,7 +99,7 @@ names() {
     nm "$work/names.o" | sed 's/^[0-9a-f ]*//' | sort >"$work/names"
     ! grep -v -e '^T capnp_layout_' -e '^U mem\(cpy\|move\|set\)$' -e '^[tr] ' -e '^U __stack_chk_fail$' -e '^U _GLOBAL_OFFSET_TABLE_$' "$work/names" || return 1
     grep '^T ' "$work/names" | cut -d ' ' -f 2 >"$work/defined"
-    sed -n 's/^[a-z].*[ *]\(capnp_layout_[a-z_]*\)(.*/\1/p' "$top/bindings/c/capnp_layout.h" | sort | cmp - "$work/defined"
+    sed -n 's/^[a-z].*[ *]\(capnp_layout_[a-z0-9_]*\)(.*/\1/p' "$top/bindings/c/capnp_layout.h" | sort | cmp - "$work/defined"
 }
 
 # A program of this folder with sanitizers: the compiler, its flags, the program, and its arguments.

@@ -88,7 +88,7 @@ mistakes() {
 #
 #     names LIBRARY
 names() {
-    sed -n "s/^[a-z].* \\($1_[a-z_]*\\)(.*/\\1/p" "$top/bindings/c/$1.h" | sort >"$folder/declared"
+    sed -n "s/^[a-z].* \\($1_[a-z0-9_]*\\)(.*/\\1/p" "$top/bindings/c/$1.h" | sort >"$folder/declared"
     nm -D --defined-only "$prefix/lib/lib$1.so" | awk '$2 == "T" { sub("@.*", "", $3); print $3 }' | sort | cmp - "$folder/declared" \
         && nm -g --defined-only "$prefix/lib/lib$1.a" | awk '$2 == "T" { print $3 }' | sort | cmp - "$folder/declared"
 }
