@@ -4,11 +4,14 @@
 
 A wheel contains the package and the library. The library is the file that CAPNP_CANONICAL_LIBRARY names; or else what
 the C compiler `$CC` or `cc` makes of capnp_canonical.c, if that is in `native`, or in `../../generated` as in the
-repository; or else the one that `pkg-config` finds. The wheel is tagged for the platform that it was built on. For another
-tag, such as `manylinux_2_17_x86_64`, set the config setting `plat-name`.
+repository; or else the one that `pkg-config` finds. The wheel is tagged for the systems that this library is for, which
+its file tells (platform_tags.py). For another tag set the config setting `plat-name`. `pip install -e` puts the library
+into the package's folder here.
 """
+import ast
 import base64
 import csv
+import gzip
 import hashlib
 import io
 import os
@@ -16,14 +19,17 @@ import pathlib
 import re
 import shlex
 import subprocess
-import sysconfig
+import sys
 import tarfile
 import tempfile
 import zipfile
 
+import platform_tags
+
 HERE = pathlib.Path(__file__).resolve().parent
 NAME = 'capnp_canonical'
-LIBRARY = f'lib{NAME}.so'
+# The names that the package looks for.
+LIBRARY = {'darwin': f'lib{NAME}.dylib', 'win32': f'{NAME}.dll'}.get(sys.platform, f'lib{NAME}.so')
 VARIABLE = 'CAPNP_CANONICAL_LIBRARY'
 # Has the C end the process at places that are proved unreachable, where it would go on otherwise.
 TRAPS = 'CAPNP_CANONICAL_TRAPS'
@@ -57,10 +63,17 @@ def package():
     return {f'{NAME}/{it.name}': it.read_bytes() for it in files}
 
 
+def description():
+    """The text of the package, which says what it does and how to call it."""
+    return ast.get_docstring(ast.parse((HERE / NAME / '__init__.py').read_text(encoding='utf-8')))
+
+
 def metadata():
     return (f'Metadata-Version: 2.1\nName: {NAME}\nVersion: {about("version")}\nSummary: {about("description")}\n'
-            f'License: MIT\nClassifier: Programming Language :: Python :: Implementation :: CPython\n'
-            f'Requires-Python: {about("requires-python")}\n').encode()
+            f'License: MIT\nLicense-File: LICENSE\nKeywords: capnp,capnproto,canonical,digest,signature\n'
+            f'Classifier: Programming Language :: Python :: Implementation :: CPython\nClassifier: Typing :: Typed\n'
+            f'Requires-Python: {about("requires-python")}\nDescription-Content-Type: text/plain; charset=UTF-8\n'
+            f'\n{description()}\n').encode()
 
 
 def accepts(compiler, flag):
@@ -79,7 +92,8 @@ def compiled(source, header):
     with tempfile.TemporaryDirectory() as folder:
         library = pathlib.Path(folder) / LIBRARY
         compiler = shlex.split(os.environ.get('CC', 'cc'))
-        flags = shlex.split(os.environ.get('CFLAGS', '')) + shlex.split(os.environ.get('LDFLAGS', ''))
+        # ARCHFLAGS names the architectures on macOS, where a library may have several
+        flags = [flag for it in ('ARCHFLAGS', 'CFLAGS', 'LDFLAGS') for flag in shlex.split(os.environ.get(it, ''))]
         protected = [PROTECTION] if accepts(compiler, PROTECTION) else []
         subprocess.run([*compiler, '-std=gnu11', f'-D{TRAPS}', *flags, '-O2', *protected, '-fPIC', '-shared',
                         f'-I{header.parent}', '-o', str(library), str(source)], check=True)
@@ -102,16 +116,21 @@ def library():
     return compiled(source, native(f'{NAME}.h')) if source else installed()
 
 
-def build_wheel(wheel_directory, config_settings=None, metadata_directory=None):
-    platform = (config_settings or {}).get('plat-name') or sysconfig.get_platform().replace('-', '_').replace('.', '_')
-    stem, tag = f'{NAME}-{about("version")}', f'py3-none-{platform}'
-    files = {
-        **package(),
-        f'{NAME}/{LIBRARY}': library(),
-        f'{stem}.dist-info/METADATA': metadata(),
-        f'{stem}.dist-info/LICENSE': licence().read_bytes(),
-        f'{stem}.dist-info/WHEEL': f'Wheel-Version: 1.0\nGenerator: {NAME}\nRoot-Is-Purelib: false\nTag: {tag}\n'.encode(),
+def about_wheel(tags):
+    """The files that describe a wheel with these tags, by their names in it, without its list of files."""
+    folder = f'{NAME}-{about("version")}.dist-info'
+    lines = ''.join(f'Tag: {it}\n' for it in tags)
+    return {
+        f'{folder}/METADATA': metadata(),
+        f'{folder}/LICENSE': licence().read_bytes(),
+        f'{folder}/WHEEL': f'Wheel-Version: 1.0\nGenerator: {NAME}\nRoot-Is-Purelib: false\n{lines}'.encode(),
     }
+
+
+def written_wheel(directory, platforms, files):
+    """Write a wheel of these files for these platforms, and return its name."""
+    stem = f'{NAME}-{about("version")}'
+    files = {**files, **about_wheel([f'py3-none-{it}' for it in platforms])}
     record = io.StringIO()
     rows = csv.writer(record, lineterminator='\n')
     for name, data in files.items():
@@ -119,14 +138,39 @@ def build_wheel(wheel_directory, config_settings=None, metadata_directory=None):
         rows.writerow((name, f'sha256={digest}', len(data)))
     rows.writerow((f'{stem}.dist-info/RECORD', '', ''))
     files[f'{stem}.dist-info/RECORD'] = record.getvalue().encode()
-    wheel = f'{stem}-{tag}.whl'
-    with zipfile.ZipFile(pathlib.Path(wheel_directory) / wheel, 'w', zipfile.ZIP_DEFLATED) as archive:
+    wheel = f'{stem}-py3-none-{".".join(platforms)}.whl'
+    with zipfile.ZipFile(pathlib.Path(directory) / wheel, 'w', zipfile.ZIP_DEFLATED) as archive:
         for name, data in files.items():
             entry = zipfile.ZipInfo(name, DATE)
             entry.external_attr = (0o100755 if name.endswith(LIBRARY) else 0o100644) << 16
             entry.compress_type = zipfile.ZIP_DEFLATED
             archive.writestr(entry, data)
     return wheel
+
+
+def build_wheel(wheel_directory, config_settings=None, metadata_directory=None):
+    data = library()
+    platforms = platform_tags.of(data, (config_settings or {}).get('plat-name'))
+    return written_wheel(wheel_directory, platforms, {**package(), f'{NAME}/{LIBRARY}': data})
+
+
+def build_editable(wheel_directory, config_settings=None, metadata_directory=None):
+    """A wheel that has the path of the package here (PEP 660). Puts the library into the package, too."""
+    data = library()
+    (HERE / NAME / LIBRARY).write_bytes(data)
+    return written_wheel(wheel_directory, platform_tags.of(data), {f'__editable__.{NAME}.pth': f'{HERE}\n'.encode()})
+
+
+def prepare_metadata_for_build_wheel(metadata_directory, config_settings=None):
+    """Write the metadata, which needs no library."""
+    for name, data in about_wheel([]).items():
+        file = pathlib.Path(metadata_directory) / name
+        file.parent.mkdir(exist_ok=True)
+        file.write_bytes(data)
+    return f'{NAME}-{about("version")}.dist-info'
+
+
+prepare_metadata_for_build_editable = prepare_metadata_for_build_wheel
 
 
 def build_sdist(sdist_directory, config_settings=None):
@@ -136,11 +180,14 @@ def build_sdist(sdist_directory, config_settings=None):
     if None in sources.values():
         raise SystemExit(f'a source archive has {NAME}.c, which is not here')
     files = {**package(), 'PKG-INFO': metadata(), 'LICENSE': licence().read_bytes()}
-    files.update({name: (HERE / name).read_bytes() for name in ('pyproject.toml', 'build_wheel.py')})
+    files.update({name: (HERE / name).read_bytes() for name in ('pyproject.toml', 'build_wheel.py', 'platform_tags.py')})
     files.update({f'native/{name}': source.read_bytes() for name, source in sources.items()})
-    with tarfile.open(pathlib.Path(sdist_directory) / f'{stem}.tar.gz', 'w:gz', format=tarfile.PAX_FORMAT) as archive:
+    whole = io.BytesIO()
+    with tarfile.open(fileobj=whole, mode='w', format=tarfile.PAX_FORMAT) as archive:
         for name, data in files.items():
             entry = tarfile.TarInfo(f'{stem}/{name}')
             entry.size, entry.mode = len(data), 0o644
             archive.addfile(entry, io.BytesIO(data))
+    # without a time, so that the same files give the same archive
+    (pathlib.Path(sdist_directory) / f'{stem}.tar.gz').write_bytes(gzip.compress(whole.getvalue(), mtime=0))
     return f'{stem}.tar.gz'
