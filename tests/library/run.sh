@@ -191,16 +191,18 @@ cargo_newest() {
 wheel() {
     python3 -m venv "$work/venv" && mkdir "$work/wheel_of" && cp -R "$top/bindings" "$top/LICENSE" "$work/wheel_of" || return 1
     CAPNP_CANONICAL_LIBRARY=$prefix/lib/libcapnp_canonical.so "$work/venv/bin/pip" install --no-index "$work/wheel_of/bindings/python" || return 1
-    cd "$here" && env -u PYTHONPATH -u CAPNP_CANONICAL_LIBRARY "$work/venv/bin/python" -B -m unittest -v test_capnp_canonical test_commands
+    cd "$here" && env -u PYTHONPATH -u CAPNP_CANONICAL_LIBRARY "$work/venv/bin/python" -B -m unittest -v test_capnp_canonical test_interface test_commands
 }
 
 compiled_for_pip() {
-    cd "$here" && python3 -B -m unittest -v test_build_wheel
+    cd "$here" && CAPNP_CANONICAL_LIBRARY=$prefix/lib/libcapnp_canonical.so python3 -B -m unittest -v test_build_wheel
 }
 
-# Checks the types of the package like a program that uses it.
+# Checks the types of the package, of a program that uses it, and of the example.
 types_of_python() {
-    cd "$prefix/python" && "$(python_with mypy)" -m mypy --strict --cache-dir "$work/mypy" -p capnp_canonical && echo 'ok: mypy --strict'
+    cd "$prefix/python" && set -- "$(python_with mypy)" -m mypy --strict --cache-dir "$work/mypy" &&
+        "$@" -p capnp_canonical && echo 'ok: mypy --strict' &&
+        "$@" "$here/types_of_python.py" "$top/bindings/python/examples/canonical.py" && echo 'ok: mypy --strict of programs'
 }
 
 # Builds a program that finds the library with CMake.
@@ -234,7 +236,7 @@ cluster() {
 }
 
 unittest() {
-    cd "$here" && PYTHONPATH=$prefix/python "$1" -B -m unittest -v test_capnp_canonical test_commands
+    cd "$here" && PYTHONPATH=$prefix/python "$1" -B -m unittest -v test_capnp_canonical test_interface test_commands
 }
 
 if [ $# -gt 0 ]; then

@@ -4,7 +4,7 @@ from __future__ import annotations
 import enum
 from dataclasses import dataclass
 from operator import index
-from typing import List, Optional, Tuple, Union
+from typing import Dict, List, Optional, Tuple, Type, Union
 
 from capnp_canonical._library import library, text_of
 
@@ -108,7 +108,8 @@ class Reason(enum.IntEnum):
 
 class Error(ValueError):
     """A call was refused. `str` gives a sentence, such as
-    `message 2 at byte 40: Truncated: the bytes end inside a frame or a packed word`."""
+    `message 2 at byte 40: Truncated: the bytes end inside a frame or a packed word`. Each refusal is of one of the
+    subclasses, if the package knows its number; `Error(number)` makes one of them."""
 
     number: int
     """A `Refusal`, or an int if that doesn't have the number."""
@@ -124,6 +125,11 @@ class Error(ValueError):
     """The pointer at which the message is broken: the number of its segment, and its position there in words. None if the
     bytes aren't a frame or whole words, or if there is no room or no memory, or the message is too large; and None from the
     calls for a part."""
+
+    def __new__(cls, number: int, *more: object, **named: object) -> Error:
+        """An error of the subclass for the number."""
+        kind = _CLASSES.get(int(number), cls) if cls is Error else cls
+        return super().__new__(kind)
 
     def __init__(
         self, number: int, place: Optional[Tuple[int, int]] = None, looks_like: Optional[str] = None, wanted: int = 0,
@@ -149,6 +155,47 @@ class Error(ValueError):
 
     def __reduce__(self) -> Tuple[type[Error], Tuple[object, ...]]:
         return type(self), (int(self.number), self.place, self.looks_like, self.wanted, self.pointer)
+
+
+class IncompleteError(Error):
+    """The bytes end before the frame or the packed word does, or there are none."""
+
+
+class MalformedError(Error):
+    """The bytes aren't a message: whole words are missing, or a pointer is broken."""
+
+
+class OverLimitError(Error):
+    """The message is over one of the limits. It may be accepted with others."""
+
+
+class TooLargeError(Error):
+    """The message or its canonical form is larger than any that is accepted."""
+
+
+class OutOfMemoryError(Error, MemoryError):
+    """Memory ran out. It is a `MemoryError`, too."""
+
+
+class CapabilityError(Error):
+    """The value has a capability, and so no canonical form."""
+
+
+class NoSuchPlaceError(Error):
+    """The path leads nowhere."""
+
+
+class NoRoomError(Error):
+    """The buffer to write to is too small; `wanted` is how many bytes are needed."""
+
+
+_CLASSES: Dict[int, Type[Error]] = {
+    number: kind for kind, numbers in (
+        (IncompleteError, (2, 19)), (MalformedError, (3, 34, 42, 43, 44, 45, 55, 66)), (OverLimitError, (18, 57, 58, 60, 62)),
+        (TooLargeError, (17, 59)), (OutOfMemoryError, (32,)), (CapabilityError, (33,)), (NoSuchPlaceError, (61,)),
+        (NoRoomError, (1,)),
+    ) for number in numbers
+}
 
 
 @dataclass(frozen=True)

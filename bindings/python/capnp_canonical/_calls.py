@@ -2,8 +2,10 @@
 from __future__ import annotations
 
 import ctypes
+import functools
+import warnings
 from array import array
-from typing import TYPE_CHECKING, Any, Callable, Iterable, List, Optional, Sequence, Tuple
+from typing import TYPE_CHECKING, Any, Callable, Iterable, List, Optional, Sequence, Tuple, TypeVar
 
 from capnp_canonical._answers import (
     MAX_NESTING, Error, Extent, Fault, Kind, Limits, Object, Reason, Refusal, Size, Walk,
@@ -11,12 +13,18 @@ from capnp_canonical._answers import (
 from capnp_canonical._library import Lent, RawExtent, RawFault, RawObject, RawPointer, RawSegment, library
 from capnp_canonical._library import frame_size as raw_frame_size
 from capnp_canonical._looks import looks_like
+from capnp_canonical._pycapnp import frame_of
+from capnp_canonical._words import Room, Words, must_be_no_words
 
 if TYPE_CHECKING:
     from _typeshed import ReadableBuffer, WriteableBuffer
 
+    from capnp_canonical._pycapnp import Message
+
 DONE = 0
 LIMITS = Limits()
+# A limit that is passed by name; None for the one of `limits`.
+Bound = Optional[int]
 # The default of `most`: how many objects a call lists.
 MOST_OBJECTS = 65_536
 # Up to this size the room for a copy is as large as all bytes passed, and the frame isn't measured first.
@@ -34,6 +42,7 @@ _VALUE, _CANONICAL, _SIZE = 0, 1, 2
 _Reading = Optional[int]
 _Pointer = Optional[Tuple[int, int]]
 _Call = Callable[..., int]
+_Named = TypeVar('_Named', bound=Callable[..., Any])
 _REASONS = {int(it): it for it in Reason}
 _NO_LIMIT = 2**64 - 1
 
@@ -64,6 +73,7 @@ def _frame(frame: ReadableBuffer, limits: Limits) -> _Given:
     if type(frame) is bytes:
         size = len(frame)
         return _Given(frame, size, size, ())
+    must_be_no_words(frame)
     words = _limits(limits)[1]
     lent = Lent(frame)
     if lent.is_constant:
@@ -73,10 +83,16 @@ def _frame(frame: ReadableBuffer, limits: Limits) -> _Given:
         return _Given(lent.copy(size), size, size, (), (lent.address, lent.size))
 
 
+def _message(message: Message, limits: Limits) -> _Given:
+    """The frame at the front of some bytes, or the frame of a struct of pycapnp."""
+    return _frame(message if type(message) is bytes else frame_of(message), limits)
+
+
 def _packed(packed: ReadableBuffer) -> _Given:
     """Packed bytes; a copy of them, if something could change them meanwhile."""
     if type(packed) is bytes:
         return _Given(packed, len(packed), len(packed), ())
+    must_be_no_words(packed)
     lent = Lent(packed)
     passed = lent.address, lent.size
     given = _of_lent(lent.constant())
@@ -170,24 +186,39 @@ def _limits(limits: Limits) -> Tuple[int, int]:
         raise TypeError(f'limits must be of the class Limits, not {type(limits).__name__}') from None
 
 
-def _written(call: _Call, given: _Given, limits: Limits, room: int, reading: _Reading) -> bytes:
+def _room(size: int) -> Room:
+    """Memory of this size, which isn't 0."""
+    try:
+        return Room(size)
+    except (MemoryError, OverflowError):
+        raise Error(Refusal.ALLOCATION_FAILED) from None
+
+
+def within(limits: Limits, nesting: Bound = None, words: Bound = None) -> Limits:
+    """These limits, with the keywords of a call in place of theirs."""
+    if nesting is None and words is None:
+        return limits
+    _limits(limits)
+    return Limits(limits.nesting if nesting is None else nesting, limits.words if words is None else words)
+
+
+def _written(call: _Call, given: _Given, limits: Limits, size: int, reading: _Reading) -> bytes:
     """What a call writes. It gets this much room, and then as much as it needs if that is too small."""
     nesting, words = _limits(limits)
-    to, written = ctypes.create_string_buffer(room), ctypes.c_size_t()
-    answer = call(given.first, given.second, nesting, words, to, room, written)
+    room, written = _room(size), ctypes.c_size_t()
+    answer = call(given.first, given.second, nesting, words, room.address, room.size, written)
     if answer == Refusal.NO_ROOM:
-        room = written.value
-        to = ctypes.create_string_buffer(room)
-        answer = call(given.first, given.second, nesting, words, to, room, written)
+        room = _room(written.value)
+        answer = call(given.first, given.second, nesting, words, room.address, room.size, written)
     if answer != DONE:
         raise _error_of(answer, given, limits, reading)
-    return ctypes.string_at(to, written.value)
+    return room.take(written.value)
 
 
 def _written_of_frame(
-    call: _Call, frame: ReadableBuffer, limits: Limits, reading: _Reading = _CANONICAL
+    call: _Call, frame: Message, limits: Limits, reading: _Reading = _CANONICAL
 ) -> bytes:
-    with _frame(frame, limits) as given:
+    with _message(frame, limits) as given:
         size = given.size
         if size > _SMALL:
             size = _measured(given.first, size, _limits(limits)[1])
@@ -208,10 +239,10 @@ def _must_be_apart(to: Lent, given: _Given) -> None:
         raise ValueError('the buffer to write to overlaps the bytes to read')
 
 
-def _written_into(call: _Call, to: WriteableBuffer, frame: ReadableBuffer, limits: Limits) -> int:
+def _written_into(call: _Call, to: WriteableBuffer, frame: Message, limits: Limits) -> int:
     nesting, words = _limits(limits)
     written = ctypes.c_size_t()
-    with _frame(frame, limits) as given, Lent(to, writable=True) as room:
+    with _message(frame, limits) as given, Lent(to, writable=True) as room:
         _must_be_apart(room, given)
         answer = call(given.first, given.second, nesting, words, room.address, room.size, written)
         if answer != DONE:
@@ -296,55 +327,86 @@ def _at(call: _Call, path: Iterable[int]) -> _Call:
     return lambda first, second, *rest: call(first, second, raw, len(indexes), *rest)
 
 
-def copy(frame: ReadableBuffer, limits: Limits = LIMITS) -> bytes:
+def copy(frame: Message, limits: Limits = LIMITS, *, nesting: Bound = None, words: Bound = None) -> bytes:
     """Make the message canonical, as a frame of one segment."""
+    limits = within(limits, nesting, words)
     return _written_of_frame(library.capnp_canonical_copy, frame, limits)
 
 
-def copy_flat(frame: ReadableBuffer, limits: Limits = LIMITS) -> bytes:
+def copy_flat(frame: Message, limits: Limits = LIMITS, *, nesting: Bound = None, words: Bound = None) -> Words:
     """Make the message canonical, as raw words without the table of a frame: the bytes to hash or sign. Read stored
-    words back with `words_check` and `words_copy`."""
-    return _written_of_frame(library.capnp_canonical_copy_flat, frame, limits)
+    words back with `words_check` and `words_copy`. The calls for frames refuse the result, which is of type `Words`."""
+    limits = within(limits, nesting, words)
+    return Words(_written_of_frame(library.capnp_canonical_copy_flat, frame, limits))
 
 
-def copy_into(to: WriteableBuffer, frame: ReadableBuffer, limits: Limits = LIMITS) -> int:
+def copy_into(
+    to: WriteableBuffer, frame: Message, limits: Limits = LIMITS, *, nesting: Bound = None, words: Bound = None
+) -> int:
     """Like `copy`, but write to the front of a buffer, and return the number of bytes written. Raises `ValueError` if
     the buffer overlaps the frame."""
+    limits = within(limits, nesting, words)
     return _written_into(library.capnp_canonical_copy, to, frame, limits)
 
 
-def copy_flat_into(to: WriteableBuffer, frame: ReadableBuffer, limits: Limits = LIMITS) -> int:
+def copy_flat_into(
+    to: WriteableBuffer, frame: Message, limits: Limits = LIMITS, *, nesting: Bound = None, words: Bound = None
+) -> int:
     """Like `copy_flat`, but write to the front of a buffer, like `copy_into`."""
+    limits = within(limits, nesting, words)
     return _written_into(library.capnp_canonical_copy_flat, to, frame, limits)
 
 
-def digest(frame: ReadableBuffer, limits: Limits = LIMITS) -> bytes:
+def digest(frame: Message, limits: Limits = LIMITS, *, nesting: Bound = None, words: Bound = None) -> bytes:
     """The SHA-256 of the canonical words of the message, which are the bytes that `copy_flat` gives. It names the value:
     messages with equal values have the same."""
-    return _digest(library.capnp_canonical_digest, _frame(frame, limits), limits)
+    limits = within(limits, nesting, words)
+    return _digest(library.capnp_canonical_digest, _message(frame, limits), limits)
 
 
-def copy_flat_at(frame: ReadableBuffer, path: Iterable[int], limits: Limits = LIMITS) -> bytes:
+def hexdigest(frame: Message, limits: Limits = LIMITS, *, nesting: Bound = None, words: Bound = None) -> str:
+    """Like `digest`, in 64 hexadecimal digits of lower case."""
+    return digest(frame, within(limits, nesting, words)).hex()
+
+
+def copy_flat_at(
+    frame: Message, path: Iterable[int], limits: Limits = LIMITS, *, nesting: Bound = None, words: Bound = None
+) -> Words:
     """Make a part of a message canonical and return its raw words. The part is the value at the end of a path. The path
     has the indexes of pointers, from the root pointer on; `(0,)` is the first pointer of the root struct. In a list, an
     index is that of an element. Raises `Error` with `Refusal.NO_SUCH_PLACE` if the path leads nowhere."""
-    return _written_of_frame(_at(library.capnp_canonical_copy_flat_at, path), frame, limits, None)
+    limits = within(limits, nesting, words)
+    return Words(_written_of_frame(_at(library.capnp_canonical_copy_flat_at, path), frame, limits, None))
 
 
-def digest_at(frame: ReadableBuffer, path: Iterable[int], limits: Limits = LIMITS) -> bytes:
+def digest_at(
+    frame: Message, path: Iterable[int], limits: Limits = LIMITS, *, nesting: Bound = None, words: Bound = None
+) -> bytes:
     """The SHA-256 of the bytes that `copy_flat_at` gives."""
-    return _digest(_at(library.capnp_canonical_digest_at, path), _frame(frame, limits), limits, None)
+    limits = within(limits, nesting, words)
+    return _digest(_at(library.capnp_canonical_digest_at, path), _message(frame, limits), limits, None)
 
 
-def check(frame: ReadableBuffer, limits: Limits = LIMITS) -> Optional[Fault]:
+def hexdigest_at(
+    frame: Message, path: Iterable[int], limits: Limits = LIMITS, *, nesting: Bound = None, words: Bound = None
+) -> str:
+    """Like `digest_at`, in 64 hexadecimal digits."""
+    return digest_at(frame, path, within(limits, nesting, words)).hex()
+
+
+def check(
+    frame: ReadableBuffer, limits: Limits = LIMITS, *, nesting: Bound = None, words: Bound = None
+) -> Optional[Fault]:
     """Say why and where the message isn't canonical; None if it is: one segment that holds the canonical words of a
     value and nothing else."""
+    limits = within(limits, nesting, words)
     return _checked(library.capnp_canonical_check, _frame(frame, limits), limits)
 
 
-def is_canonical(frame: ReadableBuffer, limits: Limits = LIMITS) -> bool:
+def is_canonical(frame: ReadableBuffer, limits: Limits = LIMITS, *, nesting: Bound = None, words: Bound = None) -> bool:
     """Test whether the message is canonical. Also False if it can't be read, because a limit is exceeded or the bytes
     aren't a frame."""
+    limits = within(limits, nesting, words)
     try:
         given = _frame(frame, limits)
     except Error:
@@ -352,133 +414,239 @@ def is_canonical(frame: ReadableBuffer, limits: Limits = LIMITS) -> bool:
     return _is_canonical(library.capnp_canonical_check, given, limits)
 
 
-def size(frame: ReadableBuffer, limits: Limits = LIMITS) -> Size:
+def size(frame: Message, limits: Limits = LIMITS, *, nesting: Bound = None, words: Bound = None) -> Size:
     """Count the words and capabilities of the message."""
-    return _sized(library.capnp_canonical_size, _frame(frame, limits), limits)
+    limits = within(limits, nesting, words)
+    return _sized(library.capnp_canonical_size, _message(frame, limits), limits)
 
 
-def validate(frame: ReadableBuffer, limits: Limits = LIMITS) -> Extent:
+def validate(frame: Message, limits: Limits = LIMITS, *, nesting: Bound = None, words: Bound = None) -> Extent:
     """Raise `Error` unless the message is sound: unless its root means a value within both limits. The value may have
     capabilities."""
-    return _validated(library.capnp_canonical_validate, _frame(frame, limits), limits)
+    limits = within(limits, nesting, words)
+    return _validated(library.capnp_canonical_validate, _message(frame, limits), limits)
 
 
-def walk(frame: ReadableBuffer, most: int = MOST_OBJECTS, limits: Limits = LIMITS) -> Walk:
+def walk(
+    frame: ReadableBuffer, most: int = MOST_OBJECTS, limits: Limits = LIMITS, *, nesting: Bound = None, words: Bound = None
+) -> Walk:
     """List the structs, lists and capabilities of the message, at most `most` of them. A broken message is listed up to its
     first broken pointer. Raises `Error` only if the bytes aren't a message."""
+    limits = within(limits, nesting, words)
     return _walked(library.capnp_canonical_walk, _frame(frame, limits), most, limits)
 
 
-def size_at(frame: ReadableBuffer, path: Iterable[int], limits: Limits = LIMITS) -> Size:
+def size_at(
+    frame: Message, path: Iterable[int], limits: Limits = LIMITS, *, nesting: Bound = None, words: Bound = None
+) -> Size:
     """Like `size`, for the part of the message that `copy_flat_at` copies."""
-    return _sized(_at(library.capnp_canonical_size_at, path), _frame(frame, limits), limits, None)
+    limits = within(limits, nesting, words)
+    return _sized(_at(library.capnp_canonical_size_at, path), _message(frame, limits), limits, None)
 
 
-def segments_copy(segments: Iterable[ReadableBuffer], limits: Limits = LIMITS) -> bytes:
+def segments_copy(
+    segments: Iterable[ReadableBuffer], limits: Limits = LIMITS, *, nesting: Bound = None, words: Bound = None
+) -> bytes:
     """Like `copy`, for a message of these segments. The size of each is a multiple of 8 bytes."""
+    limits = within(limits, nesting, words)
     return _written_of_segments(library.capnp_canonical_segments_copy, segments, limits)
 
 
-def segments_copy_flat(segments: Iterable[ReadableBuffer], limits: Limits = LIMITS) -> bytes:
+def segments_copy_flat(
+    segments: Iterable[ReadableBuffer], limits: Limits = LIMITS, *, nesting: Bound = None, words: Bound = None
+) -> Words:
     """Like `copy_flat`, for a message of these segments."""
-    return _written_of_segments(library.capnp_canonical_segments_copy_flat, segments, limits)
+    limits = within(limits, nesting, words)
+    return Words(_written_of_segments(library.capnp_canonical_segments_copy_flat, segments, limits))
 
 
-def segments_digest(segments: Iterable[ReadableBuffer], limits: Limits = LIMITS) -> bytes:
+def segments_digest(
+    segments: Iterable[ReadableBuffer], limits: Limits = LIMITS, *, nesting: Bound = None, words: Bound = None
+) -> bytes:
     """Like `digest`, for a message of these segments."""
+    limits = within(limits, nesting, words)
     return _digest(library.capnp_canonical_segments_digest, _segments(segments), limits)
 
 
-def segments_copy_flat_at(segments: Iterable[ReadableBuffer], path: Iterable[int], limits: Limits = LIMITS) -> bytes:
+def segments_hexdigest(
+    segments: Iterable[ReadableBuffer], limits: Limits = LIMITS, *, nesting: Bound = None, words: Bound = None
+) -> str:
+    """Like `hexdigest`, for a message of these segments."""
+    return segments_digest(segments, within(limits, nesting, words)).hex()
+
+
+def segments_copy_flat_at(
+    segments: Iterable[ReadableBuffer], path: Iterable[int], limits: Limits = LIMITS, *, nesting: Bound = None, words: Bound = None
+) -> Words:
     """Like `copy_flat_at`, for a message of these segments."""
-    return _written_of_segments(_at(library.capnp_canonical_segments_copy_flat_at, path), segments, limits, None)
+    limits = within(limits, nesting, words)
+    return Words(_written_of_segments(_at(library.capnp_canonical_segments_copy_flat_at, path), segments, limits, None))
 
 
-def segments_digest_at(segments: Iterable[ReadableBuffer], path: Iterable[int], limits: Limits = LIMITS) -> bytes:
+def segments_digest_at(
+    segments: Iterable[ReadableBuffer], path: Iterable[int], limits: Limits = LIMITS, *, nesting: Bound = None, words: Bound = None
+) -> bytes:
     """Like `digest_at`, for a message of these segments."""
+    limits = within(limits, nesting, words)
     return _digest(_at(library.capnp_canonical_segments_digest_at, path), _segments(segments), limits, None)
 
 
-def segments_size_at(segments: Iterable[ReadableBuffer], path: Iterable[int], limits: Limits = LIMITS) -> Size:
+def segments_hexdigest_at(
+    segments: Iterable[ReadableBuffer], path: Iterable[int], limits: Limits = LIMITS, *, nesting: Bound = None, words: Bound = None
+) -> str:
+    """Like `hexdigest_at`, for a message of these segments."""
+    return segments_digest_at(segments, path, within(limits, nesting, words)).hex()
+
+
+def segments_size_at(
+    segments: Iterable[ReadableBuffer], path: Iterable[int], limits: Limits = LIMITS, *, nesting: Bound = None, words: Bound = None
+) -> Size:
     """Like `size_at`, for a message of these segments."""
+    limits = within(limits, nesting, words)
     return _sized(_at(library.capnp_canonical_segments_size_at, path), _segments(segments), limits, None)
 
 
-def segments_check(segments: Iterable[ReadableBuffer], limits: Limits = LIMITS) -> Optional[Fault]:
+def segments_check(
+    segments: Iterable[ReadableBuffer], limits: Limits = LIMITS, *, nesting: Bound = None, words: Bound = None
+) -> Optional[Fault]:
     """Like `check`, for a message of these segments."""
+    limits = within(limits, nesting, words)
     return _checked(library.capnp_canonical_segments_check, _segments(segments), limits)
 
 
-def segments_is_canonical(segments: Iterable[ReadableBuffer], limits: Limits = LIMITS) -> bool:
+def segments_is_canonical(
+    segments: Iterable[ReadableBuffer], limits: Limits = LIMITS, *, nesting: Bound = None, words: Bound = None
+) -> bool:
     """Like `is_canonical`, for a message of these segments."""
+    limits = within(limits, nesting, words)
     return _is_canonical(library.capnp_canonical_segments_check, _segments(segments), limits)
 
 
-def segments_size(segments: Iterable[ReadableBuffer], limits: Limits = LIMITS) -> Size:
+def segments_size(
+    segments: Iterable[ReadableBuffer], limits: Limits = LIMITS, *, nesting: Bound = None, words: Bound = None
+) -> Size:
     """Like `size`, for a message of these segments."""
+    limits = within(limits, nesting, words)
     return _sized(library.capnp_canonical_segments_size, _segments(segments), limits)
 
 
-def segments_validate(segments: Iterable[ReadableBuffer], limits: Limits = LIMITS) -> Extent:
+def segments_validate(
+    segments: Iterable[ReadableBuffer], limits: Limits = LIMITS, *, nesting: Bound = None, words: Bound = None
+) -> Extent:
     """Like `validate`, for a message of these segments."""
+    limits = within(limits, nesting, words)
     return _validated(library.capnp_canonical_segments_validate, _segments(segments), limits)
 
 
 def segments_walk(
-    segments: Iterable[ReadableBuffer], most: int = MOST_OBJECTS, limits: Limits = LIMITS
+    segments: Iterable[ReadableBuffer], most: int = MOST_OBJECTS, limits: Limits = LIMITS, *, nesting: Bound = None, words: Bound = None
 ) -> Walk:
     """Like `walk`, for a message of these segments."""
+    limits = within(limits, nesting, words)
     return _walked(library.capnp_canonical_segments_walk, _segments(segments), most, limits)
 
 
-def words_copy(words: ReadableBuffer, limits: Limits = LIMITS) -> bytes:
+def _also_by_name(call: _Named) -> _Named:
+    """A call whose message was named `words` in version 1.1.0, and still may be."""
+    @functools.wraps(call)
+    def renamed(*given: Any, **named: Any) -> Any:
+        if not given and 'message' not in named and 'words' in named:
+            warnings.warn('the message is named `message` now; `words` is a limit', DeprecationWarning, stacklevel=2)
+            given = named.pop('words'),
+        return call(*given, **named)
+    return renamed  # type: ignore[return-value]
+
+
+@_also_by_name
+def words_copy(
+    message: ReadableBuffer, limits: Limits = LIMITS, *, nesting: Bound = None, words: Bound = None
+) -> Words:
     """Like `copy_flat`, for a message passed as raw words: all of them are its one segment."""
-    return segments_copy_flat([words], limits)
+    return segments_copy_flat([message], within(limits, nesting, words))
 
 
-def words_digest(words: ReadableBuffer, limits: Limits = LIMITS) -> bytes:
+@_also_by_name
+def words_digest(
+    message: ReadableBuffer, limits: Limits = LIMITS, *, nesting: Bound = None, words: Bound = None
+) -> bytes:
     """Like `digest`, for a message passed as raw words."""
-    return segments_digest([words], limits)
+    return segments_digest([message], within(limits, nesting, words))
 
 
-def words_copy_at(words: ReadableBuffer, path: Iterable[int], limits: Limits = LIMITS) -> bytes:
+def words_hexdigest(
+    message: ReadableBuffer, limits: Limits = LIMITS, *, nesting: Bound = None, words: Bound = None
+) -> str:
+    """Like `hexdigest`, for a message passed as raw words."""
+    return words_digest(message, within(limits, nesting, words)).hex()
+
+
+@_also_by_name
+def words_copy_at(
+    message: ReadableBuffer, path: Iterable[int], limits: Limits = LIMITS, *, nesting: Bound = None, words: Bound = None
+) -> Words:
     """Like `copy_flat_at`, for a message passed as raw words."""
-    return segments_copy_flat_at([words], path, limits)
+    return segments_copy_flat_at([message], path, within(limits, nesting, words))
 
 
-def words_digest_at(words: ReadableBuffer, path: Iterable[int], limits: Limits = LIMITS) -> bytes:
+@_also_by_name
+def words_digest_at(
+    message: ReadableBuffer, path: Iterable[int], limits: Limits = LIMITS, *, nesting: Bound = None, words: Bound = None
+) -> bytes:
     """Like `digest_at`, for a message passed as raw words."""
-    return segments_digest_at([words], path, limits)
+    return segments_digest_at([message], path, within(limits, nesting, words))
 
 
-def words_size_at(words: ReadableBuffer, path: Iterable[int], limits: Limits = LIMITS) -> Size:
+def words_hexdigest_at(
+    message: ReadableBuffer, path: Iterable[int], limits: Limits = LIMITS, *, nesting: Bound = None, words: Bound = None
+) -> str:
+    """Like `hexdigest_at`, for a message passed as raw words."""
+    return words_digest_at(message, path, within(limits, nesting, words)).hex()
+
+
+@_also_by_name
+def words_size_at(
+    message: ReadableBuffer, path: Iterable[int], limits: Limits = LIMITS, *, nesting: Bound = None, words: Bound = None
+) -> Size:
     """Like `size_at`, for a message passed as raw words."""
-    return segments_size_at([words], path, limits)
+    return segments_size_at([message], path, within(limits, nesting, words))
 
 
-def words_check(words: ReadableBuffer, limits: Limits = LIMITS) -> Optional[Fault]:
+@_also_by_name
+def words_check(
+    message: ReadableBuffer, limits: Limits = LIMITS, *, nesting: Bound = None, words: Bound = None
+) -> Optional[Fault]:
     """Like `check`, for a message passed as raw words."""
-    return segments_check([words], limits)
+    return segments_check([message], within(limits, nesting, words))
 
 
-def words_is_canonical(words: ReadableBuffer, limits: Limits = LIMITS) -> bool:
+@_also_by_name
+def words_is_canonical(
+    message: ReadableBuffer, limits: Limits = LIMITS, *, nesting: Bound = None, words: Bound = None
+) -> bool:
     """Like `is_canonical`, for a message passed as raw words."""
-    return segments_is_canonical([words], limits)
+    return segments_is_canonical([message], within(limits, nesting, words))
 
 
-def words_size(words: ReadableBuffer, limits: Limits = LIMITS) -> Size:
+@_also_by_name
+def words_size(message: ReadableBuffer, limits: Limits = LIMITS, *, nesting: Bound = None, words: Bound = None) -> Size:
     """Like `size`, for a message passed as raw words."""
-    return segments_size([words], limits)
+    return segments_size([message], within(limits, nesting, words))
 
 
-def words_validate(words: ReadableBuffer, limits: Limits = LIMITS) -> Extent:
+@_also_by_name
+def words_validate(
+    message: ReadableBuffer, limits: Limits = LIMITS, *, nesting: Bound = None, words: Bound = None
+) -> Extent:
     """Like `validate`, for a message passed as raw words."""
-    return segments_validate([words], limits)
+    return segments_validate([message], within(limits, nesting, words))
 
 
-def words_walk(words: ReadableBuffer, most: int = MOST_OBJECTS, limits: Limits = LIMITS) -> Walk:
+@_also_by_name
+def words_walk(
+    message: ReadableBuffer, most: int = MOST_OBJECTS, limits: Limits = LIMITS, *, nesting: Bound = None, words: Bound = None
+) -> Walk:
     """Like `walk`, for a message passed as raw words."""
-    return segments_walk([words], most, limits)
+    return segments_walk([message], most, within(limits, nesting, words))
 
 
 def bytes_wanted(held: bytes) -> int:
@@ -492,6 +660,7 @@ def frame_size(stream: ReadableBuffer, words: int = LIMITS.words) -> int:
     If the bytes end within the frame, `Error.wanted` is the size of the frame, or of its table if that isn't whole
     either. `frames` reads a file until each frame is whole."""
     limit = Limits(words=words).words
+    must_be_no_words(stream)
     with Lent(stream) as lent:
         try:
             return measured(lent, 0, limit)
@@ -524,9 +693,11 @@ def unpack(packed: ReadableBuffer, words: int = LIMITS.words) -> bytes:
         _, size = _unpacked(given, None, 0)
         if size // 8 > words:
             raise Error(Refusal.MESSAGE_TOO_LONG)
-        to = ctypes.create_string_buffer(size)
-        _unpacked(given, to, size)
-    return ctypes.string_at(to, size)
+        if not size:
+            return b''
+        room = _room(size)
+        _unpacked(given, room.address, size)
+    return room.take(size)
 
 
 def unpack_into(to: WriteableBuffer, packed: ReadableBuffer) -> int:

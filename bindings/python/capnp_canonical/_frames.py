@@ -1,11 +1,12 @@
 """The frames of a stream."""
 from __future__ import annotations
 
-from typing import TYPE_CHECKING, Any, Iterator, Optional, Protocol, Union
+from typing import TYPE_CHECKING, Any, Iterator, List, Optional, Protocol, Union
 
 from capnp_canonical._answers import Error, Limits, Refusal
 from capnp_canonical._calls import LIMITS, bytes_wanted, measured
 from capnp_canonical._library import Lent
+from capnp_canonical._words import must_be_no_words
 
 if TYPE_CHECKING:
     from _typeshed import ReadableBuffer
@@ -30,6 +31,7 @@ def frames(stream: Union[ReadableBuffer, Readable], words: int = LIMITS.words) -
     A frame of bytes is a view of them: an mmap can't be closed, nor a bytearray change its size, until you release
     each frame (`frame.release()`) or drop it (`del frame`), and the iterator has ended or is dropped too."""
     words = Limits(words=words).words
+    must_be_no_words(stream)
     if hasattr(stream, 'read') and not has_buffer(stream):
         return _frames_of_file(stream, words)
     return _frames_of_bytes(stream, words)
@@ -47,6 +49,9 @@ def has_buffer(stream: Any) -> bool:
 def view_of(stream: Any) -> memoryview:
     """A view of the bytes of an object, one by one."""
     view = memoryview(stream)
+    if not view.nbytes:
+        # an empty array of several dimensions can't be cast
+        return memoryview(b'')
     return view.cast('B') if view.c_contiguous else memoryview(view.tobytes())
 
 
@@ -70,56 +75,69 @@ class Pieces:
     def __init__(self, file: Any) -> None:
         # returns what is there, and no more, if the file has a buffer
         self._read = getattr(file, 'read1', None) or file.read
-        self.has_ended = False
 
-    def _next(self, size: int) -> bytes:
+    def next(self, size: int) -> bytes:
         """At most `size` bytes; none at the end of the file."""
         piece: Optional[bytes] = self._read(size)
         if piece is None:
             raise BlockingIOError('the file has no bytes now, and does not wait for them')
         if isinstance(piece, str):
             raise TypeError('the file is open for text: frames are bytes')
-        self.has_ended = not piece
         return piece
-
-    def more(self, held: bytes, wanted: int) -> bytes:
-        """The bytes held and those that follow: `wanted` bytes or more, or fewer if the file ends."""
-        pieces, size = [held], len(held)
-        while size < wanted:
-            piece = self._next(min(max(PIECE, wanted - size), _MOST))
-            if not piece:
-                break
-            pieces.append(piece)
-            size += len(piece)
-        return b''.join(pieces)
 
     def all(self) -> Iterator[bytes]:
         """The rest of the file, piece by piece."""
         while True:
-            piece = self._next(PIECE)
+            piece = self.next(PIECE)
             if not piece:
                 return
             yield piece
 
 
-def _frames_of_file(file: Any, words: int) -> Iterator[memoryview]:
-    pieces = Pieces(file)
-    at, number = 0, 1
-    held = pieces.more(b'', 1)
-    while held:
+class Framed:
+    """The frames of a stream whose bytes come piece by piece."""
+
+    def __init__(self, words: int) -> None:
+        self._words = words
+        # the bytes that aren't part of a frame yet, how many there are, and how many there must be for more to be known
+        self._held: List[bytes] = []
+        self._size, self._wanted = 0, 1
+        self._at, self._number = 0, 1
+
+    @property
+    def room(self) -> int:
+        """How many bytes to request next."""
+        return min(max(PIECE, self._wanted - self._size), _MOST)
+
+    def frames(self, piece: bytes) -> Iterator[memoryview]:
+        """The frames that are whole with these bytes. If there are none, the stream has ended."""
+        self._held.append(piece)
+        self._size += len(piece)
+        if piece and self._size < self._wanted:
+            return
+        held = b''.join(self._held)
         start = 0
         with Lent(held) as lent:
             while start < lent.size:
                 try:
-                    taken = measured(lent, start, words)
+                    taken = measured(lent, start, self._words)
                 except Error as error:
-                    # at the end of the file, the last bytes may tell more than that they are too few
-                    if error.number == Refusal.TRUNCATED and not pieces.has_ended:
+                    # at the end of the stream, the last bytes may tell more than that they are too few
+                    if error.number == Refusal.TRUNCATED and piece:
                         break
-                    raise error.at(number, at) from None
+                    raise error.at(self._number, self._at) from None
                 yield memoryview(held[start:start + taken])
                 start += taken
-                at += taken
-                number += 1
+                self._at += taken
+                self._number += 1
         held = held[start:]
-        held = pieces.more(held, max(bytes_wanted(held), len(held) + 1) if held else 1)
+        self._held, self._size = [held], len(held)
+        self._wanted = max(bytes_wanted(held), len(held) + 1) if held else 1
+
+
+def _frames_of_file(file: Any, words: int) -> Iterator[memoryview]:
+    pieces, framed = Pieces(file), Framed(words)
+    piece = b'.'
+    while piece:
+        piece = pieces.next(framed.room)
+        yield from framed.frames(piece)

@@ -3,17 +3,24 @@ from __future__ import annotations
 
 import ctypes
 import os
+import sys
 from types import TracebackType
 from typing import TYPE_CHECKING, Any, Callable, Optional, Type, Union
+
+from capnp_canonical._words import Words
 
 if TYPE_CHECKING:
     from _typeshed import ReadableBuffer, WriteableBuffer
 
 TEXT_ROOM = 96
 _VARIABLE = 'CAPNP_CANONICAL_LIBRARY'
-_FILE = 'libcapnp_canonical.so'
-# what the system's loader looks for
-_SONAME = _FILE + '.1'
+# By the system: what the library's file may be named, and what the system's loader looks for.
+_FILES = {
+    'darwin': (('libcapnp_canonical.dylib', 'libcapnp_canonical.so'), 'libcapnp_canonical.1.dylib'),
+    'win32': (('capnp_canonical.dll', 'libcapnp_canonical.dll'), 'capnp_canonical.dll'),
+}
+_NAMES, _SONAME = _FILES.get(sys.platform, (('libcapnp_canonical.so',), 'libcapnp_canonical.so.1'))
+_FILE = _NAMES[0]
 # The versions of the library that have all calls of this package: from the first on, and before the second.
 _OLDEST, _NEXT = 10100, 20000
 
@@ -62,8 +69,6 @@ class _View(ctypes.Structure):
     ]
 
 
-if not hasattr(ctypes, 'pythonapi'):
-    raise ImportError('capnp_canonical needs CPython: this Python has no ctypes.pythonapi')
 _SIMPLE, _WRITABLE = 0, 1
 _get_buffer: Callable[..., int] = ctypes.pythonapi.PyObject_GetBuffer
 ctypes.pythonapi.PyObject_GetBuffer.argtypes = [ctypes.py_object, ctypes.POINTER(_View), ctypes.c_int]
@@ -71,20 +76,22 @@ ctypes.pythonapi.PyBuffer_Release.argtypes = [ctypes.POINTER(_View)]
 ctypes.pythonapi.PyBuffer_Release.restype = None
 
 
+# The types whose bytes nothing can change.
+_CONSTANT = bytes, Words
 # ctypes.string_at takes no larger number.
 _MOST_AT_ONCE = 2**31 - 1
 
 
 class Lent:
     """The bytes of an object, which stay in place while the `with` block runs. If `is_constant`, nothing can change them:
-    they are those of an object of type `bytes`. The bytes of any other object could be changed while the library reads
+    they are those of an object of type `bytes` or `Words`. The bytes of any other object could be changed while the library reads
     them, by another thread, by another process or through another object, even if it is read-only itself."""
 
     __slots__ = '_view', 'address', 'size', 'is_constant'
 
     def __init__(self, given: Union[ReadableBuffer, WriteableBuffer], writable: bool = False) -> None:
         self._view = _View()
-        self.is_constant = type(given.obj if isinstance(given, memoryview) else given) is bytes
+        self.is_constant = type(given.obj if isinstance(given, memoryview) else given) in _CONSTANT
         try:
             _get_buffer(given, self._view, _WRITABLE if writable else _SIMPLE)
         except BufferError:
@@ -111,6 +118,9 @@ class Lent:
 
     def release(self) -> None:
         ctypes.pythonapi.PyBuffer_Release(self._view)
+
+    # a second time it does nothing
+    __del__ = release
 
     def __enter__(self) -> Lent:
         return self
@@ -143,7 +153,8 @@ def _load() -> ctypes.CDLL:
     named = os.environ.get(_VARIABLE)
     folder = os.path.dirname(os.path.abspath(__file__))
     around = os.path.dirname(folder)
-    beside = [os.path.join(it, _FILE) for it in (folder, around, os.path.join(os.path.dirname(around), 'lib'))]
+    folders = folder, around, os.path.join(os.path.dirname(around), 'lib')
+    beside = [os.path.join(it, name) for it in folders for name in _NAMES]
     try:
         library = ctypes.CDLL(named or next((it for it in beside if os.path.exists(it)), _SONAME))
     except OSError as error:

@@ -8,6 +8,7 @@ from capnp_canonical._answers import Error, Limits, Refusal
 from capnp_canonical._calls import DONE, LIMITS, TABLE
 from capnp_canonical._frames import PIECE, Pieces, Readable, has_buffer, view_of
 from capnp_canonical._library import Lent, RawUnpacking, library
+from capnp_canonical._words import must_be_no_words
 
 if TYPE_CHECKING:
     from _typeshed import ReadableBuffer
@@ -26,6 +27,7 @@ def packed_frames(stream: Union[ReadableBuffer, Readable], words: int = LIMITS.w
     The stream is bytes, or a file that is open for reading bytes. A file is read piece by piece, up to 64 KiB ahead, and
     a frame is yielded as soon as it is there."""
     words = Limits(words=words).words
+    must_be_no_words(stream)
     if hasattr(stream, 'read') and not has_buffer(stream):
         return _packed_frames(Pieces(stream).all(), words)
     return _packed_frames(_pieces_of(stream), words)
@@ -86,22 +88,37 @@ class _Unpacked:
         return frame
 
 
-def _packed_frames(pieces: Iterator[Any], words: int) -> Iterator[memoryview]:
-    unpacked = _Unpacked(words)
-    byte, number = 0, 1
-    for piece in pieces:
+class Packed:
+    """The frames of a packed stream whose bytes come piece by piece."""
+
+    def __init__(self, words: int) -> None:
+        self._unpacked = _Unpacked(words)
+        self._byte, self._number = 0, 1
+
+    def frames(self, piece: ReadableBuffer) -> Iterator[memoryview]:
+        """The frames that are whole with these packed bytes."""
         with Lent(piece).constant() as lent:
             start = 0
             while True:
                 try:
-                    start += unpacked.go_on(lent.address + start, lent.size - start)
+                    start += self._unpacked.go_on(lent.address + start, lent.size - start)
                 except Error as error:
-                    raise error.at(number, byte) from None
-                if not unpacked.is_whole():
-                    break
-                frame = bytes(unpacked.take())
+                    raise error.at(self._number, self._byte) from None
+                if not self._unpacked.is_whole():
+                    return
+                frame = bytes(self._unpacked.take())
                 yield memoryview(frame)
-                byte += len(frame)
-                number += 1
-    if unpacked.has_begun():
-        raise Error(Refusal.TRUNCATED).at(number, byte)
+                self._byte += len(frame)
+                self._number += 1
+
+    def end(self) -> None:
+        """Refuse what has begun, because the stream has ended."""
+        if self._unpacked.has_begun():
+            raise Error(Refusal.TRUNCATED).at(self._number, self._byte)
+
+
+def _packed_frames(pieces: Iterator[Any], words: int) -> Iterator[memoryview]:
+    packed = Packed(words)
+    for piece in pieces:
+        yield from packed.frames(piece)
+    packed.end()
