@@ -120,7 +120,7 @@ def differing():
     for name in sorted({*files, *(it for it in said if it.startswith('generated/'))}):
         yield name, None if said.get(name) == sum_now(name) else f'{name} is not the file that generated/ORIGIN names: {AGAIN}'
     said = listed(f'{WASM}/ORIGIN')
-    for path in f'generated/{NAME}.c', header_of(NAME), f'{WASM}/{NAME}.wasm':
+    for path in f'generated/{NAME}.c', header_of(NAME), f'{WASM}/{NAME}.wasm', f'{WASM}/{NAME}_small.wasm':
         is_right = said.get(f'sha256 of {pathlib.PurePath(path).name}') == sum_now(path)
         yield f'{WASM}: {path}', None if is_right else f'{path} is not what {WASM}/ORIGIN names: run make wasm'
 

@@ -80,10 +80,22 @@ function copied(lib, call, given, limits) {
   }
 }
 
+/** The digits of a digest. */
+function hexOf(bytes) {
+  return Array.from(bytes, (it) => it.toString(16).padStart(2, '0')).join('');
+}
+
+function areSame(words, others) {
+  let at = 0;
+  while (at < words.length && words[at] === others[at]) at++;
+  return at === words.length && at === others.length;
+}
+
 /** The number of bytes of a SHA-256. */
 const DIGEST = 32;
 
 function digested(lib, call, given, limits) {
+  if (!call) throw new TypeError('this module has no digests: it is the small one');
   if (!given) throw noMemory();
   const { base } = lib;
   const answer = call(given.first, given.second, limits.nesting, limits.words, base) >>> 0;
@@ -162,6 +174,7 @@ function walked(lib, form, given, limits, most) {
 
 /** A call for a part of the message: with a path, which is in the memory in front of the message. */
 function callAt(lib, call, path) {
+  if (!call) return undefined;
   return (first, second, ...more) => call(first, second, lendPath(lib, path), path.length, ...more);
 }
 
@@ -300,6 +313,14 @@ export function digest(frame, limits) {
   return asked(FRAME, Reading.Canonical, frame, limits, (lib, given, within) => digested(lib, lib.calls.digest, given, within));
 }
 
+export function digestHex(frame, limits) {
+  return hexOf(digest(frame, limits));
+}
+
+export function equals(frame, other, limits) {
+  return areSame(canonicalizeFlat(frame, limits), canonicalizeFlat(other, limits));
+}
+
 export function check(frame, limits) {
   return asked(FRAME, Reading.Value, frame, limits, (lib, given, within) => checked(lib, lib.calls.check, given, within));
 }
@@ -360,6 +381,8 @@ export const segments = Object.freeze({
   canonicalize: (list, limits) => asked(SEGMENTS, Reading.Canonical, list, limits, (lib, given, within) => copied(lib, lib.calls.segments_copy, given, within)),
   canonicalizeFlat: (list, limits) => asked(SEGMENTS, Reading.Canonical, list, limits, (lib, given, within) => copied(lib, lib.calls.segments_copy_flat, given, within)),
   digest: (list, limits) => asked(SEGMENTS, Reading.Canonical, list, limits, (lib, given, within) => digested(lib, lib.calls.segments_digest, given, within)),
+  digestHex: (list, limits) => hexOf(segments.digest(list, limits)),
+  equals: (list, other, limits) => areSame(segments.canonicalizeFlat(list, limits), segments.canonicalizeFlat(other, limits)),
   check: (list, limits) => asked(SEGMENTS, Reading.Value, list, limits, (lib, given, within) => checked(lib, lib.calls.segments_check, given, within)),
   isCanonical: (list, limits) => isYes(SEGMENTS, list, limits, (lib, given, within) => checked(lib, lib.calls.segments_check, given, within)),
   size: (list, limits) => asked(SEGMENTS, Reading.Size, list, limits, (lib, given, within) => sized(lib, lib.calls.segments_size, given, within)),
@@ -374,6 +397,8 @@ export const segments = Object.freeze({
 export const words = Object.freeze({
   canonicalize: (message, limits) => asked(WORDS, Reading.Canonical, message, limits, (lib, given, within) => copied(lib, lib.calls.words_copy, given, within)),
   digest: (message, limits) => asked(WORDS, Reading.Canonical, message, limits, (lib, given, within) => digested(lib, lib.calls.words_digest, given, within)),
+  digestHex: (message, limits) => hexOf(words.digest(message, limits)),
+  equals: (message, other, limits) => areSame(words.canonicalize(message, limits), words.canonicalize(other, limits)),
   check: (message, limits) => asked(WORDS, Reading.Value, message, limits, (lib, given, within) => checked(lib, lib.calls.words_check, given, within)),
   isCanonical: (message, limits) => isYes(WORDS, message, limits, (lib, given, within) => checked(lib, lib.calls.words_check, given, within)),
   size: (message, limits) => asked(WORDS, Reading.Size, message, limits, (lib, given, within) => sized(lib, lib.calls.words_size, given, within)),
@@ -402,11 +427,18 @@ export function frames(stream, limits) {
 }
 
 function* framesOf(bytes, words) {
-  for (let at = 0, message = 1; at < bytes.length; message++) {
+  const { length } = bytes;
+  for (let at = 0, message = 1; at < length; message++) {
     const taken = ofMessage((lib) => measured(lib, bytes, words, at), bytes.subarray(at), message, at);
     yield bytes.subarray(at, at + taken);
     at += taken;
+    mustHave(bytes, length);
   }
+}
+
+/** Refuses to go on with a stream whose memory was transferred or resized: the rest of it would be lost. */
+function mustHave(bytes, length) {
+  if (bytes.length !== length) throw new TypeError('the memory of the stream was transferred or resized');
 }
 
 /** Runs a call for message `message` of a stream, which is at byte `byte` and begins with these bytes. */
@@ -420,7 +452,7 @@ function ofMessage(run, bytes, message, byte) {
 }
 
 export function framesFrom(pieces, limits) {
-  return framesOfPieces(pieces, limitsOf(limits).words);
+  return foundIn(new Framed(limitsOf(limits).words), pieces);
 }
 
 /** What `for await` goes through. A ReadableStream has no iterator in each browser. */
@@ -447,40 +479,103 @@ async function* piecesOf(reader) {
 /** A frame can be refused by its first 4 bytes. */
 const FEWEST = 4;
 
-async function* framesOfPieces(pieces, words) {
-  // the bytes that aren't part of a frame yet: those joined, and the pieces after them
-  let held = new Uint8Array(0), more = [], count = 0, at = 0, message = 1, wanted = FEWEST;
-  const join = () => {
-    const joined = new Uint8Array(count);
+/** The frames of a stream that comes in pieces. */
+class Framed {
+  constructor(words) {
+    this.words = words;
+    // the bytes that aren't part of a frame yet: those joined, and the pieces after them
+    this.held = new Uint8Array(0);
+    this.more = [];
+    this.count = 0;
+    this.at = 0;
+    this.message = 1;
+    this.wanted = FEWEST;
+  }
+
+  join() {
+    const joined = new Uint8Array(this.count);
     let to = 0;
-    for (const it of [held, ...more]) {
+    for (const it of [this.held, ...this.more]) {
       joined.set(it, to);
       to += it.length;
     }
-    held = joined;
-    more = [];
-  };
-  for await (const piece of iterable(pieces)) {
+    this.held = joined;
+    this.more = [];
+  }
+
+  run(call) {
+    return ofMessage(call, this.held, this.message, this.at);
+  }
+
+  /** The frames that are whole after this piece, in memory of their own. */
+  *of(piece) {
     // a copy, because the caller may use the memory of a piece again; `slice` of a Buffer of node makes none
-    more.push(new Uint8Array(bytesOf(piece, 'a piece of a stream')));
-    count += more[more.length - 1].length;
-    while (count >= wanted) {
-      if (more.length) join();
+    this.more.push(new Uint8Array(piece));
+    this.count += piece.length;
+    while (this.count >= this.wanted) {
+      if (this.more.length) this.join();
       // what the table announces is the size of the frame; a frame over the limit is refused before it is there
-      wanted = ofMessage((lib) => announced(lib, held, words), held, message, at);
-      if (count < wanted) break;
-      yield held.subarray(0, wanted);
-      held = held.subarray(wanted);
-      count -= wanted;
-      at += wanted;
-      message++;
-      wanted = FEWEST;
+      this.wanted = this.run((lib) => announced(lib, this.held, this.words));
+      if (this.count < this.wanted) return;
+      const frame = this.held.slice(0, this.wanted);
+      this.held = this.held.subarray(this.wanted);
+      this.count -= this.wanted;
+      this.at += this.wanted;
+      this.message++;
+      this.wanted = FEWEST;
+      yield frame;
     }
   }
-  if (count) {
-    join();
-    ofMessage((lib) => measured(lib, held, words), held, message, at);
+
+  /** Refuses what has begun, because no more pieces come. */
+  end() {
+    if (!this.count) return;
+    this.join();
+    this.run((lib) => measured(lib, this.held, this.words));
   }
+}
+
+/** The frames that a splitter finds in pieces. */
+async function* foundIn(splitter, pieces) {
+  for await (const piece of iterable(pieces)) yield* splitter.of(bytesOf(piece, 'a piece of a stream'));
+  splitter.end();
+}
+
+/**
+ * The two ends of a stream of pieces into frames. It looks for a frame when one is requested: a TransformStream that is refused drops
+ * the frames that it has already found.
+ */
+function transformer(splitter) {
+  const { readable, writable } = new TransformStream(), reader = readable.getReader();
+  let frames = [].values();
+  const next = async () => {
+    for (;;) {
+      const { done, value } = frames.next();
+      if (!done) return value;
+      const piece = await reader.read();
+      if (piece.done) return splitter.end();
+      frames = splitter.of(bytesOf(piece.value, 'a piece of a stream'));
+    }
+  };
+  const pull = async (controller) => {
+    try {
+      const frame = await next();
+      if (frame) controller.enqueue(frame);
+      else controller.close();
+    } catch (error) {
+      reader.cancel(error).catch(() => {});
+      throw error;
+    }
+  };
+  return { readable: new ReadableStream({ pull, cancel: (reason) => reader.cancel(reason) }, { highWaterMark: 0 }), writable };
+}
+
+export function frameStream(limits) {
+  return transformer(new Framed(limitsOf(limits).words));
+}
+
+export function packedFrameStream(limits) {
+  return transformer(new Unpacked(limitsOf(limits).words));
 }
 
 export function unpack(packed, limits) {
@@ -568,7 +663,7 @@ class Unpacked {
       const { taken, written } = this.run((lib) => unpackedPiece(lib, this.unpacking, next, to));
       at += taken;
       this.held += written;
-      if (written < to.length && at === packed.length) return at;
+      if (written < to.length && at >= packed.length) return at;
       if (this.held === this.wanted) this.wanted = this.run((lib) => announced(lib, this.frame, this.words));
     }
     return at;
@@ -576,6 +671,7 @@ class Unpacked {
 
   /** The frames that are whole after these packed bytes. */
   *of(packed) {
+    const { length } = packed;
     for (let at = 0; ;) {
       at = this.goOn(packed, at);
       if (this.held < this.wanted) return;
@@ -583,6 +679,7 @@ class Unpacked {
       this.byte += frame.length;
       this.begin();
       yield frame;
+      mustHave(packed, length);
     }
   }
 
@@ -604,13 +701,7 @@ function* packedFramesOf(packed, words) {
 }
 
 export function packedFramesFrom(pieces, limits) {
-  return packedFramesOfPieces(pieces, limitsOf(limits).words);
-}
-
-async function* packedFramesOfPieces(pieces, words) {
-  const unpacked = new Unpacked(words);
-  for await (const piece of iterable(pieces)) yield* unpacked.of(bytesOf(piece, 'a piece of a stream'));
-  unpacked.end();
+  return foundIn(new Unpacked(limitsOf(limits).words), pieces);
 }
 
 // Help for people.

@@ -1,8 +1,8 @@
 /**
  * Canonical form of Cap'n Proto messages, over the library capnp_canonical compiled to WebAssembly.
  *
- *     import { digest } from 'capnp_canonical';
- *     const name = Buffer.from(digest(frame)).toString('hex');  // the SHA-256 of the canonical words
+ *     import { digestHex } from 'capnp_canonical';
+ *     const name = digestHex(frame);  // the SHA-256 of the canonical words
  *
  * You pass a message as a frame, which is what `capnp encode`, capnp::writeMessage and pycapnp's `to_bytes` write, as its segments
  * (`segments`), or as its raw words (`words`). Bytes after a frame are ignored. Packed bytes are unpacked first, by `unpack` or
@@ -10,6 +10,7 @@
  *
  * Raw words aren't a frame. Read back what `canonicalizeFlat` returns with the calls of `words`. A call that takes a frame may
  * SUCCEED on raw words, and then reads ANOTHER value, because the pointer to a root without pointers is also the table of a frame.
+ * TypeScript refuses `Words` there; without a compiler, and for words that were stored, nothing does.
  *
  * A call that is refused throws `CanonicalError`. Arguments of a wrong type throw `TypeError`, and limits that are out of range
  * `RangeError`. No call keeps anything except the module's memory.
@@ -17,6 +18,21 @@
 
 /** A Uint8Array, a Buffer, an ArrayBuffer, or a view of one. They are copied into the module's memory. */
 export type Bytes = ArrayBufferView | ArrayBuffer | SharedArrayBuffer;
+
+/** Bytes in memory of their own. From TypeScript 5.7 on, which tells them apart, this is `Uint8Array<ArrayBuffer>`. */
+export type OwnBytes = ReturnType<Uint8Array['slice']>;
+
+declare const rawWords: unique symbol;
+
+/**
+ * The words of a message without the table of a frame: what `canonicalizeFlat` and its like return. They are an ordinary Uint8Array;
+ * only a compiler tells them apart, so that a call that takes a frame doesn't take them. Stored words, which are `Bytes` when they
+ * are read back, have this type by `bytes as Words`.
+ */
+export type Words = OwnBytes & { readonly [rawWords]: true };
+
+/** Bytes with a frame at the front: any but `Words`. */
+export type FrameBytes = Bytes & { readonly [rawWords]?: never };
 
 /** The limits for reading a message. The defaults are those of C++ and Rust. */
 export interface Limits {
@@ -200,47 +216,56 @@ export interface Extent {
 }
 
 /** Makes the message of the frame at the front canonical. Returns a frame of one segment. */
-export function canonicalize(frame: Bytes, limits?: Limits): Uint8Array;
+export function canonicalize(frame: FrameBytes, limits?: Limits): OwnBytes;
 
 /** The same, but returns raw words, without the table of a frame: the bytes to hash or sign. */
-export function canonicalizeFlat(frame: Bytes, limits?: Limits): Uint8Array;
+export function canonicalizeFlat(frame: FrameBytes, limits?: Limits): Words;
 
 /**
  * Returns the SHA-256 of the canonical words of the message: of the bytes that `canonicalizeFlat` returns. It names the value:
  * messages with equal values have the same.
  */
-export function digest(frame: Bytes, limits?: Limits): Uint8Array;
+export function digest(frame: FrameBytes, limits?: Limits): OwnBytes;
+
+/** `digest` in hexadecimal digits of lower case. */
+export function digestHex(frame: FrameBytes, limits?: Limits): string;
+
+/**
+ * Whether two messages have the same value: whether their canonical words are equal. Each is read within the limits, and throws like
+ * `canonicalizeFlat` if it is refused. To compare one message with many, compare digests.
+ */
+export function equals(frame: FrameBytes, other: FrameBytes, limits?: Limits): boolean;
 
 /**
  * Returns null if the message is canonical: one segment, which holds the canonical words of a value and nothing else. Otherwise
  * returns why and where it isn't. For a yes or no, call `isCanonical`.
  */
-export function check(frame: Bytes, limits?: Limits): Fault | null;
+export function check(frame: FrameBytes, limits?: Limits): Fault | null;
 
 /** Whether the message is canonical. Also false if it is refused, because a limit is exceeded or the bytes are no frame. */
-export function isCanonical(frame: Bytes, limits?: Limits): boolean;
+export function isCanonical(frame: FrameBytes, limits?: Limits): boolean;
 
 /** Counts the words and capabilities that the root of the message leads to. */
-export function size(frame: Bytes, limits?: Limits): Size;
+export function size(frame: FrameBytes, limits?: Limits): Size;
 
 /**
  * Tests whether the message is sound: whether its whole value can be read within both limits. The value may have capabilities. Returns
  * its extent if it is; otherwise the call is refused with the first fault that reading the value meets.
  */
-export function validate(frame: Bytes, limits?: Limits): Extent;
+export function validate(frame: FrameBytes, limits?: Limits): Extent;
 
 /**
  * Finds the pointer at which the message is broken, after another call has refused it: the first pointer, in the order of reading, whose
  * object can't be read. `reading` says which call. Returns null if the whole value is read; so also if there was no memory, or the
  * message is too large. A refused call throws an error that has the place already, as its `pointer`.
  */
-export function locate(frame: Bytes, reading: Reading, limits?: Limits): Broken | null;
+export function locate(frame: FrameBytes, reading: Reading, limits?: Limits): Broken | null;
 
 /**
  * Lists the structs, lists and capabilities of a message, at most `most` of them. A broken message is listed up to its first broken
  * pointer. Throws only if the bytes are no message, or if there is no memory.
  */
-export function walk(frame: Bytes, most: number, limits?: Limits): Walk;
+export function walk(frame: FrameBytes, most: number, limits?: Limits): Walk;
 
 /**
  * `canonicalizeFlat` for a part of the message: for the value at the end of a path. In `struct Signed { payload @0
@@ -251,25 +276,27 @@ export function walk(frame: Bytes, most: number, limits?: Limits): Walk;
  * it leads to the root pointer. `NoSuchPlace` means that the path leads nowhere. The rest of the message isn't read, and needn't be
  * sound.
  */
-export function canonicalizeFlatAt(frame: Bytes, path: Iterable<number>, limits?: Limits): Uint8Array;
+export function canonicalizeFlatAt(frame: FrameBytes, path: Iterable<number>, limits?: Limits): Words;
 
 /** `digest` for the part of the message to which the path leads: the SHA-256 of what `canonicalizeFlatAt` returns. */
-export function digestAt(frame: Bytes, path: Iterable<number>, limits?: Limits): Uint8Array;
+export function digestAt(frame: FrameBytes, path: Iterable<number>, limits?: Limits): OwnBytes;
 
 /** `size` for the part of the message to which the path leads. */
-export function sizeAt(frame: Bytes, path: Iterable<number>, limits?: Limits): Size;
+export function sizeAt(frame: FrameBytes, path: Iterable<number>, limits?: Limits): Size;
 
 /** The same calls for a message given as its segments. There may be more of them than a frame can have. */
 export const segments: {
-  canonicalize(list: Iterable<Bytes>, limits?: Limits): Uint8Array;
-  canonicalizeFlat(list: Iterable<Bytes>, limits?: Limits): Uint8Array;
-  digest(list: Iterable<Bytes>, limits?: Limits): Uint8Array;
+  canonicalize(list: Iterable<Bytes>, limits?: Limits): OwnBytes;
+  canonicalizeFlat(list: Iterable<Bytes>, limits?: Limits): Words;
+  digest(list: Iterable<Bytes>, limits?: Limits): OwnBytes;
+  digestHex(list: Iterable<Bytes>, limits?: Limits): string;
+  equals(list: Iterable<Bytes>, other: Iterable<Bytes>, limits?: Limits): boolean;
   check(list: Iterable<Bytes>, limits?: Limits): Fault | null;
   isCanonical(list: Iterable<Bytes>, limits?: Limits): boolean;
   size(list: Iterable<Bytes>, limits?: Limits): Size;
   validate(list: Iterable<Bytes>, limits?: Limits): Extent;
-  canonicalizeFlatAt(list: Iterable<Bytes>, path: Iterable<number>, limits?: Limits): Uint8Array;
-  digestAt(list: Iterable<Bytes>, path: Iterable<number>, limits?: Limits): Uint8Array;
+  canonicalizeFlatAt(list: Iterable<Bytes>, path: Iterable<number>, limits?: Limits): Words;
+  digestAt(list: Iterable<Bytes>, path: Iterable<number>, limits?: Limits): OwnBytes;
   sizeAt(list: Iterable<Bytes>, path: Iterable<number>, limits?: Limits): Size;
   locate(list: Iterable<Bytes>, reading: Reading, limits?: Limits): Broken | null;
   walk(list: Iterable<Bytes>, most: number, limits?: Limits): Walk;
@@ -277,21 +304,23 @@ export const segments: {
 
 /** The same calls for a message given as its raw words. The copy is raw words too. */
 export const words: {
-  canonicalize(message: Bytes, limits?: Limits): Uint8Array;
-  digest(message: Bytes, limits?: Limits): Uint8Array;
+  canonicalize(message: Bytes, limits?: Limits): Words;
+  digest(message: Bytes, limits?: Limits): OwnBytes;
+  digestHex(message: Bytes, limits?: Limits): string;
+  equals(message: Bytes, other: Bytes, limits?: Limits): boolean;
   check(message: Bytes, limits?: Limits): Fault | null;
   isCanonical(message: Bytes, limits?: Limits): boolean;
   size(message: Bytes, limits?: Limits): Size;
   validate(message: Bytes, limits?: Limits): Extent;
-  canonicalizeAt(message: Bytes, path: Iterable<number>, limits?: Limits): Uint8Array;
-  digestAt(message: Bytes, path: Iterable<number>, limits?: Limits): Uint8Array;
+  canonicalizeAt(message: Bytes, path: Iterable<number>, limits?: Limits): Words;
+  digestAt(message: Bytes, path: Iterable<number>, limits?: Limits): OwnBytes;
   sizeAt(message: Bytes, path: Iterable<number>, limits?: Limits): Size;
   locate(message: Bytes, reading: Reading, limits?: Limits): Broken | null;
   walk(message: Bytes, most: number, limits?: Limits): Walk;
 };
 
 /** The size in bytes of the frame at the front. Reads only its table. */
-export function frameSize(stream: Bytes, limits?: Limits): number;
+export function frameSize(stream: FrameBytes, limits?: Limits): number;
 
 /**
  * How many bytes of a stream to have, from the start of a frame on, before `frameSize` finds the frame whole. If the first bytes,
@@ -299,10 +328,13 @@ export function frameSize(stream: Bytes, limits?: Limits): number;
  * than `prefix` has: read until that many bytes are there, and ask again. Refuses the frame if they tell that it has too many segments,
  * or more than `words` words. Eight bytes can announce a frame of many words: make room for what has arrived.
  */
-export function frameSizeFromPrefix(prefix: Bytes, limits?: Limits): number;
+export function frameSizeFromPrefix(prefix: FrameBytes, limits?: Limits): number;
 
-/** Iterates over the frames of a stream, as views of its bytes. An error says which message it is, and at which byte. */
-export function frames(stream: Bytes, limits?: Limits): Generator<Uint8Array, void, undefined>;
+/**
+ * Iterates over the frames of a stream, as views of its bytes. An error says which message it is, and at which byte. Throws `TypeError`
+ * if the memory of the stream was transferred or resized since the last frame.
+ */
+export function frames(stream: FrameBytes, limits?: Limits): Generator<Uint8Array, void, undefined>;
 
 /**
  * A stream that comes in pieces: a stream of node, a ReadableStream such as the body of a response, or anything that `for await` goes
@@ -312,20 +344,35 @@ export type Pieces = AsyncIterable<Bytes> | Iterable<Bytes> | {
   getReader(): { read(): Promise<{ done: boolean; value?: Bytes }>; cancel(): Promise<void>; releaseLock(): void };
 };
 
-/** The same for a stream that comes in pieces. A frame is there as soon as its last byte is. */
-export function framesFrom(pieces: Pieces, limits?: Limits): AsyncGenerator<Uint8Array, void, undefined>;
+/** The same for a stream that comes in pieces. A frame is there as soon as its last byte is. Each has memory of its own. */
+export function framesFrom(pieces: Pieces, limits?: Limits): AsyncGenerator<OwnBytes, void, undefined>;
+
+/** What `pipeThrough` of a ReadableStream takes, like a TransformStream of bytes into frames. */
+export interface FrameStream {
+  readonly readable: ReadableStream<OwnBytes>;
+  readonly writable: WritableStream<Bytes>;
+}
+
+/**
+ * `framesFrom` in the form of a TransformStream: `response.body.pipeThrough(frameStream())` is a stream of frames. A refusal is the
+ * error of `readable`, after the frames before it. Node has these classes from 18 on.
+ */
+export function frameStream(limits?: Limits): FrameStream;
+
+/** The same for a packed stream. */
+export function packedFrameStream(limits?: Limits): FrameStream;
 
 /** Unpacks packed bytes to the frames of one or more messages. Refuses with `MessageTooLong` if these are more than `words` words. */
-export function unpack(packed: Bytes, limits?: Limits): Uint8Array;
+export function unpack(packed: FrameBytes, limits?: Limits): OwnBytes;
 
 /**
  * Iterates over the frames of packed bytes. Unpacks them one by one; each has at most `words` words. An error says which message it is,
- * and at which byte of the unpacked stream.
+ * and at which byte of the unpacked stream. Throws `TypeError` like `frames` if the memory of the stream is transferred or resized.
  */
-export function packedFrames(packed: Bytes, limits?: Limits): Generator<Uint8Array, void, undefined>;
+export function packedFrames(packed: FrameBytes, limits?: Limits): Generator<OwnBytes, void, undefined>;
 
 /** The same for a packed stream that comes in pieces. A frame is there as soon as the packed bytes that it takes are. */
-export function packedFramesFrom(pieces: Pieces, limits?: Limits): AsyncGenerator<Uint8Array, void, undefined>;
+export function packedFramesFrom(pieces: Pieces, limits?: Limits): AsyncGenerator<OwnBytes, void, undefined>;
 
 /** Guesses what bytes are that were refused as a frame, such as `gzip`. `CanonicalError` has the guess already. */
 export function looksLike(bytes: Bytes): string | undefined;

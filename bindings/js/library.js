@@ -21,7 +21,7 @@ export function use(compiled) {
 /** The instance, made if there is none. */
 function library() {
   if (!instance) {
-    if (!module) throw new Error('capnp_canonical has no module: call `use` first');
+    if (!module) throw new Error('capnp_canonical has no module yet: `await init()` first, or call `use`');
     const { exports } = new WebAssembly.Instance(module, {});
     const calls = Object.fromEntries(Object.entries(exports).map(([name, call]) => [name.replace('capnp_canonical_', ''), call]));
     instance = { calls, memory: exports.memory, base: calls.heap_base(), bytes: undefined, view: undefined };
@@ -74,11 +74,12 @@ const up = (at) => Math.ceil(at / 16) * 16;
  * Copies bytes into the memory, after `before` bytes that the caller fills. Returns their address and number, and the address after
  * them, where a copy has `room` bytes.
  */
-export function lend(lib, bytes, before = 0) {
-  const at = up(lib.base + ANSWERS + before), end = up(at + bytes.length), room = Math.min(end - at + 16, MOST - 1);
-  if (bytes.length >= MOST || !reaches(lib, end + room)) return undefined;
-  lib.bytes.set(bytes, at);
-  return { first: at, second: bytes.length, end, room };
+export function lend(lib, given, before = 0) {
+  // the length once, because shared memory can grow meanwhile
+  const { length } = given, at = up(lib.base + ANSWERS + before), end = up(at + length), room = Math.min(end - at + 16, MOST - 1);
+  if (length >= MOST || !reaches(lib, end + room)) return undefined;
+  lib.bytes.set(given.subarray(0, length), at);
+  return { first: at, second: length, end, room };
 }
 
 /** Writes the indexes of a path into the memory in front of what is lent, which left 4 bytes for each. Returns their address. */
@@ -93,12 +94,12 @@ export function lendPath(lib, path) {
  * 64 bits: the address, and the size.
  */
 export function lendSegments(lib, segments, before = 0) {
-  const table = up(lib.base + ANSWERS + before), start = up(table + 16 * segments.length);
-  const end = segments.reduce((sum, it) => up(sum + it.length), start), room = Math.min(end - start + 16, MOST - 1);
-  if (segments.some((it) => it.length >= MOST) || !reaches(lib, end + room)) return undefined;
+  const table = up(lib.base + ANSWERS + before), start = up(table + 16 * segments.length), lengths = segments.map((it) => it.length);
+  const end = lengths.reduce((sum, it) => up(sum + it), start), room = Math.min(end - start + 16, MOST - 1);
+  if (lengths.some((it) => it >= MOST) || !reaches(lib, end + room)) return undefined;
   let at = start;
-  segments.forEach((segment, number) => {
-    const entry = table + 16 * number;
+  segments.forEach((given, number) => {
+    const entry = table + 16 * number, segment = given.subarray(0, lengths[number]);
     lib.view.setUint32(entry, at, true);
     lib.view.setUint32(entry + 4, 0, true);
     lib.view.setUint32(entry + 8, segment.length, true);

@@ -44,7 +44,7 @@ counted() {
 
 what='node'
 has node python3 || { printf '0 passed, 1 failed\n'; exit 1; }
-node --test --test-reporter=tap "$here/canonical.test.mjs" >"$work/log" 2>&1
+node --test --test-reporter=tap "$here/canonical.test.mjs" "$here/entries.test.mjs" >"$work/log" 2>&1
 sed -n 's/^# \(.*: [0-9]* passed\)$/\1/p; /^not ok/p; /^ *error:/p; /^ *at /p' "$work/log"
 more=$(sed -n 's/^# .*: \([0-9]*\) passed$/\1/p' "$work/log" | awk '{ sum += $1 } END { print sum + 0 }')
 fails=$(sed -n 's/^# fail \([0-9]*\)$/\1/p' "$work/log")
@@ -59,8 +59,8 @@ part sh -c 'node "$1/examples/canonical.js" <"$2" | sha256sum | grep -q ^62cac39
 what='types'
 if has tsc; then part tsc --strict --noEmit --target es2022 --module node16 --moduleResolution node16 --lib es2022,dom "$here/types.mts"; fi
 
-what='the module is the one of ORIGIN'
-part sh -c 'test "$(sed -n "s/^sha256 of capnp_canonical.wasm: //p" "$1/ORIGIN")" = "$(sha256sum "$1/capnp_canonical.wasm" | cut -d " " -f 1)"' sh "$package"
+what='the modules are those of ORIGIN'
+part sh -c 'for it in capnp_canonical capnp_canonical_small; do test "$(sed -n "s/^sha256 of $it.wasm: //p" "$1/ORIGIN")" = "$(sha256sum "$1/$it.wasm" | cut -d " " -f 1)" || exit 1; done' sh "$package"
 
 what='in a browser'
 browser=$(command -v chromium || command -v google-chrome || command -v chromium-browser)
@@ -82,7 +82,7 @@ if has clang wasm-ld; then
     mkdir "$work/built"
     sh "$package/build.sh" "$c" "$work/built" >"$work/log" 2>&1 || cat "$work/log"
     if [ "$(sed -n '/^compiler\|^linker/p' "$work/built/ORIGIN")" = "$(sed -n '/^compiler\|^linker/p' "$package/ORIGIN")" ]; then
-        part cmp "$work/built/capnp_canonical.wasm" "$package/capnp_canonical.wasm"
+        part sh -c 'for it in capnp_canonical.wasm capnp_canonical_small.wasm module.js; do cmp "$1/$it" "$2/$it" || exit 1; done' sh "$work/built" "$package"
     else
         printf '%s: skipped, ORIGIN names other compilers\n' "$what"
     fi

@@ -1,12 +1,23 @@
 // Uses each name of index.d.ts: `tsc --strict --noEmit` checks it.
 import * as capnp from '../../bindings/js/index.js';
 import { use } from '../../bindings/js/core.js';
-import { Broken, CanonicalError, Extent, Fault, Limits, MAX_NESTING, Pieces, Pointer, Reading, Reason, Refusal, Size } from '../../bindings/js/index.js';
+import { init, digestHex } from '../../bindings/js/init.js';
+import { Broken, CanonicalError, Extent, FrameBytes, FrameStream, OwnBytes, Words, Fault, Limits, MAX_NESTING, Pieces, Pointer, Reading, Reason, Refusal, Size } from '../../bindings/js/index.js';
 
 export async function all(frame: Uint8Array, buffer: ArrayBuffer, pieces: AsyncIterable<Uint8Array>, stream: ReadableStream<Uint8Array>): Promise<string> {
   const limits: Limits = { nesting: MAX_NESTING, words: 2n ** 40n };
   const copy: Uint8Array = capnp.canonicalize(frame, limits);
   const flat: Uint8Array = capnp.canonicalizeFlat(buffer);
+  // raw words are a type, and what is stored gets it
+  const made: Words[] = [capnp.canonicalizeFlat(frame), capnp.canonicalizeFlatAt(frame, [0]), capnp.segments.canonicalizeFlat([frame]), capnp.segments.canonicalizeFlatAt([frame], []), capnp.words.canonicalize(flat), capnp.words.canonicalizeAt(flat, []), frame as Words];
+  const own: OwnBytes = made[0], plain: Uint8Array = made[1], given: FrameBytes[] = [frame, buffer, own.subarray(8), new DataView(buffer), new SharedArrayBuffer(8)];
+  const signature: ArrayBuffer = await crypto.subtle.sign('Ed25519', {} as CryptoKey, made[2]);
+  const frames: FrameStream = capnp.frameStream(limits), hexed: string = capnp.digestHex(frame) + capnp.words.digestHex(made[3]) + capnp.segments.digestHex([frame]) + digestHex(frame);
+  const isSame: boolean = capnp.equals(frame, copy) && capnp.words.equals(made[4], flat, limits) && capnp.segments.equals([frame], []);
+  for await (const it of capnp.framesFrom(stream.pipeThrough<OwnBytes>(frames))) capnp.digest(it);
+  stream.pipeThrough(capnp.packedFrameStream()).pipeTo(new WritableStream<Uint8Array>());
+  await init(new URL('file:///module.wasm')).then(() => init(new Response(buffer))).then(() => init(fetch('')));
+  if (plain.length + given.length + signature.byteLength && isSame) return hexed;
   const digest: Uint8Array = capnp.digest(buffer, limits);
   const fault: Fault | null = capnp.check(copy, { words: Infinity });
   const isCanonical: boolean = capnp.isCanonical(copy) && capnp.words.isCanonical(flat) && capnp.segments.isCanonical([flat]);
@@ -40,6 +51,39 @@ export async function all(frame: Uint8Array, buffer: ArrayBuffer, pieces: AsyncI
   }
 }
 
+declare const words: Words;
+// @ts-expect-error raw words aren't a frame
+capnp.canonicalize(words);
+// @ts-expect-error nor here
+capnp.canonicalizeFlat(capnp.canonicalizeFlat(new Uint8Array(0)));
+// @ts-expect-error nor here
+capnp.digest(capnp.words.canonicalize(words));
+// @ts-expect-error nor here
+capnp.digestHex(words);
+// @ts-expect-error nor here
+capnp.equals(new Uint8Array(0), words);
+// @ts-expect-error nor here
+capnp.check(words);
+// @ts-expect-error nor here
+capnp.isCanonical(words);
+// @ts-expect-error nor here
+capnp.size(words);
+// @ts-expect-error nor here
+capnp.validate(words);
+// @ts-expect-error nor here
+capnp.walk(words, 7);
+// @ts-expect-error nor here
+capnp.locate(words, Reading.Value);
+// @ts-expect-error nor here
+capnp.digestAt(words, [0]);
+// @ts-expect-error nor here
+capnp.frameSize(words);
+// @ts-expect-error nor here
+capnp.frames(words);
+// @ts-expect-error they aren't packed
+capnp.unpack(words);
+// @ts-expect-error bytes aren't known to be raw words
+const unknown: Words = new Uint8Array(0);
 // @ts-expect-error text isn't bytes
 capnp.canonicalize('text');
 // @ts-expect-error a limit that there isn't
