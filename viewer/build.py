@@ -7,6 +7,7 @@ PACKAGE is the folder of the package, ../bindings/js if it is left out, with its
 capnp_view.html in this folder if it is left out. --check writes nothing: it fails if TO isn't what would be written."""
 import base64
 import gzip
+import hashlib
 import pathlib
 import re
 import sys
@@ -30,6 +31,8 @@ EXAMPLES = [
 ]
 IMPORT = re.compile(r"(?ms)^import \{.*?\} from '[^']*';\n")
 PACKED = re.compile(r"const packed = Uint8Array\.from\(atob\('([^']*)'\)")
+# The parts of the page that its policy allows, by the marks of their hashes there.
+ALLOWED = {'@SCRIPT@': re.compile(r'(?s)<script type="module">(.*?)</script>'), '@STYLE@': re.compile(r'(?s)<style>(.*?)</style>')}
 EXPORTED_FROM = re.compile(r"(?m)^export (\*|\{.*\})( from '[^']*')?;\n")
 
 
@@ -72,6 +75,16 @@ use(await WebAssembly.compile(await new Response(new Blob([packed]).stream().pip
         if page.count(mark) != 1:
             raise SystemExit(f'page.html has {mark} {page.count(mark)} times')
         page = page.replace(mark, text)
+    return with_hashes(page)
+
+
+def with_hashes(page):
+    """The page, with the hashes of its script and its style in its policy."""
+    for mark, pattern in ALLOWED.items():
+        parts = pattern.findall(page)
+        if page.count(mark) != 1 or len(parts) != 1:
+            raise SystemExit(f'page.html has {mark} {page.count(mark)} times, and {len(parts)} parts for it')
+        page = page.replace(mark, 'sha256-' + base64.b64encode(hashlib.sha256(parts[0].encode()).digest()).decode())
     return page
 
 

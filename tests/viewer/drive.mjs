@@ -330,6 +330,23 @@ async function network() {
   await wait(100);
   check('by the policy of the page', await evaluate('window.violated'), ['connect-src', 'img-src']);
   check('only the page is loaded', [...new Set(requests.map((it) => it.split('#')[0]).filter((it) => !it.startsWith(`http://127.0.0.1:${port}/`)))].filter((it) => it !== page && it !== 'about:blank'), []);
+  // code and styles that a message might bring aren't used
+  const policy = await evaluate(`document.querySelector('meta[http-equiv=Content-Security-Policy]').content`);
+  check('a policy without unsafe-inline', policy, /^default-src 'none'; script-src 'sha256-[\w+/]{43}=' 'wasm-unsafe-eval'; style-src 'sha256-[\w+/]{43}=';/);
+  await evaluate(`(() => {
+    window.blocked = [];
+    document.addEventListener('securitypolicyviolation', (it) => window.blocked.push(it.effectiveDirective));
+    const box = document.body.appendChild(document.createElement('div'));
+    box.innerHTML = '<img src="data:," onerror="window.ran = 1"><b id="injected" style="color: rgb(1, 2, 3)" onclick="window.ran = 2">b</b><style>#injected { font-size: 77px }</style>';
+    document.getElementById('injected').click();
+    const script = document.createElement('script');
+    script.textContent = 'window.ran = 3';
+    box.append(script);
+  })()`);
+  await wait(100);
+  const shown = await evaluate(`(({ color, fontSize }) => [window.ran ?? 0, color === 'rgb(1, 2, 3)', fontSize === '77px'].join())(getComputedStyle(document.getElementById('injected')))`);
+  check('code and styles of others', shown, '0,false,false');
+  check('by the policy too', await evaluate(`['script-src-attr', 'script-src-elem', 'style-src-attr', 'style-src-elem'].every((it) => window.blocked.includes(it))`), true);
 }
 
 try {
