@@ -4,6 +4,8 @@ import { use } from './library.js';
 
 use(module);
 
-/** There is nothing left to load. */
-export const init = async () => {};
+/** There is nothing to load, except another module than the package's own, compiled. */
+export const init = async (other) => {
+  if (other) use(await other);
+};
 export * from './calls.js';

@@ -45,6 +45,10 @@ test('entries', () => {
       count++;
     }
   }
+  const small = `import { readFileSync } from 'node:fs'; import { init, isCanonical, size } from 'capnp_canonical/init';
+    await init(new WebAssembly.Module(readFileSync('${PACKAGE}/capnp_canonical_small.wasm'))); import * as capnp from 'capnp_canonical';
+    try { capnp.digest(${given}); } catch (error) { console.log(error.name, size(${given}).words); }`;
+  assert.equal(printed(small, ...likeWorkerd()), `TypeError ${capnp.size(hex(frame)).words}`);
   const { exports, sideEffects } = JSON.parse(readFileSync(join(PACKAGE, 'package.json'), 'utf-8'));
   // each entry of each condition is a file, and only those that load the module have effects
   for (const [name, entry] of Object.entries(exports)) {
