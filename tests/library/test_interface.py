@@ -5,6 +5,7 @@ import concurrent.futures
 import gc
 import importlib.util
 import inspect
+import os
 import pathlib
 import pickle
 import shutil
@@ -142,16 +143,37 @@ class Hexdigest(unittest.TestCase):
                 hexcall(*given, words=0)
 
 
+class Equal(unittest.TestCase):
+    def test_all(self):
+        module, same, other = capnp_canonical, [FRAME, CANONICAL, bytearray(FRAME)], TEXT_FRAME
+        for one in same:
+            for two in same:
+                self.assertIs(module.equal(one, two), True)
+                self.assertIs(module.segments_equal([one[8:]], iter([two[8:]])), True)
+                self.assertIs(module.words_equal(one[8:], two[8:]), True)
+            self.assertIs(module.equal(one, other), False)
+            self.assertIs(module.segments_equal([other[8:]], [one[8:]]), False)
+            self.assertIs(module.words_equal(one[8:], other[8:]), False)
+        # words that begin like others
+        self.assertIs(module.equal(module.words_copy(FLAT).frame(), bytes.fromhex('0000000002000000 0000000001000000 1111111111111111')), False)
+        for pair in (FRAME, b''), (b'', FRAME):
+            with self.assertRaises(module.IncompleteError):
+                module.equal(*pair)
+        with self.assertRaises(TypeError):
+            module.equal(FRAME, module.copy_flat(FRAME))
+
+
 class LimitsByName(unittest.TestCase):
     def calls(self):
         """Each call that takes limits, and the rest of what it needs."""
         more = {'most': 9, 'path': [], 'to': bytearray(99)}
         given = {'frame': TEXT_FRAME, 'segments': [TEXT], 'message': TEXT}
+        others = {'equal': TEXT_FRAME, 'segments_equal': [TEXT], 'words_equal': TEXT}
         for name in capnp_canonical.__all__:
             call = getattr(capnp_canonical, name)
             if inspect.isfunction(call) and 'limits' in inspect.signature(call).parameters:
                 names = [it for it in inspect.signature(call).parameters if it not in ('limits', 'nesting', 'words')]
-                yield name, call, {it: {**more, **given}[it] for it in names}
+                yield name, call, {it: {**more, **given, 'other': others.get(name)}[it] for it in names}
 
     def test_each(self):
         count = 0
@@ -173,7 +195,7 @@ class LimitsByName(unittest.TestCase):
             for wrong in {'nesting': 'deep'}, {'words': '9'}, {'limits': 9, 'words': 9}:
                 with self.assertRaises(TypeError):
                     call(**given, **wrong)
-        self.assertEqual(count, 40)
+        self.assertEqual(count, 43)
 
     def test_by_the_name_of_before(self):
         for name, wanted in ('words_copy', TEXT), ('words_size', capnp_canonical.Size(2, 0)), ('words_check', None):
@@ -373,9 +395,10 @@ class Files(unittest.TestCase):
         self.assertRegex(self.found('darwin', 'lib', ''), r'^ImportError: libcapnp_canonical\.1\.dylib: .*libcapnp_canonical\.dylib$')
 
     def test_names_of_windows(self):
-        # ctypes asks for this system too, so only the names are compared
-        code = "import sys; sys.path[:0] = [{!r}]; import capnp_canonical._words, ctypes; sys.platform = 'win32'; import importlib; it = importlib.reload(capnp_canonical._library); print(it._NAMES, it._SONAME)"
-        run = subprocess.run([sys.executable, '-B', '-c', code.format(str(pathlib.Path(capnp_canonical.__file__).parents[1]))], stdout=subprocess.PIPE, text=True)
+        # ctypes asks for this system too, so only the names are compared, and the library is named
+        code = "import capnp_canonical, importlib, sys; sys.platform = 'win32'; it = importlib.reload(capnp_canonical._library); print(it._NAMES, it._SONAME)"
+        named = {'CAPNP_CANONICAL_LIBRARY': capnp_canonical._library.library._name, 'PYTHONPATH': str(pathlib.Path(capnp_canonical.__file__).parents[1])}
+        run = subprocess.run([sys.executable, '-B', '-c', code], env={**os.environ, **named}, stdout=subprocess.PIPE, text=True)
         self.assertEqual(run.stdout, "('capnp_canonical.dll', 'libcapnp_canonical.dll') capnp_canonical.dll\n")
 
 

@@ -35,7 +35,7 @@ def of_frames(frame: bytes) -> Tuple[Words, bytes, str, Size, Extent, Optional[F
     buffers = capnp_canonical.digest(bytearray(frame)) + capnp_canonical.digest(memoryview(frame)) + capnp_canonical.digest(array.array('B', frame))
     return (
         words, digest + copy + buffers, capnp_canonical.hexdigest(frame, limits), capnp_canonical.size(frame), capnp_canonical.validate(frame),
-        capnp_canonical.check(frame), capnp_canonical.is_canonical(frame), capnp_canonical.walk(frame, 9, words=9),
+        capnp_canonical.check(frame), capnp_canonical.equal(frame, words.frame(), words=9), capnp_canonical.walk(frame, 9, words=9),
     )
 
 

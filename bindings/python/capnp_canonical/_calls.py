@@ -5,7 +5,7 @@ import ctypes
 import functools
 import warnings
 from array import array
-from typing import TYPE_CHECKING, Any, Callable, Iterable, List, Optional, Sequence, Tuple, TypeVar
+from typing import TYPE_CHECKING, Any, Callable, Iterable, List, Optional, Sequence, Tuple, TypeVar, Union
 
 from capnp_canonical._answers import (
     MAX_NESTING, Error, Extent, Fault, Kind, Limits, Object, Reason, Refusal, Size, Walk,
@@ -14,7 +14,7 @@ from capnp_canonical._library import Lent, RawExtent, RawFault, RawObject, RawPo
 from capnp_canonical._library import frame_size as raw_frame_size
 from capnp_canonical._looks import looks_like
 from capnp_canonical._pycapnp import frame_of
-from capnp_canonical._words import Room, Words, must_be_no_words
+from capnp_canonical._words import Room, Small, Words, must_be_no_words, words_of
 
 if TYPE_CHECKING:
     from _typeshed import ReadableBuffer, WriteableBuffer
@@ -186,8 +186,10 @@ def _limits(limits: Limits) -> Tuple[int, int]:
         raise TypeError(f'limits must be of the class Limits, not {type(limits).__name__}') from None
 
 
-def _room(size: int) -> Room:
+def _room(size: int) -> Union[Small, Room]:
     """Memory of this size, which isn't 0."""
+    if size <= _SMALL:
+        return Small(size)
     try:
         return Room(size)
     except (MemoryError, OverflowError):
@@ -337,7 +339,7 @@ def copy_flat(frame: Message, limits: Limits = LIMITS, *, nesting: Bound = None,
     """Make the message canonical, as raw words without the table of a frame: the bytes to hash or sign. Read stored
     words back with `words_check` and `words_copy`. The calls for frames refuse the result, which is of type `Words`."""
     limits = within(limits, nesting, words)
-    return Words(_written_of_frame(library.capnp_canonical_copy_flat, frame, limits))
+    return words_of(_written_of_frame(library.capnp_canonical_copy_flat, frame, limits))
 
 
 def copy_into(
@@ -369,6 +371,13 @@ def hexdigest(frame: Message, limits: Limits = LIMITS, *, nesting: Bound = None,
     return digest(frame, within(limits, nesting, words)).hex()
 
 
+def equal(frame: Message, other: Message, limits: Limits = LIMITS, *, nesting: Bound = None, words: Bound = None) -> bool:
+    """Test whether two messages have the same value: whether their canonical words are equal. Each is read within the limits.
+    To compare one message with many, compare digests."""
+    limits = within(limits, nesting, words)
+    return copy_flat(frame, limits) == copy_flat(other, limits)
+
+
 def copy_flat_at(
     frame: Message, path: Iterable[int], limits: Limits = LIMITS, *, nesting: Bound = None, words: Bound = None
 ) -> Words:
@@ -376,7 +385,7 @@ def copy_flat_at(
     has the indexes of pointers, from the root pointer on; `(0,)` is the first pointer of the root struct. In a list, an
     index is that of an element. Raises `Error` with `Refusal.NO_SUCH_PLACE` if the path leads nowhere."""
     limits = within(limits, nesting, words)
-    return Words(_written_of_frame(_at(library.capnp_canonical_copy_flat_at, path), frame, limits, None))
+    return words_of(_written_of_frame(_at(library.capnp_canonical_copy_flat_at, path), frame, limits, None))
 
 
 def digest_at(
@@ -457,7 +466,7 @@ def segments_copy_flat(
 ) -> Words:
     """Like `copy_flat`, for a message of these segments."""
     limits = within(limits, nesting, words)
-    return Words(_written_of_segments(library.capnp_canonical_segments_copy_flat, segments, limits))
+    return words_of(_written_of_segments(library.capnp_canonical_segments_copy_flat, segments, limits))
 
 
 def segments_digest(
@@ -475,12 +484,20 @@ def segments_hexdigest(
     return segments_digest(segments, within(limits, nesting, words)).hex()
 
 
+def segments_equal(
+    segments: Iterable[ReadableBuffer], other: Iterable[ReadableBuffer], limits: Limits = LIMITS, *, nesting: Bound = None, words: Bound = None
+) -> bool:
+    """Like `equal`, for two messages of segments."""
+    limits = within(limits, nesting, words)
+    return segments_copy_flat(segments, limits) == segments_copy_flat(other, limits)
+
+
 def segments_copy_flat_at(
     segments: Iterable[ReadableBuffer], path: Iterable[int], limits: Limits = LIMITS, *, nesting: Bound = None, words: Bound = None
 ) -> Words:
     """Like `copy_flat_at`, for a message of these segments."""
     limits = within(limits, nesting, words)
-    return Words(_written_of_segments(_at(library.capnp_canonical_segments_copy_flat_at, path), segments, limits, None))
+    return words_of(_written_of_segments(_at(library.capnp_canonical_segments_copy_flat_at, path), segments, limits, None))
 
 
 def segments_digest_at(
@@ -578,6 +595,14 @@ def words_hexdigest(
 ) -> str:
     """Like `hexdigest`, for a message passed as raw words."""
     return words_digest(message, within(limits, nesting, words)).hex()
+
+
+def words_equal(
+    message: ReadableBuffer, other: ReadableBuffer, limits: Limits = LIMITS, *, nesting: Bound = None, words: Bound = None
+) -> bool:
+    """Like `equal`, for two messages passed as raw words."""
+    limits = within(limits, nesting, words)
+    return words_copy(message, limits) == words_copy(other, limits)
 
 
 @_also_by_name

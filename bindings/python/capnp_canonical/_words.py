@@ -49,6 +49,23 @@ _api.Py_DecRef.argtypes, _api.Py_DecRef.restype = [ctypes.c_void_p], None
 _START = bytes.__basicsize__ - 1
 
 
+def words_of(made: bytes) -> Words:
+    """The bytes that a call has written, with the type of raw words."""
+    return bytes.__new__(Words, made)
+
+
+class Small:
+    """Like `Room`, for a few KB, which are copied faster."""
+
+    __slots__ = 'address', 'size'
+
+    def __init__(self, size: int) -> None:
+        self.address, self.size = ctypes.create_string_buffer(size), size
+
+    def take(self, size: int) -> bytes:
+        return ctypes.string_at(self.address, size)
+
+
 class Room:
     """Memory of `size` bytes that a call writes to, and that becomes an object of type `bytes` in place. Nothing else knows
     the object before `take` returns it."""
