@@ -18,7 +18,7 @@ HERE = pathlib.Path(__file__).resolve().parent
 TARGET = HERE.parents[1] / 'build/cargo'
 FOLDER = TARGET / 'debug'
 # The programs, by which the scripts of tests/ take them.
-PROGRAMS = ROWS, RUNS, STREAM_RUNS = [FOLDER / it for it in ('layout_rows', 'layout_runs', 'stream_runs')]
+PROGRAMS = ROWS, RUNS, STREAM_RUNS, CONFORMING_RUNS = [FOLDER / it for it in ('layout_rows', 'layout_runs', 'stream_runs', 'conforming_runs')]
 TESTED = re.compile(r'(?m)^test result: .* (\d+) passed; (\d+) failed;')
 TEST = re.compile(r'(?m)^\s*#\[test\]$')
 

@@ -46,5 +46,6 @@ pub mod capnp_words;
 pub mod layout_vectors;
 pub mod support;
 pub mod typed_building;
+pub mod typed_conforming;
 pub mod typed_messages;
 pub mod typed_reading;

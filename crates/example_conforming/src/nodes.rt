@@ -1,0 +1,50 @@
+//! A list of nodes, `struct Node { name @0 :Text; next @1 :Node; }`.
+ghost use Rattle.std.specs.Prelude.{◌≡◌, ℕ, IfOk};
+ghost use Rattle.capnp_format.specs.Bytes.{message};
+ghost use Rattle.capnp_format.specs.Means.{Means};
+ghost use Rattle.capnp_format.specs.Segments.{AreWords};
+ghost use Rattle.capnp_format.specs.Tree.{Tree};
+ghost use Rattle.capnp_objects.specs.Source.{levels};
+ghost use Rattle.capnp_readers.specs.Values.{text_bytes};
+ghost use Rattle.typed_reading.specs.Values.{child};
+
+use capnp_arena_traits::arena::ReaderArena;
+use capnp_words::error::ErrorKind;
+use capnp_words::read_limiter::ReadLimiter;
+use typed_conforming::checked::CheckedStruct;
+use typed_conforming::schema::{Kind, PointerField, PointerRow, StructRow};
+
+/// The row of `Node`.
+pub static NODES: [StructRow<'static>; 1] = [StructRow {
+    pointers: &[
+        PointerRow {
+            fields: &[PointerField {
+                kind: Kind::Text,
+                members: &[],
+            }],
+        },
+        PointerRow {
+            fields: &[PointerField {
+                kind: Kind::Struct(0),
+                members: &[],
+            }],
+        },
+    ],
+}];
+
+/// Returns the name of the node after the root.
+pub fn second_name<'a, A: ReaderArena>(
+    arena: &'a A,
+    lim: &mut ReadLimiter,
+) -> Result<&'a [u8], ErrorKind>
+    requires { AreWords (message (A.segments arena.now)) }
+    ensures { (t : Tree) (c : ℕ)
+        → Means (message (A.segments arena.now)) (levels (A.nesting arena.now)) 0 0 t c
+        → IfOk result (λ name. name.now ≡ text_bytes (child 0 (child 1 t))) }
+{
+    let node = match CheckedStruct::root(arena, &NODES, 0, lim) {
+        Ok(node) => node,
+        Err(kind) => return Err(kind),
+    };
+    Ok(node.get_struct(1, 0).get_text(0))
+}

@@ -1,0 +1,205 @@
+-- An object is what a pointer of some kind may lead to exactly if the value that is read of it is.
+use Rattle.std.proofs.Common.{◌≡◌, ℕ, zero, suc, ◌+◌, ◌-◌, ◌*◌, ◌/◌, ◌%◌, ◌^◌, ◌<◌, ◌≤◌, Bool, true, false, ◌&&◌, if◌then◌else◌, nat_eq, nat_lt, List, length, drop, get_or, Option, Some, None, refl, sym, ap, ◌∙◌, subst, arith, eq-eqb, eqb-true, lt-ltb, ltb-true, drop-cons}
+use Rattle.std.proofs.lemmas.Bool.{false≢true}
+use Rattle.std.proofs.lemmas.List.{get_or-take, get_or-drop}
+use Rattle.std.proofs.lemmas.Nat.{shr-shr}
+use Rattle.capnp_words.specs.declared.error.ErrorKind.{ErrorKind}
+use Rattle.capnp_format.specs.Numbers.{from_digits, unpacked, words_for}
+use Rattle.capnp_format.specs.Segments.{Segments, segment, word_at, words_at, AreWords}
+use Rattle.capnp_format.specs.Tree.{Tree, Null, Flat, Capability, Struct, Pointers, Structs, Trees, Elements}
+use Rattle.capnp_format.specs.Value.{AreBelow}
+use Rattle.capnp_format.proofs.Bounds.{words_below}
+use Rattle.capnp_format.proofs.Digits.{length-digits}
+use Rattle.capnp_format.proofs.LawLemmas.{element_is_bits}
+use Rattle.capnp_format.proofs.Lies.{pow_pow}
+use Rattle.capnp_format.proofs.Slices.{length_words}
+use Rattle.capnp_format.proofs.FieldBytes.{cut}
+use Rattle.capnp_objects.specs.Enter.{capability, struct, flat, pointers, structs}
+use Rattle.typed_conforming.specs.declared.schema.Kind.{Kind}
+use Rattle.typed_conforming.specs.declared.schema.Kind.TheVariants.{Any, AnyList, Capability as CapabilityKind, Text, Data, Struct as StructKind, List as ListKind}
+use Rattle.typed_conforming.specs.Conforms.{IsOfKind}
+use Rattle.typed_conforming.specs.Misfits.{bytes_end_in_zero, data_misfit, kind_misfit, object_byte, text_misfit}
+
+-- byte j of a word, with other words after it
+first_word : (w y j : ℕ) → j < 8 → (w + 2 ^ 64 * y) / 2 ^ (8 * j) % 2 ^ 8 ≡ w / 2 ^ (8 * j) % 2 ^ 8
+first_word w y zero l = omega arith
+first_word w y (suc zero) l = omega arith
+first_word w y (suc (suc zero)) l = omega arith
+first_word w y (suc (suc (suc zero))) l = omega arith
+first_word w y (suc (suc (suc (suc zero)))) l = omega arith
+first_word w y (suc (suc (suc (suc (suc zero))))) l = omega arith
+first_word w y (suc (suc (suc (suc (suc (suc zero)))))) l = omega arith
+first_word w y (suc (suc (suc (suc (suc (suc (suc zero))))))) l = omega arith
+first_word w y _ l = absurd (omega arith)
+
+-- byte i of words that are read as one number
+byte_of_words : (ws : List ℕ) (i : ℕ) → AreBelow (2 ^ 64) ws → i / 8 < length ws → from_digits (2 ^ 64) ws / 2 ^ (8 * i) % 2 ^ 8 ≡ get_or ws (i / 8) 0 / 2 ^ (8 * (i % 8)) % 2 ^ 8
+byte_of_words ws i small there =
+    let k : ℕ = i / 8 in
+    let o : ℕ = 8 * (i % 8) in
+    let y : ℕ = from_digits (2 ^ 64) (drop (suc k) ws) in
+    let above : from_digits (2 ^ 64) ws / 2 ^ (64 * k) ≡ from_digits (2 ^ 64) (drop k ws) = ap (λ p. from_digits (2 ^ 64) ws / p) (sym (pow_pow 64 k)) ∙ (cut (2 ^ 64) k ws small (omega arith)).others in
+    let first : from_digits (2 ^ 64) (drop k ws) ≡ get_or ws k 0 + 2 ^ 64 * y = ap (from_digits (2 ^ 64)) (drop-cons ws k 0 there) in
+    ap (λ e. from_digits (2 ^ 64) ws / 2 ^ e % 2 ^ 8) (let e : 8 * i ≡ 64 * k + o = omega arith in e)
+    ∙ ap (λ x. x % 2 ^ 8) (sym (shr-shr (from_digits (2 ^ 64) ws) (64 * k) o) ∙ ap (λ x. x / 2 ^ o) (above ∙ first))
+    ∙ first_word (get_or ws k 0) y (i % 8) (omega arith)
+
+-- byte i of a list of bytes in a message
+byte_of_list : (S : Segments) (s p n i : ℕ) → AreWords S → p + words_for 2 n ≤ length (segment S s) → i < n →
+    get_or (unpacked 2 n (words_at S s p (words_for 2 n))) i 0 ≡ word_at S s (p + i / 8) / 2 ^ (8 * (i % 8)) % 2 ^ 8
+byte_of_list S s p n i words claims inside =
+    let ws : List ℕ = words_at S s p (words_for 2 n) in
+    let long : length ws ≡ words_for 2 n = length_words S s p (words_for 2 n) claims in
+    let word : get_or ws (i / 8) 0 ≡ word_at S s (p + i / 8) = get_or-take (words_for 2 n) (drop p (segment S s)) (i / 8) 0 (omega arith) ∙ get_or-drop p (segment S s) (i / 8) 0 in
+    element_is_bits 2 n i ws inside
+    ∙ byte_of_words ws i (words_below S s p (words_for 2 n) (words s)) (omega (arith, long))
+    ∙ ap (λ x. x / 2 ^ (8 * (i % 8)) % 2 ^ 8) word
+
+-- Tests.
+both : (a b : Bool) → (a && b) ≡ true → (a ≡ true) × (b ≡ true)
+both true b e = (refl, e)
+both false b e = absurd (false≢true e)
+
+-- The value of a list of numbers.
+abbrev pub numbers : Segments → ℕ → ℕ → ℕ → ℕ → Tree
+numbers S s p size n = Flat size (unpacked size n (words_at S s p (words_for size n)))
+
+text_bytes_end : (S : Segments) (s p size n : ℕ) → AreWords S → p + words_for size n ≤ length (segment S s) → size ≡ 2 → 0 < n →
+    get_or (unpacked size n (words_at S s p (words_for size n))) (length (unpacked size n (words_at S s p (words_for size n))) - 1) 0 ≡ object_byte S s p (n - 1)
+text_bytes_end S s p size n words claims two some =
+    let long : length (unpacked size n (words_at S s p (words_for size n))) ≡ n = length-digits _ n _ in
+    let room : p + words_for 2 n ≤ length (segment S s) = subst (λ z. p + words_for z n ≤ length (segment S s)) two claims in
+    ap (λ k. get_or (unpacked size n (words_at S s p (words_for size n))) (k - 1) 0) long
+    ∙ ap (λ z. get_or (unpacked z n (words_at S s p (words_for z n))) (n - 1) 0) two
+    ∙ byte_of_list S s p n (n - 1) words room (omega (arith, some))
+
+-- A text, and data.
+bytes_only : (size : ℕ) (x : Option ErrorKind) (e : ErrorKind) → (if nat_eq size 2 then x else Some e) ≡ None → (size ≡ 2) × (x ≡ None)
+bytes_only size x e h = go (nat_eq size 2) refl h
+  where
+    go : (b : Bool) → nat_eq size 2 ≡ b → (if b then x else Some e) ≡ None → (size ≡ 2) × (x ≡ None)
+    go true is h = (eqb-true _ _ is, h)
+    go false is h = absurd (cc h)
+
+passed : (b : Bool) (e : ErrorKind) → (if b then None else Some e) ≡ None → b ≡ true
+passed true e h = refl
+passed false e h = absurd (cc h)
+
+text_flat : (S : Segments) (s p size n : ℕ) → AreWords S → p + words_for size n ≤ length (segment S s) → text_misfit S (flat s p size n) ≡ None → IsOfKind Text (numbers S s p size n)
+text_flat S s p size n words claims h =
+    let bytes = bytes_only size _ _ h in
+    let ends = both _ _ (passed (bytes_end_in_zero S s p n) _ bytes.1) in
+    let some : 0 < n = ltb-true _ _ ends.0 in
+    let long : length (unpacked size n (words_at S s p (words_for size n))) ≡ n = length-digits _ n _ in
+    (bytes.0, omega (arith, some, long), text_bytes_end S s p size n words claims bytes.0 some ∙ eqb-true _ _ ends.1)
+
+flat_text : (S : Segments) (s p size n : ℕ) → AreWords S → p + words_for size n ≤ length (segment S s) → IsOfKind Text (numbers S s p size n) → text_misfit S (flat s p size n) ≡ None
+flat_text S s p size n words claims (two, some, last) =
+    let long : length (unpacked size n (words_at S s p (words_for size n))) ≡ n = length-digits _ n _ in
+    let more : 0 < n = omega (arith, some, long) in
+    let a : nat_eq size 2 ≡ true = eq-eqb _ _ two in
+    let b : nat_lt 0 n ≡ true = lt-ltb _ _ more in
+    let c : nat_eq (object_byte S s p (n - 1)) 0 ≡ true = eq-eqb _ _ (sym (text_bytes_end S s p size n words claims two more) ∙ last) in
+    rw (a, b, c) refl
+
+data_flat : (S : Segments) (s p size n : ℕ) → IsOfKind Data (numbers S s p size n) → data_misfit (flat s p size n) ≡ None
+data_flat S s p size n two = let a : nat_eq size 2 ≡ true = eq-eqb _ _ two in rw a refl
+
+pub flat_fits : (k : Kind) (S : Segments) (s p size n : ℕ) → AreWords S → p + words_for size n ≤ length (segment S s) → kind_misfit k S (flat s p size n) ≡ None → IsOfKind k (numbers S s p size n)
+flat_fits Any S s p size n words claims e = tt
+flat_fits CapabilityKind S s p size n words claims e = absurd (cc e)
+flat_fits Text S s p size n words claims e = text_flat S s p size n words claims e
+flat_fits Data S s p size n words claims e = (bytes_only size None _ e).0
+flat_fits (StructKind row) S s p size n words claims e = absurd (cc e)
+flat_fits AnyList S s p size n words claims e = tt
+flat_fits (ListKind wanted row) S s p size n words claims e = e
+
+pub fits_flat : (k : Kind) (S : Segments) (s p size n : ℕ) → AreWords S → p + words_for size n ≤ length (segment S s) → IsOfKind k (numbers S s p size n) → kind_misfit k S (flat s p size n) ≡ None
+fits_flat Any S s p size n words claims h = refl
+fits_flat CapabilityKind S s p size n words claims h = absurd h
+fits_flat Text S s p size n words claims h = flat_text S s p size n words claims h
+fits_flat Data S s p size n words claims h = data_flat S s p size n h
+fits_flat (StructKind row) S s p size n words claims h = absurd h
+fits_flat AnyList S s p size n words claims h = refl
+fits_flat (ListKind wanted row) S s p size n words claims h = h
+
+pub struct_fits : (k : Kind) (S : Segments) (s p d q : ℕ) (ws : List ℕ) (ts : Trees) → kind_misfit k S (struct s p d q) ≡ None → IsOfKind k (Struct ws ts)
+struct_fits Any S s p d q ws ts e = tt
+struct_fits CapabilityKind S s p d q ws ts e = absurd (cc e)
+struct_fits Text S s p d q ws ts e = absurd (cc e)
+struct_fits Data S s p d q ws ts e = absurd (cc e)
+struct_fits (StructKind row) S s p d q ws ts e = tt
+struct_fits AnyList S s p d q ws ts e = absurd (cc e)
+struct_fits (ListKind wanted row) S s p d q ws ts e = absurd (cc e)
+
+pub fits_struct : (k : Kind) (S : Segments) (s p d q : ℕ) (ws : List ℕ) (ts : Trees) → IsOfKind k (Struct ws ts) → kind_misfit k S (struct s p d q) ≡ None
+fits_struct Any S s p d q ws ts h = refl
+fits_struct CapabilityKind S s p d q ws ts h = absurd h
+fits_struct Text S s p d q ws ts h = absurd h
+fits_struct Data S s p d q ws ts h = absurd h
+fits_struct (StructKind row) S s p d q ws ts h = refl
+fits_struct AnyList S s p d q ws ts h = absurd h
+fits_struct (ListKind wanted row) S s p d q ws ts h = absurd h
+
+pub pointers_fit : (k : Kind) (S : Segments) (s p n : ℕ) (ts : Trees) → kind_misfit k S (pointers s p n) ≡ None → IsOfKind k (Pointers ts)
+pointers_fit Any S s p n ts e = tt
+pointers_fit CapabilityKind S s p n ts e = absurd (cc e)
+pointers_fit Text S s p n ts e = absurd (cc e)
+pointers_fit Data S s p n ts e = absurd (cc e)
+pointers_fit (StructKind row) S s p n ts e = absurd (cc e)
+pointers_fit AnyList S s p n ts e = tt
+pointers_fit (ListKind wanted row) S s p n ts e = e
+
+pub fits_pointers : (k : Kind) (S : Segments) (s p n : ℕ) (ts : Trees) → IsOfKind k (Pointers ts) → kind_misfit k S (pointers s p n) ≡ None
+fits_pointers Any S s p n ts h = refl
+fits_pointers CapabilityKind S s p n ts h = absurd h
+fits_pointers Text S s p n ts h = absurd h
+fits_pointers Data S s p n ts h = absurd h
+fits_pointers (StructKind row) S s p n ts h = absurd h
+fits_pointers AnyList S s p n ts h = refl
+fits_pointers (ListKind wanted row) S s p n ts h = h
+
+pub structs_fit : (k : Kind) (S : Segments) (s p d q n : ℕ) (es : Elements) → kind_misfit k S (structs s p d q n) ≡ None → IsOfKind k (Structs d q es)
+structs_fit Any S s p d q n es e = tt
+structs_fit CapabilityKind S s p d q n es e = absurd (cc e)
+structs_fit Text S s p d q n es e = absurd (cc e)
+structs_fit Data S s p d q n es e = absurd (cc e)
+structs_fit (StructKind row) S s p d q n es e = absurd (cc e)
+structs_fit AnyList S s p d q n es e = tt
+structs_fit (ListKind wanted row) S s p d q n es e = e
+
+pub fits_structs : (k : Kind) (S : Segments) (s p d q n : ℕ) (es : Elements) → IsOfKind k (Structs d q es) → kind_misfit k S (structs s p d q n) ≡ None
+fits_structs Any S s p d q n es h = refl
+fits_structs CapabilityKind S s p d q n es h = absurd h
+fits_structs Text S s p d q n es h = absurd h
+fits_structs Data S s p d q n es h = absurd h
+fits_structs (StructKind row) S s p d q n es h = absurd h
+fits_structs AnyList S s p d q n es h = refl
+fits_structs (ListKind wanted row) S s p d q n es h = h
+
+pub capability_fits : (k : Kind) (S : Segments) (i : ℕ) → kind_misfit k S (capability i) ≡ None → IsOfKind k (Capability i)
+capability_fits Any S i e = tt
+capability_fits CapabilityKind S i e = tt
+capability_fits Text S i e = absurd (cc e)
+capability_fits Data S i e = absurd (cc e)
+capability_fits (StructKind row) S i e = absurd (cc e)
+capability_fits AnyList S i e = absurd (cc e)
+capability_fits (ListKind wanted row) S i e = absurd (cc e)
+
+pub fits_capability : (k : Kind) (S : Segments) (i : ℕ) → IsOfKind k (Capability i) → kind_misfit k S (capability i) ≡ None
+fits_capability Any S i h = refl
+fits_capability CapabilityKind S i h = refl
+fits_capability Text S i h = absurd h
+fits_capability Data S i h = absurd h
+fits_capability (StructKind row) S i h = absurd h
+fits_capability AnyList S i h = absurd h
+fits_capability (ListKind wanted row) S i h = absurd h
+
+pub null_conforms_to : (k : Kind) → IsOfKind k Null
+null_conforms_to Any = tt
+null_conforms_to CapabilityKind = tt
+null_conforms_to Text = tt
+null_conforms_to Data = tt
+null_conforms_to (StructKind row) = tt
+null_conforms_to AnyList = tt
+null_conforms_to (ListKind wanted row) = tt

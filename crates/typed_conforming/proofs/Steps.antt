@@ -1,0 +1,162 @@
+-- The walk, a step at a time: what it makes of an object that the program has read, of consecutive
+-- pointers and of elements.
+use Rattle.std.proofs.Common.{◌≡◌, ℕ, zero, suc, pred, ◌+◌, ◌*◌, ◌<◌, ◌≤◌, List, length, Some, None, Ok, Err, refl, ap, ap₂, ◌∙◌, arith}
+use Rattle.capnp_words.specs.declared.error.ErrorKind.{ErrorKind}
+use Rattle.capnp_words.specs.Meter.{Meter}
+use Rattle.capnp_format.specs.Segments.{segment}
+use Rattle.capnp_objects.specs.declared.object.Object.{Object}
+use Rattle.capnp_objects.specs.declared.object.Object.TheVariants.{Null as ObjectNull, Capability as ObjectCapability, Struct as ObjectStruct, Flat as ObjectFlat, Pointers as ObjectPointers, Structs as ObjectStructs}
+use Rattle.capnp_objects.specs.declared.object.Purpose.TheVariants.{Value}
+use Rattle.capnp_words.specs.declared.wire_pointer.StructSize.{StructSize}
+use Rattle.capnp_objects.specs.declared.object.Place.{Place}
+use Rattle.capnp_objects.specs.Enter.{Shape, nothing, object_shape, read}
+use Rattle.capnp_objects.specs.Entering.{IsObjectHeld}
+use Rattle.capnp_objects.specs.Metered.{Metered, onward}
+use Rattle.capnp_objects.specs.Objects.{IsObject}
+use Rattle.capnp_objects.specs.Reading.{Reading, place_past, segment_read, word_of, words_from}
+use Rattle.capnp_objects.specs.Refusals.{NotRead}
+use Rattle.capnp_objects.proofs.Checks.{pointers_room, struct_room}
+use Rattle.capnp_objects.proofs.Parts.{claim_list}
+use Rattle.capnp_objects.proofs.Computed.{null_is, object_is, stopped_is}
+use Rattle.capnp_objects.proofs.Walked.{beginning}
+use Rattle.typed_conforming.specs.declared.conforms.ObjectElements.{ObjectElements}
+use Rattle.typed_conforming.specs.declared.schema.Kind.{Kind}
+use Rattle.typed_conforming.specs.declared.schema.Kind.TheVariants.{Any, AnyList, Capability, Data, List as ListKind, Struct, Text}
+use Rattle.typed_conforming.specs.declared.schema.PointerRow.{PointerRow}
+use Rattle.typed_conforming.specs.declared.schema.StructRow.{StructRow}
+use Rattle.typed_conforming.specs.Conforms.{wanted, pointers_below}
+use Rattle.typed_conforming.specs.Rows.{AreElementsOf}
+use Rattle.typed_conforming.specs.Misfits.{kind_misfit}
+use Rattle.typed_conforming.specs.Walk.{KindTest, check_children, check_elements, check_place, check_pointers, check_within}
+
+-- The object is refused, or isn't what is wanted.
+pub unread : (T : List StructRow) (k : Kind) (r : Reading) (m m' : Meter) (e : ErrorKind) → read Value r m ≡ (Err e, m') → check_place T k r m ≡ (Err e, m')
+unfolding check_within
+unread T k r m m' e h = go r.levels h
+  where
+    go : (n : ℕ) → read Value (record r { levels = n }) m ≡ (Err e, m') → check_within T n k r m ≡ (Err e, m')
+    go zero h = ap (onward _) h
+    go (suc n) h = ap (onward _) h
+
+pub not_read : (T : List StructRow) (k : Kind) (r : Reading) (m m' : Meter) (e : ErrorKind) → NotRead Value r m m' e → check_place T k r m ≡ (Err e, m')
+not_read T k r m m' e refusal = unread T k r m m' e (stopped_is Value r m m' e (λ e. absurd (cc e)) refusal)
+
+pub unfit : (T : List StructRow) (k : Kind) (r : Reading) (m m' : Meter) (o : Shape) (e : ErrorKind) → read Value r m ≡ (Ok o, m') → kind_misfit k r.segments o ≡ Some e → check_place T k r m ≡ (Err e, m')
+unfolding check_within
+unfit T k r m m' o e h misses = go r.levels h
+  where
+    go : (n : ℕ) → read Value (record r { levels = n }) m ≡ (Ok o, m') → check_within T n k r m ≡ (Err e, m')
+    go zero h = ap (onward _) h ∙ rw misses refl
+    go (suc n) h = ap (onward _) h ∙ rw misses refl
+
+-- The object is what is wanted, and has children; or it has none.
+pub opened : (T : List StructRow) (k : Kind) (r : Reading) (m m' : Meter) (o : Shape) → 0 < r.levels → read Value r m ≡ (Ok o, m') → kind_misfit k r.segments o ≡ None →
+    check_place T k r m ≡ check_children (check_within T (pred r.levels)) (pointers_below T k) (record r { levels = pred r.levels }) o m'
+unfolding check_within
+opened T k r m m' o some h suits = go r.levels some h
+  where
+    go : (n : ℕ) → 0 < n → read Value (record r { levels = n }) m ≡ (Ok o, m') → check_within T n k r m ≡ check_children (check_within T (pred n)) (pointers_below T k) (record r { levels = pred n }) o m'
+    go zero some h = absurd (omega arith)
+    go (suc n) some h = ap (onward _) h ∙ rw suits refl
+
+pub leaf : (T : List StructRow) (k : Kind) (r : Reading) (m m' : Meter) (o : Shape) → ((f : KindTest) (ps : List PointerRow) (s : Reading) (m : Meter) → check_children f ps s o m ≡ (Ok tt, m)) → read Value r m ≡ (Ok o, m') → kind_misfit k r.segments o ≡ None →
+    check_place T k r m ≡ (Ok tt, m')
+unfolding check_within
+leaf T k r m m' o none h suits = go r.levels h
+  where
+    go : (n : ℕ) → read Value (record r { levels = n }) m ≡ (Ok o, m') → check_within T n k r m ≡ (Ok tt, m')
+    go zero h = ap (onward _) h ∙ rw suits refl
+    go (suc n) h = ap (onward _) h ∙ rw suits (none (check_within T n) (pointers_below T k) (record r { levels = n }) m')
+
+null_fits : (k : Kind) (r : Reading) → kind_misfit k r.segments nothing ≡ None
+null_fits Any r = refl
+null_fits Capability r = refl
+null_fits Text r = refl
+null_fits Data r = refl
+null_fits (Struct row) r = refl
+null_fits AnyList r = refl
+null_fits (ListKind size row) r = refl
+
+pub null_conforms : (T : List StructRow) (k : Kind) (r : Reading) (m : Meter) → word_of r ≡ 0 → check_place T k r m ≡ (Ok tt, m)
+null_conforms T k r m none = leaf T k r m m nothing (λ f ps s m. refl) (null_is Value r m none) (null_fits k r)
+
+-- One of several consecutive pointers is tested, or stops the walk.
+pub one_more : (f : KindTest) (ps : List PointerRow) (ws : List ℕ) (r : Reading) (i k : ℕ) (m m' : Meter) → f (wanted ps ws i) (place_past r i) m ≡ (Ok tt, m') →
+    check_pointers f ps ws i (suc k) (place_past r i) m ≡ check_pointers f ps ws (i + 1) k (place_past r (i + 1)) m'
+one_more f ps ws r i k m m' h = ap (onward _) h ∙ ap₂ (λ n p. check_pointers f ps ws n k (record r { at = p }) m') (let e : suc i ≡ i + 1 = omega arith in e) (let e : r.at + i + 1 ≡ r.at + (i + 1) = omega arith in e)
+
+pub one_stops : (f : KindTest) (ps : List PointerRow) (ws : List ℕ) (r : Reading) (i k : ℕ) (m m' : Meter) (e : ErrorKind) → f (wanted ps ws i) r m ≡ (Err e, m') → check_pointers f ps ws i (suc k) r m ≡ (Err e, m')
+one_stops f ps ws r i k m m' e h = ap (onward _) h
+
+-- One of several consecutive elements is tested, or stops the walk.
+pub row_more : (f : KindTest) (ps : List PointerRow) (r : Reading) (d q i k : ℕ) (m m' : Meter) →
+    check_pointers f ps (words_from (place_past r (i * (d + q))) d) 0 q (place_past (place_past r (i * (d + q))) d) m ≡ (Ok tt, m') →
+    check_elements f ps d q (suc k) (place_past r (i * (d + q))) m ≡ check_elements f ps d q k (place_past r ((i + 1) * (d + q))) m'
+row_more f ps r d q i k m m' h = ap (onward _) h ∙ ap (λ p. check_elements f ps d q k (record r { at = p }) m') (let e : r.at + i * (d + q) + (d + q) ≡ r.at + (i + 1) * (d + q) = omega arith in e)
+
+pub row_stops : (f : KindTest) (ps : List PointerRow) (r : Reading) (d q k : ℕ) (m m' : Meter) (e : ErrorKind) → check_pointers f ps (words_from r d) 0 q (place_past r d) m ≡ (Err e, m') → check_elements f ps d q (suc k) r m ≡ (Err e, m')
+row_stops f ps r d q k m m' e h = ap (onward _) h
+
+pub no_pointers : (f : KindTest) (ps : List PointerRow) (r : Reading) (d n : ℕ) (m : Meter) → check_elements f ps d 0 n r m ≡ (Ok tt, m)
+no_pointers f ps r d zero m = refl
+no_pointers f ps r d (suc n) m = no_pointers f ps (place_past r (d + 0)) d n m
+
+-- The program's objects.
+pub no_children : (f : KindTest) (ps : List PointerRow) (r : Reading) (x : Object) (m : Meter) → ((rows : ObjectElements) → AreElementsOf x rows → ⊥) → check_children f ps r (object_shape x) m ≡ (Ok tt, m)
+no_children f ps r ObjectNull m h = refl
+no_children f ps r (ObjectCapability i) m h = refl
+no_children f ps r (ObjectFlat start size i) m h = refl
+no_children f ps r (ObjectStruct start size) m h = absurd (h (record { start = start; data_words = size.data_words; pointers = size.pointers; count = 1 }) (refl, refl, refl, refl))
+no_children f ps r (ObjectPointers start i) m h = absurd (h (record { start = start; data_words = 0; pointers = 1; count = i }) (refl, refl, refl, refl))
+no_children f ps r (ObjectStructs start size i) m h = absurd (h (record { start = start; data_words = size.data_words; pointers = size.pointers; count = i }) (refl, refl, refl, refl))
+
+pub children_are : (f : KindTest) (ps : List PointerRow) (r : Reading) (x : Object) (rows : ObjectElements) (m : Meter) → AreElementsOf x rows →
+    check_children f ps r (object_shape x) m ≡ check_elements f ps rows.data_words rows.pointers rows.count (record r { segment = rows.start.segment; at = rows.start.at }) m
+children_are f ps r (ObjectStruct start size) rows m (a, d, q, i) = rw (a, d, q, i) refl
+children_are f ps r (ObjectPointers start len) rows m (a, d, q, i) = rw (a, d, q, i) refl
+children_are f ps r (ObjectStructs start size len) rows m (a, d, q, i) = rw (a, d, q, i) refl
+children_are f ps r ObjectNull rows m h = absurd h
+children_are f ps r (ObjectCapability i) rows m h = absurd h
+children_are f ps r (ObjectFlat start size i) rows m h = absurd h
+
+pub object_ends : (T : List StructRow) (k : Kind) (r : Reading) (m m' : Meter) (x : Object) → IsObject Value r m m' x → kind_misfit k r.segments (object_shape x) ≡ None → ((rows : ObjectElements) → AreElementsOf x rows → ⊥) → check_place T k r m ≡ (Ok tt, m')
+object_ends T k r m m' x object suits none = leaf T k r m m' (object_shape x) (λ f ps s m. no_children f ps s x m none) (object_is Value r m m' x object) suits
+
+pub object_unfit : (T : List StructRow) (k : Kind) (r : Reading) (m m' : Meter) (x : Object) (e : ErrorKind) → IsObject Value r m m' x → kind_misfit k r.segments (object_shape x) ≡ Some e → check_place T k r m ≡ (Err e, m')
+object_unfit T k r m m' x e object misses = unfit T k r m m' (object_shape x) e (object_is Value r m m' x object) misses
+
+pub object_opens : (T : List StructRow) (k : Kind) (r : Reading) (m m' : Meter) (x : Object) (n : ℕ) (rows : ObjectElements) → 0 < r.levels → n ≡ pred r.levels → IsObject Value r m m' x → kind_misfit k r.segments (object_shape x) ≡ None → AreElementsOf x rows →
+    check_place T k r m ≡ check_elements (check_within T n) (pointers_below T k) rows.data_words rows.pointers rows.count (record r { levels = n; segment = rows.start.segment; at = rows.start.at }) m'
+object_opens T k r m m' x n rows some level object suits has =
+    opened T k r m m' (object_shape x) some (object_is Value r m m' x object) suits
+    ∙ children_are (check_within T (pred r.levels)) (pointers_below T k) (record r { levels = pred r.levels }) x rows m' has ∙ rw level refl
+
+-- What is known of an object that was read: its bytes, the level it took, and where its elements end.
+pub held : (r : Reading) (m m' : Meter) (x : Object) → IsObject Value r m m' x → IsObjectHeld r.segments x
+held r m m' ObjectNull o = tt
+held r m m' (ObjectCapability i) o = tt
+held r m m' (ObjectStruct start size) (a, o, z, starts, wide, many) = starts.0
+held r m m' (ObjectFlat start size i) (a, o, z, small, starts, is, len) = starts.0
+held r m m' (ObjectPointers start i) (a, o, z, six, starts, len) = starts.0
+held r m m' (ObjectStructs start size i) (a, o, z, seven, starts, len, wide, many) = starts.0
+
+structs_inside : {r : Reading} {m m' : Meter} (start : Place) (size : StructSize) (i : ℕ) → IsObject Value r m m' (ObjectStructs start size i) → start.at + i * (size.data_words + size.pointers) ≤ length (segment r.segments start.segment)
+structs_inside {r} start size i (a, o, z, seven, (held, seg, at), len, wide, many) =
+    let room = o.meets.claims in
+    rw (seg, len, wide, many) (omega (arith, room, at, claim_list a.word 7 z seven, (o.meets.tagged (z, seven)).1))
+
+pub level : (r : Reading) (m m' : Meter) (rows : ObjectElements) (x : Object) → IsObject Value r m m' x → AreElementsOf x rows → 0 < r.levels
+level r m m' rows (ObjectStruct start size) o has = o.1.meets.levels
+level r m m' rows (ObjectPointers start i) o has = o.1.meets.levels
+level r m m' rows (ObjectStructs start size i) o has = o.1.meets.levels
+level r m m' rows ObjectNull o has = absurd has
+level r m m' rows (ObjectCapability i) o has = absurd has
+level r m m' rows (ObjectFlat start size i) o has = absurd has
+
+pub inside : (r : Reading) (m m' : Meter) (rows : ObjectElements) (x : Object) → IsObject Value r m m' x → AreElementsOf x rows → rows.start.at + rows.count * (rows.data_words + rows.pointers) ≤ length (segment_read (beginning r rows.start))
+inside r m m' rows (ObjectStruct start size) o (a, d, q, n) = rw (a, d, q, n) (let room = struct_room {r = r} {m = m} {m' = m'} start size o in omega (arith, room))
+inside r m m' rows (ObjectStructs start size i) o (a, d, q, n) = rw (a, d, q, n) (structs_inside {r = r} {m = m} {m' = m'} start size i o)
+inside r m m' rows (ObjectPointers start i) o (a, d, q, n) = rw (a, d, q, n) (let room = pointers_room {r = r} {m = m} {m' = m'} start i o in omega (arith, room))
+inside r m m' rows ObjectNull o has = absurd has
+inside r m m' rows (ObjectCapability i) o has = absurd has
+inside r m m' rows (ObjectFlat start size i) o has = absurd has

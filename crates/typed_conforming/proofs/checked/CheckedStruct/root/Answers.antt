@@ -1,0 +1,27 @@
+use Rattle.std.proofs.Common.{inl, refl}
+use Rattle.capnp_format.specs.Bytes.{message}
+use Rattle.capnp_format.specs.Means.{Means}
+use Rattle.capnp_objects.specs.Source.{levels}
+use Rattle.typed_reading.proofs.Root.{root_affords}
+use Rattle.typed_conforming.specs.Checked.{ShowsConforming}
+use Rattle.typed_conforming.proofs.Checking.{children_conform}
+use Rattle.typed_conforming.proofs.checked.CheckedStruct.root.Goals as goal
+
+pub returns-in-Err-conforms-clause-answered : goal.returns-in-Err-conforms-clause-answered
+returns-in-Err-conforms-clause-answered g c =
+    let root = c.in-Ok.ensures in
+    λ t k there h means covers. (c.in-Err-conforms.ensures.exactly (rw root.source c.requires.words)).1
+    (t, k, h, rw (root.source, root.place.0, root.place.1, root.nesting) means, rw (root.source, root.granted) (root_affords (g.A.ReaderArena.charging c.args.arena.now) c.args.lim.now k covers).1)
+
+pub invariant_of-result : goal.invariant_of-result
+invariant_of-result g c =
+    let root = c.in-Ok.ensures in
+    let found = (c.in-Ok-conforms.ensures.exactly (rw root.source c.requires.words)).0 refl in
+    let means : Means (message (g.A.ReaderArena.segments c.args.arena.now)) (levels (g.A.ReaderArena.nesting c.args.arena.now)) 0 0 found.0 found.1 = rw (root.source, root.place.0, root.place.1, root.nesting) at found.3 in
+    let checked : ShowsConforming g.A.ReaderArena c.args.schema.now c.row_pointers.result.now c.unwrap-reader.result = record {
+      struct = found.0;
+      shows = rw c.unwrap-reader.ensures at (c.root.ensures.value found.0 found.1 means);
+      conforms = rw c.row_pointers.ensures (children_conform c.args.schema.now c.args.row found.0 found.2);
+      words = (rw c.unwrap-reader.ensures at c.root.ensures.stays).words c.requires.words;
+    } in
+    record { conforms = ∣ inl checked ∣₁ }

@@ -1,0 +1,76 @@
+-- Which objects a pointer of some kind may not lead to, and with which error they are refused: that
+-- of the getter for the kind.
+use Rattle.std.specs.Prelude.{ℕ, ◌+◌, ◌-◌, ◌*◌, ◌/◌, ◌%◌, ◌^◌, Bool, ◌&&◌, nat_eq, nat_lt}
+use Rattle.std.specs.Prelude.{if◌then◌else◌, Option, Some, None}
+use Rattle.capnp_words.specs.declared.error.ErrorKind.{ErrorKind}
+use Rattle.capnp_words.specs.declared.error.ErrorKind.TheVariants.{MessageContainsListPointerOfNonBytesWhereDataWasExpected}
+use Rattle.capnp_words.specs.declared.error.ErrorKind.TheVariants.{MessageContainsListPointerOfNonBytesWhereTextWasExpected}
+use Rattle.capnp_words.specs.declared.error.ErrorKind.TheVariants.{MessageContainsNonCapabilityPointerWhereCapabilityPointerWasExpected}
+use Rattle.capnp_words.specs.declared.error.ErrorKind.TheVariants.{MessageContainsNonListPointerWhereDataWasExpected}
+use Rattle.capnp_words.specs.declared.error.ErrorKind.TheVariants.{MessageContainsNonListPointerWhereListPointerWasExpected}
+use Rattle.capnp_words.specs.declared.error.ErrorKind.TheVariants.{MessageContainsNonListPointerWhereTextWasExpected}
+use Rattle.capnp_words.specs.declared.error.ErrorKind.TheVariants.{MessageContainsNonStructPointerWhereStructPointerWasExpected}
+use Rattle.capnp_words.specs.declared.error.ErrorKind.TheVariants.{MessageContainsTextThatIsNotNULTerminated}
+use Rattle.capnp_words.specs.declared.wire_pointer.ElementSize.{ElementSize}
+use Rattle.capnp_words.specs.Sizes.{sized}
+use Rattle.capnp_format.specs.Segments.{Segments, word_at}
+use Rattle.capnp_objects.specs.Enter.{Shape, nothing, capability, struct, flat, pointers, structs}
+use Rattle.capnp_objects.specs.Expected.{narrow_elements, narrow_structs}
+use Rattle.typed_conforming.specs.declared.schema.Kind.{Kind}
+use Rattle.typed_conforming.specs.declared.schema.Kind.TheVariants.{Any, Capability, Text, Data, Struct}
+use Rattle.typed_conforming.specs.declared.schema.Kind.TheVariants.{AnyList, List as ListKind}
+
+-- Byte i of the object at position p of segment s.
+abbrev pub object_byte : Segments → ℕ → ℕ → ℕ → ℕ
+object_byte S s p i = word_at S s (p + i / 8) / 2 ^ (8 * (i % 8)) % 256
+
+-- Whether the n bytes at position p of segment s end in a zero byte.
+abbrev pub bytes_end_in_zero : Segments → ℕ → ℕ → ℕ → Bool
+bytes_end_in_zero S s p n = nat_lt 0 n && nat_eq (object_byte S s p (n - 1)) 0
+
+-- Why an object isn't a text, if it isn't.
+abbrev pub text_misfit : Segments → Shape → Option ErrorKind
+text_misfit S nothing = None
+text_misfit S (capability i) = Some MessageContainsNonListPointerWhereTextWasExpected
+text_misfit S (struct s p d q) = Some MessageContainsNonListPointerWhereTextWasExpected
+text_misfit S (flat s p size n) =
+    if nat_eq size 2 then (if bytes_end_in_zero S s p n then None
+    else Some MessageContainsTextThatIsNotNULTerminated)
+    else Some MessageContainsListPointerOfNonBytesWhereTextWasExpected
+text_misfit S o = Some MessageContainsListPointerOfNonBytesWhereTextWasExpected
+
+-- Why an object isn't data, if it isn't.
+abbrev pub data_misfit : Shape → Option ErrorKind
+data_misfit nothing = None
+data_misfit (capability i) = Some MessageContainsNonListPointerWhereDataWasExpected
+data_misfit (struct s p d q) = Some MessageContainsNonListPointerWhereDataWasExpected
+data_misfit (flat s p size n) =
+    if nat_eq size 2 then None else Some MessageContainsListPointerOfNonBytesWhereDataWasExpected
+data_misfit o = Some MessageContainsListPointerOfNonBytesWhereDataWasExpected
+
+-- Why an object isn't a list with elements of at least this size, if it isn't.
+abbrev pub list_misfit : ElementSize → Shape → Option ErrorKind
+list_misfit size nothing = None
+list_misfit size (flat s p found n) = narrow_elements size found
+list_misfit size (pointers s p n) = narrow_elements size 6
+list_misfit size (structs s p d q n) = narrow_structs size (sized d q)
+list_misfit size o = Some MessageContainsNonListPointerWhereListPointerWasExpected
+
+-- Why an object isn't what a pointer of this kind may lead to, if it isn't.
+abbrev pub kind_misfit : Kind → Segments → Shape → Option ErrorKind
+kind_misfit Any S o = None
+kind_misfit Capability S nothing = None
+kind_misfit Capability S (capability i) = None
+kind_misfit Capability S o =
+    Some MessageContainsNonCapabilityPointerWhereCapabilityPointerWasExpected
+kind_misfit Text S o = text_misfit S o
+kind_misfit Data S o = data_misfit o
+kind_misfit (Struct row) S nothing = None
+kind_misfit (Struct row) S (struct s p d q) = None
+kind_misfit (Struct row) S o = Some MessageContainsNonStructPointerWhereStructPointerWasExpected
+kind_misfit AnyList S (capability i) =
+    Some MessageContainsNonListPointerWhereListPointerWasExpected
+kind_misfit AnyList S (struct s p d q) =
+    Some MessageContainsNonListPointerWhereListPointerWasExpected
+kind_misfit AnyList S o = None
+kind_misfit (ListKind size row) S o = list_misfit size o

@@ -1,0 +1,411 @@
+//! The walk that tests whether a value conforms to a schema.
+ghost use Rattle.std.specs.Prelude.{◌≡◌, ◌↔◌, ◌<◌, ◌≤◌, ◌+◌, ◌*◌, length, take, drop, ℕ, IsOk, OnOk, MatchOption};
+ghost use Rattle.capnp_format.specs.Numbers.{words_for};
+ghost use Rattle.capnp_words.specs.Sizes.{size_number};
+ghost use Rattle.capnp_objects.specs.Expected.{narrow_elements, narrow_structs};
+ghost use Rattle.capnp_objects.specs.Objects.{IsHeld};
+ghost use Rattle.typed_conforming.specs.declared.conforms.ObjectElements.{ObjectElements};
+ghost use Rattle.capnp_format.specs.Bytes.{words_of};
+ghost use Rattle.capnp_format.specs.Fields.{field_in};
+ghost use Rattle.capnp_format.specs.Tree.{Tree};
+ghost use Rattle.capnp_words.specs.Meter.{Affords};
+ghost use Rattle.capnp_objects.specs.Outcomes.{MeansThere};
+ghost use Rattle.capnp_objects.specs.Spending.{Paid, pointers_in};
+ghost use Rattle.capnp_objects.specs.Reading.{segment_read};
+ghost use Rattle.capnp_objects.specs.Pointers.{reading, reading_on};
+ghost use Rattle.typed_conforming.specs.Conforms.{Conforms, are_set, pointers_below, row_pointers, wanted, wanted_field};
+ghost use Rattle.capnp_format.specs.Segments.{AreWords, Segments};
+ghost use Rattle.capnp_objects.specs.Enter.{object_shape};
+ghost use Rattle.capnp_objects.specs.Entering.{IsAtHand, IsObjectHeld};
+ghost use Rattle.capnp_objects.specs.Reading.{place_past, words_from};
+ghost use Rattle.typed_conforming.specs.Rows.{AreElementsOf};
+ghost use Rattle.typed_conforming.specs.Misfits.{bytes_end_in_zero, data_misfit, kind_misfit, list_misfit, text_misfit};
+ghost use Rattle.typed_conforming.specs.Walk.{check_elements, check_place, check_pointers, check_within};
+
+use crate::schema::{Kind, Member, PointerField, PointerRow, StructRow};
+use capnp_arena_traits::arena::ReaderArena;
+use capnp_objects::nesting::one_level_less;
+use capnp_objects::object::{Object, Place};
+use capnp_objects::pointers::Pointer;
+use capnp_words::error::ErrorKind;
+use capnp_words::read_limiter::ReadLimiter;
+use capnp_words::wire_pointer::{ElementSize, StructSize, data_bits_per_element};
+use capnp_words::words::word_at;
+
+// The 16 bits from `bit` on of the `count` data words at `data`; zero if they are outside.
+fn tag_at(data: Place, count: u32, bit: u32) -> u16
+    requires inside { data.at + count ≤ length (words_of data.bytes.now) }
+    ensures { let ws = take count (drop data.entry.at (words_of data.entry.bytes.now)) in
+        result ≡ field_in ws bit 16 }
+{
+    let word = bit / 64;
+    if word >= count {
+        return 0;
+    }
+    (word_at(data.bytes, data.at as usize + word as usize) >> (bit % 64) & 0xffff) as u16
+}
+
+// Whether all of these members are set in a struct with `count` data words at `data`.
+fn are_set(members: &[Member], data: Place, count: u32) -> bool
+    requires inside { data.at + count ≤ length (words_of data.bytes.now) }
+    ensures { let ws = take count (drop data.entry.at (words_of data.entry.bytes.now)) in
+        result ≡ are_set members.now ws }
+{
+    for member in members {
+        if tag_at(data, count, member.bit) != member.number {
+            return false;
+        }
+    }
+    true
+}
+
+// What the pointer of these fields may lead to, in a struct with `count` data words at `data`.
+fn wanted_field(fields: &[PointerField], data: Place, count: u32) -> Kind
+    requires inside { data.at + count ≤ length (words_of data.bytes.now) }
+    ensures { let ws = take count (drop data.entry.at (words_of data.entry.bytes.now)) in
+        result ≡ wanted_field fields.now ws }
+{
+    for field in fields {
+        if are_set(field.members, data, count) {
+            return field.kind;
+        }
+    }
+    Kind::Any
+}
+
+// What pointer `index` may lead to, in a struct with `count` data words at `data`.
+fn wanted(rows: &[PointerRow], data: Place, count: u32, index: u32) -> Kind
+    requires inside { data.at + count ≤ length (words_of data.bytes.now) }
+    ensures { let ws = take count (drop data.entry.at (words_of data.entry.bytes.now)) in
+        result ≡ wanted rows.now ws index }
+{
+    if index as usize >= rows.len() {
+        return Kind::Any;
+    }
+    wanted_field(rows[index as usize].fields, data, count)
+}
+
+// The pointers of row `row` of a schema; none if there is no such row.
+pub(crate) fn row_pointers<'s>(schema: &'s [StructRow<'s>], row: u16) -> &'s [PointerRow<'s>]
+    ensures { result.now ≡ row_pointers schema.entry.now row }
+{
+    if row as usize >= schema.len() {
+        return &[];
+    }
+    schema[row as usize].pointers
+}
+
+// The pointers of the structs that a pointer of this kind leads to.
+fn pointers_below<'s>(schema: &'s [StructRow<'s>], kind: Kind) -> &'s [PointerRow<'s>]
+    ensures { result.now ≡ pointers_below schema.entry.now kind }
+{
+    match kind {
+        Kind::Struct(row) | Kind::List(_, row) => row_pointers(schema, row),
+        _ => &[],
+    }
+}
+
+// The refusal for elements of a list that are too narrow, if they are.
+fn narrow_elements_error(expected: ElementSize, found: ElementSize) -> Option<ErrorKind>
+    requires { size_number found < 7 }
+    ensures { result ≡ narrow_elements expected (size_number found) }
+{
+    if found == ElementSize::Bit && expected != ElementSize::Bit {
+        return Some(ErrorKind::FoundBitListWhereStructListWasExpected);
+    }
+    let is_wide = data_bits_per_element(found) >= data_bits_per_element(expected);
+    if is_wide && (expected != ElementSize::Pointer || found == ElementSize::Pointer) {
+        None
+    } else {
+        Some(ErrorKind::MessageContainsListWithIncompatibleElementType)
+    }
+}
+
+// The refusal for sections of a list of structs that are too narrow, if they are.
+fn narrow_structs_error(expected: ElementSize, sections: StructSize) -> Option<ErrorKind>
+    ensures { result ≡ narrow_structs expected sections }
+{
+    match expected {
+        ElementSize::Void | ElementSize::InlineComposite => None,
+        ElementSize::Bit => Some(ErrorKind::FoundStructListWhereBitListWasExpected),
+        ElementSize::Pointer if sections.pointers == 0 => {
+            Some(ErrorKind::ExpectedAPointerListButGotAListOfDataOnlyStructs)
+        }
+        ElementSize::Pointer => None,
+        _ if sections.data_words == 0 => {
+            Some(ErrorKind::ExpectedAPrimitiveListButGotAListOfPointerOnlyStructs)
+        }
+        _ => None,
+    }
+}
+
+// Whether the `count` bytes from a place on end in a zero byte.
+fn ends_in_zero(start: Place, count: u32) -> bool
+    requires { 8 * (start.at + words_for 2 count) ≤ length start.bytes.now }
+    ensures { (S : Segments) → IsHeld S start.entry
+        → result ≡ bytes_end_in_zero S start.entry.segment start.entry.at count }
+{
+    if count == 0 {
+        return false;
+    }
+    let last = (count - 1) as usize;
+    let word = word_at(start.bytes, start.at as usize + last / 8);
+    word >> (8 * (last % 8)) & 0xff == 0
+}
+
+// The refusal for an object that isn't a text, if it isn't.
+fn text_error(object: Object) -> Option<ErrorKind>
+    requires { IsAtHand object }
+    ensures { (S : Segments) → IsObjectHeld S object.entry
+        → result ≡ text_misfit S (object_shape object.entry) }
+{
+    match object {
+        Object::Null => None,
+        Object::Flat {
+            start,
+            size: ElementSize::Byte,
+            count,
+        } => {
+            if ends_in_zero(start, count) {
+                None
+            } else {
+                Some(ErrorKind::MessageContainsTextThatIsNotNULTerminated)
+            }
+        }
+        Object::Flat { .. } | Object::Pointers { .. } | Object::Structs { .. } => {
+            Some(ErrorKind::MessageContainsListPointerOfNonBytesWhereTextWasExpected)
+        }
+        _ => Some(ErrorKind::MessageContainsNonListPointerWhereTextWasExpected),
+    }
+}
+
+// The refusal for an object that isn't data, if it isn't.
+fn data_error(object: Object) -> Option<ErrorKind>
+    ensures { result ≡ data_misfit (object_shape object.entry) }
+{
+    match object {
+        Object::Null
+        | Object::Flat {
+            size: ElementSize::Byte,
+            ..
+        } => None,
+        Object::Flat { .. } | Object::Pointers { .. } | Object::Structs { .. } => {
+            Some(ErrorKind::MessageContainsListPointerOfNonBytesWhereDataWasExpected)
+        }
+        _ => Some(ErrorKind::MessageContainsNonListPointerWhereDataWasExpected),
+    }
+}
+
+// The refusal for an object that isn't a list with elements of at least this size, if it isn't.
+fn list_error(size: ElementSize, object: Object) -> Option<ErrorKind>
+    requires { IsAtHand object }
+    ensures { result ≡ list_misfit size (object_shape object.entry) }
+{
+    match object {
+        Object::Null => None,
+        Object::Flat { size: found, .. } => narrow_elements_error(size, found),
+        Object::Pointers { .. } => narrow_elements_error(size, ElementSize::Pointer),
+        Object::Structs { size: sections, .. } => narrow_structs_error(size, sections),
+        _ => Some(ErrorKind::MessageContainsNonListPointerWhereListPointerWasExpected),
+    }
+}
+
+// The refusal for an object that isn't what a pointer of this kind may lead to, if it isn't.
+fn misfit_error(kind: Kind, object: Object) -> Option<ErrorKind>
+    requires { IsAtHand object }
+    ensures { (S : Segments) → IsObjectHeld S object.entry
+        → result ≡ kind_misfit kind S (object_shape object.entry) }
+{
+    match (kind, object) {
+        (Kind::Any, _)
+        | (_, Object::Null)
+        | (Kind::Capability, Object::Capability(_))
+        | (Kind::Struct(_), Object::Struct { .. })
+        | (Kind::AnyList, Object::Flat { .. } | Object::Pointers { .. } | Object::Structs { .. }) =>
+            None,
+        (Kind::Capability, _) => {
+            Some(ErrorKind::MessageContainsNonCapabilityPointerWhereCapabilityPointerWasExpected)
+        }
+        (Kind::Struct(_), _) => {
+            Some(ErrorKind::MessageContainsNonStructPointerWhereStructPointerWasExpected)
+        }
+        (Kind::AnyList, _) => {
+            Some(ErrorKind::MessageContainsNonListPointerWhereListPointerWasExpected)
+        }
+        (Kind::Text, _) => text_error(object),
+        (Kind::Data, _) => data_error(object),
+        (Kind::List(size, _), _) => list_error(size, object),
+    }
+}
+
+// The elements of an object: a struct is one, and a pointer of a list is one without data.
+#[derive(Clone, Copy)]
+struct ObjectElements<'a> {
+    // The first word of the first element.
+    start: Place<'a>,
+    // The number of words before the pointers of an element.
+    data_words: u32,
+    // The number of pointers of an element.
+    pointers: u32,
+    // The number of elements.
+    count: u32,
+}
+
+// The elements of an object that may have pointers.
+fn elements_of(object: Object) -> Option<ObjectElements>
+    ensures { MatchOption result ((rows : ObjectElements) → AreElementsOf object.entry rows → ⊥)
+        (AreElementsOf object.entry) }
+{
+    match object {
+        Object::Null | Object::Capability(_) | Object::Flat { .. } => None,
+        Object::Struct { start, size } => Some(ObjectElements {
+            start,
+            data_words: u32::from(size.data_words),
+            pointers: u32::from(size.pointers),
+            count: 1,
+        }),
+        Object::Pointers { start, count } => Some(ObjectElements {
+            start,
+            data_words: 0,
+            pointers: 1,
+            count,
+        }),
+        Object::Structs { start, size, count } => Some(ObjectElements {
+            start,
+            data_words: u32::from(size.data_words),
+            pointers: u32::from(size.pointers),
+            count,
+        }),
+    }
+}
+
+// Tests what the pointer at `at` leads to.
+#[cycle(conforming)]
+fn check_pointer<'s, A: ReaderArena>(
+    schema: &'s [StructRow<'s>],
+    kind: Kind,
+    from: &Pointer<'_, A>,
+    at: u32,
+    lim: &mut ReadLimiter,
+) -> Result<(), ErrorKind>
+    ensures { check_place schema.now kind
+        (reading_on A.ReaderArena from.now at from.now.nesting_limit) lim.old
+        ≡ (result, lim.new) }
+{
+    let place = Place { at, ..from.place };
+    if place.word().is_null() {
+        return Ok(());
+    }
+    let object = match from.source.read_object(place, from.nesting_limit, lim) {
+        Ok(object) => object,
+        Err(kind) => return Err(kind),
+    };
+    match misfit_error(kind, object) {
+        Some(error) => return Err(error),
+        None => {}
+    }
+    let Some(elements) = elements_of(object) else {
+        return Ok(());
+    };
+    let first = Pointer {
+        source: from.source,
+        place: elements.start,
+        nesting_limit: one_level_less(from.nesting_limit),
+    };
+    check_elements(
+        schema,
+        pointers_below(schema, kind),
+        &first,
+        elements.data_words,
+        elements.pointers,
+        elements.count,
+        lim,
+    )
+}
+
+// Tests the pointers of `count` elements, of `data_words` and `pointers` words, from `from` on.
+#[cycle(conforming)]
+fn check_elements<'s, A: ReaderArena>(
+    schema: &'s [StructRow<'s>],
+    rows: &'s [PointerRow<'s>],
+    from: &Pointer<'_, A>,
+    data_words: u32,
+    pointers: u32,
+    count: u32,
+    lim: &mut ReadLimiter,
+) -> Result<(), ErrorKind>
+    requires inside { from.now.place.at + count * (data_words + pointers)
+        ≤ length (segment_read (reading A.ReaderArena from.now)) }
+    ensures { let r = reading A.ReaderArena from.now in
+        check_elements (check_within schema.now r.levels) rows.now data_words pointers count r
+        lim.old ≡ (result, lim.new) }
+{
+    if pointers == 0 {
+        return Ok(());
+    }
+    let width = u64::from(data_words) + u64::from(pointers);
+    for i in 0..count {
+        let at = u64::from(from.place.at) + u64::from(i) * width;
+        match check_pointers(schema, rows, from, at as u32, data_words, pointers, lim) {
+            Ok(()) => {}
+            Err(kind) => return Err(kind),
+        }
+    }
+    Ok(())
+}
+
+// Tests the pointers of the element at `at`.
+#[cycle(conforming)]
+fn check_pointers<'s, A: ReaderArena>(
+    schema: &'s [StructRow<'s>],
+    rows: &'s [PointerRow<'s>],
+    from: &Pointer<'_, A>,
+    at: u32,
+    data_words: u32,
+    pointers: u32,
+    lim: &mut ReadLimiter,
+) -> Result<(), ErrorKind>
+    requires inside { at + (data_words + pointers)
+        ≤ length (segment_read (reading A.ReaderArena from.now)) }
+    ensures { let r = reading_on A.ReaderArena from.now at from.now.nesting_limit in
+        check_pointers (check_within schema.now r.levels) rows.now (words_from r data_words) 0
+        pointers (place_past r data_words) lim.old ≡ (result, lim.new) }
+{
+    let element = Place { at, ..from.place };
+    for i in 0..pointers {
+        let kind = wanted(rows, element, data_words, i);
+        match check_pointer(schema, kind, from, at + data_words + i, lim) {
+            Ok(()) => {}
+            Err(kind) => return Err(kind),
+        }
+    }
+    Ok(())
+}
+
+/// Tests whether a whole value can be read within both limits, and conforms to a schema. `kind`
+/// says what `pointer` itself may lead to; `Kind::Struct(row)` for the root of a message. Reads
+/// each object once and allocates nothing.
+///
+/// Counts and charges what `Pointer::validate` does: what reading the value once costs. A pointer
+/// that the schema doesn't have, or whose members aren't set, has to be readable too, but may lead
+/// to anything.
+///
+/// Refuses with the first fault found, in the order of the walk: like `Pointer::validate` if an
+/// object can't be read; like the getter for the kind if an object is readable but isn't what the
+/// kind allows, such as `MessageContainsTextThatIsNotNULTerminated`. What was charged before stays
+/// charged.
+pub fn conforms<'s, A: ReaderArena>(
+    schema: &'s [StructRow<'s>],
+    kind: Kind,
+    pointer: &Pointer<'_, A>,
+    lim: &mut ReadLimiter,
+) -> Result<(), ErrorKind>
+    ensures exactly { let r = reading A.ReaderArena pointer.now in AreWords r.segments
+        → (IsOk result ↔ ((t : Tree) × (c : ℕ) × Conforms schema.now kind t × MeansThere r t c
+        × Affords r.charging lim.old c)) }
+    ensures spent { let r = reading A.ReaderArena pointer.now in (t : Tree) (c : ℕ)
+        → AreWords r.segments → MeansThere r t c
+        → OnOk result (Paid r.charging lim.old lim.new c (pointers_in t)) }
+{
+    check_pointer(schema, kind, pointer, pointer.place.at, lim)
+}

@@ -1,0 +1,274 @@
+//! The structs of a message that was tested against its schema. Their getters can't be refused, and
+//! charge nothing.
+
+use crate::proved::capnp_arena_traits::arena::ReaderArena;
+use crate::proved::capnp_objects::pointers::Pointer;
+use crate::proved::capnp_readers::readers::{ListReader, PrimitiveElement, StructReader};
+use crate::proved::capnp_words::error::ErrorKind;
+use crate::proved::capnp_words::read_limiter::ReadLimiter;
+use crate::proved::capnp_words::wire_pointer::ElementSize;
+use crate::proved::typed_conforming::conforms::{conforms, row_pointers};
+use crate::proved::typed_conforming::schema::{Kind, PointerRow, StructRow};
+use crate::proved::typed_reading::list::{self, NumbersReader, StructsReader};
+use crate::proved::typed_reading::value;
+
+/// A struct that conforms to a row of a schema, with all that it leads to; or a number of a list,
+/// read as a struct without pointers.
+///
+/// Required of the fields: as `CheckedStruct::root` and the getters return them.
+pub struct CheckedStruct<'a, 's, A: ReaderArena> {
+    /// The struct. Its numbers are read by `typed_reading::value`, which refuses nothing.
+    pub reader: StructReader<'a, A>,
+    /// The schema.
+    pub schema: &'s [StructRow<'s>],
+    /// The pointers of the struct's row.
+    pub pointers: &'s [PointerRow<'s>],
+}
+
+impl<'a, 's, A: ReaderArena> Clone for CheckedStruct<'a, 's, A> {
+    #[inline]
+    fn clone(&self) -> Self {
+        *self
+    }
+}
+
+impl<'a, 's, A: ReaderArena> Copy for CheckedStruct<'a, 's, A> {}
+
+impl<'a, 's, A: ReaderArena> CheckedStruct<'a, 's, A> {
+    /// Tests a message, and returns its root. The whole message has to be readable within both
+    /// limits, and its root has to be a struct that conforms to row `row` of `schema`, or null,
+    /// which reads as a struct without sections. If there is no such row, its pointers may lead to
+    /// anything. Precondition: each word of the message has 64 bits, as in each arena of bytes.
+    ///
+    /// Charges one word for the root pointer, and what reading the whole message once costs. After
+    /// that, nothing that the root leads to is charged.
+    ///
+    /// Refuses like `Pointer::get_root_from_arena` and `conforms`. What was charged before stays
+    /// charged.
+    ///
+    /// # Preconditions
+    ///
+    /// ```text
+    /// requires words { AreWords (message (A.segments arena.now)) }
+    /// ```
+    #[inline]
+    pub fn root(
+        arena: &'a A,
+        schema: &'s [StructRow<'s>],
+        row: u16,
+        lim: &mut ReadLimiter,
+    ) -> Result<Self, ErrorKind> {
+        let pointer = match Pointer::get_root_from_arena(arena, lim) {
+            Ok(pointer) => pointer,
+            Err(kind) => return Err(kind),
+        };
+        match conforms(schema, Kind::Struct(row), &pointer, lim) {
+            Ok(()) => {}
+            Err(kind) => return Err(kind),
+        }
+        let mut unlimited = ReadLimiter::new(None);
+        let reader = value::root(arena, &mut unlimited).unwrap();
+        Ok(CheckedStruct {
+            reader,
+            schema,
+            pointers: row_pointers(schema, row),
+        })
+    }
+
+    /// Returns the bytes of the text that pointer `index` leads to, without the zero byte at its
+    /// end; no bytes if the pointer is null. Precondition: the schema says that pointer `index` is
+    /// a text, for the members of unions that are set.
+    ///
+    /// # Preconditions
+    ///
+    /// ```text
+    /// requires { (t : Tree) → ShowsStructOf A.ReaderArena self.now.reader t
+    ///     → wanted self.now.pointers.now (struct_data t) index ≡ Kind.Text }
+    /// ```
+    #[inline]
+    pub fn get_text(&self, index: u16) -> &'a [u8] {
+        if index >= self.reader.pointer_count {
+            return &[];
+        }
+        let mut unlimited = ReadLimiter::new(None);
+        value::get_text(&self.reader, index as usize, &mut unlimited).unwrap()
+    }
+
+    /// Returns the bytes of the data that pointer `index` leads to; no bytes if the pointer is
+    /// null. Precondition: the schema says that pointer `index` is data, for the members of unions
+    /// that are set.
+    ///
+    /// # Preconditions
+    ///
+    /// ```text
+    /// requires { (t : Tree) → ShowsStructOf A.ReaderArena self.now.reader t
+    ///     → wanted self.now.pointers.now (struct_data t) index ≡ Kind.Data }
+    /// ```
+    #[inline]
+    pub fn get_data(&self, index: u16) -> &'a [u8] {
+        if index >= self.reader.pointer_count {
+            return &[];
+        }
+        let mut unlimited = ReadLimiter::new(None);
+        value::get_data(&self.reader, index as usize, &mut unlimited).unwrap()
+    }
+
+    /// Returns the struct that pointer `index` leads to; a struct without sections if the pointer
+    /// is null. Precondition: the schema says that pointer `index` leads to a struct of row `row`,
+    /// for the members of unions that are set.
+    ///
+    /// # Preconditions
+    ///
+    /// ```text
+    /// requires { (t : Tree) → ShowsStructOf A.ReaderArena self.now.reader t
+    ///     → wanted self.now.pointers.now (struct_data t) index ≡ Kind.Struct row }
+    /// ```
+    #[inline]
+    pub fn get_struct(&self, index: u16, row: u16) -> CheckedStruct<'a, 's, A> {
+        let pointers = row_pointers(self.schema, row);
+        if index >= self.reader.pointer_count {
+            return CheckedStruct {
+                reader: StructReader::new_default(),
+                schema: self.schema,
+                pointers,
+            };
+        }
+        let mut unlimited = ReadLimiter::new(None);
+        let reader = value::get_struct(&self.reader, index as usize, &mut unlimited).unwrap();
+        CheckedStruct {
+            reader,
+            schema: self.schema,
+            pointers,
+        }
+    }
+
+    /// Returns the list of structs that pointer `index` leads to; a list without elements if the
+    /// pointer is null. Precondition: the schema says that pointer `index` leads to a list of
+    /// structs of row `row`, for the members of unions that are set.
+    ///
+    /// # Preconditions
+    ///
+    /// ```text
+    /// requires { (t : Tree) → ShowsStructOf A.ReaderArena self.now.reader t
+    ///     → wanted self.now.pointers.now (struct_data t) index
+    ///     ≡ Kind.List ElementSize.InlineComposite row }
+    /// ```
+    #[inline]
+    pub fn get_structs(&self, index: u16, row: u16) -> CheckedStructs<'a, 's, A> {
+        let pointers = row_pointers(self.schema, row);
+        if index >= self.reader.pointer_count {
+            return CheckedStructs {
+                reader: StructsReader {
+                    reader: ListReader::new_default(),
+                },
+                schema: self.schema,
+                pointers,
+            };
+        }
+        let mut unlimited = ReadLimiter::new(None);
+        let reader = list::get_structs(&self.reader, index as usize, &mut unlimited).unwrap();
+        CheckedStructs {
+            reader,
+            schema: self.schema,
+            pointers,
+        }
+    }
+
+    /// Returns the list of pointers that pointer `index` leads to; a list without elements if the
+    /// pointer is null. Each element is read as a struct whose pointer 0 is the element: a text of
+    /// a list of texts is `get_pointers(index, row).get(i).get_text(0)`. Precondition: the schema
+    /// says that pointer `index` leads to a list of pointers of row `row`, for the members of
+    /// unions that are set.
+    ///
+    /// # Preconditions
+    ///
+    /// ```text
+    /// requires { (t : Tree) → ShowsStructOf A.ReaderArena self.now.reader t
+    ///     → wanted self.now.pointers.now (struct_data t) index
+    ///     ≡ Kind.List ElementSize.Pointer row }
+    /// ```
+    #[inline]
+    pub fn get_pointers(&self, index: u16, row: u16) -> CheckedStructs<'a, 's, A> {
+        let pointers = row_pointers(self.schema, row);
+        if index >= self.reader.pointer_count {
+            return CheckedStructs {
+                reader: StructsReader {
+                    reader: ListReader::new_default(),
+                },
+                schema: self.schema,
+                pointers,
+            };
+        }
+        let mut unlimited = ReadLimiter::new(None);
+        let list = list::get_pointers(&self.reader, index as usize, &mut unlimited).unwrap();
+        CheckedStructs {
+            reader: StructsReader {
+                reader: list.reader,
+            },
+            schema: self.schema,
+            pointers,
+        }
+    }
+
+    /// Returns the list of numbers that pointer `index` leads to; a list without elements if the
+    /// pointer is null. Precondition: the schema says that pointer `index` leads to a list whose
+    /// elements have the size of `T`, for the members of unions that are set.
+    ///
+    /// # Preconditions
+    ///
+    /// ```text
+    /// requires { (t : Tree) → ShowsStructOf A.ReaderArena self.now.reader t
+    ///     → elements_wanted (wanted self.now.pointers.now (struct_data t) index)
+    ///     ≡ Some T.size }
+    /// ```
+    #[inline]
+    pub fn get_numbers<T: PrimitiveElement>(&self, index: u16) -> NumbersReader<'a, A, T> {
+        let mut unlimited = ReadLimiter::new(None);
+        list::get_numbers(&self.reader, index as usize, &mut unlimited).unwrap()
+    }
+}
+
+/// A list whose elements conform to a row of a schema, with all that they lead to.
+///
+/// Required of the fields: as the getters of `CheckedStruct` return them.
+pub struct CheckedStructs<'a, 's, A: ReaderArena> {
+    /// The list.
+    pub reader: StructsReader<'a, A>,
+    /// The schema.
+    pub schema: &'s [StructRow<'s>],
+    /// The pointers of the elements' row.
+    pub pointers: &'s [PointerRow<'s>],
+}
+
+impl<'a, 's, A: ReaderArena> Clone for CheckedStructs<'a, 's, A> {
+    #[inline]
+    fn clone(&self) -> Self {
+        *self
+    }
+}
+
+impl<'a, 's, A: ReaderArena> Copy for CheckedStructs<'a, 's, A> {}
+
+impl<'a, 's, A: ReaderArena> CheckedStructs<'a, 's, A> {
+    /// The number of elements.
+    #[inline]
+    pub fn len(&self) -> u32 {
+        self.reader.len()
+    }
+
+    /// Returns element `index`. Precondition: `index` is below the number of elements.
+    ///
+    /// # Preconditions
+    ///
+    /// ```text
+    /// requires { index < self.now.reader.reader.count }
+    /// ```
+    #[inline]
+    pub fn get(&self, index: u32) -> CheckedStruct<'a, 's, A> {
+        CheckedStruct {
+            reader: self.reader.get(index),
+            schema: self.schema,
+            pointers: self.pointers,
+        }
+    }
+}

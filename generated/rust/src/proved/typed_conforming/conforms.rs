@@ -1,0 +1,396 @@
+//! The walk that tests whether a value conforms to a schema.
+
+use crate::proved::capnp_arena_traits::arena::ReaderArena;
+use crate::proved::capnp_objects::nesting::one_level_less;
+use crate::proved::capnp_objects::object::{Object, Place};
+use crate::proved::capnp_objects::pointers::Pointer;
+use crate::proved::capnp_words::error::ErrorKind;
+use crate::proved::capnp_words::read_limiter::ReadLimiter;
+use crate::proved::capnp_words::wire_pointer::{data_bits_per_element, ElementSize, StructSize};
+use crate::proved::capnp_words::words::word_at;
+use crate::proved::typed_conforming::schema::{Kind, Member, PointerField, PointerRow, StructRow};
+
+/// # Preconditions
+///
+/// ```text
+/// requires inside { data.at + count ≤ length (words_of data.bytes.now) }
+/// ```
+// The 16 bits from `bit` on of the `count` data words at `data`; zero if they are outside.
+#[inline]
+fn tag_at(data: Place, count: u32, bit: u32) -> u16 {
+    let word = bit / 64;
+    if word >= count {
+        return 0;
+    }
+    (word_at(data.bytes, data.at as usize + word as usize) >> (bit % 64) & 0xffff) as u16
+}
+
+/// # Preconditions
+///
+/// ```text
+/// requires inside { data.at + count ≤ length (words_of data.bytes.now) }
+/// ```
+// Whether all of these members are set in a struct with `count` data words at `data`.
+#[inline]
+fn are_set(members: &[Member], data: Place, count: u32) -> bool {
+    for member in members {
+        if tag_at(data, count, member.bit) != member.number {
+            return false;
+        }
+    }
+    true
+}
+
+/// # Preconditions
+///
+/// ```text
+/// requires inside { data.at + count ≤ length (words_of data.bytes.now) }
+/// ```
+// What the pointer of these fields may lead to, in a struct with `count` data words at `data`.
+#[inline]
+fn wanted_field(fields: &[PointerField], data: Place, count: u32) -> Kind {
+    for field in fields {
+        if are_set(field.members, data, count) {
+            return field.kind;
+        }
+    }
+    Kind::Any
+}
+
+/// # Preconditions
+///
+/// ```text
+/// requires inside { data.at + count ≤ length (words_of data.bytes.now) }
+/// ```
+// What pointer `index` may lead to, in a struct with `count` data words at `data`.
+#[inline]
+fn wanted(rows: &[PointerRow], data: Place, count: u32, index: u32) -> Kind {
+    if index as usize >= rows.len() {
+        return Kind::Any;
+    }
+    wanted_field(rows[index as usize].fields, data, count)
+}
+
+// The pointers of row `row` of a schema; none if there is no such row.
+#[inline]
+pub(in crate::proved::typed_conforming) fn row_pointers<'s>(
+    schema: &'s [StructRow<'s>],
+    row: u16,
+) -> &'s [PointerRow<'s>] {
+    if row as usize >= schema.len() {
+        return &[];
+    }
+    schema[row as usize].pointers
+}
+
+// The pointers of the structs that a pointer of this kind leads to.
+#[inline]
+fn pointers_below<'s>(schema: &'s [StructRow<'s>], kind: Kind) -> &'s [PointerRow<'s>] {
+    match kind {
+        Kind::Struct(row) | Kind::List(_, row) => row_pointers(schema, row),
+        _ => &[],
+    }
+}
+
+/// # Preconditions
+///
+/// ```text
+/// requires { size_number found < 7 }
+/// ```
+// The refusal for elements of a list that are too narrow, if they are.
+#[inline]
+fn narrow_elements_error(expected: ElementSize, found: ElementSize) -> Option<ErrorKind> {
+    if found == ElementSize::Bit && expected != ElementSize::Bit {
+        return Some(ErrorKind::FoundBitListWhereStructListWasExpected);
+    }
+    let is_wide = data_bits_per_element(found) >= data_bits_per_element(expected);
+    if is_wide && (expected != ElementSize::Pointer || found == ElementSize::Pointer) {
+        None
+    } else {
+        Some(ErrorKind::MessageContainsListWithIncompatibleElementType)
+    }
+}
+
+// The refusal for sections of a list of structs that are too narrow, if they are.
+#[inline]
+fn narrow_structs_error(expected: ElementSize, sections: StructSize) -> Option<ErrorKind> {
+    match expected {
+        ElementSize::Void | ElementSize::InlineComposite => None,
+        ElementSize::Bit => Some(ErrorKind::FoundStructListWhereBitListWasExpected),
+        ElementSize::Pointer if sections.pointers == 0 => {
+            Some(ErrorKind::ExpectedAPointerListButGotAListOfDataOnlyStructs)
+        }
+        ElementSize::Pointer => None,
+        _ if sections.data_words == 0 => {
+            Some(ErrorKind::ExpectedAPrimitiveListButGotAListOfPointerOnlyStructs)
+        }
+        _ => None,
+    }
+}
+
+/// # Preconditions
+///
+/// ```text
+/// requires { 8 * (start.at + words_for 2 count) ≤ length start.bytes.now }
+/// ```
+// Whether the `count` bytes from a place on end in a zero byte.
+#[inline]
+fn ends_in_zero(start: Place, count: u32) -> bool {
+    if count == 0 {
+        return false;
+    }
+    let last = (count - 1) as usize;
+    let word = word_at(start.bytes, start.at as usize + last / 8);
+    word >> (8 * (last % 8)) & 0xff == 0
+}
+
+/// # Preconditions
+///
+/// ```text
+/// requires { IsAtHand object }
+/// ```
+// The refusal for an object that isn't a text, if it isn't.
+#[inline]
+fn text_error(object: Object) -> Option<ErrorKind> {
+    match object {
+        Object::Null => None,
+        Object::Flat {
+            start,
+            size: ElementSize::Byte,
+            count,
+        } => {
+            if ends_in_zero(start, count) {
+                None
+            } else {
+                Some(ErrorKind::MessageContainsTextThatIsNotNULTerminated)
+            }
+        }
+        Object::Flat { .. } | Object::Pointers { .. } | Object::Structs { .. } => {
+            Some(ErrorKind::MessageContainsListPointerOfNonBytesWhereTextWasExpected)
+        }
+        _ => Some(ErrorKind::MessageContainsNonListPointerWhereTextWasExpected),
+    }
+}
+
+// The refusal for an object that isn't data, if it isn't.
+#[inline]
+fn data_error(object: Object) -> Option<ErrorKind> {
+    match object {
+        Object::Null
+        | Object::Flat {
+            size: ElementSize::Byte,
+            ..
+        } => None,
+        Object::Flat { .. } | Object::Pointers { .. } | Object::Structs { .. } => {
+            Some(ErrorKind::MessageContainsListPointerOfNonBytesWhereDataWasExpected)
+        }
+        _ => Some(ErrorKind::MessageContainsNonListPointerWhereDataWasExpected),
+    }
+}
+
+/// # Preconditions
+///
+/// ```text
+/// requires { IsAtHand object }
+/// ```
+// The refusal for an object that isn't a list with elements of at least this size, if it isn't.
+#[inline]
+fn list_error(size: ElementSize, object: Object) -> Option<ErrorKind> {
+    match object {
+        Object::Null => None,
+        Object::Flat { size: found, .. } => narrow_elements_error(size, found),
+        Object::Pointers { .. } => narrow_elements_error(size, ElementSize::Pointer),
+        Object::Structs { size: sections, .. } => narrow_structs_error(size, sections),
+        _ => Some(ErrorKind::MessageContainsNonListPointerWhereListPointerWasExpected),
+    }
+}
+
+/// # Preconditions
+///
+/// ```text
+/// requires { IsAtHand object }
+/// ```
+// The refusal for an object that isn't what a pointer of this kind may lead to, if it isn't.
+#[inline]
+fn misfit_error(kind: Kind, object: Object) -> Option<ErrorKind> {
+    match (kind, object) {
+        (Kind::Any, _)
+        | (_, Object::Null)
+        | (Kind::Capability, Object::Capability(_))
+        | (Kind::Struct(_), Object::Struct { .. })
+        | (Kind::AnyList, Object::Flat { .. } | Object::Pointers { .. } | Object::Structs { .. }) => {
+            None
+        }
+        (Kind::Capability, _) => {
+            Some(ErrorKind::MessageContainsNonCapabilityPointerWhereCapabilityPointerWasExpected)
+        }
+        (Kind::Struct(_), _) => {
+            Some(ErrorKind::MessageContainsNonStructPointerWhereStructPointerWasExpected)
+        }
+        (Kind::AnyList, _) => {
+            Some(ErrorKind::MessageContainsNonListPointerWhereListPointerWasExpected)
+        }
+        (Kind::Text, _) => text_error(object),
+        (Kind::Data, _) => data_error(object),
+        (Kind::List(size, _), _) => list_error(size, object),
+    }
+}
+
+// The elements of an object: a struct is one, and a pointer of a list is one without data.
+#[derive(Clone, Copy)]
+struct ObjectElements<'a> {
+    // The first word of the first element.
+    start: Place<'a>,
+    // The number of words before the pointers of an element.
+    data_words: u32,
+    // The number of pointers of an element.
+    pointers: u32,
+    // The number of elements.
+    count: u32,
+}
+
+// The elements of an object that may have pointers.
+#[inline]
+fn elements_of(object: Object) -> Option<ObjectElements> {
+    match object {
+        Object::Null | Object::Capability(_) | Object::Flat { .. } => None,
+        Object::Struct { start, size } => Some(ObjectElements {
+            start,
+            data_words: u32::from(size.data_words),
+            pointers: u32::from(size.pointers),
+            count: 1,
+        }),
+        Object::Pointers { start, count } => Some(ObjectElements {
+            start,
+            data_words: 0,
+            pointers: 1,
+            count,
+        }),
+        Object::Structs { start, size, count } => Some(ObjectElements {
+            start,
+            data_words: u32::from(size.data_words),
+            pointers: u32::from(size.pointers),
+            count,
+        }),
+    }
+}
+
+// Tests what the pointer at `at` leads to.
+fn check_pointer<'s, A: ReaderArena>(
+    schema: &'s [StructRow<'s>],
+    kind: Kind,
+    from: &Pointer<'_, A>,
+    at: u32,
+    lim: &mut ReadLimiter,
+) -> Result<(), ErrorKind> {
+    let place = Place { at, ..from.place };
+    if place.word().is_null() {
+        return Ok(());
+    }
+    let object = match from.source.read_object(place, from.nesting_limit, lim) {
+        Ok(object) => object,
+        Err(kind) => return Err(kind),
+    };
+    match misfit_error(kind, object) {
+        Some(error) => return Err(error),
+        None => {}
+    }
+    let Some(elements) = elements_of(object) else {
+        return Ok(());
+    };
+    let first = Pointer {
+        source: from.source,
+        place: elements.start,
+        nesting_limit: one_level_less(from.nesting_limit),
+    };
+    check_elements(
+        schema,
+        pointers_below(schema, kind),
+        &first,
+        elements.data_words,
+        elements.pointers,
+        elements.count,
+        lim,
+    )
+}
+
+/// # Preconditions
+///
+/// ```text
+/// requires inside { from.now.place.at + count * (data_words + pointers)
+///     ≤ length (segment_read (reading A.ReaderArena from.now)) }
+/// ```
+// Tests the pointers of `count` elements, of `data_words` and `pointers` words, from `from` on.
+#[inline]
+fn check_elements<'s, A: ReaderArena>(
+    schema: &'s [StructRow<'s>],
+    rows: &'s [PointerRow<'s>],
+    from: &Pointer<'_, A>,
+    data_words: u32,
+    pointers: u32,
+    count: u32,
+    lim: &mut ReadLimiter,
+) -> Result<(), ErrorKind> {
+    if pointers == 0 {
+        return Ok(());
+    }
+    let width = u64::from(data_words) + u64::from(pointers);
+    for i in 0..count {
+        let at = u64::from(from.place.at) + u64::from(i) * width;
+        match check_pointers(schema, rows, from, at as u32, data_words, pointers, lim) {
+            Ok(()) => {}
+            Err(kind) => return Err(kind),
+        }
+    }
+    Ok(())
+}
+
+/// # Preconditions
+///
+/// ```text
+/// requires inside { at + (data_words + pointers)
+///     ≤ length (segment_read (reading A.ReaderArena from.now)) }
+/// ```
+// Tests the pointers of the element at `at`.
+#[inline]
+fn check_pointers<'s, A: ReaderArena>(
+    schema: &'s [StructRow<'s>],
+    rows: &'s [PointerRow<'s>],
+    from: &Pointer<'_, A>,
+    at: u32,
+    data_words: u32,
+    pointers: u32,
+    lim: &mut ReadLimiter,
+) -> Result<(), ErrorKind> {
+    let element = Place { at, ..from.place };
+    for i in 0..pointers {
+        let kind = wanted(rows, element, data_words, i);
+        match check_pointer(schema, kind, from, at + data_words + i, lim) {
+            Ok(()) => {}
+            Err(kind) => return Err(kind),
+        }
+    }
+    Ok(())
+}
+
+/// Tests whether a whole value can be read within both limits, and conforms to a schema. `kind`
+/// says what `pointer` itself may lead to; `Kind::Struct(row)` for the root of a message. Reads
+/// each object once and allocates nothing.
+///
+/// Counts and charges what `Pointer::validate` does: what reading the value once costs. A pointer
+/// that the schema doesn't have, or whose members aren't set, has to be readable too, but may lead
+/// to anything.
+///
+/// Refuses with the first fault found, in the order of the walk: like `Pointer::validate` if an
+/// object can't be read; like the getter for the kind if an object is readable but isn't what the
+/// kind allows, such as `MessageContainsTextThatIsNotNULTerminated`. What was charged before stays
+/// charged.
+#[inline]
+pub fn conforms<'s, A: ReaderArena>(
+    schema: &'s [StructRow<'s>],
+    kind: Kind,
+    pointer: &Pointer<'_, A>,
+    lim: &mut ReadLimiter,
+) -> Result<(), ErrorKind> {
+    check_pointer(schema, kind, pointer, pointer.place.at, lim)
+}

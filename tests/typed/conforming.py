@@ -1,0 +1,158 @@
+#!/usr/bin/env python3
+"""Tests messages against their schemas, with `capnp decode` beside.
+
+    conforming.py [MESSAGES [ALTERED]]
+
+`capnp encode` makes MESSAGES random messages (by default 50) of `kinds.capnp` and as many of `addressbook.capnp`, and ALTERED
+copies of each (by default 40) get one to three random changes. The program `conforming_runs` of tests/crates tests each of
+them, reads each by getters that may be refused, and after a yes by getters that can't be. It fails if two of these disagree.
+
+- Each message that `capnp encode` made conforms.
+- `capnp decode` decodes each message that conforms.
+- It refuses each that can be read whole but doesn't conform.
+
+Prints how many answers of each kind there were. The last line is `N passed, M failed`."""
+import collections
+import pathlib
+import random
+import subprocess
+import sys
+
+HERE = pathlib.Path(__file__).resolve().parent
+sys.path.insert(0, str(HERE.parent))
+from crates.run import CONFORMING_RUNS, build
+
+SCHEMAS = {'kinds': (HERE / 'kinds.capnp', 'Kinds'), 'book': (HERE / 'addressbook.capnp', 'AddressBook')}
+# How many messages that don't conform are decoded, at most: each needs a process.
+REFUSED = 300
+
+
+def some(rng, field, most=3):
+    return f'[{", ".join(field() for _ in range(rng.randrange(most + 1)))}]'
+
+
+def fields(rng, choices):
+    """A struct with some of these fields."""
+    return f'({", ".join(f"{name} = {value()}" for name, value in choices.items() if rng.random() < .6)})'
+
+
+def text(rng):
+    return f'"{"".join(rng.choice("abcxyz ") for _ in range(rng.randrange(20)))}"'
+
+
+def data(rng):
+    return f'0x"{rng.randbytes(rng.randrange(1, 20)).hex(" ")}"'
+
+
+def kinds(rng, depth=3):
+    """A `Kinds`, as `capnp encode` takes it."""
+    def item():
+        return fields(rng, {'name': lambda: text(rng), 'number': lambda: str(rng.randrange(2 ** 32))})
+    choices = {
+        'text': lambda: text(rng),
+        'data': lambda: data(rng),
+        'texts': lambda: some(rng, lambda: text(rng)),
+        'numbers': lambda: some(rng, lambda: str(rng.randrange(2 ** 32)), 9),
+        'bits': lambda: some(rng, lambda: rng.choice(['true', 'false']), 70),
+        'items': lambda: some(rng, item),
+        'lists': lambda: some(rng, lambda: some(rng, lambda: str(rng.randrange(2 ** 16)), 5)),
+        **({'next': lambda: kinds(rng, depth - 1)} if depth else {}),
+        **rng.choice([
+            {'name': lambda: text(rng)},
+            {'item': item},
+            {'inner': lambda: f'(bytes = {data(rng)})'},
+            {'inner': lambda: f'(more = {some(rng, item)})'},
+            {'nothing': lambda: 'void'},
+        ]),
+    }
+    return fields(rng, choices)
+
+
+def book(rng):
+    """An `AddressBook`, as `capnp encode` takes it."""
+    def phone():
+        return fields(rng, {'number': lambda: text(rng), 'type': lambda: rng.choice(['mobile', 'home', 'work'])})
+
+    def person():
+        employment = rng.choice([f'employer = {text(rng)}', f'school = {text(rng)}', 'unemployed = void'])
+        return fields(rng, {
+            'id': lambda: str(rng.randrange(2 ** 32)), 'name': lambda: text(rng), 'email': lambda: text(rng),
+            'phones': lambda: some(rng, phone), 'employment': lambda: f'({employment})',
+        })
+    return f'(people = {some(rng, person, 6)})'
+
+
+def capnp(command, schema, given):
+    path, name = SCHEMAS[schema]
+    return subprocess.run(['capnp', command, path, name], input=given, stdout=subprocess.PIPE, stderr=subprocess.DEVNULL)
+
+
+def frames(stream):
+    """The frames of a stream, each of one segment."""
+    at = 0
+    while at < len(stream):
+        size = 8 + 8 * int.from_bytes(stream[at + 4:at + 8], 'little')
+        yield stream[at:at + size]
+        at += size
+
+
+def altered(rng, frame):
+    """The frame with one to three changes of its words: a bit, a byte, or a word that is zeroed or copied over another."""
+    changed, words = bytearray(frame), len(frame) // 8 - 1
+    for _ in range(rng.randint(1, 3)):
+        at, other = (8 + 8 * rng.randrange(words) for _ in range(2))
+        what = rng.randrange(4)
+        if what == 0:
+            changed[at + rng.randrange(8)] ^= 1 << rng.randrange(8)
+        elif what == 1:
+            changed[at + rng.randrange(8)] = rng.randrange(256)
+        else:
+            changed[at:at + 8] = bytes(8) if what == 2 else changed[other:other + 8]
+    return bytes(changed)
+
+
+def answers(schema, messages):
+    """What conforming_runs prints for each of the messages; None if it fails."""
+    run = subprocess.run([CONFORMING_RUNS, schema], input=b''.join(messages), stdout=subprocess.PIPE)
+    found = [it.split() for it in run.stdout.decode().splitlines()]
+    return found if run.returncode == 0 and len(found) == len(messages) else None
+
+
+def test(schema, make, count, copies):
+    """Tests messages of a schema, and altered copies. Returns how many tests passed and failed."""
+    rng = random.Random(f'{schema} {count} {copies}')
+    made = list(frames(capnp('encode', schema, '\n'.join(make(rng) for _ in range(count)).encode()).stdout))
+    all_made = made + [altered(rng, it) for it in made for _ in range(copies)]
+    found = answers(schema, all_made)
+    if len(made) != count or found is None:
+        print(f'{schema}: conforming_runs or capnp encode failed')
+        return 0, 1
+    yes = [it for it, answer in zip(all_made, found) if answer[0] == 'yes']
+    readable = [it for it, answer in zip(all_made, found) if answer[0] == 'no' and answer[2] == 'ok']
+    counts = collections.Counter((answer[0], *('ok' if it == 'ok' else 'refused' for it in answer[2:])) for answer in found)
+    for (test, validate, getters), number in sorted(counts.items()):
+        print(f'{schema}: {test}: {number} messages, validate: {validate}, getters: {getters}')
+    tests = {
+        'messages that were encoded conform': all(answer[0] == 'yes' for answer in found[:count]),
+        'messages that conform are decoded': capnp('decode', schema, b''.join(yes)).returncode == 0,
+        'readable messages that do not conform are refused': all(capnp('decode', schema, it).returncode for it in readable[:REFUSED]),
+        'messages of both kinds': bool(readable) and len(yes) > count,
+    }
+    for name in [name for name, passed in tests.items() if not passed]:
+        print(f'{schema}: {name}: failed')
+    return sum(tests.values()), len(tests) - sum(tests.values())
+
+
+def main(words):
+    if not all(word.isdigit() for word in words) or len(words) > 2:
+        sys.exit(__doc__)
+    count, copies = (*map(int, words), *(50, 40)[len(words):])
+    if build() == 0:
+        sys.exit('conforming.py: cargo built nothing')
+    results = [test('kinds', kinds, count, copies), test('book', book, count, copies)]
+    passed, failed = (sum(it) for it in zip(*results))
+    print(f'{passed} passed, {failed} failed')
+    return failed > 0
+
+
+sys.exit(main(sys.argv[1:]))
