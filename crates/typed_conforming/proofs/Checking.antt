@@ -3,7 +3,7 @@ use Rattle.std.proofs.Common.{◌≡◌, inl, inr, ◌<◌, ◌≤◌, [], ◌�
 use Rattle.std.proofs.lemmas.Bool.{le-ltb}
 use Rattle.std.proofs.Math.Logic.{∥∥₁_elim}
 use mathlib.Core.Bool.{Bool-set}
-use Rattle.capnp_words.specs.Meter.{Affords, Meter}
+use Rattle.capnp_words.specs.Meter.{Affords, FitsIn, Meter, charged, less}
 use Rattle.capnp_format.specs.Tree.{Tree, Null, Capability, Struct, Flat, Pointers, Structs, Trees, no_trees, tree, count, Elements, no_elements, element}
 use Rattle.capnp_format.specs.Path.{struct_at, tree_at}
 use Rattle.std.specs.Prelude.{slice_index}
@@ -115,6 +115,24 @@ element_of : (T : List StructRow) (ps : List PointerRow) (i : ℕ) (es : Element
 element_of T ps i no_elements h = tt
 element_of T ps zero (element ws ts es) h = h.0
 element_of T ps (suc i) (element ws ts es) h = element_of T ps i es h.1
+
+-- An element of a list that conforms, as a struct.
+pub element_conforms : (T : List StructRow) (size : ElementSize) (row i : ℕ) (t : Tree) → Conforms T (ListKind size row) t → ConformAll T (row_pointers T row) (struct_data (struct_element t i)) 0 (struct_children (struct_element t i))
+element_conforms T size row i Null h = tt
+element_conforms T size row i (Struct ws ts) h = tt
+element_conforms T size row i (Capability n) h = tt
+element_conforms T size row i (Flat z ns) h = tt
+element_conforms T size row i (Pointers ts) h = (each_of T (row_pointers T row) i ts h.1, tt)
+element_conforms T size row i (Structs d q es) h = element_of T (row_pointers T row) i es h.1
+
+-- A limiter that affords a word, and then c words, affords both.
+fits_both : (left : Option ℕ) (c : ℕ) → FitsIn left 1 → FitsIn (less left 1) c → FitsIn left (1 + c)
+fits_both None c one rest = tt
+fits_both (Some left) c one rest = omega (arith, one, rest)
+
+pub affords_both : (charging : Bool) (m : Meter) (c : ℕ) → Affords charging m 1 → Affords charging (charged charging m 1) c → Affords charging m (1 + c)
+affords_both true m c one rest = fits_both m.left c one rest
+affords_both false m c one rest = tt
 
 module _ {A : Type 0} (g : Ghosts A) where
   -- A call that reads a pointer which a struct doesn't have succeeds.

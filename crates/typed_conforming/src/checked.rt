@@ -1,13 +1,14 @@
 //! The structs of a message that was tested against its schema. Their getters can't be refused, and
 //! charge nothing.
-ghost use Rattle.std.specs.Prelude.{◌≡◌, ◌<◌, ◌+◌, ℕ, IfOk, IsOk, Some, ⊤};
+ghost use Rattle.std.specs.Prelude.{◌≡◌, ◌<◌, ◌+◌, ℕ, IfOk, IsOk, OnOk, Some, ⊤};
 ghost use Rattle.capnp_format.specs.Bytes.{message};
 ghost use Rattle.capnp_format.specs.Segments.{AreWords};
 ghost use Rattle.capnp_format.specs.Means.{Means};
 ghost use Rattle.capnp_format.specs.Tree.{Tree};
-ghost use Rattle.capnp_words.specs.Meter.{Affords};
+ghost use Rattle.capnp_words.specs.Meter.{Affords, charged};
 ghost use Rattle.capnp_arena_traits.specs.Checks.{Holds};
 ghost use Rattle.capnp_objects.specs.Source.{levels};
+ghost use Rattle.capnp_objects.specs.Spending.{Paid, pointers_in};
 ghost use Rattle.capnp_readers.specs.Values.{HasStructs, ShowsListOf, ShowsStructOf, list_length, list_numbers, struct_data, struct_element, text_bytes};
 ghost use Rattle.typed_reading.specs.Values.{child};
 ghost use Rattle.typed_conforming.specs.Conforms.{Conforms, elements_wanted, row_pointers, wanted};
@@ -78,6 +79,13 @@ impl<'a, 's, A: ReaderArena> CheckedStruct<'a, 's, A> {
             → Holds S 0 0 1 → Conforms schema.now (Kind.Struct row) t
             → Means S (levels (A.nesting arena.now)) 0 0 t c
             → Affords (A.charging arena.now) lim.old (1 + c) → IsOk result }
+        ensures conforms { OnOk result ((t : Tree) × (c : ℕ)
+            × Conforms schema.now (Kind.Struct row) t
+            × Means (message (A.segments arena.now)) (levels (A.nesting arena.now)) 0 0 t c
+            × Affords (A.charging arena.now) lim.old (1 + c)) }
+        ensures spent { let charging = A.charging arena.now in (t : Tree) (c : ℕ)
+            → Means (message (A.segments arena.now)) (levels (A.nesting arena.now)) 0 0 t c
+            → OnOk result (Paid charging (charged charging lim.old 1) lim.new c (pointers_in t)) }
     {
         let pointer = match Pointer::get_root_from_arena(arena, lim) {
             Ok(pointer) => pointer,

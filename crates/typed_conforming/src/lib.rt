@@ -4,4 +4,5 @@
 
 pub mod checked;
 pub mod conforms;
+pub mod laws;
 pub mod schema;

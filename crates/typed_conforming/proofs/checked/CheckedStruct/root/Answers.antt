@@ -4,7 +4,7 @@ use Rattle.capnp_format.specs.Means.{Means}
 use Rattle.capnp_objects.specs.Source.{levels}
 use Rattle.typed_reading.proofs.Root.{root_affords}
 use Rattle.typed_conforming.specs.Checked.{ShowsConforming}
-use Rattle.typed_conforming.proofs.Checking.{children_conform}
+use Rattle.typed_conforming.proofs.Checking.{affords_both, children_conform}
 use Rattle.typed_conforming.proofs.checked.CheckedStruct.root.Goals as goal
 
 pub returns-in-Err-conforms-clause-answered : goal.returns-in-Err-conforms-clause-answered
@@ -25,3 +25,14 @@ invariant_of-result g c =
       words = (rw c.unwrap-reader.ensures at c.root.ensures.stays).words c.requires.words;
     } in
     record { conforms = ∣ inl checked ∣₁ }
+
+pub returns-clause-conforms : goal.returns-clause-conforms
+returns-clause-conforms g c =
+    let root = c.in-Ok.ensures in
+    let found = (c.in-Ok-conforms.ensures.exactly (rw root.source c.requires.words)).0 refl in
+    (found.0, found.1, found.2, rw (root.source, root.place.0, root.place.1, root.nesting) at found.3, affords_both (g.A.ReaderArena.charging c.args.arena.now) c.args.lim.now found.1 (root.exactly.0 refl).1 (rw (root.source, root.granted) at found.4))
+
+pub returns-clause-spent : goal.returns-clause-spent
+returns-clause-spent g c =
+    let root = c.in-Ok.ensures in
+    λ t k means. rw (root.source, root.granted) at (c.in-Ok-conforms.ensures.spent t k (rw root.source c.requires.words) (rw (root.source, root.place.0, root.place.1, root.nesting) means))
