@@ -2,18 +2,24 @@
 
 use crate::calls::write_call;
 use crate::fields::{
-    enum_type_name, lacking, push_field_comment, push_skip_comment, put_declared, put_slot,
+    enum_type_name, push_field_comment, push_skip_comment, put_declared, put_slot,
 };
-use crate::forms::BaseKind;
+use crate::forms::form_of;
 use crate::imports::BUILDERS;
-use crate::model::{Default, Field, FieldKind, NO_DISCRIMINANT, Node, NodeKind, Slot, Struct};
-use crate::names::{BUILDER_WORDS, Names, VARIANT_WORDS, capitalized};
-use crate::output::{File, Output};
+use crate::names::{BUILDER_WORDS, VARIANT_WORDS};
+use crate::output::Output;
 use crate::parts::builder_template;
-use crate::slots::{add_field_slots, slot_items, slot_list};
-use crate::text::{Text, Values};
+use crate::slots::{slot_items, slot_list};
 use crate::writing::Module;
 use crate::{building as templates, calls};
+use capnpc_schema::files::File;
+use capnpc_schema::model::{
+    Default, Field, FieldKind, NO_DISCRIMINANT, Node, NodeKind, Slot, Struct, lacking,
+};
+use capnpc_schema::names::{Names, capitalized};
+use capnpc_schema::slots::add_group_slots;
+use capnpc_schema::text::{Text, Values};
+use capnpc_schema::types::BaseKind;
 use std::alloc::{AllocError, Global};
 
 /// A crate of builders as it is generated.
@@ -48,7 +54,7 @@ impl<'m> Builders<'m> {
             match &node.kind {
                 NodeKind::Struct(it) => self.write_struct(node, it),
                 NodeKind::Enum(names) => self.write_enum(node, names.as_slice()),
-                NodeKind::File | NodeKind::Other(_) => {}
+                NodeKind::File | NodeKind::Const(_) | NodeKind::Other(_) => {}
             }
         }
         let Builders {
@@ -175,7 +181,7 @@ impl<'m> Builders<'m> {
         match &field.kind {
             FieldKind::Group(id) => self.write_group_calls(module, *id, values),
             FieldKind::Slot(slot) => {
-                let why = lacking(&self.output, slot);
+                let why = lacking(self.output.nodes, slot);
                 if !why.is_empty() {
                     push_skip_comment(module, why, values);
                 } else {
@@ -194,7 +200,7 @@ impl<'m> Builders<'m> {
         };
         module.put_path(node.module.as_str(), values);
         let mut slots = Names::new(self.alloc);
-        self.add_slots(id, &mut slots);
+        add_group_slots(self.alloc, self.output.nodes, id, &mut slots);
         self.output.note_if_failed(slots.has_failed);
         values.put_text("slots", slot_list(self.alloc, &slots));
         values.put_text("items", slot_items(self.alloc, &slots));
@@ -202,34 +208,6 @@ impl<'m> Builders<'m> {
         values.put("array", if is_empty { "&[]" } else { "&slots" });
         write_call(module, calls::GET_GROUP, values);
         write_call(module, calls::INIT_GROUP, values);
-    }
-
-    // Adds the parts of the struct that the fields of a group are, and those of the groups in it.
-    fn add_slots(&self, id: u64, slots: &mut Names) {
-        let nodes = self.output.nodes;
-        for node in nodes {
-            if let NodeKind::Struct(it) = &node.kind
-                && it.is_group
-                && self.is_inside(node, id)
-            {
-                add_field_slots(self.alloc, it, slots);
-            }
-        }
-    }
-
-    // Whether a group is this one, or in it.
-    fn is_inside(&self, node: &'m Node, id: u64) -> bool {
-        let mut at = node;
-        for _ in 0..self.output.nodes.len() {
-            if at.id == id {
-                return true;
-            }
-            match (&at.kind, self.output.node(at.scope)) {
-                (NodeKind::Struct(it), Some(outer)) if it.is_group => at = outer,
-                _ => return false,
-            }
-        }
-        false
     }
 
     // Writes the calls of a field that isn't a group.
@@ -243,7 +221,7 @@ impl<'m> Builders<'m> {
         if slot.of.is_void() && field.discriminant == NO_DISCRIMINANT {
             return;
         }
-        let form = slot.of.form();
+        let form = form_of(slot.of);
         let has_default = !matches!(slot.default, Default::Zero);
         put_slot(&self.output, slot, values);
         if slot.of.lists > 0 || !matches!(slot.of.base.kind, BaseKind::Pointer) {

@@ -2,8 +2,8 @@
 //! place of some of those of `ANY`, and is written by `write_call`.
 
 use crate::parts::builder_template;
-use crate::text::{Lines, Values};
 use crate::writing::Module;
+use capnpc_schema::text::{Lines, Values};
 
 /// Writes the call that these words describe. `values` has what else its parts need.
 pub fn write_call(module: &mut Module, lines: Lines, values: &mut Values) {

@@ -1,9 +1,10 @@
 //! Names the fields of structs, and the definitions of what readers return of them.
 
-use crate::model::{Default, Field, FieldKind, Node, NodeKind};
-use crate::names::{Names, SPEC_WORDS, snake_case};
-use crate::noted::Noted;
-use crate::text::Text;
+use crate::names::SPEC_WORDS;
+use capnpc_schema::model::{Default, Field, FieldKind, Node, NodeKind};
+use capnpc_schema::names::{Names, snake_case};
+use capnpc_schema::noted::Noted;
+use capnpc_schema::text::Text;
 use std::alloc::Global;
 
 /// Names the fields of each struct, and the definitions.
@@ -31,7 +32,7 @@ fn reserve_own_names(alloc: Global, node: &Node, taken: &mut Names) {
             }
         }
         NodeKind::Enum(_) => reserve_name(alloc, node.module.as_str(), "_number", taken),
-        NodeKind::File | NodeKind::Other(_) => {}
+        NodeKind::File | NodeKind::Const(_) | NodeKind::Other(_) => {}
     }
 }
 

@@ -1,41 +1,26 @@
 //! What readers and builders of a field have in common.
 
-use crate::forms::BaseKind;
-use crate::model::{Default, Node, NodeKind, Slot};
-use crate::names::{ENUM_WORDS, VARIANT_WORDS, capitalized};
+use crate::forms::{reader_of_list, size_of_elements};
+use crate::names::{ENUM_WORDS, VARIANT_WORDS};
 use crate::output::Output;
-use crate::text::{Text, Values};
 use crate::writing::Module;
+use capnpc_schema::model::{Default, Node, NodeKind, Slot, type_name};
+use capnpc_schema::names::capitalized;
+use capnpc_schema::text::{Text, Values};
 use std::alloc::Global;
-
-/// Why a field has no calls; empty if it has some.
-pub fn lacking(output: &Output<'_>, slot: &Slot) -> &'static str {
-    if let Default::Unknown = &slot.default {
-        return "its default value is unknown";
-    }
-    match (&slot.of.base.kind, output.node(slot.of.id)) {
-        (BaseKind::Struct, None) => "its struct is unknown",
-        (BaseKind::Enum, None) => "its enum is unknown",
-        (BaseKind::Enum, Some(node)) => match &node.kind {
-            NodeKind::Enum(names) if !names.is_empty() => "",
-            _ => "its enum has no names",
-        },
-        _ => "",
-    }
-}
 
 /// Puts what the calls of a field have in common: its type and its place, and its default value.
 pub fn put_slot(output: &Output<'_>, slot: &Slot, values: &mut Values) {
     let base = slot.of.base;
     let offset = u64::from(slot.offset);
-    values.put_text("of", output.schema_type_name(slot.of));
+    values.put_text("of", type_name(output.alloc, output.nodes, slot.of));
     values.put_number("index", offset);
     values.put_number("bits", base.bits);
     values.put_number("bit", offset.saturating_mul(base.bits));
     values.put("rust", base.rust);
     let element = slot.of.element();
-    values.put_lines(element.size);
-    values.put_lines(element.list);
+    values.put_lines(size_of_elements(element));
+    values.put_lines(reader_of_list(element));
     match &slot.default {
         Default::Number { literal, bits } => {
             values.put("literal", literal.as_str());

@@ -1,7 +1,9 @@
 //! The types of the schema language, and what generated code does with fields of each.
 
-use crate::text::Lines;
 use crate::{calls, templates};
+use capnpc_schema::model::Type;
+use capnpc_schema::text::Lines;
+use capnpc_schema::types::{Base, BaseKind};
 
 /// What generated code does with a field. Of what is there twice, the second is for a field with a
 /// default value.
@@ -24,116 +26,55 @@ pub struct Form {
     pub calls_or: &'static [Lines],
 }
 
-/// What a type of the schema language is.
-pub enum BaseKind {
-    Void,
-    Bool,
-    Signed,
-    Unsigned,
-    Enum,
-    Text,
-    Data,
-    Struct,
-    Capability,
-    Pointer,
-}
-
-impl BaseKind {
-    /// What is done with a field of a type of this kind.
-    pub fn form(&self) -> &'static Form {
-        match self {
-            BaseKind::Void => VOID,
-            BaseKind::Bool => BOOL,
-            BaseKind::Signed => SIGNED,
-            BaseKind::Unsigned => UNSIGNED,
-            BaseKind::Enum => ENUM,
-            BaseKind::Text => TEXT,
-            BaseKind::Data => DATA,
-            BaseKind::Struct => STRUCT,
-            BaseKind::Capability => CAPABILITY,
-            BaseKind::Pointer => POINTER,
-        }
-    }
-
-    /// What is done with a list of such types.
-    pub fn list_form(&self) -> &'static Form {
-        match self {
-            BaseKind::Struct => STRUCTS,
-            _ => LIST,
-        }
+/// What generated code does with a field of a type.
+pub fn form_of(of: Type) -> &'static Form {
+    match of.lists {
+        0 => form_of_kind(of.base.kind),
+        1 if matches!(of.base.kind, BaseKind::Struct) => STRUCTS,
+        _ => LIST,
     }
 }
 
-/// A type of the schema language that isn't a list.
-pub struct Base {
-    /// What it is.
-    pub kind: BaseKind,
-    /// Its name in a schema; empty if it is declared there.
-    pub name: &'static str,
-    /// The Rust type that a value is returned as, if it is a number, a bit or nothing. Floats are
-    /// returned as their bits, and enums in lists as their numbers.
-    pub rust: &'static str,
-    /// The size of a value in a data section, in bits; 0 if it has none there.
-    pub bits: u64,
-    /// The largest number; of a type without a sign, that of 64 bits.
-    pub largest: u64,
-    /// What a list puts for the size of its elements.
-    pub size: Lines,
-    /// What a list puts for its reader: the getter, its type, and the further arguments of that.
-    pub list: Lines,
-}
-
-// A type, with its columns in the order of their declarations.
-macro_rules! base {
-    ($kind:ident, $name:expr, $rust:expr, $bits:expr, $largest:expr, $size:expr, $list:expr) => {
-        Base {
-            kind: BaseKind::$kind,
-            name: $name,
-            rust: $rust,
-            bits: $bits,
-            largest: $largest,
-            size: $size,
-            list: $list,
-        }
-    };
-}
-
-/// The type with this number in `schema.capnp`. Lists and unknown types are any pointer.
-pub fn base_of(number: usize) -> &'static Base {
-    match BASES.get(number) {
-        Some(base) => base,
-        None => ANY_POINTER,
+// What is done with a field of a type of this kind.
+fn form_of_kind(kind: BaseKind) -> &'static Form {
+    match kind {
+        BaseKind::Void => VOID,
+        BaseKind::Bool => BOOL,
+        BaseKind::Signed => SIGNED,
+        BaseKind::Unsigned | BaseKind::Float => UNSIGNED,
+        BaseKind::Enum => ENUM,
+        BaseKind::Text => TEXT,
+        BaseKind::Data => DATA,
+        BaseKind::Struct => STRUCT,
+        BaseKind::Capability => CAPABILITY,
+        BaseKind::Pointer => POINTER,
     }
 }
 
-// The largest number of a type without a sign.
-const MAX: u64 = u64::MAX;
+/// What a list puts for the size of its elements.
+pub fn size_of_elements(base: &Base) -> Lines {
+    match (base.kind, base.bits) {
+        (BaseKind::Void, _) => VOID_SIZE,
+        (BaseKind::Struct, _) => INLINE_COMPOSITE,
+        (_, 1) => BIT,
+        (_, 8) => BYTE,
+        (_, 16) => TWO_BYTES,
+        (_, 32) => FOUR_BYTES,
+        (_, 64) => EIGHT_BYTES,
+        _ => POINTER_SIZE,
+    }
+}
 
-/// Any pointer.
-pub const ANY_POINTER: &Base = &base!(Pointer, "AnyPointer", "()", 0, MAX, POINTER_SIZE, POINTERS);
-
-// The types, by their numbers in `schema.capnp`.
-const BASES: &[Base] = &[
-    base!(Void, "Void", "()", 0, MAX, VOID_SIZE, NUMBERS),
-    base!(Bool, "Bool", "bool", 1, MAX, BIT, NUMBERS),
-    base!(Signed, "Int8", "i8", 8, 0x7f, BYTE, NUMBERS),
-    base!(Signed, "Int16", "i16", 16, 0x7fff, TWO_BYTES, NUMBERS),
-    base!(Signed, "Int32", "i32", 32, 0x7fff_ffff, FOUR_BYTES, NUMBERS),
-    base!(Signed, "Int64", "i64", 64, MAX / 2, EIGHT_BYTES, NUMBERS),
-    base!(Unsigned, "UInt8", "u8", 8, MAX, BYTE, NUMBERS),
-    base!(Unsigned, "UInt16", "u16", 16, MAX, TWO_BYTES, NUMBERS),
-    base!(Unsigned, "UInt32", "u32", 32, MAX, FOUR_BYTES, NUMBERS),
-    base!(Unsigned, "UInt64", "u64", 64, MAX, EIGHT_BYTES, NUMBERS),
-    base!(Unsigned, "Float32", "u32", 32, MAX, FOUR_BYTES, NUMBERS),
-    base!(Unsigned, "Float64", "u64", 64, MAX, EIGHT_BYTES, NUMBERS),
-    base!(Text, "Text", "()", 0, MAX, POINTER_SIZE, TEXTS),
-    base!(Data, "Data", "()", 0, MAX, POINTER_SIZE, DATA_LIST),
-    // a list, which `read_type` looks into
-    base!(Pointer, "AnyPointer", "()", 0, MAX, POINTER_SIZE, POINTERS),
-    base!(Enum, "", "u16", 16, MAX, TWO_BYTES, NUMBERS),
-    base!(Struct, "", "()", 0, MAX, INLINE_COMPOSITE, ""),
-    base!(Capability, "", "()", 0, MAX, POINTER_SIZE, POINTERS),
-];
+/// What a list puts for its reader: the getter, its type, and the further arguments of that.
+pub fn reader_of_list(base: &Base) -> Lines {
+    match base.kind {
+        BaseKind::Text => TEXTS,
+        BaseKind::Data => DATA_LIST,
+        BaseKind::Struct => "",
+        BaseKind::Capability | BaseKind::Pointer => POINTERS,
+        _ => NUMBERS,
+    }
+}
 
 const VOID_SIZE: Lines = "size=Void
 size_number=0";

@@ -1,8 +1,9 @@
 //! Names the modules of a generated crate.
 
-use crate::model::{Node, NodeKind};
-use crate::names::{MODULE_WORDS, Names};
-use crate::noted::Noted;
+use crate::names::MODULE_WORDS;
+use capnpc_schema::model::{Node, NodeKind};
+use capnpc_schema::names::Names;
+use capnpc_schema::noted::Noted;
 
 /// Names the module of each declaration that is written, and then the modules of unions.
 pub fn name_modules(nodes: &mut Vec<Node>, noted: &mut Noted) {

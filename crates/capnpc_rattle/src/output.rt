@@ -1,20 +1,13 @@
 //! The files of a crate as they are generated.
 
 use crate::imports::Kind;
-use crate::model::{Node, NodeKind, Type};
-use crate::names::{Names, upper_camel_case};
-use crate::text::Text;
+use crate::names::upper_camel_case;
 use crate::writing::Module;
+use capnpc_schema::files::File;
+use capnpc_schema::model::{Node, NodeKind, find_node};
+use capnpc_schema::names::Names;
+use capnpc_schema::text::Text;
 use std::alloc::{AllocError, Global};
-
-/// A file of a generated crate.
-#[derive(Drop)]
-pub struct File {
-    /// Its path, from the folder of crates on.
-    pub path: String,
-    /// Its text.
-    pub text: String,
-}
 
 /// A crate as it is generated.
 #[derive(Drop)]
@@ -63,31 +56,7 @@ impl<'m> Output<'m> {
 
     /// The declaration with this id.
     pub fn node(&self, id: u64) -> Option<&'m Node> {
-        for node in self.nodes {
-            if node.id == id {
-                return Some(node);
-            }
-        }
-        None
-    }
-
-    /// The name of a type in the schema.
-    pub fn schema_type_name(&self, of: Type) -> Text {
-        let mut name = Text::new(self.alloc);
-        for _ in 0..of.lists {
-            name.push("List(");
-        }
-        if !of.base.name.is_empty() {
-            name.push(of.base.name);
-        } else if let Some(node) = self.node(of.id) {
-            name.push(node.full.as_str());
-        } else {
-            name.push("unknown");
-        }
-        for _ in 0..of.lists {
-            name.push(")");
-        }
-        name
+        find_node(self.nodes, id)
     }
 
     /// Returns the files that are written.
@@ -198,6 +167,7 @@ fn push_lines(to: &mut Text, start: &str, names: &[String], end: &str) {
 // Writes the line of the root module for a declaration, if that gets no code.
 fn push_line_if_unwritten(to: &mut Text, node: &Node) {
     match &node.kind {
+        NodeKind::Const(_) => push_unwritten_line(to, node.full.as_str(), "a constant"),
         NodeKind::Other(what) => push_unwritten_line(to, node.full.as_str(), what),
         NodeKind::Enum(names) if names.is_empty() => {
             push_unwritten_line(to, node.full.as_str(), "an enum without names");

@@ -1,16 +1,19 @@
 //! Generates readers.
 
 use crate::fields::{
-    enum_type_name, lacking, push_field_comment, push_skip_comment, put_declared, put_slot,
+    enum_type_name, push_field_comment, push_skip_comment, put_declared, put_slot,
 };
-use crate::forms::BaseKind;
+use crate::forms::form_of;
 use crate::imports::READERS;
-use crate::model::{Default, Field, FieldKind, Node, NodeKind, Slot, Struct};
-use crate::names::{Names, VARIANT_WORDS, capitalized};
-use crate::output::{File, Output};
+use crate::names::VARIANT_WORDS;
+use crate::output::Output;
 use crate::templates;
-use crate::text::{Text, Values};
 use crate::writing::Module;
+use capnpc_schema::files::File;
+use capnpc_schema::model::{Default, Field, FieldKind, Node, NodeKind, Slot, Struct, lacking};
+use capnpc_schema::names::{Names, capitalized};
+use capnpc_schema::text::{Text, Values};
+use capnpc_schema::types::BaseKind;
 use std::alloc::{AllocError, Global};
 
 /// A crate of readers as it is generated.
@@ -42,7 +45,7 @@ impl<'m> Readers<'m> {
             match &node.kind {
                 NodeKind::Struct(it) => self.write_struct(node, it),
                 NodeKind::Enum(names) => self.write_enum(node, names.as_slice()),
-                NodeKind::File | NodeKind::Other(_) => {}
+                NodeKind::File | NodeKind::Const(_) | NodeKind::Other(_) => {}
             }
         }
         let Readers {
@@ -202,7 +205,7 @@ impl<'m> Readers<'m> {
         {
             return "it has a default value, and can lead to anything";
         }
-        lacking(&self.output, slot)
+        lacking(self.output.nodes, slot)
     }
 
     // Writes the getter of a field that isn't a group, and of a pointer the call that says whether it is
@@ -214,7 +217,7 @@ impl<'m> Readers<'m> {
         slot: &Slot,
         values: &mut Values,
     ) {
-        let form = slot.of.form();
+        let form = form_of(slot.of);
         let has_default = !matches!(slot.default, Default::Zero);
         put_slot(&self.output, slot, values);
         module.begin_item();

@@ -1,6 +1,6 @@
 //! The text of generated readers. A word between two `~` stands for what `push_filled` puts there.
 
-use crate::text::Lines;
+use capnpc_schema::text::Lines;
 
 /// What each struct and group has.
 pub const READER: &str = "/// ~full~.

@@ -1,9 +1,10 @@
 //! Writes the text of generated files.
 
 use crate::imports::Kind;
-use crate::names::{Names, upper_camel_case};
+use crate::names::upper_camel_case;
 use crate::templates;
-use crate::text::{Text, Values};
+use capnpc_schema::names::Names;
+use capnpc_schema::text::{Text, Values};
 use std::alloc::Global;
 
 // Two imports that `rt fmt` makes one of. They are the last of a module of readers.

@@ -1,18 +1,18 @@
 //! Reads the schema compiler's request, a `CodeGeneratorRequest`, by generated readers.
 
 use crate::defaults::canonical_words;
-use crate::forms::{BaseKind, base_of};
-use crate::model::{Default, Field, FieldKind, Node, NodeKind, Slot, Struct, Type};
+use crate::model::{Constant, Default, Field, FieldKind, Node, NodeKind, Slot, Struct, Type};
 use crate::noted::Noted;
 use crate::text::Text;
+use crate::types::{BaseKind, base_of};
 use capnp_arena_traits::arena::ReaderArena;
 use capnp_readers::readers::PointerReader;
 use capnp_words::error::ErrorKind;
 use capnp_words::read_limiter::ReadLimiter;
 use schema_reading::{
     code_generator_request, code_generator_request_requested_file, enumerant, field, field_ordinal,
-    field_ordinal_which, field_slot, field_which, node, node_struct, node_which, type_, type_which,
-    value_,
+    field_ordinal_which, field_slot, field_which, node, node_const, node_source_info,
+    node_source_info_member, node_struct, node_which, type_, type_which, value_,
 };
 
 /// The most lists of lists that a type is read of.
@@ -21,10 +21,29 @@ const MAX_LISTS: u32 = 64;
 /// The schema compiler's request.
 #[derive(Drop)]
 pub struct Request {
-    /// The name of the first file that it asks for; empty if it asks for none.
-    pub file: String,
+    /// The files that it asks for.
+    pub files: Vec<SchemaFile>,
     /// All declarations, by their order in the request, without names of modules.
     pub nodes: Vec<Node>,
+}
+
+impl Request {
+    /// The name of the first file that it asks for; empty if it asks for none.
+    pub fn first_file(&self) -> &str {
+        match self.files.first() {
+            Some(file) => file.name.as_str(),
+            None => "",
+        }
+    }
+}
+
+/// A file of a schema.
+#[derive(Drop)]
+pub struct SchemaFile {
+    /// The id of its declaration.
+    pub id: u64,
+    /// Its name in the command line.
+    pub name: String,
 }
 
 /// Reads a request.
@@ -33,28 +52,78 @@ pub fn read_request<A: ReaderArena>(
     lim: &mut ReadLimiter,
     noted: &mut Noted,
 ) -> Request {
-    let mut file = String::new(noted.alloc);
-    if let Some(files) = noted.ok_or_note(from.get_requested_files(lim)) {
-        file = read_first_file_name(files, lim, noted);
+    let mut files = Vec::new(noted.alloc);
+    if let Some(requested) = noted.ok_or_note(from.get_requested_files(lim)) {
+        read_files(requested, &mut files, lim, noted);
     }
     let mut nodes = Vec::new(noted.alloc);
     if let Some(declared) = noted.ok_or_note(from.get_nodes(lim)) {
         read_nodes(declared, &mut nodes, lim, noted);
     }
-    Request { file, nodes }
+    if let Some(infos) = noted.ok_or_note(from.get_source_info(lim)) {
+        read_comments(infos, &mut nodes, lim, noted);
+    }
+    Request { files, nodes }
 }
 
-// Reads the name of the first file.
-fn read_first_file_name<A: ReaderArena>(
-    files: code_generator_request_requested_file::Readers<'_, A>,
+// Reads the requested files, and appends them to `files`.
+fn read_files<A: ReaderArena>(
+    requested: code_generator_request_requested_file::Readers<'_, A>,
+    files: &mut Vec<SchemaFile>,
     lim: &mut ReadLimiter,
     noted: &mut Noted,
-) -> String {
-    if files.len() == 0 {
-        return String::new(noted.alloc);
+) {
+    for i in 0..requested.len() {
+        let file = requested.get(i);
+        let name = noted.text_or_note(file.get_filename(lim));
+        let name = noted.copy_text(name);
+        let id = file.get_id();
+        noted.push(files, SchemaFile { id, name });
     }
-    let name = noted.text_or_note(files.get(0).get_filename(lim));
-    noted.copy_text(name)
+}
+
+// Reads the comments of declarations.
+fn read_comments<A: ReaderArena>(
+    infos: node_source_info::Readers<'_, A>,
+    nodes: &mut Vec<Node>,
+    lim: &mut ReadLimiter,
+    noted: &mut Noted,
+) {
+    for i in 0..infos.len() {
+        let info = infos.get(i);
+        let mut comments = Vec::new(noted.alloc);
+        let comment = noted.text_or_note(info.get_doc_comment(lim));
+        let comment = noted.copy_text(comment);
+        if let Some(members) = noted.ok_or_note(info.get_members(lim)) {
+            read_member_comments(members, &mut comments, lim, noted);
+        }
+        set_comments(nodes, info.get_id(), comment, comments);
+    }
+}
+
+// Reads the comments of members, and appends them to `comments`.
+fn read_member_comments<A: ReaderArena>(
+    members: node_source_info_member::Readers<'_, A>,
+    comments: &mut Vec<String>,
+    lim: &mut ReadLimiter,
+    noted: &mut Noted,
+) {
+    for i in 0..members.len() {
+        let comment = noted.text_or_note(members.get(i).get_doc_comment(lim));
+        let comment = noted.copy_text(comment);
+        noted.push(comments, comment);
+    }
+}
+
+// Sets the comments of the declaration with this id.
+fn set_comments(nodes: &mut Vec<Node>, id: u64, comment: String, comments: Vec<String>) {
+    for node in nodes.iter_mut() {
+        if node.id == id {
+            node.comment = comment;
+            node.comments = comments;
+            return;
+        }
+    }
 }
 
 // Reads the declarations, and appends them to `nodes`.
@@ -84,6 +153,9 @@ fn read_node<A: ReaderArena>(
         full: noted.copy_text(full),
         snake: noted.snake_case(full),
         module: String::new(noted.alloc),
+        item: String::new(noted.alloc),
+        comment: String::new(noted.alloc),
+        comments: Vec::new(noted.alloc),
         kind,
     }
 }
@@ -111,10 +183,27 @@ fn read_node_kind<A: ReaderArena>(
         )),
         Ok(node_which::Which::Enum) => NodeKind::Enum(read_enum(from, lim, noted)),
         Ok(node_which::Which::Interface) => NodeKind::Other("an interface"),
-        Ok(node_which::Which::Const) => NodeKind::Other("a constant"),
+        Ok(node_which::Which::Const) => NodeKind::Const(read_constant(
+            from.get_const(),
+            lim,
+            noted,
+        )),
         Ok(node_which::Which::Annotation) => NodeKind::Other("an annotation"),
         Err(_) => NodeKind::Other("a declaration of an unknown kind"),
     }
+}
+
+// Reads a constant; `None` if its type is of an unknown kind.
+fn read_constant<A: ReaderArena>(
+    from: node_const::Reader<'_, A>,
+    lim: &mut ReadLimiter,
+    noted: &mut Noted,
+) -> Option<Constant> {
+    let of = noted.ok_or_note(from.get_type(lim))?;
+    let of = read_type(of, lim, noted)?;
+    let value = noted.ok_or_note(from.get_value(lim))?;
+    let value = read_default(value, of, lim, noted);
+    Some(Constant { of, value })
 }
 
 // Reads the names of an enum.
@@ -190,6 +279,7 @@ fn read_field<A: ReaderArena>(
     Field {
         name: noted.copy_text(name),
         snake: String::new(noted.alloc),
+        variant: String::new(noted.alloc),
         spec: String::new(noted.alloc),
         default_spec: String::new(noted.alloc),
         ordinal: ordinal_of(from.get_ordinal()),

@@ -1,6 +1,8 @@
-//! What the generator knows of a schema.
+//! What a schema declares.
 
-use crate::forms::{ANY_POINTER, Base, BaseKind, Form};
+use crate::text::Text;
+use crate::types::{ANY_POINTER, Base, BaseKind};
+use std::alloc::Global;
 
 /// A type of a field: `base`, or a list of it, or a list of lists of it, and so on.
 #[derive(Clone, Copy)]
@@ -14,15 +16,6 @@ pub struct Type {
 }
 
 impl Type {
-    /// What generated code does with a field of the type.
-    pub fn form(self) -> &'static Form {
-        match self.lists {
-            0 => self.base.kind.form(),
-            1 => self.base.kind.list_form(),
-            _ => ANY_POINTER.kind.list_form(),
-        }
-    }
-
     /// The base type; any pointer for a list of lists, which has pointers as elements.
     pub fn element(self) -> &'static Base {
         if self.lists > 1 {
@@ -82,6 +75,8 @@ pub struct Field {
     pub name: String,
     /// The same in snake case. Other fields of the struct have other names.
     pub snake: String,
+    /// The name of its member of a union, in generated code that has one.
+    pub variant: String,
     /// The name of the definition of what readers return; empty if there is none.
     pub spec: String,
     /// The name of the definition of the default value, if that is a struct or a list.
@@ -118,6 +113,15 @@ pub struct Struct {
     pub fields: Vec<Field>,
 }
 
+/// A constant.
+#[derive(Drop)]
+pub struct Constant {
+    /// The type.
+    pub of: Type,
+    /// The value.
+    pub value: Default,
+}
+
 /// What a declaration is.
 #[derive(Drop)]
 pub enum NodeKind {
@@ -127,6 +131,8 @@ pub enum NodeKind {
     Struct(Struct),
     /// An enum, with the names of its enumerants.
     Enum(Vec<String>),
+    /// A constant; `None` if its type or its value isn't known.
+    Const(Option<Constant>),
     /// Something that isn't written, and what to call it.
     Other(&'static str),
 }
@@ -144,6 +150,57 @@ pub struct Node {
     pub snake: String,
     /// The name of its module.
     pub module: String,
+    /// The name of its type, in generated code where that differs from the module's.
+    pub item: String,
+    /// The comment in the schema.
+    pub comment: String,
+    /// The comments of its fields or enumerants, in their order; may be empty.
+    pub comments: Vec<String>,
     /// What it is.
     pub kind: NodeKind,
+}
+
+/// The declaration with this id.
+pub fn find_node(nodes: &[Node], id: u64) -> Option<&Node> {
+    for node in nodes {
+        if node.id == id {
+            return Some(node);
+        }
+    }
+    None
+}
+
+/// The name of a type in the schema.
+pub fn type_name(alloc: Global, nodes: &[Node], of: Type) -> Text {
+    let mut name = Text::new(alloc);
+    for _ in 0..of.lists {
+        name.push("List(");
+    }
+    if !of.base.name.is_empty() {
+        name.push(of.base.name);
+    } else if let Some(node) = find_node(nodes, of.id) {
+        name.push(node.full.as_str());
+    } else {
+        name.push("unknown");
+    }
+    for _ in 0..of.lists {
+        name.push(")");
+    }
+    name
+}
+
+/// Why a field has no calls; empty if it has some.
+pub fn lacking(nodes: &[Node], slot: &Slot) -> &'static str {
+    if let Default::Unknown = &slot.default {
+        return "its default value is unknown";
+    }
+    match (&slot.of.base.kind, find_node(nodes, slot.of.id)) {
+        (BaseKind::Struct, None) => "its struct is unknown",
+        (BaseKind::Enum, None) => "its enum is unknown",
+        (BaseKind::Enum, Some(node)) => match &node.kind {
+            NodeKind::Enum(names) if !names.is_empty() => "",
+            _ => "its enum has no names",
+        },
+        _ => "",
+    }
 }
