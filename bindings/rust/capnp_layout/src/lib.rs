@@ -62,6 +62,8 @@ mod builder;
 mod building;
 mod element;
 mod error;
+#[doc(hidden)]
+pub mod generated;
 mod growing;
 mod list;
 mod list_building;
@@ -77,6 +79,7 @@ mod reading;
 mod searching;
 mod segments;
 mod showing;
+mod typed;
 
 pub use builder::Builder;
 pub use building::StructBuilder;
@@ -88,6 +91,7 @@ pub use message::{Checked, Limits, Message};
 pub use meter::{Lazy, Meter, Sound};
 pub use reading::{Pointer, Struct, Target};
 pub use segments::Segments;
+pub use typed::{Enum, PointerBuilder, StructType, TypedBuilder};
 
 pub use proved::capnp_framing::framing::FrameError;
 pub use proved::capnp_messages::messages::MessageExtent;

@@ -55,6 +55,17 @@ impl<'b, T: ?Sized> ListBuilder<'b, T> {
         }
     }
 
+    /// The same list, with elements of another type.
+    #[inline(always)]
+    pub(crate) fn retyped<U: ?Sized>(self) -> ListBuilder<'b, U> {
+        ListBuilder {
+            message: self.message,
+            list: self.list,
+            next: self.next,
+            of: PhantomData,
+        }
+    }
+
     /// The number of elements; none after a refusal.
     #[inline]
     pub fn len(&self) -> usize {
@@ -87,6 +98,53 @@ impl<'b, T: ?Sized> ListBuilder<'b, T> {
         } else {
             None
         }
+    }
+
+    /// Struct `index` of a list of structs. Panics if there is no such element.
+    #[inline]
+    #[track_caller]
+    pub(crate) fn struct_at(&mut self, index: usize) -> StructBuilder<'_> {
+        if !self.has(index) {
+            return StructBuilder::of(self.message, None);
+        }
+        debug_assert!(self.list.size == ElementSize::InlineComposite);
+        let list = ListPlace {
+            size: ElementSize::InlineComposite,
+            ..self.place()
+        };
+        StructBuilder::of(self.message, Some(element_place(list, index as u32)))
+    }
+
+    /// The next struct of a list of structs; `None` after the last.
+    #[inline]
+    pub(crate) fn next_struct(&mut self) -> Option<StructBuilder<'_>> {
+        if self.next >= self.list.count {
+            return None;
+        }
+        let index = self.next;
+        self.next += 1;
+        Some(self.struct_at(index as usize))
+    }
+
+    /// Makes element `index` of a list of lists a new list of `count` structs.
+    #[track_caller]
+    pub(crate) fn new_list_of_structs<U: ?Sized>(
+        &mut self,
+        index: usize,
+        count: usize,
+        size: StructSize,
+    ) -> ListBuilder<'_, U> {
+        let made = self.new_structs(index, count, size);
+        ListBuilder::of(self.message, made)
+    }
+
+    #[track_caller]
+    fn new_structs(&mut self, index: usize, count: usize, size: StructSize) -> Option<ListPlace> {
+        let place = self.place();
+        let count = self.message.count_of(count, size.total() as usize)?;
+        let arena = self.changeable(index)?;
+        let made = list::init_struct_list(arena, place, index as u32, count, size);
+        self.message.keep(made)
     }
 }
 
@@ -205,17 +263,7 @@ impl ListBuilder<'_, Lists<Structs>> {
         count: usize,
         size: StructSize,
     ) -> ListBuilder<'_, Structs> {
-        let made = self.new_structs(index, count, size);
-        ListBuilder::of(self.message, made)
-    }
-
-    #[track_caller]
-    fn new_structs(&mut self, index: usize, count: usize, size: StructSize) -> Option<ListPlace> {
-        let place = self.place();
-        let count = self.message.count_of(count, size.total() as usize)?;
-        let arena = self.changeable(index)?;
-        let made = list::init_struct_list(arena, place, index as u32, count, size);
-        self.message.keep(made)
+        self.new_list_of_structs(index, count, size)
     }
 }
 
@@ -224,15 +272,7 @@ impl ListBuilder<'_, Structs> {
     #[inline]
     #[track_caller]
     pub fn at(&mut self, index: usize) -> StructBuilder<'_> {
-        if !self.has(index) {
-            return StructBuilder::of(self.message, None);
-        }
-        debug_assert!(self.list.size == ElementSize::InlineComposite);
-        let list = ListPlace {
-            size: ElementSize::InlineComposite,
-            ..self.place()
-        };
-        StructBuilder::of(self.message, Some(element_place(list, index as u32)))
+        self.struct_at(index)
     }
 
     /// Struct `index`; `None` if there is no such element, or after a refusal.
@@ -249,12 +289,7 @@ impl ListBuilder<'_, Structs> {
     #[inline]
     #[allow(clippy::should_implement_trait)] // each struct borrows the list
     pub fn next(&mut self) -> Option<StructBuilder<'_>> {
-        if self.next >= self.list.count {
-            return None;
-        }
-        let index = self.next;
-        self.next += 1;
-        Some(self.at(index as usize))
+        self.next_struct()
     }
 
     /// Calls `write` with a struct for each item: the first structs if there are fewer items, the

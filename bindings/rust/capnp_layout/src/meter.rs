@@ -5,6 +5,7 @@ use core::cell::Cell;
 use core::fmt;
 
 pub(crate) mod sealed {
+    /// What only this crate and generated code implement.
     pub trait Closed {}
 }
 
@@ -12,7 +13,7 @@ pub(crate) mod sealed {
 /// ([`Lazy`]).
 // Calls that a program makes for each field take the limiter and settle it themselves: rustc doesn't
 // inline a large closure, and then a pointer goes through memory.
-pub trait Meter: Copy + sealed::Closed {
+pub trait Meter: Copy + fmt::Debug + sealed::Closed {
     /// What may still be read.
     #[doc(hidden)]
     fn limiter(self) -> ReadLimiter;

@@ -1,0 +1,100 @@
+//! What code is made of that `capnpc-layout-rust` generates from a schema. Programs name the types
+//! by the crate's root.
+
+use crate::proved::capnp_readers::readers::{ListReader, PointerReader};
+use crate::segments::Arena;
+use core::str;
+
+pub use crate::meter::sealed::Closed;
+pub use crate::{
+    Element, ElementSize, Enum, Error, List, ListBuilder, Lists, Meter, Pointer, PointerBuilder,
+    Pointers, Reason, Sound, Struct, StructBuilder, StructSize, StructType, Structs, TypedBuilder,
+};
+pub use core::fmt;
+
+/// What a getter returns that follows a pointer.
+pub type Result<T> = core::result::Result<T, Error>;
+
+/// What elements are read from.
+pub type RawList<'a> = ListReader<'a, Arena<'a>>;
+
+/// Struct `index` of a list that has it.
+#[inline(always)]
+pub fn struct_at<'a, M: Meter>(list: &RawList<'a>, meter: M, index: u32) -> Struct<'a, M> {
+    Structs::read(list, meter, index)
+}
+
+/// The text, or that of these bytes if the pointer is null.
+#[inline]
+pub fn text_or<'a, M: Meter>(pointer: Pointer<'a, M>, default: &'a [u8]) -> Result<&'a str> {
+    if pointer.is_null() {
+        return str::from_utf8(default).map_err(|_| Reason::TextIsNotUtf8.into());
+    }
+    pointer.as_text()
+}
+
+/// The bytes of the text, or these bytes if the pointer is null.
+#[inline]
+pub fn text_bytes_or<'a, M: Meter>(pointer: Pointer<'a, M>, default: &'a [u8]) -> Result<&'a [u8]> {
+    if pointer.is_null() {
+        return Ok(default);
+    }
+    pointer.as_text_bytes()
+}
+
+/// The data, or these bytes if the pointer is null.
+#[inline]
+pub fn data_or<'a, M: Meter>(pointer: Pointer<'a, M>, default: &'a [u8]) -> Result<&'a [u8]> {
+    if pointer.is_null() {
+        return Ok(default);
+    }
+    pointer.as_data()
+}
+
+/// The struct, or that of these words if the pointer is null: a message of one segment.
+pub fn struct_or<'a, M: Meter, T: From<Struct<'a, M>>>(
+    pointer: Pointer<'a, M>,
+    words: &'a [u8],
+) -> Result<T> {
+    let meter = pointer.meter;
+    let raw = meter.charge(|lim| pointer.raw.get_struct(lim, Some(words)))?;
+    Ok(Struct { raw, meter }.into())
+}
+
+/// The list, or that of these words if the pointer is null: a message of one segment.
+pub fn list_or<'a, T: Element + ?Sized, M: Meter>(
+    pointer: Pointer<'a, M>,
+    words: &'a [u8],
+) -> Result<List<'a, T, M>> {
+    let meter = pointer.meter;
+    let raw = meter.charge(|lim| pointer.raw.get_list(lim, T::SIZE, Some(words)))?;
+    Ok(List::of(raw, meter))
+}
+
+/// A null pointer, for constants.
+pub fn null<'a>() -> Pointer<'a> {
+    Pointer {
+        raw: PointerReader::new_default(),
+        meter: Sound::NEW,
+    }
+}
+
+/// The text of a constant. Panics if the bytes aren't UTF-8, when the program is compiled.
+pub const fn text(bytes: &'static [u8]) -> &'static str {
+    match str::from_utf8(bytes) {
+        Ok(text) => text,
+        Err(_) => panic!("a text isn't UTF-8"),
+    }
+}
+
+/// What a getter returned, shown as the value or as its refusal.
+pub struct Shown<T>(pub Result<T>);
+
+impl<T: fmt::Debug> fmt::Debug for Shown<T> {
+    fn fmt(&self, f: &mut fmt::Formatter<'_>) -> fmt::Result {
+        match &self.0 {
+            Ok(value) => value.fmt(f),
+            Err(error) => write!(f, "<{}>", error.reason()),
+        }
+    }
+}
