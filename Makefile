@@ -3,7 +3,7 @@
 # `tools/generated.py` writes from the proved sources.
 #
 #     make                    the program capnp_canon, and the static library capnp_layout
-#     make all                both libraries, static and shared, and the programs capnp_canon and layout_tool
+#     make all                both libraries, static and shared, and the programs capnp_canon, layout_tool and capnpc_layout_rust
 #     make check              tests them: one message, the C tests, and, if python3 is there, all vectors
 #     make check-streams      runs the program over all streams, with python3; this takes minutes
 #     make install            installs them below PREFIX, with DESTDIR in front; LIBDIR and others can be set separately
@@ -85,7 +85,7 @@ $(BUILD)/capnp_canon_layer.o: PART_FLAGS = $(LAYER_FLAGS)
 
 program: $(BUILD)/capnp_canon layout
 
-all: program $(CANONICAL) $(LAYOUT) $(BUILD)/layout_tool
+all: program $(CANONICAL) $(LAYOUT) $(BUILD)/layout_tool $(BUILD)/capnpc_layout_rust
 
 layout: $(BUILD)/libcapnp_layout.a
 

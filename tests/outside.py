@@ -1,11 +1,12 @@
 #!/usr/bin/env python3
 """Runs the tests that aren't part of the gate: those of the quick start, of the library, of a release, of a clone, of the programs'
-pages and options, of the JavaScript package, of the printed Rust and the crate over it, of generated readers, of messages that are
+pages and options, of the JavaScript package, of the printed Rust and the crate over it, of generated code, of messages that are
 tested against schemas, of the viewer, and the comparison with C++ Cap'n Proto.
 
     outside.py [NAME..]
 
-NAMEs choose the parts: start, completion, shell, peer, js, rust, crate, typed, conforming, viewer, library, layout_c, clone, release;
+NAMEs choose the parts: start, completion, shell, peer, js, rust, crate, typed, typed_rust, conforming, viewer, library, layout_c,
+clone, release;
 by default all, which takes more than an hour. Some parts prove and build what isn't built yet; start, clone and release test the last commit.
 
 Prints the last line of each part, and the lines that say what the part itself skipped. If a part fails, also prints the end
@@ -29,6 +30,7 @@ PARTS = (
     ('rust', (sys.executable, '-B', 'tests/rust/run.py'), ('cargo', 'rustfmt')),
     ('crate', (sys.executable, '-B', 'tests/rust/layout_crate.py'), ('cargo',)),
     ('typed', (sys.executable, '-B', 'tests/typed/run.py'), ('rt', 'capnp')),
+    ('typed_rust', (sys.executable, '-B', 'tests/typed/rust.py'), ('cargo', 'rustfmt', 'capnp', 'make|crates/capnpc_layout_rust/out/capnpc_layout_rust')),
     ('conforming', (sys.executable, '-B', 'tests/typed/conforming.py'), ('cargo', 'capnp')),
     ('viewer', ('sh', 'tests/viewer/run.sh'), ('node', os.environ.get('CHROMIUM', 'chromium'))),
     ('library', ('sh', 'tests/library/run.sh'), ('rt',)),

@@ -248,7 +248,42 @@ def kinds_of_calls(node):
     return found
 
 
-class Generated:
+class Programs:
+    """Programs over the generated code of a schema: the file `file`, whose declarations are `schema`. The roots of messages are
+    structs of the schema in turn. `run` runs a program of a name for messages, and returns the lines that it prints."""
+
+    def decoded(self, frames):
+        """What `capnp decode` prints for each of these messages."""
+        texts = [None] * len(frames)
+        for i, root in enumerate(self.roots):
+            run = subprocess.run(['capnp', 'decode', self.schema.path, root], input=b''.join(frames[i::len(self.roots)]), stdout=subprocess.PIPE, check=True)
+            texts[i::len(self.roots)] = values(run.stdout.decode())
+        return texts
+
+    def canonical(self, frames):
+        """The canonical words of each message, by C++."""
+        def words(i):
+            root = self.roots[i % len(self.roots)]
+            return subprocess.run(['capnp', 'convert', 'binary:canonical', self.schema.path, root], input=frames[i], stdout=subprocess.PIPE, check=True).stdout
+
+        return messages.every(words, range(len(frames)))
+
+    def read(self, frames, whose, counts):
+        """Compares what the readers' program prints with what `capnp decode` prints. `whose` says who wrote the messages."""
+        ours = list(values('\n'.join(self.run('printer', frames))))
+        same, fields, difference = messages.compared(self.schema, self.roots, ours, self.decoded(frames))
+        counts.say(frames and not difference, f'{self.file}: {same} messages{whose} with {fields} fields' + (f', then {difference}' if difference else ''))
+
+    def copy(self, frames, counts):
+        """Compares messages with their copies, by readers and builders."""
+        copies = [bytes.fromhex(line) for line in self.run('copier', frames)]
+        whole = frames and len(copies) == len(frames)
+        counts.say(whole and self.decoded(copies) == self.decoded(frames), f'{self.file}: {len(copies)} copies are decoded as the messages')
+        same = sum(one == other for one, other in zip(self.canonical(copies), self.canonical(frames)))
+        counts.say(whole and same == len(frames), f'{self.file}: {same} copies have the canonical words of the messages')
+
+
+class Generated(Programs):
     """The generated readers and builders of a schema, in a repository of their own, and programs over them. The roots of messages
     are structs of the schema in turn."""
 
@@ -298,36 +333,6 @@ class Generated:
         if len(lines) != len(frames):
             print(run.stderr.decode(errors='replace')[-3000:])
         return lines
-
-    def decoded(self, frames):
-        """What `capnp decode` prints for each of these messages."""
-        texts = [None] * len(frames)
-        for i, root in enumerate(self.roots):
-            run = subprocess.run(['capnp', 'decode', self.schema.path, root], input=b''.join(frames[i::len(self.roots)]), stdout=subprocess.PIPE, check=True)
-            texts[i::len(self.roots)] = values(run.stdout.decode())
-        return texts
-
-    def canonical(self, frames):
-        """The canonical words of each message, by C++."""
-        def words(i):
-            root = self.roots[i % len(self.roots)]
-            return subprocess.run(['capnp', 'convert', 'binary:canonical', self.schema.path, root], input=frames[i], stdout=subprocess.PIPE, check=True).stdout
-
-        return messages.every(words, range(len(frames)))
-
-    def read(self, frames, whose, counts):
-        """Compares what the readers' program prints with what `capnp decode` prints. `whose` says who wrote the messages."""
-        ours = list(values('\n'.join(self.run('printer', frames))))
-        same, fields, difference = messages.compared(self.schema, self.roots, ours, self.decoded(frames))
-        counts.say(frames and not difference, f'{self.file}: {same} messages{whose} with {fields} fields' + (f', then {difference}' if difference else ''))
-
-    def copy(self, frames, counts):
-        """Compares messages with their copies, by readers and builders."""
-        copies = [bytes.fromhex(line) for line in self.run('copier', frames)]
-        whole = frames and len(copies) == len(frames)
-        counts.say(whole and self.decoded(copies) == self.decoded(frames), f'{self.file}: {len(copies)} copies are decoded as the messages')
-        same = sum(one == other for one, other in zip(self.canonical(copies), self.canonical(frames)))
-        counts.say(whole and same == len(frames), f'{self.file}: {same} copies have the canonical words of the messages')
 
 
 def calls(made, crate, of, prefixes, what):
@@ -474,4 +479,5 @@ def main():
     return 1 if counts.failed or not counts.passed else 0
 
 
-sys.exit(main())
+if __name__ == '__main__':
+    sys.exit(main())

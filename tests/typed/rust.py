@@ -1,0 +1,229 @@
+#!/usr/bin/env python3
+"""Tests `capnpc-layout-rust`, and what it generates.
+
+    rust.py [--generator PROGRAM] [--schemas N] [--structs S] [--messages M] [--write] [PART..]
+
+The parts, by default all of them:
+
+- `ours`: for `addressbook.capnp` and `fields.capnp` the generator writes the files of `rust/src`, byte for byte; and they are
+  as rustfmt writes them. With `--write` it writes these files.
+- `package`: the package `rust` is built without a warning of rustc and clippy, and its tests pass.
+- `fields`: a program over the code for `fields.capnp` prints M random messages (by default 300), made by `capnp encode`, as
+  `capnp decode` prints them, lazily and after a check. It copies them field by field: `capnp decode` prints the copies as it
+  prints the messages, and C++ makes the same canonical words of both.
+- `random`: like `fields`, for N random schemas (by default 3) of S structs (by default 20). Each struct in turn is the root of a
+  message.
+- `versions`: the code of an old version of a random schema, without the last fields of its structs, and that of the new one
+  print messages of each other.
+- `bugs`: a program over the code of `fields.capnp` with a planted bug, one of each kind, isn't compiled, or prints or copies
+  something else.
+- `odd`: schemas with odd names and declarations are compiled without a warning.
+
+The generator is by default `capnpc-layout-rust` at the top. The last line is `N passed, M failed`."""
+import argparse
+import os
+import pathlib
+import subprocess
+import sys
+import tempfile
+
+import messages
+import rust_program
+import run
+from schema import Schema
+
+HERE = pathlib.Path(__file__).resolve().parent
+LAYOUT = run.TOP / 'bindings/rust/capnp_layout'
+SCHEMAS = 'addressbook', 'fields'
+PARTS = 'ours', 'package', 'fields', 'random', 'versions', 'bugs', 'odd'
+MANIFEST = f'''[package]
+name = "made"
+version = "0.0.0"
+edition = "2021"
+
+[dependencies]
+capnp_layout = {{ path = "{LAYOUT}" }}
+
+[workspace]
+'''
+# The planted bugs: what is wrong, what is before it, a part of the code, and what takes the place of that.
+BUGS = (
+    ('offset', 'fn id(', 'self.0.get(5)', 'self.0.get(6)'),
+    ('offset', 'fn set_id(', 'self.0.set(5, value)', 'self.0.set(6, value)'),
+    ('bit', 'fn flag(', 'self.0.get_bool(0)', 'self.0.get_bool(1)'),
+    ('bit', 'fn set_flag(', 'self.0.set_bool(0, value)', 'self.0.set_bool(1, value)'),
+    ('sense', 'fn flag_set(', '!self.0', 'self.0'),
+    ('default', 'fn short(', '-300', '-301'),
+    ('default', 'fn set_port(', '8080', '8081'),
+    ('default', 'fn ratio(', 'from_bits(1069547520)', 'from_bits(1069547521)'),
+    ('default', 'fn background(', '1u16', '2u16'),
+    ('default', 'fn greeting(', 'b"hello"', 'b"hallo"'),
+    ('default', 'fn named(', ' 98, ', ' 97, '),
+    ('index', 'fn name(', 'get_text(0)', 'get_text(1)'),
+    ('index', 'fn set_blob(', 'set_data(2, value)', 'set_data(3, value)'),
+    ('index', 'fn inner(', 'get_struct(4)', 'get_struct(5)'),
+    ('index', 'fn init_names(', 'init_list(15, count)', 'init_list(16, count)'),
+    ('index', 'fn has_names(', 'has(15)', 'has(16)'),
+    ('size', 'pub const SIZE', 'data_words: ', 'data_words: 0 * '),
+    ('sections', 'In the scope of `Inner`', 'pointers: 2', 'pointers: 1'),
+    ('element', 'fn shorts(', 'i16', 'u16'),
+    ('tag', 'fn set_radius(', 'self.0.set(27, 1u16)', 'self.0.set(27, 2u16)'),
+    ('tag offset', 'fn which(', 'self.0.get::<u16>(', 'self.0.get::<u16>(1 + '),
+    ('arm', 'fn which(', '            1 => ', '            7 => '),
+    ('variant', 'enum Colour', '0 => Self::Red,\n            1 => Self::Green', '1 => Self::Red,\n            0 => Self::Green'),
+    ('number', 'for u16 {', 'Colour::Red => 0,\n            Colour::Green => 1', 'Colour::Red => 1,\n            Colour::Green => 0'),
+    ('cleared', 'fn init_side(', 'self.0.set', 'self.0.set(0, 1u8);\n            self.0.set'),
+)
+
+
+def generate(generator, path, folder):
+    """Writes the code for a schema into a folder, and returns the names of its files' modules and what the generator says."""
+    ran = subprocess.run(['capnp', 'compile', f'--src-prefix={pathlib.Path(path).parent}', f'-o{generator}:{folder}', path], stderr=subprocess.PIPE, encoding='utf-8')
+    if ran.returncode:
+        sys.exit(f'rust.py: {path}: {ran.stderr}')
+    return sorted(it.stem for it in pathlib.Path(folder).glob('*_capnp.rs')), ran.stderr
+
+
+def cargo(words, folder, target):
+    """Runs cargo without a registry; whether it succeeded, and what it said."""
+    env = {**os.environ, 'CARGO_TARGET_DIR': str(target), 'RUSTFLAGS': '-Dwarnings'}
+    ran = subprocess.run(['cargo', *words, '--offline', '--quiet', '-j2'], cwd=folder, env=env, stdin=subprocess.DEVNULL, stdout=subprocess.PIPE, stderr=subprocess.STDOUT, encoding='utf-8', errors='replace')
+    return ran.returncode == 0, ran.stdout
+
+
+class Generated(run.Programs):
+    """A program over the generated code of a schema, in a package of its own. If it is quiet, it doesn't print why it failed."""
+    is_quiet = False
+
+    def __init__(self, generator, folder, target, text, stem, roots=None):
+        (folder / 'src').mkdir(parents=True)
+        path = folder / f'{stem}.capnp'
+        path.write_text(text, encoding='utf-8')
+        self.folder, self.target, self.file, self.stem = folder, target, path.name, stem
+        self.schema = Schema(str(path))
+        self.roots = roots or self.schema.structs()
+        (module,), _ = generate(generator, str(path), folder / 'src')
+        (folder / 'Cargo.toml').write_text(MANIFEST.replace('"made"', f'"{stem}"'), encoding='utf-8')
+        (folder / 'src/main.rs').write_text(rust_program.program(self.schema, module, self.roots), encoding='utf-8')
+
+    def build(self, counts):
+        built, said = cargo(['build'], self.folder, self.target)
+        counts.say(built, f'{self.file}: the code for {len(self.schema.structs())} structs is compiled without a warning' if built else said[-3000:])
+        return built
+
+    def run(self, program, frames):
+        ran = subprocess.run([self.target / 'debug' / self.stem, {'printer': 'print', 'copier': 'copy'}[program]], input=b''.join(frames), stdout=subprocess.PIPE, stderr=subprocess.PIPE)
+        if ran.returncode and not self.is_quiet:
+            print(ran.stderr.decode(errors='replace')[-3000:])
+        return ran.stdout.decode(errors='replace').splitlines()
+
+    def test(self, count, seed, counts):
+        if self.build(counts):
+            frames = messages.frames(self.schema, self.roots, count, seed)
+            self.read(frames, '', counts)
+            self.copy(frames, counts)
+
+
+def ours(options, room, counts):
+    for stem in SCHEMAS:
+        folder = room / f'ours_{stem}'
+        folder.mkdir()
+        (module,), _ = generate(options.generator, str(HERE / f'{stem}.capnp'), folder)
+        made, kept = folder / f'{module}.rs', HERE / f'rust/src/{module}.rs'
+        if options.write:
+            kept.write_bytes(made.read_bytes())
+        counts.say(kept.is_file() and made.read_bytes() == kept.read_bytes(), f'{stem}.capnp: the file is tests/typed/rust/src/{kept.name}')
+        ran = subprocess.run(['rustfmt', '--edition', '2021', '--check', made], stdout=subprocess.PIPE, encoding='utf-8')
+        counts.say(ran.returncode == 0, f'{stem}.capnp: the file is as rustfmt writes it' if ran.returncode == 0 else ran.stdout[:2000])
+
+
+def package(options, room, counts):
+    for words, what in ((['clippy', '--all-targets'], 'no warning of rustc or clippy'), (['test'], 'the tests pass')):
+        passed, said = cargo(words, HERE / 'rust', room / 'target')
+        counts.say(passed, f'package: {what}' if passed else said[-3000:])
+
+
+def fields(options, room, counts):
+    text = (HERE / 'fields.capnp').read_text(encoding='utf-8')
+    Generated(options.generator, room / 'fields', room / 'target', text, 'fields', ['Root']).test(options.messages, 7, counts)
+
+
+def random(options, room, counts):
+    for seed in range(options.schemas):
+        text = messages.RandomSchema(100 + seed, options.structs, 12).text
+        Generated(options.generator, room / f'random{seed}', room / 'target', text, f'random{seed}').test(options.messages, seed, counts)
+
+
+def versions(options, room, counts):
+    made = messages.RandomSchema(200, options.structs, 12)
+    roots = made.structs
+    old, new = (Generated(options.generator, room / name, room / 'target', text, name, roots) for name, text in (('old', made.old), ('new', made.text)))
+    if old.build(counts) and new.build(counts):
+        for reader, writer in (old, new), (new, old):
+            reader.read(messages.frames(writer.schema, roots, options.messages, 9), f' of {writer.file}', counts)
+
+
+class Silent(run.Counts):
+    """Counts, and says nothing."""
+
+    def say(self, holds, what):
+        self.passed, self.failed = self.passed + bool(holds), self.failed + (not holds)
+
+
+def bugs(options, room, counts):
+    text = (HERE / 'fields.capnp').read_text(encoding='utf-8')
+    made = Generated(options.generator, room / 'bugs', room / 'target', text, 'bugs', ['Root'])
+    made.is_quiet, path = True, made.folder / 'src/bugs_capnp.rs'
+    whole = path.read_text(encoding='utf-8')
+    frames = messages.frames(made.schema, ['Root'], min(options.messages, 100), 8)
+    found = 0
+    for what, call, old, new in BUGS:
+        at = whole.find(old, max(whole.find(call), 0))
+        if call not in whole or at < 0:
+            counts.say(False, f'bugs: {call} has no {old}')
+            continue
+        path.write_text(whole[:at] + new + whole[at + len(old):], encoding='utf-8')
+        silent = Silent()
+        if made.build(silent):
+            made.read(frames, '', silent)
+            made.copy(frames, silent)
+        found += silent.failed > 0
+        if not silent.failed:
+            counts.say(False, f'bugs: {what} of {call} is not found')
+    counts.say(found == len(BUGS), f'bugs: {found} of {len(BUGS)} planted bugs are found')
+
+
+def odd(options, room, counts):
+    folder = room / 'odd/src'
+    folder.mkdir(parents=True)
+    said = ''
+    for path in sorted((HERE / 'odd').glob('*.capnp')):
+        said += generate(options.generator, str(path), folder)[1]
+    modules = sorted(it.stem for it in folder.glob('*_capnp.rs'))
+    (folder / 'main.rs').write_text(''.join(f'mod {it};\n' for it in modules) + '\nfn main() {}\n', encoding='utf-8')
+    (folder.parent / 'Cargo.toml').write_text(MANIFEST, encoding='utf-8')
+    passed, text = cargo(['clippy'], folder.parent, room / 'target')
+    counts.say(passed, f'odd: the code for {len(modules)} schemas is compiled without a warning of rustc or clippy' if passed else text[-3000:])
+    wanted = (HERE / 'odd/skipped.txt').read_text(encoding='utf-8')
+    counts.say(said == wanted, 'odd: standard error names what is not written' if said == wanted else f'odd: standard error is {said}')
+
+
+def main():
+    parser = argparse.ArgumentParser(description=__doc__, formatter_class=argparse.RawDescriptionHelpFormatter)
+    parser.add_argument('--generator', default=str(run.TOP / 'capnpc-layout-rust'))
+    parser.add_argument('--schemas', type=int, default=3)
+    parser.add_argument('--structs', type=int, default=20)
+    parser.add_argument('--messages', type=int, default=300)
+    parser.add_argument('--write', action='store_true')
+    parser.add_argument('parts', nargs='*', choices=[[], *PARTS], metavar='PART')
+    options = parser.parse_args()
+    counts = run.Counts()
+    with tempfile.TemporaryDirectory(prefix='typed-rust-') as room:
+        for name in options.parts or PARTS:
+            globals()[name](options, pathlib.Path(room), counts)
+    print(f'{counts.passed} passed, {counts.failed} failed')
+    return 1 if counts.failed or not counts.passed else 0
+
+
+if __name__ == '__main__':
+    sys.exit(main())
