@@ -1,7 +1,7 @@
 -- The walk succeeds exactly if the value can be read and conforms; then it leaves what reading the
 -- value leaves.
-use Rattle.std.proofs.Common.{◌≡◌, ◌⊎◌, inl, inr, ℕ, zero, suc, pred, ◌+◌, ◌<◌, ◌≤◌, Option, Some, None, Result, Ok, Err, true, false, Bool, nat_eq, List, [], length, refl, sym, ap, ◌∙◌, subst, arith, add-zero, eq-eqb}
-use Rattle.std.proofs.lemmas.Bool.{false≢true, ne_eqb}
+use Rattle.std.proofs.Common.{◌≡◌, ◌⊎◌, inl, inr, ℕ, zero, suc, pred, ◌+◌, ◌<◌, ◌≤◌, Option, Some, None, Result, Ok, Err, true, false, nat_eq, List, [], length, refl, sym, ap, ◌∙◌, subst, arith, add-zero, eq-eqb}
+use Rattle.std.proofs.lemmas.Bool.{ne_eqb}
 use Rattle.capnp_words.specs.declared.error.ErrorKind.{ErrorKind}
 use Rattle.capnp_words.specs.Meter.{Meter}
 use Rattle.capnp_format.specs.Word.{kind, data_words, pointer_count, element_size, list_count, offset_bits, upper_half}

@@ -1,23 +1,27 @@
 -- The walk, a step at a time: what it makes of an object that the program has read, of consecutive
 -- pointers and of elements.
-use Rattle.std.proofs.Common.{◌≡◌, ℕ, zero, suc, pred, ◌+◌, ◌*◌, ◌<◌, ◌≤◌, List, length, Some, None, Ok, Err, refl, ap, ap₂, ◌∙◌, arith}
+use Rattle.std.proofs.Common.{◌≡◌, ℕ, zero, suc, pred, ◌+◌, ◌*◌, ◌<◌, ◌≤◌, List, length, Some, None, Ok, Err, refl, sym, subst, ap, ap₂, ◌∙◌, arith}
 use Rattle.capnp_words.specs.declared.error.ErrorKind.{ErrorKind}
 use Rattle.capnp_words.specs.Meter.{Meter}
+use Rattle.capnp_format.specs.Numbers.{words_for}
 use Rattle.capnp_format.specs.Segments.{segment}
+use Rattle.capnp_format.specs.Word.{kind, element_size, list_count}
 use Rattle.capnp_objects.specs.declared.object.Object.{Object}
 use Rattle.capnp_objects.specs.declared.object.Object.TheVariants.{Null as ObjectNull, Capability as ObjectCapability, Struct as ObjectStruct, Flat as ObjectFlat, Pointers as ObjectPointers, Structs as ObjectStructs}
 use Rattle.capnp_objects.specs.declared.object.Purpose.TheVariants.{Value}
 use Rattle.capnp_words.specs.declared.wire_pointer.StructSize.{StructSize}
 use Rattle.capnp_objects.specs.declared.object.Place.{Place}
-use Rattle.capnp_objects.specs.Enter.{Shape, nothing, object_shape, read}
+use Rattle.capnp_objects.specs.Enter.{Shape, flat, nothing, object_shape, read}
 use Rattle.capnp_objects.specs.Entering.{IsObjectHeld}
-use Rattle.capnp_objects.specs.Metered.{Metered, onward}
-use Rattle.capnp_objects.specs.Objects.{IsObject}
+use Rattle.capnp_objects.specs.Metered.{onward}
+use Rattle.capnp_objects.specs.Objects.{EntersNear, IsObject, near_at}
+use Rattle.capnp_objects.specs.Sizes.{IsWordAt}
 use Rattle.capnp_objects.specs.Reading.{Reading, place_past, segment_read, word_of, words_from}
 use Rattle.capnp_objects.specs.Refusals.{NotRead}
 use Rattle.capnp_objects.proofs.Checks.{pointers_room, struct_room}
-use Rattle.capnp_objects.proofs.Parts.{claim_list}
-use Rattle.capnp_objects.proofs.Computed.{null_is, object_is, stopped_is}
+use Rattle.capnp_objects.proofs.Measured.{near_flat}
+use Rattle.capnp_objects.proofs.Parts.{claim_flat, claim_list}
+use Rattle.capnp_objects.proofs.Computed.{entering_is, null_is, object_is, stopped_is}
 use Rattle.capnp_objects.proofs.Walked.{beginning}
 use Rattle.typed_conforming.specs.declared.conforms.ObjectElements.{ObjectElements}
 use Rattle.typed_conforming.specs.declared.schema.Kind.{Kind}
@@ -160,3 +164,31 @@ inside r m m' rows (ObjectPointers start i) o (a, d, q, n) = rw (a, d, q, n) (le
 inside r m m' rows ObjectNull o has = absurd has
 inside r m m' rows (ObjectCapability i) o has = absurd has
 inside r m m' rows (ObjectFlat start size i) o has = absurd has
+
+-- A list of bits or numbers in the pointer's own segment.
+near_read : {w : ℕ} {r : Reading} {m m' : Meter} {p : ℕ} → IsWordAt w r → kind w ≡ 1 → element_size w ≤ 5 → EntersNear Value r m m' p → read Value r m ≡ (Ok (flat r.segment p (element_size w) (list_count w)), m')
+near_read {w} {r} {m} {m'} {p} word is_list small o =
+    entering_is Value r m m' (near_at r p) o
+    ∙ ap (λ x. (Ok x, m')) (near_flat r p (subst (λ x. kind x ≡ 1) word.there is_list) (subst (λ x. element_size x ≤ 5) word.there small))
+    ∙ ap (λ x. (Ok (flat r.segment p (element_size x) (list_count x)), m')) (sym word.there)
+
+pub flat_unfit : {w : ℕ} {r : Reading} {m m' : Meter} {p : ℕ} (T : List StructRow) (k : Kind) (e : ErrorKind) (size n : ℕ) → IsWordAt w r → kind w ≡ 1 → element_size w ≤ 5 → EntersNear Value r m m' p → size ≡ element_size w → n ≡ list_count w → kind_misfit k r.segments (flat r.segment p size n) ≡ Some e →
+    check_place T k r m ≡ (Err e, m')
+flat_unfit {w} {r} {m} {m'} {p} T k e size n word is_list small o wide many misses =
+    unfit T k r m m' (flat r.segment p (element_size w) (list_count w)) e (near_read word is_list small o) (rw (wide, many) at misses)
+
+pub flat_ends : {w : ℕ} {r : Reading} {m m' : Meter} {p : ℕ} (T : List StructRow) (k : Kind) (size n : ℕ) → IsWordAt w r → kind w ≡ 1 → element_size w ≤ 5 → EntersNear Value r m m' p → size ≡ element_size w → n ≡ list_count w → kind_misfit k r.segments (flat r.segment p size n) ≡ None →
+    check_place T k r m ≡ (Ok tt, m')
+flat_ends {w} {r} {m} {m'} {p} T k size n word is_list small o wide many suits =
+    leaf T k r m m' (flat r.segment p (element_size w) (list_count w)) (λ f ps s m. refl) (near_read word is_list small o) (rw (wide, many) at suits)
+
+-- The bytes of such a list are there.
+pub flat_at_hand : {w : ℕ} {r : Reading} {m m' : Meter} {p : ℕ} (bytes : List ℕ) (size n : ℕ) → IsWordAt w r → kind w ≡ 1 → element_size w ≤ 5 → EntersNear Value r m m' p → size ≡ element_size w → n ≡ list_count w → length bytes ≡ 8 * length (segment r.segments r.segment) →
+    (size ≤ 5) × (0 < size → 8 * (p + words_for size n) ≤ length bytes)
+flat_at_hand {w} {r} {m} {m'} {p} bytes size n word is_list small o wide many long =
+    let claims = o.meets.claims in
+    let list = subst (λ x. kind x ≡ 1) word.there is_list in
+    let same : element_size w ≡ element_size (word_of r) = ap element_size word.there in
+    let few : list_count w ≡ list_count (word_of r) = ap list_count word.there in
+    let room : p + words_for (element_size (word_of r)) (list_count (word_of r)) ≤ length (segment r.segments r.segment) = omega (arith, claims, claim_list (word_of r) (element_size (word_of r)) list refl, claim_flat (element_size (word_of r)) (list_count (word_of r)) (subst (λ x. element_size x ≤ 5) word.there small)) in
+    rw (wide, many, same, few) (omega (arith, small, same), λ some. omega (arith, room, long))

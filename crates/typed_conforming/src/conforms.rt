@@ -1,5 +1,5 @@
 //! The walk that tests whether a value conforms to a schema.
-ghost use Rattle.std.specs.Prelude.{◌≡◌, ◌↔◌, ◌<◌, ◌≤◌, ◌+◌, ◌*◌, length, take, drop, ℕ, IsOk, OnOk, MatchOption};
+ghost use Rattle.std.specs.Prelude.{◌≡◌, ◌↔◌, ◌<◌, ◌≤◌, ◌+◌, ◌*◌, length, take, drop, List, ℕ, IsOk, OnOk, MatchOption};
 ghost use Rattle.capnp_format.specs.Numbers.{words_for};
 ghost use Rattle.capnp_words.specs.Sizes.{size_number};
 ghost use Rattle.capnp_objects.specs.Expected.{narrow_elements, narrow_structs};
@@ -8,6 +8,9 @@ ghost use Rattle.typed_conforming.specs.declared.conforms.ObjectElements.{Object
 ghost use Rattle.capnp_format.specs.Bytes.{words_of};
 ghost use Rattle.capnp_format.specs.Fields.{field_in};
 ghost use Rattle.capnp_format.specs.Tree.{Tree};
+ghost use Rattle.capnp_format.specs.Word.{kind, element_size};
+ghost use Rattle.capnp_objects.specs.Sizes.{IsWordAt};
+ghost use Rattle.typed_conforming.specs.declared.schema.StructRow.{StructRow};
 ghost use Rattle.capnp_words.specs.Meter.{Affords};
 ghost use Rattle.capnp_objects.specs.Outcomes.{MeansThere};
 ghost use Rattle.capnp_objects.specs.Spending.{Paid, pointers_in};
@@ -25,11 +28,14 @@ ghost use Rattle.typed_conforming.specs.Walk.{check_elements, check_place, check
 use crate::schema::{Kind, Member, PointerField, PointerRow, StructRow};
 use capnp_arena_traits::arena::ReaderArena;
 use capnp_objects::nesting::one_level_less;
-use capnp_objects::object::{Object, Place};
+use capnp_objects::object::{Object, Place, PointerWord};
 use capnp_objects::pointers::Pointer;
 use capnp_words::error::ErrorKind;
 use capnp_words::read_limiter::ReadLimiter;
-use capnp_words::wire_pointer::{ElementSize, StructSize, data_bits_per_element};
+use capnp_words::wire_pointer::{
+    ElementSize, StructSize, WirePointer, WirePointerKind, data_bits_per_element,
+    is_primitive_list, words_for_elements,
+};
 use capnp_words::words::word_at;
 
 // The 16 bits from `bit` on of the `count` data words at `data`; zero if they are outside.
@@ -154,6 +160,7 @@ fn ends_in_zero(start: Place, count: u32) -> bool
 }
 
 // The refusal for an object that isn't a text, if it isn't.
+#[inline(always)]
 fn text_error(object: Object) -> Option<ErrorKind>
     requires { IsAtHand object }
     ensures { (S : Segments) → IsObjectHeld S object.entry
@@ -180,6 +187,7 @@ fn text_error(object: Object) -> Option<ErrorKind>
 }
 
 // The refusal for an object that isn't data, if it isn't.
+#[inline(always)]
 fn data_error(object: Object) -> Option<ErrorKind>
     ensures { result ≡ data_misfit (object_shape object.entry) }
 {
@@ -197,6 +205,7 @@ fn data_error(object: Object) -> Option<ErrorKind>
 }
 
 // The refusal for an object that isn't a list with elements of at least this size, if it isn't.
+#[inline(always)]
 fn list_error(size: ElementSize, object: Object) -> Option<ErrorKind>
     requires { IsAtHand object }
     ensures { result ≡ list_misfit size (object_shape object.entry) }
@@ -211,30 +220,35 @@ fn list_error(size: ElementSize, object: Object) -> Option<ErrorKind>
 }
 
 // The refusal for an object that isn't what a pointer of this kind may lead to, if it isn't.
+#[inline(always)]
 fn misfit_error(kind: Kind, object: Object) -> Option<ErrorKind>
     requires { IsAtHand object }
     ensures { (S : Segments) → IsObjectHeld S object.entry
         → result ≡ kind_misfit kind S (object_shape object.entry) }
 {
-    match (kind, object) {
-        (Kind::Any, _)
-        | (_, Object::Null)
-        | (Kind::Capability, Object::Capability(_))
-        | (Kind::Struct(_), Object::Struct { .. })
-        | (Kind::AnyList, Object::Flat { .. } | Object::Pointers { .. } | Object::Structs { .. }) =>
-            None,
-        (Kind::Capability, _) => {
-            Some(ErrorKind::MessageContainsNonCapabilityPointerWhereCapabilityPointerWasExpected)
-        }
-        (Kind::Struct(_), _) => {
-            Some(ErrorKind::MessageContainsNonStructPointerWhereStructPointerWasExpected)
-        }
-        (Kind::AnyList, _) => {
-            Some(ErrorKind::MessageContainsNonListPointerWhereListPointerWasExpected)
-        }
-        (Kind::Text, _) => text_error(object),
-        (Kind::Data, _) => data_error(object),
-        (Kind::List(size, _), _) => list_error(size, object),
+    match kind {
+        Kind::Any => None,
+        Kind::Text => text_error(object),
+        Kind::Data => data_error(object),
+        Kind::List(size, _) => list_error(size, object),
+        Kind::Capability => match object {
+            Object::Null | Object::Capability(_) => None,
+            _ => {
+                Some(
+                    ErrorKind::MessageContainsNonCapabilityPointerWhereCapabilityPointerWasExpected,
+                )
+            }
+        },
+        Kind::Struct(_) => match object {
+            Object::Null | Object::Struct { .. } => None,
+            _ => { Some(ErrorKind::MessageContainsNonStructPointerWhereStructPointerWasExpected) }
+        },
+        Kind::AnyList => match object {
+            Object::Capability(_) | Object::Struct { .. } => {
+                Some(ErrorKind::MessageContainsNonListPointerWhereListPointerWasExpected)
+            }
+            _ => None,
+        },
     }
 }
 
@@ -279,8 +293,46 @@ fn elements_of(object: Object) -> Option<ObjectElements>
     }
 }
 
-// Tests what the pointer at `at` leads to.
+// Tests the list of bits or numbers that the word at `at` describes.
+#[inline(always)]
+fn check_primitive_list<A: ReaderArena>(
+    wanted: Kind,
+    from: &Pointer<'_, A>,
+    at: u32,
+    word: WirePointer,
+    lim: &mut ReadLimiter,
+) -> Result<(), ErrorKind>
+    requires word { IsWordAt word.0
+        (reading_on A.ReaderArena from.now at from.now.nesting_limit) }
+    requires is_list { kind word.0 ≡ 1 }
+    requires of_bits { (0 < element_size word.0) × (element_size word.0 ≤ 5) }
+    ensures { (T : List StructRow) → check_place T wanted
+        (reading_on A.ReaderArena from.now at from.now.nesting_limit) lim.old
+        ≡ (result, lim.new) }
+{
+    let pointer = PointerWord {
+        place: Place { at, ..from.place },
+        word,
+        nesting_limit: from.nesting_limit,
+    };
+    let size = word.list_element_size();
+    let count = word.list_element_count();
+    let words = words_for_elements(size, count);
+    let at = match from.source.read_near_primitive_list(pointer, words, lim) {
+        Ok(at) => at,
+        Err(error) => return Err(error),
+    };
+    let start = Place { at, ..from.place };
+    match misfit_error(wanted, Object::Flat { start, size, count }) {
+        Some(error) => Err(error),
+        None => Ok(()),
+    }
+}
+
+// Tests what the pointer at `at` leads to. A list of bits or numbers in the same segment, such as a
+// text, is tested in place.
 #[cycle(conforming)]
+#[inline(always)]
 fn check_pointer<'s, A: ReaderArena>(
     schema: &'s [StructRow<'s>],
     kind: Kind,
@@ -292,10 +344,34 @@ fn check_pointer<'s, A: ReaderArena>(
         (reading_on A.ReaderArena from.now at from.now.nesting_limit) lim.old
         ≡ (result, lim.new) }
 {
-    let place = Place { at, ..from.place };
-    if place.word().is_null() {
+    let word = Place { at, ..from.place }.word();
+    if word.is_null() {
         return Ok(());
     }
+    match word.kind() {
+        WirePointerKind::List if is_primitive_list(word) => {
+            check_primitive_list(kind, from, at, word, lim)
+        }
+        _ => check_object(schema, kind, from, at, lim),
+    }
+}
+
+// Tests what the pointer at `at` leads to, near or far, and of any kind. Apart from the loop over
+// pointers, so that most pointers need no call.
+#[cycle(conforming)]
+#[inline(never)]
+fn check_object<'s, A: ReaderArena>(
+    schema: &'s [StructRow<'s>],
+    kind: Kind,
+    from: &Pointer<'_, A>,
+    at: u32,
+    lim: &mut ReadLimiter,
+) -> Result<(), ErrorKind>
+    ensures { check_place schema.now kind
+        (reading_on A.ReaderArena from.now at from.now.nesting_limit) lim.old
+        ≡ (result, lim.new) }
+{
+    let place = Place { at, ..from.place };
     let object = match from.source.read_object(place, from.nesting_limit, lim) {
         Ok(object) => object,
         Err(kind) => return Err(kind),

@@ -1,4 +1,4 @@
-use Rattle.std.proofs.Common.{Err, take, drop, ◌≡◌, ℕ, suc, ◌+◌, ◌*◌, ◌-◌, get_or, refl, ap, ap₂, sym, ◌∙◌, arith, rules}
+use Rattle.std.proofs.Common.{take, drop, ◌≡◌, ℕ, suc, ◌+◌, ◌*◌, ◌-◌, get_or, refl, ap, ap₂, sym, ◌∙◌, arith, rules}
 use Rattle.std.proofs.lemmas.Int.{to_z-of_z}
 use mir.Syntax.{w32}
 use Rattle.capnp_objects.specs.declared.object.Purpose.TheVariants.{Value}
@@ -15,39 +15,39 @@ use Rattle.typed_conforming.proofs.conforms.+conforming.Goals as goal
 pub check_pointer-returns-then-is_null : goal.check_pointer-returns-then-is_null
 check_pointer-returns-then-is_null g t c =
     let r : Reading = reading_on g.A.ReaderArena c.args.from.now c.args.at c.args.from.now.nesting_limit in
-    let word : c.word.result.0 ≡ word_of r = c.word.ensures.value ∙ ap (λ ws. get_or ws c.args.at 0) c.args.from.now.held.0 in
+    let word : c.word-word.result.0 ≡ word_of r = c.word-word.ensures.value ∙ ap (λ ws. get_or ws c.args.at 0) c.args.from.now.held.0 in
     null_conforms c.args.schema.now c.args.kind r c.args.lim.now (sym word ∙ c.if-is_null.ensures.0 refl)
 
-pub check_pointer-returns-in-Err : goal.check_pointer-returns-in-Err
-check_pointer-returns-in-Err g t c =
+pub check_object-returns-in-Err : goal.check_object-returns-in-Err
+check_object-returns-in-Err g t c =
     let r : Reading = reading_on g.A.ReaderArena c.args.from.now c.args.at c.args.from.now.nesting_limit in
     let nl = to_z-of_z w32 c.args.from.now.nesting_limit (search rules) in
     not_read c.args.schema.now c.args.kind r _ _ _ (rw nl at c.in-Err.ensures.refused)
 
-pub check_pointer-returns-in-Some : goal.check_pointer-returns-in-Some
-check_pointer-returns-in-Some g t c =
+pub check_object-returns-in-Some : goal.check_object-returns-in-Some
+check_object-returns-in-Some g t c =
     let r : Reading = reading_on g.A.ReaderArena c.args.from.now c.args.at c.args.from.now.nesting_limit in
     let nl = to_z-of_z w32 c.args.from.now.nesting_limit (search rules) in
     let object : IsObject Value r c.args.lim.now c.read_object.new.lim c.in-Ok.object = rw nl at c.in-Ok.ensures.object in
     object_unfit c.args.schema.now c.args.kind r c.args.lim.now c.read_object.new.lim c.in-Ok.object c.in-Some.error object (sym (c.in-Some.ensures r.segments (held r _ _ c.in-Ok.object object)))
 
-pub check_pointer-returns-in_default : goal.check_pointer-returns-in_default
-check_pointer-returns-in_default g t c =
+pub check_object-returns-in_default : goal.check_object-returns-in_default
+check_object-returns-in_default g t c =
     let r : Reading = reading_on g.A.ReaderArena c.args.from.now c.args.at c.args.from.now.nesting_limit in
     let nl = to_z-of_z w32 c.args.from.now.nesting_limit (search rules) in
     let object : IsObject Value r c.args.lim.now c.read_object.new.lim c.in-Ok.object = rw nl at c.in-Ok.ensures.object in
     object_ends c.args.schema.now c.args.kind r c.args.lim.now c.read_object.new.lim c.in-Ok.object object (sym (c.in-None.ensures r.segments (held r _ _ c.in-Ok.object object))) c.in_default.ensures
 
-pub check_pointer-check_elements-requires : goal.check_pointer-check_elements-requires
-check_pointer-check_elements-requires g t c κs within =
+pub check_object-check_elements-requires : goal.check_object-check_elements-requires
+check_object-check_elements-requires g t c κs within =
     let r : Reading = reading_on g.A.ReaderArena c.args.from.now c.args.at c.args.from.now.nesting_limit in
     let nl = to_z-of_z w32 c.args.from.now.nesting_limit (search rules) in
     let object : IsObject Value r c.args.lim.now c.read_object.new.lim c.in-Ok.object = rw nl at c.in-Ok.ensures.object in
     let inner = inner_levels c.args.from.now.nesting_limit c.one_level_less.result (search rules) (record { sfits = c.one_level_less.type_inv }) c.one_level_less.ensures in
-    (falls_in 2 (search rules) inner (level r _ _ c.in-Some-elements_of.elements c.in-Ok.object object c.in-Some-elements_of.ensures) c.decreases, (within, inside r _ _ c.in-Some-elements_of.elements c.in-Ok.object object c.in-Some-elements_of.ensures))
+    (falls_in 3 (search rules) inner (level r _ _ c.in-Some-elements_of.elements c.in-Ok.object object c.in-Some-elements_of.ensures) c.decreases, (within, inside r _ _ c.in-Some-elements_of.elements c.in-Ok.object object c.in-Some-elements_of.ensures))
 
-pub check_pointer-returns : goal.check_pointer-returns
-check_pointer-returns g t c =
+pub check_object-returns : goal.check_object-returns
+check_object-returns g t c =
     let r : Reading = reading_on g.A.ReaderArena c.args.from.now c.args.at c.args.from.now.nesting_limit in
     let nl = to_z-of_z w32 c.args.from.now.nesting_limit (search rules) in
     let object : IsObject Value r c.args.lim.now c.read_object.new.lim c.in-Ok.object = rw nl at c.in-Ok.ensures.object in

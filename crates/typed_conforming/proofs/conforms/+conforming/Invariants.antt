@@ -5,14 +5,17 @@ use Rattle.capnp_objects.specs.Pointers.{reading, reading_on}
 use Rattle.typed_conforming.specs.Walk.{check_elements, check_pointers, check_within}
 use Rattle.typed_conforming.proofs.conforms.+conforming.Given as goal
 
+abbrev pub decreases-check_object : goal.decreases-check_object
+decreases-check_object g l = 6 * levels l.from.now.nesting_limit
+
 abbrev pub decreases-check_pointer : goal.decreases-check_pointer
-decreases-check_pointer g l = 6 * levels l.from.now.nesting_limit
+decreases-check_pointer g l = 6 * levels l.from.now.nesting_limit + 1
 
 abbrev pub decreases-check_pointers : goal.decreases-check_pointers
-decreases-check_pointers g l = 6 * levels l.from.now.nesting_limit + 1
+decreases-check_pointers g l = 6 * levels l.from.now.nesting_limit + 2
 
 abbrev pub decreases-check_elements : goal.decreases-check_elements
-decreases-check_elements g l = 6 * levels l.from.now.nesting_limit + 2
+decreases-check_elements g l = 6 * levels l.from.now.nesting_limit + 3
 
 abbrev pub invariant-check_pointers-loop-i : goal.invariant-check_pointers-loop-i
 invariant-check_pointers-loop-i g l =

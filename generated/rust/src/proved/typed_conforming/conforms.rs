@@ -2,11 +2,14 @@
 
 use crate::proved::capnp_arena_traits::arena::ReaderArena;
 use crate::proved::capnp_objects::nesting::one_level_less;
-use crate::proved::capnp_objects::object::{Object, Place};
+use crate::proved::capnp_objects::object::{Object, Place, PointerWord};
 use crate::proved::capnp_objects::pointers::Pointer;
 use crate::proved::capnp_words::error::ErrorKind;
 use crate::proved::capnp_words::read_limiter::ReadLimiter;
-use crate::proved::capnp_words::wire_pointer::{data_bits_per_element, ElementSize, StructSize};
+use crate::proved::capnp_words::wire_pointer::{
+    data_bits_per_element, is_primitive_list, words_for_elements, ElementSize, StructSize,
+    WirePointer, WirePointerKind,
+};
 use crate::proved::capnp_words::words::word_at;
 use crate::proved::typed_conforming::schema::{Kind, Member, PointerField, PointerRow, StructRow};
 
@@ -150,7 +153,7 @@ fn ends_in_zero(start: Place, count: u32) -> bool {
 /// requires { IsAtHand object }
 /// ```
 // The refusal for an object that isn't a text, if it isn't.
-#[inline]
+#[inline(always)]
 fn text_error(object: Object) -> Option<ErrorKind> {
     match object {
         Object::Null => None,
@@ -173,7 +176,7 @@ fn text_error(object: Object) -> Option<ErrorKind> {
 }
 
 // The refusal for an object that isn't data, if it isn't.
-#[inline]
+#[inline(always)]
 fn data_error(object: Object) -> Option<ErrorKind> {
     match object {
         Object::Null
@@ -194,7 +197,7 @@ fn data_error(object: Object) -> Option<ErrorKind> {
 /// requires { IsAtHand object }
 /// ```
 // The refusal for an object that isn't a list with elements of at least this size, if it isn't.
-#[inline]
+#[inline(always)]
 fn list_error(size: ElementSize, object: Object) -> Option<ErrorKind> {
     match object {
         Object::Null => None,
@@ -211,28 +214,29 @@ fn list_error(size: ElementSize, object: Object) -> Option<ErrorKind> {
 /// requires { IsAtHand object }
 /// ```
 // The refusal for an object that isn't what a pointer of this kind may lead to, if it isn't.
-#[inline]
+#[inline(always)]
 fn misfit_error(kind: Kind, object: Object) -> Option<ErrorKind> {
-    match (kind, object) {
-        (Kind::Any, _)
-        | (_, Object::Null)
-        | (Kind::Capability, Object::Capability(_))
-        | (Kind::Struct(_), Object::Struct { .. })
-        | (Kind::AnyList, Object::Flat { .. } | Object::Pointers { .. } | Object::Structs { .. }) => {
-            None
-        }
-        (Kind::Capability, _) => {
-            Some(ErrorKind::MessageContainsNonCapabilityPointerWhereCapabilityPointerWasExpected)
-        }
-        (Kind::Struct(_), _) => {
-            Some(ErrorKind::MessageContainsNonStructPointerWhereStructPointerWasExpected)
-        }
-        (Kind::AnyList, _) => {
-            Some(ErrorKind::MessageContainsNonListPointerWhereListPointerWasExpected)
-        }
-        (Kind::Text, _) => text_error(object),
-        (Kind::Data, _) => data_error(object),
-        (Kind::List(size, _), _) => list_error(size, object),
+    match kind {
+        Kind::Any => None,
+        Kind::Text => text_error(object),
+        Kind::Data => data_error(object),
+        Kind::List(size, _) => list_error(size, object),
+        Kind::Capability => match object {
+            Object::Null | Object::Capability(_) => None,
+            _ => Some(
+                ErrorKind::MessageContainsNonCapabilityPointerWhereCapabilityPointerWasExpected,
+            ),
+        },
+        Kind::Struct(_) => match object {
+            Object::Null | Object::Struct { .. } => None,
+            _ => Some(ErrorKind::MessageContainsNonStructPointerWhereStructPointerWasExpected),
+        },
+        Kind::AnyList => match object {
+            Object::Capability(_) | Object::Struct { .. } => {
+                Some(ErrorKind::MessageContainsNonListPointerWhereListPointerWasExpected)
+            }
+            _ => None,
+        },
     }
 }
 
@@ -275,7 +279,45 @@ fn elements_of(object: Object) -> Option<ObjectElements> {
     }
 }
 
-// Tests what the pointer at `at` leads to.
+/// # Preconditions
+///
+/// ```text
+/// requires word { IsWordAt word.0
+///     (reading_on A.ReaderArena from.now at from.now.nesting_limit) }
+/// requires is_list { kind word.0 ≡ 1 }
+/// requires of_bits { (0 < element_size word.0) × (element_size word.0 ≤ 5) }
+/// ```
+// Tests the list of bits or numbers that the word at `at` describes.
+#[inline(always)]
+fn check_primitive_list<A: ReaderArena>(
+    wanted: Kind,
+    from: &Pointer<'_, A>,
+    at: u32,
+    word: WirePointer,
+    lim: &mut ReadLimiter,
+) -> Result<(), ErrorKind> {
+    let pointer = PointerWord {
+        place: Place { at, ..from.place },
+        word,
+        nesting_limit: from.nesting_limit,
+    };
+    let size = word.list_element_size();
+    let count = word.list_element_count();
+    let words = words_for_elements(size, count);
+    let at = match from.source.read_near_primitive_list(pointer, words, lim) {
+        Ok(at) => at,
+        Err(error) => return Err(error),
+    };
+    let start = Place { at, ..from.place };
+    match misfit_error(wanted, Object::Flat { start, size, count }) {
+        Some(error) => Err(error),
+        None => Ok(()),
+    }
+}
+
+// Tests what the pointer at `at` leads to. A list of bits or numbers in the same segment, such as a
+// text, is tested in place.
+#[inline(always)]
 fn check_pointer<'s, A: ReaderArena>(
     schema: &'s [StructRow<'s>],
     kind: Kind,
@@ -283,10 +325,29 @@ fn check_pointer<'s, A: ReaderArena>(
     at: u32,
     lim: &mut ReadLimiter,
 ) -> Result<(), ErrorKind> {
-    let place = Place { at, ..from.place };
-    if place.word().is_null() {
+    let word = Place { at, ..from.place }.word();
+    if word.is_null() {
         return Ok(());
     }
+    match word.kind() {
+        WirePointerKind::List if is_primitive_list(word) => {
+            check_primitive_list(kind, from, at, word, lim)
+        }
+        _ => check_object(schema, kind, from, at, lim),
+    }
+}
+
+// Tests what the pointer at `at` leads to, near or far, and of any kind. Apart from the loop over
+// pointers, so that most pointers need no call.
+#[inline(never)]
+fn check_object<'s, A: ReaderArena>(
+    schema: &'s [StructRow<'s>],
+    kind: Kind,
+    from: &Pointer<'_, A>,
+    at: u32,
+    lim: &mut ReadLimiter,
+) -> Result<(), ErrorKind> {
+    let place = Place { at, ..from.place };
     let object = match from.source.read_object(place, from.nesting_limit, lim) {
         Ok(object) => object,
         Err(kind) => return Err(kind),

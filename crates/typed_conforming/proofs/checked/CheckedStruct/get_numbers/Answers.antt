@@ -1,4 +1,4 @@
-use Rattle.std.proofs.Common.{ap, sym, arith, inl, inr, refl, ◌∙◌}
+use Rattle.std.proofs.Common.{ap, inl, inr}
 use Rattle.capnp_objects.specs.Reading.{source_start}
 use Rattle.capnp_readers.specs.Values.{child_cost, struct_data}
 use Rattle.typed_reading.specs.Values.{child}
