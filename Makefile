@@ -144,7 +144,7 @@ endef
 install: program $(CANONICAL) install-layout
 	$(call installed,capnp_canonical,$(CMAKEDIR),$(DOCDIR))
 	$(INSTALL) -d $(DESTDIR)$(BINDIR) $(DESTDIR)$(MANDIR)/man1 $(DESTDIR)$(BASHDIR) $(DESTDIR)$(ZSHDIR)
-	$(INSTALL) -m 644 $(wildcard bindings/cpp/*.hpp) $(DESTDIR)$(INCLUDEDIR)
+	$(INSTALL) -m 644 bindings/c/capnp_canonical_limits.h $(wildcard bindings/cpp/*.hpp) $(DESTDIR)$(INCLUDEDIR)
 	$(INSTALL) -m 755 $(BUILD)/capnp_canon $(DESTDIR)$(BINDIR)
 	$(INSTALL) -m 644 share/capnp_canon.1 $(DESTDIR)$(MANDIR)/man1
 	$(INSTALL) -m 644 share/capnp_canon.bash $(DESTDIR)$(BASHDIR)/capnp_canon

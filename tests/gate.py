@@ -121,6 +121,7 @@ def main():
         counted('prose', [sys.executable, str(TOP / 'tests/prose.py')]),
         counted('pages', [sys.executable, str(TOP / 'tools/theorem.py'), '--check']),
         counted('header', [sys.executable, str(TOP / 'tests/library/header.py')]),
+        counted('interface', [sys.executable, '-B', str(TOP / 'tests/library/interface.py')]),
         counted('generated', [sys.executable, str(TOP / 'tools/generated.py'), '--sums']),
         counted('printer', [sys.executable, str(TOP / 'tests/rust/texts.py')]),
         counted('preconditions', [sys.executable, '-B', str(TOP / 'tests/rust/preconditions.py')]),

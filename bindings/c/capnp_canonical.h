@@ -47,6 +47,40 @@
 /* Functions defined in this header, not in the library. */
 #define CAPNP_CANONICAL_INLINE static inline
 
+/* What the library's functions are declared with. A static library needs nothing. For a shared one or a DLL, define
+ * CAPNP_CANONICAL_SHARED where it is used, and CAPNP_CANONICAL_BUILDS_SHARED where it is compiled: its functions are then visible
+ * with -fvisibility=hidden too, and exported from a DLL. Define CAPNP_CANONICAL_API yourself for anything else. */
+#ifndef CAPNP_CANONICAL_API
+#if defined(_WIN32) && defined(CAPNP_CANONICAL_BUILDS_SHARED)
+#define CAPNP_CANONICAL_API __declspec(dllexport)
+#elif defined(_WIN32) && defined(CAPNP_CANONICAL_SHARED)
+#define CAPNP_CANONICAL_API __declspec(dllimport)
+#elif defined(__GNUC__) && (defined(CAPNP_CANONICAL_SHARED) || defined(CAPNP_CANONICAL_BUILDS_SHARED))
+#define CAPNP_CANONICAL_API __attribute__((visibility("default")))
+#else
+#define CAPNP_CANONICAL_API
+#endif
+#endif
+
+/* What compilers warn of: an answer that isn't looked at; null for a pointer that may not be null, by the number of the
+ * argument; and with gcc, bytes that are fewer than their number says, by the numbers of both arguments. */
+#ifdef __GNUC__
+#define CAPNP_CANONICAL_CHECKED __attribute__((warn_unused_result))
+#define CAPNP_CANONICAL_NEEDS(...) __attribute__((nonnull(__VA_ARGS__)))
+#define CAPNP_CANONICAL_DEPRECATED(text) __attribute__((deprecated(text)))
+#else
+#define CAPNP_CANONICAL_CHECKED
+#define CAPNP_CANONICAL_NEEDS(...)
+#define CAPNP_CANONICAL_DEPRECATED(text)
+#endif
+#if defined(__GNUC__) && !defined(__clang__) && __GNUC__ >= 10
+#define CAPNP_CANONICAL_READS(at, size) __attribute__((access(read_only, at, size)))
+#define CAPNP_CANONICAL_WRITES(at, size) __attribute__((access(write_only, at, size)))
+#else
+#define CAPNP_CANONICAL_READS(at, size)
+#define CAPNP_CANONICAL_WRITES(at, size)
+#endif
+
 #ifdef __cplusplus
 extern "C" {
 #endif
@@ -114,6 +148,27 @@ enum capnp_canonical_answer {
     CAPNP_CANONICAL_READ_LIMIT_EXCEEDED = 62,
     /* A pointer is of an unknown kind. */
     CAPNP_CANONICAL_UNKNOWN_POINTER_TYPE = 66
+};
+
+/* What sort of refusal an answer is, for programs that treat several alike: see capnp_canonical_class_of. */
+enum capnp_canonical_class {
+    /* Not refused: CAPNP_CANONICAL_DONE. */
+    CAPNP_CANONICAL_CLASS_NONE = 0,
+    /* The bytes end too early, or aren't a message: whole words are missing, or a pointer is broken. */
+    CAPNP_CANONICAL_CLASS_MALFORMED = 1,
+    /* The message is over a limit: one of the caller's, or the number of segments or words that the format or a frame
+     * may have. */
+    CAPNP_CANONICAL_CLASS_LIMIT = 2,
+    /* The value has a capability. */
+    CAPNP_CANONICAL_CLASS_CAPABILITY = 3,
+    /* The caller's buffer is too small. */
+    CAPNP_CANONICAL_CLASS_ROOM = 4,
+    /* Memory ran out. */
+    CAPNP_CANONICAL_CLASS_MEMORY = 5,
+    /* The path leads nowhere. */
+    CAPNP_CANONICAL_CLASS_PATH = 6,
+    /* A refusal that this header doesn't know, of a newer library. */
+    CAPNP_CANONICAL_CLASS_OTHER = 7
 };
 
 /* Why a message isn't canonical. Each comment has the reason, and after the colon the word that the fault names. */
@@ -264,33 +319,39 @@ struct capnp_canonical_segment {
  * and 0 to ask for the size. 16 bytes, plus 8 for each word that capnp_canonical_size gives, are always enough. After
  * any other refusal `*written` is 0. Bytes of `to` after those written stay as they are, and after a refusal all of
  * them do. */
+CAPNP_CANONICAL_API CAPNP_CANONICAL_CHECKED CAPNP_CANONICAL_NEEDS(7) CAPNP_CANONICAL_READS(1, 2) CAPNP_CANONICAL_WRITES(5, 6)
 uint32_t capnp_canonical_copy(const uint8_t *frame, size_t frame_size, int32_t nesting, uint64_t words, uint8_t *to, size_t room, size_t *written);
 
 /* The same, but writes raw words, without the segment table: the bytes to hash or sign. 8 bytes, plus 8 for each word
  * that capnp_canonical_size gives, are always enough. */
+CAPNP_CANONICAL_API CAPNP_CANONICAL_CHECKED CAPNP_CANONICAL_NEEDS(7) CAPNP_CANONICAL_READS(1, 2) CAPNP_CANONICAL_WRITES(5, 6)
 uint32_t capnp_canonical_copy_flat(const uint8_t *frame, size_t frame_size, int32_t nesting, uint64_t words, uint8_t *to, size_t room, size_t *written);
 
 /* Writes the SHA-256 of the canonical words of the message at `frame` to the 32 bytes at `digest`: the hash of the bytes
  * that capnp_canonical_copy_flat writes. It names the value: messages with equal values have the same. It needs no room
  * for the copy. The refusals are those of capnp_canonical_copy_flat, except that there is always room. After a refusal
  * the 32 bytes are 0. */
+CAPNP_CANONICAL_API CAPNP_CANONICAL_CHECKED CAPNP_CANONICAL_NEEDS(5) CAPNP_CANONICAL_READS(1, 2)
 uint32_t capnp_canonical_digest(const uint8_t *frame, size_t frame_size, int32_t nesting, uint64_t words, uint8_t digest[32]);
 
 /* Tests whether the message of the frame at the front of `frame_size` bytes is canonical: one segment, which holds the
  * canonical words of a value and nothing else. Writes the answer to `*is_canonical`. If it is true, the value is also
  * within both limits. If it is false, `*fault` says why and where. If it is true, or the call is refused, the numbers of
  * `*fault` are 0. After a refusal `*is_canonical` is false. */
+CAPNP_CANONICAL_API CAPNP_CANONICAL_CHECKED CAPNP_CANONICAL_NEEDS(5, 6) CAPNP_CANONICAL_READS(1, 2)
 uint32_t capnp_canonical_check(const uint8_t *frame, size_t frame_size, int32_t nesting, uint64_t words, bool *is_canonical, struct capnp_canonical_fault *fault);
 
 /* Counts the words and capabilities that the root of the message leads to, without the root pointer and landing pads,
  * and writes them to `*word_count` and `*cap_count`. The frame is at the front of `frame_size` bytes. After a refusal
  * both are 0. */
+CAPNP_CANONICAL_API CAPNP_CANONICAL_CHECKED CAPNP_CANONICAL_NEEDS(5, 6) CAPNP_CANONICAL_READS(1, 2)
 uint32_t capnp_canonical_size(const uint8_t *frame, size_t frame_size, int32_t nesting, uint64_t words, uint64_t *word_count, uint32_t *cap_count);
 
 /* Tests whether the message is sound: whether its root means a value within both limits. The value may have capabilities.
  * Exactly then the answer is CAPNP_CANONICAL_DONE, and `*extent` tells how deep the value is, how much it holds, and what
  * reading it costs. Otherwise the answer is the first fault that reading the value meets, and `*extent` is all 0. The
  * frame is at the front of `frame_size` bytes. Takes no memory, and doesn't read the data of structs and lists. */
+CAPNP_CANONICAL_API CAPNP_CANONICAL_CHECKED CAPNP_CANONICAL_NEEDS(5) CAPNP_CANONICAL_READS(1, 2)
 uint32_t capnp_canonical_validate(const uint8_t *frame, size_t frame_size, int32_t nesting, uint64_t words, struct capnp_canonical_extent *extent);
 
 /* Finds the pointer at which the message is broken, after another call has refused it: the first pointer, in the order of
@@ -305,6 +366,7 @@ uint32_t capnp_canonical_validate(const uint8_t *frame, size_t frame_size, int32
  * or of segments that aren't whole words, which this call returns too, with the numbers of `*pointer` 0;
  * CAPNP_CANONICAL_NO_ROOM, _ALLOCATION_FAILED and _MESSAGE_TOO_LARGE. It looks at the whole message, so don't call it for
  * the calls that take a path. */
+CAPNP_CANONICAL_API CAPNP_CANONICAL_CHECKED CAPNP_CANONICAL_NEEDS(6) CAPNP_CANONICAL_READS(1, 2)
 uint32_t capnp_canonical_locate(const uint8_t *frame, size_t frame_size, int32_t nesting, uint64_t words, uint32_t reading, struct capnp_canonical_pointer *pointer);
 
 /* Lists the objects of the message: writes one entry to the array at `objects`, which has room for `room` of them, for each
@@ -318,6 +380,7 @@ uint32_t capnp_canonical_locate(const uint8_t *frame, size_t frame_size, int32_t
  * 0 to ask for the number. A message that isn't sound is refused as capnp_canonical_validate refuses it. The objects before
  * the broken pointer, in the order of the list, are still written and counted; capnp_canonical_locate finds that pointer.
  * `*count` is 0 if there is no such frame. Entries after those that are written stay as they are. */
+CAPNP_CANONICAL_API CAPNP_CANONICAL_CHECKED CAPNP_CANONICAL_NEEDS(7) CAPNP_CANONICAL_READS(1, 2) CAPNP_CANONICAL_WRITES(5, 6)
 uint32_t capnp_canonical_walk(const uint8_t *frame, size_t frame_size, int32_t nesting, uint64_t words, struct capnp_canonical_object *objects, size_t room, size_t *count);
 
 /* copy_flat, digest and size for a part of the message: for the value at the end of a path. If
@@ -334,14 +397,18 @@ uint32_t capnp_canonical_walk(const uint8_t *frame, size_t frame_size, int32_t n
  * Reading the path and the part has the limits of the other calls. The rest of the message isn't read, so it needn't be
  * sound. The words of the part are those that the other calls give for a message with this value at its root. 8 bytes,
  * plus 8 for each word that capnp_canonical_size_at gives, are always enough for them. */
+CAPNP_CANONICAL_API CAPNP_CANONICAL_CHECKED CAPNP_CANONICAL_NEEDS(9) CAPNP_CANONICAL_READS(1, 2) CAPNP_CANONICAL_READS(3, 4) CAPNP_CANONICAL_WRITES(7, 8)
 uint32_t capnp_canonical_copy_flat_at(const uint8_t *frame, size_t frame_size, const uint32_t *path, size_t steps, int32_t nesting, uint64_t words, uint8_t *to, size_t room, size_t *written);
 
+CAPNP_CANONICAL_API CAPNP_CANONICAL_CHECKED CAPNP_CANONICAL_NEEDS(7) CAPNP_CANONICAL_READS(1, 2) CAPNP_CANONICAL_READS(3, 4)
 uint32_t capnp_canonical_digest_at(const uint8_t *frame, size_t frame_size, const uint32_t *path, size_t steps, int32_t nesting, uint64_t words, uint8_t digest[32]);
 
+CAPNP_CANONICAL_API CAPNP_CANONICAL_CHECKED CAPNP_CANONICAL_NEEDS(7, 8) CAPNP_CANONICAL_READS(1, 2) CAPNP_CANONICAL_READS(3, 4)
 uint32_t capnp_canonical_size_at(const uint8_t *frame, size_t frame_size, const uint32_t *path, size_t steps, int32_t nesting, uint64_t words, uint64_t *word_count, uint32_t *cap_count);
 
 /* Writes to `*bytes` the size of the frame at the front of `size` bytes; the next frame of a stream starts after it.
  * Reads only the segment table, not the message. After a refusal `*bytes` is 0. */
+CAPNP_CANONICAL_API CAPNP_CANONICAL_CHECKED CAPNP_CANONICAL_NEEDS(4) CAPNP_CANONICAL_READS(1, 2)
 uint32_t capnp_canonical_frame_size(const uint8_t *frame, size_t size, uint64_t words, size_t *bytes);
 
 /* Writes to `*bytes` how many bytes of a stream to have, from the start of a frame on, before capnp_canonical_frame_size
@@ -350,55 +417,77 @@ uint32_t capnp_canonical_frame_size(const uint8_t *frame, size_t size, uint64_t 
  * are there, and ask again. No byte after the frame is ever requested. Refuses the frame if they tell that it has too many
  * segments, or more than `words` words; `*bytes` is then 0. Eight bytes can announce a frame of many words, so make room
  * for what has arrived, not for what is announced. */
+CAPNP_CANONICAL_API CAPNP_CANONICAL_CHECKED CAPNP_CANONICAL_NEEDS(4) CAPNP_CANONICAL_READS(1, 2)
 uint32_t capnp_canonical_frame_size_from_prefix(const uint8_t *prefix, size_t size, uint64_t words, size_t *bytes);
 
 /* copy, copy_flat, digest, check, size, validate, locate and walk, and the three calls for a part, for a message of
  * `count` segments. There may be more segments than a frame can have. If there are none there is no root, and the call is
  * refused with CAPNP_CANONICAL_INVALID_SEGMENT_ID. */
+CAPNP_CANONICAL_API CAPNP_CANONICAL_CHECKED CAPNP_CANONICAL_NEEDS(7) CAPNP_CANONICAL_READS(1, 2) CAPNP_CANONICAL_WRITES(5, 6)
 uint32_t capnp_canonical_segments_copy(const struct capnp_canonical_segment *segments, size_t count, int32_t nesting, uint64_t words, uint8_t *to, size_t room, size_t *written);
 
+CAPNP_CANONICAL_API CAPNP_CANONICAL_CHECKED CAPNP_CANONICAL_NEEDS(7) CAPNP_CANONICAL_READS(1, 2) CAPNP_CANONICAL_WRITES(5, 6)
 uint32_t capnp_canonical_segments_copy_flat(const struct capnp_canonical_segment *segments, size_t count, int32_t nesting, uint64_t words, uint8_t *to, size_t room, size_t *written);
 
+CAPNP_CANONICAL_API CAPNP_CANONICAL_CHECKED CAPNP_CANONICAL_NEEDS(5) CAPNP_CANONICAL_READS(1, 2)
 uint32_t capnp_canonical_segments_digest(const struct capnp_canonical_segment *segments, size_t count, int32_t nesting, uint64_t words, uint8_t digest[32]);
 
+CAPNP_CANONICAL_API CAPNP_CANONICAL_CHECKED CAPNP_CANONICAL_NEEDS(5, 6) CAPNP_CANONICAL_READS(1, 2)
 uint32_t capnp_canonical_segments_check(const struct capnp_canonical_segment *segments, size_t count, int32_t nesting, uint64_t words, bool *is_canonical, struct capnp_canonical_fault *fault);
 
+CAPNP_CANONICAL_API CAPNP_CANONICAL_CHECKED CAPNP_CANONICAL_NEEDS(5, 6) CAPNP_CANONICAL_READS(1, 2)
 uint32_t capnp_canonical_segments_size(const struct capnp_canonical_segment *segments, size_t count, int32_t nesting, uint64_t words, uint64_t *word_count, uint32_t *cap_count);
 
+CAPNP_CANONICAL_API CAPNP_CANONICAL_CHECKED CAPNP_CANONICAL_NEEDS(5) CAPNP_CANONICAL_READS(1, 2)
 uint32_t capnp_canonical_segments_validate(const struct capnp_canonical_segment *segments, size_t count, int32_t nesting, uint64_t words, struct capnp_canonical_extent *extent);
 
+CAPNP_CANONICAL_API CAPNP_CANONICAL_CHECKED CAPNP_CANONICAL_NEEDS(6) CAPNP_CANONICAL_READS(1, 2)
 uint32_t capnp_canonical_segments_locate(const struct capnp_canonical_segment *segments, size_t count, int32_t nesting, uint64_t words, uint32_t reading, struct capnp_canonical_pointer *pointer);
 
+CAPNP_CANONICAL_API CAPNP_CANONICAL_CHECKED CAPNP_CANONICAL_NEEDS(7) CAPNP_CANONICAL_READS(1, 2) CAPNP_CANONICAL_WRITES(5, 6)
 uint32_t capnp_canonical_segments_walk(const struct capnp_canonical_segment *segments, size_t count, int32_t nesting, uint64_t words, struct capnp_canonical_object *objects, size_t room, size_t *found);
 
+CAPNP_CANONICAL_API CAPNP_CANONICAL_CHECKED CAPNP_CANONICAL_NEEDS(9) CAPNP_CANONICAL_READS(1, 2) CAPNP_CANONICAL_READS(3, 4) CAPNP_CANONICAL_WRITES(7, 8)
 uint32_t capnp_canonical_segments_copy_flat_at(const struct capnp_canonical_segment *segments, size_t count, const uint32_t *path, size_t steps, int32_t nesting, uint64_t words, uint8_t *to, size_t room, size_t *written);
 
+CAPNP_CANONICAL_API CAPNP_CANONICAL_CHECKED CAPNP_CANONICAL_NEEDS(7) CAPNP_CANONICAL_READS(1, 2) CAPNP_CANONICAL_READS(3, 4)
 uint32_t capnp_canonical_segments_digest_at(const struct capnp_canonical_segment *segments, size_t count, const uint32_t *path, size_t steps, int32_t nesting, uint64_t words, uint8_t digest[32]);
 
+CAPNP_CANONICAL_API CAPNP_CANONICAL_CHECKED CAPNP_CANONICAL_NEEDS(7, 8) CAPNP_CANONICAL_READS(1, 2) CAPNP_CANONICAL_READS(3, 4)
 uint32_t capnp_canonical_segments_size_at(const struct capnp_canonical_segment *segments, size_t count, const uint32_t *path, size_t steps, int32_t nesting, uint64_t words, uint64_t *word_count, uint32_t *cap_count);
 
 /* The same, for a message given as the raw words that copy_flat writes: all `size` bytes at `message` are its one
  * segment. The copy is raw words too. If you pass a frame here, its bytes are read as raw words and mean another
  * value. If `size` is 0, the message has no root, which is refused with
  * CAPNP_CANONICAL_MESSAGE_CONTAINS_OUT_OF_BOUNDS_POINTER. */
+CAPNP_CANONICAL_API CAPNP_CANONICAL_CHECKED CAPNP_CANONICAL_NEEDS(7) CAPNP_CANONICAL_READS(1, 2) CAPNP_CANONICAL_WRITES(5, 6)
 uint32_t capnp_canonical_words_copy(const uint8_t *message, size_t size, int32_t nesting, uint64_t words, uint8_t *to, size_t room, size_t *written);
 
+CAPNP_CANONICAL_API CAPNP_CANONICAL_CHECKED CAPNP_CANONICAL_NEEDS(5) CAPNP_CANONICAL_READS(1, 2)
 uint32_t capnp_canonical_words_digest(const uint8_t *message, size_t size, int32_t nesting, uint64_t words, uint8_t digest[32]);
 
+CAPNP_CANONICAL_API CAPNP_CANONICAL_CHECKED CAPNP_CANONICAL_NEEDS(5, 6) CAPNP_CANONICAL_READS(1, 2)
 uint32_t capnp_canonical_words_check(const uint8_t *message, size_t size, int32_t nesting, uint64_t words, bool *is_canonical, struct capnp_canonical_fault *fault);
 
+CAPNP_CANONICAL_API CAPNP_CANONICAL_CHECKED CAPNP_CANONICAL_NEEDS(5, 6) CAPNP_CANONICAL_READS(1, 2)
 uint32_t capnp_canonical_words_size(const uint8_t *message, size_t size, int32_t nesting, uint64_t words, uint64_t *word_count, uint32_t *cap_count);
 
+CAPNP_CANONICAL_API CAPNP_CANONICAL_CHECKED CAPNP_CANONICAL_NEEDS(5) CAPNP_CANONICAL_READS(1, 2)
 uint32_t capnp_canonical_words_validate(const uint8_t *message, size_t size, int32_t nesting, uint64_t words, struct capnp_canonical_extent *extent);
 
+CAPNP_CANONICAL_API CAPNP_CANONICAL_CHECKED CAPNP_CANONICAL_NEEDS(6) CAPNP_CANONICAL_READS(1, 2)
 uint32_t capnp_canonical_words_locate(const uint8_t *message, size_t size, int32_t nesting, uint64_t words, uint32_t reading, struct capnp_canonical_pointer *pointer);
 
+CAPNP_CANONICAL_API CAPNP_CANONICAL_CHECKED CAPNP_CANONICAL_NEEDS(7) CAPNP_CANONICAL_READS(1, 2) CAPNP_CANONICAL_WRITES(5, 6)
 uint32_t capnp_canonical_words_walk(const uint8_t *message, size_t size, int32_t nesting, uint64_t words, struct capnp_canonical_object *objects, size_t room, size_t *count);
 
+CAPNP_CANONICAL_API CAPNP_CANONICAL_CHECKED CAPNP_CANONICAL_NEEDS(9) CAPNP_CANONICAL_READS(1, 2) CAPNP_CANONICAL_READS(3, 4) CAPNP_CANONICAL_WRITES(7, 8)
 uint32_t capnp_canonical_words_copy_at(const uint8_t *message, size_t size, const uint32_t *path, size_t steps, int32_t nesting, uint64_t words, uint8_t *to, size_t room, size_t *written);
 
+CAPNP_CANONICAL_API CAPNP_CANONICAL_CHECKED CAPNP_CANONICAL_NEEDS(7) CAPNP_CANONICAL_READS(1, 2) CAPNP_CANONICAL_READS(3, 4)
 uint32_t capnp_canonical_words_digest_at(const uint8_t *message, size_t size, const uint32_t *path, size_t steps, int32_t nesting, uint64_t words, uint8_t digest[32]);
 
+CAPNP_CANONICAL_API CAPNP_CANONICAL_CHECKED CAPNP_CANONICAL_NEEDS(7, 8) CAPNP_CANONICAL_READS(1, 2) CAPNP_CANONICAL_READS(3, 4)
 uint32_t capnp_canonical_words_size_at(const uint8_t *message, size_t size, const uint32_t *path, size_t steps, int32_t nesting, uint64_t words, uint64_t *word_count, uint32_t *cap_count);
 
 /* Unpacks all `packed_size` packed bytes to the front of the `room` bytes at `to`, and writes to `*written` how many
@@ -414,6 +503,7 @@ uint32_t capnp_canonical_words_size_at(const uint8_t *message, size_t size, cons
  * Don't unpack in place: if the packed bytes overlap those at `to`, or if another thread changes them meanwhile, what is
  * written to `to` is of no use. Even then the call writes nothing outside of the `room` bytes, which is tested, not
  * proved. */
+CAPNP_CANONICAL_API CAPNP_CANONICAL_CHECKED CAPNP_CANONICAL_NEEDS(5) CAPNP_CANONICAL_READS(1, 2) CAPNP_CANONICAL_WRITES(3, 4)
 uint32_t capnp_canonical_unpack(const uint8_t *packed, size_t packed_size, uint8_t *to, size_t room, size_t *written);
 
 /* Unpacks the next bytes of a packed stream, which may be cut into pieces anywhere: goes on from where the last call with
@@ -426,22 +516,27 @@ uint32_t capnp_canonical_unpack(const uint8_t *packed, size_t packed_size, uint8
  * `*unpacking` then has the rest of the run, and the next call goes on with it.
  *
  * The packed bytes and those at `to` may not overlap. */
+CAPNP_CANONICAL_API CAPNP_CANONICAL_CHECKED CAPNP_CANONICAL_NEEDS(1, 6) CAPNP_CANONICAL_READS(2, 3) CAPNP_CANONICAL_WRITES(4, 5)
 size_t capnp_canonical_unpack_piece(struct capnp_canonical_unpacking *unpacking, const uint8_t *packed, size_t packed_size, uint8_t *to, size_t room, size_t *taken);
 
 /* Writes the name of a refusal, such as `Truncated`, and a terminating zero to the `room` bytes at `to`, like snprintf:
  * if the room is too small the name is cut, and the zero is still written unless `room` is 0. Returns the length of the
  * name in bytes, without the zero, or 0 if the number has no name. */
+CAPNP_CANONICAL_API CAPNP_CANONICAL_WRITES(2, 3)
 size_t capnp_canonical_name(uint32_t answer, char *to, size_t room);
 
 /* The same for the text of a reason, such as `a list whose padding isn't zero`. */
+CAPNP_CANONICAL_API CAPNP_CANONICAL_WRITES(2, 3)
 size_t capnp_canonical_reason_text(uint32_t reason, char *to, size_t room);
 
 /* The version of the linked library, in the form of CAPNP_CANONICAL_VERSION. If it is less than that, the library is older
  * than this header, and may lack calls; a program that uses those isn't linked with it, and isn't started with it either where
  * symbols have versions. */
+CAPNP_CANONICAL_API
 uint32_t capnp_canonical_version(void);
 
 /* The same as a text, in the form of CAPNP_CANONICAL_VERSION_TEXT, written like capnp_canonical_name does. */
+CAPNP_CANONICAL_API CAPNP_CANONICAL_WRITES(1, 2)
 size_t capnp_canonical_version_text(char *to, size_t room);
 
 /* The functions from here on are defined in this header. */
@@ -536,7 +631,8 @@ CAPNP_CANONICAL_INLINE const char *capnp_canonical_error_name(uint32_t answer) {
     }
 }
 
-/* The text of a refusal, such as `the bytes end inside a frame or a packed word`, as a constant. */
+/* The text of a refusal, such as `the bytes end inside a frame or a packed word`, as a constant. It is what strerror is
+ * for errno, but as this header has it: a newer library may return refusals whose names only capnp_canonical_name knows. */
 CAPNP_CANONICAL_INLINE const char *capnp_canonical_error_text(uint32_t answer) {
     switch (answer) {
     case CAPNP_CANONICAL_DONE: return "the call is done";
@@ -565,6 +661,35 @@ CAPNP_CANONICAL_INLINE const char *capnp_canonical_error_text(uint32_t answer) {
     }
 }
 
+/* The class of an answer: a number of enum capnp_canonical_class. */
+CAPNP_CANONICAL_INLINE uint32_t capnp_canonical_class_of(uint32_t answer) {
+    switch (answer) {
+    case CAPNP_CANONICAL_DONE: return CAPNP_CANONICAL_CLASS_NONE;
+    case CAPNP_CANONICAL_NO_ROOM: return CAPNP_CANONICAL_CLASS_ROOM;
+    case CAPNP_CANONICAL_NO_MESSAGE:
+    case CAPNP_CANONICAL_SEGMENT_IS_NOT_WHOLE_WORDS:
+    case CAPNP_CANONICAL_TRUNCATED:
+    case CAPNP_CANONICAL_CANT_HANDLE_NON_STRUCT_INLINE_COMPOSITE:
+    case CAPNP_CANONICAL_INLINE_COMPOSITE_LISTS_ELEMENTS_OVERRUN_ITS_WORD_COUNT:
+    case CAPNP_CANONICAL_INLINE_COMPOSITE_LISTS_OF_NON_STRUCT_TYPE_ARE_NOT_SUPPORTED:
+    case CAPNP_CANONICAL_INVALID_SEGMENT_ID:
+    case CAPNP_CANONICAL_MALFORMED_DOUBLE_FAR_POINTER:
+    case CAPNP_CANONICAL_MESSAGE_CONTAINS_OUT_OF_BOUNDS_POINTER:
+    case CAPNP_CANONICAL_UNKNOWN_POINTER_TYPE: return CAPNP_CANONICAL_CLASS_MALFORMED;
+    case CAPNP_CANONICAL_TOO_MANY_SEGMENTS:
+    case CAPNP_CANONICAL_MESSAGE_TOO_LONG:
+    case CAPNP_CANONICAL_MESSAGE_IS_TOO_DEEPLY_NESTED:
+    case CAPNP_CANONICAL_MESSAGE_IS_TOO_DEEPLY_NESTED_OR_CONTAINS_CYCLES:
+    case CAPNP_CANONICAL_MESSAGE_TOO_LARGE:
+    case CAPNP_CANONICAL_NESTING_LIMIT_EXCEEDED:
+    case CAPNP_CANONICAL_READ_LIMIT_EXCEEDED: return CAPNP_CANONICAL_CLASS_LIMIT;
+    case CAPNP_CANONICAL_CANNOT_CREATE_A_CANONICAL_MESSAGE_WITH_A_CAPABILITY: return CAPNP_CANONICAL_CLASS_CAPABILITY;
+    case CAPNP_CANONICAL_ALLOCATION_FAILED: return CAPNP_CANONICAL_CLASS_MEMORY;
+    case CAPNP_CANONICAL_NO_SUCH_PLACE: return CAPNP_CANONICAL_CLASS_PATH;
+    default: return CAPNP_CANONICAL_CLASS_OTHER;
+    }
+}
+
 /* What capnp_canonical_reason_text writes, as a constant. */
 CAPNP_CANONICAL_INLINE const char *capnp_canonical_fault_text(uint32_t reason) {
     switch (reason) {
@@ -586,13 +711,15 @@ CAPNP_CANONICAL_INLINE const char *capnp_canonical_fault_text(uint32_t reason) {
     }
 }
 
-/* The little-endian number in the 4 bytes at `bytes`, which must be there: only bytes that have a size may be null. */
-CAPNP_CANONICAL_INLINE uint32_t capnp_canonical_number_at(const uint8_t *bytes) {
+/* Functions named `private` are parts of the others: don't call them, because they may change.
+ *
+ * The little-endian number in the 4 bytes at `bytes`, which must be there: only bytes that have a size may be null. */
+CAPNP_CANONICAL_INLINE uint32_t capnp_canonical_private_number_at(const uint8_t *bytes) {
     return (uint32_t)bytes[0] | (uint32_t)bytes[1] << 8 | (uint32_t)bytes[2] << 16 | (uint32_t)bytes[3] << 24;
 }
 
 /* Whether packed bytes start with what may be the segment table of a frame. False if they end within its first word. */
-CAPNP_CANONICAL_INLINE bool capnp_canonical_looks_packed(const uint8_t *bytes, size_t size) {
+CAPNP_CANONICAL_INLINE bool capnp_canonical_private_looks_packed(const uint8_t *bytes, size_t size) {
     uint8_t word[8] = {0};
     size_t at = 1;
     if (size == 0) return false;
@@ -601,17 +728,33 @@ CAPNP_CANONICAL_INLINE bool capnp_canonical_looks_packed(const uint8_t *bytes, s
         if (at == size || bytes[at] == 0) return false;
         word[i] = bytes[at++];
     }
-    uint32_t segments = capnp_canonical_number_at(word) + 1, words = capnp_canonical_number_at(word + 4);
-    return 0 < segments && segments <= 512 && 0 < words && words < (1 << 29);
+    uint32_t segments = capnp_canonical_private_number_at(word) + 1, words = capnp_canonical_private_number_at(word + 4);
+    return 0 < segments && segments <= 512 && 0 < words && words < (UINT32_C(1) << 29);
 }
 
 /* Whether the first 64 bytes are text: no control characters but tabs and line ends. */
-CAPNP_CANONICAL_INLINE bool capnp_canonical_looks_text(const uint8_t *bytes, size_t size) {
+CAPNP_CANONICAL_INLINE bool capnp_canonical_private_looks_text(const uint8_t *bytes, size_t size) {
     for (size_t i = 0; i < size && i < 64; i++) {
         bool is_blank = bytes[i] == '\t' || bytes[i] == '\n' || bytes[i] == '\r';
         if ((bytes[i] < 32 && !is_blank) || bytes[i] == 127) return false;
     }
     return size >= 4;
+}
+
+/* The three functions above by their names of version 1.1.0. */
+CAPNP_CANONICAL_DEPRECATED("it is a part of capnp_canonical_looks_like")
+CAPNP_CANONICAL_INLINE uint32_t capnp_canonical_number_at(const uint8_t *bytes) {
+    return capnp_canonical_private_number_at(bytes);
+}
+
+CAPNP_CANONICAL_DEPRECATED("use capnp_canonical_looks_like")
+CAPNP_CANONICAL_INLINE bool capnp_canonical_looks_packed(const uint8_t *bytes, size_t size) {
+    return capnp_canonical_private_looks_packed(bytes, size);
+}
+
+CAPNP_CANONICAL_DEPRECATED("use capnp_canonical_looks_like")
+CAPNP_CANONICAL_INLINE bool capnp_canonical_looks_text(const uint8_t *bytes, size_t size) {
+    return capnp_canonical_private_looks_text(bytes, size);
 }
 
 /* What bytes look like that were refused as a frame, such as `gzip`. Null if they look like nothing else, or do start
@@ -620,13 +763,13 @@ CAPNP_CANONICAL_INLINE const char *capnp_canonical_looks_like(const uint8_t *byt
     size_t taken;
     if (size < 4 || capnp_canonical_frame_size(bytes, size, UINT64_MAX, &taken) == CAPNP_CANONICAL_DONE) return NULL;
     if (bytes[0] == 0x1f && bytes[1] == 0x8b) return "gzip";
-    if (capnp_canonical_number_at(bytes) == UINT32_C(0xfd2fb528)) return "zstd";
+    if (capnp_canonical_private_number_at(bytes) == UINT32_C(0xfd2fb528)) return "zstd";
     if (bytes[0] == 'B' && bytes[1] == 'Z' && bytes[2] == 'h') return "bzip2";
     if (bytes[0] == 0xfd && bytes[1] == '7' && bytes[2] == 'z' && bytes[3] == 'X') return "xz";
     if (bytes[0] == 'P' && bytes[1] == 'K' && bytes[2] == 3 && bytes[3] == 4) return "a zip archive";
-    if (capnp_canonical_looks_text(bytes, size)) return "text";
+    if (capnp_canonical_private_looks_text(bytes, size)) return "text";
     if (capnp_canonical_words_is_canonical(bytes, size, CAPNP_CANONICAL_NESTING, CAPNP_CANONICAL_WORDS)) return "raw canonical words";
-    if (capnp_canonical_looks_packed(bytes, size)) return "packed messages";
+    if (capnp_canonical_private_looks_packed(bytes, size)) return "packed messages";
     return NULL;
 }
 

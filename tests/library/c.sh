@@ -119,19 +119,69 @@ older() {
     grep -q "CAPNP_CANONICAL_1.1' not found" "$folder/written"
 }
 
+# Checks that the shared library has the same visible names if no list tells the linker, but the header the compiler.
+visible() {
+    "$CC" -std=c11 -O1 -w -fPIC -shared -fvisibility=hidden -DCAPNP_CANONICAL_BUILDS_SHARED -I"$top/bindings/c" -o "$folder/visible.so" "$top/generated/capnp_canonical.c" &&
+        nm -D --defined-only "$folder/visible.so" | awk '$2 == "T" { print $3 }' | sort | cmp - "$folder/declared"
+}
+
+# Checks that each of these programs of one statement is refused with a warning, and that the header alone gives none.
+#
+#     warned COMPILER..
+warned() {
+    for compiler; do
+        command -v "$compiler" >/dev/null || continue
+        told "$compiler" 'return (int)capnp_canonical_frame_size(bytes, size, 8, &size);' '' || return 1
+        told "$compiler" 'capnp_canonical_frame_size(bytes, size, 8, &size);' unused-result || return 1
+        told "$compiler" 'capnp_canonical_check_within(bytes, size, NULL, NULL, NULL);' unused-result || return 1
+        told "$compiler" 'return (int)capnp_canonical_frame_size(bytes, size, 8, NULL);' nonnull || return 1
+        told "$compiler" 'return (int)capnp_canonical_digest_within(bytes, size, NULL, NULL);' nonnull || return 1
+        told "$compiler" 'return capnp_canonical_looks_text(bytes, size);' deprecated || return 1
+    done
+    # only gcc knows how many bytes are read and written
+    "$CC" --version | grep -q clang && return
+    told "$CC" 'return (int)capnp_canonical_copy_flat((const uint8_t *)"12345678", 10, 64, 8, bytes, size, &size);' stringop-overread &&
+        told "$CC" 'uint8_t to[8]; return (int)capnp_canonical_copy_flat(bytes, size, 64, 8, to, 9, &size);' stringop-overflow
+}
+
+# Whether a compiler says this of a statement; nothing, if it is empty.
+told() {
+    printf '#include "capnp_canonical_limits.h"\nint use(uint8_t *bytes, size_t size) {\n    %s\n    return 0;\n}\n' "$2" >"$folder/told.c"
+    "$1" -std=c99 -Wall -Wextra -Wpedantic -Wconversion -Wsign-conversion -Wshadow -Wundef -O2 -I"$prefix/include" -c -o "$folder/told.o" "$folder/told.c" 2>"$folder/told"
+    if [ "$3" ]; then grep -q -e "-W.*$3" "$folder/told"; else [ ! -s "$folder/told" ]; fi && return
+    echo "$1, $2: $3" && cat "$folder/told"
+    return 1
+}
+
+# Checks that a header that isn't that of a released version any more is refused.
+interfaces() {
+    python3 -B "$here/interface.py" || return 1
+    for change in 's/REASON_PADDING = 8/REASON_PADDING = 15/' 's/_words_size(const uint8_t \*message, size_t size, int32_t nesting, uint64_t words/_words_size(const uint8_t *message, size_t size, uint64_t words, int32_t nesting/' \
+        's/uint64_t pointer_segment;/uint32_t pointer_segment;/' 's/define CAPNP_CANONICAL_TEXT_ROOM 96/define CAPNP_CANONICAL_TEXT_ROOM 97/' 's/ capnp_canonical_looks_text(/ capnp_canonical_seems_text(/'; do
+        sed "$change" "$top/bindings/c/capnp_canonical.h" >"$folder/changed.h"
+        if python3 -B "$here/interface.py" "$folder/changed.h" >"$folder/changed"; then echo "$change isn't seen" && return 1; fi
+        grep -q '^not as in version 1' "$folder/changed" || return 1
+    done
+}
+
 has "$CC" "all of it" && has pkg-config "all of it" || { echo "0 passed, 0 failed"; exit 0; }
-for library in capnp_canonical capnp_layout; do
+for library in capnp_layout capnp_canonical; do
     part "names, $library" names $library
     part "versions of names, $library" versions $library
 done
 part "capnp_layout, static" reading "$(pkg-config --variable=libdir capnp_layout)/libcapnp_layout.a"
 part "capnp_layout, shared" reading $(pkg-config --libs capnp_layout) -Wl,-rpath,"$prefix/lib"
+part "names where no list tells the linker" visible
+part "what compilers warn of" warned "$CC" clang
+if has python3 "names, numbers and layouts of earlier versions"; then part "names, numbers and layouts of earlier versions" interfaces; fi
 for which in static shared; do
     part "example, $which, built" build "example_$which" bindings/c/example.c "$which"
     has xxd "the examples' answers" && part "example, $which" example "example_$which"
     has xxd "the example's mistakes" && part "mistakes, $which" mistakes "example_$which"
     part "functions of the header, $which, built" build "inline_$which" tests/library/inline.c "$which"
     part "functions of the header, $which" "$folder/inline_$which" "$here/messages.txt"
+    part "limits in a struct, $which, built" build "limits_$which" tests/library/limits.c "$which"
+    part "limits in a struct, $which" "$folder/limits_$which" "$here/messages.txt"
     part "test, $which, built" build "test_$which" tests/library/test.c "$which"
     part "test, $which" "$folder/test_$which" "$here/messages.txt"
     part "packed bytes, $which, built" build "unpack_$which" tests/library/unpack.c "$which"
@@ -152,6 +202,8 @@ part "test with the address sanitizer, built" build sanitized tests/library/test
 part "test with the address sanitizer" "$folder/sanitized" "$here/messages.txt"
 part "functions of the header with the address sanitizer, built" build inline_sanitized tests/library/inline.c static -fsanitize=address,undefined -fno-sanitize-recover
 part "functions of the header with the address sanitizer" "$folder/inline_sanitized" "$here/messages.txt"
+part "limits in a struct with the address sanitizer, built" build limits_sanitized tests/library/limits.c static -fsanitize=address,undefined -fno-sanitize-recover
+part "limits in a struct with the address sanitizer" "$folder/limits_sanitized" "$here/messages.txt"
 part "packed bytes with the address sanitizer, built" build unpack_sanitized tests/library/unpack.c static -fsanitize=address,undefined -fno-sanitize-recover
 part "packed bytes with the address sanitizer" "$folder/unpack_sanitized" "$here/packed.txt"
 part "pieces of packed streams with the address sanitizer, built" build pieces_sanitized tests/library/pieces.c static -fsanitize=address,undefined -fno-sanitize-recover

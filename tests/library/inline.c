@@ -49,7 +49,7 @@ static void test_frame(const char *name, const char *check, const char *size, co
     unsigned long long words;
     unsigned caps;
     expect(capnp_canonical_is_canonical(frame, frame_size, NESTING, WORDS) == yes, name, "is_canonical");
-    if (frame_size < 16 || capnp_canonical_number_at(frame) || sscanf(size, "%llu,%u", &words, &caps) != 2) return;
+    if (frame_size < 16 || capnp_canonical_private_number_at(frame) || sscanf(size, "%llu,%u", &words, &caps) != 2) return;
     uint64_t word_count = 0;
     uint32_t cap_count = 0;
     struct capnp_canonical_segment segment = {frame + 8, frame_size - 8};
@@ -145,25 +145,25 @@ static void test_looks(void) {
 static void test_sizes(void) {
     static const uint8_t packed[] = {0x10, 2, 0x10, 1, 1, 0x2a}, numbers[] = {1, 2, 3, 4}, table[] = {0xff, 1, 2, 3, 4, 5, 6, 7, 8};
     const char *place = "bytes of each size";
-    expect(!capnp_canonical_looks_packed(NULL, 0) && !capnp_canonical_looks_text(NULL, 0) && !capnp_canonical_looks_like(NULL, 0), place, "null and 0");
+    expect(!capnp_canonical_private_looks_packed(NULL, 0) && !capnp_canonical_private_looks_text(NULL, 0) && !capnp_canonical_looks_like(NULL, 0), place, "null and 0");
     for (size_t size = 0; size <= sizeof packed; size++) {
         uint8_t *block = malloc(size ? size : 1), *bytes = block + !size;
         if (!block) abort();
         memcpy(bytes, packed, size);
-        expect(capnp_canonical_looks_packed(bytes, size) == (size >= 2), place, "packed");
+        expect(capnp_canonical_private_looks_packed(bytes, size) == (size >= 2), place, "packed");
         free(block);
     }
     for (size_t size = 0; size <= sizeof table; size++) {
         uint8_t *block = malloc(size ? size : 1), *bytes = block + !size;
         if (!block) abort();
         memcpy(bytes, table, size);
-        expect(!capnp_canonical_looks_packed(bytes, size), place, "a table that is cut, or of too many segments");
+        expect(!capnp_canonical_private_looks_packed(bytes, size), place, "a table that is cut, or of too many segments");
         free(block);
     }
     uint8_t *four = malloc(sizeof numbers);
     if (!four) abort();
     memcpy(four, numbers, sizeof numbers);
-    expect(capnp_canonical_number_at(four) == UINT32_C(0x04030201), place, "a number takes four bytes");
+    expect(capnp_canonical_private_number_at(four) == UINT32_C(0x04030201), place, "a number takes four bytes");
     free(four);
 }
 

@@ -223,6 +223,16 @@ END
     done
 }
 
+# Whether CMake optimises the generated C in each build type, and tells the compiler what is visible of the shared library.
+cmake_flags() {
+    for type in Debug Release RelWithDebInfo MinSizeRel None; do
+        cmake -S "$top" -B "$work/cmake_flags" -DCMAKE_BUILD_TYPE=$type -DBUILD_SHARED_LIBS=ON -DCMAKE_EXPORT_COMPILE_COMMANDS=ON || return 1
+        grep '"command"' "$work/cmake_flags/compile_commands.json" >commands
+        if grep -q -v -e ' -O[23s] ' commands; then echo "FAILED: -O, $type"; else echo "ok: -O, $type"; fi
+        grep -q -e '-DCAPNP_CANONICAL_BUILDS_SHARED .*-fvisibility=hidden' commands && echo "ok: visibility, $type"
+    done
+}
+
 # The python3 that has a module, of the system or in the path.
 python_with() {
     for python in python3 /usr/bin/python3; do
@@ -293,7 +303,7 @@ if [ "$has_python" ]; then
 else
     skip Python python3
 fi
-if has cmake; then part CMake by_cmake; else skip CMake cmake; fi
+if has cmake; then part CMake by_cmake && part 'flags of CMake' cmake_flags; else skip CMake cmake; fi
 if has rt; then part ./install sh "$here/install.sh"; else skip ./install rt; fi
 
 if [ ! "$has_capnp" ]; then

@@ -242,7 +242,7 @@ static void test_copied(const struct copier *by, struct bytes to, size_t written
     if (sized(by->frame, by->parts, &words, &caps) == CAPNP_CANONICAL_DONE) expect(made.size <= 16 + 8 * words, "the size is too small");
     if (!by->parts && checked(by->frame, NULL, &was, &fault) == CAPNP_CANONICAL_DONE) {
         size_t taken = 0;
-        capnp_canonical_frame_size(by->frame.at, by->frame.size, WORDS, &taken);
+        expect(capnp_canonical_frame_size(by->frame.at, by->frame.size, WORDS, &taken) == CAPNP_CANONICAL_DONE, "the size of the frame");
         int same = taken == made.size && memcmp(by->frame.at + 8, made.at + 8, taken - 8) == 0;
         expect(was == (same && number_at(by->frame.at) == 0), "the check isn't whether the copy is the same");
         expect(was == (fault.reason == CAPNP_CANONICAL_REASON_NONE), "there is no fault, or one too many");
