@@ -2,7 +2,7 @@
 // capnp::canonicalize. A line `ok: NAME` or `FAILED: NAME` for each test.
 //
 //     capnp_types
-#include "capnp_canonical.hpp"
+#include "capnp_canonical_capnp.hpp"
 #include "people.capnp.h"
 #include <capnp/message.h>
 #include <capnp/serialize-packed.h>
@@ -84,7 +84,7 @@ void test_limits() {
     report(same(capnp_canonical::copy_flat(reader.getRoot<Person>()), theirs), "a reader within it");
     auto refusal = [](const char* what, std::uint32_t wanted, auto call) {
         try {
-            call();
+            static_cast<void>(call());
             report(false, what);
         } catch (const capnp_canonical::Error& error) {
             report(error.number() == wanted, what);
@@ -92,10 +92,10 @@ void test_limits() {
     };
     const std::uint32_t too_deep = CAPNP_CANONICAL_MESSAGE_IS_TOO_DEEPLY_NESTED_OR_CONTAINS_CYCLES;
     capnp::FlatArrayMessageReader usual(frame);
-    refusal("a MessageReader with the usual one", too_deep, [&] { capnp_canonical::copy_flat(usual); });
-    refusal("a limit for a builder", too_deep, [&] { capnp_canonical::copy_flat(builder, {64, 1 << 20}); });
-    refusal("a limit for a reader", too_deep, [&] { capnp_canonical::copy_flat(reader.getRoot<Person>(), {64, 1 << 20}); });
-    refusal("segments", too_deep, [&] { capnp_canonical::copy_flat(builder.getSegmentsForOutput()); });
+    refusal("a MessageReader with the usual one", too_deep, [&] { return capnp_canonical::copy_flat(usual); });
+    refusal("a limit for a builder", too_deep, [&] { return capnp_canonical::copy_flat(builder, {64, 1 << 20}); });
+    refusal("a limit for a reader", too_deep, [&] { return capnp_canonical::copy_flat(reader.getRoot<Person>(), {64, 1 << 20}); });
+    refusal("segments", too_deep, [&] { return capnp_canonical::copy_flat(builder.getSegmentsForOutput()); });
 }
 
 // A message of 300,000 levels that a program has built, which would take 190 MB of stack: refused with any limit, like each
@@ -115,7 +115,7 @@ void test_deepest() {
     };
     auto refused = [](auto call) {
         try {
-            call();
+            static_cast<void>(call());
             return false;
         } catch (const capnp_canonical::Error& error) {
             return error.number() == CAPNP_CANONICAL_MESSAGE_IS_TOO_DEEPLY_NESTED_OR_CONTAINS_CYCLES;
@@ -128,20 +128,20 @@ void test_deepest() {
     const capnp_canonical::Limits none = {std::numeric_limits<std::int32_t>::max(), ~std::uint64_t(0)};
     kj::ArrayPtr<const capnp::word> segment = segment_of(deep), last = segment_of(deepest);
     capnp::SegmentArrayMessageReader reader(kj::arrayPtr(&segment, 1), options), near(kj::arrayPtr(&last, 1), options);
-    report(refused([&] { capnp_canonical::copy_flat(reader); }), "a MessageReader without a nesting limit");
-    report(refused([&] { capnp_canonical::copy_flat(reader, none); }), "the largest number");
+    report(refused([&] { return capnp_canonical::copy_flat(reader); }), "a MessageReader without a nesting limit");
+    report(refused([&] { return capnp_canonical::copy_flat(reader, none); }), "the largest number");
     report(!capnp_canonical::words_is_canonical(segment, none), "is_canonical with the largest number");
     report(same(capnp_canonical::copy_flat(near, none), last), "the most levels");
     report(same(capnp_canonical::copy_flat(near), last), "the most levels, by the reader's own limit");
     report(capnp_canonical::words_is_canonical(last, none), "whether it is canonical");
-    report(refused([&] { capnp_canonical::words_copy(segment_of(deeper), none); }), "one level more");
+    report(refused([&] { return capnp_canonical::words_copy(segment_of(deeper), none); }), "one level more");
 
     capnp::MallocMessageBuilder builder;
     auto at = builder.getRoot<capnp::AnyPointer>();
     for (std::size_t level = 0; level < levels; level++) {
         at = at.initAsAnyStruct(0, 1).getPointerSection()[0];
     }
-    report(refused([&] { capnp_canonical::copy_flat(builder); }), "a MessageBuilder of 300,000 levels");
+    report(refused([&] { return capnp_canonical::copy_flat(builder); }), "a MessageBuilder of 300,000 levels");
     report(refused([&] { return capnp_canonical::digest(builder); }), "its digest");
     report(!capnp_canonical::is_canonical(builder), "whether it is canonical");
 }
@@ -229,14 +229,14 @@ void test_overlap(capnp::MallocMessageBuilder& builder) {
     capnp::FlatArrayMessageReader reader(frame);
     auto refused = [](const char* what, auto call) {
         try {
-            call();
+            static_cast<void>(call());
             report(false, what);
         } catch (const std::invalid_argument&) {
             report(true, what);
         }
     };
-    refused("canonicalize in place", [&] { capnp_canonical::canonicalize_into(frame, reader); });
-    refused("canonicalize into a segment", [&] { capnp_canonical::canonicalize_into(frame.slice(frame.size() - 1, frame.size()), reader); });
+    refused("canonicalize in place", [&] { return capnp_canonical::canonicalize_into(frame, reader); });
+    refused("canonicalize into a segment", [&] { return capnp_canonical::canonicalize_into(frame.slice(frame.size() - 1, frame.size()), reader); });
     std::size_t count = 0;
     for (capnp_canonical::Bytes it : capnp_canonical::Frames(capnp::messageToFlatArray(builder))) {
         count += capnp_canonical::copy_flat(it) == capnp_canonical::copy_flat(reader);

@@ -3,6 +3,7 @@
 //     compare STREAM         the framed people of a file, also with their objects in many segments; and the ratios of the
 //                            processor times of copy_flat, and of copy_flat_into, to that of capnp::canonicalize
 //     compare write STREAM   writes the canonical words of all of them, to be hashed
+#define CAPNP_CANONICAL_WITH_CAPNP
 #include "capnp_canonical.hpp"
 #include "people.capnp.h"
 #include <capnp/any.h>

@@ -58,7 +58,7 @@ summed() {
 cxx_messages() {
     standard=$1
     shift
-    "$cxx" -std="$standard" -Wall -Wextra -Wpedantic -Wshadow -Werror -O1 "$@" -DCAPNP_CANONICAL_WITHOUT_CAPNP -I"$prefix/include" \
+    "$cxx" -std="$standard" -Wall -Wextra -Wpedantic -Wshadow -Werror -O1 "$@" -I"$prefix/include" \
         -o "$work/messages" "$here/messages.cpp" "$prefix/lib/libcapnp_canonical.a" &&
         "$work/messages" "$here/messages.txt" "$here/packed.txt" "$here/parts.txt" "$here/streams.txt" "$here/places.txt"
 }
@@ -280,7 +280,11 @@ for standard in c++17 c++20; do
         part "$standard with the address sanitizer" cxx_messages $standard -g -fsanitize=address,undefined -fno-sanitize-recover
     fi
 done
-if [ "$has_cxx" ]; then part 'temporaries of C++' sh "$here/temporaries.sh" "$prefix/include"; fi
+if [ "$has_cxx" ]; then
+    part 'temporaries of C++' sh "$here/temporaries.sh" "$prefix/include"
+    part 'headers of C++' sh "$here/cpp.sh" "$prefix"
+fi
+if has clang-tidy clang++; then part clang-tidy sh "$here/tidy.sh"; else skip clang-tidy clang-tidy; fi
 if [ "$has_cargo" ]; then
     part Rust cargo_test
     if [ "$has_python" ]; then

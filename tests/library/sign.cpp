@@ -3,7 +3,7 @@
 // segments.
 //
 //     sign KEY >FILE
-#include "capnp_canonical.hpp"
+#include "capnp_canonical_capnp.hpp"
 #include "signed.capnp.h"
 #include <capnp/message.h>
 #include <capnp/serialize.h>

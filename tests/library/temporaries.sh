@@ -6,7 +6,7 @@ set -u
 folder=$(mktemp -d) || exit 2
 trap 'rm -rf "$folder"' EXIT
 failed=0
-flags='-std=c++17 -Wall -Wextra -Werror -Wno-unused-parameter -DCAPNP_CANONICAL_WITHOUT_CAPNP -fsyntax-only'
+flags='-std=c++17 -Wall -Wextra -Werror -Wno-unused-parameter -fsyntax-only'
 for it; do flags="$flags -I$it"; done
 
 # Whether a function of this body is compiled.
@@ -15,6 +15,7 @@ compiles() {
 #include "capnp_canonical.hpp"
 using namespace capnp_canonical;
 void use(Bytes);
+void use_digest(Digest);
 Bytes body(Bytes frame, std::vector<std::uint8_t>& buffer, const std::string& text, std::string_view view) {
     $2
     return frame;
@@ -61,6 +62,12 @@ for compiler in $compilers; do
     refused 'a fault taken for a yes' 'if (check(frame)) { use(frame); }' deleted
     refused 'a check whose answer isn'\''t used' 'check(frame);' unused-result
     refused 'a yes or no that isn'\''t used' 'is_canonical(frame);' unused-result
+    refused 'a copy that isn'\''t used' 'copy_flat(frame);' unused-result
+    refused 'a result that isn'\''t used' 'try_validate(frame);' unused-result
+    refused 'a result of a check taken for a yes' 'if (try_check(frame)) { use(frame); }' conver
+    refused 'raw words as a frame' 'use_digest(digest(canonical_words(frame)));' 'no matching function'
+    refused 'raw words as bytes' 'Bytes it = canonical_words(frame); use(it);' 'conversion\|convert'
+    fine 'raw words by their calls' 'use_digest(words_digest(canonical_words(frame)));'
 done
 compiler=clang++
 if command -v $compiler >/dev/null; then
