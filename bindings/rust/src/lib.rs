@@ -16,9 +16,9 @@
 //! In a build without optimization it takes up to 19.3 KB; there a call with a nesting limit above 64 runs in a
 //! thread of its own, with a stack that is large enough, unless the crate is built without `std`.
 //!
-//! Raw words aren't a frame. Read back what [`canonical_words`] returns with the module [`words`]. A call that takes a
-//! frame may **succeed** on raw words, and then reads **another** value, because the pointer to a root without
-//! pointers is also the table of a frame.
+//! Raw words aren't a frame. Read back what [`canonical_words`] returns with the type [`Words`] or the module [`words`]. A
+//! call that takes a frame may **succeed** on raw words, and then reads **another** value, because the pointer to a root
+//! without pointers is also the table of a frame. It doesn't take [`Words`].
 //!
 //! The crate is `no_std` with `alloc`. The feature `std`, on by default, has `FrameReader` and `PackedFrameReader` for files and
 //! sockets, and lets you turn an `Error` into an `std::io::Error`.
@@ -62,6 +62,7 @@ mod message;
 mod packed;
 #[cfg(feature = "std")]
 mod packed_reader;
+mod raw_words;
 #[cfg(feature = "std")]
 mod reader;
 pub mod segments;
@@ -83,6 +84,7 @@ use message::{first_frame, framed, Message};
 pub use packed::{unpack, unpack_into};
 #[cfg(feature = "std")]
 pub use packed_reader::PackedFrameReader;
+pub use raw_words::Words;
 #[cfg(feature = "std")]
 pub use reader::FrameReader;
 pub use stream::{frames, Frame, Frames, StreamError};

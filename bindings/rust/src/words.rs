@@ -1,5 +1,6 @@
 //! The same calls, for a message passed as raw words: all of them are its one segment, as [`canonical_words`] returns
-//! them and you have stored them. If you pass a frame here it is read as words, and is another value.
+//! them and you have stored them. If you pass a frame here it is read as words, and is another value. The type
+//! [`Words`](crate::Words) has the same calls as methods, and can't be taken for a frame.
 //!
 //! [`canonical_words`]: crate::canonical_words
 use crate::message::segmented;

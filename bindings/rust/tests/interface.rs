@@ -2,7 +2,7 @@
 use capnp_canonical::{
     canonical_words, canonical_words_at, check, digest, frames, is_canonical, locate, segments,
     size, validate, walk, words, Error, ErrorKind, FrameReader, Kind, Limits, PackedFrameReader,
-    Pointer, Reading,
+    Pointer, Reading, Words,
 };
 use std::hash::{DefaultHasher, Hash, Hasher};
 use std::io::{self, Read};
@@ -306,4 +306,36 @@ fn the_most_levels_fit_in_a_stack_of_2_mib() {
     };
     let thread = std::thread::Builder::new().stack_size(2 << 20);
     thread.spawn(test).unwrap().join().unwrap();
+}
+
+#[test]
+fn words_have_a_type() {
+    let limits = Limits::default();
+    // a struct of three words, the last of which is zero
+    let frame = framed(&[3 << 32, 7, 8, 0]);
+    let flat = [2 << 32, 7, 8].map(u64::to_le_bytes).concat();
+    let words = Words::of(&frame, limits).unwrap();
+    assert_eq!(words.as_bytes(), flat);
+    assert_eq!(Words::of_part(&frame, &[], limits), Ok(words.clone()));
+    assert_eq!(
+        Words::of_segments(&[&frame[8..]], limits),
+        Ok(words.clone())
+    );
+    let stored = Words::from_bytes(&flat[..]);
+    assert_eq!(stored, words.borrowed());
+    assert_eq!(stored.into_bytes(), flat);
+    assert_eq!(words.canonical(limits), Ok(words.clone()));
+    assert_eq!(words.canonical_at(&[], limits), Ok(words.clone()));
+    assert_eq!(words.digest(limits), digest(&frame, limits));
+    assert_eq!(words.digest_at(&[], limits), digest(&frame, limits));
+    assert_eq!(words.check(limits), Ok(None));
+    assert!(words.is_canonical(limits));
+    assert_eq!(words.size(limits).unwrap().words, 2);
+    assert_eq!(words.size_at(&[], limits).unwrap().words, 2);
+    assert_eq!(words.validate(limits).unwrap().depth, 1);
+    assert_eq!(words.locate(Reading::Value, limits), Ok(None));
+    assert_eq!(words.walk(9, limits).unwrap().count, 1);
+    let cut = Words::from_bytes(&flat[1..]);
+    assert_eq!(cut.digest(limits), Err(Error::SEGMENT_IS_NOT_WHOLE_WORDS));
+    assert_eq!(words.digest_at(&[7], limits), Err(Error::NO_SUCH_PLACE));
 }
