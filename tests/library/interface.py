@@ -1,12 +1,12 @@
-"""interface.py [HEADER]
-interface.py --record VERSION HEADER
+"""interface.py [FOLDER]
+interface.py --record VERSION FOLDER
 
-Compares the names, numbers, layouts and types of capnp_canonical.h with those that interface.txt has of released versions: a
-program that was written for one of them compiles with the header, and means the same. A new version may have more.
+Compares the names, numbers, layouts and types of the headers for C in FOLDER, or bindings/c, with those that interface.txt has
+of each version: a program that was written for one of them compiles, and means the same. A new version may have more.
 Prints a line for each difference. The last line is `N passed, M failed`; a macro, a number, a size, a field and a function
 count one each. Needs a C compiler, CC or cc.
 
-With --record, prints the lines of interface.txt for the header of a version: what no earlier version in the file has.
+With --record, prints the lines of interface.txt for the headers of a version: what no version in the file has.
 """
 import os
 import pathlib
@@ -16,7 +16,8 @@ import sys
 import tempfile
 
 HERE = pathlib.Path(__file__).resolve().parent
-HEADER = HERE.parents[1] / 'bindings/c/capnp_canonical.h'
+FOLDER = HERE.parents[1] / 'bindings/c'
+HEADERS = 'capnp_canonical.h', 'capnp_canonical_limits.h'
 RECORD = HERE / 'interface.txt'
 CC = os.environ.get('CC', 'cc').split()
 # What compilers and linkers are told, and the number of the version.
@@ -34,9 +35,14 @@ def types_of(parameters):
     return ', '.join(re.sub(r'\w+\[\d+\]$', '*', it) if '[' in it else re.sub(r'\w+$', '', it).strip() for it in parameters.split(', '))
 
 
+def headers_in(folder):
+    """The headers that are there; version 1.0.0 has one."""
+    return [folder / name for name in HEADERS if (folder / name).is_file()]
+
+
 def facts_of(header):
-    """What a header promises: lists of words, without versions."""
-    text = without_comments(header)
+    """What a header promises: a line for each fact, without sizes and places."""
+    text = without_comments(header.read_text(encoding='utf-8'))
     for name, value in re.findall(r'^#define (CAPNP_CANONICAL_\w+) (\S+)$', text, re.M):
         if not OTHER_MACROS.search(name):
             yield f'macro {name} {value}'
@@ -78,17 +84,18 @@ def program(lines, measure=False):
         yield 'int main(void) { ' + ' '.join(shown) + ' return 0; }'
 
 
-def source(header, lines, measure=False):
-    return ''.join(f'{it}\n' for it in [f'#include "{header.resolve()}"', '#include <stddef.h>', '#include <stdio.h>', *program(lines, measure)])
+def source(folder, lines, measure=False):
+    last = headers_in(folder)[-1].resolve()
+    return ''.join(f'{it}\n' for it in [f'#include "{last}"', '#include <stddef.h>', '#include <stdio.h>', *program(lines, measure)])
 
 
-def measured(header, lines):
+def measured(folder, lines):
     """The same lines, with the sizes of structs and the places of fields."""
-    with tempfile.TemporaryDirectory() as folder:
-        path = pathlib.Path(folder) / 'measure.c'
-        path.write_text(source(header, [it for it in lines if it.split(' ')[0] in ('size', 'field')], True), encoding='utf-8')
-        subprocess.run([*CC, '-std=c11', '-o', f'{folder}/measure', path], check=True)
-        told = subprocess.run([f'{folder}/measure'], stdout=subprocess.PIPE, check=True, encoding='utf-8').stdout.splitlines()
+    with tempfile.TemporaryDirectory() as room:
+        path = pathlib.Path(room) / 'measure.c'
+        path.write_text(source(folder, [it for it in lines if it.split(' ')[0] in ('size', 'field')], True), encoding='utf-8')
+        subprocess.run([*CC, '-std=c11', '-o', f'{room}/measure', path], check=True)
+        told = subprocess.run([f'{room}/measure'], stdout=subprocess.PIPE, check=True, encoding='utf-8').stdout.splitlines()
     for line in lines:
         kind, *words = line.split(' ', 3)
         if kind == 'size':
@@ -110,19 +117,19 @@ def recorded():
     return found
 
 
-def record(version, header):
+def record(version, folder):
     known = [line for _, line in recorded()]
     print(f'\nversion {version}')
-    for line in measured(header, list(facts_of(header.read_text(encoding='utf-8')))):
+    for line in measured(folder, [it for header in headers_in(folder) for it in facts_of(header)]):
         if line not in known:
             print(line)
 
 
-def refused_lines(header, lines):
+def refused_lines(folder, lines):
     """The numbers of the facts that the compiler refuses, and all that it says."""
-    with tempfile.TemporaryDirectory() as folder:
-        path = pathlib.Path(folder) / 'interface.c'
-        path.write_text(source(header, lines), encoding='utf-8')
+    with tempfile.TemporaryDirectory() as room:
+        path = pathlib.Path(room) / 'interface.c'
+        path.write_text(source(folder, lines), encoding='utf-8')
         run = subprocess.run([*CC, '-std=c11', '-Wall', '-Wno-unused', '-Wno-deprecated-declarations', '-Werror', '-fsyntax-only', path],
                              stderr=subprocess.PIPE, encoding='utf-8')
     numbers = {int(it) - 4 for it in re.findall(r'interface\.c:(\d+):\d+: error', run.stderr)}
@@ -134,7 +141,7 @@ def main():
         record(sys.argv[2], pathlib.Path(sys.argv[3]))
         return 0
     facts = recorded()
-    refused, said = refused_lines(pathlib.Path(sys.argv[1]) if sys.argv[1:] else HEADER, [line for _, line in facts])
+    refused, said = refused_lines(pathlib.Path(sys.argv[1]) if sys.argv[1:] else FOLDER, [line for _, line in facts])
     for number in sorted(refused):
         print(f'not as in version {facts[number][0]}: {facts[number][1]}')
     if said:
