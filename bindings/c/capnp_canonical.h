@@ -48,7 +48,7 @@
 #define CAPNP_CANONICAL_INLINE static inline
 
 /* What the library's functions are declared with. A static library needs nothing. For a shared one or a DLL, define
- * CAPNP_CANONICAL_SHARED where it is used, and CAPNP_CANONICAL_BUILDS_SHARED where it is compiled: its functions are then visible
+ * CAPNP_CANONICAL_SHARED for its users, and CAPNP_CANONICAL_BUILDS_SHARED for the library: its functions are then visible
  * with -fvisibility=hidden too, and exported from a DLL. Define CAPNP_CANONICAL_API yourself for anything else. */
 #ifndef CAPNP_CANONICAL_API
 #if defined(_WIN32) && defined(CAPNP_CANONICAL_BUILDS_SHARED)
@@ -62,7 +62,7 @@
 #endif
 #endif
 
-/* What compilers warn of: an answer that isn't looked at; null for a pointer that may not be null, by the number of the
+/* What compilers warn of: an answer that is ignored; null for a pointer that may not be null, by the number of the
  * argument; and with gcc, bytes that are fewer than their number says, by the numbers of both arguments. */
 #ifdef __GNUC__
 #define CAPNP_CANONICAL_CHECKED __attribute__((warn_unused_result))

@@ -311,7 +311,7 @@ fn the_most_levels_fit_in_a_stack_of_2_mib() {
 #[test]
 fn words_have_a_type() {
     let limits = Limits::default();
-    // a struct of three words, the last of which is zero
+    // a struct of three words, the last zero
     let frame = framed(&[3 << 32, 7, 8, 0]);
     let flat = [2 << 32, 7, 8].map(u64::to_le_bytes).concat();
     let words = Words::of(&frame, limits).unwrap();
