@@ -291,7 +291,8 @@ namespace types {
 template <typename Value>
 class [[nodiscard]] Result {
 public:
-    Result(Value value) : held_(std::in_place_index<0>, std::move(value)) {}
+    Result(const Value& value) : held_(std::in_place_index<0>, value) {}
+    Result(Value&& value) : held_(std::in_place_index<0>, std::move(value)) {}
     Result(const Refusal& refusal) noexcept : held_(std::in_place_index<1>, refusal) {}
 
     [[nodiscard]] bool has_value() const noexcept { return held_.index() == 0; }

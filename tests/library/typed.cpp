@@ -168,6 +168,11 @@ static void test_memory() {
     const std::size_t after = allocations;
     require(sound && refused && measured.words == 2 && hashed == part, "the answers");
     require(after == before, "memory is taken");
+    const std::size_t room = allocations;
+    const Vector copied = copy_flat(ZERO_WORD);
+    require(copied == FLAT && allocations == room + 1, "memory is taken more than once for a copy");
+    const Words words = canonical_words(ZERO_WORD);
+    require(words.size() == 24 && allocations == room + 2, "memory is taken more than once for words");
     require(walk(ZERO_WORD, std::size_t(1) << 40).count == 1, "a list of at most 2^40 objects");
     // a struct of 33 pointers to empty structs
     Vector many = bytes_of("00000000220000000000000000002100");
