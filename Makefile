@@ -147,6 +147,8 @@ install: program $(CANONICAL) install-layout
 	$(INSTALL) -m 644 bindings/c/capnp_canonical_limits.h $(wildcard bindings/cpp/*.hpp) $(DESTDIR)$(INCLUDEDIR)
 	$(INSTALL) -m 755 $(BUILD)/capnp_canon $(DESTDIR)$(BINDIR)
 	$(INSTALL) -m 644 share/capnp_canon.1 $(DESTDIR)$(MANDIR)/man1
+	$(INSTALL) -d $(DESTDIR)$(MANDIR)/man3
+	$(INSTALL) -m 644 share/capnp_canonical.3 $(DESTDIR)$(MANDIR)/man3
 	$(INSTALL) -m 644 share/capnp_canon.bash $(DESTDIR)$(BASHDIR)/capnp_canon
 	$(INSTALL) -m 644 share/_capnp_canon $(DESTDIR)$(ZSHDIR)
 

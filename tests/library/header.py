@@ -22,7 +22,7 @@ PREFIX = 'CAPNP_CANONICAL_'
 # The other files that have the header's version.
 VERSIONS = {
     'bindings/python/pyproject.toml': r'^version = "(.*)"$', 'bindings/rust/Cargo.toml': r'^version = "(.*)"$',
-    'bindings/rust/capnp/Cargo.toml': r'^version = "(.*)"$', 'share/capnp_canon.1': r'"capnp_canon (.*)"$',
+    'bindings/rust/capnp/Cargo.toml': r'^version = "(.*)"$', 'share/capnp_canon.1': r'"capnp_canon (.*)"$', 'share/capnp_canonical.3': r'"capnp_canonical (.*)"$',
     'bindings/rust/Cargo.lock': r'^name = "capnp_canonical"\nversion = "(.*)"$', 'bindings/js/package.json': r'^  "version": "(.*)",$',
     'pyproject.toml': r'^version = "(.*)"$', 'crates/capnp_canon/src/texts.rt': r'"capnp_canon (.*)";$',
     'README.md': r'^This is version ([\d.]*\d)', 'CHANGELOG.md': r'\A[^#]*# Changes\n[^#]*## (\S*)',
@@ -180,6 +180,11 @@ def main():
     listed = re.findall(r'^[\d.]+ (\w+)$', file('tools/exports.txt'), re.M)
     facts += [(f'{name} is declared, and has a version in tools/exports.txt', name in declared_in_library() and listed.count(name) == 1)
               for name in sorted({*declared_in_library(), *listed})]
+    named = re.findall(r'\bcapnp_canonical_[a-z_]*[a-z]\b(?!\.h)', file('share/capnp_canonical.3'))
+    within = re.findall(r'^CAPNP_CANONICAL_INLINE \w+ (\w+)\(', file('bindings/c/capnp_canonical_limits.h'), re.M)
+    inline = re.findall(r'^CAPNP_CANONICAL_INLINE .*?(capnp_canonical_\w+)\(', HEADER, re.M)
+    known = {*declared, *within, *inline, 'capnp_canonical_limits', 'capnp_canonical_segments', 'capnp_canonical_words'}
+    facts += [(f'{name} of the manual page is declared', name in known) for name in sorted({*named})]
     # the package for cargo has copies of these files in its folder, because the gate takes no links
     facts += [(f'bindings/rust/{name} is {of}', file(f'bindings/rust/{name}') == file(of)) for name, of in PACKAGED.items()]
     failed = [what for what, holds in facts if not holds]

@@ -56,6 +56,7 @@ test_that 'the program runs' "$stage/usr/bin/capnp_canon" --version
 test_that 'the package runs' env PYTHONPATH="$stage/usr/lib/python3/dist-packages" CAPNP_CANONICAL_LIBRARY="$stage$libdir/libcapnp_canonical.so" \
     python3 -m capnp_canonical --version
 test_that 'the man page' [ -s "$stage/usr/share/man/man1/capnp_canon.1" ]
+test_that 'the man page of the library' [ -s "$stage/usr/share/man/man3/capnp_canonical.3" ]
 test_that 'the completion for bash' cmp "$top/share/capnp_canon.bash" "$stage/usr/share/bash-completion/completions/capnp_canon"
 test_that 'the completion for zsh' cmp "$top/share/_capnp_canon" "$stage/usr/share/zsh/site-functions/_capnp_canon"
 for library in capnp_canonical capnp_layout; do
