@@ -11,10 +11,11 @@
 // define CAPNP_CANONICAL_WITH_CAPNP before this header, which then includes it. Nothing here depends on it.
 //
 // A call that is refused throws Error. It throws std::bad_alloc if there is no memory for a result, and
-// std::invalid_argument if what it should write to overlaps what it should read. A call whose name begins with `try_` returns
-// a Result in place of throwing Error. Without exceptions (-fno-exceptions), what would be thrown ends the process after
-// a line on standard error, so use the calls named `try_` there. No call keeps anything, so several threads may call at
-// once. What capnp_canonical.h says about limits, memory and stack holds here too.
+// std::invalid_argument if what it should write to overlaps what it should read. A call whose name begins with `try_`
+// returns a Result in place of throwing Error. Without exceptions (-fno-exceptions), what would be thrown ends the
+// process after a line on standard error, so use the calls named `try_` there, and compile all files of a program in
+// the same way. No call keeps anything, so several threads may call at once. What capnp_canonical.h says about limits,
+// memory and stack holds here too.
 #ifndef CAPNP_CANONICAL_HPP
 #define CAPNP_CANONICAL_HPP
 
