@@ -1,7 +1,10 @@
 pub mod Children
 pub mod Cuts
+pub mod ElementsFound
 pub mod FrameCases
 pub mod Insides
 pub mod LentWords
 pub mod OwnPlace
 pub mod Shown
+pub mod Unlimited
+pub mod ValidatedRoots

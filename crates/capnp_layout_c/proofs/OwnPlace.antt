@@ -1,5 +1,6 @@
 -- A call without a default reads its own pointer.
-use Rattle.std.proofs.Common.{◌≡◌, inl, inr, ℕ, ◌+◌, ◌-◌, Bool, true, false, Some, None, Ok, Err, refl, sym, ap, ◌∙◌, subst, arith}
+use Rattle.std.proofs.Common.{◌≡◌, inl, inr, ℕ, ◌-◌, Bool, true, false, Option, Some, None, Ok, Err, refl, sym, ap, ◌∙◌, subst, arith}
+use Rattle.std.specs.Prelude.{◌+◌, ⊤}
 use Rattle.capnp_words.specs.declared.error.ErrorKind.{ErrorKind}
 use Rattle.capnp_words.specs.Meter.{Meter, unused}
 use Rattle.capnp_arena_traits.specs.declared.arena.reader_arena.ReaderArena.{Ghosts}
@@ -12,9 +13,15 @@ use Rattle.capnp_readers.specs.declared.readers.PointerReader.{PointerReader}
 use Rattle.capnp_readers.proofs.Answering.{read_at}
 use Rattle.capnp_layout_c.specs.Lent.{words_left}
 
+-- what is left of a limit once c words were taken
+abbrev pub Rest : Option ℕ → ℕ → ℕ → Type 0
+Rest None new c = ⊤
+Rest (Some old) new c = new + c ≡ old
+
 -- what was granted is what is missing afterwards
-pub paid_left : (old new g : ℕ) (charging : Bool) (m : Meter) → charging ≡ true → Paid charging (unused (Some old)) m g 1 → new ≡ words_left m.left → new + g ≡ old
-paid_left old new g true m is paid e =
+pub paid_left : (old : Option ℕ) (new g : ℕ) (charging : Bool) (m : Meter) → charging ≡ true → Paid charging (unused old) m g 1 → new ≡ words_left m.left → Rest old new g
+paid_left None new g true m is paid e = tt
+paid_left (Some old) new g true m is paid e =
     let left : words_left m.left ≡ old - g = ap (λ (x : Meter). words_left x.left) paid.spent in
     omega (arith, paid.covers, left, e)
 paid_left old new g false m is paid e = absurd (cc is)

@@ -1,5 +1,5 @@
 -- What C sees of an object that a call finds.
-use Rattle.std.specs.Prelude.{◌≡◌, ℕ, ℤ, ◌+◌, ◌-◌, ◌*◌, ◌<◌, ◌≤◌, List, length, Some}
+use Rattle.std.specs.Prelude.{◌≡◌, ℕ, ℤ, ◌+◌, ◌*◌, ◌<◌, ◌≤◌, ◌/◌, List, length, take, drop, Some}
 use Rattle.std.specs.Borrow.{Bor}
 use Rattle.capnp_words.specs.Meter.{Meter, unused}
 use Rattle.capnp_words.specs.declared.error.ErrorKind.{ErrorKind}
@@ -10,15 +10,15 @@ use Rattle.capnp_words.specs.declared.wire_pointer.PointerType.TheVariants.{List
 use Rattle.capnp_arena_traits.specs.Checks.{Holds, misplaced}
 use Rattle.capnp_format.specs.Bytes.{words_of}
 use Rattle.capnp_format.specs.Means.{MeansAll, MeansElements}
-use Rattle.capnp_format.specs.Numbers.{element_bits, unpacked}
-use Rattle.capnp_format.specs.Segments.{Segments, segment}
+use Rattle.capnp_format.specs.Numbers.{element_bits, unpacked, words_for}
+use Rattle.capnp_format.specs.Segments.{Segments, segment, words_at}
 use Rattle.capnp_format.specs.Tree.{Tree, Null, Flat, Pointers, Structs, count, element_count}
 use Rattle.capnp_objects.specs.Expected.{Expectation, RefusesExpected, struct_expected}
 use Rattle.capnp_objects.specs.Types.{HasNoType, IsOfType}
 use Rattle.capnp_objects.specs.Reading.{Reading}
 use Rattle.capnp_objects.specs.Source.{levels}
 use Rattle.capnp_readers.specs.Values.{IsStructOrNull, struct_data, struct_children}
-use Rattle.capnp_layout_c.specs.Lent.{lent, lent_pointer, words_left}
+use Rattle.capnp_layout_c.specs.Lent.{left_over, lent, lent_pointer, root_left}
 use Rattle.capnp_numbers.specs.Numbers.{error_number}
 use Rattle.capnp_layout_c.specs.declared.found.FoundStruct.{FoundStruct}
 use Rattle.capnp_layout_c.specs.declared.found.FoundList.{FoundList}
@@ -41,13 +41,29 @@ IsFoundList S l Null k = (l.count ≡ 0) × (k ≡ 0)
 IsFoundList S l (Flat size ns) k =
     (l.data_bits ≡ element_bits size) × (l.pointers ≡ 0) × (l.count ≡ length ns)
     × (ns ≡ unpacked size (length ns) (words_of l.data.now)) × (k ≡ 0)
+    × (length l.data.now ≡ 8 * words_for size (length ns))
 IsFoundList S l (Pointers ts) k =
     (l.data_bits ≡ 0) × (l.pointers ≡ 1) × (l.count ≡ count ts)
     × MeansAll S (levels l.nesting) l.segment l.at ts k
 IsFoundList S l (Structs d q es) k =
     (l.data_bits ≡ 64 * d) × (l.pointers ≡ q) × (l.count ≡ element_count es)
     × MeansElements S (levels l.nesting) l.segment l.at d q es k
+    × (length l.data.now ≡ 8 * (element_count es * (d + q)))
+    × (words_of l.data.now ≡ words_at S l.segment l.at (element_count es * (d + q)))
 IsFoundList S l t k = ⊥
+
+-- Where element i of the list starts, in bytes.
+abbrev pub element_byte : FoundList → ℕ → ℕ
+element_byte l i = i * (l.data_bits / 8 + 8 * l.pointers)
+
+-- C makes the struct s of element i of the list l: it has the data section and the pointers of a struct,
+-- the bytes of a number, or one pointer.
+pub record IsElementOf (l : FoundList) (i : ℕ) (s : FoundStruct) : Type 0 where
+  pub data_is : s.data.now ≡ take (l.data_bits / 8) (drop (element_byte l i) l.data.now)
+  pub segment_is : s.segment ≡ l.segment
+  pub start_is : s.pointers_at ≡ l.at + (element_byte l i + l.data_bits / 8) / 8
+  pub pointers_are : s.pointers ≡ l.pointers
+  pub nesting_is : s.nesting ≡ l.nesting
 
 -- The pointers of a struct that was found are words of its segment. They may be broken.
 abbrev pub HasPointersInside : Segments → FoundStruct → Type 0
@@ -64,7 +80,7 @@ pub record HasElementsInside (S : Segments) (l : FoundList) : Type 0 where
 -- `old` to `new`.
 abbrev pub RefusesNumber : Expectation → Reading → ℕ → ℕ → ℕ → Type 0
 RefusesNumber expected r old new number =
-    (k : ErrorKind) × (m : Meter) × (number ≡ error_number k) × (new ≡ words_left m.left)
+    (k : ErrorKind) × (m : Meter) × (number ≡ error_number k) × (new ≡ left_over old m.left)
     × RefusesExpected expected r (unused (Some old)) m k
 
 -- The root isn't read with this number, and the words left go from `old` to `new`: segment 0 has no
@@ -76,7 +92,7 @@ pub data RefusesRootNumber (list : List (Bor (List ℕ))) (nesting : ℤ) (old n
   no_words : Holds (lent list) 0 0 1 → old ≡ 0 → number ≡ error_number ReadLimitExceeded
       → new ≡ old → RefusesRootNumber list nesting old new number
   no_struct : Holds (lent list) 0 0 1 → 1 ≤ old
-      → RefusesNumber struct_expected (lent_pointer list 0 0 nesting) (old - 1) new number
+      → RefusesNumber struct_expected (lent_pointer list 0 0 nesting) (root_left old) new number
       → RefusesRootNumber list nesting old new number
 
 -- The number of what a pointer leads to.
@@ -90,12 +106,12 @@ type_number CapabilityType = 3
 -- left from `old` to `new`.
 abbrev pub IsFoundType : Reading → ℕ → ℕ → ℕ → Type 0
 IsFoundType r old new number =
-    (t : PointerType) × (m : Meter) × (number ≡ type_number t) × (new ≡ words_left m.left)
+    (t : PointerType) × (m : Meter) × (number ≡ type_number t) × (new ≡ left_over old m.left)
     × IsOfType r (unused (Some old)) m t
 
 -- What the pointer at the place r leads to isn't told, with the error of this number, and the words
 -- left go from `old` to `new`.
 abbrev pub RefusesType : Reading → ℕ → ℕ → ℕ → Type 0
 RefusesType r old new number =
-    (k : ErrorKind) × (m : Meter) × (number ≡ error_number k) × (new ≡ words_left m.left)
+    (k : ErrorKind) × (m : Meter) × (number ≡ error_number k) × (new ≡ left_over old m.left)
     × HasNoType r (unused (Some old)) m k

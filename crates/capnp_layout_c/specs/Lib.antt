@@ -1,3 +1,4 @@
 pub mod Found
 pub mod Lent
 pub mod Opened
+pub mod Validated

@@ -2,12 +2,12 @@
 //! Keeps no state between calls.
 //!
 //! A pointer is named by its segment and word, a nesting limit, and the words that are left of the
-//! traversal limit. The place may be any: a pointer that isn't in the
-//! message is null. A function returns 0 if it succeeded, otherwise the number of a refusal.
+//! traversal limit; `u64::MAX` stands for no limit, and stays. The place may be any: a pointer that
+//! isn't in the message is null. A function returns 0 if it succeeded, otherwise the number of a refusal.
 #![tactic(auto)]
 
 ghost use Rattle.std.specs.Prelude.{◌≡◌, ◌≢◌, ◌≤◌, ◌+◌, ◌-◌, ◌↔◌, ◌^◌, ◌<◌, [], ℕ, length, min, pos, false, Some, IsTrue};
-ghost use Rattle.capnp_words.specs.Meter.{Meter, unused, Affords};
+ghost use Rattle.capnp_words.specs.Meter.{Meter, unused};
 ghost use Rattle.capnp_words.specs.Sizes.{size_number, pointers_per_element};
 ghost use Rattle.capnp_words.specs.declared.error.ErrorKind.TheVariants.{MessageContainsNonCapabilityPointerWhereCapabilityPointerWasExpected, MessageContainsNullCapabilityPointer};
 ghost use Rattle.capnp_words.specs.declared.wire_pointer.ElementSize.{ElementSize};
@@ -23,14 +23,16 @@ ghost use Rattle.capnp_numbers.specs.Numbers.{error_number};
 ghost use Rattle.capnp_objects.specs.Expected.{struct_expected, list_expected, text_expected, data_expected, HasExpected};
 ghost use Rattle.capnp_readers.specs.Values.{FitsSize, IsStructOrNull, IsText, IsBytes, text_bytes, list_numbers};
 ghost use Rattle.capnp_readers.specs.Sections.{data_bits};
-ghost use Rattle.capnp_layout_c.specs.Lent.{lent, lent_pointer, words_left};
+ghost use Rattle.capnp_layout_c.specs.Lent.{Leaves, lent, lent_pointer, root_left};
 ghost use Rattle.capnp_layout_c.specs.Found.{IsFoundStruct, IsFoundList, IsFoundType, HasElementsInside, HasPointersInside, RefusesNumber, RefusesRootNumber, RefusesType, type_number};
 ghost use Rattle.capnp_layout_c.specs.Opened.{IsOpened, RefusesOpening};
 
 mod found;
 mod frames;
 mod laws;
+mod limits;
 mod segments;
+mod validation;
 
 use capnp_numbers::{NO_ROOM, layout_number};
 use capnp_readers::readers::{ListReader, PointerReader, StructReader};
@@ -38,18 +40,8 @@ use capnp_words::read_limiter::ReadLimiter;
 use capnp_words::wire_pointer::{ElementSize, PointerType};
 use found::{FoundBytes, FoundList, FoundStruct, no_list, no_struct};
 use frames::{cut, whole_frame};
+use limits::store_left;
 use segments::Segments;
-
-// The words left.
-#[inline(always)]
-fn words_left(lim: &ReadLimiter) -> u64
-    ensures { result ≡ words_left lim.now.left }
-{
-    match lim.left() {
-        Some(words) => words as u64,
-        None => 0,
-    }
-}
 
 // What C sees of a struct reader.
 #[inline(always)]
@@ -139,7 +131,7 @@ pub extern "C" fn capnp_layout_struct<'m>(
         → MeansThere (lent_pointer segments.now.list.now segment word nesting) t c
         → result ≡ 0
         → (k : ℕ) × IsFoundStruct (lent segments.now.list.now) to.new t k
-        × (left.new + (c - k) ≡ left.old) }
+        × Leaves left.old left.new (c - k) }
     ensures refused { result ≢ 0 → RefusesNumber struct_expected
         (lent_pointer segments.now.list.now segment word nesting) left.old left.new result }
     ensures answered { (t : Tree) (c : ℕ) → IsStructOrNull t
@@ -151,7 +143,7 @@ pub extern "C" fn capnp_layout_struct<'m>(
     let mut lim = ReadLimiter::new(Some(*left as usize));
     let pointer = segments.pointer(segment, word, nesting);
     let found = pointer.get_struct(&mut lim, None);
-    *left = words_left(&lim);
+    store_left(&lim, left);
     match found {
         Ok(r) => {
             *to = found_struct(r);
@@ -175,12 +167,12 @@ pub extern "C" fn capnp_layout_root<'m>(
 ) -> u32
     ensures exactly { (result ≡ 0) ↔ Holds (lent segments.now.list.now) 0 0 1 × (1 ≤ left.old)
         × HasExpected struct_expected (lent_pointer segments.now.list.now 0 0 nesting)
-        (unused (Some (left.old - 1))) }
+        (unused (Some (root_left left.old))) }
     ensures value { (t : Tree) (c : ℕ)
         → MeansThere (lent_pointer segments.now.list.now 0 0 nesting) t c
         → result ≡ 0
         → (k : ℕ) × IsFoundStruct (lent segments.now.list.now) to.new t k
-        × (left.new + 1 + (c - k) ≡ left.old) }
+        × Leaves left.old left.new (1 + (c - k)) }
     ensures refused { result ≢ 0
         → RefusesRootNumber segments.now.list.now nesting left.old left.new result }
     ensures answered { (t : Tree) (c : ℕ) → Holds (lent segments.now.list.now) 0 0 1
@@ -192,7 +184,7 @@ pub extern "C" fn capnp_layout_root<'m>(
     let mut lim = ReadLimiter::new(Some(*left as usize));
     match PointerReader::get_root_from_arena(segments, &mut lim) {
         Ok(_) => {
-            *left = words_left(&lim);
+            store_left(&lim, left);
             capnp_layout_struct(segments, left, 0, 0, nesting, to)
         }
         Err(kind) => {
@@ -266,7 +258,7 @@ pub extern "C" fn capnp_layout_list<'m>(
         → MeansThere (lent_pointer segments.now.list.now segment word nesting) t c
         → result ≡ 0
         → (k : ℕ) × IsFoundList (lent segments.now.list.now) to.new t k
-        × (left.new + (c - k) ≡ left.old) }
+        × Leaves left.old left.new (c - k) }
     ensures refused { (size : ElementSize) → size_number size ≡ min expected 7
         → result ≢ 0 → RefusesNumber (list_expected size)
         (lent_pointer segments.now.list.now segment word nesting) left.old left.new result }
@@ -280,7 +272,7 @@ pub extern "C" fn capnp_layout_list<'m>(
     let mut lim = ReadLimiter::new(Some(*left as usize));
     let pointer = segments.pointer(segment, word, nesting);
     let found = pointer.get_list(&mut lim, size_of(expected), None);
-    *left = words_left(&lim);
+    store_left(&lim, left);
     match found {
         Ok(r) => {
             *to = found_list(r);
@@ -308,7 +300,7 @@ pub extern "C" fn capnp_layout_text<'m>(
         (lent_pointer segments.now.list.now segment word nesting) (unused (Some left.old)) }
     ensures value { (t : Tree) (c : ℕ)
         → MeansThere (lent_pointer segments.now.list.now segment word nesting) t c
-        → result ≡ 0 → (to.new.bytes.now ≡ text_bytes t) × (left.new + c ≡ left.old) }
+        → result ≡ 0 → (to.new.bytes.now ≡ text_bytes t) × Leaves left.old left.new c }
     ensures refused { result ≢ 0 → RefusesNumber text_expected
         (lent_pointer segments.now.list.now segment word nesting) left.old left.new result }
     ensures answered { (t : Tree) (c : ℕ) → AreWords (lent segments.now.list.now) → IsText t
@@ -319,7 +311,7 @@ pub extern "C" fn capnp_layout_text<'m>(
     let mut lim = ReadLimiter::new(Some(*left as usize));
     let pointer = segments.pointer(segment, word, nesting);
     let found = pointer.get_text(&mut lim, None);
-    *left = words_left(&lim);
+    store_left(&lim, left);
     match found {
         Ok(bytes) => {
             *to = FoundBytes { bytes };
@@ -346,7 +338,7 @@ pub extern "C" fn capnp_layout_data<'m>(
         (lent_pointer segments.now.list.now segment word nesting) (unused (Some left.old)) }
     ensures value { (t : Tree) (c : ℕ)
         → MeansThere (lent_pointer segments.now.list.now segment word nesting) t c
-        → result ≡ 0 → (to.new.bytes.now ≡ list_numbers t) × (left.new + c ≡ left.old) }
+        → result ≡ 0 → (to.new.bytes.now ≡ list_numbers t) × Leaves left.old left.new c }
     ensures refused { result ≢ 0 → RefusesNumber data_expected
         (lent_pointer segments.now.list.now segment word nesting) left.old left.new result }
     ensures answered { (t : Tree) (c : ℕ) → IsBytes t
@@ -357,7 +349,7 @@ pub extern "C" fn capnp_layout_data<'m>(
     let mut lim = ReadLimiter::new(Some(*left as usize));
     let pointer = segments.pointer(segment, word, nesting);
     let found = pointer.get_data(&mut lim, None);
-    *left = words_left(&lim);
+    store_left(&lim, left);
     match found {
         Ok(bytes) => {
             *to = FoundBytes { bytes };
@@ -437,7 +429,7 @@ pub extern "C" fn capnp_layout_type(
     let mut lim = ReadLimiter::new(Some(*left as usize));
     let pointer = segments.pointer(segment, word, 0);
     let found = pointer.get_pointer_type(&mut lim);
-    *left = words_left(&lim);
+    store_left(&lim, left);
     match found {
         Ok(it) => {
             *kind = kind_of(it);

@@ -1,10 +1,11 @@
-use Rattle.std.proofs.Common.{ap, arith, refl, w32}
+use Rattle.std.proofs.Common.{Some, ◌-◌, ap, arith, refl, w32}
 use Rattle.capnp_objects.specs.Reading.{Reading}
 use Rattle.std.proofs.lemmas.Int.{to_z-of_z}
 use Rattle.std.proofs.lemmas.Bool.{false≢true}
-use Rattle.capnp_layout_c.specs.Lent.{lent, lent_pointer}
+use Rattle.capnp_layout_c.specs.Lent.{lent, lent_pointer, words_left}
 use Rattle.capnp_layout_c.proofs.Insides.{struct_inside}
 use Rattle.capnp_layout_c.proofs.OwnPlace.{expected_at, expected_there, refused_at}
+use Rattle.capnp_layout_c.proofs.Unlimited.{stays}
 use Rattle.capnp_layout_c.proofs.Shown.{struct_answer}
 use Rattle.capnp_layout_c.proofs.capnp_layout_struct.Goals as goal
 
@@ -14,9 +15,10 @@ returns-in-Ok-clause-exactly c = ((λ zero. expected_at _ (rw (to_z-of_z w32 c.a
 pub returns-in-Ok-clause-value : goal.returns-in-Ok-clause-value
 returns-in-Ok-clause-value c = λ t k means zero.
     let x = lent_pointer c.args.segments.now.list.now c.args.segment c.args.word c.args.nesting in
-    struct_answer _ x c.found_struct.result c.pointer-pointer.result c.in-Ok.r t k c.args.left.now c.words_left.result c.new-lim.result c.get_struct-found.new.lim (rw (to_z-of_z w32 c.args.nesting c.ranges.nesting) at c.pointer-pointer.ensures.place) refl c.new-lim.ensures
+    let (k', found, spent) = struct_answer _ x c.found_struct.result c.pointer-pointer.result c.in-Ok.r t k (Some c.args.left.now) (words_left c.get_struct-found.new.lim.left) c.new-lim.result c.get_struct-found.new.lim (rw (to_z-of_z w32 c.args.nesting c.ranges.nesting) at c.pointer-pointer.ensures.place) refl c.new-lim.ensures
     (record { data_is = c.found_struct.ensures.data; segment_is = c.found_struct.ensures.segment; start_is = c.found_struct.ensures.at; pointers_are = c.found_struct.ensures.pointers; nesting_is = c.found_struct.ensures.nesting })
-    c.in-Ok.ensures.read c.in-Ok.ensures.value c.in-Ok.ensures.spent c.words_left.ensures means
+    c.in-Ok.ensures.read c.in-Ok.ensures.value c.in-Ok.ensures.spent refl means in
+    (k', found, stays c.args.left.now c.store_left.new.left (k - k') c.get_struct-found.new.lim.left c.store_left.ensures spent)
 
 pub returns-in-Err-clause-exactly : goal.returns-in-Err-clause-exactly
 returns-in-Err-clause-exactly c = (
@@ -25,7 +27,7 @@ returns-in-Err-clause-exactly c = (
 )
 
 pub returns-in-Err-clause-refused : goal.returns-in-Err-clause-refused
-returns-in-Err-clause-refused c = λ some. (c.in-Err.kind, c.get_struct-found.new.lim, c.layout_number.ensures.number, c.words_left.ensures, refused_at _ (rw (to_z-of_z w32 c.args.nesting c.ranges.nesting) at c.pointer-pointer.ensures.place) c.new-lim.ensures c.in-Err.ensures.refused)
+returns-in-Err-clause-refused c = λ some. (c.in-Err.kind, c.get_struct-found.new.lim, c.layout_number.ensures.number, c.store_left.ensures, refused_at _ (rw (to_z-of_z w32 c.args.nesting c.ranges.nesting) at c.pointer-pointer.ensures.place) c.new-lim.ensures c.in-Err.ensures.refused)
 
 pub returns-in-Ok-clause-inside : goal.returns-in-Ok-clause-inside
 returns-in-Ok-clause-inside c = λ zero.

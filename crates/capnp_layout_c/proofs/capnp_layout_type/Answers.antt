@@ -10,7 +10,7 @@ returns-in-Err-clause-refused c = λ some. (
   c.in-Err.error,
   c.get_pointer_type-found.new.lim,
   c.layout_number.ensures.number,
-  c.words_left.ensures,
+  c.store_left.ensures,
   subst (λ (m : Meter). HasNoType (lent_pointer c.args.segments.now.list.now c.args.segment c.args.word (pos 0)) m c.get_pointer_type-found.new.lim c.in-Err.error) c.new-lim.ensures
       (subst (λ (r : Reading). HasNoType r c.new-lim.result c.get_pointer_type-found.new.lim c.in-Err.error) c.pointer-pointer.ensures.place c.in-Err.ensures.refused),
 )
