@@ -13,7 +13,9 @@
  * element after the end of a list have the default value. That isn't a refusal.
  *
  * Limits. Reading an object takes its words from `left`, each time that it is read, so a short message can't make a caller
- * read for long. `nesting` limits how deep structs and lists are nested.
+ * read for long. `nesting` limits how deep structs and lists are nested. Or call capnp_validate first: it checks the whole
+ * message once, and then reading takes nothing, and is refused only where the message has another kind of object than you
+ * ask for.
  *
  * What you have to keep. `bytes` and `size` of each segment are true, nothing changes the bytes while you read, and what a
  * function writes to overlaps nothing else that you pass to it. Use only structs and lists that these functions returned,
@@ -42,6 +44,9 @@ extern "C" {
 /* The default limits of a message, those of C++ and Rust. */
 #define CAPNP_NESTING 64
 #define CAPNP_WORDS UINT64_C(8388608)
+
+/* As `left`: no traversal limit. Reading takes nothing. */
+#define CAPNP_NO_LIMIT UINT64_MAX
 
 /* In the structs that the library reads or writes, a pointer takes 8 bytes on every machine. On one of 32 bits the last 4
  * are unused; this is CAPNP_CANONICAL_SLOTS_OF_8 of the generated C. */
@@ -211,8 +216,16 @@ bool capnp_layout_open(const struct capnp_segment *list, size_t count, struct ca
 uint32_t capnp_layout_open_frame(const uint8_t *frame, size_t size, uint64_t words, struct capnp_segment *room, size_t rooms,
                                  uint32_t *count, uint64_t *bytes);
 
-/* The calls that read: 0, or the number of a refusal. They charge `left`. `to` is always written: for a
- * null pointer, and if the call is refused, it is an empty struct, an empty list, or no bytes. */
+/* Reads the whole value of a message, from its root on, within `left` words and `nesting` levels, without the data of its
+ * objects. Returns 0 if all of it can be read; otherwise the number of the first refusal, and stores the place of its pointer
+ * in `segment` and `word`, which are 0 otherwise. Charges one word for the root pointer, and then each object once. Calls
+ * itself for each level. */
+uint32_t capnp_layout_validate(const struct capnp_segments *segments, uint64_t *left, int32_t nesting, uint64_t *segment,
+                               uint32_t *word);
+
+/* The calls that read: 0, or the number of a refusal. They charge `left`, which isn't written if it is
+ * CAPNP_NO_LIMIT. `to` is always written: for a null pointer, and if the call is refused, it is an empty struct, an empty
+ * list, or no bytes. */
 uint32_t capnp_layout_root(const struct capnp_segments *segments, uint64_t *left, int32_t nesting, struct capnp_found_struct *to);
 uint32_t capnp_layout_struct(const struct capnp_segments *segments, uint64_t *left, uint64_t segment, uint32_t word,
                              int32_t nesting, struct capnp_found_struct *to);
@@ -234,7 +247,7 @@ uint32_t capnp_layout_type(const struct capnp_segments *segments, uint64_t *left
 /* A message that is read. Doesn't move while readers of it are used. */
 struct capnp_message {
     struct capnp_segments segments;
-    /* The words that may still be read. */
+    /* The words that may still be read; CAPNP_NO_LIMIT after capnp_validate. */
     uint64_t left;
     /* The levels of structs and lists, from the root on. */
     int32_t nesting;
@@ -275,6 +288,27 @@ CAPNP_INLINE void capnp_refuse(struct capnp_message *message, uint32_t refusal, 
         message->refused_segment = segment;
         message->refused_word = word;
     }
+}
+
+/* The refusal that a default value keeps from the start: so no other is stored in it. */
+#define CAPNP_OF_DEFAULT UINT32_MAX
+
+/* Checks the whole message, from its root on, within `left` words and `nesting` levels. Returns 0 if all of it can be read;
+ * then nothing that you read of it is refused, unless an object is of another kind than you ask for, and `left` is
+ * CAPNP_NO_LIMIT: reading takes nothing. Otherwise the message keeps the first refusal with its place, and is else unchanged.
+ * Returns the refusal that it keeps already, if there is one. */
+CAPNP_INLINE uint32_t capnp_validate(struct capnp_message *message) {
+    uint64_t left = message->left, segment;
+    uint32_t word;
+    if (message->refusal != 0) return message->refusal;
+    message->refusal = capnp_layout_validate(&message->segments, &left, message->nesting, &segment, &word);
+    if (message->refusal == 0) {
+        message->left = CAPNP_NO_LIMIT;
+    } else {
+        message->refused_segment = segment;
+        message->refused_word = word;
+    }
+    return message->refusal;
 }
 
 /* Structs. */
@@ -400,6 +434,45 @@ CAPNP_INLINE enum capnp_type capnp_get_type(const struct capnp_struct *from, uin
         if (refusal != 0) capnp_refuse(from->message, refusal, from->at.segment, word);
     }
     return (enum capnp_type)kind;
+}
+
+/* Default values of pointers: a message of one segment that is only read, its first word the pointer. CAPNP_DEFAULT defines
+ * NAME from BYTES, an array of whole words. Reading a default takes nothing of the limit. If one isn't what you ask for, you
+ * get an empty value, and the refusal isn't kept. */
+#define CAPNP_DEFAULT(NAME, BYTES)                                                                                    \
+    static const struct capnp_segment NAME##_segment = {BYTES, sizeof BYTES};                                        \
+    static const struct capnp_message NAME = {{&NAME##_segment, 1}, CAPNP_NO_LIMIT, CAPNP_NESTING, CAPNP_OF_DEFAULT, 0, 0}
+
+/* A struct of one pointer, that of a default value. */
+CAPNP_INLINE struct capnp_struct capnp_missing(const struct capnp_struct *from, const struct capnp_message *missing) {
+    struct capnp_struct to;
+    memset(&to.at, 0, sizeof to.at);
+    to.message = (struct capnp_message *)(uintptr_t)missing;
+    to.at.nesting = from->at.nesting;
+    to.at.pointers = 1;
+    return to;
+}
+
+/* Like the functions without `_or`; if the pointer is null, or the struct doesn't have it, the value of `missing`. */
+CAPNP_INLINE struct capnp_struct capnp_get_struct_or(const struct capnp_struct *from, uint16_t index, const struct capnp_message *missing) {
+    struct capnp_struct other = capnp_missing(from, missing);
+    return capnp_has(from, index) ? capnp_get_struct(from, index) : capnp_get_struct(&other, 0);
+}
+
+CAPNP_INLINE struct capnp_list capnp_get_list_or(const struct capnp_struct *from, uint16_t index, enum capnp_size size,
+                                                 const struct capnp_message *missing) {
+    struct capnp_struct other = capnp_missing(from, missing);
+    return capnp_has(from, index) ? capnp_get_list(from, index, size) : capnp_get_list(&other, 0, size);
+}
+
+CAPNP_INLINE struct capnp_text capnp_get_text_or(const struct capnp_struct *from, uint16_t index, const struct capnp_message *missing) {
+    struct capnp_struct other = capnp_missing(from, missing);
+    return capnp_has(from, index) ? capnp_get_text(from, index) : capnp_get_text(&other, 0);
+}
+
+CAPNP_INLINE struct capnp_data capnp_get_data_or(const struct capnp_struct *from, uint16_t index, const struct capnp_message *missing) {
+    struct capnp_struct other = capnp_missing(from, missing);
+    return capnp_has(from, index) ? capnp_get_data(from, index) : capnp_get_data(&other, 0);
 }
 
 /* Fields of the data section. `offset` is in bytes from its start, for a bool in bits. `missing` is the schema's default, of

@@ -1,5 +1,6 @@
 // Reads mutated address books with capnp_layout.h and with the getters of C++ Cap'n Proto. Both have to read the same, or
-// both have to refuse.
+// both have to refuse. Then validates them, and follows every pointer by AnyPointer in C++: both have to get to the end, or
+// both have to refuse. After a validation reading takes nothing, and is refused only for the kind of an object.
 //
 //     beside ROUNDS [SEED]
 //
@@ -7,6 +8,7 @@
 // counted apart if the reason is known: C++ doesn't look whether an object without words is inside of its segment, and takes
 // a tag with a negative number of elements for one of fewer; and it refuses a two-word landing pad whose first word isn't a
 // far pointer, of which Rust's readers and these use the segment and the position. The last line is `N passed, M failed`.
+#include <capnp/any.h>
 #include <capnp/message.h>
 #include <capnp/serialize.h>
 #include <kj/exception.h>
@@ -148,10 +150,79 @@ static bool is_explained(const struct capnp_message &message) {
     return false;
 }
 
+// Follows every pointer of a message.
+struct Walk {
+    void pointers(capnp::List<capnp::AnyPointer>::Reader all) {
+        for (auto one : all) pointer(one);
+    }
+
+    void list(capnp::AnyList::Reader list) {
+        if (list.getElementSize() == capnp::ElementSize::POINTER) pointers(list.as<capnp::List<capnp::AnyPointer>>());
+        if (list.getElementSize() != capnp::ElementSize::INLINE_COMPOSITE) return;
+        auto elements = list.as<capnp::List<capnp::AnyStruct>>();
+        if (elements.size() == 0 || elements[0].getPointerSection().size() == 0) return;
+        for (auto element : elements) pointers(element.getPointerSection());
+    }
+
+    void pointer(capnp::AnyPointer::Reader one) {
+        switch (one.getPointerType()) {
+        case capnp::PointerType::STRUCT: return pointers(one.getAs<capnp::AnyStruct>().getPointerSection());
+        case capnp::PointerType::LIST: return list(one.getAs<capnp::AnyList>());
+        default: return;
+        }
+    }
+};
+
+// A refusal for the kind of an object, not for a broken pointer or a limit.
+static bool is_of_kind(uint32_t refusal) {
+    return (refusal >= CAPNP_EXPECTED_A_POINTER_LIST_BUT_GOT_A_LIST_OF_DATA_ONLY_STRUCTS && refusal <= CAPNP_FOUND_STRUCT_LIST_WHERE_BIT_LIST_WAS_EXPECTED) ||
+           (refusal >= CAPNP_MESSAGE_CONTAINS_LIST_POINTER_OF_NON_BYTES_WHERE_DATA_WAS_EXPECTED && refusal <= CAPNP_MESSAGE_CONTAINS_NULL_CAPABILITY_POINTER) ||
+           refusal == CAPNP_MESSAGE_CONTAINS_TEXT_THAT_IS_NOT_NUL_TERMINATED;
+}
+
+struct Validations {
+    long sound = 0, refused = 0, known = 0, pads = 0, limits = 0, other = 0, after = 0;
+
+    // C++ charges landing pads twice here, so it gets a greater limit.
+    void compare(std::vector<capnp::word> &words, struct capnp_message message) {
+        bool threw = false, is_pad = false;
+        try {
+            capnp::ReaderOptions options;
+            options.traversalLimitInWords = 4 << 20;
+            capnp::FlatArrayMessageReader reader(kj::arrayPtr(words.data(), words.size()), options);
+            Walk().pointer(reader.getRoot<capnp::AnyPointer>());
+        } catch (kj::Exception &error) {
+            threw = true;
+            is_pad = strstr(error.getDescription().cStr(), "double-far pad must be far pointer") != nullptr;
+        }
+        if (capnp_validate(&message) != 0) {
+            if (threw) refused++;
+            else if (message.refusal == CAPNP_READ_LIMIT_EXCEEDED) limits++;
+            else if (is_explained(message)) known++;
+            else if (other++ < 5) printf("validated: refusal %u at word %u\n", (unsigned)message.refusal, (unsigned)message.refused_word);
+            return;
+        }
+        if (is_pad) pads++;
+        else if (threw) other++;
+        else sound++;
+        read_by_c(&message);
+        if (message.left != CAPNP_NO_LIMIT || (message.refusal != 0 && !is_of_kind(message.refusal))) after++;
+    }
+
+    long failed() const { return other + after; }
+
+    void print() const {
+        printf("validated: %ld sound, %ld refused by both, %ld by C++ alone for a known reason; by C alone: %ld for a known reason, "
+               "%ld by the lower limit; %ld otherwise; %ld refused after they were found sound\n",
+               sound, refused, pads, known, limits, other, after);
+    }
+};
+
 int main(int given, char **words) {
     long rounds = given > 1 ? atol(words[1]) : 1000, same = 0, refused = 0, known = 0, unknown = 0, pads = 0, by_cpp = 0, other = 0;
     if (given > 2) state ^= strtoull(words[2], nullptr, 10) * UINT64_C(0x9e3779b97f4a7c15);
     kj::Array<capnp::word> frame = book();
+    Validations validations;
     for (long round = 0; round < rounds; round++) {
         if (round % 50 == 0) frame = book();
         std::vector<capnp::word> mutated(frame.begin(), frame.end());
@@ -166,6 +237,7 @@ int main(int given, char **words) {
         if (capnp_open_frame(&message, bytes, size, room, 512, &used) != 0 || used != size || message.segments.count != count + 1) abort();
         // the root pointer takes a word here, and none in C++
         message.left = (1 << 20) + 1;
+        validations.compare(mutated, message);
         uint64_t mine = read_by_c(&message), theirs = 0;
         bool threw = false, is_pad = false;
         try {
@@ -189,6 +261,7 @@ int main(int given, char **words) {
     printf("%ld messages: %ld read the same, %ld refused by both, %ld read differently; refused by C++ alone: %ld for a known "
            "reason, %ld for others; by C alone: %ld for a known reason, %ld for others\n",
            rounds, same, refused, other, pads, by_cpp, known, unknown);
-    printf("%ld passed, %ld failed\n", same + refused + known + pads, other + by_cpp + unknown);
-    return other + by_cpp + unknown != 0;
+    validations.print();
+    printf("%ld passed, %ld failed\n", same + refused + known + pads + rounds - validations.failed(), other + by_cpp + unknown + validations.failed());
+    return other + by_cpp + unknown + validations.failed() != 0;
 }

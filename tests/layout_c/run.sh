@@ -71,7 +71,7 @@ runs() {
 # The header, a program over it and the generated C, without a warning.
 header_c() {
     for standard in c99 c11; do
-        for program in edges.c calls.c lists.c print_addressbook.c; do
+        for program in edges.c calls.c sound.c defaults.c lists.c print_addressbook.c; do
             # shellcheck disable=SC2086
             "$1" $2 -std=$standard -O1 $warnings $include -c -o "$work/it.o" "$here/$program" || return 1
         done
@@ -108,6 +108,25 @@ sanitized() {
     shift 3
     # shellcheck disable=SC2086
     "$compiler" $bits -std=gnu11 -O1 -g $sanitizers $include -o "$work/$program" "$here/$program.c" "$folder/capnp_layout.c" && run "$work/$program" "$@"
+}
+
+# Validation beside the library that copies and checks, which needs 64 bits: both headers and both libraries in one program.
+sound() {
+    compiler=$1 bits=$2 other=
+    if [ "$bits" = -m64 ]; then
+        other=$work/canonical.o
+        "$compiler" -std=gnu11 -O1 -I"$top/bindings/c" -c -o "$other" "$top/generated/capnp_canonical.c" || return 1
+    fi
+    # shellcheck disable=SC2086
+    "$compiler" $bits -std=gnu11 -O1 -g $sanitizers $include -o "$work/sound" "$here/sound.c" "$folder/capnp_layout.c" $other &&
+        run "$work/sound" "$rounds" "${SEED:-1}"
+}
+
+defaults() {
+    sanitized "$1" "$2" defaults words >"$work/words" || return 1
+    capnp eval -b "$here/defaults.capnp" inner | tail -c +9 | cmp - "$work/words" || return 1
+    capnp eval -b "$here/defaults.capnp" set >"$work/set" && capnp eval -b "$here/defaults.capnp" unset >"$work/unset" || return 1
+    sanitized "$1" "$2" defaults "$work/set" "$work/unset"
 }
 
 plain() {
@@ -164,10 +183,12 @@ parts_with() {
     part "$called, no warnings" header_c "$compiler" "$flags"
     summed "$called, edges" sanitized "$compiler" "$flags" edges
     summed "$called, calls" sanitized "$compiler" "$flags" calls "$rounds" "${SEED:-1}"
+    summed "$called, validation" sound "$compiler" "$flags"
     if ! has capnp; then
         skip "$called, messages" capnp
         return
     fi
+    summed "$called, defaults" defaults "$compiler" "$flags"
     part "$called, lists" lists "$compiler" "$flags"
     part "$called, example" example "$compiler" "$flags"
     if [ -f "$top/bindings/c/building.c" ]; then part "$called, example that builds" example_that_builds "$compiler" "$flags"; fi
