@@ -14,7 +14,7 @@
  *
  * Limits. Reading an object takes its words from `left`, each time that it is read, so a short message can't make a caller
  * read for long. `nesting` limits how deep structs and lists are nested. Or call capnp_validate first: it checks the whole
- * message once, and then reading takes nothing, and is refused only where the message has another kind of object than you
+ * message once, and then reading takes nothing, and is refused only if the message has another kind of object than you
  * ask for.
  *
  * What you have to keep. `bytes` and `size` of each segment are true, nothing changes the bytes while you read, and what a
@@ -295,7 +295,7 @@ CAPNP_INLINE void capnp_refuse(struct capnp_message *message, uint32_t refusal, 
 
 /* Checks the whole message, from its root on, within `left` words and `nesting` levels. Returns 0 if all of it can be read;
  * then nothing that you read of it is refused, unless an object is of another kind than you ask for, and `left` is
- * CAPNP_NO_LIMIT: reading takes nothing. Otherwise the message keeps the first refusal with its place, and is else unchanged.
+ * CAPNP_NO_LIMIT: reading takes nothing. Otherwise the message keeps the first refusal with its place, and is otherwise unchanged.
  * Returns the refusal that it keeps already, if there is one. */
 CAPNP_INLINE uint32_t capnp_validate(struct capnp_message *message) {
     uint64_t left = message->left, segment;

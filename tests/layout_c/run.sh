@@ -110,7 +110,7 @@ sanitized() {
     "$compiler" $bits -std=gnu11 -O1 -g $sanitizers $include -o "$work/$program" "$here/$program.c" "$folder/capnp_layout.c" && run "$work/$program" "$@"
 }
 
-# Validation beside the library that copies and checks, which needs 64 bits: both headers and both libraries in one program.
+# Compares validation with the library that copies and checks, which needs 64 bits: both headers and both libraries in one program.
 sound() {
     compiler=$1 bits=$2 other=
     if [ "$bits" = -m64 ]; then

@@ -86,7 +86,7 @@ impl<'b> StructBuilder<'b> {
         }
     }
 
-    /// Where the struct is. If rustc knows the segment, it leaves out the code for others.
+    /// The place of the struct. If rustc knows the segment, it leaves out the code for others.
     #[inline(always)]
     fn place(&self) -> StructPlace {
         debug_assert_eq!(self.place.segment, 0, "a built message has one segment");

@@ -45,7 +45,7 @@ impl<'b, T: ?Sized> ListBuilder<'b, T> {
         }
     }
 
-    /// Where the list is. If rustc knows the segment, it leaves out the code for others.
+    /// The place of the list. If rustc knows the segment, it leaves out the code for others.
     #[inline(always)]
     fn place(&self) -> ListPlace {
         debug_assert_eq!(self.list.segment, 0, "a built message has one segment");
