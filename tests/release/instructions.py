@@ -173,6 +173,8 @@ def remembering(cases):
             cases.add(f'%v = trunc i64 %a to i{width}\n%w = {word} i{width} %v, {by}\n%r = zext i{width} %w to i64\nret i64 %r', lambda a, b, w=width, count=count, by=by: count(a % 2**w, by, w) % 2**w, edges(64)[:12])
         cases.add(f'%v = trunc i64 %a to i{width}\n%n = trunc i64 %b to i{width}\n%by = shl i{width} %n, 3\n%w = lshr i{width} %v, %by\n%c = trunc i{width} %w to i8\n%r = zext i8 %c to i64\nret i64 %r',
                   lambda a, b: a >> 8 * b & 0xff, [(0x0123456789abcdef, b) for b in range(width // 8)])
+        cases.add(f'%n = trunc i64 %b to i{width}\n%by = shl i{width} %n, 3\n%w = lshr i{width} 66051, %by\n%c = trunc i{width} %w to i8\n%r = zext i8 %c to i64\nret i64 %r',
+                  lambda a, b: 0x010203 >> 8 * b & 0xff, [(0, b) for b in range(width // 8)])
     # an unused cast, and a value that is read only for it
     cases.add('%at = alloca i64, align 8\nstore i64 %a, ptr %at, align 8\n%v = load i8, ptr %at, align 8\n%u = trunc i8 %v to i1\nret i64 %b', lambda a, b: b, [(5, 8)])
     # a read before a write returns the old value

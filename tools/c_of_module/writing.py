@@ -166,7 +166,9 @@ class Writer:
         if kind[0] == 'vector' and word in ('and', 'or', 'xor'):
             return self.define(name, kind, f'({a} {BINARY[word]} {b})', reads)
         if kind in UNCOUNTED and word in ('shl', 'lshr', 'mul'):
-            # A table of few bytes that is kept in such a number. It is in a `u64`, whose other bits are zero.
+            # A table of few bytes that is kept in such a number. It is in a `u64`, whose other bits are zero; a number that
+            # is written out may be shorter in C.
+            a = f'(u64){a}' if a[0].isdigit() else a
             cut = '' if word == 'lshr' else f' & {hex((1 << bits(kind)) - 1)}ull'
             by = f'* {b}' if word == 'mul' else f'{SHIFTS[word]} ({b} & 63u)'
             return self.define(name, kind, f'(({a} {by}){cut})', reads)
