@@ -143,13 +143,14 @@ pub extern "C" fn capnp_layout_struct<'m>(
     let mut lim = ReadLimiter::new(Some(*left as usize));
     let pointer = segments.pointer(segment, word, nesting);
     let found = pointer.get_struct(&mut lim, None);
-    store_left(&lim, left);
     match found {
         Ok(r) => {
+            store_left(&lim, left);
             *to = found_struct(r);
             0
         }
         Err(kind) => {
+            store_left(&lim, left);
             *to = no_struct();
             layout_number(kind)
         }
@@ -272,13 +273,14 @@ pub extern "C" fn capnp_layout_list<'m>(
     let mut lim = ReadLimiter::new(Some(*left as usize));
     let pointer = segments.pointer(segment, word, nesting);
     let found = pointer.get_list(&mut lim, size_of(expected), None);
-    store_left(&lim, left);
     match found {
         Ok(r) => {
+            store_left(&lim, left);
             *to = found_list(r);
             0
         }
         Err(kind) => {
+            store_left(&lim, left);
             *to = no_list();
             layout_number(kind)
         }
@@ -311,13 +313,14 @@ pub extern "C" fn capnp_layout_text<'m>(
     let mut lim = ReadLimiter::new(Some(*left as usize));
     let pointer = segments.pointer(segment, word, nesting);
     let found = pointer.get_text(&mut lim, None);
-    store_left(&lim, left);
     match found {
         Ok(bytes) => {
+            store_left(&lim, left);
             *to = FoundBytes { bytes };
             0
         }
         Err(kind) => {
+            store_left(&lim, left);
             *to = FoundBytes { bytes: &[] };
             layout_number(kind)
         }
@@ -349,13 +352,14 @@ pub extern "C" fn capnp_layout_data<'m>(
     let mut lim = ReadLimiter::new(Some(*left as usize));
     let pointer = segments.pointer(segment, word, nesting);
     let found = pointer.get_data(&mut lim, None);
-    store_left(&lim, left);
     match found {
         Ok(bytes) => {
+            store_left(&lim, left);
             *to = FoundBytes { bytes };
             0
         }
         Err(kind) => {
+            store_left(&lim, left);
             *to = FoundBytes { bytes: &[] };
             layout_number(kind)
         }

@@ -29,4 +29,4 @@ returns-in-Err-clause-exactly c = (
 )
 
 pub returns-in-Err-clause-refused : goal.returns-in-Err-clause-refused
-returns-in-Err-clause-refused c = λ some. (c.in-Err.kind, c.get_data-found.new.lim, c.layout_number.ensures.number, c.store_left.ensures, refused_at _ (rw (to_z-of_z w32 c.args.nesting c.ranges.nesting) at c.pointer-pointer.ensures.place) c.new-lim.ensures c.in-Err.ensures.refused)
+returns-in-Err-clause-refused c = λ some. (c.in-Err.kind, c.get_data-found.new.lim, c.layout_number.ensures.number, c.store_left-in-Err.ensures, refused_at _ (rw (to_z-of_z w32 c.args.nesting c.ranges.nesting) at c.pointer-pointer.ensures.place) c.new-lim.ensures c.in-Err.ensures.refused)
