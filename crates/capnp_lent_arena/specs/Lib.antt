@@ -1,0 +1,3 @@
+pub mod Lent
+pub mod LentArenaLemmas
+pub mod LentPlace
