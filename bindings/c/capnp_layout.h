@@ -60,7 +60,8 @@ extern "C" {
 /* What a call returns: the numbers of enum capnp_canonical_answer in capnp_canonical.h, which never change their meaning. */
 enum capnp_refusal {
     CAPNP_DONE = 0,
-    /* The frame has more segments than there is room for. The call stores their number. */
+    /* The frame has more segments than there is room for; the call stores their number. Or the buffer has no room for what
+     * is built. */
     CAPNP_NO_ROOM = 1,
     /* There are no bytes where a frame was expected. */
     CAPNP_NO_MESSAGE = 2,
@@ -110,10 +111,13 @@ enum capnp_refusal {
     CAPNP_MESSAGE_CONTAINS_TEXT_THAT_IS_NOT_NUL_TERMINATED = 56,
     /* The nesting limit is exceeded, perhaps by a cycle of pointers, at a struct. */
     CAPNP_MESSAGE_IS_TOO_DEEPLY_NESTED_OR_CONTAINS_CYCLES = 58,
-    /* There are 2^32 segments or more, or a segment has 2^32 words or more. From capnp_open. */
+    /* There are 2^32 segments or more, or a segment has 2^32 words or more. From capnp_open. Or a text or a list is
+     * too large, or the message would be. */
     CAPNP_MESSAGE_TOO_LARGE = 59,
     /* The nesting limit is exceeded, at a list. */
     CAPNP_NESTING_LIMIT_EXCEEDED = 60,
+    /* The place isn't in the message: a field, a pointer or an element that its object doesn't have. From calls that build. */
+    CAPNP_NO_SUCH_PLACE = 61,
     /* The traversal limit is exceeded. */
     CAPNP_READ_LIMIT_EXCEEDED = 62,
     /* A landing pad is a far pointer. From capnp_layout_type. */
@@ -579,6 +583,421 @@ CAPNP_INLINE struct capnp_data capnp_element_data(const struct capnp_list *from,
 CAPNP_INLINE struct capnp_list capnp_element_list(const struct capnp_list *from, uint32_t index, enum capnp_size size) {
     struct capnp_struct element = capnp_get_element(from, index);
     return capnp_get_list(&element, 0, size);
+}
+
+/* Building.
+ *
+ * A message is one segment in your buffer. Nothing takes memory, and all state is in structs of yours.
+ *
+ *     uint8_t buffer[4096];
+ *     struct capnp_builder message;
+ *     capnp_start(&message, buffer, sizeof buffer);
+ *     struct capnp_struct_builder root = capnp_init_root(&message, 1, 2);
+ *     capnp_set_u32(&root, 0, 123, 0);
+ *     capnp_set_text(&root, 0, "Alice");
+ *     size_t size;
+ *     const uint8_t *frame = capnp_finish(&message, &size);
+ *
+ * The first refusal is kept in `refusal` of the message, and each later call does nothing; so only the end has to be tested:
+ * `frame` is null. No argument makes a call write outside of the buffer, if the buffer, texts and data that you pass are
+ * there, and don't overlap: copy a text that you read from the same message.
+ *
+ * A place is a number of words from the start of the message, and stays true if the buffer moves. So `grow` may move the
+ * message to a larger buffer. A builder stays good until a pointer on the way to it is set again. */
+
+/* Where a struct is: the word at which its data section starts, and the sizes of its sections in words and pointers. */
+struct capnp_struct_at {
+    uint32_t at;
+    uint16_t data_words;
+    uint16_t pointers;
+};
+
+CAPNP_LAYOUT_SIZE(capnp_struct_at, 8);
+
+/* The library's part. The buffer's first `used` words are the message: `bytes` and `room` are its address and its size in
+ * bytes. It needn't be aligned or zero. `place` is a struct's, from capnp_place, and `list` a list's, from
+ * capnp_list_place. A place that isn't in the message is refused with CAPNP_NO_SUCH_PLACE, and nothing is changed.
+ * After CAPNP_NO_ROOM, a call that sets a pointer leaves it null, and one that opens it leaves it unchanged. */
+uint32_t capnp_layout_start(uint8_t *bytes, size_t room, uint32_t *used);
+uint32_t capnp_layout_init_root(uint8_t *bytes, size_t room, uint32_t *used, uint16_t data_words, uint16_t pointers, uint32_t *at);
+uint32_t capnp_layout_init_struct(uint8_t *bytes, size_t room, uint32_t *used, uint64_t place, uint16_t index, uint16_t data_words,
+                                  uint16_t pointers, uint32_t *at);
+uint32_t capnp_layout_init_struct_list(uint8_t *bytes, size_t room, uint32_t *used, uint64_t place, uint16_t index, uint32_t count,
+                                       uint16_t data_words, uint16_t pointers, uint32_t *first);
+uint32_t capnp_layout_init_list(uint8_t *bytes, size_t room, uint32_t *used, uint64_t place, uint16_t index, uint32_t size,
+                                uint32_t count, uint32_t *first);
+uint32_t capnp_layout_get_struct(uint8_t *bytes, size_t room, uint32_t *used, uint64_t place, uint16_t index, uint16_t data_words,
+                                 uint16_t pointers, struct capnp_struct_at *inner);
+uint32_t capnp_layout_set_text(uint8_t *bytes, size_t room, uint32_t *used, uint64_t place, uint16_t index, const uint8_t *text,
+                               size_t size);
+uint32_t capnp_layout_set_data(uint8_t *bytes, size_t room, uint32_t *used, uint64_t place, uint16_t index, const uint8_t *data,
+                               size_t size);
+uint32_t capnp_layout_clear(uint8_t *bytes, size_t room, uint32_t used, uint64_t place, uint16_t index);
+uint32_t capnp_layout_set_capability(uint8_t *bytes, size_t room, uint32_t used, uint64_t place, uint16_t index, uint32_t capability);
+
+/* Copies the value of the pointer at word `word` of segment `segment` of another message, and charges `left` what reading all
+ * of it costs. After any refusal but CAPNP_NO_SUCH_PLACE the pointer `index` is null. */
+uint32_t capnp_layout_copy(uint8_t *bytes, size_t room, uint32_t *used, uint64_t place, uint16_t index,
+                           const struct capnp_segments *segments, uint64_t *left, uint64_t segment, uint32_t word, int32_t nesting);
+
+/* `offset` is in values of that width, and in bits for a bool. */
+uint32_t capnp_layout_set_bool(uint8_t *bytes, size_t room, uint32_t used, uint64_t place, uint32_t offset, bool value);
+uint32_t capnp_layout_set_u8(uint8_t *bytes, size_t room, uint32_t used, uint64_t place, uint32_t offset, uint8_t value);
+uint32_t capnp_layout_set_u16(uint8_t *bytes, size_t room, uint32_t used, uint64_t place, uint32_t offset, uint16_t value);
+uint32_t capnp_layout_set_u32(uint8_t *bytes, size_t room, uint32_t used, uint64_t place, uint32_t offset, uint32_t value);
+uint32_t capnp_layout_set_u64(uint8_t *bytes, size_t room, uint32_t used, uint64_t place, uint32_t offset, uint64_t value);
+uint32_t capnp_layout_set_element_bool(uint8_t *bytes, size_t room, uint32_t used, uint64_t list, uint32_t index, bool value);
+uint32_t capnp_layout_set_element_u8(uint8_t *bytes, size_t room, uint32_t used, uint64_t list, uint32_t index, uint8_t value);
+uint32_t capnp_layout_set_element_u16(uint8_t *bytes, size_t room, uint32_t used, uint64_t list, uint32_t index, uint16_t value);
+uint32_t capnp_layout_set_element_u32(uint8_t *bytes, size_t room, uint32_t used, uint64_t list, uint32_t index, uint32_t value);
+uint32_t capnp_layout_set_element_u64(uint8_t *bytes, size_t room, uint32_t used, uint64_t list, uint32_t index, uint64_t value);
+
+/* The place of a struct, and that of a list of `count` elements from word `at` on. */
+CAPNP_INLINE uint64_t capnp_place(struct capnp_struct_at at) {
+    return at.at | (uint64_t)at.data_words << 32 | (uint64_t)at.pointers << 48;
+}
+
+CAPNP_INLINE uint64_t capnp_list_place(uint32_t at, uint32_t count) { return at | (uint64_t)count << 32; }
+
+/* A message for building. Doesn't move while builders of it are used. */
+struct capnp_builder {
+    /* The segment. The 8 bytes before it are for the table of its frame. */
+    uint8_t *bytes;
+    /* The size of the segment's buffer in bytes. */
+    size_t room;
+    /* How many words of it are the message. */
+    uint32_t used;
+    /* The first refusal, a number of enum capnp_refusal; 0 if there is none. */
+    uint32_t refusal;
+    /* After CAPNP_NO_ROOM: the least `room` that the refused call needs. */
+    uint64_t wanted;
+    /* Makes `room` at least `wanted` bytes, keeps the first 8 * used bytes and the 8 bytes before them, and returns true; or
+     * returns false. May be null. */
+    bool (*grow)(struct capnp_builder *message, size_t wanted);
+    /* Yours. */
+    void *context;
+};
+
+struct capnp_struct_builder {
+    struct capnp_builder *message;
+    struct capnp_struct_at place;
+};
+
+/* A list. Its first element is at `first.at`. The elements are structs with the sections of `first`, or have the size
+ * `size`. */
+struct capnp_list_builder {
+    struct capnp_builder *message;
+    struct capnp_struct_at first;
+    uint32_t count;
+    enum capnp_size size;
+};
+
+/* Keeps the answer of a call that needs room for `words` words. Returns true if `grow` has made room, so that
+ * the caller repeats the call. */
+CAPNP_INLINE bool capnp_again(struct capnp_builder *message, uint32_t answer, uint64_t words) {
+    if (answer == CAPNP_NO_ROOM) {
+        uint64_t wanted = 8 * (message->used + words);
+        if (message->grow && wanted > message->room && wanted <= SIZE_MAX && message->grow(message, (size_t)wanted)) return true;
+        message->wanted = wanted;
+    }
+    message->refusal = answer;
+    return false;
+}
+
+/* Starts a message in a buffer. Its first 8 bytes are for the table of the frame. */
+CAPNP_INLINE void capnp_start(struct capnp_builder *message, void *buffer, size_t size) {
+    memset(message, 0, sizeof *message);
+    message->bytes = (uint8_t *)buffer + (size < 8 ? 0 : 8);
+    message->room = size < 8 ? 0 : size - 8;
+    message->refusal = capnp_layout_start(message->bytes, message->room, &message->used);
+    if (message->refusal != 0) message->wanted = 8;
+}
+
+/* Makes the root pointer lead to a new struct, all zero. */
+CAPNP_INLINE struct capnp_struct_builder capnp_init_root(struct capnp_builder *message, uint16_t data_words, uint16_t pointers) {
+    struct capnp_struct_builder made;
+    made.message = message;
+    made.place.at = 0;
+    made.place.data_words = data_words;
+    made.place.pointers = pointers;
+    while (message->refusal == 0 &&
+           capnp_again(message, capnp_layout_init_root(message->bytes, message->room, &message->used, data_words, pointers, &made.place.at),
+                       (uint64_t)data_words + pointers)) {
+    }
+    return made;
+}
+
+/* The root pointer, in the form of a struct without data: to set it to something else than a struct, or to open it. */
+CAPNP_INLINE struct capnp_struct_builder capnp_root_pointer(struct capnp_builder *message) {
+    struct capnp_struct_builder root;
+    root.message = message;
+    root.place.at = 0;
+    root.place.data_words = 0;
+    root.place.pointers = 1;
+    return root;
+}
+
+/* Makes the pointer with this index lead to a new struct, all zero. */
+CAPNP_INLINE struct capnp_struct_builder capnp_init_struct(const struct capnp_struct_builder *of, uint16_t index, uint16_t data_words,
+                                                           uint16_t pointers) {
+    struct capnp_builder *message = of->message;
+    struct capnp_struct_builder made;
+    made.message = message;
+    made.place.at = 0;
+    made.place.data_words = data_words;
+    made.place.pointers = pointers;
+    while (message->refusal == 0 &&
+           capnp_again(message,
+                       capnp_layout_init_struct(message->bytes, message->room, &message->used, capnp_place(of->place), index,
+                                                data_words, pointers, &made.place.at),
+                       (uint64_t)data_words + pointers)) {
+    }
+    return made;
+}
+
+/* Opens the struct that the pointer leads to. Null becomes a new struct, all zero; one with smaller sections, as of an older
+ * schema, is moved to new words. */
+CAPNP_INLINE struct capnp_struct_builder capnp_open_struct(const struct capnp_struct_builder *of, uint16_t index, uint16_t data_words,
+                                                           uint16_t pointers) {
+    struct capnp_builder *message = of->message;
+    struct capnp_struct_builder found;
+    uint64_t words = (uint64_t)data_words + pointers;
+    found.message = message;
+    memset(&found.place, 0, sizeof found.place);
+    while (message->refusal == 0 &&
+           capnp_again(message,
+                       capnp_layout_get_struct(message->bytes, message->room, &message->used, capnp_place(of->place), index,
+                                               data_words, pointers, &found.place),
+                       words)) {
+        /* A struct that is moved keeps its larger section. */
+        words = 0x20000;
+    }
+    return found;
+}
+
+/* Opens the root struct. */
+CAPNP_INLINE struct capnp_struct_builder capnp_open_root(struct capnp_builder *message, uint16_t data_words, uint16_t pointers) {
+    struct capnp_struct_builder root = capnp_root_pointer(message);
+    return capnp_open_struct(&root, 0, data_words, pointers);
+}
+
+/* Makes the pointer lead to a new list of `count` structs, all zero. */
+CAPNP_INLINE struct capnp_list_builder capnp_init_struct_list(const struct capnp_struct_builder *of, uint16_t index, uint32_t count,
+                                                              uint16_t data_words, uint16_t pointers) {
+    struct capnp_builder *message = of->message;
+    struct capnp_list_builder made;
+    made.message = message;
+    made.first.at = 0;
+    made.first.data_words = data_words;
+    made.first.pointers = pointers;
+    made.size = CAPNP_STRUCT;
+    while (message->refusal == 0 &&
+           capnp_again(message,
+                       capnp_layout_init_struct_list(message->bytes, message->room, &message->used, capnp_place(of->place), index,
+                                                     count, data_words, pointers, &made.first.at),
+                       1 + (uint64_t)count * ((uint64_t)data_words + pointers))) {
+    }
+    made.count = message->refusal == 0 ? count : 0;
+    return made;
+}
+
+/* Makes the pointer lead to a new list of `count` elements that aren't structs, all zero or null. */
+CAPNP_INLINE struct capnp_list_builder capnp_init_list(const struct capnp_struct_builder *of, uint16_t index, enum capnp_size size,
+                                                       uint32_t count) {
+    static const uint8_t bits[] = {0, 1, 8, 16, 32, 64, 64, 0};
+    struct capnp_builder *message = of->message;
+    struct capnp_list_builder made;
+    made.message = message;
+    made.first.at = 0;
+    made.first.data_words = 0;
+    made.first.pointers = 1;
+    made.size = size;
+    while (message->refusal == 0 &&
+           capnp_again(message,
+                       capnp_layout_init_list(message->bytes, message->room, &message->used, capnp_place(of->place), index,
+                                              (uint32_t)size, count, &made.first.at),
+                       ((uint64_t)count * bits[(uint32_t)size & 7] + 63) / 64)) {
+    }
+    made.count = message->refusal == 0 ? count : 0;
+    return made;
+}
+
+/* Element `index` of a list of structs; or of a list of pointers, a struct without data, whose pointer 0 it is. If
+ * there is no such element, a place that each call refuses. */
+CAPNP_INLINE struct capnp_struct_builder capnp_builder_element(const struct capnp_list_builder *of, uint32_t index) {
+    struct capnp_struct_builder element;
+    uint32_t step = (uint32_t)of->first.data_words + of->first.pointers;
+    bool is_there = index < of->count && (of->size == CAPNP_STRUCT || of->size == CAPNP_POINTER);
+    element.message = of->message;
+    element.place = of->first;
+    element.place.at = is_there ? of->first.at + index * step : UINT32_MAX;
+    return element;
+}
+
+/* Makes the pointer lead to a new text: `size` bytes, and a zero byte. */
+CAPNP_INLINE void capnp_set_text_n(const struct capnp_struct_builder *of, uint16_t index, const char *text, size_t size) {
+    struct capnp_builder *message = of->message;
+    const uint8_t *bytes = (const uint8_t *)(size == 0 ? "" : text);
+    while (message->refusal == 0 &&
+           capnp_again(message,
+                       capnp_layout_set_text(message->bytes, message->room, &message->used, capnp_place(of->place), index, bytes, size),
+                       (uint64_t)size / 8 + 1)) {
+    }
+}
+
+CAPNP_INLINE void capnp_set_text(const struct capnp_struct_builder *of, uint16_t index, const char *text) {
+    capnp_set_text_n(of, index, text, strlen(text));
+}
+
+/* Makes the pointer lead to new data. */
+CAPNP_INLINE void capnp_set_data(const struct capnp_struct_builder *of, uint16_t index, const void *data, size_t size) {
+    struct capnp_builder *message = of->message;
+    const uint8_t *bytes = size == 0 ? (const uint8_t *)"" : (const uint8_t *)data;
+    while (message->refusal == 0 &&
+           capnp_again(message,
+                       capnp_layout_set_data(message->bytes, message->room, &message->used, capnp_place(of->place), index, bytes, size),
+                       ((uint64_t)size + 7) / 8)) {
+    }
+}
+
+/* Makes the pointer null, and zeroes what it held. */
+CAPNP_INLINE void capnp_clear(const struct capnp_struct_builder *of, uint16_t index) {
+    struct capnp_builder *message = of->message;
+    if (message->refusal == 0) {
+        message->refusal = capnp_layout_clear(message->bytes, message->room, message->used, capnp_place(of->place), index);
+    }
+}
+
+/* Makes the pointer the capability with this index in the message's capability table. */
+CAPNP_INLINE void capnp_set_capability(const struct capnp_struct_builder *of, uint16_t index, uint32_t capability) {
+    struct capnp_builder *message = of->message;
+    if (message->refusal == 0) {
+        message->refusal = capnp_layout_set_capability(message->bytes, message->room, message->used, capnp_place(of->place), index, capability);
+    }
+}
+
+/* Write a field of the data section. `offset` is in bytes from its start, for a bool in bits; it is refused if it isn't a
+ * multiple of the field's width. `missing` is the schema's default, of a float as its bits. Write the tag of a union before
+ * its member. */
+#define CAPNP_SET(NAME, TYPE, UNSIGNED, CALL)                                                                              \
+    CAPNP_INLINE void capnp_set_##NAME(const struct capnp_struct_builder *of, uint32_t offset, TYPE value, TYPE missing) { \
+        struct capnp_builder *message = of->message;                                                                       \
+        uint32_t at = offset % sizeof value == 0 ? offset / (uint32_t)sizeof value : UINT32_MAX;                           \
+        if (message->refusal == 0) {                                                                                       \
+            message->refusal = capnp_layout_set_##CALL(message->bytes, message->room, message->used,                       \
+                                                       capnp_place(of->place), at, (UNSIGNED)(value ^ missing));           \
+        }                                                                                                                  \
+    }
+CAPNP_SET(u8, uint8_t, uint8_t, u8)
+CAPNP_SET(u16, uint16_t, uint16_t, u16)
+CAPNP_SET(u32, uint32_t, uint32_t, u32)
+CAPNP_SET(u64, uint64_t, uint64_t, u64)
+CAPNP_SET(i8, int8_t, uint8_t, u8)
+CAPNP_SET(i16, int16_t, uint16_t, u16)
+CAPNP_SET(i32, int32_t, uint32_t, u32)
+CAPNP_SET(i64, int64_t, uint64_t, u64)
+#undef CAPNP_SET
+
+CAPNP_INLINE void capnp_set_bool(const struct capnp_struct_builder *of, uint32_t offset, bool value, bool missing) {
+    struct capnp_builder *message = of->message;
+    if (message->refusal == 0) {
+        message->refusal = capnp_layout_set_bool(message->bytes, message->room, message->used, capnp_place(of->place), offset, value != missing);
+    }
+}
+
+CAPNP_INLINE void capnp_set_f32(const struct capnp_struct_builder *of, uint32_t offset, float value, uint32_t missing) {
+    uint32_t bits;
+    memcpy(&bits, &value, sizeof bits);
+    capnp_set_u32(of, offset, bits, missing);
+}
+
+CAPNP_INLINE void capnp_set_f64(const struct capnp_struct_builder *of, uint32_t offset, double value, uint64_t missing) {
+    uint64_t bits;
+    memcpy(&bits, &value, sizeof bits);
+    capnp_set_u64(of, offset, bits, missing);
+}
+
+/* Write element `index` of a list of numbers that are as wide, or of bits. */
+#define CAPNP_SET_ELEMENT(NAME, TYPE, UNSIGNED, CALL, SIZE)                                                                  \
+    CAPNP_INLINE void capnp_set_element_##NAME(const struct capnp_list_builder *of, uint32_t index, TYPE value) {            \
+        struct capnp_builder *message = of->message;                                                                         \
+        UNSIGNED bits;                                                                                                       \
+        memcpy(&bits, &value, sizeof bits);                                                                                  \
+        if (message->refusal == 0) {                                                                                         \
+            message->refusal = capnp_layout_set_element_##CALL(message->bytes, message->room, message->used,                 \
+                                                               capnp_list_place(of->first.at, of->size == SIZE ? of->count : 0), \
+                                                               index, bits);                                                 \
+        }                                                                                                                    \
+    }
+CAPNP_SET_ELEMENT(u8, uint8_t, uint8_t, u8, CAPNP_BYTE)
+CAPNP_SET_ELEMENT(u16, uint16_t, uint16_t, u16, CAPNP_TWO_BYTES)
+CAPNP_SET_ELEMENT(u32, uint32_t, uint32_t, u32, CAPNP_FOUR_BYTES)
+CAPNP_SET_ELEMENT(u64, uint64_t, uint64_t, u64, CAPNP_EIGHT_BYTES)
+CAPNP_SET_ELEMENT(i8, int8_t, uint8_t, u8, CAPNP_BYTE)
+CAPNP_SET_ELEMENT(i16, int16_t, uint16_t, u16, CAPNP_TWO_BYTES)
+CAPNP_SET_ELEMENT(i32, int32_t, uint32_t, u32, CAPNP_FOUR_BYTES)
+CAPNP_SET_ELEMENT(i64, int64_t, uint64_t, u64, CAPNP_EIGHT_BYTES)
+CAPNP_SET_ELEMENT(f32, float, uint32_t, u32, CAPNP_FOUR_BYTES)
+CAPNP_SET_ELEMENT(f64, double, uint64_t, u64, CAPNP_EIGHT_BYTES)
+CAPNP_SET_ELEMENT(bool, bool, bool, bool, CAPNP_BIT)
+#undef CAPNP_SET_ELEMENT
+
+/* Make element `index` of a list of pointers lead to a new text, or to new data. For other objects call
+ * capnp_builder_element first. */
+CAPNP_INLINE void capnp_set_element_text(const struct capnp_list_builder *of, uint32_t index, const char *text) {
+    struct capnp_struct_builder element = capnp_builder_element(of, index);
+    capnp_set_text(&element, 0, text);
+}
+
+CAPNP_INLINE void capnp_set_element_data(const struct capnp_list_builder *of, uint32_t index, const void *data, size_t size) {
+    struct capnp_struct_builder element = capnp_builder_element(of, index);
+    capnp_set_data(&element, 0, data, size);
+}
+
+/* Copies what the pointer at word `word` of a segment of another message leads to, of any type, to pointer `index`. Takes what
+ * reading all of it costs from the limit of that message. A refusal to read it is kept by both messages. */
+CAPNP_INLINE void capnp_copy_pointer(const struct capnp_struct_builder *of, uint16_t index, struct capnp_message *from, uint64_t segment,
+                                     uint32_t word, int32_t nesting) {
+    struct capnp_builder *message = of->message;
+    uint32_t used = message->used, answer;
+    uint64_t left = from->left;
+    while (message->refusal == 0) {
+        from->left = left;
+        answer = capnp_layout_copy(message->bytes, message->room, &message->used, capnp_place(of->place), index, &from->segments,
+                                   &from->left, segment, word, nesting);
+        if (answer != 0 && answer != CAPNP_NO_ROOM && answer != CAPNP_NO_SUCH_PLACE) capnp_refuse(from, answer, segment, word);
+        /* What a refused copy has allocated is zero, and no pointer leads there. */
+        if (answer == CAPNP_NO_ROOM) message->used = used;
+        /* A copy has at most as many words as reading it costs. What was read until the buffer was full is known. */
+        if (!capnp_again(message, answer, 2 * (left - from->left) + 1)) break;
+    }
+}
+
+/* The same, for pointer `from_index` of a struct that is read. If the struct has no such pointer, the copy is null. */
+CAPNP_INLINE void capnp_copy(const struct capnp_struct_builder *of, uint16_t index, const struct capnp_struct *from, uint16_t from_index) {
+    if (from_index < from->at.pointers) {
+        capnp_copy_pointer(of, index, from->message, from->at.segment, from->at.pointers_at + from_index, from->at.nesting);
+    } else {
+        capnp_clear(of, index);
+    }
+}
+
+/* The same, for the root of a message, which becomes the root of this one. */
+CAPNP_INLINE void capnp_copy_root(struct capnp_builder *message, struct capnp_message *from) {
+    struct capnp_struct_builder root = capnp_root_pointer(message);
+    capnp_copy_pointer(&root, 0, from, 0, 0, from->nesting);
+}
+
+/* Writes the table in front of the segment, and returns the frame, of `size` bytes; null if a call was refused. Building may
+ * go on, and the message be finished again. */
+CAPNP_INLINE const uint8_t *capnp_finish(struct capnp_builder *message, size_t *size) {
+    uint32_t i;
+    *size = 0;
+    if (message->refusal != 0) return NULL;
+    memset(message->bytes - 8, 0, 4);
+    for (i = 0; i < 4; i++) message->bytes[(int32_t)i - 4] = (uint8_t)(message->used >> (8 * i));
+    *size = 8 + 8 * (size_t)message->used;
+    return message->bytes - 8;
 }
 
 #ifdef __cplusplus

@@ -1,3 +1,5 @@
+pub mod BuildingCalls
+pub mod BuildingCopies
 pub mod Children
 pub mod Cuts
 pub mod ElementsFound

@@ -1,3 +1,7 @@
+pub mod Buffers
+pub mod BuildingNumbers
+pub mod Builds
+pub mod Copies
 pub mod Found
 pub mod Lent
 pub mod Opened

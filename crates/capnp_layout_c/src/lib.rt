@@ -27,6 +27,7 @@ ghost use Rattle.capnp_layout_c.specs.Lent.{Leaves, lent, lent_pointer, root_lef
 ghost use Rattle.capnp_layout_c.specs.Found.{IsFoundStruct, IsFoundList, IsFoundType, HasElementsInside, HasPointersInside, RefusesNumber, RefusesRootNumber, RefusesType, type_number};
 ghost use Rattle.capnp_layout_c.specs.Opened.{IsOpened, RefusesOpening};
 
+mod building;
 mod found;
 mod frames;
 mod laws;

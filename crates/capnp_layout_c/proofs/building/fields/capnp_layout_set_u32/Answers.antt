@@ -1,0 +1,26 @@
+use Rattle.std.proofs.Common.{refl, rules, ◌∙◌}
+use Rattle.capnp_builders.specs.Places.{number_field}
+use Rattle.capnp_layout_c.proofs.BuildingCalls.{Tie, place_there, used_kept, written}
+use Rattle.capnp_layout_c.proofs.building.fields.capnp_layout_set_u32.Goals as goal
+
+pub set_number-requires-clause-inside : goal.set_number-requires-clause-inside
+set_number-requires-clause-inside c =
+    place_there c.new-arena.result c.args.used c.args.place c.place.result c.new-arena.ensures.used
+    (c.has_struct.ensures.0 (search rules)).1 c.place.ensures
+
+pub returns-clause-sets : goal.returns-clause-sets
+returns-clause-sets c _ =
+    let a = c.new-arena.result in
+    let b = c.set_number.new.arena in
+    let memory = c.set_number.ensures.memory in
+    let tie : Tie a b c.args.bytes.now _ c.args.used c.args.used = record {
+      lent = _;
+      is = c.new-arena.ensures.bytes;
+      was = refl;
+      from_is = c.new-arena.ensures.used;
+      fresh = c.new-arena.ensures.refused;
+      used_is = used_kept a b memory ∙ c.new-arena.ensures.used;
+      back = c.bytes-1.given.1.1;
+    } in
+    let e = c.set_number.ensures in
+    written tie c.place.result c.args.place (number_field 4 c.args.offset c.args.value) c.place.ensures memory e.sets e.replaces e.grows

@@ -1,0 +1,43 @@
+-- A copy of a value that is read, into the message in the buffer.
+use Rattle.std.specs.Prelude.{◌≡◌, ℕ, Result, IsOk, IfOk, IfErr}
+use Rattle.capnp_words.specs.Meter.{Meter}
+use Rattle.capnp_words.specs.declared.error.ErrorKind.{ErrorKind}
+use Rattle.capnp_format.specs.Segments.{Grows}
+use Rattle.capnp_format.specs.Tree.{Tree}
+use Rattle.capnp_arena_traits.specs.View.{View}
+use Rattle.capnp_making.specs.Makes.{call_at}
+use Rattle.capnp_objects.specs.Reading.{Reading}
+use Rattle.capnp_objects.specs.Wanted.{plain}
+use Rattle.capnp_readers.specs.Values.{HasValue}
+use Rattle.capnp_copies.specs.Changes.{CopyCall, copy_call}
+use Rattle.capnp_copies.specs.Growth.{TakesAtMost}
+use Rattle.capnp_copies.specs.Originals.{value_original}
+use Rattle.capnp_copies.specs.Rooms.{CanBeCopied}
+use Rattle.capnp_builders.specs.Held.{MakesChild, call_in}
+use Rattle.capnp_builders.specs.Kept.{LeavesCleared, PutsCopy}
+use Rattle.capnp_layout_c.specs.Buffers.{Buffer, Done, Gives, placed_struct, pointer_of}
+use Rattle.capnp_layout_c.specs.Lent.{words_left}
+use Rattle.capnp_layout_c.specs.declared.building.places.StructAt.{StructAt}
+
+-- A copy to pointer i of the struct, with the read limiter before and after it.
+abbrev pub copy_to : StructAt → ℕ → Meter → Meter → View → View → CopyCall
+copy_to p i before after old new = copy_call plain (call_at 0 (pointer_of p i) old new) before after
+
+-- The call, with the result r, copies the value that is read to pointer i of the struct, and
+-- changes nothing else; or it is refused, and the pointer is null.
+pub record CopiesAt (from : Reading) (before after : Meter) (p : StructAt) (i : ℕ)
+    (r : Result Done ErrorKind) (old new : View) : Type 0 where
+  pub copied : IfOk r (λ _. PutsCopy (value_original from) (copy_to p i before after old new))
+  pub fits : CanBeCopied (value_original from) plain before old 0 → IsOk r
+  pub refused : IfErr r (LeavesCleared (value_original from) (copy_to p i before after old new))
+  pub taken : TakesAtMost r (value_original from) (copy_to p i before after old new)
+  pub child : (t : Tree) → HasValue from t →
+      MakesChild r (call_in (placed_struct p) old.words new.words) i t
+  pub grows : Grows old.words new.words
+
+-- The same, and C sees the number of the result, and the words that are left of the limit.
+pub record CopiesValue (number : ℕ) (from : Reading) (before : Meter) (left : ℕ) (p : StructAt)
+    (i : ℕ) (b : Buffer) : Type 0 where
+  pub after : Meter
+  pub left_is : left ≡ words_left after.left
+  pub gives : Gives Done number b (CopiesAt from before after p i)
