@@ -137,17 +137,3127 @@ INLINE u16 bswap16(u16 a) { return __builtin_bswap16(a); }
 INLINE u32 bswap32(u32 a) { return __builtin_bswap32(a); }
 INLINE u64 bswap64(u64 a) { return __builtin_bswap64(a); }
 
+/* Vectors of bytes, which are compared and combined at once. A mask has a byte of ones or zeros for each byte. */
+#define VECTOR(count)                                                                         \
+    typedef u8 v##count __attribute__((vector_size(count)));                                  \
+    typedef i8 w##count __attribute__((vector_size(count)));                                  \
+    typedef v##count anyv##count __attribute__((may_alias, aligned(1)));
+
+VECTOR(8)
+VECTOR(16)
+VECTOR(32)
+VECTOR(64)
+
+/* These are macros, because how a long vector is passed to a function depends on the processor. */
+#define ldv8(from) (*(const anyv8 *)(const void *)(from))
+#define ldv16(from) (*(const anyv16 *)(const void *)(from))
+#define ldv32(from) (*(const anyv32 *)(const void *)(from))
+#define ldv64(from) (*(const anyv64 *)(const void *)(from))
+#define stv8(to, value) (void)(*(anyv8 *)(void *)(to) = (value))
+#define stv16(to, value) (void)(*(anyv16 *)(void *)(to) = (value))
+#define stv32(to, value) (void)(*(anyv32 *)(void *)(to) = (value))
+#define stv64(to, value) (void)(*(anyv64 *)(void *)(to) = (value))
+
+/* All bytes of a vector, combined by or. */
+INLINE u8 any_at(const void *vector, int size)
+{
+    u64 bytes = 0;
+    for (int at = 0; at < size; at += 8) bytes |= ld64((const u8 *)vector + at);
+    bytes |= bytes >> 32;
+    bytes |= bytes >> 16;
+    return (u8)(bytes | bytes >> 8);
+}
+
+/* A bit for each of the first 8 bytes of a mask. */
+INLINE u8 mask_at(const void *vector) { return (u8)((ld64(vector) & 0x8080808080808080u) * 0x0002040810204081u >> 56); }
+
+#define any8(vector) __extension__({ v8 any_ = (vector); any_at(&any_, 8); })
+#define any16(vector) __extension__({ v16 any_ = (vector); any_at(&any_, 16); })
+#define any32(vector) __extension__({ v32 any_ = (vector); any_at(&any_, 32); })
+#define any64(vector) __extension__({ v64 any_ = (vector); any_at(&any_, 64); })
+#define mask8(vector) __extension__({ v8 mask_ = (vector); mask_at(&mask_); })
+#define mask16(vector) __extension__({ v16 mask_ = (vector); (u16)(mask_at(&mask_) | mask_at((const u8 *)&mask_ + 8) << 8); })
+/* 16 bytes of a vector, from byte `at` on; and the 8 bytes of a number. */
+#define part16_of_64(vector, at) __extension__({ v64 part_ = (vector); ldv16((const u8 *)&part_ + (at)); })
+#define part16_of_32(vector, at) __extension__({ v32 part_ = (vector); ldv16((const u8 *)&part_ + (at)); })
+#define v8_of(number) __extension__({ u64 number_ = (number); ldv8(&number_); })
+
 #include "capnp_layout.h"
 
+struct s_i8_i32 { u8 f0; u32 f1; };
 
 /* mvN moves N bytes between places that may overlap. */
-INLINE void mv6(u8 *to, const u8 *from) { u32 w0 = ld32(from); u16 w4 = ld16((from + 4)); st32(to, w0); st16((to + 4), w4); }
+INLINE void mv6(u8 *to, const u8 *from) { u32 part0 = ld32(from); u16 part4 = ld16((from + 4)); st32(to, part0); st16((to + 4), part4); }
+INLINE void mv8(u8 *to, const u8 *from) { u64 part0 = ld64(from); st64(to, part0); }
+INLINE void mv16(u8 *to, const u8 *from) { u64 part0 = ld64(from); u64 part8 = ld64((from + 8)); st64(to, part0); st64((to + 8), part8); }
+INLINE void mv24(u8 *to, const u8 *from) { u64 part0 = ld64(from); u64 part8 = ld64((from + 8)); u64 part16 = ld64((from + 16)); st64(to, part0); st64((to + 8), part8); st64((to + 16), part16); }
+INLINE void mv32(u8 *to, const u8 *from) { u64 part0 = ld64(from); u64 part8 = ld64((from + 8)); u64 part16 = ld64((from + 16)); u64 part24 = ld64((from + 24)); st64(to, part0); st64((to + 8), part8); st64((to + 16), part16); st64((to + 24), part24); }
 
-static const u8 g_static_0[1] = { 0 };
+static const u8 g_static_4[1] = { 0 };
+static const u64 switch_table_capnp_copies_copy_copy_object_5ec03199cc959fcd[7] = { 0u, 1u, 8u, 16u, 32u, 64u, 0u };
+static const u64 switch_table_capnp_copies_copy_children_copy_children__1fe69969[5] = { 1u, 8u, 16u, 32u, 64u };
 
+static NEVER COLD void capnp_contents_existing_struct_behind_pad_d7a666d2d35ab297(u8 *a_1, u8 *a_2, u32 a_3, u64 a_4);
+static NEVER COLD void capnp_making_landing_follow_far_d7a666d2d35ab297(u8 *a_1, u8 *a_2, u64 a_3);
+static NEVER void capnp_contents_opening_open_narrow_struct_d7a666d2d35ab297(u8 *a_1, u8 *a_2, u32 a_3, u32 a_4, u32 a_5, u16 a_6, u16 a_7, u16 a_8, u16 a_9);
+static struct s_i8_i32 capnp_lent_arena_lent_arena_LentArenaBuilderArena_allo_b39b26fb(u8 *a_1, u32 a_2);
+static void capnp_lent_arena_lent_arena_LentArenaBuilderArena_allo_c5878f28(u8 *a_1, u8 *a_2, u32 a_3);
+static NEVER void capnp_contents_widening_copy_words_at_once_d7a666d2d35ab297(u8 *a_1, u32 a_2, u32 a_3, u32 a_4);
+static NEVER COLD void capnp_contents_moving_transfer_row_across_d7a666d2d35ab297(u8 *a_1, u8 *a_2, u32 a_3, u32 a_4, u32 a_5, u32 a_6, u32 a_7);
+static NEVER COLD void capnp_making_zeroing_zero_far_pads_d7a666d2d35ab297(u8 *a_1, u64 a_2);
+static NEVER COLD void capnp_contents_moving_zero_pads_of_row_d7a666d2d35ab297(u8 *a_1, u32 a_2, u32 a_3, u32 a_4, u32 a_5, u32 a_6);
+static void capnp_making_zeroing_zero_if_inside_d7a666d2d35ab297(u8 *a_1, u32 a_2, u32 a_3, u64 a_4);
+static NEVER void capnp_contents_opening_new_struct_d7a666d2d35ab297(u8 *a_1, u8 *a_2, u32 a_3, u16 a_4, u16 a_5);
+static NEVER COLD void capnp_making_landing_follow_d7a666d2d35ab297(u8 *a_1, u8 *a_2, u32 a_3, u32 a_4);
+static NEVER COLD void capnp_making_zeroing_zero_target_d7a666d2d35ab297(u8 *a_1, u8 *a_2);
+static void capnp_making_making_make_struct_list_d7a666d2d35ab297(u8 *a_1, u8 *a_2, u32 a_3, u32 a_4, u32 a_5, u16 a_6, u16 a_7);
+static NEVER void capnp_copies_copy_copy_object_5ec03199cc959fcd(u8 *a_1, u8 *a_2, u32 a_3, u32 a_4, u8 *a_5, u8 *a_6, u8 a_7);
 static NEVER void capnp_objects_source_follow_far_07dcb38b0fe92235(u8 *a_1, u8 *a_2, u64 a_3, u8 *a_4);
+static u64 capnp_words_words_used_words_in(u8 *a_1, u64 a_2, u64 a_3);
+static NEVER u64 capnp_words_lanes_used_words_bound(u8 *a_1, u64 a_2);
+static void capnp_copies_copy_elements_put_words_d7a666d2d35ab297(u8 *a_1, u32 a_2, u8 *a_3, u64 a_4);
+static void capnp_arena_traits_arena_writing_copy_words_d7a666d2d35ab297(u8 *a_1, u32 a_2, u8 *a_3, u64 a_4);
+static NEVER void capnp_copies_copy_children_copy_children_out_of_line_5_f210a996(u8 *a_1, u8 *a_2, u32 a_3, u32 a_4, u8 *a_5, u32 a_6, u8 *a_7, u8 a_8);
 static void capnp_objects_source_expected_narrow_elements_error(u8 *a_1, u8 a_2, u8 a_3);
 static u32 capnp_layout_c_capnp_layout_struct(u8 *a_1, u8 *a_2, u64 a_3, u32 a_4, u32 a_5, u8 *a_6);
+
+/* capnp_contents::existing::struct_behind_pad::<#d7a666d2d35ab297> */
+static NEVER COLD void capnp_contents_existing_struct_behind_pad_d7a666d2d35ab297(u8 *a_1, u8 *a_2, u32 a_3, u64 a_4)
+{
+    A(8) u8 slot_1[32];
+    u64 t_24;
+    u64 r_lc;
+    u64 r_iy;
+    u32 r_ed;
+    u32 r_uo;
+    u64 r_4i;
+    u8 r_5g;
+    u32 r_12;
+    u32 r_az;
+    u64 r_lc_1;
+    u64 r_fq;
+    u32 r_pp;
+    u32 r_9q;
+    u32 r_ai;
+    u32 r_m0;
+    if (!((a_4 & 3ull) == 2ull)) goto l_else_kq;
+    capnp_making_landing_follow_far_d7a666d2d35ab297(slot_1, a_2, a_4);
+    r_ed = ld32((slot_1 + 20));
+    r_uo = ld32((slot_1 + 16));
+    r_4i = ld64((slot_1 + 8));
+    r_5g = (ld8(slot_1) == 1u);
+    goto l_capnp_v4;
+l_else_kq:;
+    t_24 = (u64)ld32(away(a_2, 16ull));
+    u64 r_m6 = ((u64)(a_4 >> 2ull) & 0x3fffffffull);
+    r_lc = (((u64)a_3 + 1ull) + r_m6);
+    if (!(r_m6 < 0x20000000ull)) goto l_else_vv;
+    if (r_lc > t_24) { r_ed = 0u; r_uo = 0u; r_4i = 0ull; r_5g = 0u; goto l_capnp_v4; }
+    r_iy = r_lc;
+    goto l_arm_wn;
+l_else_vv:;
+    u64 r_3o = (r_lc + 0xffffffffc0000000ull);
+    if ((r_lc < 0x40000000ull) ? 1u : (r_3o > t_24)) { r_ed = 0u; r_uo = 0u; r_4i = 0ull; r_5g = 0u; goto l_capnp_v4; }
+    r_iy = r_3o;
+l_arm_wn:;
+    r_ed = (u32)r_iy;
+    r_uo = 0u;
+    r_4i = a_4;
+    r_5g = 1u;
+l_capnp_v4:;
+    if (!r_5g) { r_pp = 0u; r_9q = 0u; r_ai = 0u; r_m0 = 0u; goto l_capnp_4n; }
+    r_12 = (u32)(u64)(r_4i >> 48ull);
+    r_az = ((u32)(u64)(r_4i >> 32ull) & 65535u);
+    if (!((r_4i & 3ull) == 0ull)) { r_pp = 0u; r_9q = 0u; r_ai = 0u; r_m0 = 0u; goto l_capnp_4n; }
+    r_lc_1 = ((u64)(r_az + r_12) + (u64)r_ed);
+    if (!(r_uo == 0u)) { r_fq = 0ull; goto l_capnp_zu; }
+    r_fq = (u64)ld32(away(a_2, 16ull));
+l_capnp_zu:;
+    if (r_lc_1 > r_fq) { r_pp = 0u; r_9q = 0u; r_ai = 0u; r_m0 = 0u; goto l_capnp_4n; }
+    r_pp = 1u;
+    r_9q = r_uo;
+    r_ai = r_ed;
+    r_m0 = ((u32)(r_12 << 16u) | r_az);
+l_capnp_4n:;
+    st32(a_1, r_pp);
+    st32(away(a_1, 4ull), r_9q);
+    st32(away(a_1, 8ull), r_ai);
+    st32(away(a_1, 12ull), r_m0);
+    return;
+}
+
+/* capnp_making::landing::follow_far::<#d7a666d2d35ab297> */
+static NEVER COLD void capnp_making_landing_follow_far_d7a666d2d35ab297(u8 *a_1, u8 *a_2, u64 a_3)
+{
+    u32 t_ri;
+    u32 r_yf;
+    u64 r_bb;
+    u32 r_x0;
+    u64 r_t5;
+    u64 r_lw;
+    u64 t_24;
+    u64 r_lc;
+    u64 r_z3;
+    u64 r_vt;
+    u64 r_8t;
+    u32 r_49;
+    u32 r_1t;
+    u32 r_a3;
+    t_ri = (u32)((u32)a_3 >> 3u);
+    if (!(a_3 < 0x100000000ull)) goto l_capnp_50;
+    r_yf = ld32(away(a_2, 16ull));
+    if (!(r_yf > t_ri)) { r_bb = 0ull; goto l_capnp_mb; }
+    r_bb = ld64(away(ldp(a_2), (a_3 & 0xfffffff8ull)));
+l_capnp_mb:;
+    if ((a_3 & 4ull) == 0ull) goto l_then_n8;
+    goto l_then_zx;
+l_capnp_50:;
+    if ((a_3 & 4ull) == 0ull) { r_vt = 0ull; r_8t = 0ull; r_49 = 0u; r_1t = 0u; r_a3 = 0u; goto l_join_s8; }
+    r_t5 = 0ull;
+    r_lw = 0ull;
+    goto l_capnp_31;
+l_then_zx:;
+    r_x0 = (t_ri + 1u);
+    if (!(r_yf > r_x0)) { r_t5 = r_bb; r_lw = 0ull; goto l_capnp_31; }
+    r_t5 = r_bb;
+    r_lw = ld64(away(ldp(a_2), (u64)((u64)r_x0 << 3ull)));
+l_capnp_31:;
+    r_vt = 1ull;
+    r_8t = r_lw;
+    r_49 = (u32)(u64)(r_t5 >> 32ull);
+    r_1t = (u32)((u32)r_t5 >> 3u);
+    r_a3 = 2u;
+    goto l_join_s8;
+l_then_n8:;
+    t_24 = (u64)r_yf;
+    u64 r_m6 = ((u64)(r_bb >> 2ull) & 0x3fffffffull);
+    r_lc = (r_m6 + (u64)(t_ri + 1u));
+    if (!(r_m6 < 0x20000000ull)) goto l_else_vv;
+    if (r_lc > t_24) { r_vt = 0ull; r_8t = 0ull; r_49 = 0u; r_1t = 0u; r_a3 = 0u; goto l_join_s8; }
+    r_z3 = r_lc;
+    goto l_arm_eo;
+l_else_vv:;
+    u64 r_3o = (r_lc + 0xffffffffc0000000ull);
+    if ((r_lc < 0x40000000ull) ? 1u : (r_3o > t_24)) { r_vt = 0ull; r_8t = 0ull; r_49 = 0u; r_1t = 0u; r_a3 = 0u; goto l_join_s8; }
+    r_z3 = r_3o;
+l_arm_eo:;
+    r_vt = 1ull;
+    r_8t = r_bb;
+    r_49 = 0u;
+    r_1t = (u32)r_z3;
+    r_a3 = 1u;
+l_join_s8:;
+    st64(a_1, r_vt);
+    st64(away(a_1, 8ull), r_8t);
+    st32(away(a_1, 16ull), r_49);
+    st32(away(a_1, 20ull), r_1t);
+    st32(away(a_1, 24ull), r_a3);
+    st32(away(a_1, 28ull), 0u);
+    return;
+}
+
+/* capnp_contents::opening::open_narrow_struct::<#d7a666d2d35ab297> */
+static NEVER void capnp_contents_opening_open_narrow_struct_d7a666d2d35ab297(u8 *a_1, u8 *a_2, u32 a_3, u32 a_4, u32 a_5, u16 a_6, u16 a_7, u16 a_8, u16 a_9)
+{
+    A(8) u8 slot_1[24];
+    u16 a_1p;
+    u16 a_1p_1;
+    u8 *r_08;
+    u32 r_yf;
+    u64 r_6n;
+    u32 r_m2;
+    u32 r_m2_1;
+    u32 r_68;
+    u64 r_24;
+    u64 r_z6_1;
+    u64 r_c0;
+    u8 *r_2b_1;
+    u8 r_4t;
+    u32 r_w0;
+    u32 r_29;
+    u32 r_m2_2;
+    u8 *r_xp_1;
+    u8 *r_c5;
+    u64 r_m4;
+    u32 r_eh;
+    u32 r_w0_1;
+    u32 r_m2_3;
+    u8 r_sz_1;
+    u64 wide_bi;
+    u64 indvars_64;
+    u32 r_sr;
+    u32 r_sr_1;
+    u32 r_yf_1;
+    u64 r_24_1;
+    u8 *r_fx_2;
+    u64 r_qw_2;
+    u64 r_lc;
+    u64 r_24_2;
+    u64 r_sm;
+    u32 r_4r;
+    u64 r_79;
+    u64 r_sx;
+    u64 r_nw;
+    u8 pre_r5;
+    u32 r_uq;
+    u64 r_38;
+    u32 t_cf;
+    u32 r_68_1;
+    u64 r_es;
+    u64 r_7l_3;
+    u64 r_z6_6;
+    u8 *r_2b_4;
+    u8 *t_2b_3;
+    u64 r_es_1;
+    u64 r_z6_8;
+    u8 *r_2b_5;
+    u8 *t_2b_4;
+    u8 t_us;
+    u32 r_39;
+    u32 r_y7;
+    u64 r_tm;
+    u32 r_cp;
+    u32 r_0z;
+    u32 r_q6;
+    u64 r_dv;
+    a_1p = umax16(a_6, a_8);
+    a_1p_1 = umax16(a_7, a_9);
+    r_08 = away(a_2, 16ull);
+    r_yf = ld32(r_08);
+    if (!(r_yf > a_3)) { r_6n = 0ull; goto l_capnp_ob; }
+    r_6n = ld64(away(ldp(a_2), (u64)((u64)a_3 << 3ull)));
+l_capnp_ob:;
+    r_m2 = (u32)a_1p;
+    r_m2_1 = (u32)a_1p_1;
+    r_68 = (r_m2_1 + r_m2);
+    if (r_68 > ((u32)umin64((u64)(ld64(away(a_2, 8ull)) >> 3ull), 0x1fffffffull) - r_yf)) goto l_arm_4y;
+    r_24 = (u64)r_yf;
+    r_z6_1 = (u64)(r_24 << 3ull);
+    r_c0 = (u64)(u32)(r_68 << 3u);
+    r_2b_1 = away(ldp(a_2), r_z6_1);
+    r_4t = (r_68 < 8u);
+    if (r_4t) goto l_then_1k;
+    memset_or_none(r_2b_1, 0u, r_c0);
+    goto l_arm_7a;
+l_then_1k:;
+    if (!(r_68 > 3u)) goto l_else_b7;
+    memset(r_2b_1, 0, 32);
+    memset(away(away(r_2b_1, r_c0), 0xffffffffffffffe0ull), 0, 32);
+    goto l_arm_7a;
+l_else_b7:;
+    if (!(r_68 > 1u)) goto l_else_3c;
+    memset(r_2b_1, 0, 16);
+    memset(away(away(r_2b_1, r_c0), 0xfffffffffffffff0ull), 0, 16);
+    goto l_arm_7a;
+l_else_3c:;
+    if (r_68 == 0u) goto l_arm_7a;
+    memset(r_2b_1, 0, 8);
+    memset(away(away(r_2b_1, r_c0), 0xfffffffffffffff8ull), 0, 8);
+l_arm_7a:;
+    r_w0 = (r_yf + r_68);
+    st32(r_08, r_w0);
+    r_29 = ((u32)(r_m2_1 << 16u) | r_m2);
+    r_m2_2 = (u32)a_6;
+    if (!(a_6 == 1u)) goto l_else_s6;
+    if (a_4 == 0u) goto l_arm_ba;
+    r_c5 = ldp(a_2);
+    r_m4 = 0ull;
+    goto l_capnp_wf;
+l_arm_ba:;
+    r_xp_1 = ldp(a_2);
+    if (!(r_w0 > a_5)) { r_c5 = r_xp_1; r_m4 = 0ull; goto l_capnp_wf; }
+    r_c5 = r_xp_1;
+    r_m4 = ld64(away(r_xp_1, (u64)((u64)a_5 << 3ull)));
+l_capnp_wf:;
+    st64((r_c5 + (i64)(r_z6_1)), r_m4);
+    goto l_capnp_a3;
+l_else_s6:;
+    capnp_contents_widening_copy_words_at_once_d7a666d2d35ab297(a_2, a_5, r_yf, r_m2_2);
+l_capnp_a3:;
+    r_eh = (a_5 + r_m2_2);
+    r_w0_1 = (r_yf + r_m2);
+    r_m2_3 = (u32)a_7;
+    memset(slot_1, 0u, 24);
+    r_sz_1 = (a_4 == 0u);
+    if (!r_sz_1) goto l_capnp_7t;
+    if (a_7 == 0u) goto l_capnp_8g;
+    wide_bi = (u64)a_7;
+    indvars_64 = 0ull;
+l_join_n3:;
+    u32 t_nk = (u32)indvars_64;
+    r_sr = (r_eh + t_nk);
+    r_sr_1 = (r_w0_1 + t_nk);
+    r_yf_1 = ld32(r_08);
+    if (!(r_yf_1 > r_sr)) goto l_arm_da;
+    r_24_1 = (u64)r_sr;
+    r_fx_2 = ldp(a_2);
+    r_qw_2 = ld64(away(r_fx_2, (u64)(r_24_1 << 3ull)));
+    if (r_qw_2 == 0ull) goto l_arm_da;
+    if (!((r_qw_2 & 2ull) == 0ull)) { r_nw = r_qw_2; goto l_arm_i3; }
+    u64 r_m6 = ((u64)(r_qw_2 >> 2ull) & 0x3fffffffull);
+    r_lc = ((r_24_1 + 1ull) + r_m6);
+    r_24_2 = (u64)r_yf_1;
+    if (!(r_m6 < 0x20000000ull)) goto l_else_70;
+    if (r_lc > r_24_2) goto l_arm_da;
+    r_sm = r_lc;
+    goto l_arm_ib;
+l_else_70:;
+    u64 r_3o = (r_lc + 0xffffffffc0000000ull);
+    if ((r_lc < 0x40000000ull) ? 1u : (r_3o > r_24_2)) goto l_arm_da;
+    r_sm = r_3o;
+l_arm_ib:;
+    r_4r = (u32)r_sm;
+    u8 r_7q = ((r_qw_2 & 1ull) == 0ull);
+    r_79 = (u64)(r_qw_2 >> ((r_7q ? 48ull : 35ull) & 63u));
+    r_sx = ((((u64)r_79 & 0xffffffffffffull) << (16u & 63u)) & 0xffffffffffffull);
+    if (!r_7q) goto l_arm_td;
+    u32 r_sh = (u32)(r_sx | ((((u64)r_qw_2 & 0xffffffffffffull) >> (32u & 63u))));
+    if (((u32)(r_sh >> 16u) | (r_sh & 65535u)) == 0u) { r_nw = 0xfffffffcull; goto l_arm_i3; }
+    r_nw = (((r_qw_2 & 0xffff00000000ull) | (u64)(u32)((r_4r + (r_sr_1 ^ 0xffffffffu)) << 2u)) | (u64)((u64)r_sx << 32ull));
+    goto l_arm_i3;
+l_arm_td:;
+    r_nw = ((((u64)(r_79 << 35ull) | (r_qw_2 & 0x700000000ull)) | (u64)(u32)((r_4r + (r_sr_1 ^ 0xffffffffu)) << 2u)) | 1ull);
+l_arm_i3:;
+    st64((r_fx_2 + (i64)((u64)((u64)r_sr_1 << 3ull))), r_nw);
+l_arm_da:;
+    u64 indvars_r7 = (indvars_64 + 1ull);
+    if (!(indvars_r7 == wide_bi)) { indvars_64 = indvars_r7; goto l_join_n3; }
+l_capnp_8g:;
+    goto l_capnp_he;
+l_capnp_7t:;
+    capnp_contents_moving_transfer_row_across_d7a666d2d35ab297(slot_1, a_2, a_4, r_eh, 0u, r_w0_1, r_m2_3);
+    pre_r5 = ld8(slot_1);
+    r_uq = ld32((slot_1 + 12));
+    r_38 = ld64((slot_1 + 16));
+    t_cf = (u32)ld8((slot_1 + 8));
+    if (pre_r5 == 0u) goto l_capnp_he;
+    goto l_arm_6i;
+l_arm_4y:;
+    u8 *r_xz = away(a_2, 24ull);
+    st64(r_xz, uadd_sat64(ld64(r_xz), 1ull));
+    r_cp = 1u;
+    r_0z = 0u;
+    r_q6 = 0u;
+    r_dv = 0ull;
+    goto l_capnp_rr;
+l_capnp_he:;
+    st64((ldp(a_2) + (i64)((u64)((u64)a_3 << 3ull))), (((u64)((u64)a_1p_1 << 48ull) | (u64)((u64)a_1p << 32ull)) | (u64)(u32)((r_yf + (a_3 ^ 0xffffffffu)) << 2u)));
+    r_68_1 = (r_m2_3 + r_m2_2);
+    r_es = (u64)r_68_1;
+    if (!(u8)((u8)r_sz_1 & (u8)(r_68_1 != 0u))) goto l_capnp_ab;
+    r_7l_3 = (u64)a_5;
+    if ((r_es + r_7l_3) > (u64)ld32(r_08)) goto l_capnp_ab;
+    r_z6_6 = (u64)(r_es << 3ull);
+    r_2b_4 = away(ldp(a_2), (u64)(r_7l_3 << 3ull));
+    if (r_68_1 < 8u) goto l_then_5x;
+    memset_or_none(r_2b_4, 0u, r_z6_6);
+    goto l_capnp_ab;
+l_then_5x:;
+    t_2b_3 = away(r_2b_4, r_z6_6);
+    if (!(r_68_1 > 3u)) goto l_else_gn;
+    memset(r_2b_4, 0, 32);
+    memset(away(t_2b_3, 0xffffffffffffffe0ull), 0, 32);
+    goto l_capnp_ab;
+l_else_gn:;
+    if (r_68_1 == 1u) goto l_then_qw;
+    memset(r_2b_4, 0, 16);
+    memset(away(t_2b_3, 0xfffffffffffffff0ull), 0, 16);
+    goto l_capnp_ab;
+l_then_qw:;
+    memset(r_2b_4, 0, 8);
+    memset(away(t_2b_3, 0xfffffffffffffff8ull), 0, 8);
+l_capnp_ab:;
+    if (!((r_6n & 3ull) == 2ull)) { t_us = 0u; r_39 = r_yf; r_y7 = r_29; r_tm = 0ull; goto l_join_8y; }
+    capnp_making_zeroing_zero_far_pads_d7a666d2d35ab297(a_2, r_6n);
+    t_us = 0u;
+    r_39 = r_yf;
+    r_y7 = r_29;
+    r_tm = 0ull;
+    goto l_join_8y;
+l_arm_6i:;
+    capnp_contents_moving_zero_pads_of_row_d7a666d2d35ab297(a_2, a_4, r_eh, 0u, r_w0_1, r_m2_3);
+    r_es_1 = (u64)r_68;
+    if (r_68 == 0u) { t_us = pre_r5; r_39 = t_cf; r_y7 = r_uq; r_tm = r_38; goto l_join_8y; }
+    if ((r_24 + r_es_1) > (u64)ld32(r_08)) { t_us = pre_r5; r_39 = t_cf; r_y7 = r_uq; r_tm = r_38; goto l_join_8y; }
+    r_z6_8 = (u64)(r_es_1 << 3ull);
+    r_2b_5 = away(ldp(a_2), r_z6_1);
+    if (r_4t) goto l_then_5x_1;
+    memset_or_none(r_2b_5, 0u, r_z6_8);
+    t_us = pre_r5;
+    r_39 = t_cf;
+    r_y7 = r_uq;
+    r_tm = r_38;
+    goto l_join_8y;
+l_then_5x_1:;
+    t_2b_4 = away(r_2b_5, r_z6_8);
+    if (!(r_68 > 3u)) goto l_else_gn_1;
+    memset(r_2b_5, 0, 32);
+    memset(away(t_2b_4, 0xffffffffffffffe0ull), 0, 32);
+    t_us = pre_r5;
+    r_39 = t_cf;
+    r_y7 = r_uq;
+    r_tm = r_38;
+    goto l_join_8y;
+l_else_gn_1:;
+    if (r_68 == 1u) goto l_then_51;
+    memset(r_2b_5, 0, 16);
+    memset(away(t_2b_4, 0xfffffffffffffff0ull), 0, 16);
+    t_us = pre_r5;
+    r_39 = t_cf;
+    r_y7 = r_uq;
+    r_tm = r_38;
+    goto l_join_8y;
+l_then_51:;
+    memset(r_2b_5, 0, 8);
+    memset(away(t_2b_4, 0xfffffffffffffff8ull), 0, 8);
+    t_us = pre_r5;
+    r_39 = t_cf;
+    r_y7 = r_uq;
+    r_tm = r_38;
+l_join_8y:;
+    r_cp = (u32)t_us;
+    r_0z = r_39;
+    r_q6 = r_y7;
+    r_dv = r_tm;
+l_capnp_rr:;
+    st32(a_1, r_cp);
+    st32(away(a_1, 4ull), 0u);
+    st32(away(a_1, 8ull), r_0z);
+    st32(away(a_1, 12ull), r_q6);
+    st64(away(a_1, 16ull), r_dv);
+    return;
+}
+
+/* capnp_lent_arena::lent_arena::LentArenaBuilderArena::allocate::<#c3c55ce8c29dddf2> */
+static struct s_i8_i32 capnp_lent_arena_lent_arena_LentArenaBuilderArena_allo_b39b26fb(u8 *a_1, u32 a_2)
+{
+    u8 *r_08;
+    u32 r_e3;
+    u64 r_z6;
+    u8 *r_2b;
+    u8 r_us;
+    u32 r_1x;
+    r_08 = away(a_1, 16ull);
+    r_e3 = ld32(r_08);
+    if (a_2 > ((u32)umin64((u64)(ld64(away(a_1, 8ull)) >> 3ull), 0x1fffffffull) - r_e3)) { r_us = 0u; r_1x = 0u; goto l_join_pr; }
+    r_z6 = (u64)((u64)a_2 << 3ull);
+    r_2b = away(ldp(a_1), (u64)((u64)r_e3 << 3ull));
+    if (a_2 < 8u) goto l_then_1p;
+    memset_or_none(r_2b, 0u, r_z6);
+    goto l_capnp_pp;
+l_then_1p:;
+    if (!(a_2 > 3u)) goto l_else_ye;
+    memset(r_2b, 0, 32);
+    memset(away(away(r_2b, r_z6), 0xffffffffffffffe0ull), 0, 32);
+    goto l_capnp_pp;
+l_else_ye:;
+    if (!(a_2 > 1u)) goto l_else_o7;
+    memset(r_2b, 0, 16);
+    memset(away(away(r_2b, r_z6), 0xfffffffffffffff0ull), 0, 16);
+    goto l_capnp_pp;
+l_else_o7:;
+    if (a_2 == 0u) goto l_capnp_pp;
+    memset(r_2b, 0, 8);
+    memset(away(away(r_2b, r_z6), 0xfffffffffffffff8ull), 0, 8);
+l_capnp_pp:;
+    st32(r_08, (r_e3 + a_2));
+    r_us = 1u;
+    r_1x = r_e3;
+l_join_pr:;
+    struct s_i8_i32 r_9l = (struct s_i8_i32){ 0 };
+    r_9l.f0 = r_us;
+    struct s_i8_i32 r_i6 = r_9l;
+    r_i6.f1 = r_1x;
+    return r_i6;
+}
+
+/* capnp_lent_arena::lent_arena::LentArenaBuilderArena::allocate_anywhere::<#c3c55ce8c29dddf2> */
+static void capnp_lent_arena_lent_arena_LentArenaBuilderArena_allo_c5878f28(u8 *a_1, u8 *a_2, u32 a_3)
+{
+    u8 *r_08;
+    u32 r_e3;
+    u64 r_z6;
+    u8 *r_2b;
+    r_08 = away(a_2, 16ull);
+    r_e3 = ld32(r_08);
+    if (a_3 > ((u32)umin64((u64)(ld64(away(a_2, 8ull)) >> 3ull), 0x1fffffffull) - r_e3)) goto l_join_el;
+    goto l_then_1z;
+l_common_68:;
+    return;
+l_then_1z:;
+    r_z6 = (u64)((u64)a_3 << 3ull);
+    r_2b = away(ldp(a_2), (u64)((u64)r_e3 << 3ull));
+    if (a_3 < 8u) goto l_then_1p;
+    memset_or_none(r_2b, 0u, r_z6);
+    goto l_capnp_tn;
+l_then_1p:;
+    if (!(a_3 > 3u)) goto l_else_ye;
+    memset(r_2b, 0, 32);
+    memset(away(away(r_2b, r_z6), 0xffffffffffffffe0ull), 0, 32);
+    goto l_capnp_tn;
+l_else_ye:;
+    if (!(a_3 > 1u)) goto l_else_o7;
+    memset(r_2b, 0, 16);
+    memset(away(away(r_2b, r_z6), 0xfffffffffffffff0ull), 0, 16);
+    goto l_capnp_tn;
+l_else_o7:;
+    if (a_3 == 0u) goto l_capnp_tn;
+    memset(r_2b, 0, 8);
+    memset(away(away(r_2b, r_z6), 0xfffffffffffffff8ull), 0, 8);
+l_capnp_tn:;
+    st32(r_08, (r_e3 + a_3));
+    st32(a_1, 0u);
+    st32(away(a_1, 4ull), 0u);
+    st32(away(a_1, 8ull), r_e3);
+    st32(away(a_1, 12ull), 0u);
+    st64(away(a_1, 16ull), 0ull);
+    goto l_common_68;
+l_join_el:;
+    if (!(a_3 > 0x1fffffffu)) goto l_join_4y;
+    st32(a_1, 1u);
+    st32(away(a_1, 4ull), 0u);
+    st32(away(a_1, 8ull), 27u);
+    st32(away(a_1, 12ull), 0u);
+    st64(away(a_1, 16ull), (u64)a_3);
+    goto l_common_68;
+l_join_4y:;
+    u8 *r_xz = away(a_2, 24ull);
+    st64(r_xz, uadd_sat64(ld64(r_xz), 1ull));
+    st32(a_1, 1u);
+    memset(away(a_1, 4ull), 0u, 20);
+    goto l_common_68;
+}
+
+/* capnp_contents::widening::copy_words_at_once::<#d7a666d2d35ab297> */
+static NEVER void capnp_contents_widening_copy_words_at_once_d7a666d2d35ab297(u8 *a_1, u32 a_2, u32 a_3, u32 a_4)
+{
+    u8 *r_fx;
+    u64 r_7l;
+    u64 r_7l_1;
+    u64 r_v1;
+    u64 r_z6;
+    u8 *r_2b;
+    u64 r_z6_1;
+    u8 *r_2b_1;
+    u64 r_z6_2;
+    u64 r_il;
+    u64 r_z6_5;
+    u8 *t_2b;
+    u8 *t_2b_1;
+    u64 r_gm;
+    u64 r_au;
+    if (a_4 == 0u) goto l_capnp_68;
+    r_fx = ldp(a_1);
+    r_7l = (u64)a_2;
+    r_7l_1 = (u64)a_3;
+    r_v1 = (u64)a_4;
+    if ((r_v1 + r_7l) > r_7l_1) goto l_else_is;
+    r_z6 = (u64)(r_7l_1 << 3ull);
+    r_2b = away(r_fx, r_z6);
+    r_z6_1 = (u64)(r_7l << 3ull);
+    r_2b_1 = away(r_fx, r_z6_1);
+    r_z6_2 = (u64)(r_v1 << 3ull);
+    if (!(a_4 < 8u)) goto l_else_k5;
+    if (!(a_4 > 3u)) goto l_else_uv;
+    mv32(r_2b, r_2b_1);
+    u64 r_bh = (r_z6_2 + 0xffffffffffffffe0ull);
+    mv32((r_2b + (i64)(r_bh)), (r_2b_1 + (i64)(r_bh)));
+    goto l_capnp_68;
+l_else_uv:;
+    if (a_4 == 1u) goto l_then_49;
+    mv16(r_2b, r_2b_1);
+    u64 r_8f = (r_z6_2 + 0xfffffffffffffff0ull);
+    mv16((r_2b + (i64)(r_8f)), (r_2b_1 + (i64)(r_8f)));
+    goto l_capnp_68;
+l_then_49:;
+    mv8(r_2b, r_2b_1);
+    u64 r_la = (r_z6_2 + 0xfffffffffffffff8ull);
+    mv8((r_2b + (i64)(r_la)), (r_2b_1 + (i64)(r_la)));
+    goto l_capnp_68;
+l_else_k5:;
+    if ((r_z6 - r_z6_1) < r_z6_2) { r_il = 0ull; goto l_join_fh; }
+    memmove_or_none(r_2b, r_2b_1, r_z6_2);
+    goto l_capnp_68;
+l_join_fh:;
+    st8((r_2b + (i64)(r_il)), ld8((r_2b_1 + (i64)(r_il))));
+    u64 r_c4 = (r_il + 1ull);
+    if (r_c4 == r_z6_2) goto l_capnp_68;
+    r_il = r_c4;
+    goto l_join_fh;
+l_else_is:;
+    u64 r_z6_3 = (u64)(r_7l << 3ull);
+    u64 r_z6_4 = (u64)(r_7l_1 << 3ull);
+    r_z6_5 = (u64)(r_v1 << 3ull);
+    t_2b = away(r_fx, r_z6_3);
+    t_2b_1 = away(r_fx, r_z6_4);
+    if (r_z6_4 > r_z6_3) { r_au = r_z6_5; goto l_join_0e; }
+    r_gm = 0ull;
+l_join_1r:;
+    st8(away(t_2b_1, r_gm), ld8(away(t_2b, r_gm)));
+    u64 r_c4_1 = (r_gm + 1ull);
+    if (r_c4_1 == r_z6_5) goto l_capnp_68;
+    r_gm = r_c4_1;
+    goto l_join_1r;
+l_join_0e:;
+    u64 r_0f = (r_au + 0xffffffffffffffffull);
+    st8(away(t_2b_1, r_0f), ld8(away(t_2b, r_0f)));
+    if (!(r_0f == 0ull)) { r_au = r_0f; goto l_join_0e; }
+l_capnp_68:;
+    return;
+}
+
+/* capnp_contents::moving::transfer_row_across::<#d7a666d2d35ab297> */
+static NEVER COLD void capnp_contents_moving_transfer_row_across_d7a666d2d35ab297(u8 *a_1, u8 *a_2, u32 a_3, u32 a_4, u32 a_5, u32 a_6, u32 a_7)
+{
+    u8 r_sz_1;
+    u8 *r_08;
+    u8 r_eo;
+    u8 *r_rq;
+    u64 wide_v1;
+    u64 indvars_rj;
+    u32 r_7m;
+    u32 r_7m_1;
+    u32 r_yf;
+    u64 r_24;
+    u8 *r_fx;
+    u64 r_qw;
+    u64 r_lc;
+    u64 r_24_1;
+    u64 r_pb;
+    u32 r_4r;
+    u8 r_7q;
+    u64 t_wl;
+    u64 r_79;
+    u64 r_15;
+    u64 r_sx;
+    u64 r_j0;
+    u64 r_z6_1;
+    u64 r_r5_1;
+    u64 r_of;
+    u8 *r_nw;
+    u64 r_10;
+    u8 r_le;
+    if (a_7 == 0u) { r_le = 0u; goto l_capnp_zp; }
+    r_sz_1 = (a_3 == 0u);
+    r_08 = away(a_2, 16ull);
+    r_eo = (a_3 == a_5);
+    r_rq = away(a_2, 8ull);
+    wide_v1 = (u64)a_7;
+    indvars_rj = 0ull;
+l_join_ue:;
+    u32 t_nk = (u32)indvars_rj;
+    r_7m = (a_4 + t_nk);
+    r_7m_1 = (a_6 + t_nk);
+    if (!r_sz_1) goto l_arm_da;
+    r_yf = ld32(r_08);
+    if (!(r_yf > r_7m)) goto l_arm_da;
+    r_24 = (u64)r_7m;
+    r_fx = ldp(a_2);
+    r_qw = ld64(away(r_fx, (u64)(r_24 << 3ull)));
+    if (r_qw == 0ull) goto l_arm_da;
+    if (!((r_qw & 2ull) == 0ull)) { r_nw = r_fx; r_10 = r_qw; goto l_arm_i3; }
+    u64 r_m6 = ((u64)(r_qw >> 2ull) & 0x3fffffffull);
+    r_lc = ((r_24 + 1ull) + r_m6);
+    r_24_1 = (u64)r_yf;
+    if (!(r_m6 < 0x20000000ull)) goto l_else_70;
+    if (r_lc > r_24_1) goto l_arm_da;
+    r_pb = r_lc;
+    goto l_arm_w1;
+l_else_70:;
+    u64 r_3o = (r_lc + 0xffffffffc0000000ull);
+    if ((r_lc < 0x40000000ull) ? 1u : (r_3o > r_24_1)) goto l_arm_da;
+    r_pb = r_3o;
+l_arm_w1:;
+    r_4r = (u32)r_pb;
+    r_7q = ((r_qw & 1ull) == 0ull);
+    t_wl = (r_qw & 0x700000000ull);
+    r_79 = (u64)(r_qw >> ((r_7q ? 48ull : 35ull) & 63u));
+    r_15 = (r_7q ? ((((u64)r_qw & 0xffffffffffffull) >> (32u & 63u))) : 0u);
+    r_sx = ((((u64)r_79 & 0xffffffffffffull) << (16u & 63u)) & 0xffffffffffffull);
+    r_j0 = (r_sx | r_15);
+    if (!r_eo) goto l_join_fn;
+    if (!r_7q) goto l_arm_ue;
+    u32 r_sh = (u32)r_j0;
+    if (((u32)(r_sh >> 16u) | (r_sh & 65535u)) == 0u) { r_nw = r_fx; r_10 = 0xfffffffcull; goto l_arm_i3; }
+    r_nw = r_fx;
+    r_10 = ((u64)((u64)r_sx << 32ull) | (u64)(((r_15 << (32u & 63u)) & 0xffffffffffffull) | (u64)(u32)((r_4r + (r_7m_1 ^ 0xffffffffu)) << 2u)));
+    goto l_arm_i3;
+l_arm_ue:;
+    r_nw = r_fx;
+    r_10 = ((((u64)(r_79 << 35ull) | (u64)(u32)((r_4r + (r_7m_1 ^ 0xffffffffu)) << 2u)) | t_wl) | 1ull);
+    goto l_arm_i3;
+l_join_fn:;
+    if (r_yf == (u32)umin64((u64)(ld64(r_rq) >> 3ull), 0x1fffffffull)) goto l_arm_4y;
+    r_z6_1 = (u64)(r_24_1 << 3ull);
+    memset(away(r_fx, r_z6_1), 0, 8);
+    st32(r_08, (r_yf + 1u));
+    r_r5_1 = (u64)(u32)(((r_yf ^ 0xffffffffu) + r_4r) << 2u);
+    if (!r_7q) goto l_arm_10;
+    r_of = (((r_qw & 0xffff00000000ull) | (u64)(r_79 << 48ull)) | r_r5_1);
+    goto l_capnp_72;
+l_arm_10:;
+    r_of = ((((u64)(r_79 << 35ull) | t_wl) | r_r5_1) | 1ull);
+l_capnp_72:;
+    st64((ldp(a_2) + (i64)(r_z6_1)), r_of);
+    r_nw = ldp(a_2);
+    r_10 = (r_z6_1 | 2ull);
+l_arm_i3:;
+    st64((r_nw + (i64)((u64)((u64)r_7m_1 << 3ull))), r_10);
+l_arm_da:;
+    u64 indvars_r7 = (indvars_rj + 1ull);
+    if (indvars_r7 == wide_v1) { r_le = 0u; goto l_capnp_zp; }
+    indvars_rj = indvars_r7;
+    goto l_join_ue;
+l_arm_4y:;
+    u8 *r_xz = away(a_2, 24ull);
+    st64(r_xz, uadd_sat64(ld64(r_xz), 1ull));
+    r_le = 1u;
+l_capnp_zp:;
+    st8(a_1, r_le);
+    memset(away(a_1, 8ull), 0u, 16);
+    return;
+}
+
+/* capnp_making::zeroing::zero_far_pads::<#d7a666d2d35ab297> */
+static NEVER COLD void capnp_making_zeroing_zero_far_pads_d7a666d2d35ab297(u8 *a_1, u64 a_2)
+{
+    u8 r_hr;
+    u64 t_3h;
+    u8 *r_2b;
+    u8 *t_2b;
+    r_hr = ((a_2 & 4ull) == 0ull);
+    t_3h = (r_hr ? 1ull : 2ull);
+    if (!(a_2 < 0x100000000ull)) goto l_capnp_68;
+    if ((t_3h + (u64)(a_2 >> 3ull)) > (u64)ld32(away(a_1, 16ull))) goto l_capnp_68;
+    r_2b = away(ldp(a_1), (a_2 & 0xfffffff8ull));
+    t_2b = away(r_2b, (u64)(t_3h << 3ull));
+    if (r_hr) goto l_then_qw;
+    memset(r_2b, 0, 16);
+    memset(away(t_2b, 0xfffffffffffffff0ull), 0, 16);
+    goto l_capnp_68;
+l_then_qw:;
+    memset(r_2b, 0, 8);
+    memset(away(t_2b, 0xfffffffffffffff8ull), 0, 8);
+l_capnp_68:;
+    return;
+}
+
+/* capnp_contents::moving::zero_pads_of_row::<#d7a666d2d35ab297> */
+static NEVER COLD void capnp_contents_moving_zero_pads_of_row_d7a666d2d35ab297(u8 *a_1, u32 a_2, u32 a_3, u32 a_4, u32 a_5, u32 a_6)
+{
+    u8 r_sz_1;
+    u8 *r_08;
+    u8 r_sz_2;
+    u64 wide_v1;
+    u64 indvars_m0;
+    u32 r_7m;
+    u32 r_7m_1;
+    u32 r_yf;
+    u32 r_w2;
+    u64 r_qw_1;
+    if (a_6 == 0u) goto l_after_68;
+    r_sz_1 = (a_2 == 0u);
+    r_08 = away(a_1, 16ull);
+    r_sz_2 = (a_4 == 0u);
+    wide_v1 = (u64)a_6;
+    indvars_m0 = 0ull;
+l_join_qx:;
+    u32 t_nk = (u32)indvars_m0;
+    r_7m = (a_3 + t_nk);
+    r_7m_1 = (a_5 + t_nk);
+    if (!r_sz_1) goto l_then_7t;
+    r_yf = ld32(r_08);
+    if (!(r_yf > r_7m)) goto l_then_7t;
+    if ((u8)((u8)r_sz_2 & (u8)((ld64(away(ldp(a_1), (u64)((u64)r_7m << 3ull))) & 3ull) != 2ull))) { r_w2 = r_yf; goto l_arm_7z; }
+    goto l_capnp_4g;
+l_then_7t:;
+    if (!r_sz_2) goto l_capnp_4g;
+    r_w2 = ld32(r_08);
+l_arm_7z:;
+    if (!(r_w2 > r_7m_1)) goto l_capnp_4g;
+    r_qw_1 = ld64(away(ldp(a_1), (u64)((u64)r_7m_1 << 3ull)));
+    if (!((r_qw_1 & 3ull) == 2ull)) goto l_capnp_4g;
+    capnp_making_zeroing_zero_far_pads_d7a666d2d35ab297(a_1, r_qw_1);
+l_capnp_4g:;
+    u64 indvars_r7 = (indvars_m0 + 1ull);
+    if (!(indvars_r7 == wide_v1)) { indvars_m0 = indvars_r7; goto l_join_qx; }
+l_after_68:;
+    return;
+}
+
+/* capnp_making::zeroing::zero_if_inside::<#d7a666d2d35ab297> */
+static void capnp_making_zeroing_zero_if_inside_d7a666d2d35ab297(u8 *a_1, u32 a_2, u32 a_3, u64 a_4)
+{
+    u64 r_7l;
+    u32 r_73;
+    u64 r_um;
+    u8 *r_2b;
+    u8 *t_2b;
+    if (!(u8)((u8)(a_2 == 0u) & (u8)(a_4 != 0ull))) goto l_join_68;
+    r_7l = (u64)a_3;
+    if ((a_4 + r_7l) > (u64)ld32(away(a_1, 16ull))) goto l_join_68;
+    r_73 = (u32)a_4;
+    if (r_73 == 0u) goto l_join_68;
+    r_um = ((u64)(a_4 << 3ull) & 0x7fffffff8ull);
+    r_2b = away(ldp(a_1), (u64)(r_7l << 3ull));
+    if (r_73 < 8u) goto l_then_5x;
+    memset_or_none(r_2b, 0u, r_um);
+    goto l_join_68;
+l_then_5x:;
+    t_2b = away(r_2b, r_um);
+    if (!(r_73 > 3u)) goto l_else_gn;
+    memset(r_2b, 0, 32);
+    memset(away(t_2b, 0xffffffffffffffe0ull), 0, 32);
+    goto l_join_68;
+l_else_gn:;
+    if (r_73 == 1u) goto l_then_51;
+    memset(r_2b, 0, 16);
+    memset(away(t_2b, 0xfffffffffffffff0ull), 0, 16);
+    goto l_join_68;
+l_then_51:;
+    memset(r_2b, 0, 8);
+    memset(away(t_2b, 0xfffffffffffffff8ull), 0, 8);
+l_join_68:;
+    return;
+}
+
+/* capnp_contents::opening::new_struct::<#d7a666d2d35ab297> */
+static NEVER void capnp_contents_opening_new_struct_d7a666d2d35ab297(u8 *a_1, u8 *a_2, u32 a_3, u16 a_4, u16 a_5)
+{
+    u32 r_m2;
+    u32 r_m2_1;
+    u32 r_68;
+    u8 *r_08;
+    u32 r_e3;
+    u64 r_c0;
+    u8 *r_2b;
+    u8 *t_2b;
+    u64 r_6l;
+    u32 r_96;
+    r_m2 = (u32)a_4;
+    r_m2_1 = (u32)a_5;
+    r_68 = (r_m2_1 + r_m2);
+    if (r_68 == 0u) { r_6l = 0xfffffffcull; r_96 = a_3; goto l_arm_7a; }
+    r_08 = away(a_2, 16ull);
+    r_e3 = ld32(r_08);
+    if (r_68 > ((u32)umin64((u64)(ld64(away(a_2, 8ull)) >> 3ull), 0x1fffffffull) - r_e3)) goto l_arm_4y;
+    r_c0 = (u64)(u32)(r_68 << 3u);
+    r_2b = away(ldp(a_2), (u64)((u64)r_e3 << 3ull));
+    if (r_68 < 8u) goto l_then_5x;
+    memset_or_none(r_2b, 0u, r_c0);
+    goto l_capnp_od;
+l_then_5x:;
+    t_2b = away(r_2b, r_c0);
+    if (!(r_68 > 3u)) goto l_else_gn;
+    memset(r_2b, 0, 32);
+    memset(away(t_2b, 0xffffffffffffffe0ull), 0, 32);
+    goto l_capnp_od;
+l_else_gn:;
+    if (r_68 == 1u) goto l_then_qw;
+    memset(r_2b, 0, 16);
+    memset(away(t_2b, 0xfffffffffffffff0ull), 0, 16);
+    goto l_capnp_od;
+l_then_qw:;
+    memset(r_2b, 0, 8);
+    memset(away(t_2b, 0xfffffffffffffff8ull), 0, 8);
+l_capnp_od:;
+    st32(r_08, (r_e3 + r_68));
+    r_6l = (((u64)((u64)a_5 << 48ull) | (u64)((u64)a_4 << 32ull)) | (u64)(u32)((r_e3 + (a_3 ^ 0xffffffffu)) << 2u));
+    r_96 = r_e3;
+l_arm_7a:;
+    st64((ldp(a_2) + (i64)((u64)((u64)a_3 << 3ull))), r_6l);
+    st32(a_1, 0u);
+    st32(away(a_1, 4ull), 0u);
+    st32(away(a_1, 8ull), r_96);
+    st32(away(a_1, 12ull), ((u32)(r_m2_1 << 16u) | r_m2));
+    st64(away(a_1, 16ull), 0ull);
+l_common_68:;
+    return;
+l_arm_4y:;
+    u8 *r_xz = away(a_2, 24ull);
+    st64(r_xz, uadd_sat64(ld64(r_xz), 1ull));
+    st32(a_1, 1u);
+    memset(away(a_1, 4ull), 0u, 20);
+    goto l_common_68;
+}
+
+/* capnp_making::landing::follow::<#d7a666d2d35ab297> */
+static NEVER COLD void capnp_making_landing_follow_d7a666d2d35ab297(u8 *a_1, u8 *a_2, u32 a_3, u32 a_4)
+{
+    A(8) u8 slot_1[32];
+    A(8) u8 slot_2[24];
+    u32 r_yf;
+    u64 r_7l_1;
+    u64 r_qw;
+    u64 t_24_1;
+    u64 r_lc;
+    u64 r_2i;
+    u64 r_cy;
+    u64 r_0u;
+    u64 r_iy;
+    u64 r_54;
+    u8 r_m4;
+    u64 r_s1;
+    u32 r_78;
+    u8 r_ud;
+    if (!(a_3 == 0u)) goto l_then_ud;
+    r_yf = ld32(away(a_2, 16ull));
+    if (r_yf > a_4) goto l_capnp_04;
+    r_2i = ((u64)a_4 + 1ull);
+    r_cy = (u64)r_yf;
+    r_0u = 0ull;
+    goto l_then_rn;
+l_capnp_04:;
+    r_7l_1 = (u64)a_4;
+    r_qw = ld64(away(ldp(a_2), (u64)(r_7l_1 << 3ull)));
+    memset(slot_1, 0u, 32);
+    if (!((r_qw & 3ull) == 2ull)) goto l_capnp_jd;
+    capnp_making_landing_follow_far_d7a666d2d35ab297(slot_1, a_2, r_qw);
+    r_ud = ld8(slot_1);
+    goto l_capnp_ty;
+l_then_ud:;
+    r_m4 = 0u;
+    r_s1 = 0ull;
+    r_78 = 0u;
+    goto l_capnp_8k;
+l_capnp_jd:;
+    t_24_1 = (u64)r_yf;
+    u64 r_m6 = ((u64)(r_qw >> 2ull) & 0x3fffffffull);
+    r_lc = ((r_7l_1 + 1ull) + r_m6);
+    if (r_m6 < 0x20000000ull) { r_2i = r_lc; r_cy = t_24_1; r_0u = r_qw; goto l_then_rn; }
+    goto l_else_vv;
+l_then_rn:;
+    if (r_2i > r_cy) { r_m4 = 0u; r_s1 = 0ull; r_78 = 0u; goto l_capnp_8k; }
+    r_iy = r_0u;
+    r_54 = r_2i;
+    goto l_arm_wn;
+l_else_vv:;
+    u64 r_3o = (r_lc + 0xffffffffc0000000ull);
+    if ((r_lc < 0x40000000ull) ? 1u : (r_3o > t_24_1)) { r_m4 = 0u; r_s1 = 0ull; r_78 = 0u; goto l_capnp_8k; }
+    r_iy = r_qw;
+    r_54 = r_3o;
+l_arm_wn:;
+    r_m4 = 1u;
+    r_s1 = r_iy;
+    r_78 = (u32)r_54;
+l_capnp_8k:;
+    st64((slot_1 + 8), r_s1);
+    st32((slot_1 + 16), 0u);
+    st32((slot_1 + 20), r_78);
+    st32((slot_1 + 24), 0u);
+    st32((slot_1 + 28), 0u);
+    r_ud = r_m4;
+l_capnp_ty:;
+    mv24(slot_2, (slot_1 + 8));
+    st64(a_1, (u64)r_ud);
+    mv24(away(a_1, 8ull), slot_2);
+    return;
+}
+
+/* capnp_making::zeroing::zero_target::<#d7a666d2d35ab297> */
+static NEVER COLD void capnp_making_zeroing_zero_target_d7a666d2d35ab297(u8 *a_1, u8 *a_2)
+{
+    A(8) u8 slot_1[32];
+    u64 r_tp;
+    u32 r_5k;
+    u32 r_5k_1;
+    u32 r_4r;
+    u64 r_y6;
+    u32 r_12;
+    u64 r_24;
+    u64 r_lc;
+    u64 r_lc_1;
+    u8 r_2p;
+    u64 r_p5;
+    u32 r_wt;
+    u8 *r_x5;
+    u64 indvars_ny;
+    u32 r_zy;
+    u8 *r_2b;
+    u64 r_qw;
+    u32 r_68;
+    u64 r_es;
+    u64 r_z6_1;
+    u8 *r_2b_1;
+    u8 *t_2b;
+    u64 r_ij;
+    u8 r_2p_1;
+    u64 r_eh;
+    u32 t_c8;
+    u64 r_y6_1;
+    u32 r_az_1;
+    u32 t_12;
+    u64 r_c4;
+    u8 *r_08_3;
+    u8 *r_x5_1;
+    u32 r_te;
+    u32 r_52;
+    u32 r_w0;
+    u64 indvars_4c;
+    u32 r_sr;
+    u8 *r_2b_3;
+    u64 r_qw_2;
+    u64 r_lc_6;
+    u64 r_yh;
+    u8 *r_x5_2;
+    u64 indvars_4c_1;
+    u32 r_sr_2;
+    u8 *r_2b_4;
+    u64 r_qw_3;
+    u64 r_w1;
+    u64 r_b6_1;
+    u64 r_se;
+    u64 r_24_8;
+    u64 r_um;
+    u8 *r_2b_5;
+    u8 *t_2b_1;
+    r_tp = ld64(a_2);
+    r_5k = ld32((a_2 + 8));
+    r_5k_1 = ld32((a_2 + 12));
+    switch ((u8)((u8)r_tp & 3u)) {
+    case 0u: goto l_arm_vb;
+    case 1u: goto l_arm_a9;
+    case 2u: goto l_join_68;
+    case 3u: goto l_join_68;
+    default: goto l_default_e1;
+    }
+l_arm_vb:;
+    u64 r_ep = (u64)(r_tp >> 32ull);
+    r_4r = (u32)r_ep;
+    r_y6 = (u64)(r_tp >> 48ull);
+    r_12 = (u32)r_y6;
+    r_24 = (u64)r_5k_1;
+    r_lc = ((r_ep & 65535ull) + r_24);
+    r_lc_1 = (r_lc + r_y6);
+    r_2p = (r_5k == 0u);
+    if (!r_2p) goto l_capnp_jc;
+    u64 t_24 = (u64)ld32(away(a_1, 16ull));
+    if (r_lc_1 > t_24) goto l_join_68;
+    r_p5 = t_24;
+    goto l_capnp_m4;
+l_capnp_jc:;
+    if (r_lc_1 == 0ull) { r_p5 = 0ull; goto l_capnp_m4; }
+    goto l_join_68;
+l_capnp_m4:;
+    r_wt = (u32)r_lc;
+    if (!(u8)((u8)(r_y6 != 0ull) & (u8)(((r_lc & 0xffffffffull) + r_y6) <= r_p5))) goto l_capnp_jd;
+    r_x5 = (slot_1 + 8);
+    indvars_ny = 0ull;
+l_join_ip:;
+    r_zy = ((u32)indvars_ny + r_wt);
+    r_2b = away(ldp(a_1), (u64)((u64)r_zy << 3ull));
+    r_qw = ld64(r_2b);
+    if (r_qw == 0ull) goto l_capnp_yw;
+    capnp_making_landing_follow_d7a666d2d35ab297(slot_1, a_1, r_5k, r_zy);
+    st64(r_2b, 0ull);
+    if (!(ld8(slot_1) == 1u)) goto l_capnp_yw;
+    capnp_making_zeroing_zero_target_d7a666d2d35ab297(a_1, r_x5);
+    if (!((r_qw & 3ull) == 2ull)) goto l_capnp_yw;
+    capnp_making_zeroing_zero_far_pads_d7a666d2d35ab297(a_1, r_qw);
+l_capnp_yw:;
+    u64 indvars_r7 = (indvars_ny + 1ull);
+    if (!(indvars_r7 == r_y6)) { indvars_ny = indvars_r7; goto l_join_ip; }
+l_capnp_jd:;
+    r_68 = ((r_4r & 65535u) + r_12);
+    r_es = (u64)r_68;
+    if (!(u8)((u8)r_2p & (u8)(r_68 != 0u))) goto l_join_68;
+    if ((r_es + r_24) > (u64)ld32(away(a_1, 16ull))) goto l_join_68;
+    r_z6_1 = (u64)(r_es << 3ull);
+    r_2b_1 = away(ldp(a_1), (u64)(r_24 << 3ull));
+    if (r_68 < 8u) goto l_then_5x;
+    memset_or_none(r_2b_1, 0u, r_z6_1);
+    goto l_join_68;
+l_then_5x:;
+    t_2b = away(r_2b_1, r_z6_1);
+    if (!(r_68 > 3u)) goto l_else_gn;
+    memset(r_2b_1, 0, 32);
+    memset(away(t_2b, 0xffffffffffffffe0ull), 0, 32);
+    goto l_join_68;
+l_else_gn:;
+    if (r_68 == 1u) goto l_then_51;
+    memset(r_2b_1, 0, 16);
+    memset(away(t_2b, 0xfffffffffffffff0ull), 0, 16);
+    goto l_join_68;
+l_then_51:;
+    memset(r_2b_1, 0, 8);
+    memset(away(t_2b, 0xfffffffffffffff8ull), 0, 8);
+    goto l_join_68;
+l_arm_a9:;
+    r_ij = (u64)(r_tp >> 35ull);
+    switch ((u8)((u8)(u64)(r_tp >> 32ull) & 7u)) {
+    case 7u: goto l_arm_1o;
+    case 6u: goto l_arm_6p;
+    case 0u: { r_w1 = 0ull; goto l_capnp_mu; }
+    case 5u: goto l_arm_h9;
+    case 4u: goto l_arm_h9_1;
+    case 1u: goto l_arm_h9_2;
+    case 2u: goto l_arm_h9_3;
+    case 3u: goto l_arm_h9_4;
+    default: goto l_default_e1;
+    }
+l_arm_1o:;
+    r_2p_1 = (r_5k == 0u);
+    if (!r_2p_1) { r_eh = 0ull; goto l_capnp_qm; }
+    if (!(ld32(away(a_1, 16ull)) > r_5k_1)) { r_eh = 0ull; goto l_capnp_qm; }
+    r_eh = ld64(away(ldp(a_1), (u64)((u64)r_5k_1 << 3ull)));
+l_capnp_qm:;
+    t_c8 = (u32)((u32)r_eh >> 2u);
+    r_y6_1 = (u64)(r_eh >> 48ull);
+    r_az_1 = ((u32)(u64)(r_eh >> 32ull) & 65535u);
+    t_12 = (u32)r_y6_1;
+    r_c4 = (((u64)(r_az_1 + t_12) * (u64)t_c8) + 1ull);
+    if (!r_2p_1) goto l_join_68;
+    r_08_3 = away(a_1, 16ull);
+    if ((r_c4 + (u64)r_5k_1) > (u64)ld32(r_08_3)) goto l_join_68;
+    if (!((r_y6_1 != 0ull) ? (t_c8 != 0u) : 0u)) goto l_capnp_bh;
+    r_x5_1 = (slot_1 + 8);
+    r_te = (r_5k_1 + 1u);
+    r_52 = 0u;
+l_join_b2:;
+    r_w0 = (r_te + r_az_1);
+    if ((r_y6_1 + (u64)r_w0) > (u64)ld32(r_08_3)) goto l_capnp_to;
+    indvars_4c = 0ull;
+l_join_m1:;
+    r_sr = (r_w0 + (u32)indvars_4c);
+    r_2b_3 = away(ldp(a_1), (u64)((u64)r_sr << 3ull));
+    r_qw_2 = ld64(r_2b_3);
+    if (r_qw_2 == 0ull) goto l_capnp_yw_1;
+    capnp_making_landing_follow_d7a666d2d35ab297(slot_1, a_1, 0u, r_sr);
+    st64(r_2b_3, 0ull);
+    if (!(ld8(slot_1) == 1u)) goto l_capnp_yw_1;
+    capnp_making_zeroing_zero_target_d7a666d2d35ab297(a_1, r_x5_1);
+    if (!((r_qw_2 & 3ull) == 2ull)) goto l_capnp_yw_1;
+    capnp_making_zeroing_zero_far_pads_d7a666d2d35ab297(a_1, r_qw_2);
+l_capnp_yw_1:;
+    u64 indvars_r7_1 = (indvars_4c + 1ull);
+    if (!(indvars_r7_1 == r_y6_1)) { indvars_4c = indvars_r7_1; goto l_join_m1; }
+l_capnp_to:;
+    u32 r_ff = (r_52 + 1u);
+    if (!(r_ff == t_c8)) { r_te = (r_w0 + t_12); r_52 = r_ff; goto l_join_b2; }
+l_capnp_bh:;
+    capnp_making_zeroing_zero_if_inside_d7a666d2d35ab297(a_1, 0u, r_5k_1, r_c4);
+    goto l_join_68;
+l_arm_6p:;
+    r_lc_6 = (r_ij + (u64)r_5k_1);
+    if (!(r_5k == 0u)) { r_yh = 0ull; goto l_capnp_hx; }
+    r_yh = (u64)ld32(away(a_1, 16ull));
+l_capnp_hx:;
+    if (!(u8)((u8)(r_ij != 0ull) & (u8)(r_lc_6 <= r_yh))) goto l_join_68;
+    r_x5_2 = (slot_1 + 8);
+    indvars_4c_1 = 0ull;
+l_join_m1_1:;
+    r_sr_2 = (r_5k_1 + (u32)indvars_4c_1);
+    r_2b_4 = away(ldp(a_1), (u64)((u64)r_sr_2 << 3ull));
+    r_qw_3 = ld64(r_2b_4);
+    if (r_qw_3 == 0ull) goto l_capnp_o8;
+    capnp_making_landing_follow_d7a666d2d35ab297(slot_1, a_1, r_5k, r_sr_2);
+    st64(r_2b_4, 0ull);
+    if (!(ld8(slot_1) == 1u)) goto l_capnp_o8;
+    capnp_making_zeroing_zero_target_d7a666d2d35ab297(a_1, r_x5_2);
+    if (!((r_qw_3 & 3ull) == 2ull)) goto l_capnp_o8;
+    capnp_making_zeroing_zero_far_pads_d7a666d2d35ab297(a_1, r_qw_3);
+l_capnp_o8:;
+    u64 indvars_r7_2 = (indvars_4c_1 + 1ull);
+    if (indvars_r7_2 == r_ij) goto l_join_68;
+    indvars_4c_1 = indvars_r7_2;
+    goto l_join_m1_1;
+l_arm_h9_2:;
+    r_w1 = 1ull;
+    goto l_capnp_mu;
+l_arm_h9_3:;
+    r_w1 = 8ull;
+    goto l_capnp_mu;
+l_arm_h9_4:;
+    r_w1 = 16ull;
+    goto l_capnp_mu;
+l_arm_h9_1:;
+    r_w1 = 32ull;
+    goto l_capnp_mu;
+l_arm_h9:;
+    r_w1 = 64ull;
+l_capnp_mu:;
+    r_b6_1 = (r_w1 * r_ij);
+    r_se = (u64)((r_b6_1 + 63ull) >> 6ull);
+    if (!(u8)((u8)(r_5k == 0u) & (u8)(r_se != 0ull))) goto l_join_68;
+    r_24_8 = (u64)r_5k_1;
+    if ((r_se + r_24_8) > (u64)ld32(away(a_1, 16ull))) goto l_join_68;
+    r_um = ((u64)(r_se << 3ull) & 0x7fffffff8ull);
+    r_2b_5 = away(ldp(a_1), (u64)(r_24_8 << 3ull));
+    if (r_b6_1 < 449ull) goto l_then_5t;
+    memset_or_none(r_2b_5, 0u, r_um);
+    goto l_join_68;
+l_then_5t:;
+    t_2b_1 = away(r_2b_5, r_um);
+    if (!(r_b6_1 > 192ull)) goto l_else_9l;
+    memset(r_2b_5, 0, 32);
+    memset(away(t_2b_1, 0xffffffffffffffe0ull), 0, 32);
+    goto l_join_68;
+l_else_9l:;
+    if (r_se == 1ull) goto l_then_51_1;
+    memset(r_2b_5, 0, 16);
+    memset(away(t_2b_1, 0xfffffffffffffff0ull), 0, 16);
+    goto l_join_68;
+l_then_51_1:;
+    memset(r_2b_5, 0, 8);
+    memset(away(t_2b_1, 0xfffffffffffffff8ull), 0, 8);
+l_join_68:;
+    return;
+l_default_e1:;
+    UNREACHABLE();
+}
+
+/* capnp_making::making::make_struct_list::<#d7a666d2d35ab297> */
+static void capnp_making_making_make_struct_list_d7a666d2d35ab297(u8 *a_1, u8 *a_2, u32 a_3, u32 a_4, u32 a_5, u16 a_6, u16 a_7)
+{
+    u32 r_cb;
+    u32 r_ll;
+    u8 *r_08;
+    u32 r_e3;
+    u32 r_da;
+    u64 r_24;
+    u64 r_z6;
+    u8 *r_2b;
+    u32 r_z3;
+    u64 r_z6_3;
+    u64 r_z6_4;
+    u8 *r_2b_1;
+    u64 r_13;
+    u32 sink_iw;
+    u64 r_7a;
+    u64 sink_zn;
+    r_cb = (((u32)a_7 + (u32)a_6) * a_5);
+    r_ll = (r_cb + 1u);
+    r_08 = away(a_2, 16ull);
+    r_e3 = ld32(r_08);
+    r_da = ((u32)umin64((u64)(ld64(away(a_2, 8ull)) >> 3ull), 0x1fffffffull) - r_e3);
+    if (r_ll > r_da) goto l_arm_ky;
+    r_24 = (u64)r_e3;
+    r_z6 = (u64)((u64)r_ll << 3ull);
+    r_2b = away(ldp(a_2), (u64)(r_24 << 3ull));
+    if (r_ll < 8u) goto l_then_1k;
+    memset_or_none(r_2b, 0u, r_z6);
+    goto l_capnp_od;
+l_then_1k:;
+    if (!(r_ll > 3u)) goto l_else_b7;
+    memset(r_2b, 0, 32);
+    memset(away(away(r_2b, r_z6), 0xffffffffffffffe0ull), 0, 32);
+    goto l_capnp_od;
+l_else_b7:;
+    if (!(r_ll > 1u)) goto l_else_em;
+    memset(r_2b, 0, 16);
+    memset(away(away(r_2b, r_z6), 0xfffffffffffffff0ull), 0, 16);
+    goto l_capnp_od;
+l_else_em:;
+    if (r_ll == 0u) goto l_capnp_od;
+    memset(r_2b, 0, 8);
+    memset(away(away(r_2b, r_z6), 0xfffffffffffffff8ull), 0, 8);
+l_capnp_od:;
+    st32(r_08, (r_e3 + r_ll));
+    st64((ldp(a_2) + (i64)((u64)((u64)a_4 << 3ull))), (((u64)((u64)r_cb << 35ull) | (u64)(u32)((r_e3 + (a_4 ^ 0xffffffffu)) << 2u)) | 0x700000001ull));
+    r_13 = ((u64)(r_24 << 32ull) | (u64)a_3);
+    goto l_arm_97;
+l_arm_ky:;
+    r_z3 = (r_cb + 2u);
+    if (r_z3 > r_da) goto l_join_12;
+    r_z6_3 = (u64)((u64)r_e3 << 3ull);
+    r_z6_4 = (u64)((u64)r_z3 << 3ull);
+    r_2b_1 = away(ldp(a_2), r_z6_3);
+    if (r_z3 < 8u) goto l_then_1k_1;
+    memset_or_none(r_2b_1, 0u, r_z6_4);
+    goto l_capnp_22;
+l_then_1k_1:;
+    if (!(r_z3 > 3u)) goto l_else_ey;
+    memset(r_2b_1, 0, 32);
+    memset(away(away(r_2b_1, r_z6_4), 0xffffffffffffffe0ull), 0, 32);
+    goto l_capnp_22;
+l_else_ey:;
+    if (!(r_cb < 0xfffffffeu)) goto l_else_em_1;
+    memset(r_2b_1, 0, 16);
+    memset(away(away(r_2b_1, r_z6_4), 0xfffffffffffffff0ull), 0, 16);
+    goto l_capnp_22;
+l_else_em_1:;
+    if (r_z3 == 0u) goto l_capnp_22;
+    memset(r_2b_1, 0, 8);
+    memset(away(away(r_2b_1, r_z6_4), 0xfffffffffffffff8ull), 0, 8);
+    goto l_capnp_22;
+l_join_12:;
+    if (!(r_z3 > 0x1fffffffu)) goto l_join_4y;
+    sink_iw = 1u;
+    r_7a = 0x1b00000000ull;
+    sink_zn = (u64)r_z3;
+    goto l_common_ak;
+l_join_4y:;
+    u8 *r_xz = away(a_2, 24ull);
+    st64(r_xz, uadd_sat64(ld64(r_xz), 1ull));
+    sink_iw = 1u;
+    r_7a = 0ull;
+    sink_zn = 0ull;
+    goto l_common_ak;
+l_capnp_22:;
+    st32(r_08, (r_e3 + r_z3));
+    st64((ldp(a_2) + (i64)(r_z6_3)), ((u64)((u64)r_cb << 35ull) | 0x700000001ull));
+    st64((ldp(a_2) + (i64)((u64)((u64)a_4 << 3ull))), (r_z6_3 | 2ull));
+    r_13 = (u64)((u64)(r_e3 + 1u) << 32ull);
+l_arm_97:;
+    st64((ldp(a_2) + (i64)(((u64)(r_13 >> 29ull) & 0x7fffffff8ull))), (((u64)((u64)a_7 << 48ull) | (u64)((u64)a_6 << 32ull)) | (u64)((u64)a_5 << 2ull)));
+    sink_iw = 0u;
+    r_7a = r_13;
+    sink_zn = 0ull;
+l_common_ak:;
+    st32(a_1, sink_iw);
+    st64(away(a_1, 4ull), r_7a);
+    st32(away(a_1, 12ull), 0u);
+    st64(away(a_1, 16ull), sink_zn);
+    return;
+}
+
+/* capnp_copies::copy::copy_object::<#5ec03199cc959fcd> */
+static NEVER void capnp_copies_copy_copy_object_5ec03199cc959fcd(u8 *a_1, u8 *a_2, u32 a_3, u32 a_4, u8 *a_5, u8 *a_6, u8 a_7)
+{
+    A(8) u8 slot_1[56];
+    A(8) u8 slot_2[64];
+    A(8) u8 slot_3[24];
+    A(8) u8 slot_4[64];
+    A(8) u8 slot_5[24];
+    u8 r_dh;
+    u64 r_eg;
+    u8 *r_rv;
+    u64 r_qw;
+    u64 r_qw_1;
+    u8 *r_rv_1;
+    u64 r_qw_2;
+    u32 r_5k;
+    u64 r_24;
+    u64 r_gw;
+    u64 r_qw_3;
+    u64 t_al;
+    u8 t_pa;
+    u64 r_lc;
+    u64 r_nb;
+    u64 r_yz;
+    u32 r_gx;
+    u64 r_qd;
+    u64 r_d4;
+    u64 r_9h;
+    u64 r_27;
+    u64 r_ep;
+    u64 r_y6;
+    u64 r_lc_1;
+    u8 *r_rq_1;
+    u64 r_52_1;
+    u32 r_az;
+    u8 *t_f6;
+    u32 r_4w;
+    u8 switch_wl;
+    u64 r_ij;
+    u64 r_c4_1;
+    u64 r_24_2;
+    u64 r_gw_2;
+    u8 *r_rq_2;
+    u64 r_52_2;
+    u64 r_eh;
+    u32 t_c8;
+    u64 r_ep_2;
+    u64 r_y6_1;
+    u32 r_12;
+    u32 r_az_1;
+    u32 r_68;
+    u64 r_c0_1;
+    u8 *r_rq_3;
+    u64 r_52_3;
+    u32 r_ll;
+    u8 *t_f6_2;
+    u32 r_4w_1;
+    u16 r_xg;
+    u16 r_py;
+    u8 t_q5_1;
+    u32 r_12_1;
+    u8 *r_rq_4;
+    u64 r_52_4;
+    u8 *r_rq_5;
+    u64 r_52_5;
+    u64 r_v1;
+    u64 r_c6;
+    u8 *r_rq_6;
+    u64 r_52_6;
+    u64 r_2g;
+    u64 r_jg;
+    u64 r_6e;
+    u8 *t_f6_3;
+    u32 r_4w_2;
+    u8 *r_rq_7;
+    u8 *r_08_2;
+    u32 r_e3;
+    u8 r_10;
+    u32 r_kb;
+    u32 r_n4;
+    u64 r_yp;
+    u64 r_q7_1;
+    u64 r_lc_6;
+    u64 r_z6_3;
+    u8 *r_c0_2;
+    u64 r_nm;
+    u64 r_nm_1;
+    u64 r_ev;
+    u64 r_z6_7;
+    u8 *r_c0_3;
+    u64 r_nm_2;
+    u64 r_nm_3;
+    u64 r_mh;
+    u64 r_ag;
+    u32 r_ib;
+    u16 r_xg_1;
+    u32 r_29;
+    u32 r_68_1;
+    u8 *r_08_4;
+    u32 r_e3_1;
+    u64 r_24_7;
+    u64 r_c0_4;
+    u8 *r_2b_5;
+    u8 *t_2b_2;
+    u64 pre_bv;
+    u32 r_6n;
+    u32 r_qt;
+    u64 r_0l;
+    u8 *r_c0_5;
+    u8 *r_2b_6;
+    u64 r_il;
+    u8 r_t8;
+    u8 r_hg;
+    u32 r_lc_7;
+    u64 r_nj;
+    u8 *t_f6_5;
+    u64 r_yo;
+    u8 r_tw;
+    u8 *r_l2;
+    u64 r_nm_4;
+    u64 r_61;
+    u64 r_kz;
+    u64 r_b6_2;
+    u64 r_se;
+    u32 r_12_3;
+    u64 t_0f;
+    u8 *r_08_5;
+    u32 r_e3_3;
+    u64 r_z6_29;
+    u8 *r_2b_7;
+    u64 r_1q;
+    u8 *r_2b_8;
+    u64 r_il_1;
+    u64 r_4i;
+    u64 r_z6_34;
+    u8 *r_2b_10;
+    u64 r_7l_6;
+    u64 r_gw_9;
+    u8 *r_x5_7;
+    u8 *r_zd_4;
+    u8 *r_lk_2;
+    u8 *r_89_2;
+    u8 *r_a8_2;
+    u8 *r_c4_7;
+    u8 *r_6c_1;
+    u8 *r_08_6;
+    u64 r_nb_7;
+    u8 r_sg_1;
+    u8 *r_rq_11;
+    u8 *r_x5_8;
+    u8 *r_k0_2;
+    u8 *r_zd_5;
+    u32 r_s1;
+    u8 t_q5_2;
+    u8 *r_x5_9;
+    u8 *r_k0_3;
+    u8 *r_zd_6;
+    u8 *r_ix_1;
+    u8 *r_x5_10;
+    u8 *r_zd_7;
+    u8 *r_lk_3;
+    u8 *r_89_3;
+    u8 *r_a8_3;
+    u8 *r_c4_8;
+    u8 *r_bk_1;
+    u8 *r_6c_2;
+    u8 *r_x5_11;
+    u8 *r_k0_4;
+    u8 *r_zd_8;
+    u8 t_0c_2;
+    u8 *r_x5_12;
+    u8 *r_k0_5;
+    u8 *r_zd_9;
+    u8 *r_ix_2;
+    u8 *t_6c_1;
+    u64 r_7l_7;
+    u8 *t_6c_2;
+    u64 indvars_eg;
+    u32 r_sr_3;
+    u64 r_24_21;
+    u64 r_qw_12;
+    u64 switch_f9_3;
+    u64 r_ep_4;
+    u64 r_ij_1;
+    u64 r_c6_5;
+    u64 r_lc_8;
+    u64 r_gk_1;
+    u64 r_52_13;
+    u64 r_z6_38;
+    u8 *r_8a;
+    u64 r_1q_2;
+    u64 r_se_1;
+    u32 r_12_4;
+    u32 r_e3_4;
+    u64 r_z6_39;
+    u8 *r_2b_11;
+    u32 r_6i;
+    u64 r_4i_1;
+    u64 r_y6_2;
+    u64 r_q7_2;
+    u64 r_lc_11;
+    u64 r_lc_12;
+    u64 r_jm;
+    u32 r_4r_5;
+    u8 r_8u_7;
+    u64 r_52_16;
+    u32 r_5b;
+    u64 r_um;
+    u64 r_c9;
+    u32 r_az_2;
+    u32 r_az_3;
+    u32 r_68_2;
+    struct s_i8_i32 r_57;
+    u64 r_zw_2;
+    u32 r_4r_8;
+    u8 r_2b_13;
+    u8 r_qh;
+    u32 r_ip;
+    u64 r_wq;
+    u8 r_t8_2;
+    u8 r_t8_1;
+    u32 r_hg_1;
+    u64 r_lc_9;
+    u64 t_pz;
+    u32 t_fy;
+    u8 r_1l;
+    u8 t_ry;
+    u64 r_q7_3;
+    u32 r_i4;
+    u64 r_pi;
+    u16 r_jc;
+    u16 r_qp_1;
+    u64 r_u7_1;
+    u64 r_z6_51;
+    u8 *r_c0_14;
+    u64 r_nm_5;
+    u64 r_nm_6;
+    u64 r_xk;
+    u16 r_5f;
+    u64 r_5q_1;
+    u64 r_u7_3;
+    u64 r_z6_54;
+    u8 *r_c0_15;
+    u64 r_nm_7;
+    u64 r_nm_8;
+    u64 r_a3;
+    u16 r_l1;
+    u16 r_5s;
+    u64 r_fj;
+    u32 r_wt_2;
+    u32 r_ll_4;
+    u32 r_68_3;
+    u32 r_00;
+    u32 r_68_4;
+    u64 r_z6_57;
+    u8 r_hi_1;
+    u8 r_u6_1;
+    u8 r_vw;
+    u8 r_bh_3;
+    u64 r_8f_2;
+    u64 r_la_2;
+    u64 r_bh_4;
+    u8 r_hi_2;
+    u64 r_gw_11;
+    u8 *r_x5_13;
+    u8 *r_zd_10;
+    u8 *r_lk_4;
+    u8 *r_89_4;
+    u8 *r_a8_4;
+    u8 *r_c4_11;
+    u8 *r_6c_3;
+    u8 *r_08_7;
+    u64 r_nb_8;
+    u8 r_sg_2;
+    u8 *r_rq_12;
+    u8 *r_x5_14;
+    u8 *r_k0_6;
+    u8 *r_zd_11;
+    u32 r_s1_1;
+    u8 *r_rq_13;
+    u8 *r_08_8;
+    u8 *r_xz_3;
+    u8 *r_x5_15;
+    u8 *r_zd_12;
+    u8 *r_lk_5;
+    u8 *r_89_5;
+    u8 *r_a8_5;
+    u8 *r_c4_12;
+    u8 *r_bk_2;
+    u8 *r_6c_4;
+    u8 *r_x5_16;
+    u8 *r_k0_7;
+    u8 *r_zd_13;
+    u8 t_0c_6;
+    u64 wide_c0;
+    u64 wide_u7;
+    u8 *t_6c_3;
+    u8 *t_6c_4;
+    u32 r_wt_3;
+    u64 indvars_ff;
+    u32 r_w0_10;
+    u32 r_w0_11;
+    u8 *r_c0_16;
+    u8 *r_2b_18;
+    u64 r_il_2;
+    u32 r_w0_12;
+    u32 r_w0_13;
+    u64 indvars_vm;
+    u32 r_sr_7;
+    u64 r_24_41;
+    u64 r_qw_20;
+    u64 switch_f9_4;
+    u64 r_ep_7;
+    u64 r_ij_2;
+    u64 r_1q_4;
+    u64 r_c6_8;
+    u64 r_lc_15;
+    u64 r_gk_2;
+    u64 r_52_18;
+    u64 r_z6_61;
+    u8 *r_8a_1;
+    u64 r_1q_5;
+    u64 r_se_2;
+    u32 r_12_5;
+    u32 r_e3_7;
+    u64 r_z6_62;
+    u8 *r_2b_20;
+    u64 r_1q_6;
+    u8 *r_2b_21;
+    u64 r_il_3;
+    u64 r_4i_2;
+    u64 r_y6_3;
+    u64 r_q7_4;
+    u64 r_lc_17;
+    u64 r_lc_18;
+    u64 r_jm_1;
+    u32 r_4r_10;
+    u8 r_8u_9;
+    u64 r_52_22;
+    u32 r_5b_1;
+    u64 r_lc_20;
+    u64 r_z6_67;
+    u8 *r_c0_18;
+    u64 r_nm_10;
+    u64 r_nm_11;
+    u64 r_ev_1;
+    u64 r_z6_71;
+    u8 *r_c0_19;
+    u64 r_nm_12;
+    u64 r_nm_13;
+    u64 r_dl;
+    u64 r_9n;
+    u16 r_xg_4;
+    u32 r_29_2;
+    u32 r_az_4;
+    u32 r_68_5;
+    u32 r_e3_8;
+    u64 r_c0_20;
+    u8 *r_2b_28;
+    u8 *t_2b_19;
+    u64 r_s8;
+    u32 r_4r_12;
+    u64 r_0l_2;
+    u8 *r_c0_21;
+    u8 *r_2b_29;
+    u64 r_il_4;
+    u8 r_2b_30;
+    u8 r_qh_2;
+    u32 r_ip_1;
+    u64 r_wq_1;
+    u8 r_2b_23;
+    u8 r_2b_19;
+    u64 r_qh_1;
+    u64 t_ko;
+    u32 t_h6;
+    u8 r_ex;
+    u8 t_jr;
+    u8 r_rh;
+    u8 r_hg_2;
+    u32 r_je;
+    u64 r_s2;
+    u8 r_5k_2;
+    u8 r_qp;
+    u32 r_7u;
+    u64 r_pz;
+    r_dh = ld8(a_5);
+    r_eg = (u64)r_dh;
+    r_rv = ldp(away(a_5, 8ull));
+    r_qw = ld64(away(a_5, 16ull));
+    r_qw_1 = ld64(away(a_5, 24ull));
+    r_rv_1 = ldp(away(a_5, 32ull));
+    r_qw_2 = ld64(away(a_5, 40ull));
+    r_5k = ld32(away(a_5, 56ull));
+    r_24 = (u64)ld32(away(a_5, 48ull));
+    r_gw = (u64)(r_qw_2 >> 3ull);
+    if (!(r_gw > r_24)) { r_5k_2 = 0u; r_qp = 0u; r_7u = 0u; r_pz = 0ull; goto l_join_1g; }
+    r_qw_3 = ld64(away(r_rv_1, (u64)(r_24 << 3ull)));
+    if (r_qw_3 == 0ull) { r_5k_2 = 0u; r_qp = 0u; r_7u = 0u; r_pz = 0ull; goto l_join_1g; }
+    t_al = (u64)(uptr)r_rv_1;
+    memset(slot_1, 0u, 56);
+    t_pa = (r_dh != 0u);
+    if (t_pa) goto l_capnp_sm;
+    u8 *r_08_1 = away(a_6, 16ull);
+    st64(r_08_1, uadd_sat64(ld64(r_08_1), 1ull));
+    if ((r_qw_3 & 3ull) == 2ull) goto l_capnp_3l;
+    goto l_join_bd;
+l_capnp_sm:;
+    if (!((r_qw_3 & 3ull) == 2ull)) goto l_join_bd;
+    st32((slot_1 + 8), 32u);
+    r_2g = ld64((slot_1 + 8));
+    goto l_capnp_8g;
+l_join_bd:;
+    u64 r_m6 = ((u64)(r_qw_3 >> 2ull) & 0x3fffffffull);
+    r_lc = ((r_24 + 1ull) + r_m6);
+    r_nb = (r_gw & 0xffffffffull);
+    if (!(r_m6 < 0x20000000ull)) goto l_else_70;
+    if (r_lc > r_nb) { r_2g = 23ull; goto l_capnp_8g; }
+    r_yz = r_lc;
+    goto l_capnp_i5;
+l_else_70:;
+    u64 r_3o = (r_lc + 0xffffffffc0000000ull);
+    if ((r_lc < 0x40000000ull) ? 1u : (r_3o > r_nb)) { r_2g = 23ull; goto l_capnp_8g; }
+    r_yz = r_3o;
+l_capnp_i5:;
+    r_gx = (u32)r_yz;
+    r_qd = r_qw_1;
+    r_d4 = r_qw_3;
+    r_9h = r_qw_2;
+    r_27 = t_al;
+    goto l_arm_wn;
+l_capnp_3l:;
+    capnp_objects_source_follow_far_07dcb38b0fe92235(slot_1, r_rv, r_qw_3, a_6);
+    u64 r_38_1 = ld64((slot_1 + 16));
+    u64 r_38_2 = ld64((slot_1 + 8));
+    if (ld8(slot_1) == 0u) { r_gx = ld32((slot_1 + 40)); r_qd = r_38_1; r_d4 = r_38_2; r_9h = ld64((slot_1 + 32)); r_27 = ld64((slot_1 + 24)); goto l_arm_wn; }
+    r_jg = r_38_1;
+    r_6e = r_38_2;
+    goto l_capnp_qu;
+l_arm_wn:;
+    switch ((u8)((u8)r_d4 & 3u)) {
+    case 0u: goto l_arm_sz;
+    case 1u: goto l_arm_z2;
+    case 2u: { r_10 = 1u; r_kb = 13u; r_n4 = 0u; r_yp = 0ull; goto l_common_9c; }
+    case 3u: goto l_capnp_a6;
+    default: goto l_default_e1;
+    }
+l_arm_sz:;
+    r_ep = (u64)(r_d4 >> 32ull);
+    r_y6 = (u64)(r_d4 >> 48ull);
+    if ((i32)r_5k < (i32)1u) { r_10 = 1u; r_kb = 26u; r_n4 = 0u; r_yp = 0ull; goto l_common_9c; }
+    r_lc_1 = ((r_ep & 65535ull) + r_y6);
+    if (((u64)(r_9h >> 3ull) & 0xffffffffull) < (r_lc_1 + (u64)r_gx)) { r_10 = 1u; r_kb = 23u; r_n4 = 0u; r_yp = 0ull; goto l_common_9c; }
+    if (t_pa) goto l_arm_gk;
+    if (!(ld8(a_6) == 1u)) goto l_arm_gk;
+    r_rq_1 = away(a_6, 8ull);
+    r_52_1 = ld64(r_rq_1);
+    if (r_52_1 < r_lc_1) { r_10 = 1u; r_kb = 30u; r_n4 = 0u; r_yp = 0ull; goto l_common_9c; }
+    st64(a_6, 1ull);
+    st64(r_rq_1, (r_52_1 - r_lc_1));
+l_arm_gk:;
+    r_az = ((u32)r_ep & 65535u);
+    t_f6 = ((u8 *)(uptr)r_27);
+    r_4w = (r_5k + 0xffffffffu);
+    if (a_7 == 1u) goto l_arm_e4;
+    goto l_arm_ps;
+l_arm_z2:;
+    switch_wl = (u8)((u8)(u64)(r_d4 >> 32ull) & 7u);
+    r_ij = (u64)(r_d4 >> 35ull);
+    switch (switch_wl) {
+    case 7u: goto l_arm_gv;
+    case 6u: goto l_arm_lc;
+    case 0u: goto l_arm_gv_1;
+    case 5u: goto l_arm_h9;
+    case 4u: goto l_arm_h9_1;
+    case 3u: goto l_arm_h9_2;
+    case 1u: { r_v1 = 1ull; goto l_capnp_gv; }
+    case 2u: goto l_arm_h9_3;
+    default: goto l_default_e1;
+    }
+l_arm_gv:;
+    if ((i32)r_5k < (i32)1u) { r_10 = 1u; r_kb = 26u; r_n4 = 0u; r_yp = 0ull; goto l_common_9c; }
+    r_c4_1 = (r_ij + 1ull);
+    r_24_2 = (u64)r_gx;
+    r_gw_2 = (u64)(r_9h >> 3ull);
+    if ((r_gw_2 & 0xffffffffull) < (r_c4_1 + r_24_2)) { r_10 = 1u; r_kb = 23u; r_n4 = 0u; r_yp = 0ull; goto l_common_9c; }
+    if (t_pa) goto l_arm_ga;
+    if (!(ld8(a_6) == 1u)) goto l_arm_ga;
+    r_rq_2 = away(a_6, 8ull);
+    r_52_2 = ld64(r_rq_2);
+    if (!(r_52_2 > r_ij)) { r_10 = 1u; r_kb = 30u; r_n4 = 0u; r_yp = 0ull; goto l_common_9c; }
+    st64(a_6, 1ull);
+    st64(r_rq_2, (r_52_2 - r_c4_1));
+l_arm_ga:;
+    if (!(r_gw_2 > r_24_2)) { r_eh = 0ull; goto l_join_qm; }
+    u64 r_qw_4 = ld64(away(((u8 *)(uptr)r_27), (u64)(r_24_2 << 3ull)));
+    if ((r_qw_4 & 3ull) == 0ull) { r_eh = r_qw_4; goto l_join_qm; }
+    r_10 = 1u;
+    r_kb = 11u;
+    r_n4 = 0u;
+    r_yp = 0ull;
+    goto l_common_9c;
+l_join_qm:;
+    t_c8 = (u32)((u32)r_eh >> 2u);
+    r_ep_2 = (u64)(r_eh >> 32ull);
+    r_y6_1 = (u64)(r_eh >> 48ull);
+    r_12 = (u32)r_y6_1;
+    r_az_1 = ((u32)r_ep_2 & 65535u);
+    r_68 = (r_az_1 + r_12);
+    r_c0_1 = (u64)t_c8;
+    if (r_ij < ((u64)r_68 * r_c0_1)) { r_10 = 1u; r_kb = 10u; r_n4 = 0u; r_yp = 0ull; goto l_common_9c; }
+    if ((u8)((u8)t_pa | (u8)(r_68 != 0u))) goto l_arm_ae;
+    if (!(ld8(a_6) == 1u)) goto l_arm_ae;
+    r_rq_3 = away(a_6, 8ull);
+    r_52_3 = ld64(r_rq_3);
+    if (r_52_3 < r_c0_1) { r_10 = 1u; r_kb = 30u; r_n4 = 0u; r_yp = 0ull; goto l_common_9c; }
+    st64(a_6, 1ull);
+    st64(r_rq_3, (r_52_3 - r_c0_1));
+l_arm_ae:;
+    r_ll = (r_gx + 1u);
+    t_f6_2 = ((u8 *)(uptr)r_27);
+    r_4w_1 = (r_5k + 0xffffffffu);
+    r_xg = (u16)r_ep_2;
+    r_py = (u16)r_y6_1;
+    t_q5_1 = (a_7 == 1u);
+    if (t_q5_1) goto l_arm_q5;
+    r_l1 = r_xg;
+    r_5s = r_py;
+    goto l_capnp_dd;
+l_arm_lc:;
+    r_12_1 = (u32)r_ij;
+    if ((i32)r_5k < (i32)1u) { r_10 = 1u; r_kb = 26u; r_n4 = 0u; r_yp = 0ull; goto l_common_9c; }
+    if (((u64)(r_9h >> 3ull) & 0xffffffffull) < (r_ij + (u64)r_gx)) { r_10 = 1u; r_kb = 23u; r_n4 = 0u; r_yp = 0ull; goto l_common_9c; }
+    if (t_pa) goto l_arm_22;
+    if (!(ld8(a_6) == 1u)) goto l_arm_22;
+    r_rq_4 = away(a_6, 8ull);
+    r_52_4 = ld64(r_rq_4);
+    if (r_52_4 < r_ij) { r_10 = 1u; r_kb = 30u; r_n4 = 0u; r_yp = 0ull; goto l_common_9c; }
+    st64(a_6, 1ull);
+    st64(r_rq_4, (r_52_4 - r_ij));
+    goto l_arm_22;
+l_arm_gv_1:;
+    if ((i32)r_5k < (i32)1u) { r_10 = 1u; r_kb = 26u; r_n4 = 0u; r_yp = 0ull; goto l_common_9c; }
+    if (((u64)(r_9h >> 3ull) & 0xffffffffull) < (u64)r_gx) { r_10 = 1u; r_kb = 23u; r_n4 = 0u; r_yp = 0ull; goto l_common_9c; }
+    if (t_pa) goto l_arm_kb;
+    if (!(ld8(a_6) == 1u)) goto l_arm_kb;
+    st64(a_6, 1ull);
+    r_rq_5 = away(a_6, 8ull);
+    r_52_5 = ld64(r_rq_5);
+    if (r_52_5 < r_ij) { r_10 = 1u; r_kb = 30u; r_n4 = 0u; r_yp = 0ull; goto l_common_9c; }
+    st64(r_rq_5, (r_52_5 - r_ij));
+    goto l_arm_kb;
+l_arm_h9_3:;
+    r_v1 = 8ull;
+    goto l_capnp_gv;
+l_arm_h9_2:;
+    r_v1 = 16ull;
+    goto l_capnp_gv;
+l_arm_h9_1:;
+    r_v1 = 32ull;
+    goto l_capnp_gv;
+l_arm_h9:;
+    r_v1 = 64ull;
+l_capnp_gv:;
+    if ((i32)r_5k < (i32)1u) { r_10 = 1u; r_kb = 26u; r_n4 = 0u; r_yp = 0ull; goto l_common_9c; }
+    r_c6 = (u64)(((r_v1 * r_ij) + 63ull) >> 6ull);
+    if (((u64)(r_9h >> 3ull) & 0xffffffffull) < (r_c6 + (u64)r_gx)) { r_10 = 1u; r_kb = 23u; r_n4 = 0u; r_yp = 0ull; goto l_common_9c; }
+    if (t_pa) goto l_arm_gk_1;
+    if (!(ld8(a_6) == 1u)) goto l_arm_gk_1;
+    r_rq_6 = away(a_6, 8ull);
+    r_52_6 = ld64(r_rq_6);
+    if (r_52_6 < r_c6) { r_10 = 1u; r_kb = 30u; r_n4 = 0u; r_yp = 0ull; goto l_common_9c; }
+    st64(a_6, 1ull);
+    st64(r_rq_6, (r_52_6 - r_c6));
+    goto l_arm_gk_1;
+l_default_e1:;
+    UNREACHABLE();
+l_capnp_8g:;
+    r_jg = 0ull;
+    r_6e = r_2g;
+l_capnp_qu:;
+    r_10 = 1u;
+    r_kb = ((u32)r_6e & 255u);
+    r_n4 = (u32)(u64)(r_6e >> 32ull);
+    r_yp = r_jg;
+    goto l_common_9c;
+l_capnp_a6:;
+    u8 r_e6 = ((r_d4 & 0xffffffffull) == 3ull);
+    if (r_e6) goto l_arm_gt;
+    r_10 = 1u;
+    r_kb = (r_e6 ? 1u : 34u);
+    r_n4 = 0u;
+    r_yp = 0ull;
+    goto l_common_9c;
+l_arm_22:;
+    t_f6_3 = ((u8 *)(uptr)r_27);
+    r_4w_2 = (r_5k + 0xffffffffu);
+    r_rq_7 = away(a_2, 8ull);
+    r_08_2 = away(a_2, 16ull);
+    r_e3 = ld32(r_08_2);
+    if (((u32)umin64((u64)(ld64(r_rq_7) >> 3ull), 0x1fffffffull) - r_e3) < r_12_1) goto l_arm_4g;
+    goto l_then_dc;
+l_arm_gt:;
+    switch (a_7) {
+    case 0u: goto l_arm_7a;
+    case 1u: { r_5k_2 = a_7; r_qp = a_7; r_7u = 0u; r_pz = 0ull; goto l_join_1g; }
+    case 2u: goto l_arm_qu;
+    default: goto l_noarm_e1;
+    }
+l_common_9c:;
+    st8(a_1, r_10);
+    st32(away(a_1, 8ull), r_kb);
+    st32(away(a_1, 12ull), r_n4);
+    st64(away(a_1, 16ull), r_yp);
+    return;
+l_arm_7a:;
+    st64((ldp(a_2) + (i64)((u64)((u64)a_4 << 3ull))), r_d4);
+    r_5k_2 = 0u;
+    r_qp = 0u;
+    r_7u = 0u;
+    r_pz = 0ull;
+    goto l_join_1g;
+l_arm_qu:;
+    r_5k_2 = 1u;
+    r_qp = 34u;
+    r_7u = 0u;
+    r_pz = 0ull;
+    goto l_join_1g;
+l_noarm_e1:;
+    UNREACHABLE();
+l_arm_e4:;
+    u64 r_24_6 = (u64)r_gx;
+    r_q7_1 = (r_ep & 65535ull);
+    r_lc_6 = (r_q7_1 + r_24_6);
+    r_z6_3 = (u64)(r_q7_1 << 3ull);
+    r_c0_2 = away(t_f6, (u64)(r_24_6 << 3ull));
+    if (r_az < 32u) { r_nm = r_q7_1; goto l_loop_jc; }
+    goto l_else_wj;
+l_loop_jc:;
+    if (r_nm == 0ull) { r_ev = 0ull; goto l_capnp_fc; }
+    u64 r_0f = (r_nm + 0xffffffffffffffffull);
+    if (ld64(away(r_c0_2, (u64)(r_0f << 3ull))) == 0ull) { r_nm = r_0f; goto l_loop_jc; }
+    r_ev = r_nm;
+    goto l_capnp_fc;
+l_else_wj:;
+    if (!(ld64(away(away(r_c0_2, r_z6_3), 0xfffffffffffffff8ull)) == 0ull)) { r_ev = r_q7_1; goto l_capnp_fc; }
+    u64 r_qz = capnp_words_lanes_used_words_bound(r_c0_2, r_z6_3);
+    r_nm_1 = r_qz;
+l_loop_jc_1:;
+    if (r_nm_1 == 0ull) { r_ev = 0ull; goto l_capnp_fc; }
+    u64 r_0f_1 = (r_nm_1 + 0xffffffffffffffffull);
+    if (ld64(away(r_c0_2, (u64)(r_0f_1 << 3ull))) == 0ull) { r_nm_1 = r_0f_1; goto l_loop_jc_1; }
+    r_ev = r_nm_1;
+l_capnp_fc:;
+    r_z6_7 = (u64)(r_y6 << 3ull);
+    r_c0_3 = away(t_f6, (u64)(r_lc_6 << 3ull));
+    if (r_d4 < 0x20000000000000ull) { r_nm_2 = r_y6; goto l_loop_jc_2; }
+    goto l_else_wj_1;
+l_loop_jc_2:;
+    if (r_nm_2 == 0ull) { r_mh = 0ull; goto l_capnp_kv; }
+    u64 r_0f_2 = (r_nm_2 + 0xffffffffffffffffull);
+    if (ld64(away(r_c0_3, (u64)(r_0f_2 << 3ull))) == 0ull) { r_nm_2 = r_0f_2; goto l_loop_jc_2; }
+    r_mh = r_nm_2;
+    goto l_capnp_kv;
+l_else_wj_1:;
+    if (!(ld64(away(away(r_c0_3, r_z6_7), 0xfffffffffffffff8ull)) == 0ull)) { r_mh = r_y6; goto l_capnp_kv; }
+    u64 r_qz_1 = capnp_words_lanes_used_words_bound(r_c0_3, r_z6_7);
+    r_nm_3 = r_qz_1;
+l_loop_jc_3:;
+    if (r_nm_3 == 0ull) { r_mh = 0ull; goto l_capnp_kv; }
+    u64 r_0f_3 = (r_nm_3 + 0xffffffffffffffffull);
+    if (ld64(away(r_c0_3, (u64)(r_0f_3 << 3ull))) == 0ull) { r_nm_3 = r_0f_3; goto l_loop_jc_3; }
+    r_mh = r_nm_3;
+l_capnp_kv:;
+    r_ag = r_ev;
+    r_ib = ((u32)r_mh & 65535u);
+    goto l_capnp_ed;
+l_arm_ps:;
+    r_ag = r_ep;
+    r_ib = (u32)r_y6;
+l_capnp_ed:;
+    r_xg_1 = (u16)r_ag;
+    r_29 = ((u32)r_ag & 65535u);
+    r_68_1 = (r_ib + r_29);
+    if (!(r_68_1 == 0u)) goto l_join_uv;
+    u64 r_7l_1 = (u64)a_4;
+    st64((ldp(a_2) + (i64)((u64)(r_7l_1 << 3ull))), 0xfffffffcull);
+    pre_bv = r_7l_1;
+    r_6n = a_3;
+    goto l_arm_y5;
+l_join_uv:;
+    r_08_4 = away(a_2, 16ull);
+    r_e3_1 = ld32(r_08_4);
+    if (r_68_1 > ((u32)umin64((u64)(ld64(away(a_2, 8ull)) >> 3ull), 0x1fffffffull) - r_e3_1)) goto l_arm_45;
+    r_24_7 = (u64)r_e3_1;
+    r_c0_4 = (u64)(u32)(r_68_1 << 3u);
+    r_2b_5 = away(ldp(a_2), (u64)(r_24_7 << 3ull));
+    if (r_68_1 < 8u) goto l_then_5x;
+    memset_or_none(r_2b_5, 0u, r_c0_4);
+    goto l_capnp_od;
+l_then_5x:;
+    t_2b_2 = away(r_2b_5, r_c0_4);
+    if (!(r_68_1 > 3u)) goto l_else_gn;
+    memset(r_2b_5, 0, 32);
+    memset(away(t_2b_2, 0xffffffffffffffe0ull), 0, 32);
+    goto l_capnp_od;
+l_else_gn:;
+    if (r_68_1 == 1u) goto l_then_qw;
+    memset(r_2b_5, 0, 16);
+    memset(away(t_2b_2, 0xfffffffffffffff0ull), 0, 16);
+    goto l_capnp_od;
+l_then_qw:;
+    memset(r_2b_5, 0, 8);
+    memset(away(t_2b_2, 0xfffffffffffffff8ull), 0, 8);
+l_capnp_od:;
+    st32(r_08_4, (r_e3_1 + r_68_1));
+    st64((ldp(a_2) + (i64)((u64)((u64)a_4 << 3ull))), (((u64)((u64)r_ib << 48ull) | ((u64)(r_ag << 32ull) & 0xffff00000000ull)) | (u64)(u32)((r_e3_1 + (a_4 ^ 0xffffffffu)) << 2u)));
+    pre_bv = r_24_7;
+    r_6n = a_3;
+    goto l_arm_y5;
+l_arm_45:;
+    capnp_lent_arena_lent_arena_LentArenaBuilderArena_allo_c5878f28(slot_1, a_2, (r_68_1 + 1u));
+    if (!(ld8(slot_1) == 0u)) goto l_arm_x3;
+    u32 r_yf = ld32((slot_1 + 4));
+    u32 r_e3_2 = ld32((slot_1 + 8));
+    u64 r_z6_14 = (u64)((u64)r_e3_2 << 3ull);
+    st64((ldp(a_2) + (i64)(r_z6_14)), ((u64)((u64)r_ib << 48ull) | ((u64)(r_ag << 32ull) & 0xffff00000000ull)));
+    st64((ldp(a_2) + (i64)((u64)((u64)a_4 << 3ull))), (((u64)((u64)r_yf << 32ull) | r_z6_14) | 2ull));
+    pre_bv = (u64)(r_e3_2 + 1u);
+    r_6n = r_yf;
+l_arm_y5:;
+    r_qt = (u32)pre_bv;
+    r_0l = ((u64)(r_ag << 3ull) & 0x7fff8ull);
+    r_c0_5 = away(t_f6, (u64)((u64)r_gx << 3ull));
+    if (r_xg_1 == 0u) goto l_capnp_am;
+    r_2b_6 = away(ldp(a_2), (u64)(pre_bv << 3ull));
+    if (!(r_xg_1 < 8u)) goto l_else_r3;
+    if (!(r_xg_1 > 3u)) goto l_else_1o;
+    mv32(r_2b_6, r_c0_5);
+    u64 r_bh = (r_0l + 0xffffffffffffffe0ull);
+    mv32((r_2b_6 + (i64)(r_bh)), (r_c0_5 + (i64)(r_bh)));
+    goto l_capnp_am;
+l_else_1o:;
+    if (r_xg_1 == 1u) goto l_then_49;
+    mv16(r_2b_6, r_c0_5);
+    u64 r_8f = (r_0l + 0xfffffffffffffff0ull);
+    mv16((r_2b_6 + (i64)(r_8f)), (r_c0_5 + (i64)(r_8f)));
+    goto l_capnp_am;
+l_then_49:;
+    mv8(r_2b_6, r_c0_5);
+    u64 r_la = (r_0l + 0xfffffffffffffff8ull);
+    mv8((r_2b_6 + (i64)(r_la)), (r_c0_5 + (i64)(r_la)));
+    goto l_capnp_am;
+l_else_r3:;
+    if (((u64)(uptr)r_2b_6 - (u64)(uptr)r_c0_5) < r_0l) { r_il = 0ull; goto l_join_fh; }
+    memmove_or_none(r_2b_6, r_c0_5, r_0l);
+    goto l_capnp_am;
+l_join_fh:;
+    st8((r_2b_6 + (i64)(r_il)), ld8((r_c0_5 + (i64)(r_il))));
+    u64 r_c4_2 = (r_il + 1ull);
+    if (!(r_c4_2 == r_0l)) { r_il = r_c4_2; goto l_join_fh; }
+l_capnp_am:;
+    memset(slot_1, 0u, 24);
+    st64((slot_2 + 56), 0ull);
+    if (r_ib == 0u) { r_t8 = 0u; r_hg = 0u; r_lc_7 = 0u; r_nj = 0ull; goto l_capnp_mp; }
+    st64(slot_2, r_eg);
+    stp((slot_2 + 8), r_rv);
+    st64((slot_2 + 16), r_qw);
+    st64((slot_2 + 24), r_qd);
+    stp((slot_2 + 32), t_f6);
+    st64((slot_2 + 40), r_9h);
+    st32((slot_2 + 48), (r_az + r_gx));
+    st32((slot_2 + 52), 0u);
+    st32((slot_2 + 56), r_4w);
+    capnp_copies_copy_children_copy_children_out_of_line_5_f210a996(slot_1, a_2, r_6n, (r_29 + r_qt), slot_2, r_ib, a_6, a_7);
+    r_t8 = ld8(slot_1);
+    r_hg = ld8((slot_1 + 8));
+    r_lc_7 = ld32((slot_1 + 12));
+    r_nj = ld64((slot_1 + 16));
+l_capnp_mp:;
+    r_5k_2 = r_t8;
+    r_qp = r_hg;
+    r_7u = r_lc_7;
+    r_pz = r_nj;
+    goto l_join_1g;
+l_arm_x3:;
+    r_5k_2 = 1u;
+    r_qp = ld8((slot_1 + 8));
+    r_7u = ld32((slot_1 + 12));
+    r_pz = ld64((slot_1 + 16));
+    goto l_join_1g;
+l_arm_kb:;
+    r_yo = 0ull;
+    r_tw = 0u;
+    r_l2 = away(((u8 *)(uptr)r_27), (u64)((u64)r_gx << 3ull));
+    r_nm_4 = 0ull;
+    r_61 = 0ull;
+    r_kz = 0ull;
+    goto l_capnp_rj;
+l_arm_gk_1:;
+    t_f6_5 = ((u8 *)(uptr)r_27);
+    switch (switch_wl) {
+    case 5u: goto l_capnp_9l;
+    case 4u: goto l_capnp_vt;
+    case 3u: goto l_capnp_3x;
+    case 1u: goto l_capnp_3m;
+    case 2u: goto l_capnp_qf;
+    default: goto l_noarm_e1_1;
+    }
+l_capnp_3m:;
+    u64 r_c6_1 = (u64)((r_ij + 63ull) >> 6ull);
+    r_yo = 1ull;
+    r_tw = switch_wl;
+    r_l2 = away(t_f6_5, (u64)((u64)r_gx << 3ull));
+    r_nm_4 = (u64)(r_c6_1 << 3ull);
+    r_61 = r_c6_1;
+    r_kz = 1ull;
+    goto l_capnp_rj;
+l_capnp_qf:;
+    u64 r_c6_2 = (u64)(((u64)(r_ij << 3ull) + 63ull) >> 6ull);
+    r_yo = 2ull;
+    r_tw = switch_wl;
+    r_l2 = away(t_f6_5, (u64)((u64)r_gx << 3ull));
+    r_nm_4 = (u64)(r_c6_2 << 3ull);
+    r_61 = r_c6_2;
+    r_kz = 8ull;
+    goto l_capnp_rj;
+l_capnp_3x:;
+    u64 r_c6_3 = (u64)(((u64)(r_ij << 4ull) + 63ull) >> 6ull);
+    r_yo = 3ull;
+    r_tw = switch_wl;
+    r_l2 = away(t_f6_5, (u64)((u64)r_gx << 3ull));
+    r_nm_4 = (u64)(r_c6_3 << 3ull);
+    r_61 = r_c6_3;
+    r_kz = 16ull;
+    goto l_capnp_rj;
+l_capnp_vt:;
+    u64 r_c6_4 = (u64)(((u64)(r_ij << 5ull) + 63ull) >> 6ull);
+    r_yo = 4ull;
+    r_tw = switch_wl;
+    r_l2 = away(t_f6_5, (u64)((u64)r_gx << 3ull));
+    r_nm_4 = (u64)(r_c6_4 << 3ull);
+    r_61 = r_c6_4;
+    r_kz = 32ull;
+    goto l_capnp_rj;
+l_capnp_9l:;
+    r_yo = 5ull;
+    r_tw = switch_wl;
+    r_l2 = away(t_f6_5, (u64)((u64)r_gx << 3ull));
+    r_nm_4 = (u64)(r_ij << 3ull);
+    r_61 = r_ij;
+    r_kz = 64ull;
+    goto l_capnp_rj;
+l_noarm_e1_1:;
+    UNREACHABLE();
+l_capnp_rj:;
+    r_b6_2 = (r_kz * r_ij);
+    r_se = (u64)((r_b6_2 + 63ull) >> 6ull);
+    r_12_3 = (u32)r_se;
+    t_0f = (r_61 + 0xffffffffffffffffull);
+    r_08_5 = away(a_2, 16ull);
+    r_e3_3 = ld32(r_08_5);
+    if (((u32)umin64((u64)(ld64(away(a_2, 8ull)) >> 3ull), 0x1fffffffull) - r_e3_3) < r_12_3) goto l_join_wg;
+    r_z6_29 = (u64)(r_se << 3ull);
+    r_2b_7 = away(ldp(a_2), (u64)((u64)r_e3_3 << 3ull));
+    if (r_b6_2 < 449ull) goto l_then_ij;
+    memset_or_none(r_2b_7, 0u, r_z6_29);
+    goto l_arm_od;
+l_then_ij:;
+    if (!(r_b6_2 > 192ull)) goto l_else_np;
+    memset(r_2b_7, 0, 32);
+    memset(away(away(r_2b_7, r_z6_29), 0xffffffffffffffe0ull), 0, 32);
+    goto l_arm_od;
+l_else_np:;
+    if (!(r_b6_2 > 64ull)) goto l_else_we;
+    memset(r_2b_7, 0, 16);
+    memset(away(away(r_2b_7, r_z6_29), 0xfffffffffffffff0ull), 0, 16);
+    goto l_arm_od;
+l_else_we:;
+    if (r_se == 0ull) goto l_arm_od;
+    memset(r_2b_7, 0, 8);
+    memset(away(away(r_2b_7, r_z6_29), 0xfffffffffffffff8ull), 0, 8);
+    goto l_arm_od;
+l_join_wg:;
+    if (!(r_b6_2 > 0x7ffffff80ull)) goto l_join_4y;
+    r_5k_2 = 1u;
+    r_qp = 27u;
+    r_7u = 0u;
+    r_pz = (r_se + 1ull);
+    goto l_join_1g;
+l_join_4y:;
+    u8 *r_xz_1 = away(a_2, 24ull);
+    st64(r_xz_1, uadd_sat64(ld64(r_xz_1), 1ull));
+    r_5k_2 = 1u;
+    r_qp = 0u;
+    r_7u = 0u;
+    r_pz = 0ull;
+    goto l_join_1g;
+l_arm_od:;
+    st32(r_08_5, (r_e3_3 + r_12_3));
+    st64((ldp(a_2) + (i64)((u64)((u64)a_4 << 3ull))), ((((r_d4 & 0xfffffff800000000ull) | (u64)((u64)r_tw << 32ull)) | (u64)(u32)((r_e3_3 + (a_4 ^ 0xffffffffu)) << 2u)) | 1ull));
+    r_1q = (ld64((((u8 *)switch_table_capnp_copies_copy_copy_object_5ec03199cc959fcd) + (i64)(8 * r_yo))) * r_ij);
+    if (r_nm_4 == 0ull) goto l_capnp_6p;
+    r_2b_8 = away(ldp(a_2), (u64)((u64)r_e3_3 << 3ull));
+    if (!(r_nm_4 < 64ull)) goto l_else_r3_1;
+    if (!(r_nm_4 > 31ull)) goto l_else_dg;
+    mv32(r_2b_8, r_l2);
+    u64 r_bh_2 = (r_nm_4 + 0xffffffffffffffe0ull);
+    mv32((r_2b_8 + (i64)(r_bh_2)), (r_l2 + (i64)(r_bh_2)));
+    goto l_capnp_6p;
+l_else_dg:;
+    if (!(r_nm_4 > 15ull)) goto l_then_49_1;
+    mv16(r_2b_8, r_l2);
+    u64 r_8f_1 = (r_nm_4 + 0xfffffffffffffff0ull);
+    mv16((r_2b_8 + (i64)(r_8f_1)), (r_l2 + (i64)(r_8f_1)));
+    goto l_capnp_6p;
+l_then_49_1:;
+    mv8(r_2b_8, r_l2);
+    u64 r_la_1 = (r_nm_4 + 0xfffffffffffffff8ull);
+    mv8((r_2b_8 + (i64)(r_la_1)), (r_l2 + (i64)(r_la_1)));
+    goto l_capnp_6p;
+l_else_r3_1:;
+    if (((u64)(uptr)r_2b_8 - (u64)(uptr)r_l2) < r_nm_4) { r_il_1 = 0ull; goto l_join_fh_1; }
+    memmove_or_none(r_2b_8, r_l2, r_nm_4);
+    goto l_capnp_6p;
+l_join_fh_1:;
+    st8((r_2b_8 + (i64)(r_il_1)), ld8((r_l2 + (i64)(r_il_1))));
+    u64 r_c4_5 = (r_il_1 + 1ull);
+    if (!(r_c4_5 == r_nm_4)) { r_il_1 = r_c4_5; goto l_join_fh_1; }
+l_capnp_6p:;
+    r_4i = (r_1q & 63ull);
+    if (r_4i == 0ull) { r_5k_2 = 0u; r_qp = 0u; r_7u = 0u; r_pz = 0ull; goto l_join_1g; }
+    st64((ldp(a_2) + (i64)((u64)((u64)(r_e3_3 + (u32)t_0f) << 3ull))), (ld64(away(r_l2, (u64)(t_0f << 3ull))) & ((u64)(0xffffffffffffffffull << (r_4i & 63u)) ^ 0xffffffffffffffffull)));
+    r_5k_2 = 0u;
+    r_qp = 0u;
+    r_7u = 0u;
+    r_pz = 0ull;
+    goto l_join_1g;
+l_then_dc:;
+    r_z6_34 = (u64)(r_ij << 3ull);
+    r_2b_10 = away(ldp(a_2), (u64)((u64)r_e3 << 3ull));
+    if (r_d4 < 0x4000000000ull) goto l_then_fc;
+    memset_or_none(r_2b_10, 0u, r_z6_34);
+    goto l_capnp_od_1;
+l_then_fc:;
+    if (!(r_d4 > 0x1fffffffffull)) goto l_else_k7;
+    memset(r_2b_10, 0, 32);
+    memset(away(away(r_2b_10, r_z6_34), 0xffffffffffffffe0ull), 0, 32);
+    goto l_capnp_od_1;
+l_else_k7:;
+    if (!(r_d4 > 0xfffffffffull)) goto l_else_at;
+    memset(r_2b_10, 0, 16);
+    memset(away(away(r_2b_10, r_z6_34), 0xfffffffffffffff0ull), 0, 16);
+    goto l_capnp_od_1;
+l_else_at:;
+    if (r_ij == 0ull) goto l_capnp_od_1;
+    memset(r_2b_10, 0, 8);
+    memset(away(away(r_2b_10, r_z6_34), 0xfffffffffffffff8ull), 0, 8);
+l_capnp_od_1:;
+    st32(r_08_2, (r_e3 + r_12_1));
+    st64((ldp(a_2) + (i64)((u64)((u64)a_4 << 3ull))), (((r_d4 & 0xfffffff800000000ull) | (u64)(u32)((r_e3 + (a_4 ^ 0xffffffffu)) << 2u)) | 0x600000001ull));
+    if (r_ij == 0ull) { r_5k_2 = 0u; r_qp = 0u; r_7u = 0u; r_pz = 0ull; goto l_join_1g; }
+    goto l_join_a0;
+l_arm_4g:;
+    if (!(r_ij == 0x1fffffffull)) goto l_join_4y_1;
+    r_5k_2 = 1u;
+    r_qp = 27u;
+    r_7u = 0u;
+    r_pz = (r_ij + 1ull);
+    goto l_join_1g;
+l_join_4y_1:;
+    u8 *r_xz_2 = away(a_2, 24ull);
+    st64(r_xz_2, uadd_sat64(ld64(r_xz_2), 1ull));
+    r_5k_2 = 1u;
+    r_qp = 0u;
+    r_7u = 0u;
+    r_pz = 0ull;
+    goto l_join_1g;
+l_join_a0:;
+    r_7l_6 = (u64)a_3;
+    r_gw_9 = (u64)(r_9h >> 3ull);
+    r_x5_7 = (slot_4 + 8);
+    r_zd_4 = (slot_4 + 16);
+    r_lk_2 = (slot_4 + 24);
+    r_89_2 = (slot_4 + 32);
+    r_a8_2 = (slot_4 + 40);
+    r_c4_7 = (slot_4 + 48);
+    r_6c_1 = (slot_4 + 56);
+    r_08_6 = away(a_6, 16ull);
+    r_nb_7 = (r_gw_9 & 0xffffffffull);
+    r_sg_1 = (r_5k == 1u);
+    r_rq_11 = away(a_6, 8ull);
+    r_x5_8 = (slot_3 + 8);
+    r_k0_2 = (slot_3 + 12);
+    r_zd_5 = (slot_3 + 16);
+    r_s1 = (r_5k + 0xfffffffeu);
+    t_q5_2 = (a_7 == 1u);
+    r_x5_9 = (slot_1 + 8);
+    r_k0_3 = (slot_1 + 12);
+    r_zd_6 = (slot_1 + 16);
+    r_ix_1 = (slot_1 + 4);
+    r_x5_10 = (slot_2 + 8);
+    r_zd_7 = (slot_2 + 16);
+    r_lk_3 = (slot_2 + 24);
+    r_89_3 = (slot_2 + 32);
+    r_a8_3 = (slot_2 + 40);
+    r_c4_8 = (slot_2 + 48);
+    r_bk_1 = (slot_2 + 52);
+    r_6c_2 = (slot_2 + 56);
+    r_x5_11 = (slot_1 + 8);
+    r_k0_4 = (slot_1 + 12);
+    r_zd_8 = (slot_1 + 16);
+    t_0c_2 = (r_dh == 0u);
+    r_x5_12 = (slot_1 + 8);
+    r_k0_5 = (slot_1 + 12);
+    r_zd_9 = (slot_1 + 16);
+    r_ix_2 = (slot_1 + 4);
+    t_6c_1 = (slot_4 + 56);
+    r_7l_7 = (u64)a_3;
+    t_6c_2 = (slot_2 + 56);
+    indvars_eg = 0ull;
+    goto l_join_1e;
+l_loop_qw:;
+    u64 indvars_r7 = (indvars_eg + 1ull);
+    if (indvars_r7 == r_ij) { r_5k_2 = 0u; r_qp = 0u; r_7u = 0u; r_pz = 0ull; goto l_join_1g; }
+    indvars_eg = indvars_r7;
+l_join_1e:;
+    u32 t_s7 = (u32)indvars_eg;
+    r_sr_3 = (r_e3 + t_s7);
+    r_24_21 = (u64)(r_gx + t_s7);
+    memset(slot_3, 0u, 24);
+    st64(t_6c_1, 0ull);
+    if (!(r_gw_9 > r_24_21)) goto l_capnp_v7;
+    r_qw_12 = ld64(away(t_f6_3, (u64)(r_24_21 << 3ull)));
+    if (r_qw_12 == 0ull) goto l_capnp_v7;
+    switch_f9_3 = (r_qw_12 & 3ull);
+    r_ep_4 = (u64)(r_qw_12 >> 32ull);
+    if (!((switch_f9_3 == 1ull) ? ((u8)((u8)((u8)r_ep_4 & 7u) + 255u) < 5u) : 0u)) goto l_join_br;
+    r_ij_1 = (u64)(r_qw_12 >> 35ull);
+    r_c6_5 = (u64)(((ld64(away(away(((u8 *)switch_table_capnp_copies_copy_children_copy_children__1fe69969), 8 * (r_ep_4 & 7ull)), 0xfffffffffffffff8ull)) * r_ij_1) + 63ull) >> 6ull);
+    if (!t_0c_2) goto l_join_bd_1;
+    st64(r_08_6, uadd_sat64(ld64(r_08_6), 1ull));
+l_join_bd_1:;
+    u64 r_m6_1 = ((u64)(r_qw_12 >> 2ull) & 0x3fffffffull);
+    r_lc_8 = ((r_24_21 + 1ull) + r_m6_1);
+    if (!(r_m6_1 < 0x20000000ull)) goto l_else_70_1;
+    if (r_lc_8 > r_nb_7) { r_t8_1 = 23u; r_hg_1 = 0u; r_lc_9 = 0ull; goto l_capnp_mp_1; }
+    r_gk_1 = r_lc_8;
+    goto l_arm_vo;
+l_else_70_1:;
+    u64 r_3o_1 = (r_lc_8 + 0xffffffffc0000000ull);
+    if ((r_lc_8 < 0x40000000ull) ? 1u : (r_3o_1 > r_nb_7)) { r_t8_1 = 23u; r_hg_1 = 0u; r_lc_9 = 0ull; goto l_capnp_mp_1; }
+    r_gk_1 = r_3o_1;
+l_arm_vo:;
+    if (r_sg_1) { r_t8_1 = 26u; r_hg_1 = 0u; r_lc_9 = 0ull; goto l_capnp_mp_1; }
+    if (r_nb_7 < (r_gk_1 + r_c6_5)) { r_t8_1 = 23u; r_hg_1 = 0u; r_lc_9 = 0ull; goto l_capnp_mp_1; }
+    if (!t_0c_2) goto l_arm_p5;
+    if (!(ld8(a_6) == 1u)) goto l_arm_p5;
+    r_52_13 = ld64(r_rq_11);
+    if (r_52_13 < r_c6_5) { r_t8_1 = 30u; r_hg_1 = 0u; r_lc_9 = 0ull; goto l_capnp_mp_1; }
+    st64(a_6, 1ull);
+    st64(r_rq_11, (r_52_13 - r_c6_5));
+l_arm_p5:;
+    r_z6_38 = (u64)(r_c6_5 << 3ull);
+    r_8a = away(t_f6_3, (u64)(r_gk_1 << 3ull));
+    r_1q_2 = (ld64(away(away(((u8 *)switch_table_capnp_copies_copy_children_copy_children__1fe69969), 8 * (r_ep_4 & 7ull)), 0xfffffffffffffff8ull)) * r_ij_1);
+    r_se_1 = (u64)((r_1q_2 + 63ull) >> 6ull);
+    r_12_4 = (u32)r_se_1;
+    r_e3_4 = ld32(r_08_2);
+    if (((u32)umin64((u64)(ld64(r_rq_7) >> 3ull), 0x1fffffffull) - r_e3_4) < r_12_4) goto l_arm_45_1;
+    r_z6_39 = (u64)(r_se_1 << 3ull);
+    r_2b_11 = away(ldp(a_2), (u64)((u64)r_e3_4 << 3ull));
+    if (r_1q_2 < 449ull) goto l_then_ij_1;
+    memset_or_none(r_2b_11, 0u, r_z6_39);
+    goto l_core_kl;
+l_then_ij_1:;
+    if (!(r_1q_2 > 192ull)) goto l_else_np_1;
+    memset(r_2b_11, 0, 32);
+    memset(away(away(r_2b_11, r_z6_39), 0xffffffffffffffe0ull), 0, 32);
+    goto l_core_kl;
+l_else_np_1:;
+    if (!(r_1q_2 > 64ull)) goto l_else_r8;
+    memset(r_2b_11, 0, 16);
+    memset(away(away(r_2b_11, r_z6_39), 0xfffffffffffffff0ull), 0, 16);
+    goto l_core_kl;
+l_else_r8:;
+    if (r_se_1 == 0ull) goto l_core_kl;
+    memset(r_2b_11, 0, 8);
+    memset(away(away(r_2b_11, r_z6_39), 0xfffffffffffffff8ull), 0, 8);
+l_core_kl:;
+    st32(r_08_2, (r_e3_4 + r_12_4));
+    st64((ldp(a_2) + (i64)((u64)((u64)r_sr_3 << 3ull))), ((r_qw_12 & 0xffffffff00000001ull) | (u64)(u32)((r_e3_4 + (r_sr_3 ^ 0xffffffffu)) << 2u)));
+    r_6i = r_e3_4;
+    goto l_arm_7s;
+l_arm_45_1:;
+    capnp_lent_arena_lent_arena_LentArenaBuilderArena_allo_c5878f28(slot_1, a_2, (r_12_4 + 1u));
+    if (!(ld8(slot_1) == 0u)) goto l_arm_vh;
+    u32 r_e3_5 = ld32(r_x5_12);
+    u64 r_z6_42 = (u64)((u64)r_e3_5 << 3ull);
+    u32 r_yf_1 = ld32(r_ix_2);
+    st64((ldp(a_2) + (i64)(r_z6_42)), (r_qw_12 & 0xffffffff00000001ull));
+    st64((ldp(a_2) + (i64)((u64)((u64)r_sr_3 << 3ull))), (((u64)((u64)r_yf_1 << 32ull) | r_z6_42) | 2ull));
+    r_6i = (r_e3_5 + 1u);
+l_arm_7s:;
+    u64 r_1q_3 = (ld64(away(away(((u8 *)switch_table_capnp_copies_copy_children_copy_children__1fe69969), 8 * (r_ep_4 & 7ull)), 0xfffffffffffffff8ull)) * r_ij_1);
+    capnp_arena_traits_arena_writing_copy_words_d7a666d2d35ab297(a_2, r_6i, r_8a, r_z6_38);
+    r_4i_1 = (r_1q_3 & 63ull);
+    if (r_4i_1 == 0ull) goto l_capnp_v7;
+    u64 r_0f_4 = (r_c6_5 + 0xffffffffffffffffull);
+    st64((ldp(a_2) + (i64)((u64)((u64)(r_6i + (u32)r_0f_4) << 3ull))), (ld64(away(r_8a, (u64)(r_0f_4 << 3ull))) & ((u64)(0xffffffffffffffffull << (r_4i_1 & 63u)) ^ 0xffffffffffffffffull)));
+    goto l_capnp_v7;
+l_arm_vh:;
+    r_t8_1 = ld8(r_x5_12);
+    r_hg_1 = ld32(r_k0_5);
+    r_lc_9 = ld64(r_zd_9);
+    goto l_capnp_mp_1;
+l_join_br:;
+    if (!(switch_f9_3 == 0ull)) goto l_else_4r;
+    r_y6_2 = (u64)(r_qw_12 >> 48ull);
+    r_q7_2 = (r_ep_4 & 65535ull);
+    r_lc_11 = (r_q7_2 + r_y6_2);
+    if (t_pa) goto l_join_o1;
+    st64(r_08_6, uadd_sat64(ld64(r_08_6), 1ull));
+l_join_o1:;
+    u64 r_m6_2 = ((u64)(r_qw_12 >> 2ull) & 0x3fffffffull);
+    r_lc_12 = ((r_24_21 + 1ull) + r_m6_2);
+    if (!(r_m6_2 < 0x20000000ull)) goto l_else_70_2;
+    if (r_lc_12 > r_nb_7) { r_t8_2 = 23u; goto l_capnp_mp_2; }
+    r_jm = r_lc_12;
+    goto l_arm_h8;
+l_else_70_2:;
+    u64 r_3o_2 = (r_lc_12 + 0xffffffffc0000000ull);
+    if ((r_lc_12 < 0x40000000ull) ? 1u : (r_3o_2 > r_nb_7)) { r_t8_2 = 23u; goto l_capnp_mp_2; }
+    r_jm = r_3o_2;
+l_arm_h8:;
+    r_4r_5 = (u32)r_jm;
+    if (r_sg_1) { r_t8_2 = 26u; goto l_capnp_mp_2; }
+    r_8u_7 = (r_nb_7 < (r_jm + r_lc_11));
+    if ((u8)((u8)t_pa | (u8)r_8u_7)) goto l_capnp_li;
+    if (!(ld8(a_6) == 1u)) { r_5b = r_4r_5; goto l_arm_7a_1; }
+    r_52_16 = ld64(r_rq_11);
+    if (r_52_16 < r_lc_11) { r_t8_2 = 30u; goto l_capnp_mp_2; }
+    st64(a_6, 1ull);
+    st64(r_rq_11, (r_52_16 - r_lc_11));
+    r_5b = r_4r_5;
+    goto l_arm_7a_1;
+l_capnp_li:;
+    if (r_8u_7) { r_t8_2 = 23u; goto l_capnp_mp_2; }
+    r_5b = (r_8u_7 ? 0u : r_4r_5);
+l_arm_7a_1:;
+    if (!t_q5_2) { r_um = r_ep_4; r_c9 = r_y6_2; goto l_capnp_2z; }
+    u64 r_24_28 = (u64)r_5b;
+    u64 r_ck = capnp_words_words_used_words_in(t_f6_3, r_24_28, r_q7_2);
+    u64 r_ck_1 = capnp_words_words_used_words_in(t_f6_3, (r_q7_2 + r_24_28), r_y6_2);
+    r_um = r_ck;
+    r_c9 = r_ck_1;
+l_capnp_2z:;
+    r_az_2 = ((u32)r_um & 65535u);
+    r_az_3 = ((u32)r_c9 & 65535u);
+    r_68_2 = (r_az_3 + r_az_2);
+    if (!(r_68_2 == 0u)) goto l_join_vr;
+    u64 r_24_29 = (u64)r_sr_3;
+    st64((ldp(a_2) + (i64)((u64)(r_24_29 << 3ull))), 0xfffffffcull);
+    r_zw_2 = ((u64)(r_24_29 << 32ull) | r_7l_6);
+    goto l_arm_ww;
+l_join_vr:;
+    r_57 = capnp_lent_arena_lent_arena_LentArenaBuilderArena_allo_b39b26fb(a_2, r_68_2);
+    if (!(r_57.f0 == 1u)) goto l_arm_3o;
+    u32 r_xo = r_57.f1;
+    st64((ldp(a_2) + (i64)((u64)((u64)r_sr_3 << 3ull))), ((((u64)(r_um << 32ull) & 0xffff00000000ull) | (u64)(r_c9 << 48ull)) | (u64)(u32)((r_xo + (r_sr_3 ^ 0xffffffffu)) << 2u)));
+    r_zw_2 = ((u64)((u64)r_xo << 32ull) | r_7l_7);
+    goto l_arm_ww;
+l_arm_3o:;
+    capnp_lent_arena_lent_arena_LentArenaBuilderArena_allo_c5878f28(slot_1, a_2, (r_68_2 + 1u));
+    if (!(ld8(slot_1) == 0u)) goto l_arm_vh_1;
+    u32 r_yf_2 = ld32(r_ix_1);
+    u32 r_e3_6 = ld32(r_x5_9);
+    u64 r_z6_47 = (u64)((u64)r_e3_6 << 3ull);
+    st64((ldp(a_2) + (i64)(r_z6_47)), (((u64)(r_um << 32ull) & 0xffff00000000ull) | (u64)(r_c9 << 48ull)));
+    st64((ldp(a_2) + (i64)((u64)((u64)r_sr_3 << 3ull))), (((u64)((u64)r_yf_2 << 32ull) | r_z6_47) | 2ull));
+    r_zw_2 = ((u64)((u64)(r_e3_6 + 1u) << 32ull) | (u64)r_yf_2);
+l_arm_ww:;
+    r_4r_8 = (u32)(u64)(r_zw_2 >> 32ull);
+    capnp_copies_copy_elements_put_words_d7a666d2d35ab297(a_2, r_4r_8, away(t_f6_3, (u64)((u64)r_5b << 3ull)), ((u64)(r_um << 3ull) & 0x7fff8ull));
+    memset(slot_1, 0u, 24);
+    st64(t_6c_2, 0ull);
+    if (r_az_3 == 0u) { r_2b_13 = 0u; r_qh = 0u; r_ip = 0u; r_wq = 0ull; goto l_capnp_no; }
+    st64(slot_2, r_eg);
+    stp(r_x5_10, r_rv);
+    st64(r_zd_7, r_qw);
+    st64(r_lk_3, r_qd);
+    stp(r_89_3, t_f6_3);
+    st64(r_a8_3, r_9h);
+    st32(r_c4_8, (r_5b + ((u32)r_ep_4 & 65535u)));
+    st32(r_bk_1, 0u);
+    st32(r_6c_2, r_s1);
+    capnp_copies_copy_children_copy_children_out_of_line_5_f210a996(slot_1, a_2, (u32)r_zw_2, (r_az_2 + r_4r_8), slot_2, r_az_3, a_6, a_7);
+    r_2b_13 = ld8(slot_1);
+    r_qh = ld8(r_x5_11);
+    r_ip = ld32(r_k0_4);
+    r_wq = ld64(r_zd_8);
+l_capnp_no:;
+    t_pz = r_wq;
+    t_fy = r_ip;
+    r_1l = r_qh;
+    t_ry = r_2b_13;
+    goto l_capnp_rz;
+l_arm_vh_1:;
+    t_pz = ld64(r_zd_6);
+    t_fy = ld32(r_k0_3);
+    r_1l = ld8(r_x5_9);
+    t_ry = 1u;
+    goto l_capnp_rz;
+l_capnp_mp_2:;
+    r_5k_2 = 1u;
+    r_qp = r_t8_2;
+    r_7u = 0u;
+    r_pz = 0ull;
+    goto l_join_1g;
+l_else_4r:;
+    st64(slot_4, r_eg);
+    stp(r_x5_7, r_rv);
+    st64(r_zd_4, r_qw);
+    st64(r_lk_2, r_qd);
+    stp(r_89_2, t_f6_3);
+    st64(r_a8_2, r_9h);
+    st64(r_c4_7, r_24_21);
+    st32(r_6c_1, r_4w_2);
+    capnp_copies_copy_copy_object_5ec03199cc959fcd(slot_3, a_2, a_3, r_sr_3, slot_4, a_6, a_7);
+    t_pz = ld64(r_zd_5);
+    t_fy = ld32(r_k0_2);
+    r_1l = ld8(r_x5_8);
+    t_ry = ld8(slot_3);
+    goto l_capnp_rz;
+l_capnp_v7:;
+    goto l_loop_qw;
+l_capnp_mp_1:;
+    r_5k_2 = 1u;
+    r_qp = r_t8_1;
+    r_7u = r_hg_1;
+    r_pz = r_lc_9;
+    goto l_join_1g;
+l_capnp_rz:;
+    if (t_ry == 0u) goto l_loop_qw;
+    r_5k_2 = 1u;
+    r_qp = r_1l;
+    r_7u = t_fy;
+    r_pz = t_pz;
+    goto l_join_1g;
+l_arm_q5:;
+    if ((u8)((u8)(t_c8 == 0u) | (u8)((u16)(r_py | r_xg) == 0u))) { r_l1 = 0u; r_5s = 0u; goto l_capnp_dd; }
+    r_q7_3 = (r_ep_2 & 65535ull);
+    r_i4 = 0u;
+    r_pi = (u64)r_ll;
+    r_jc = 0u;
+    r_qp_1 = 0u;
+l_join_20:;
+    u16 r_to = (u16)(r_xg - r_qp_1);
+    r_u7_1 = (u64)r_to;
+    r_z6_51 = (u64)(r_u7_1 << 3ull);
+    r_c0_14 = away(t_f6_2, (u64)((r_pi + (u64)r_qp_1) << 3ull));
+    if (r_to < 32u) { r_nm_5 = r_u7_1; goto l_loop_jc_4; }
+    goto l_else_wj_2;
+l_loop_jc_4:;
+    if (r_nm_5 == 0ull) { r_xk = 0ull; goto l_capnp_k4; }
+    u64 r_0f_5 = (r_nm_5 + 0xffffffffffffffffull);
+    if (ld64(away(r_c0_14, (u64)(r_0f_5 << 3ull))) == 0ull) { r_nm_5 = r_0f_5; goto l_loop_jc_4; }
+    r_xk = r_nm_5;
+    goto l_capnp_k4;
+l_else_wj_2:;
+    if (!(ld64(away(away(r_c0_14, r_z6_51), 0xfffffffffffffff8ull)) == 0ull)) { r_xk = r_u7_1; goto l_capnp_k4; }
+    u64 r_qz_2 = capnp_words_lanes_used_words_bound(r_c0_14, r_z6_51);
+    r_nm_6 = r_qz_2;
+l_loop_jc_5:;
+    if (r_nm_6 == 0ull) { r_xk = 0ull; goto l_capnp_k4; }
+    u64 r_0f_6 = (r_nm_6 + 0xffffffffffffffffull);
+    if (ld64(away(r_c0_14, (u64)(r_0f_6 << 3ull))) == 0ull) { r_nm_6 = r_0f_6; goto l_loop_jc_5; }
+    r_xk = r_nm_6;
+l_capnp_k4:;
+    r_5f = (u16)(r_qp_1 + (u16)r_xk);
+    r_5q_1 = (r_pi + r_q7_3);
+    u16 r_to_1 = (u16)(r_py - r_jc);
+    r_u7_3 = (u64)r_to_1;
+    r_z6_54 = (u64)(r_u7_3 << 3ull);
+    r_c0_15 = away(t_f6_2, (u64)((r_5q_1 + (u64)r_jc) << 3ull));
+    if (r_to_1 < 32u) { r_nm_7 = r_u7_3; goto l_loop_jc_6; }
+    goto l_else_wj_3;
+l_loop_jc_6:;
+    if (r_nm_7 == 0ull) { r_a3 = 0ull; goto l_capnp_8b; }
+    u64 r_0f_7 = (r_nm_7 + 0xffffffffffffffffull);
+    if (ld64(away(r_c0_15, (u64)(r_0f_7 << 3ull))) == 0ull) { r_nm_7 = r_0f_7; goto l_loop_jc_6; }
+    r_a3 = r_nm_7;
+    goto l_capnp_8b;
+l_else_wj_3:;
+    if (!(ld64(away(away(r_c0_15, r_z6_54), 0xfffffffffffffff8ull)) == 0ull)) { r_a3 = r_u7_3; goto l_capnp_8b; }
+    u64 r_qz_3 = capnp_words_lanes_used_words_bound(r_c0_15, r_z6_54);
+    r_nm_8 = r_qz_3;
+l_loop_jc_7:;
+    if (r_nm_8 == 0ull) { r_a3 = 0ull; goto l_capnp_8b; }
+    u64 r_0f_8 = (r_nm_8 + 0xffffffffffffffffull);
+    if (ld64(away(r_c0_15, (u64)(r_0f_8 << 3ull))) == 0ull) { r_nm_8 = r_0f_8; goto l_loop_jc_7; }
+    r_a3 = r_nm_8;
+l_capnp_8b:;
+    u16 r_5f_1 = (u16)(r_jc + (u16)r_a3);
+    u32 r_ff_3 = (r_i4 + 1u);
+    if (r_ff_3 == t_c8) { r_l1 = r_5f; r_5s = r_5f_1; goto l_capnp_dd; }
+    r_i4 = r_ff_3;
+    r_pi = (r_5q_1 + r_y6_1);
+    r_jc = r_5f_1;
+    r_qp_1 = r_5f;
+    goto l_join_20;
+l_capnp_dd:;
+    capnp_making_making_make_struct_list_d7a666d2d35ab297(slot_5, a_2, a_3, a_4, t_c8, r_l1, r_5s);
+    r_fj = ld64((slot_5 + 4));
+    if (!(ld8(slot_5) == 0u)) goto l_arm_mo;
+    r_wt_2 = (u32)r_fj;
+    r_ll_4 = ((u32)(u64)(r_fj >> 32ull) + 1u);
+    r_68_3 = (r_az_1 + r_12);
+    r_00 = (u32)r_l1;
+    r_68_4 = ((u32)r_5s + r_00);
+    if ((u8)((u8)(r_68_4 == 0u) | (u8)(t_c8 == 0u))) { r_rh = 0u; r_hg_2 = 0u; r_je = 0u; r_s2 = 0ull; goto l_capnp_nb; }
+    r_z6_57 = (u64)((u64)r_l1 << 3ull);
+    r_hi_1 = (r_l1 == 0u);
+    r_u6_1 = (r_l1 < 8u);
+    r_vw = (r_l1 > 3u);
+    r_bh_3 = (r_l1 == 1u);
+    r_8f_2 = (r_z6_57 + 0xfffffffffffffff0ull);
+    r_la_2 = (r_z6_57 + 0xfffffffffffffff8ull);
+    r_bh_4 = (r_z6_57 + 0xffffffffffffffe0ull);
+    r_hi_2 = (r_5s == 0u);
+    r_gw_11 = (u64)(r_9h >> 3ull);
+    r_x5_13 = (slot_4 + 8);
+    r_zd_10 = (slot_4 + 16);
+    r_lk_4 = (slot_4 + 24);
+    r_89_4 = (slot_4 + 32);
+    r_a8_4 = (slot_4 + 40);
+    r_c4_11 = (slot_4 + 48);
+    r_6c_3 = (slot_4 + 56);
+    r_08_7 = away(a_6, 16ull);
+    r_nb_8 = (r_gw_11 & 0xffffffffull);
+    r_sg_2 = (r_5k == 1u);
+    r_rq_12 = away(a_6, 8ull);
+    r_x5_14 = (slot_3 + 8);
+    r_k0_6 = (slot_3 + 12);
+    r_zd_11 = (slot_3 + 16);
+    r_s1_1 = (r_5k + 0xfffffffeu);
+    r_rq_13 = away(a_2, 8ull);
+    r_08_8 = away(a_2, 16ull);
+    r_xz_3 = away(a_2, 24ull);
+    r_x5_15 = (slot_2 + 8);
+    r_zd_12 = (slot_2 + 16);
+    r_lk_5 = (slot_2 + 24);
+    r_89_5 = (slot_2 + 32);
+    r_a8_5 = (slot_2 + 40);
+    r_c4_12 = (slot_2 + 48);
+    r_bk_2 = (slot_2 + 52);
+    r_6c_4 = (slot_2 + 56);
+    r_x5_16 = (slot_1 + 8);
+    r_k0_7 = (slot_1 + 12);
+    r_zd_13 = (slot_1 + 16);
+    t_0c_6 = (r_dh == 0u);
+    wide_c0 = (u64)t_c8;
+    wide_u7 = (u64)r_5s;
+    t_6c_3 = (slot_4 + 56);
+    t_6c_4 = (slot_2 + 56);
+    r_wt_3 = (u32)r_fj;
+    indvars_ff = 0ull;
+    goto l_join_hy;
+l_loop_da:;
+    u64 indvars_r7_1 = (indvars_ff + 1ull);
+    if (indvars_r7_1 == wide_c0) { r_rh = 0u; r_hg_2 = 0u; r_je = 0u; r_s2 = 0ull; goto l_capnp_nb; }
+    indvars_ff = indvars_r7_1;
+l_join_hy:;
+    u32 t_nk = (u32)indvars_ff;
+    r_w0_10 = ((r_68_3 * t_nk) + r_ll);
+    r_w0_11 = (r_ll_4 + (r_68_4 * t_nk));
+    r_c0_16 = away(t_f6_2, (u64)((u64)r_w0_10 << 3ull));
+    if (r_hi_1) goto l_capnp_j9;
+    r_2b_18 = away(ldp(a_2), (u64)((u64)r_w0_11 << 3ull));
+    if (!r_u6_1) goto l_else_r3_2;
+    if (!r_vw) goto l_else_l8;
+    mv32(r_2b_18, r_c0_16);
+    mv32((r_2b_18 + (i64)(r_bh_4)), (r_c0_16 + (i64)(r_bh_4)));
+    goto l_capnp_j9;
+l_else_l8:;
+    if (r_bh_3) goto l_then_1s;
+    mv16(r_2b_18, r_c0_16);
+    mv16((r_2b_18 + (i64)(r_8f_2)), (r_c0_16 + (i64)(r_8f_2)));
+    goto l_capnp_j9;
+l_then_1s:;
+    mv8(r_2b_18, r_c0_16);
+    mv8((r_2b_18 + (i64)(r_la_2)), (r_c0_16 + (i64)(r_la_2)));
+    goto l_capnp_j9;
+l_else_r3_2:;
+    if (((u64)(uptr)r_2b_18 - (u64)(uptr)r_c0_16) < r_z6_57) { r_il_2 = 0ull; goto l_join_fh_2; }
+    memmove_or_none(r_2b_18, r_c0_16, r_z6_57);
+    goto l_capnp_j9;
+l_join_fh_2:;
+    st8((r_2b_18 + (i64)(r_il_2)), ld8((r_c0_16 + (i64)(r_il_2))));
+    u64 r_c4_13 = (r_il_2 + 1ull);
+    if (!(r_c4_13 == r_z6_57)) { r_il_2 = r_c4_13; goto l_join_fh_2; }
+l_capnp_j9:;
+    r_w0_12 = (r_w0_10 + r_az_1);
+    r_w0_13 = (r_w0_11 + r_00);
+    if (r_hi_2) goto l_loop_da;
+    indvars_vm = 0ull;
+    goto l_join_iw;
+l_loop_w2:;
+    u64 indvars_r7_2 = (indvars_vm + 1ull);
+    if (indvars_r7_2 == wide_u7) goto l_loop_da;
+    indvars_vm = indvars_r7_2;
+l_join_iw:;
+    u32 t_nk_1 = (u32)indvars_vm;
+    r_sr_7 = (r_w0_13 + t_nk_1);
+    r_24_41 = (u64)(r_w0_12 + t_nk_1);
+    memset(slot_3, 0u, 24);
+    st64(t_6c_3, 0ull);
+    if (!(r_gw_11 > r_24_41)) goto l_capnp_v7_1;
+    r_qw_20 = ld64(away(t_f6_2, (u64)(r_24_41 << 3ull)));
+    if (r_qw_20 == 0ull) goto l_capnp_v7_1;
+    switch_f9_4 = (r_qw_20 & 3ull);
+    r_ep_7 = (u64)(r_qw_20 >> 32ull);
+    if (!((switch_f9_4 == 1ull) ? ((u8)((u8)((u8)r_ep_7 & 7u) + 255u) < 5u) : 0u)) goto l_join_br_1;
+    r_ij_2 = (u64)(r_qw_20 >> 35ull);
+    r_1q_4 = (ld64(away(away(((u8 *)switch_table_capnp_copies_copy_children_copy_children__1fe69969), 8 * (r_ep_7 & 7ull)), 0xfffffffffffffff8ull)) * r_ij_2);
+    r_c6_8 = (u64)((r_1q_4 + 63ull) >> 6ull);
+    if (!t_0c_6) goto l_join_bd_2;
+    st64(r_08_7, uadd_sat64(ld64(r_08_7), 1ull));
+l_join_bd_2:;
+    u64 r_m6_3 = ((u64)(r_qw_20 >> 2ull) & 0x3fffffffull);
+    r_lc_15 = ((r_24_41 + 1ull) + r_m6_3);
+    if (!(r_m6_3 < 0x20000000ull)) goto l_else_70_3;
+    if (r_lc_15 > r_nb_8) { r_2b_19 = 23u; r_qh_1 = 0ull; goto l_capnp_no_1; }
+    r_gk_2 = r_lc_15;
+    goto l_arm_vo_1;
+l_else_70_3:;
+    u64 r_3o_3 = (r_lc_15 + 0xffffffffc0000000ull);
+    if ((r_lc_15 < 0x40000000ull) ? 1u : (r_3o_3 > r_nb_8)) { r_2b_19 = 23u; r_qh_1 = 0ull; goto l_capnp_no_1; }
+    r_gk_2 = r_3o_3;
+l_arm_vo_1:;
+    if (r_sg_2) { r_2b_19 = 26u; r_qh_1 = 0ull; goto l_capnp_no_1; }
+    if (r_nb_8 < (r_gk_2 + r_c6_8)) { r_2b_19 = 23u; r_qh_1 = 0ull; goto l_capnp_no_1; }
+    if (!t_0c_6) goto l_arm_p5_1;
+    if (!(ld8(a_6) == 1u)) goto l_arm_p5_1;
+    r_52_18 = ld64(r_rq_12);
+    if (r_52_18 < r_c6_8) { r_2b_19 = 30u; r_qh_1 = 0ull; goto l_capnp_no_1; }
+    st64(a_6, 1ull);
+    st64(r_rq_12, (r_52_18 - r_c6_8));
+l_arm_p5_1:;
+    r_z6_61 = (u64)(r_c6_8 << 3ull);
+    r_8a_1 = away(t_f6_2, (u64)(r_gk_2 << 3ull));
+    r_1q_5 = (ld64(away(away(((u8 *)switch_table_capnp_copies_copy_children_copy_children__1fe69969), 8 * (r_ep_7 & 7ull)), 0xfffffffffffffff8ull)) * r_ij_2);
+    r_se_2 = (u64)((r_1q_5 + 63ull) >> 6ull);
+    r_12_5 = (u32)r_se_2;
+    r_e3_7 = ld32(r_08_8);
+    if (((u32)umin64((u64)(ld64(r_rq_13) >> 3ull), 0x1fffffffull) - r_e3_7) < r_12_5) goto l_join_t5;
+    r_z6_62 = (u64)(r_se_2 << 3ull);
+    r_2b_20 = away(ldp(a_2), (u64)((u64)r_e3_7 << 3ull));
+    if (r_1q_5 < 449ull) goto l_then_ij_2;
+    memset_or_none(r_2b_20, 0u, r_z6_62);
+    goto l_arm_kl;
+l_then_ij_2:;
+    if (!(r_1q_5 > 192ull)) goto l_else_np_2;
+    memset(r_2b_20, 0, 32);
+    memset(away(away(r_2b_20, r_z6_62), 0xffffffffffffffe0ull), 0, 32);
+    goto l_arm_kl;
+l_else_np_2:;
+    if (!(r_1q_5 > 64ull)) goto l_else_we_1;
+    memset(r_2b_20, 0, 16);
+    memset(away(away(r_2b_20, r_z6_62), 0xfffffffffffffff0ull), 0, 16);
+    goto l_arm_kl;
+l_else_we_1:;
+    if (r_se_2 == 0ull) goto l_arm_kl;
+    memset(r_2b_20, 0, 8);
+    memset(away(away(r_2b_20, r_z6_62), 0xfffffffffffffff8ull), 0, 8);
+    goto l_arm_kl;
+l_join_t5:;
+    if (r_1q_5 > 0x7ffffff80ull) { r_2b_19 = 27u; r_qh_1 = 0x20000000ull; goto l_capnp_no_1; }
+    st64(r_xz_3, uadd_sat64(ld64(r_xz_3), 1ull));
+    r_2b_19 = 0u;
+    r_qh_1 = 0ull;
+    goto l_capnp_no_1;
+l_arm_kl:;
+    st32(r_08_8, (r_e3_7 + r_12_5));
+    st64((ldp(a_2) + (i64)((u64)((u64)r_sr_7 << 3ull))), ((r_qw_20 & 0xffffffff00000001ull) | (u64)(u32)((r_e3_7 + (r_sr_7 ^ 0xffffffffu)) << 2u)));
+    r_1q_6 = (ld64(away(away(((u8 *)switch_table_capnp_copies_copy_children_copy_children__1fe69969), 8 * (r_ep_7 & 7ull)), 0xfffffffffffffff8ull)) * r_ij_2);
+    if (r_c6_8 == 0ull) goto l_capnp_pq;
+    r_2b_21 = away(ldp(a_2), (u64)((u64)r_e3_7 << 3ull));
+    if (!(r_1q_4 < 449ull)) goto l_else_r3_3;
+    if (!(r_1q_4 > 192ull)) goto l_else_9l;
+    mv32(r_2b_21, r_8a_1);
+    u64 r_bh_5 = (r_z6_61 + 0xffffffffffffffe0ull);
+    mv32((r_2b_21 + (i64)(r_bh_5)), (r_8a_1 + (i64)(r_bh_5)));
+    goto l_capnp_pq;
+l_else_9l:;
+    if (r_c6_8 == 1ull) goto l_then_49_2;
+    mv16(r_2b_21, r_8a_1);
+    u64 r_8f_3 = (r_z6_61 + 0xfffffffffffffff0ull);
+    mv16((r_2b_21 + (i64)(r_8f_3)), (r_8a_1 + (i64)(r_8f_3)));
+    goto l_capnp_pq;
+l_then_49_2:;
+    mv8(r_2b_21, r_8a_1);
+    u64 r_la_3 = (r_z6_61 + 0xfffffffffffffff8ull);
+    mv8((r_2b_21 + (i64)(r_la_3)), (r_8a_1 + (i64)(r_la_3)));
+    goto l_capnp_pq;
+l_else_r3_3:;
+    if (((u64)(uptr)r_2b_21 - (u64)(uptr)r_8a_1) < r_z6_61) { r_il_3 = 0ull; goto l_join_fh_3; }
+    memmove_or_none(r_2b_21, r_8a_1, r_z6_61);
+    goto l_capnp_pq;
+l_join_fh_3:;
+    st8((r_2b_21 + (i64)(r_il_3)), ld8((r_8a_1 + (i64)(r_il_3))));
+    u64 r_c4_15 = (r_il_3 + 1ull);
+    if (!(r_c4_15 == r_z6_61)) { r_il_3 = r_c4_15; goto l_join_fh_3; }
+l_capnp_pq:;
+    r_4i_2 = (r_1q_6 & 63ull);
+    if (r_4i_2 == 0ull) goto l_capnp_v7_1;
+    u64 r_0f_9 = (r_c6_8 + 0xffffffffffffffffull);
+    st64((ldp(a_2) + (i64)((u64)((u64)(r_e3_7 + (u32)r_0f_9) << 3ull))), (ld64(away(r_8a_1, (u64)(r_0f_9 << 3ull))) & ((u64)(0xffffffffffffffffull << (r_4i_2 & 63u)) ^ 0xffffffffffffffffull)));
+    goto l_capnp_v7_1;
+l_join_br_1:;
+    if (!(switch_f9_4 == 0ull)) goto l_else_4r_1;
+    r_y6_3 = (u64)(r_qw_20 >> 48ull);
+    r_q7_4 = (r_ep_7 & 65535ull);
+    r_lc_17 = (r_q7_4 + r_y6_3);
+    if (t_pa) goto l_join_o1_1;
+    st64(r_08_7, uadd_sat64(ld64(r_08_7), 1ull));
+l_join_o1_1:;
+    u64 r_m6_4 = ((u64)(r_qw_20 >> 2ull) & 0x3fffffffull);
+    r_lc_18 = ((r_24_41 + 1ull) + r_m6_4);
+    if (!(r_m6_4 < 0x20000000ull)) goto l_else_70_4;
+    if (r_lc_18 > r_nb_8) { r_2b_23 = 23u; goto l_capnp_no_2; }
+    r_jm_1 = r_lc_18;
+    goto l_arm_h8_1;
+l_else_70_4:;
+    u64 r_3o_4 = (r_lc_18 + 0xffffffffc0000000ull);
+    if ((r_lc_18 < 0x40000000ull) ? 1u : (r_3o_4 > r_nb_8)) { r_2b_23 = 23u; goto l_capnp_no_2; }
+    r_jm_1 = r_3o_4;
+l_arm_h8_1:;
+    r_4r_10 = (u32)r_jm_1;
+    if (r_sg_2) { r_2b_23 = 26u; goto l_capnp_no_2; }
+    r_8u_9 = (r_nb_8 < (r_jm_1 + r_lc_17));
+    if ((u8)((u8)t_pa | (u8)r_8u_9)) goto l_capnp_li_1;
+    if (!(ld8(a_6) == 1u)) { r_5b_1 = r_4r_10; goto l_arm_7a_2; }
+    r_52_22 = ld64(r_rq_12);
+    if (r_52_22 < r_lc_17) { r_2b_23 = 30u; goto l_capnp_no_2; }
+    st64(a_6, 1ull);
+    st64(r_rq_12, (r_52_22 - r_lc_17));
+    r_5b_1 = r_4r_10;
+    goto l_arm_7a_2;
+l_capnp_li_1:;
+    if (r_8u_9) { r_2b_23 = 23u; goto l_capnp_no_2; }
+    r_5b_1 = (r_8u_9 ? 0u : r_4r_10);
+l_arm_7a_2:;
+    if (!t_q5_1) { r_dl = r_ep_7; r_9n = r_y6_3; goto l_capnp_hv; }
+    u64 r_24_46 = (u64)r_5b_1;
+    r_lc_20 = (r_q7_4 + r_24_46);
+    r_z6_67 = (u64)(r_q7_4 << 3ull);
+    r_c0_18 = away(t_f6_2, (u64)(r_24_46 << 3ull));
+    if (r_q7_4 < 32ull) { r_nm_10 = r_q7_4; goto l_loop_jc_8; }
+    goto l_else_wj_4;
+l_loop_jc_8:;
+    if (r_nm_10 == 0ull) { r_ev_1 = 0ull; goto l_capnp_fc_1; }
+    u64 r_0f_10 = (r_nm_10 + 0xffffffffffffffffull);
+    if (ld64(away(r_c0_18, (u64)(r_0f_10 << 3ull))) == 0ull) { r_nm_10 = r_0f_10; goto l_loop_jc_8; }
+    r_ev_1 = r_nm_10;
+    goto l_capnp_fc_1;
+l_else_wj_4:;
+    if (!(ld64(away(away(r_c0_18, r_z6_67), 0xfffffffffffffff8ull)) == 0ull)) { r_ev_1 = r_q7_4; goto l_capnp_fc_1; }
+    u64 r_qz_4 = capnp_words_lanes_used_words_bound(r_c0_18, r_z6_67);
+    r_nm_11 = r_qz_4;
+l_loop_jc_9:;
+    if (r_nm_11 == 0ull) { r_ev_1 = 0ull; goto l_capnp_fc_1; }
+    u64 r_0f_11 = (r_nm_11 + 0xffffffffffffffffull);
+    if (ld64(away(r_c0_18, (u64)(r_0f_11 << 3ull))) == 0ull) { r_nm_11 = r_0f_11; goto l_loop_jc_9; }
+    r_ev_1 = r_nm_11;
+l_capnp_fc_1:;
+    r_z6_71 = (u64)(r_y6_3 << 3ull);
+    r_c0_19 = away(t_f6_2, (u64)(r_lc_20 << 3ull));
+    if (r_qw_20 < 0x20000000000000ull) { r_nm_12 = r_y6_3; goto l_loop_jc_10; }
+    goto l_else_wj_5;
+l_loop_jc_10:;
+    if (r_nm_12 == 0ull) { r_dl = r_ev_1; r_9n = 0ull; goto l_capnp_hv; }
+    u64 r_0f_12 = (r_nm_12 + 0xffffffffffffffffull);
+    if (ld64(away(r_c0_19, (u64)(r_0f_12 << 3ull))) == 0ull) { r_nm_12 = r_0f_12; goto l_loop_jc_10; }
+    r_dl = r_ev_1;
+    r_9n = r_nm_12;
+    goto l_capnp_hv;
+l_else_wj_5:;
+    if (!(ld64(away(away(r_c0_19, r_z6_71), 0xfffffffffffffff8ull)) == 0ull)) { r_dl = r_ev_1; r_9n = r_y6_3; goto l_capnp_hv; }
+    u64 r_qz_5 = capnp_words_lanes_used_words_bound(r_c0_19, r_z6_71);
+    r_nm_13 = r_qz_5;
+l_loop_jc_11:;
+    if (r_nm_13 == 0ull) { r_dl = r_ev_1; r_9n = 0ull; goto l_capnp_hv; }
+    u64 r_0f_13 = (r_nm_13 + 0xffffffffffffffffull);
+    if (ld64(away(r_c0_19, (u64)(r_0f_13 << 3ull))) == 0ull) { r_nm_13 = r_0f_13; goto l_loop_jc_11; }
+    r_dl = r_ev_1;
+    r_9n = r_nm_13;
+l_capnp_hv:;
+    r_xg_4 = (u16)r_dl;
+    r_29_2 = ((u32)r_dl & 65535u);
+    r_az_4 = ((u32)r_9n & 65535u);
+    r_68_5 = (r_az_4 + r_29_2);
+    if (!(r_68_5 == 0u)) goto l_join_fn;
+    u64 r_24_47 = (u64)r_sr_7;
+    st64((ldp(a_2) + (i64)((u64)(r_24_47 << 3ull))), 0xfffffffcull);
+    r_s8 = r_24_47;
+    goto l_arm_rv;
+l_join_fn:;
+    r_e3_8 = ld32(r_08_8);
+    if (r_68_5 > ((u32)umin64((u64)(ld64(r_rq_13) >> 3ull), 0x1fffffffull) - r_e3_8)) goto l_arm_p0;
+    r_c0_20 = (u64)(u32)(r_68_5 << 3u);
+    r_2b_28 = away(ldp(a_2), (u64)((u64)r_e3_8 << 3ull));
+    if (r_68_5 < 8u) goto l_then_5x_1;
+    memset_or_none(r_2b_28, 0u, r_c0_20);
+    goto l_capnp_kl;
+l_then_5x_1:;
+    t_2b_19 = away(r_2b_28, r_c0_20);
+    if (!(r_68_5 > 3u)) goto l_else_gn_1;
+    memset(r_2b_28, 0, 32);
+    memset(away(t_2b_19, 0xffffffffffffffe0ull), 0, 32);
+    goto l_capnp_kl;
+l_else_gn_1:;
+    if (r_68_5 == 1u) goto l_then_qw_1;
+    memset(r_2b_28, 0, 16);
+    memset(away(t_2b_19, 0xfffffffffffffff0ull), 0, 16);
+    goto l_capnp_kl;
+l_then_qw_1:;
+    memset(r_2b_28, 0, 8);
+    memset(away(t_2b_19, 0xfffffffffffffff8ull), 0, 8);
+l_capnp_kl:;
+    st32(r_08_8, (r_e3_8 + r_68_5));
+    st64((ldp(a_2) + (i64)((u64)((u64)r_sr_7 << 3ull))), ((((u64)(r_dl << 32ull) & 0xffff00000000ull) | (u64)(r_9n << 48ull)) | (u64)(u32)((r_e3_8 + (r_sr_7 ^ 0xffffffffu)) << 2u)));
+    r_s8 = (u64)r_e3_8;
+l_arm_rv:;
+    r_4r_12 = (u32)r_s8;
+    r_0l_2 = ((u64)(r_dl << 3ull) & 0x7fff8ull);
+    r_c0_21 = away(t_f6_2, (u64)((u64)r_5b_1 << 3ull));
+    if (r_xg_4 == 0u) goto l_capnp_5c;
+    r_2b_29 = away(ldp(a_2), (u64)(r_s8 << 3ull));
+    if (!(r_xg_4 < 8u)) goto l_else_r3_4;
+    if (!(r_xg_4 > 3u)) goto l_else_1o_1;
+    mv32(r_2b_29, r_c0_21);
+    u64 r_bh_6 = (r_0l_2 + 0xffffffffffffffe0ull);
+    mv32((r_2b_29 + (i64)(r_bh_6)), (r_c0_21 + (i64)(r_bh_6)));
+    goto l_capnp_5c;
+l_else_1o_1:;
+    if (r_xg_4 == 1u) goto l_then_49_3;
+    mv16(r_2b_29, r_c0_21);
+    u64 r_8f_4 = (r_0l_2 + 0xfffffffffffffff0ull);
+    mv16((r_2b_29 + (i64)(r_8f_4)), (r_c0_21 + (i64)(r_8f_4)));
+    goto l_capnp_5c;
+l_then_49_3:;
+    mv8(r_2b_29, r_c0_21);
+    u64 r_la_4 = (r_0l_2 + 0xfffffffffffffff8ull);
+    mv8((r_2b_29 + (i64)(r_la_4)), (r_c0_21 + (i64)(r_la_4)));
+    goto l_capnp_5c;
+l_else_r3_4:;
+    if (((u64)(uptr)r_2b_29 - (u64)(uptr)r_c0_21) < r_0l_2) { r_il_4 = 0ull; goto l_join_fh_4; }
+    memmove_or_none(r_2b_29, r_c0_21, r_0l_2);
+    goto l_capnp_5c;
+l_join_fh_4:;
+    st8((r_2b_29 + (i64)(r_il_4)), ld8((r_c0_21 + (i64)(r_il_4))));
+    u64 r_c4_17 = (r_il_4 + 1ull);
+    if (!(r_c4_17 == r_0l_2)) { r_il_4 = r_c4_17; goto l_join_fh_4; }
+l_capnp_5c:;
+    memset(slot_1, 0u, 24);
+    st64(t_6c_4, 0ull);
+    if (r_az_4 == 0u) { r_2b_30 = 0u; r_qh_2 = 0u; r_ip_1 = 0u; r_wq_1 = 0ull; goto l_capnp_no_3; }
+    st64(slot_2, r_eg);
+    stp(r_x5_15, r_rv);
+    st64(r_zd_12, r_qw);
+    st64(r_lk_5, r_qd);
+    stp(r_89_5, t_f6_2);
+    st64(r_a8_5, r_9h);
+    st32(r_c4_12, (r_5b_1 + ((u32)r_ep_7 & 65535u)));
+    st32(r_bk_2, 0u);
+    st32(r_6c_4, r_s1_1);
+    capnp_copies_copy_children_copy_children_out_of_line_5_f210a996(slot_1, a_2, r_wt_3, (r_29_2 + r_4r_12), slot_2, r_az_4, a_6, a_7);
+    r_2b_30 = ld8(slot_1);
+    r_qh_2 = ld8(r_x5_16);
+    r_ip_1 = ld32(r_k0_7);
+    r_wq_1 = ld64(r_zd_13);
+l_capnp_no_3:;
+    t_ko = r_wq_1;
+    t_h6 = r_ip_1;
+    r_ex = r_qh_2;
+    t_jr = r_2b_30;
+    goto l_capnp_z0;
+l_arm_p0:;
+    st64(r_xz_3, uadd_sat64(ld64(r_xz_3), 1ull));
+    t_ko = 0ull;
+    t_h6 = 0u;
+    r_ex = 0u;
+    t_jr = 1u;
+    goto l_capnp_z0;
+l_capnp_no_2:;
+    r_rh = 1u;
+    r_hg_2 = r_2b_23;
+    r_je = 0u;
+    r_s2 = 0ull;
+    goto l_capnp_nb;
+l_else_4r_1:;
+    st64(slot_4, r_eg);
+    stp(r_x5_13, r_rv);
+    st64(r_zd_10, r_qw);
+    st64(r_lk_4, r_qd);
+    stp(r_89_4, t_f6_2);
+    st64(r_a8_4, r_9h);
+    st64(r_c4_11, r_24_41);
+    st32(r_6c_3, r_4w_1);
+    capnp_copies_copy_copy_object_5ec03199cc959fcd(slot_3, a_2, r_wt_2, r_sr_7, slot_4, a_6, a_7);
+    t_ko = ld64(r_zd_11);
+    t_h6 = ld32(r_k0_6);
+    r_ex = ld8(r_x5_14);
+    t_jr = ld8(slot_3);
+    goto l_capnp_z0;
+l_capnp_v7_1:;
+    goto l_loop_w2;
+l_capnp_no_1:;
+    r_rh = 1u;
+    r_hg_2 = r_2b_19;
+    r_je = 0u;
+    r_s2 = r_qh_1;
+    goto l_capnp_nb;
+l_capnp_z0:;
+    if (t_jr == 0u) goto l_loop_w2;
+    r_rh = 1u;
+    r_hg_2 = r_ex;
+    r_je = t_h6;
+    r_s2 = t_ko;
+    goto l_capnp_nb;
+l_arm_mo:;
+    r_rh = 1u;
+    r_hg_2 = (u8)(u64)(r_fj >> 32ull);
+    r_je = ld32((slot_5 + 12));
+    r_s2 = ld64((slot_5 + 16));
+l_capnp_nb:;
+    r_5k_2 = r_rh;
+    r_qp = r_hg_2;
+    r_7u = r_je;
+    r_pz = r_s2;
+l_join_1g:;
+    r_10 = r_5k_2;
+    r_kb = (u32)r_qp;
+    r_n4 = r_7u;
+    r_yp = r_pz;
+    goto l_common_9c;
+}
 
 /* capnp_objects::source::follow_far::<#07dcb38b0fe92235> */
 static NEVER void capnp_objects_source_follow_far_07dcb38b0fe92235(u8 *a_1, u8 *a_2, u64 a_3, u8 *a_4)
@@ -155,7 +3265,7 @@ static NEVER void capnp_objects_source_follow_far_07dcb38b0fe92235(u8 *a_1, u8 *
     u64 r_cy;
     u8 *r_e7;
     u64 r_j0;
-    u64 t_40;
+    u64 t_be;
     u32 t_ri;
     u8 r_hr;
     u32 i_io;
@@ -192,7 +3302,7 @@ static NEVER void capnp_objects_source_follow_far_07dcb38b0fe92235(u8 *a_1, u8 *
     u8 *r_2b = away(ldp(a_2), (u64)(r_cy << 4ull));
     u64 r_qw_1 = ld64((r_2b + 8));
     r_j0 = (r_qw_1 & 0xfffffffffffffff8ull);
-    t_40 = ((r_qw_1 < 8ull) ? (u64)(uptr)((u8 *)g_static_0) : (u64)(uptr)ldp(r_2b));
+    t_be = ((r_qw_1 < 8ull) ? (u64)(uptr)((u8 *)g_static_4) : (u64)(uptr)ldp(r_2b));
     t_ri = (u32)((u32)a_3 >> 3u);
     r_hr = ((a_3 & 4ull) == 0ull);
     i_io = (r_hr ? 1u : 2u);
@@ -211,12 +3321,12 @@ l_join_zm:;
     st64(a_4, 1ull);
     st64(r_rq, (r_52 - r_4d));
 l_arm_r7:;
-    r_ab = (u32)t_40;
-    r_4r = (u32)(u64)(t_40 >> 32ull);
-    t_gz = ((u8 *)(uptr)t_40);
+    r_ab = (u32)t_be;
+    r_4r = (u32)(u64)(t_be >> 32ull);
+    t_gz = ((u8 *)(uptr)t_be);
     r_c0 = (u64)t_ri;
     if (!(r_gw > r_c0)) { r_sw = 0ull; goto l_capnp_0y; }
-    r_sw = ld64((t_gz + (i64)((u64)(r_c0 << 3ull))));
+    r_sw = ld64(away(t_gz, (u64)(r_c0 << 3ull)));
 l_capnp_0y:;
     if (r_hr) goto l_else_bd;
     goto l_then_9h;
@@ -233,12 +3343,12 @@ l_then_9h:;
     u8 *r_2b_1 = away(ldp(a_2), (u64)(r_ep << 4ull));
     u64 r_qw_4 = ld64((r_2b_1 + 8));
     r_j0_1 = (r_qw_4 & 0xfffffffffffffff8ull);
-    u64 t_40_1 = ((r_qw_4 < 8ull) ? (u64)(uptr)((u8 *)g_static_0) : (u64)(uptr)ldp(r_2b_1));
-    r_4r_1 = (u32)(u64)(t_40_1 >> 32ull);
-    r_ab_1 = (u32)t_40_1;
+    u64 t_be_1 = ((r_qw_4 < 8ull) ? (u64)(uptr)((u8 *)g_static_4) : (u64)(uptr)ldp(r_2b_1));
+    r_4r_1 = (u32)(u64)(t_be_1 >> 32ull);
+    r_ab_1 = (u32)t_be_1;
     r_es_1 = (u64)(t_ri + 1u);
     if (!(r_gw > r_es_1)) { r_7u = 0ull; goto l_capnp_o6; }
-    r_7u = ld64((t_gz + (i64)((u64)(r_es_1 << 3ull))));
+    r_7u = ld64(away(t_gz, (u64)(r_es_1 << 3ull)));
 l_capnp_o6:;
     r_vt = r_ab_1;
     r_8t = r_4r_1;
@@ -287,6 +3397,640 @@ l_join_s8:;
     st32(away(a_1, 48ull), r_tf);
     st32(away(a_1, 52ull), 0u);
     goto l_common_68;
+}
+
+/* capnp_words::words::used_words_in */
+static u64 capnp_words_words_used_words_in(u8 *a_1, u64 a_2, u64 a_3)
+{
+    u64 r_v8;
+    u8 *r_8z;
+    u64 r_nm;
+    u64 r_nm_1;
+    u64 r_z1;
+    r_v8 = (u64)(a_3 << 3ull);
+    r_8z = away(a_1, (u64)(a_2 << 3ull));
+    if (a_3 < 32ull) { r_nm = a_3; goto l_loop_jc; }
+    goto l_else_wj;
+l_loop_jc:;
+    if (r_nm == 0ull) { r_z1 = 0ull; goto l_capnp_91; }
+    u64 r_0f = (r_nm + 0xffffffffffffffffull);
+    if (ld64(away(r_8z, (u64)(r_0f << 3ull))) == 0ull) { r_nm = r_0f; goto l_loop_jc; }
+    r_z1 = r_nm;
+    goto l_capnp_91;
+l_else_wj:;
+    if (!(ld64(away(away(r_8z, r_v8), 0xfffffffffffffff8ull)) == 0ull)) { r_z1 = a_3; goto l_capnp_91; }
+    u64 r_qz = capnp_words_lanes_used_words_bound(r_8z, r_v8);
+    r_nm_1 = r_qz;
+l_loop_jc_1:;
+    if (r_nm_1 == 0ull) { r_z1 = 0ull; goto l_capnp_91; }
+    u64 r_0f_1 = (r_nm_1 + 0xffffffffffffffffull);
+    if (ld64(away(r_8z, (u64)(r_0f_1 << 3ull))) == 0ull) { r_nm_1 = r_0f_1; goto l_loop_jc_1; }
+    r_z1 = r_nm_1;
+l_capnp_91:;
+    return r_z1;
+}
+
+/* capnp_words::lanes::used_words_bound */
+static NEVER u64 capnp_words_lanes_used_words_bound(u8 *a_1, u64 a_2)
+{
+    u64 t_rn;
+    u64 r_ur;
+    u64 r_z1;
+    u64 r_k8 = (u64)(a_2 >> 3ull);
+    t_rn = (r_k8 - ((u64)(a_2 >> 3ull) & 0xfffffff8ull));
+    r_ur = r_k8;
+l_loop_0k:;
+    if (!(r_ur > 7ull)) { r_z1 = t_rn; goto l_common_91; }
+    u64 r_la = (r_ur + 0xfffffffffffffff8ull);
+    if (any64(ldv64((a_1 + (i64)((u64)(r_la << 3ull))))) == 0u) { r_ur = r_la; goto l_loop_0k; }
+    r_z1 = r_ur;
+l_common_91:;
+    return r_z1;
+}
+
+/* capnp_copies::copy::elements::put_words::<#d7a666d2d35ab297> */
+static void capnp_copies_copy_elements_put_words_d7a666d2d35ab297(u8 *a_1, u32 a_2, u8 *a_3, u64 a_4)
+{
+    u8 *r_2b;
+    u64 r_31;
+    if (!(a_4 < 8ull)) goto l_then_ka;
+l_common_68:;
+    return;
+l_then_ka:;
+    r_2b = away(ldp(a_1), (u64)((u64)a_2 << 3ull));
+    if (!(a_4 < 64ull)) goto l_else_5e;
+    if (!(a_4 > 31ull)) goto l_else_o9;
+    mv32(r_2b, a_3);
+    u64 r_l6 = (a_4 + 0xffffffffffffffe0ull);
+    mv32((r_2b + (i64)(r_l6)), (a_3 + (i64)(r_l6)));
+    goto l_common_68;
+l_else_o9:;
+    if (!(a_4 > 15ull)) goto l_then_b7;
+    mv16(r_2b, a_3);
+    u64 r_8y = (a_4 + 0xfffffffffffffff0ull);
+    mv16((r_2b + (i64)(r_8y)), (a_3 + (i64)(r_8y)));
+    goto l_common_68;
+l_then_b7:;
+    mv8(r_2b, a_3);
+    u64 r_t8 = (a_4 + 0xfffffffffffffff8ull);
+    mv8((r_2b + (i64)(r_t8)), (a_3 + (i64)(r_t8)));
+    goto l_common_68;
+l_else_5e:;
+    if (((u64)(uptr)r_2b - (u64)(uptr)a_3) < a_4) { r_31 = 0ull; goto l_join_sz; }
+    memmove_or_none(r_2b, a_3, a_4);
+    goto l_common_68;
+l_join_sz:;
+    st8((r_2b + (i64)(r_31)), ld8((a_3 + (i64)(r_31))));
+    u64 r_c4 = (r_31 + 1ull);
+    if (r_c4 == a_4) goto l_common_68;
+    r_31 = r_c4;
+    goto l_join_sz;
+}
+
+/* capnp_arena_traits::arena::writing::copy_words::<#d7a666d2d35ab297> */
+static void capnp_arena_traits_arena_writing_copy_words_d7a666d2d35ab297(u8 *a_1, u32 a_2, u8 *a_3, u64 a_4)
+{
+    u8 *r_2b;
+    u64 r_4p;
+    u64 r_31;
+    if (a_4 == 0ull) goto l_join_68;
+    r_2b = away(ldp(a_1), (u64)((u64)a_2 << 3ull));
+    if (!(a_4 < 64ull)) goto l_else_5e;
+    if (!(a_4 > 31ull)) goto l_else_5w;
+    mv32(r_2b, a_3);
+    u64 r_l6 = (a_4 + 0xffffffffffffffe0ull);
+    mv32((r_2b + (i64)(r_l6)), (a_3 + (i64)(r_l6)));
+    goto l_join_68;
+l_else_5w:;
+    if (!(a_4 > 15ull)) goto l_else_t1;
+    mv16(r_2b, a_3);
+    u64 r_8y = (a_4 + 0xfffffffffffffff0ull);
+    mv16((r_2b + (i64)(r_8y)), (a_3 + (i64)(r_8y)));
+    goto l_join_68;
+l_else_t1:;
+    if (!(a_4 > 7ull)) { r_4p = 0ull; goto l_join_5n; }
+    mv8(r_2b, a_3);
+    u64 r_t8 = (a_4 + 0xfffffffffffffff8ull);
+    mv8((r_2b + (i64)(r_t8)), (a_3 + (i64)(r_t8)));
+    goto l_join_68;
+l_join_5n:;
+    st8((r_2b + (i64)(r_4p)), ld8((a_3 + (i64)(r_4p))));
+    u64 r_c4 = (r_4p + 1ull);
+    if (r_c4 == a_4) goto l_join_68;
+    r_4p = r_c4;
+    goto l_join_5n;
+l_else_5e:;
+    if (((u64)(uptr)r_2b - (u64)(uptr)a_3) < a_4) { r_31 = 0ull; goto l_join_sz; }
+    memmove_or_none(r_2b, a_3, a_4);
+    goto l_join_68;
+l_join_sz:;
+    st8((r_2b + (i64)(r_31)), ld8((a_3 + (i64)(r_31))));
+    u64 r_c4_1 = (r_31 + 1ull);
+    if (!(r_c4_1 == a_4)) { r_31 = r_c4_1; goto l_join_sz; }
+l_join_68:;
+    return;
+}
+
+/* capnp_copies::copy::children::copy_children_out_of_line::<#5ec03199cc959fcd> */
+static NEVER void capnp_copies_copy_children_copy_children_out_of_line_5_f210a996(u8 *a_1, u8 *a_2, u32 a_3, u32 a_4, u8 *a_5, u32 a_6, u8 *a_7, u8 a_8)
+{
+    A(8) u8 slot_1[24];
+    A(8) u8 slot_2[64];
+    A(8) u8 slot_3[24];
+    A(8) u8 slot_4[64];
+    u64 r_eg;
+    u8 *r_rv;
+    u64 r_qw;
+    u64 r_qw_1;
+    u8 *r_rv_1;
+    u64 r_qw_2;
+    u32 r_5k;
+    u32 r_5k_1;
+    u64 r_gw;
+    u8 *r_x5;
+    u8 *r_zd;
+    u8 *r_lk;
+    u8 *r_89;
+    u8 *r_a8;
+    u8 *r_c4;
+    u8 *r_6c;
+    u8 t_pa;
+    u8 *r_08_1;
+    u64 r_nb;
+    u8 r_n1;
+    u8 *r_rq_1;
+    u8 *r_x5_1;
+    u8 *r_k0;
+    u8 *r_zd_1;
+    u32 r_53;
+    u8 t_q5;
+    u8 *r_rq_2;
+    u8 *r_08_2;
+    u8 *r_xz_1;
+    u8 *r_x5_2;
+    u8 *r_zd_2;
+    u8 *r_lk_1;
+    u8 *r_89_1;
+    u8 *r_a8_1;
+    u8 *r_c4_1;
+    u8 *r_bk;
+    u8 *r_6c_1;
+    u8 *r_x5_3;
+    u8 *r_k0_1;
+    u8 *r_zd_3;
+    u8 t_0c;
+    u64 wide_v1;
+    u8 *t_6c;
+    u8 *t_6c_1;
+    u64 indvars_fg;
+    u32 r_7m;
+    u64 r_24;
+    u64 r_qw_3;
+    u64 switch_f9;
+    u64 r_ep;
+    u64 r_ij;
+    u64 r_1q;
+    u64 r_c6;
+    u64 r_lc;
+    u64 r_la;
+    u64 r_52_1;
+    u64 r_z6_1;
+    u8 *r_dx;
+    u64 r_1q_1;
+    u64 r_se;
+    u32 r_12;
+    u32 r_e3;
+    u64 r_z6_2;
+    u8 *r_2b_1;
+    u64 r_1q_2;
+    u8 *r_2b_2;
+    u64 r_il;
+    u64 r_4i;
+    u64 r_y6;
+    u64 r_q7;
+    u64 r_lc_2;
+    u64 r_lc_3;
+    u64 r_09;
+    u32 r_4r;
+    u8 r_8u_1;
+    u64 r_52_5;
+    u32 r_5b;
+    u64 r_lc_5;
+    u64 r_z6_7;
+    u8 *r_2b_4;
+    u64 r_nm_1;
+    u64 r_nm_2;
+    u64 r_p3;
+    u64 r_z6_11;
+    u8 *r_2b_7;
+    u64 r_nm_3;
+    u64 r_nm_4;
+    u64 r_dl;
+    u64 r_9n;
+    u16 r_xg;
+    u32 r_29;
+    u32 r_az;
+    u32 r_68;
+    u32 r_e3_1;
+    u64 r_c0;
+    u8 *r_2b_10;
+    u8 *t_2b_5;
+    u64 r_s8;
+    u32 r_4r_2;
+    u64 r_0l;
+    u8 *r_2b_11;
+    u8 *r_2b_12;
+    u64 r_il_1;
+    u8 r_2b_13;
+    u8 r_qh;
+    u32 r_ip;
+    u64 r_wq;
+    u64 t_i2;
+    u32 t_1i;
+    u8 r_k7;
+    u8 t_yl;
+    u64 r_7k;
+    u8 r_zq;
+    u64 r_uo;
+    u32 r_93;
+    u8 r_8y;
+    u8 r_10;
+    u32 r_kb;
+    u32 r_n4;
+    u64 r_yp;
+    u8 r_dh = ld8(a_5);
+    r_eg = (u64)r_dh;
+    r_rv = ldp(away(a_5, 8ull));
+    r_qw = ld64(away(a_5, 16ull));
+    r_qw_1 = ld64(away(a_5, 24ull));
+    r_rv_1 = ldp(away(a_5, 32ull));
+    r_qw_2 = ld64(away(a_5, 40ull));
+    r_5k = ld32(away(a_5, 48ull));
+    r_5k_1 = ld32(away(a_5, 56ull));
+    r_gw = (u64)(r_qw_2 >> 3ull);
+    r_x5 = (slot_4 + 8);
+    r_zd = (slot_4 + 16);
+    r_lk = (slot_4 + 24);
+    r_89 = (slot_4 + 32);
+    r_a8 = (slot_4 + 40);
+    r_c4 = (slot_4 + 48);
+    r_6c = (slot_4 + 56);
+    t_pa = (r_dh != 0u);
+    r_08_1 = away(a_7, 16ull);
+    r_nb = (r_gw & 0xffffffffull);
+    r_n1 = ((i32)r_5k_1 < (i32)1u);
+    r_rq_1 = away(a_7, 8ull);
+    r_x5_1 = (slot_3 + 8);
+    r_k0 = (slot_3 + 12);
+    r_zd_1 = (slot_3 + 16);
+    r_53 = (r_5k_1 + 0xffffffffu);
+    t_q5 = (a_8 == 1u);
+    r_rq_2 = away(a_2, 8ull);
+    r_08_2 = away(a_2, 16ull);
+    r_xz_1 = away(a_2, 24ull);
+    r_x5_2 = (slot_2 + 8);
+    r_zd_2 = (slot_2 + 16);
+    r_lk_1 = (slot_2 + 24);
+    r_89_1 = (slot_2 + 32);
+    r_a8_1 = (slot_2 + 40);
+    r_c4_1 = (slot_2 + 48);
+    r_bk = (slot_2 + 52);
+    r_6c_1 = (slot_2 + 56);
+    r_x5_3 = (slot_1 + 8);
+    r_k0_1 = (slot_1 + 12);
+    r_zd_3 = (slot_1 + 16);
+    t_0c = (r_dh == 0u);
+    wide_v1 = (u64)a_6;
+    t_6c = (slot_4 + 56);
+    t_6c_1 = (slot_2 + 56);
+    indvars_fg = 0ull;
+    goto l_join_22;
+l_loop_da:;
+    u64 indvars_r7 = (indvars_fg + 1ull);
+    if (indvars_r7 == wide_v1) { r_10 = 0u; r_kb = 0u; r_n4 = 0u; r_yp = 0ull; goto l_capnp_9c; }
+    indvars_fg = indvars_r7;
+l_join_22:;
+    u32 t_nk = (u32)indvars_fg;
+    r_7m = (a_4 + t_nk);
+    r_24 = (u64)(r_5k + t_nk);
+    memset(slot_3, 0u, 24);
+    st64(t_6c, 0ull);
+    if (!(r_gw > r_24)) goto l_capnp_v7;
+    r_qw_3 = ld64(away(r_rv_1, (u64)(r_24 << 3ull)));
+    if (r_qw_3 == 0ull) goto l_capnp_v7;
+    switch_f9 = (r_qw_3 & 3ull);
+    r_ep = (u64)(r_qw_3 >> 32ull);
+    if (!((switch_f9 == 1ull) ? ((u8)((u8)((u8)r_ep & 7u) + 255u) < 5u) : 0u)) goto l_join_br;
+    r_ij = (u64)(r_qw_3 >> 35ull);
+    r_1q = (ld64(away(away(((u8 *)switch_table_capnp_copies_copy_children_copy_children__1fe69969), 8 * (r_ep & 7ull)), 0xfffffffffffffff8ull)) * r_ij);
+    r_c6 = (u64)((r_1q + 63ull) >> 6ull);
+    if (!t_0c) goto l_join_bd;
+    st64(r_08_1, uadd_sat64(ld64(r_08_1), 1ull));
+l_join_bd:;
+    u64 r_m6 = ((u64)(r_qw_3 >> 2ull) & 0x3fffffffull);
+    r_lc = ((r_24 + 1ull) + r_m6);
+    if (!(r_m6 < 0x20000000ull)) goto l_else_70;
+    if (r_lc > r_nb) { r_7k = 0ull; r_zq = 23u; goto l_arm_i0; }
+    r_la = r_lc;
+    goto l_arm_i0_1;
+l_else_70:;
+    u64 r_3o = (r_lc + 0xffffffffc0000000ull);
+    if ((r_lc < 0x40000000ull) ? 1u : (r_3o > r_nb)) { r_7k = 0ull; r_zq = 23u; goto l_arm_i0; }
+    r_la = r_3o;
+l_arm_i0_1:;
+    if (r_n1) { r_7k = 0ull; r_zq = 26u; goto l_arm_i0; }
+    if (r_nb < (r_la + r_c6)) { r_7k = 0ull; r_zq = 23u; goto l_arm_i0; }
+    if (!t_0c) goto l_arm_5g;
+    if (!(ld8(a_7) == 1u)) goto l_arm_5g;
+    r_52_1 = ld64(r_rq_1);
+    if (r_52_1 < r_c6) { r_7k = 0ull; r_zq = 30u; goto l_arm_i0; }
+    st64(a_7, 1ull);
+    st64(r_rq_1, (r_52_1 - r_c6));
+l_arm_5g:;
+    r_z6_1 = (u64)(r_c6 << 3ull);
+    r_dx = away(r_rv_1, (u64)(r_la << 3ull));
+    r_1q_1 = (ld64(away(away(((u8 *)switch_table_capnp_copies_copy_children_copy_children__1fe69969), 8 * (r_ep & 7ull)), 0xfffffffffffffff8ull)) * r_ij);
+    r_se = (u64)((r_1q_1 + 63ull) >> 6ull);
+    r_12 = (u32)r_se;
+    r_e3 = ld32(r_08_2);
+    if (((u32)umin64((u64)(ld64(r_rq_2) >> 3ull), 0x1fffffffull) - r_e3) < r_12) goto l_join_m2;
+    r_z6_2 = (u64)(r_se << 3ull);
+    r_2b_1 = away(ldp(a_2), (u64)((u64)r_e3 << 3ull));
+    if (r_1q_1 < 449ull) goto l_then_ij;
+    memset_or_none(r_2b_1, 0u, r_z6_2);
+    goto l_arm_kl;
+l_then_ij:;
+    if (!(r_1q_1 > 192ull)) goto l_else_np;
+    memset(r_2b_1, 0, 32);
+    memset(away(away(r_2b_1, r_z6_2), 0xffffffffffffffe0ull), 0, 32);
+    goto l_arm_kl;
+l_else_np:;
+    if (!(r_1q_1 > 64ull)) goto l_else_we;
+    memset(r_2b_1, 0, 16);
+    memset(away(away(r_2b_1, r_z6_2), 0xfffffffffffffff0ull), 0, 16);
+    goto l_arm_kl;
+l_else_we:;
+    if (r_se == 0ull) goto l_arm_kl;
+    memset(r_2b_1, 0, 8);
+    memset(away(away(r_2b_1, r_z6_2), 0xfffffffffffffff8ull), 0, 8);
+    goto l_arm_kl;
+l_join_m2:;
+    if (r_1q_1 > 0x7ffffff80ull) { r_7k = 0x20000000ull; r_zq = 27u; goto l_arm_i0; }
+    st64(r_xz_1, uadd_sat64(ld64(r_xz_1), 1ull));
+    r_7k = 0ull;
+    r_zq = 0u;
+    goto l_arm_i0;
+l_arm_kl:;
+    st32(r_08_2, (r_e3 + r_12));
+    st64((ldp(a_2) + (i64)((u64)((u64)r_7m << 3ull))), ((r_qw_3 & 0xffffffff00000001ull) | (u64)(u32)((r_e3 + (r_7m ^ 0xffffffffu)) << 2u)));
+    r_1q_2 = (ld64(away(away(((u8 *)switch_table_capnp_copies_copy_children_copy_children__1fe69969), 8 * (r_ep & 7ull)), 0xfffffffffffffff8ull)) * r_ij);
+    if (r_c6 == 0ull) goto l_capnp_pq;
+    r_2b_2 = away(ldp(a_2), (u64)((u64)r_e3 << 3ull));
+    if (!(r_1q < 449ull)) goto l_else_r3;
+    if (!(r_1q > 192ull)) goto l_else_9l;
+    mv32(r_2b_2, r_dx);
+    u64 r_bh = (r_z6_1 + 0xffffffffffffffe0ull);
+    mv32((r_2b_2 + (i64)(r_bh)), (r_dx + (i64)(r_bh)));
+    goto l_capnp_pq;
+l_else_9l:;
+    if (r_c6 == 1ull) goto l_then_49;
+    mv16(r_2b_2, r_dx);
+    u64 r_8f = (r_z6_1 + 0xfffffffffffffff0ull);
+    mv16((r_2b_2 + (i64)(r_8f)), (r_dx + (i64)(r_8f)));
+    goto l_capnp_pq;
+l_then_49:;
+    mv8(r_2b_2, r_dx);
+    u64 r_la_1 = (r_z6_1 + 0xfffffffffffffff8ull);
+    mv8((r_2b_2 + (i64)(r_la_1)), (r_dx + (i64)(r_la_1)));
+    goto l_capnp_pq;
+l_else_r3:;
+    if (((u64)(uptr)r_2b_2 - (u64)(uptr)r_dx) < r_z6_1) { r_il = 0ull; goto l_join_fh; }
+    memmove_or_none(r_2b_2, r_dx, r_z6_1);
+    goto l_capnp_pq;
+l_join_fh:;
+    st8((r_2b_2 + (i64)(r_il)), ld8((r_dx + (i64)(r_il))));
+    u64 r_c4_3 = (r_il + 1ull);
+    if (!(r_c4_3 == r_z6_1)) { r_il = r_c4_3; goto l_join_fh; }
+l_capnp_pq:;
+    r_4i = (r_1q_2 & 63ull);
+    if (r_4i == 0ull) goto l_capnp_v7;
+    u64 r_0f = (r_c6 + 0xffffffffffffffffull);
+    st64((ldp(a_2) + (i64)((u64)((u64)(r_e3 + (u32)r_0f) << 3ull))), (ld64(away(r_dx, (u64)(r_0f << 3ull))) & ((u64)(0xffffffffffffffffull << (r_4i & 63u)) ^ 0xffffffffffffffffull)));
+    goto l_capnp_v7;
+l_join_br:;
+    if (!(switch_f9 == 0ull)) goto l_else_4r;
+    r_y6 = (u64)(r_qw_3 >> 48ull);
+    r_q7 = (r_ep & 65535ull);
+    r_lc_2 = (r_q7 + r_y6);
+    if (t_pa) goto l_join_o1;
+    st64(r_08_1, uadd_sat64(ld64(r_08_1), 1ull));
+l_join_o1:;
+    u64 r_m6_1 = ((u64)(r_qw_3 >> 2ull) & 0x3fffffffull);
+    r_lc_3 = ((r_24 + 1ull) + r_m6_1);
+    if (!(r_m6_1 < 0x20000000ull)) goto l_else_70_1;
+    if (r_lc_3 > r_nb) { r_7k = 0ull; r_zq = 23u; goto l_arm_i0; }
+    r_09 = r_lc_3;
+    goto l_arm_f4;
+l_else_70_1:;
+    u64 r_3o_1 = (r_lc_3 + 0xffffffffc0000000ull);
+    if ((r_lc_3 < 0x40000000ull) ? 1u : (r_3o_1 > r_nb)) { r_7k = 0ull; r_zq = 23u; goto l_arm_i0; }
+    r_09 = r_3o_1;
+l_arm_f4:;
+    r_4r = (u32)r_09;
+    if (r_n1) { r_7k = 0ull; r_zq = 26u; goto l_arm_i0; }
+    r_8u_1 = (r_nb < (r_09 + r_lc_2));
+    if ((u8)((u8)t_pa | (u8)r_8u_1)) goto l_capnp_5r;
+    if (!(ld8(a_7) == 1u)) { r_5b = r_4r; goto l_arm_7a; }
+    r_52_5 = ld64(r_rq_1);
+    if (r_52_5 < r_lc_2) { r_7k = 0ull; r_zq = 30u; goto l_arm_i0; }
+    st64(a_7, 1ull);
+    st64(r_rq_1, (r_52_5 - r_lc_2));
+    r_5b = r_4r;
+    goto l_arm_7a;
+l_capnp_5r:;
+    if (r_8u_1) { r_7k = 0ull; r_zq = 23u; goto l_arm_i0; }
+    r_5b = (r_8u_1 ? 0u : r_4r);
+l_arm_7a:;
+    if (!t_q5) { r_dl = r_ep; r_9n = r_y6; goto l_capnp_hv; }
+    u64 r_24_5 = (u64)r_5b;
+    r_lc_5 = (r_q7 + r_24_5);
+    r_z6_7 = (u64)(r_q7 << 3ull);
+    r_2b_4 = away(r_rv_1, (u64)(r_24_5 << 3ull));
+    if (r_q7 < 32ull) { r_nm_1 = r_q7; goto l_loop_jc; }
+    goto l_else_wj;
+l_loop_jc:;
+    if (r_nm_1 == 0ull) { r_p3 = 0ull; goto l_capnp_bk; }
+    u64 r_0f_1 = (r_nm_1 + 0xffffffffffffffffull);
+    if (ld64(away(r_2b_4, (u64)(r_0f_1 << 3ull))) == 0ull) { r_nm_1 = r_0f_1; goto l_loop_jc; }
+    r_p3 = r_nm_1;
+    goto l_capnp_bk;
+l_else_wj:;
+    if (!(ld64(away(away(r_2b_4, r_z6_7), 0xfffffffffffffff8ull)) == 0ull)) { r_p3 = r_q7; goto l_capnp_bk; }
+    u64 r_qz = capnp_words_lanes_used_words_bound(r_2b_4, r_z6_7);
+    r_nm_2 = r_qz;
+l_loop_jc_1:;
+    if (r_nm_2 == 0ull) { r_p3 = 0ull; goto l_capnp_bk; }
+    u64 r_0f_2 = (r_nm_2 + 0xffffffffffffffffull);
+    if (ld64(away(r_2b_4, (u64)(r_0f_2 << 3ull))) == 0ull) { r_nm_2 = r_0f_2; goto l_loop_jc_1; }
+    r_p3 = r_nm_2;
+l_capnp_bk:;
+    r_z6_11 = (u64)(r_y6 << 3ull);
+    r_2b_7 = away(r_rv_1, (u64)(r_lc_5 << 3ull));
+    if (r_qw_3 < 0x20000000000000ull) { r_nm_3 = r_y6; goto l_loop_jc_2; }
+    goto l_else_wj_1;
+l_loop_jc_2:;
+    if (r_nm_3 == 0ull) { r_dl = r_p3; r_9n = 0ull; goto l_capnp_hv; }
+    u64 r_0f_3 = (r_nm_3 + 0xffffffffffffffffull);
+    if (ld64(away(r_2b_7, (u64)(r_0f_3 << 3ull))) == 0ull) { r_nm_3 = r_0f_3; goto l_loop_jc_2; }
+    r_dl = r_p3;
+    r_9n = r_nm_3;
+    goto l_capnp_hv;
+l_else_wj_1:;
+    if (!(ld64(away(away(r_2b_7, r_z6_11), 0xfffffffffffffff8ull)) == 0ull)) { r_dl = r_p3; r_9n = r_y6; goto l_capnp_hv; }
+    u64 r_qz_1 = capnp_words_lanes_used_words_bound(r_2b_7, r_z6_11);
+    r_nm_4 = r_qz_1;
+l_loop_jc_3:;
+    if (r_nm_4 == 0ull) { r_dl = r_p3; r_9n = 0ull; goto l_capnp_hv; }
+    u64 r_0f_4 = (r_nm_4 + 0xffffffffffffffffull);
+    if (ld64(away(r_2b_7, (u64)(r_0f_4 << 3ull))) == 0ull) { r_nm_4 = r_0f_4; goto l_loop_jc_3; }
+    r_dl = r_p3;
+    r_9n = r_nm_4;
+l_capnp_hv:;
+    r_xg = (u16)r_dl;
+    r_29 = ((u32)r_dl & 65535u);
+    r_az = ((u32)r_9n & 65535u);
+    r_68 = (r_az + r_29);
+    if (!(r_68 == 0u)) goto l_join_fn;
+    u64 r_24_6 = (u64)r_7m;
+    st64((ldp(a_2) + (i64)((u64)(r_24_6 << 3ull))), 0xfffffffcull);
+    r_s8 = r_24_6;
+    goto l_arm_rv;
+l_join_fn:;
+    r_e3_1 = ld32(r_08_2);
+    if (r_68 > ((u32)umin64((u64)(ld64(r_rq_2) >> 3ull), 0x1fffffffull) - r_e3_1)) goto l_arm_p0;
+    r_c0 = (u64)(u32)(r_68 << 3u);
+    r_2b_10 = away(ldp(a_2), (u64)((u64)r_e3_1 << 3ull));
+    if (r_68 < 8u) goto l_then_5x;
+    memset_or_none(r_2b_10, 0u, r_c0);
+    goto l_capnp_kl;
+l_then_5x:;
+    t_2b_5 = away(r_2b_10, r_c0);
+    if (!(r_68 > 3u)) goto l_else_gn;
+    memset(r_2b_10, 0, 32);
+    memset(away(t_2b_5, 0xffffffffffffffe0ull), 0, 32);
+    goto l_capnp_kl;
+l_else_gn:;
+    if (r_68 == 1u) goto l_then_qw;
+    memset(r_2b_10, 0, 16);
+    memset(away(t_2b_5, 0xfffffffffffffff0ull), 0, 16);
+    goto l_capnp_kl;
+l_then_qw:;
+    memset(r_2b_10, 0, 8);
+    memset(away(t_2b_5, 0xfffffffffffffff8ull), 0, 8);
+l_capnp_kl:;
+    st32(r_08_2, (r_e3_1 + r_68));
+    st64((ldp(a_2) + (i64)((u64)((u64)r_7m << 3ull))), ((((u64)(r_dl << 32ull) & 0xffff00000000ull) | (u64)(r_9n << 48ull)) | (u64)(u32)((r_e3_1 + (r_7m ^ 0xffffffffu)) << 2u)));
+    r_s8 = (u64)r_e3_1;
+l_arm_rv:;
+    r_4r_2 = (u32)r_s8;
+    r_0l = ((u64)(r_dl << 3ull) & 0x7fff8ull);
+    r_2b_11 = away(r_rv_1, (u64)((u64)r_5b << 3ull));
+    if (r_xg == 0u) goto l_capnp_5c;
+    r_2b_12 = away(ldp(a_2), (u64)(r_s8 << 3ull));
+    if (!(r_xg < 8u)) goto l_else_r3_1;
+    if (!(r_xg > 3u)) goto l_else_1o;
+    mv32(r_2b_12, r_2b_11);
+    u64 r_bh_1 = (r_0l + 0xffffffffffffffe0ull);
+    mv32((r_2b_12 + (i64)(r_bh_1)), (r_2b_11 + (i64)(r_bh_1)));
+    goto l_capnp_5c;
+l_else_1o:;
+    if (r_xg == 1u) goto l_then_49_1;
+    mv16(r_2b_12, r_2b_11);
+    u64 r_8f_1 = (r_0l + 0xfffffffffffffff0ull);
+    mv16((r_2b_12 + (i64)(r_8f_1)), (r_2b_11 + (i64)(r_8f_1)));
+    goto l_capnp_5c;
+l_then_49_1:;
+    mv8(r_2b_12, r_2b_11);
+    u64 r_la_2 = (r_0l + 0xfffffffffffffff8ull);
+    mv8((r_2b_12 + (i64)(r_la_2)), (r_2b_11 + (i64)(r_la_2)));
+    goto l_capnp_5c;
+l_else_r3_1:;
+    if (((u64)(uptr)r_2b_12 - (u64)(uptr)r_2b_11) < r_0l) { r_il_1 = 0ull; goto l_join_fh_1; }
+    memmove_or_none(r_2b_12, r_2b_11, r_0l);
+    goto l_capnp_5c;
+l_join_fh_1:;
+    st8((r_2b_12 + (i64)(r_il_1)), ld8((r_2b_11 + (i64)(r_il_1))));
+    u64 r_c4_5 = (r_il_1 + 1ull);
+    if (!(r_c4_5 == r_0l)) { r_il_1 = r_c4_5; goto l_join_fh_1; }
+l_capnp_5c:;
+    memset(slot_1, 0u, 24);
+    st64(t_6c_1, 0ull);
+    if (r_az == 0u) { r_2b_13 = 0u; r_qh = 0u; r_ip = 0u; r_wq = 0ull; goto l_capnp_no; }
+    st64(slot_2, r_eg);
+    stp(r_x5_2, r_rv);
+    st64(r_zd_2, r_qw);
+    st64(r_lk_1, r_qw_1);
+    stp(r_89_1, r_rv_1);
+    st64(r_a8_1, r_qw_2);
+    st32(r_c4_1, (r_5b + ((u32)r_ep & 65535u)));
+    st32(r_bk, 0u);
+    st32(r_6c_1, r_53);
+    capnp_copies_copy_children_copy_children_out_of_line_5_f210a996(slot_1, a_2, a_3, (r_29 + r_4r_2), slot_2, r_az, a_7, a_8);
+    r_2b_13 = ld8(slot_1);
+    r_qh = ld8(r_x5_3);
+    r_ip = ld32(r_k0_1);
+    r_wq = ld64(r_zd_3);
+l_capnp_no:;
+    t_i2 = r_wq;
+    t_1i = r_ip;
+    r_k7 = r_qh;
+    t_yl = r_2b_13;
+    goto l_capnp_6w;
+l_arm_p0:;
+    st64(r_xz_1, uadd_sat64(ld64(r_xz_1), 1ull));
+    t_i2 = 0ull;
+    t_1i = 0u;
+    r_k7 = 0u;
+    t_yl = 1u;
+    goto l_capnp_6w;
+l_else_4r:;
+    st64(slot_4, r_eg);
+    stp(r_x5, r_rv);
+    st64(r_zd, r_qw);
+    st64(r_lk, r_qw_1);
+    stp(r_89, r_rv_1);
+    st64(r_a8, r_qw_2);
+    st64(r_c4, r_24);
+    st32(r_6c, r_5k_1);
+    capnp_copies_copy_copy_object_5ec03199cc959fcd(slot_3, a_2, a_3, r_7m, slot_4, a_7, a_8);
+    t_i2 = ld64(r_zd_1);
+    t_1i = ld32(r_k0);
+    r_k7 = ld8(r_x5_1);
+    t_yl = ld8(slot_3);
+    goto l_capnp_6w;
+l_capnp_v7:;
+    goto l_loop_da;
+l_capnp_6w:;
+    if (t_yl == 0u) goto l_loop_da;
+    r_uo = t_i2;
+    r_93 = t_1i;
+    r_8y = r_k7;
+    goto l_arm_12;
+l_arm_i0:;
+    r_uo = r_7k;
+    r_93 = 0u;
+    r_8y = r_zq;
+l_arm_12:;
+    r_10 = 1u;
+    r_kb = (u32)r_8y;
+    r_n4 = r_93;
+    r_yp = r_uo;
+l_capnp_9c:;
+    st8(a_1, r_10);
+    st32(away(a_1, 8ull), r_kb);
+    st32(away(a_1, 12ull), r_n4);
+    st64(away(a_1, 16ull), r_yp);
+    return;
 }
 
 /* capnp_objects::source::expected::narrow_elements_error */
@@ -408,18 +4152,18 @@ static u32 capnp_layout_c_capnp_layout_struct(u8 *a_1, u8 *a_2, u64 a_3, u32 a_4
     r_x5 = (slot_2 + 8);
     st64(r_x5, r_yz);
     r_zd = (slot_2 + 16);
-    if (!(a_3 < ld64((a_1 + 8)))) { r_iu = ((u8 *)g_static_0); r_zd_1 = 0ull; goto l_arm_vi; }
+    if (!(a_3 < ld64((a_1 + 8)))) { r_iu = ((u8 *)g_static_4); r_zd_1 = 0ull; goto l_arm_vi; }
     u8 *r_2b = away(ldp(a_1), (u64)(a_3 << 4ull));
     u64 r_qw_1 = ld64((r_2b + 8));
-    r_iu = ((r_qw_1 < 8ull) ? ((u8 *)g_static_0) : ldp(r_2b));
+    r_iu = ((r_qw_1 < 8ull) ? ((u8 *)g_static_4) : ldp(r_2b));
     r_zd_1 = (r_qw_1 & 0xfffffffffffffff8ull);
 l_arm_vi:;
     r_7l = (u64)a_4;
     r_oz = (u64)(r_zd_1 >> 3ull);
-    if (!(r_oz > r_7l)) { static_x2 = ((u8 *)g_static_0); sink_nl = 0ull; sink_wn = 0ull; sink_qn = 0u; sink_jo = 0x7fffffffu; sink_na = 0u; r_2u = 0u; goto l_join_vr; }
-    r_qw_2 = ld64((r_iu + (i64)((u64)(r_7l << 3ull))));
-    if (r_qw_2 == 0ull) { static_x2 = ((u8 *)g_static_0); sink_nl = 0ull; sink_wn = 0ull; sink_qn = 0u; sink_jo = 0x7fffffffu; sink_na = 0u; r_2u = 0u; goto l_join_vr; }
-    if ((i32)a_5 < (i32)1u) { static_x2 = ((u8 *)g_static_0); sink_nl = 0ull; sink_wn = 0ull; sink_qn = 0u; sink_jo = 0u; sink_na = 0u; r_2u = 58u; goto l_join_vr; }
+    if (!(r_oz > r_7l)) { static_x2 = ((u8 *)g_static_4); sink_nl = 0ull; sink_wn = 0ull; sink_qn = 0u; sink_jo = 0x7fffffffu; sink_na = 0u; r_2u = 0u; goto l_join_vr; }
+    r_qw_2 = ld64(away(r_iu, (u64)(r_7l << 3ull)));
+    if (r_qw_2 == 0ull) { static_x2 = ((u8 *)g_static_4); sink_nl = 0ull; sink_wn = 0ull; sink_qn = 0u; sink_jo = 0x7fffffffu; sink_na = 0u; r_2u = 0u; goto l_join_vr; }
+    if ((i32)a_5 < (i32)1u) { static_x2 = ((u8 *)g_static_4); sink_nl = 0ull; sink_wn = 0ull; sink_qn = 0u; sink_jo = 0u; sink_na = 0u; r_2u = 58u; goto l_join_vr; }
     st64(r_zd, 1ull);
     if ((r_qw_2 & 3ull) == 2ull) goto l_capnp_nk;
     u64 r_m6 = ((u64)(r_qw_2 >> 2ull) & 0x3fffffffull);
@@ -451,18 +4195,18 @@ l_capnp_nk:;
     goto l_arm_i0;
 l_arm_bz:;
     r_ep = (u64)(r_pf >> 32ull);
-    if (!((r_pf & 3ull) == 0ull)) { static_x2 = ((u8 *)g_static_0); sink_nl = 0ull; sink_wn = 0ull; sink_qn = 0u; sink_jo = 0u; sink_na = 0u; r_2u = 53u; goto l_join_vr; }
+    if (!((r_pf & 3ull) == 0ull)) { static_x2 = ((u8 *)g_static_4); sink_nl = 0ull; sink_wn = 0ull; sink_qn = 0u; sink_jo = 0u; sink_na = 0u; r_2u = 53u; goto l_join_vr; }
     r_y6 = (u64)(r_pf >> 48ull);
     r_lc_1 = ((r_ep & 65535ull) + r_y6);
-    if (((u64)(r_wt >> 3ull) & 0xffffffffull) < (r_lc_1 + (u64)r_zy)) { static_x2 = ((u8 *)g_static_0); sink_nl = 0ull; sink_wn = 0ull; sink_qn = 0u; sink_jo = 0u; sink_na = 0u; r_2u = 55u; goto l_join_vr; }
+    if (((u64)(r_wt >> 3ull) & 0xffffffffull) < (r_lc_1 + (u64)r_zy)) { static_x2 = ((u8 *)g_static_4); sink_nl = 0ull; sink_wn = 0ull; sink_qn = 0u; sink_jo = 0u; sink_na = 0u; r_2u = 55u; goto l_join_vr; }
     if (!(ld8(slot_2) == 1u)) goto l_capnp_jb;
     r_52 = ld64(r_x5);
-    if (r_52 < r_lc_1) { static_x2 = ((u8 *)g_static_0); sink_nl = 0ull; sink_wn = 0ull; sink_qn = 0u; sink_jo = 0u; sink_na = 0u; r_2u = 62u; goto l_join_vr; }
+    if (r_52 < r_lc_1) { static_x2 = ((u8 *)g_static_4); sink_nl = 0ull; sink_wn = 0ull; sink_qn = 0u; sink_jo = 0u; sink_na = 0u; r_2u = 62u; goto l_join_vr; }
     st64(slot_2, 1ull);
     st64(r_x5, (r_52 - r_lc_1));
     goto l_capnp_jb;
 l_arm_i0:;
-    static_x2 = ((u8 *)g_static_0);
+    static_x2 = ((u8 *)g_static_4);
     sink_nl = 0ull;
     sink_wn = 0ull;
     sink_qn = 0u;
@@ -491,6 +4235,131 @@ l_join_vr:;
     return r_2u;
 }
 
+uint32_t capnp_layout_start(uint8_t *bytes, size_t room, uint32_t *used)
+{
+    u8 *a_1 = (u8 *)bytes;
+    u64 a_2 = (u64)room;
+    u8 *a_3 = (u8 *)used;
+    u32 common_hy;
+    if (a_2 < 8ull) { common_hy = 1u; goto l_capnp_2g; }
+    memset(away(a_1, (((uptr)a_1 == (uptr)((u8 *)0)) ? 4096ull : 0ull)), 0, 8);
+    st32(a_3, 1u);
+    common_hy = 0u;
+l_capnp_2g:;
+    return common_hy;
+}
+
+uint32_t capnp_layout_set_element_bool(uint8_t *bytes, size_t room, uint32_t used, uint64_t list, uint32_t index, bool value)
+{
+    u8 *a_1 = (u8 *)bytes;
+    u64 a_2 = (u64)room;
+    u32 a_3 = (u32)used;
+    u64 a_4 = (u64)list;
+    u32 a_5 = (u32)index;
+    u8 a_6 = (u8)value;
+    u64 r_cq;
+    u8 *r_8a;
+    u8 r_o9;
+    u8 storemerge_ur;
+    u32 common_hy;
+    u64 r_cy = (u64)(a_4 >> 32ull);
+    u64 r_7l = (u64)a_3;
+    r_cq = (a_4 & 0xffffffffull);
+    if (!(u8)((u8)(a_5 < (u32)r_cy) & (u8)((umin64((u64)(a_2 >> 3ull), 0x1fffffffull) >= r_7l) ? (((u64)((r_cy + 63ull) >> 6ull) + r_cq) <= r_7l) : 0u))) { common_hy = 61u; goto l_capnp_2g; }
+    r_8a = away(away(away(a_1, (((uptr)a_1 == (uptr)((u8 *)0)) ? 4096ull : 0ull)), (u64)(r_cq << 3ull)), (u64)(u32)(a_5 >> 3u));
+    r_o9 = (u8)((u32)1u << ((u8)((u8)a_5 & 7u) & 7u));
+    if (!a_6) goto l_else_97;
+    storemerge_ur = (u8)(ld8(r_8a) | r_o9);
+    goto l_typed_rd;
+l_else_97:;
+    storemerge_ur = (u8)(ld8(r_8a) & (u8)(r_o9 ^ 255u));
+l_typed_rd:;
+    st8(r_8a, storemerge_ur);
+    common_hy = 0u;
+l_capnp_2g:;
+    return common_hy;
+}
+
+uint32_t capnp_layout_set_element_u16(uint8_t *bytes, size_t room, uint32_t used, uint64_t list, uint32_t index, uint16_t value)
+{
+    u8 *a_1 = (u8 *)bytes;
+    u64 a_2 = (u64)room;
+    u32 a_3 = (u32)used;
+    u64 a_4 = (u64)list;
+    u32 a_5 = (u32)index;
+    u16 a_6 = (u16)value;
+    u64 r_cq;
+    u32 common_hy;
+    u64 r_cy = (u64)(a_4 >> 32ull);
+    u64 r_7l = (u64)a_3;
+    r_cq = (a_4 & 0xffffffffull);
+    if (!(u8)((u8)(a_5 < (u32)r_cy) & (u8)((umin64((u64)(a_2 >> 3ull), 0x1fffffffull) >= r_7l) ? (((u64)(((u64)(r_cy << 4ull) + 63ull) >> 6ull) + r_cq) <= r_7l) : 0u))) { common_hy = 61u; goto l_capnp_2g; }
+    st16(away(away(away(a_1, (((uptr)a_1 == (uptr)((u8 *)0)) ? 4096ull : 0ull)), (u64)(r_cq << 3ull)), (u64)((u64)a_5 << 1ull)), a_6);
+    common_hy = 0u;
+l_capnp_2g:;
+    return common_hy;
+}
+
+uint32_t capnp_layout_set_element_u32(uint8_t *bytes, size_t room, uint32_t used, uint64_t list, uint32_t index, uint32_t value)
+{
+    u8 *a_1 = (u8 *)bytes;
+    u64 a_2 = (u64)room;
+    u32 a_3 = (u32)used;
+    u64 a_4 = (u64)list;
+    u32 a_5 = (u32)index;
+    u32 a_6 = (u32)value;
+    u64 r_cq;
+    u32 common_hy;
+    u64 r_cy = (u64)(a_4 >> 32ull);
+    u64 r_7l = (u64)a_3;
+    r_cq = (a_4 & 0xffffffffull);
+    if (!(u8)((u8)(a_5 < (u32)r_cy) & (u8)((umin64((u64)(a_2 >> 3ull), 0x1fffffffull) >= r_7l) ? (((u64)(((u64)(r_cy << 5ull) + 63ull) >> 6ull) + r_cq) <= r_7l) : 0u))) { common_hy = 61u; goto l_capnp_2g; }
+    st32(away(away(away(a_1, (((uptr)a_1 == (uptr)((u8 *)0)) ? 4096ull : 0ull)), (u64)(r_cq << 3ull)), (u64)((u64)a_5 << 2ull)), a_6);
+    common_hy = 0u;
+l_capnp_2g:;
+    return common_hy;
+}
+
+uint32_t capnp_layout_set_element_u64(uint8_t *bytes, size_t room, uint32_t used, uint64_t list, uint32_t index, uint64_t value)
+{
+    u8 *a_1 = (u8 *)bytes;
+    u64 a_2 = (u64)room;
+    u32 a_3 = (u32)used;
+    u64 a_4 = (u64)list;
+    u32 a_5 = (u32)index;
+    u64 a_6 = (u64)value;
+    u64 r_cq;
+    u32 common_hy;
+    u64 r_cy = (u64)(a_4 >> 32ull);
+    u64 r_7l = (u64)a_3;
+    r_cq = (a_4 & 0xffffffffull);
+    if (!(u8)((u8)(a_5 < (u32)r_cy) & (u8)((umin64((u64)(a_2 >> 3ull), 0x1fffffffull) >= r_7l) ? ((r_cy + r_cq) <= r_7l) : 0u))) { common_hy = 61u; goto l_capnp_2g; }
+    st64(away(away(away(a_1, (((uptr)a_1 == (uptr)((u8 *)0)) ? 4096ull : 0ull)), (u64)(r_cq << 3ull)), (u64)((u64)a_5 << 3ull)), a_6);
+    common_hy = 0u;
+l_capnp_2g:;
+    return common_hy;
+}
+
+uint32_t capnp_layout_set_element_u8(uint8_t *bytes, size_t room, uint32_t used, uint64_t list, uint32_t index, uint8_t value)
+{
+    u8 *a_1 = (u8 *)bytes;
+    u64 a_2 = (u64)room;
+    u32 a_3 = (u32)used;
+    u64 a_4 = (u64)list;
+    u32 a_5 = (u32)index;
+    u8 a_6 = (u8)value;
+    u64 r_cq;
+    u32 common_hy;
+    u64 r_cy = (u64)(a_4 >> 32ull);
+    u64 r_7l = (u64)a_3;
+    r_cq = (a_4 & 0xffffffffull);
+    if (!(u8)((u8)(a_5 < (u32)r_cy) & (u8)((umin64((u64)(a_2 >> 3ull), 0x1fffffffull) >= r_7l) ? (((u64)(((u64)(r_cy << 3ull) + 63ull) >> 6ull) + r_cq) <= r_7l) : 0u))) { common_hy = 61u; goto l_capnp_2g; }
+    st8(away(away(away(a_1, (((uptr)a_1 == (uptr)((u8 *)0)) ? 4096ull : 0ull)), (u64)(r_cq << 3ull)), (u64)a_5), a_6);
+    common_hy = 0u;
+l_capnp_2g:;
+    return common_hy;
+}
+
 bool capnp_layout_open(const struct capnp_segment *list, size_t count, struct capnp_segments *to)
 {
     u8 *a_1 = (u8 *)list;
@@ -515,6 +4384,623 @@ l_arm_7c:;
     r_5k = 1u;
 l_capnp_6l:;
     return r_5k;
+}
+
+uint32_t capnp_layout_get_struct(uint8_t *bytes, size_t room, uint32_t *used, uint64_t place, uint16_t index, uint16_t data_words,
+                                 uint16_t pointers, struct capnp_struct_at *inner)
+{
+    u8 *a_1 = (u8 *)bytes;
+    u64 a_2 = (u64)room;
+    u8 *a_3 = (u8 *)used;
+    u64 a_4 = (u64)place;
+    u16 a_5 = (u16)index;
+    u16 a_6 = (u16)data_words;
+    u16 a_7 = (u16)pointers;
+    u8 *a_8 = (u8 *)inner;
+    A(4) u8 slot_1[16];
+    A(8) u8 slot_2[24];
+    A(8) u8 slot_3[32];
+    u8 *r_8z;
+    u8 *r_sl;
+    u8 *r_bf;
+    u32 r_iy;
+    u64 r_cy;
+    u64 r_24;
+    u32 r_w0_1;
+    u8 *r_zd;
+    u64 r_24_1;
+    u64 r_qw;
+    u64 switch_f9;
+    u64 r_lc_2;
+    u64 r_3h;
+    u32 r_12;
+    u64 r_ep;
+    u64 r_y6;
+    u16 r_a6;
+    u16 r_ka;
+    u32 r_yg;
+    u32 r_qx;
+    u32 r_z4;
+    u32 r_uq_3;
+    u16 r_ej;
+    u16 r_hb;
+    u32 r_dn;
+    u8 r_xl;
+    u32 common_43;
+    r_8z = away(a_1, (((uptr)a_1 == (uptr)((u8 *)0)) ? 4096ull : 0ull));
+    r_sl = (a_8 + 4);
+    r_bf = (a_8 + 6);
+    st64(a_8, 0ull);
+    r_iy = ld32(a_3);
+    r_cy = (u64)(a_4 >> 32ull);
+    u64 r_56 = (u64)(a_4 >> 48ull);
+    r_24 = (u64)r_iy;
+    if (!(((umin64((u64)(a_2 >> 3ull), 0x1fffffffull) >= r_24) ? (((r_56 + (a_4 & 0xffffffffull)) + (r_cy & 65535ull)) <= r_24) : 0u) ? (a_5 < (u16)r_56) : 0u)) { common_43 = 61u; goto l_capnp_gi; }
+    r_w0_1 = (((u32)a_5 + (u32)a_4) + ((u32)r_cy & 65535u));
+    stp(slot_3, r_8z);
+    st64((slot_3 + 8), a_2);
+    r_zd = (slot_3 + 16);
+    st32(r_zd, r_iy);
+    st32((slot_3 + 20), 0u);
+    st64((slot_3 + 24), 0ull);
+    memset(slot_2, 0u, 24);
+    if (!(r_iy > r_w0_1)) goto l_join_px;
+    r_24_1 = (u64)r_w0_1;
+    r_qw = ld64(away(r_8z, (u64)(r_24_1 << 3ull)));
+    if (r_qw == 0ull) goto l_join_px;
+    switch_f9 = (r_qw & 3ull);
+    if (switch_f9 == 2ull) goto l_capnp_q6;
+    u64 r_m6 = ((u64)(r_qw >> 2ull) & 0x3fffffffull);
+    r_lc_2 = ((r_24_1 + 1ull) + r_m6);
+    if (!(r_m6 < 0x20000000ull)) goto l_else_70;
+    if (r_lc_2 > r_24) goto l_capnp_8g;
+    r_3h = r_lc_2;
+    goto l_arm_cj;
+l_else_70:;
+    u64 r_3o = (r_lc_2 + 0xffffffffc0000000ull);
+    if ((r_lc_2 < 0x40000000ull) ? 1u : (r_3o > r_24)) goto l_capnp_8g;
+    r_3h = r_3o;
+l_arm_cj:;
+    r_12 = (u32)r_3h;
+    r_ep = (u64)(r_qw >> 32ull);
+    r_y6 = (u64)(r_qw >> 48ull);
+    if (!(switch_f9 == 0ull)) goto l_capnp_8g;
+    if ((((r_ep & 65535ull) + r_y6) + r_3h) > r_24) goto l_capnp_8g;
+    r_a6 = (u16)r_ep;
+    r_ka = (u16)r_y6;
+    r_yg = r_12;
+    r_qx = 0u;
+    goto l_arm_4z;
+l_capnp_8g:;
+    goto l_capnp_5s;
+l_capnp_q6:;
+    capnp_contents_existing_struct_behind_pad_d7a666d2d35ab297(slot_1, slot_3, r_w0_1, r_qw);
+    u8 t_0q = (ld8(slot_1) == 1u);
+    u32 r_0s = (t_0q ? ld32((slot_1 + 12)) : 0u);
+    if (t_0q) { r_a6 = (u16)r_0s; r_ka = (u16)(u32)(r_0s >> 16u); r_yg = ld32((slot_1 + 8)); r_qx = ld32((slot_1 + 4)); goto l_arm_4z; }
+    goto l_capnp_5s;
+l_arm_4z:;
+    if (!(u8)((u8)(a_6 <= r_a6) & (u8)(a_7 <= r_ka))) goto l_join_qx;
+    r_ej = r_a6;
+    r_hb = r_ka;
+    r_dn = r_yg;
+    goto l_arm_4x;
+l_join_qx:;
+    capnp_contents_opening_open_narrow_struct_d7a666d2d35ab297(slot_2, slot_3, r_w0_1, r_qx, r_yg, r_a6, r_ka, a_6, a_7);
+    goto l_capnp_zn;
+l_capnp_5s:;
+    r_xl = 21u;
+    goto l_arm_28;
+l_join_px:;
+    capnp_contents_opening_new_struct_d7a666d2d35ab297(slot_2, slot_3, r_w0_1, a_6, a_7);
+l_capnp_zn:;
+    r_z4 = ld32((slot_2 + 8));
+    r_uq_3 = ld32((slot_2 + 12));
+    u8 r_r5 = ld8(slot_2);
+    st32(a_3, ld32(r_zd));
+    if (!(r_r5 == 0u)) { r_xl = (u8)r_z4; goto l_arm_28; }
+    r_ej = (u16)r_uq_3;
+    r_hb = (u16)(u32)(r_uq_3 >> 16u);
+    r_dn = r_z4;
+l_arm_4x:;
+    st32(a_8, r_dn);
+    st16(r_sl, r_ej);
+    st16(r_bf, r_hb);
+    common_43 = 0u;
+    goto l_capnp_gi;
+l_arm_28:;
+    u8 r_lt = r_xl;
+    common_43 = ((r_lt == 0u) ? 1u : ((u32)r_lt + 32u));
+l_capnp_gi:;
+    return common_43;
+}
+
+uint32_t capnp_layout_clear(uint8_t *bytes, size_t room, uint32_t used, uint64_t place, uint16_t index)
+{
+    u8 *a_1 = (u8 *)bytes;
+    u64 a_2 = (u64)room;
+    u32 a_3 = (u32)used;
+    u64 a_4 = (u64)place;
+    u16 a_5 = (u16)index;
+    A(8) u8 slot_1[32];
+    A(8) u8 slot_2[32];
+    u64 r_cy;
+    u32 r_w0_1;
+    u8 *r_2b;
+    u64 r_qw;
+    u32 common_43;
+    r_cy = (u64)(a_4 >> 32ull);
+    u64 r_56 = (u64)(a_4 >> 48ull);
+    u64 r_7l = (u64)a_3;
+    if (!(((umin64((u64)(a_2 >> 3ull), 0x1fffffffull) >= r_7l) ? (((r_56 + (a_4 & 0xffffffffull)) + (r_cy & 65535ull)) <= r_7l) : 0u) ? (a_5 < (u16)r_56) : 0u)) { common_43 = 61u; goto l_capnp_gi; }
+    u8 *r_8z = away(a_1, (((uptr)a_1 == (uptr)((u8 *)0)) ? 4096ull : 0ull));
+    stp(slot_2, r_8z);
+    st64((slot_2 + 8), a_2);
+    st32((slot_2 + 16), a_3);
+    st32((slot_2 + 20), 0u);
+    st64((slot_2 + 24), 0ull);
+    r_w0_1 = (((u32)a_5 + (u32)a_4) + ((u32)r_cy & 65535u));
+    r_2b = away(r_8z, (u64)((u64)r_w0_1 << 3ull));
+    r_qw = ld64(r_2b);
+    if (r_qw == 0ull) goto l_typed_8g;
+    capnp_making_landing_follow_d7a666d2d35ab297(slot_1, slot_2, 0u, r_w0_1);
+    st64(r_2b, 0ull);
+    if (!(ld8(slot_1) == 1u)) goto l_typed_8g;
+    capnp_making_zeroing_zero_target_d7a666d2d35ab297(slot_2, (slot_1 + 8));
+    if (!((r_qw & 3ull) == 2ull)) goto l_typed_8g;
+    capnp_making_zeroing_zero_far_pads_d7a666d2d35ab297(slot_2, r_qw);
+l_typed_8g:;
+    common_43 = 0u;
+l_capnp_gi:;
+    return common_43;
+}
+
+uint32_t capnp_layout_set_bool(uint8_t *bytes, size_t room, uint32_t used, uint64_t place, uint32_t offset, bool value)
+{
+    u8 *a_1 = (u8 *)bytes;
+    u64 a_2 = (u64)room;
+    u32 a_3 = (u32)used;
+    u64 a_4 = (u64)place;
+    u32 a_5 = (u32)offset;
+    u8 a_6 = (u8)value;
+    u8 *r_8z;
+    u64 r_cy;
+    u64 r_cq;
+    u8 *r_8a;
+    u8 r_o9;
+    u8 storemerge_ur;
+    u32 common_hy;
+    r_8z = away(a_1, (((uptr)a_1 == (uptr)((u8 *)0)) ? 4096ull : 0ull));
+    r_cy = (u64)(a_4 >> 32ull);
+    u64 r_7l = (u64)a_3;
+    r_cq = (a_4 & 0xffffffffull);
+    if (!((umin64((u64)(a_2 >> 3ull), 0x1fffffffull) >= r_7l) ? ((((u64)(a_4 >> 48ull) + r_cq) + (r_cy & 65535ull)) <= r_7l) : 0u)) { common_hy = 61u; goto l_capnp_2g; }
+    if (!(((u32)((u32)r_cy << 6u) & 0x3fffc0u) > a_5)) { common_hy = 61u; goto l_capnp_2g; }
+    r_8a = away(away(r_8z, (u64)(r_cq << 3ull)), (u64)(u32)(a_5 >> 3u));
+    r_o9 = (u8)((u32)1u << ((u8)((u8)a_5 & 7u) & 7u));
+    if (!a_6) goto l_else_8b;
+    storemerge_ur = (u8)(ld8(r_8a) | r_o9);
+    goto l_capnp_rd;
+l_else_8b:;
+    storemerge_ur = (u8)(ld8(r_8a) & (u8)(r_o9 ^ 255u));
+l_capnp_rd:;
+    st8(r_8a, storemerge_ur);
+    common_hy = 0u;
+l_capnp_2g:;
+    return common_hy;
+}
+
+uint32_t capnp_layout_set_capability(uint8_t *bytes, size_t room, uint32_t used, uint64_t place, uint16_t index, uint32_t capability)
+{
+    u8 *a_1 = (u8 *)bytes;
+    u64 a_2 = (u64)room;
+    u32 a_3 = (u32)used;
+    u64 a_4 = (u64)place;
+    u16 a_5 = (u16)index;
+    u32 a_6 = (u32)capability;
+    A(8) u8 slot_1[32];
+    A(8) u8 slot_2[32];
+    u64 r_cy;
+    u32 r_w0_1;
+    u8 *r_2b;
+    u64 r_qw;
+    u32 common_43;
+    r_cy = (u64)(a_4 >> 32ull);
+    u64 r_56 = (u64)(a_4 >> 48ull);
+    u64 r_7l = (u64)a_3;
+    if (!(((umin64((u64)(a_2 >> 3ull), 0x1fffffffull) >= r_7l) ? (((r_56 + (a_4 & 0xffffffffull)) + (r_cy & 65535ull)) <= r_7l) : 0u) ? (a_5 < (u16)r_56) : 0u)) { common_43 = 61u; goto l_capnp_gi; }
+    u8 *r_8z = away(a_1, (((uptr)a_1 == (uptr)((u8 *)0)) ? 4096ull : 0ull));
+    stp(slot_2, r_8z);
+    st64((slot_2 + 8), a_2);
+    st32((slot_2 + 16), a_3);
+    st32((slot_2 + 20), 0u);
+    st64((slot_2 + 24), 0ull);
+    r_w0_1 = (((u32)a_5 + (u32)a_4) + ((u32)r_cy & 65535u));
+    r_2b = away(r_8z, (u64)((u64)r_w0_1 << 3ull));
+    r_qw = ld64(r_2b);
+    if (r_qw == 0ull) goto l_typed_5c;
+    capnp_making_landing_follow_d7a666d2d35ab297(slot_1, slot_2, 0u, r_w0_1);
+    st64(r_2b, 0ull);
+    if (!(ld8(slot_1) == 1u)) goto l_typed_5c;
+    capnp_making_zeroing_zero_target_d7a666d2d35ab297(slot_2, (slot_1 + 8));
+    if (!((r_qw & 3ull) == 2ull)) goto l_typed_5c;
+    capnp_making_zeroing_zero_far_pads_d7a666d2d35ab297(slot_2, r_qw);
+l_typed_5c:;
+    st64(r_2b, ((u64)((u64)a_6 << 32ull) | 3ull));
+    common_43 = 0u;
+l_capnp_gi:;
+    return common_43;
+}
+
+uint32_t capnp_layout_set_data(uint8_t *bytes, size_t room, uint32_t *used, uint64_t place, uint16_t index, const uint8_t *data,
+                               size_t size)
+{
+    u8 *a_1 = (u8 *)bytes;
+    u64 a_2 = (u64)room;
+    u8 *a_3 = (u8 *)used;
+    u64 a_4 = (u64)place;
+    u16 a_5 = (u16)index;
+    u8 *a_6 = (u8 *)data;
+    u64 a_7 = (u64)size;
+    A(8) u8 slot_1[32];
+    A(8) u8 slot_2[32];
+    u8 *r_8z;
+    u8 *r_8z_1;
+    u32 r_73;
+    u32 r_4r;
+    u32 r_iy;
+    u64 a_yf;
+    u64 r_24;
+    u32 r_9r;
+    u32 common_49;
+    u32 r_w0_1;
+    u8 *r_2b;
+    u64 r_qw;
+    u64 r_se;
+    u32 r_12;
+    u64 r_z6_1;
+    u8 *r_2b_1;
+    u32 r_w0_2;
+    u64 r_pe;
+    u64 r_il;
+    u32 common_43;
+    r_8z = away(a_1, (((uptr)a_1 == (uptr)((u8 *)0)) ? 4096ull : 0ull));
+    r_8z_1 = away(a_6, (((uptr)a_6 == (uptr)((u8 *)0)) ? 4096ull : 0ull));
+    r_73 = (u32)a_4;
+    u64 r_cy = (u64)(a_4 >> 32ull);
+    r_4r = (u32)r_cy;
+    r_iy = ld32(a_3);
+    u64 r_56 = (u64)(a_4 >> 48ull);
+    a_yf = umin64((u64)(a_2 >> 3ull), 0x1fffffffull);
+    r_24 = (u64)r_iy;
+    if (((a_yf >= r_24) ? (((r_56 + (a_4 & 0xffffffffull)) + (r_cy & 65535ull)) <= r_24) : 0u) ? (a_5 < (u16)r_56) : 0u) goto l_join_ja;
+    common_43 = 61u;
+    goto l_capnp_gi;
+l_common_jg:;
+    st32(a_3, r_9r);
+    common_43 = common_49;
+    goto l_capnp_gi;
+l_join_ja:;
+    if (a_7 > 0x1fffffffull) { common_43 = 59u; goto l_capnp_gi; }
+    stp(slot_2, r_8z);
+    st64((slot_2 + 8), a_2);
+    st32((slot_2 + 16), r_iy);
+    st32((slot_2 + 20), 0u);
+    st64((slot_2 + 24), 0ull);
+    r_w0_1 = (((u32)a_5 + r_73) + (r_4r & 65535u));
+    r_2b = away(r_8z, (u64)((u64)r_w0_1 << 3ull));
+    r_qw = ld64(r_2b);
+    if (r_qw == 0ull) goto l_capnp_y1;
+    capnp_making_landing_follow_d7a666d2d35ab297(slot_1, slot_2, 0u, r_w0_1);
+    st64(r_2b, 0ull);
+    if (!(ld8(slot_1) == 1u)) goto l_capnp_y1;
+    capnp_making_zeroing_zero_target_d7a666d2d35ab297(slot_2, (slot_1 + 8));
+    if (!((r_qw & 3ull) == 2ull)) goto l_capnp_y1;
+    capnp_making_zeroing_zero_far_pads_d7a666d2d35ab297(slot_2, r_qw);
+l_capnp_y1:;
+    r_se = (u64)(((u64)(a_7 << 3ull) + 63ull) >> 6ull);
+    r_12 = (u32)r_se;
+    if (((u32)a_yf - r_iy) < r_12) { r_9r = r_iy; common_49 = 1u; goto l_common_jg; }
+    r_z6_1 = (u64)(r_se << 3ull);
+    r_2b_1 = away(r_8z, (u64)(r_24 << 3ull));
+    if (a_7 < 57ull) goto l_then_08;
+    memset_or_none(r_2b_1, 0u, r_z6_1);
+    goto l_arm_x0;
+l_then_08:;
+    if (!(a_7 > 24ull)) goto l_else_1i;
+    memset(r_2b_1, 0, 32);
+    memset(away(away(r_2b_1, r_z6_1), 0xffffffffffffffe0ull), 0, 32);
+    goto l_arm_x0;
+l_else_1i:;
+    if (!(a_7 > 8ull)) goto l_else_we;
+    memset(r_2b_1, 0, 16);
+    memset(away(away(r_2b_1, r_z6_1), 0xfffffffffffffff0ull), 0, 16);
+    goto l_arm_x0;
+l_else_we:;
+    if (r_se == 0ull) goto l_arm_x0;
+    memset(r_2b_1, 0, 8);
+    memset(away(away(r_2b_1, r_z6_1), 0xfffffffffffffff8ull), 0, 8);
+l_arm_x0:;
+    r_w0_2 = (r_iy + r_12);
+    st64(r_2b, (((u64)(a_7 << 35ull) | (u64)(u32)((r_iy + (r_w0_1 ^ 0xffffffffu)) << 2u)) | 0x200000001ull));
+    if (a_7 == 0ull) { r_9r = r_w0_2; common_49 = 0u; goto l_common_jg; }
+    if (!(a_7 < 64ull)) goto l_else_bo;
+    if (!(a_7 > 31ull)) goto l_else_5w;
+    mv32(r_2b_1, r_8z_1);
+    u64 r_l6 = (a_7 + 0xffffffffffffffe0ull);
+    mv32((r_2b_1 + (i64)(r_l6)), (r_8z_1 + (i64)(r_l6)));
+    r_9r = r_w0_2;
+    common_49 = 0u;
+    goto l_common_jg;
+l_else_5w:;
+    if (!(a_7 > 15ull)) goto l_else_t1;
+    mv16(r_2b_1, r_8z_1);
+    u64 r_8y = (a_7 + 0xfffffffffffffff0ull);
+    mv16((r_2b_1 + (i64)(r_8y)), (r_8z_1 + (i64)(r_8y)));
+    r_9r = r_w0_2;
+    common_49 = 0u;
+    goto l_common_jg;
+l_else_t1:;
+    if (!(a_7 > 7ull)) { r_pe = 0ull; goto l_join_pp; }
+    mv8(r_2b_1, r_8z_1);
+    u64 r_t8 = (a_7 + 0xfffffffffffffff8ull);
+    mv8((r_2b_1 + (i64)(r_t8)), (r_8z_1 + (i64)(r_t8)));
+    r_9r = r_w0_2;
+    common_49 = 0u;
+    goto l_common_jg;
+l_join_pp:;
+    st8((r_2b_1 + (i64)(r_pe)), ld8((r_8z_1 + (i64)(r_pe))));
+    u64 r_c4 = (r_pe + 1ull);
+    if (r_c4 == a_7) { r_9r = r_w0_2; common_49 = 0u; goto l_common_jg; }
+    r_pe = r_c4;
+    goto l_join_pp;
+l_else_bo:;
+    if (((u64)(uptr)r_2b_1 - (u64)(uptr)r_8z_1) < a_7) { r_il = 0ull; goto l_join_fh; }
+    memmove_or_none(r_2b_1, r_8z_1, a_7);
+    r_9r = r_w0_2;
+    common_49 = 0u;
+    goto l_common_jg;
+l_join_fh:;
+    st8((r_2b_1 + (i64)(r_il)), ld8((r_8z_1 + (i64)(r_il))));
+    u64 r_c4_1 = (r_il + 1ull);
+    if (r_c4_1 == a_7) { r_9r = r_w0_2; common_49 = 0u; goto l_common_jg; }
+    r_il = r_c4_1;
+    goto l_join_fh;
+l_capnp_gi:;
+    return common_43;
+}
+
+uint32_t capnp_layout_set_text(uint8_t *bytes, size_t room, uint32_t *used, uint64_t place, uint16_t index, const uint8_t *text,
+                               size_t size)
+{
+    u8 *a_1 = (u8 *)bytes;
+    u64 a_2 = (u64)room;
+    u8 *a_3 = (u8 *)used;
+    u64 a_4 = (u64)place;
+    u16 a_5 = (u16)index;
+    u8 *a_6 = (u8 *)text;
+    u64 a_7 = (u64)size;
+    A(8) u8 slot_1[32];
+    A(8) u8 slot_2[32];
+    u8 *r_8z;
+    u8 *r_8z_1;
+    u32 r_73;
+    u32 r_4r;
+    u32 r_iy;
+    u64 a_yf;
+    u64 r_24;
+    u32 r_9r;
+    u32 common_49;
+    u32 r_w0_1;
+    u64 r_1p;
+    u8 *r_2b;
+    u64 r_qw;
+    u64 r_se;
+    u32 r_12;
+    u64 r_z6_2;
+    u8 *r_2b_1;
+    u8 *t_2b;
+    u32 r_w0_2;
+    u64 r_pe;
+    u64 r_il;
+    u32 common_43;
+    r_8z = away(a_1, (((uptr)a_1 == (uptr)((u8 *)0)) ? 4096ull : 0ull));
+    r_8z_1 = away(a_6, (((uptr)a_6 == (uptr)((u8 *)0)) ? 4096ull : 0ull));
+    r_73 = (u32)a_4;
+    u64 r_cy = (u64)(a_4 >> 32ull);
+    r_4r = (u32)r_cy;
+    r_iy = ld32(a_3);
+    u64 r_56 = (u64)(a_4 >> 48ull);
+    a_yf = umin64((u64)(a_2 >> 3ull), 0x1fffffffull);
+    r_24 = (u64)r_iy;
+    if (((a_yf >= r_24) ? (((r_56 + (a_4 & 0xffffffffull)) + (r_cy & 65535ull)) <= r_24) : 0u) ? (a_5 < (u16)r_56) : 0u) goto l_join_jc;
+    common_43 = 61u;
+    goto l_capnp_gi;
+l_common_jg:;
+    st32(a_3, r_9r);
+    common_43 = common_49;
+    goto l_capnp_gi;
+l_join_jc:;
+    if (a_7 > 0x1ffffffeull) { common_43 = 59u; goto l_capnp_gi; }
+    stp(slot_2, r_8z);
+    st64((slot_2 + 8), a_2);
+    st32((slot_2 + 16), r_iy);
+    st32((slot_2 + 20), 0u);
+    st64((slot_2 + 24), 0ull);
+    r_w0_1 = (((u32)a_5 + r_73) + (r_4r & 65535u));
+    r_1p = (a_7 + 1ull);
+    r_2b = away(r_8z, (u64)((u64)r_w0_1 << 3ull));
+    r_qw = ld64(r_2b);
+    if (r_qw == 0ull) goto l_capnp_g2;
+    capnp_making_landing_follow_d7a666d2d35ab297(slot_1, slot_2, 0u, r_w0_1);
+    st64(r_2b, 0ull);
+    if (!(ld8(slot_1) == 1u)) goto l_capnp_g2;
+    capnp_making_zeroing_zero_target_d7a666d2d35ab297(slot_2, (slot_1 + 8));
+    if (!((r_qw & 3ull) == 2ull)) goto l_capnp_g2;
+    capnp_making_zeroing_zero_far_pads_d7a666d2d35ab297(slot_2, r_qw);
+l_capnp_g2:;
+    r_se = (u64)(((u64)(r_1p << 3ull) + 63ull) >> 6ull);
+    r_12 = (u32)r_se;
+    if (((u32)a_yf - r_iy) < r_12) { r_9r = r_iy; common_49 = 1u; goto l_common_jg; }
+    r_z6_2 = (u64)(r_se << 3ull);
+    r_2b_1 = away(r_8z, (u64)(r_24 << 3ull));
+    if (a_7 < 56ull) goto l_then_bm;
+    memset_or_none(r_2b_1, 0u, r_z6_2);
+    goto l_arm_x0;
+l_then_bm:;
+    t_2b = away(r_2b_1, r_z6_2);
+    if (!(a_7 > 23ull)) goto l_else_m0;
+    memset(r_2b_1, 0, 32);
+    memset(away(t_2b, 0xffffffffffffffe0ull), 0, 32);
+    goto l_arm_x0;
+l_else_m0:;
+    if (!(a_7 > 7ull)) goto l_then_5f;
+    memset(r_2b_1, 0, 16);
+    memset(away(t_2b, 0xfffffffffffffff0ull), 0, 16);
+    goto l_arm_x0;
+l_then_5f:;
+    memset(r_2b_1, 0, 8);
+    memset(away(t_2b, 0xfffffffffffffff8ull), 0, 8);
+l_arm_x0:;
+    r_w0_2 = (r_iy + r_12);
+    st64(r_2b, (((u64)(r_1p << 35ull) | (u64)(u32)((r_iy + (r_w0_1 ^ 0xffffffffu)) << 2u)) | 0x200000001ull));
+    if (a_7 == 0ull) { r_9r = r_w0_2; common_49 = 0u; goto l_common_jg; }
+    if (!(a_7 < 64ull)) goto l_else_bo;
+    if (!(a_7 > 31ull)) goto l_else_5w;
+    mv32(r_2b_1, r_8z_1);
+    u64 r_l6 = (a_7 + 0xffffffffffffffe0ull);
+    mv32((r_2b_1 + (i64)(r_l6)), (r_8z_1 + (i64)(r_l6)));
+    r_9r = r_w0_2;
+    common_49 = 0u;
+    goto l_common_jg;
+l_else_5w:;
+    if (!(a_7 > 15ull)) goto l_else_t1;
+    mv16(r_2b_1, r_8z_1);
+    u64 r_8y = (a_7 + 0xfffffffffffffff0ull);
+    mv16((r_2b_1 + (i64)(r_8y)), (r_8z_1 + (i64)(r_8y)));
+    r_9r = r_w0_2;
+    common_49 = 0u;
+    goto l_common_jg;
+l_else_t1:;
+    if (!(a_7 > 7ull)) { r_pe = 0ull; goto l_join_pp; }
+    mv8(r_2b_1, r_8z_1);
+    u64 r_t8 = (a_7 + 0xfffffffffffffff8ull);
+    mv8((r_2b_1 + (i64)(r_t8)), (r_8z_1 + (i64)(r_t8)));
+    r_9r = r_w0_2;
+    common_49 = 0u;
+    goto l_common_jg;
+l_join_pp:;
+    st8((r_2b_1 + (i64)(r_pe)), ld8((r_8z_1 + (i64)(r_pe))));
+    u64 r_c4 = (r_pe + 1ull);
+    if (r_c4 == a_7) { r_9r = r_w0_2; common_49 = 0u; goto l_common_jg; }
+    r_pe = r_c4;
+    goto l_join_pp;
+l_else_bo:;
+    if (((u64)(uptr)r_2b_1 - (u64)(uptr)r_8z_1) < a_7) { r_il = 0ull; goto l_join_fh; }
+    memmove_or_none(r_2b_1, r_8z_1, a_7);
+    r_9r = r_w0_2;
+    common_49 = 0u;
+    goto l_common_jg;
+l_join_fh:;
+    st8((r_2b_1 + (i64)(r_il)), ld8((r_8z_1 + (i64)(r_il))));
+    u64 r_c4_1 = (r_il + 1ull);
+    if (r_c4_1 == a_7) { r_9r = r_w0_2; common_49 = 0u; goto l_common_jg; }
+    r_il = r_c4_1;
+    goto l_join_fh;
+l_capnp_gi:;
+    return common_43;
+}
+
+uint32_t capnp_layout_set_u16(uint8_t *bytes, size_t room, uint32_t used, uint64_t place, uint32_t offset, uint16_t value)
+{
+    u8 *a_1 = (u8 *)bytes;
+    u64 a_2 = (u64)room;
+    u32 a_3 = (u32)used;
+    u64 a_4 = (u64)place;
+    u32 a_5 = (u32)offset;
+    u16 a_6 = (u16)value;
+    u8 *r_8z;
+    u64 r_cy;
+    u64 r_cq;
+    u32 common_hy;
+    r_8z = away(a_1, (((uptr)a_1 == (uptr)((u8 *)0)) ? 4096ull : 0ull));
+    r_cy = (u64)(a_4 >> 32ull);
+    u64 r_7l = (u64)a_3;
+    r_cq = (a_4 & 0xffffffffull);
+    if (!((umin64((u64)(a_2 >> 3ull), 0x1fffffffull) >= r_7l) ? ((((u64)(a_4 >> 48ull) + r_cq) + (r_cy & 65535ull)) <= r_7l) : 0u)) { common_hy = 61u; goto l_capnp_2g; }
+    if (!(((u32)((u32)r_cy << 2u) & 0x3fffcu) > a_5)) { common_hy = 61u; goto l_capnp_2g; }
+    st16(away(away(r_8z, (u64)(r_cq << 3ull)), (u64)((u64)a_5 << 1ull)), a_6);
+    common_hy = 0u;
+l_capnp_2g:;
+    return common_hy;
+}
+
+uint32_t capnp_layout_set_u32(uint8_t *bytes, size_t room, uint32_t used, uint64_t place, uint32_t offset, uint32_t value)
+{
+    u8 *a_1 = (u8 *)bytes;
+    u64 a_2 = (u64)room;
+    u32 a_3 = (u32)used;
+    u64 a_4 = (u64)place;
+    u32 a_5 = (u32)offset;
+    u32 a_6 = (u32)value;
+    u8 *r_8z;
+    u64 r_cy;
+    u64 r_cq;
+    u32 common_hy;
+    r_8z = away(a_1, (((uptr)a_1 == (uptr)((u8 *)0)) ? 4096ull : 0ull));
+    r_cy = (u64)(a_4 >> 32ull);
+    u64 r_7l = (u64)a_3;
+    r_cq = (a_4 & 0xffffffffull);
+    if (!((umin64((u64)(a_2 >> 3ull), 0x1fffffffull) >= r_7l) ? ((((u64)(a_4 >> 48ull) + r_cq) + (r_cy & 65535ull)) <= r_7l) : 0u)) { common_hy = 61u; goto l_capnp_2g; }
+    if (!(((u32)((u32)r_cy << 1u) & 0x1fffeu) > a_5)) { common_hy = 61u; goto l_capnp_2g; }
+    st32(away(away(r_8z, (u64)(r_cq << 3ull)), (u64)((u64)a_5 << 2ull)), a_6);
+    common_hy = 0u;
+l_capnp_2g:;
+    return common_hy;
+}
+
+uint32_t capnp_layout_set_u64(uint8_t *bytes, size_t room, uint32_t used, uint64_t place, uint32_t offset, uint64_t value)
+{
+    u8 *a_1 = (u8 *)bytes;
+    u64 a_2 = (u64)room;
+    u32 a_3 = (u32)used;
+    u64 a_4 = (u64)place;
+    u32 a_5 = (u32)offset;
+    u64 a_6 = (u64)value;
+    u64 r_cq;
+    u32 common_hy;
+    u64 r_cy = (u64)(a_4 >> 32ull);
+    u64 r_7l = (u64)a_3;
+    r_cq = (a_4 & 0xffffffffull);
+    if (!(((umin64((u64)(a_2 >> 3ull), 0x1fffffffull) >= r_7l) ? ((((u64)(a_4 >> 48ull) + r_cq) + (r_cy & 65535ull)) <= r_7l) : 0u) ? (((u32)r_cy & 65535u) > a_5) : 0u)) { common_hy = 61u; goto l_capnp_2g; }
+    st64(away(away(away(a_1, (((uptr)a_1 == (uptr)((u8 *)0)) ? 4096ull : 0ull)), (u64)(r_cq << 3ull)), (u64)((u64)a_5 << 3ull)), a_6);
+    common_hy = 0u;
+l_capnp_2g:;
+    return common_hy;
+}
+
+uint32_t capnp_layout_set_u8(uint8_t *bytes, size_t room, uint32_t used, uint64_t place, uint32_t offset, uint8_t value)
+{
+    u8 *a_1 = (u8 *)bytes;
+    u64 a_2 = (u64)room;
+    u32 a_3 = (u32)used;
+    u64 a_4 = (u64)place;
+    u32 a_5 = (u32)offset;
+    u8 a_6 = (u8)value;
+    u8 *r_8z;
+    u64 r_cy;
+    u64 r_cq;
+    u32 common_hy;
+    r_8z = away(a_1, (((uptr)a_1 == (uptr)((u8 *)0)) ? 4096ull : 0ull));
+    r_cy = (u64)(a_4 >> 32ull);
+    u64 r_7l = (u64)a_3;
+    r_cq = (a_4 & 0xffffffffull);
+    if (!((umin64((u64)(a_2 >> 3ull), 0x1fffffffull) >= r_7l) ? ((((u64)(a_4 >> 48ull) + r_cq) + (r_cy & 65535ull)) <= r_7l) : 0u)) { common_hy = 61u; goto l_capnp_2g; }
+    if (!(((u32)((u32)r_cy << 3u) & 0x7fff8u) > a_5)) { common_hy = 61u; goto l_capnp_2g; }
+    st8(away(away(r_8z, (u64)(r_cq << 3ull)), (u64)a_5), a_6);
+    common_hy = 0u;
+l_capnp_2g:;
+    return common_hy;
 }
 
 uint32_t capnp_layout_open_frame(const uint8_t *frame, size_t size, uint64_t words, struct capnp_segment *room, size_t rooms,
@@ -590,6 +5076,376 @@ l_capnp_2g:;
     return common_hy;
 }
 
+uint32_t capnp_layout_init_list(uint8_t *bytes, size_t room, uint32_t *used, uint64_t place, uint16_t index, uint32_t size,
+                                uint32_t count, uint32_t *first)
+{
+    u8 *a_1 = (u8 *)bytes;
+    u64 a_2 = (u64)room;
+    u8 *a_3 = (u8 *)used;
+    u64 a_4 = (u64)place;
+    u16 a_5 = (u16)index;
+    u32 a_6 = (u32)size;
+    u32 a_7 = (u32)count;
+    u8 *a_8 = (u8 *)first;
+    A(8) u8 slot_1[32];
+    A(8) u8 slot_2[32];
+    u8 *r_8z;
+    u32 r_73;
+    u32 r_4r;
+    u32 r_iy;
+    u64 a_yf;
+    u64 r_24;
+    u8 *a_9r;
+    u32 common_49;
+    u8 switch_y6;
+    u32 r_w0_1;
+    u8 *r_2b;
+    u64 r_qw;
+    u64 r_rp;
+    u32 common_jv;
+    u64 r_z6_1;
+    u8 *r_2b_1;
+    u32 common_43;
+    r_8z = away(a_1, (((uptr)a_1 == (uptr)((u8 *)0)) ? 4096ull : 0ull));
+    r_73 = (u32)a_4;
+    u64 r_cy = (u64)(a_4 >> 32ull);
+    r_4r = (u32)r_cy;
+    st32(a_8, 0u);
+    r_iy = ld32(a_3);
+    u64 r_56 = (u64)(a_4 >> 48ull);
+    a_yf = umin64((u64)(a_2 >> 3ull), 0x1fffffffull);
+    r_24 = (u64)r_iy;
+    if ((u8)((u8)(a_6 > 6u) | (u8)(((a_yf < r_24) ? 1u : (((r_56 + (a_4 & 0xffffffffull)) + (r_cy & 65535ull)) > r_24)) ? 1u : (a_5 >= (u16)r_56)))) { common_43 = 61u; goto l_capnp_gi; }
+    goto l_after_ic;
+l_common_jg:;
+    st32(a_9r, r_iy);
+    common_43 = common_49;
+    goto l_capnp_gi;
+l_after_ic:;
+    if (a_7 > 0x1fffffffu) { common_43 = 59u; goto l_capnp_gi; }
+    switch_y6 = (u8)a_6;
+    stp(slot_2, r_8z);
+    st64((slot_2 + 8), a_2);
+    st32((slot_2 + 16), r_iy);
+    st32((slot_2 + 20), 0u);
+    st64((slot_2 + 24), 0ull);
+    r_w0_1 = (((u32)a_5 + r_73) + (r_4r & 65535u));
+    r_2b = away(r_8z, (u64)((u64)r_w0_1 << 3ull));
+    r_qw = ld64(r_2b);
+    if (r_qw == 0ull) goto l_capnp_vg;
+    capnp_making_landing_follow_d7a666d2d35ab297(slot_1, slot_2, 0u, r_w0_1);
+    st64(r_2b, 0ull);
+    if (!(ld8(slot_1) == 1u)) goto l_capnp_vg;
+    capnp_making_zeroing_zero_target_d7a666d2d35ab297(slot_2, (slot_1 + 8));
+    if (!((r_qw & 3ull) == 2ull)) goto l_capnp_vg;
+    capnp_making_zeroing_zero_far_pads_d7a666d2d35ab297(slot_2, r_qw);
+l_capnp_vg:;
+    switch (switch_y6) {
+    case 6u: { common_jv = a_7; goto l_capnp_nn; }
+    case 0u: { r_rp = 0ull; goto l_capnp_hz; }
+    case 5u: goto l_arm_h9;
+    case 4u: goto l_arm_h9_1;
+    case 1u: goto l_arm_h9_2;
+    case 2u: goto l_arm_h9_3;
+    case 3u: goto l_arm_h9_4;
+    default: goto l_default_e1;
+    }
+l_arm_h9_2:;
+    r_rp = 1ull;
+    goto l_capnp_hz;
+l_arm_h9_3:;
+    r_rp = 8ull;
+    goto l_capnp_hz;
+l_arm_h9_4:;
+    r_rp = 16ull;
+    goto l_capnp_hz;
+l_arm_h9_1:;
+    r_rp = 32ull;
+    goto l_capnp_hz;
+l_arm_h9:;
+    r_rp = 64ull;
+    goto l_capnp_hz;
+l_default_e1:;
+    UNREACHABLE();
+l_capnp_hz:;
+    common_jv = (u32)(u64)(((r_rp * (u64)a_7) + 63ull) >> 6ull);
+l_capnp_nn:;
+    if (common_jv > ((u32)a_yf - r_iy)) goto l_join_aq;
+    r_z6_1 = (u64)((u64)common_jv << 3ull);
+    r_2b_1 = away(r_8z, (u64)(r_24 << 3ull));
+    if (common_jv < 8u) goto l_then_i3;
+    memset_or_none(r_2b_1, 0u, r_z6_1);
+    goto l_arm_bw;
+l_then_i3:;
+    if (!(common_jv > 3u)) goto l_else_2d;
+    memset(r_2b_1, 0, 32);
+    memset(away(away(r_2b_1, r_z6_1), 0xffffffffffffffe0ull), 0, 32);
+    goto l_arm_bw;
+l_else_2d:;
+    if (!(common_jv > 1u)) goto l_else_1i;
+    memset(r_2b_1, 0, 16);
+    memset(away(away(r_2b_1, r_z6_1), 0xfffffffffffffff0ull), 0, 16);
+    goto l_arm_bw;
+l_else_1i:;
+    if (common_jv == 0u) goto l_arm_bw;
+    memset(r_2b_1, 0, 8);
+    memset(away(away(r_2b_1, r_z6_1), 0xfffffffffffffff8ull), 0, 8);
+    goto l_arm_bw;
+l_join_aq:;
+    a_9r = a_3;
+    common_49 = ((common_jv < 0x1fffffffu) ? 1u : 59u);
+    goto l_common_jg;
+l_arm_bw:;
+    st64(r_2b, ((((u64)((u64)a_7 << 35ull) | (u64)((u64)a_6 << 32ull)) | (u64)(u32)((r_iy + (r_w0_1 ^ 0xffffffffu)) << 2u)) | 1ull));
+    st32(a_3, (common_jv + r_iy));
+    a_9r = a_8;
+    common_49 = 0u;
+    goto l_common_jg;
+l_capnp_gi:;
+    return common_43;
+}
+
+uint32_t capnp_layout_init_root(uint8_t *bytes, size_t room, uint32_t *used, uint16_t data_words, uint16_t pointers, uint32_t *at)
+{
+    u8 *a_1 = (u8 *)bytes;
+    u64 a_2 = (u64)room;
+    u8 *a_3 = (u8 *)used;
+    u16 a_4 = (u16)data_words;
+    u16 a_5 = (u16)pointers;
+    u8 *a_6 = (u8 *)at;
+    A(8) u8 slot_1[32];
+    A(8) u8 slot_2[32];
+    u8 *r_8z;
+    u32 r_iy;
+    u64 a_yf;
+    u64 r_24;
+    u64 r_qw;
+    u32 r_68;
+    u64 r_c0;
+    u8 *r_2b;
+    u8 *t_2b;
+    u32 r_wf;
+    u64 storemerge_9j;
+    u32 r_tz;
+    u32 common_43;
+    r_8z = away(a_1, (((uptr)a_1 == (uptr)((u8 *)0)) ? 4096ull : 0ull));
+    st32(a_6, 0u);
+    r_iy = ld32(a_3);
+    a_yf = umin64((u64)(a_2 >> 3ull), 0x1fffffffull);
+    r_24 = (u64)r_iy;
+    if (!(u8)((u8)(r_iy != 0u) & (u8)(a_yf >= r_24))) { common_43 = 61u; goto l_capnp_gi; }
+    stp(slot_2, r_8z);
+    st64((slot_2 + 8), a_2);
+    st32((slot_2 + 16), r_iy);
+    st32((slot_2 + 20), 0u);
+    st64((slot_2 + 24), 0ull);
+    r_qw = ld64(r_8z);
+    if (r_qw == 0ull) goto l_capnp_cx;
+    capnp_making_landing_follow_d7a666d2d35ab297(slot_1, slot_2, 0u, 0u);
+    st64(r_8z, 0ull);
+    if (!(ld8(slot_1) == 1u)) goto l_capnp_cx;
+    capnp_making_zeroing_zero_target_d7a666d2d35ab297(slot_2, (slot_1 + 8));
+    if (!((r_qw & 3ull) == 2ull)) goto l_capnp_cx;
+    capnp_making_zeroing_zero_far_pads_d7a666d2d35ab297(slot_2, r_qw);
+l_capnp_cx:;
+    r_68 = ((u32)a_5 + (u32)a_4);
+    if (r_68 == 0u) { r_wf = r_iy; storemerge_9j = 0xfffffffcull; r_tz = 0u; goto l_arm_o5; }
+    if (r_68 > ((u32)a_yf - r_iy)) goto l_arm_jg;
+    r_c0 = (u64)(u32)(r_68 << 3u);
+    r_2b = away(r_8z, (u64)(r_24 << 3ull));
+    if (r_68 < 8u) goto l_then_5x;
+    memset_or_none(r_2b, 0u, r_c0);
+    goto l_capnp_s4;
+l_then_5x:;
+    t_2b = away(r_2b, r_c0);
+    if (!(r_68 > 3u)) goto l_else_gn;
+    memset(r_2b, 0, 32);
+    memset(away(t_2b, 0xffffffffffffffe0ull), 0, 32);
+    goto l_capnp_s4;
+l_else_gn:;
+    if (r_68 == 1u) goto l_then_qw;
+    memset(r_2b, 0, 16);
+    memset(away(t_2b, 0xfffffffffffffff0ull), 0, 16);
+    goto l_capnp_s4;
+l_then_qw:;
+    memset(r_2b, 0, 8);
+    memset(away(t_2b, 0xfffffffffffffff8ull), 0, 8);
+l_capnp_s4:;
+    r_wf = (r_iy + r_68);
+    storemerge_9j = (((u64)((u64)a_5 << 48ull) | (u64)((u64)a_4 << 32ull)) | (u64)((u32)(r_iy << 2u) + 0xfffffffcu));
+    r_tz = r_iy;
+l_arm_o5:;
+    st64(r_8z, storemerge_9j);
+    st32(a_3, r_wf);
+    st32(a_6, r_tz);
+    common_43 = 0u;
+    goto l_capnp_gi;
+l_arm_jg:;
+    st32(a_3, r_iy);
+    common_43 = 1u;
+l_capnp_gi:;
+    return common_43;
+}
+
+uint32_t capnp_layout_init_struct(uint8_t *bytes, size_t room, uint32_t *used, uint64_t place, uint16_t index, uint16_t data_words,
+                                  uint16_t pointers, uint32_t *at)
+{
+    u8 *a_1 = (u8 *)bytes;
+    u64 a_2 = (u64)room;
+    u8 *a_3 = (u8 *)used;
+    u64 a_4 = (u64)place;
+    u16 a_5 = (u16)index;
+    u16 a_6 = (u16)data_words;
+    u16 a_7 = (u16)pointers;
+    u8 *a_8 = (u8 *)at;
+    A(8) u8 slot_1[32];
+    A(8) u8 slot_2[32];
+    u8 *r_8z;
+    u32 r_iy;
+    u64 r_cy;
+    u64 a_yf;
+    u64 r_24;
+    u32 r_w0_1;
+    u8 *r_2b;
+    u64 r_qw;
+    u32 r_68;
+    u64 r_c0;
+    u8 *r_2b_1;
+    u8 *t_2b;
+    u32 r_wf;
+    u64 storemerge_9j;
+    u32 r_tz;
+    u32 common_43;
+    r_8z = away(a_1, (((uptr)a_1 == (uptr)((u8 *)0)) ? 4096ull : 0ull));
+    st32(a_8, 0u);
+    r_iy = ld32(a_3);
+    r_cy = (u64)(a_4 >> 32ull);
+    u64 r_56 = (u64)(a_4 >> 48ull);
+    a_yf = umin64((u64)(a_2 >> 3ull), 0x1fffffffull);
+    r_24 = (u64)r_iy;
+    if (!(((a_yf >= r_24) ? (((r_56 + (a_4 & 0xffffffffull)) + (r_cy & 65535ull)) <= r_24) : 0u) ? (a_5 < (u16)r_56) : 0u)) { common_43 = 61u; goto l_capnp_gi; }
+    stp(slot_2, r_8z);
+    st64((slot_2 + 8), a_2);
+    st32((slot_2 + 16), r_iy);
+    st32((slot_2 + 20), 0u);
+    st64((slot_2 + 24), 0ull);
+    r_w0_1 = (((u32)a_5 + (u32)a_4) + ((u32)r_cy & 65535u));
+    r_2b = away(r_8z, (u64)((u64)r_w0_1 << 3ull));
+    r_qw = ld64(r_2b);
+    if (r_qw == 0ull) goto l_capnp_cx;
+    capnp_making_landing_follow_d7a666d2d35ab297(slot_1, slot_2, 0u, r_w0_1);
+    st64(r_2b, 0ull);
+    if (!(ld8(slot_1) == 1u)) goto l_capnp_cx;
+    capnp_making_zeroing_zero_target_d7a666d2d35ab297(slot_2, (slot_1 + 8));
+    if (!((r_qw & 3ull) == 2ull)) goto l_capnp_cx;
+    capnp_making_zeroing_zero_far_pads_d7a666d2d35ab297(slot_2, r_qw);
+l_capnp_cx:;
+    r_68 = ((u32)a_7 + (u32)a_6);
+    if (r_68 == 0u) { r_wf = r_iy; storemerge_9j = 0xfffffffcull; r_tz = r_w0_1; goto l_arm_o5; }
+    if (r_68 > ((u32)a_yf - r_iy)) goto l_arm_jg;
+    r_c0 = (u64)(u32)(r_68 << 3u);
+    r_2b_1 = away(r_8z, (u64)(r_24 << 3ull));
+    if (r_68 < 8u) goto l_then_5x;
+    memset_or_none(r_2b_1, 0u, r_c0);
+    goto l_capnp_x0;
+l_then_5x:;
+    t_2b = away(r_2b_1, r_c0);
+    if (!(r_68 > 3u)) goto l_else_gn;
+    memset(r_2b_1, 0, 32);
+    memset(away(t_2b, 0xffffffffffffffe0ull), 0, 32);
+    goto l_capnp_x0;
+l_else_gn:;
+    if (r_68 == 1u) goto l_then_qw;
+    memset(r_2b_1, 0, 16);
+    memset(away(t_2b, 0xfffffffffffffff0ull), 0, 16);
+    goto l_capnp_x0;
+l_then_qw:;
+    memset(r_2b_1, 0, 8);
+    memset(away(t_2b, 0xfffffffffffffff8ull), 0, 8);
+l_capnp_x0:;
+    r_wf = (r_iy + r_68);
+    storemerge_9j = (((u64)((u64)a_7 << 48ull) | (u64)((u64)a_6 << 32ull)) | (u64)(u32)((r_iy + (r_w0_1 ^ 0xffffffffu)) << 2u));
+    r_tz = r_iy;
+l_arm_o5:;
+    st64(r_2b, storemerge_9j);
+    st32(a_3, r_wf);
+    st32(a_8, r_tz);
+    common_43 = 0u;
+    goto l_capnp_gi;
+l_arm_jg:;
+    st32(a_3, r_iy);
+    common_43 = 1u;
+l_capnp_gi:;
+    return common_43;
+}
+
+uint32_t capnp_layout_init_struct_list(uint8_t *bytes, size_t room, uint32_t *used, uint64_t place, uint16_t index, uint32_t count,
+                                       uint16_t data_words, uint16_t pointers, uint32_t *first)
+{
+    u8 *a_1 = (u8 *)bytes;
+    u64 a_2 = (u64)room;
+    u8 *a_3 = (u8 *)used;
+    u64 a_4 = (u64)place;
+    u16 a_5 = (u16)index;
+    u32 a_6 = (u32)count;
+    u16 a_7 = (u16)data_words;
+    u16 a_8 = (u16)pointers;
+    u8 *a_9 = (u8 *)first;
+    A(8) u8 slot_1[32];
+    A(8) u8 slot_2[24];
+    A(8) u8 slot_3[32];
+    u8 *r_8z;
+    u32 r_73;
+    u32 r_4r;
+    u32 r_iy;
+    u8 *r_zd;
+    u32 r_w0_1;
+    u8 *r_2b;
+    u64 r_qw;
+    u64 t_fj;
+    u32 common_43;
+    r_8z = away(a_1, (((uptr)a_1 == (uptr)((u8 *)0)) ? 4096ull : 0ull));
+    r_73 = (u32)a_4;
+    u64 r_cy = (u64)(a_4 >> 32ull);
+    r_4r = (u32)r_cy;
+    st32(a_9, 0u);
+    r_iy = ld32(a_3);
+    u64 r_56 = (u64)(a_4 >> 48ull);
+    u64 r_24 = (u64)r_iy;
+    if (!(((umin64((u64)(a_2 >> 3ull), 0x1fffffffull) >= r_24) ? (((r_56 + (a_4 & 0xffffffffull)) + (r_cy & 65535ull)) <= r_24) : 0u) ? (a_5 < (u16)r_56) : 0u)) { common_43 = 61u; goto l_capnp_gi; }
+    if (a_6 > 0x1fffffffu) { common_43 = 59u; goto l_capnp_gi; }
+    if ((((u64)a_8 + (u64)a_7) * (u64)a_6) > 0x1fffffffull) { common_43 = 59u; goto l_capnp_gi; }
+    stp(slot_3, r_8z);
+    st64((slot_3 + 8), a_2);
+    r_zd = (slot_3 + 16);
+    st32(r_zd, r_iy);
+    st32((slot_3 + 20), 0u);
+    st64((slot_3 + 24), 0ull);
+    r_w0_1 = (((u32)a_5 + r_73) + (r_4r & 65535u));
+    r_2b = away(r_8z, (u64)((u64)r_w0_1 << 3ull));
+    r_qw = ld64(r_2b);
+    if (r_qw == 0ull) goto l_capnp_33;
+    capnp_making_landing_follow_d7a666d2d35ab297(slot_1, slot_3, 0u, r_w0_1);
+    st64(r_2b, 0ull);
+    if (!(ld8(slot_1) == 1u)) goto l_capnp_33;
+    capnp_making_zeroing_zero_target_d7a666d2d35ab297(slot_3, (slot_1 + 8));
+    if (!((r_qw & 3ull) == 2ull)) goto l_capnp_33;
+    capnp_making_zeroing_zero_far_pads_d7a666d2d35ab297(slot_3, r_qw);
+l_capnp_33:;
+    capnp_making_making_make_struct_list_d7a666d2d35ab297(slot_2, slot_3, 0u, r_w0_1, a_6, a_7, a_8);
+    t_fj = ld64((slot_2 + 4));
+    if (!(ld8(slot_2) == 0u)) goto l_arm_px;
+    st32(a_3, ld32(r_zd));
+    st32(a_9, (u32)(u64)(((u64)(t_fj >> 29ull) + 8ull) >> 3ull));
+    common_43 = 0u;
+    goto l_capnp_gi;
+l_arm_px:;
+    st32(a_3, ld32(r_zd));
+    common_43 = (((t_fj & 0xff00000000ull) == 0ull) ? 1u : (((u32)(u64)(t_fj >> 32ull) & 255u) + 32u));
+l_capnp_gi:;
+    return common_43;
+}
+
 uint32_t capnp_layout_capability(const struct capnp_segments *segments, uint64_t segment, uint32_t word, uint32_t *index)
 {
     u8 *a_1 = (u8 *)segments;
@@ -607,7 +5463,7 @@ uint32_t capnp_layout_capability(const struct capnp_segments *segments, uint64_t
     r_qw_1 = ld64((r_2b + 8));
     r_7l = (u64)a_3;
     if (!((u64)(r_qw_1 >> 3ull) > r_7l)) { storemerge_fa = 0u; r_n7 = 54u; goto l_capnp_4d; }
-    r_qw_2 = ld64((((r_qw_1 < 8ull) ? ((u8 *)g_static_0) : ldp(r_2b)) + (i64)((u64)(r_7l << 3ull))));
+    r_qw_2 = ld64(away(((r_qw_1 < 8ull) ? ((u8 *)g_static_4) : ldp(r_2b)), (u64)(r_7l << 3ull)));
     if (r_qw_2 == 0ull) { storemerge_fa = 0u; r_n7 = 54u; goto l_capnp_4d; }
     if (!((r_qw_2 & 0xffffffffull) == 3ull)) { storemerge_fa = 0u; r_n7 = 49u; goto l_capnp_4d; }
     storemerge_fa = (u32)(u64)(r_qw_2 >> 32ull);
@@ -615,6 +5471,167 @@ uint32_t capnp_layout_capability(const struct capnp_segments *segments, uint64_t
 l_capnp_4d:;
     st32(a_4, storemerge_fa);
     return r_n7;
+}
+
+uint32_t capnp_layout_copy(uint8_t *bytes, size_t room, uint32_t *used, uint64_t place, uint16_t index,
+                           const struct capnp_segments *segments, uint64_t *left, uint64_t segment, uint32_t word, int32_t nesting)
+{
+    u8 *a_1 = (u8 *)bytes;
+    u64 a_2 = (u64)room;
+    u8 *a_3 = (u8 *)used;
+    u64 a_4 = (u64)place;
+    u16 a_5 = (u16)index;
+    u8 *a_6 = (u8 *)segments;
+    u8 *a_7 = (u8 *)left;
+    u64 a_8 = (u64)segment;
+    u32 a_9 = (u32)word;
+    u32 a_10 = (u32)nesting;
+    A(8) u8 slot_1[32];
+    A(8) u8 slot_2[24];
+    A(8) u8 slot_3[64];
+    A(8) u8 slot_4[64];
+    A(8) u8 slot_5[64];
+    A(8) u8 slot_6[24];
+    A(8) u8 slot_7[32];
+    u8 *r_8z;
+    u32 r_73;
+    u32 r_4r;
+    u32 r_iy;
+    u8 *r_x5;
+    u8 *r_x5_1;
+    u8 *r_lk;
+    u8 *r_lk_1;
+    u8 *r_89;
+    u8 *r_89_1;
+    u8 *r_a8;
+    u8 *r_a8_1;
+    u8 *r_c4;
+    u8 *r_c4_1;
+    u8 *r_bk;
+    u8 *r_bk_1;
+    u8 *r_x5_2;
+    u8 *r_n3;
+    u64 r_4v;
+    u8 *r_zd_1;
+    u32 r_w0_1;
+    u64 r_z6;
+    u8 *r_2b_1;
+    u64 r_qw_2;
+    u8 *r_3c;
+    u8 *r_gk;
+    u8 *r_h8;
+    u8 *r_il;
+    u8 *r_fr;
+    u8 *r_y0;
+    u8 t_0c;
+    u8 r_r5_1;
+    u8 *r_2b_2;
+    u64 r_qw_3;
+    u8 r_z5;
+    u32 common_ps;
+    r_8z = away(a_1, (((uptr)a_1 == (uptr)((u8 *)0)) ? 4096ull : 0ull));
+    r_73 = (u32)a_4;
+    u64 r_cy = (u64)(a_4 >> 32ull);
+    r_4r = (u32)r_cy;
+    r_iy = ld32(a_3);
+    u64 r_56 = (u64)(a_4 >> 48ull);
+    u64 r_24 = (u64)r_iy;
+    r_x5 = (slot_4 + 8);
+    r_x5_1 = (slot_5 + 8);
+    r_lk = (slot_4 + 24);
+    r_lk_1 = (slot_5 + 24);
+    r_89 = (slot_4 + 32);
+    r_89_1 = (slot_5 + 32);
+    r_a8 = (slot_4 + 40);
+    r_a8_1 = (slot_5 + 40);
+    r_c4 = (slot_4 + 48);
+    r_c4_1 = (slot_5 + 48);
+    r_bk = (slot_4 + 52);
+    r_bk_1 = (slot_5 + 52);
+    if (!(((umin64((u64)(a_2 >> 3ull), 0x1fffffffull) >= r_24) ? (((r_56 + (a_4 & 0xffffffffull)) + (r_cy & 65535ull)) <= r_24) : 0u) ? (a_5 < (u16)r_56) : 0u)) { common_ps = 61u; goto l_capnp_r5; }
+    u64 r_yz = ld64(a_7);
+    st64(slot_6, 1ull);
+    r_x5_2 = (slot_6 + 8);
+    st64(r_x5_2, r_yz);
+    st64((slot_6 + 16), 0ull);
+    if (!(a_8 < ld64((a_6 + 8)))) { r_n3 = ((u8 *)g_static_4); r_4v = 0ull; goto l_capnp_fp; }
+    u8 *r_2b = away(ldp(a_6), (u64)(a_8 << 4ull));
+    u64 r_qw_1 = ld64((r_2b + 8));
+    r_n3 = ((r_qw_1 < 8ull) ? ((u8 *)g_static_4) : ldp(r_2b));
+    r_4v = (r_qw_1 & 0xfffffffffffffff8ull);
+l_capnp_fp:;
+    stp(slot_7, r_8z);
+    st64((slot_7 + 8), a_2);
+    r_zd_1 = (slot_7 + 16);
+    st32(r_zd_1, r_iy);
+    st32((slot_7 + 20), 0u);
+    st64((slot_7 + 24), 0ull);
+    r_w0_1 = (((u32)a_5 + r_73) + (r_4r & 65535u));
+    r_z6 = (u64)((u64)r_w0_1 << 3ull);
+    r_2b_1 = away(r_8z, r_z6);
+    r_qw_2 = ld64(r_2b_1);
+    if (!(r_qw_2 == 0ull)) goto l_join_ic;
+    stp(r_x5, a_6);
+    st64((slot_4 + 16), 0ull);
+    st64(r_lk, a_8);
+    r_3c = r_89;
+    r_gk = r_a8;
+    r_h8 = r_c4;
+    r_il = r_bk;
+    r_fr = r_x5;
+    r_y0 = r_lk;
+    goto l_typed_hu;
+l_join_ic:;
+    capnp_making_landing_follow_d7a666d2d35ab297(slot_1, slot_7, 0u, r_w0_1);
+    st64(r_2b_1, 0ull);
+    if (!(ld8(slot_1) == 1u)) goto l_capnp_41;
+    capnp_making_zeroing_zero_target_d7a666d2d35ab297(slot_7, (slot_1 + 8));
+    if (!((r_qw_2 & 3ull) == 2ull)) goto l_capnp_41;
+    capnp_making_zeroing_zero_far_pads_d7a666d2d35ab297(slot_7, r_qw_2);
+l_capnp_41:;
+    stp(r_x5_1, a_6);
+    st64((slot_5 + 16), 0ull);
+    st64(r_lk_1, a_8);
+    r_3c = r_89_1;
+    r_gk = r_a8_1;
+    r_h8 = r_c4_1;
+    r_il = r_bk_1;
+    r_fr = r_x5_1;
+    r_y0 = r_lk_1;
+l_typed_hu:;
+    stp(r_3c, r_n3);
+    st64(r_gk, r_4v);
+    st32(r_h8, a_9);
+    st32(r_il, 0u);
+    mv16((slot_3 + 8), r_fr);
+    mv32((slot_3 + 24), r_y0);
+    memset(slot_2, 0u, 24);
+    u8 *t_6c = (slot_3 + 56);
+    st64(t_6c, 0ull);
+    st64(slot_3, 0ull);
+    st32(t_6c, a_10);
+    capnp_copies_copy_copy_object_5ec03199cc959fcd(slot_2, slot_7, 0u, r_w0_1, slot_3, slot_6, 0u);
+    t_0c = (ld8(slot_2) == 0u);
+    if (t_0c) { r_z5 = 0u; goto l_capnp_f7; }
+    r_r5_1 = ld8((slot_2 + 8));
+    r_2b_2 = away(ldp(slot_7), r_z6);
+    r_qw_3 = ld64(r_2b_2);
+    if (r_qw_3 == 0ull) goto l_capnp_8g;
+    capnp_making_landing_follow_d7a666d2d35ab297(slot_1, slot_7, 0u, r_w0_1);
+    st64(r_2b_2, 0ull);
+    if (!(ld8(slot_1) == 1u)) goto l_capnp_8g;
+    capnp_making_zeroing_zero_target_d7a666d2d35ab297(slot_7, (slot_1 + 8));
+    if (!((r_qw_3 & 3ull) == 2ull)) goto l_capnp_8g;
+    capnp_making_zeroing_zero_far_pads_d7a666d2d35ab297(slot_7, r_qw_3);
+l_capnp_8g:;
+    r_z5 = r_r5_1;
+l_capnp_f7:;
+    st32(a_3, ld32(r_zd_1));
+    st64(a_7, ((ld8(slot_6) == 1u) ? ld64(r_x5_2) : 0ull));
+    if (t_0c) { common_ps = 0u; goto l_capnp_r5; }
+    common_ps = ((r_z5 == 0u) ? 1u : ((u32)r_z5 + 32u));
+l_capnp_r5:;
+    return common_ps;
 }
 
 uint32_t capnp_layout_data(const struct capnp_segments *segments, uint64_t *left, uint64_t segment, uint32_t word,
@@ -660,17 +5677,17 @@ uint32_t capnp_layout_data(const struct capnp_segments *segments, uint64_t *left
     st64(slot_2, 1ull);
     r_x5 = (slot_2 + 8);
     st64(r_x5, r_yz);
-    if (!(a_3 < ld64((a_1 + 8)))) { r_4e = ((u8 *)g_static_0); r_va = 0ull; goto l_arm_rg; }
+    if (!(a_3 < ld64((a_1 + 8)))) { r_4e = ((u8 *)g_static_4); r_va = 0ull; goto l_arm_rg; }
     u8 *r_2b = away(ldp(a_1), (u64)(a_3 << 4ull));
     u64 r_qw_1 = ld64((r_2b + 8));
-    r_4e = ((r_qw_1 < 8ull) ? ((u8 *)g_static_0) : ldp(r_2b));
+    r_4e = ((r_qw_1 < 8ull) ? ((u8 *)g_static_4) : ldp(r_2b));
     r_va = (r_qw_1 & 0xfffffffffffffff8ull);
 l_arm_rg:;
     r_7l = (u64)a_4;
     r_oz = (u64)(r_va >> 3ull);
-    if (!(r_oz > r_7l)) { static_rz = ((u8 *)g_static_0); sink_9y = 0ull; r_z3 = 0u; goto l_capnp_ld; }
-    r_qw_2 = ld64((r_4e + (i64)((u64)(r_7l << 3ull))));
-    if (r_qw_2 == 0ull) { static_rz = ((u8 *)g_static_0); sink_9y = 0ull; r_z3 = 0u; goto l_capnp_ld; }
+    if (!(r_oz > r_7l)) { static_rz = ((u8 *)g_static_4); sink_9y = 0ull; r_z3 = 0u; goto l_capnp_ld; }
+    r_qw_2 = ld64(away(r_4e, (u64)(r_7l << 3ull)));
+    if (r_qw_2 == 0ull) { static_rz = ((u8 *)g_static_4); sink_9y = 0ull; r_z3 = 0u; goto l_capnp_ld; }
     st64(t_zd, 1ull);
     if ((r_qw_2 & 3ull) == 2ull) goto l_capnp_ng;
     u64 r_m6 = ((u64)(r_qw_2 >> 2ull) & 0x3fffffffull);
@@ -707,7 +5724,7 @@ l_join_hu:;
     if (((u64)(r_an >> 3ull) & 0xffffffffull) < (r_c6 + r_24)) { r_xp = 23ull; goto l_capnp_lw; }
     if (!(ld8(slot_2) == 1u)) goto l_thread_k8;
     r_52 = ld64(r_x5);
-    if (r_52 < r_c6) { sink_t3 = r_52; static_fb = ((u8 *)g_static_0); sink_1d = 0ull; r_gi = 62u; goto l_capnp_95; }
+    if (r_52 < r_c6) { sink_t3 = r_52; static_fb = ((u8 *)g_static_4); sink_1d = 0ull; r_gi = 62u; goto l_capnp_95; }
     goto l_t_7o;
 l_capnp_8g:;
     r_k4 = 23ull;
@@ -722,7 +5739,7 @@ l_thread_k8:;
     goto l_capnp_95;
 l_capnp_lw:;
     sink_t3 = ((ld8(slot_2) == 1u) ? ld64(r_x5) : 0ull);
-    static_fb = ((u8 *)g_static_0);
+    static_fb = ((u8 *)g_static_4);
     sink_1d = 0ull;
     r_gi = ((u32)r_xp + 32u);
     goto l_capnp_95;
@@ -787,7 +5804,7 @@ uint32_t capnp_layout_list(const struct capnp_segments *segments, uint64_t *left
     u32 r_12;
     u32 r_az;
     u32 r_68;
-    u64 r_c0;
+    u64 r_c0_1;
     u64 r_52_1;
     u32 r_12_1;
     u8 r_uz_1;
@@ -827,7 +5844,7 @@ uint32_t capnp_layout_list(const struct capnp_segments *segments, uint64_t *left
     u64 r_ba;
     u64 r_py;
     u32 r_y0_2;
-    u8 *r_c0_3;
+    u8 *r_c0_4;
     u32 t_wt_1;
     u16 r_s1;
     u16 r_uq;
@@ -847,18 +5864,18 @@ uint32_t capnp_layout_list(const struct capnp_segments *segments, uint64_t *left
     st64(slot_2, 1ull);
     r_x5 = (slot_2 + 8);
     st64(r_x5, r_yz);
-    if (!(a_3 < ld64((a_1 + 8)))) { r_r0 = ((u8 *)g_static_0); r_ij = 0ull; goto l_capnp_a5; }
+    if (!(a_3 < ld64((a_1 + 8)))) { r_r0 = ((u8 *)g_static_4); r_ij = 0ull; goto l_capnp_a5; }
     u8 *r_2b = away(ldp(a_1), (u64)(a_3 << 4ull));
     u64 r_qw_1 = ld64((r_2b + 8));
-    r_r0 = ((r_qw_1 < 8ull) ? ((u8 *)g_static_0) : ldp(r_2b));
+    r_r0 = ((r_qw_1 < 8ull) ? ((u8 *)g_static_4) : ldp(r_2b));
     r_ij = (r_qw_1 & 0xfffffffffffffff8ull);
 l_capnp_a5:;
     r_x5_2 = (u8)umin32(a_6, 7u);
     r_7l = (u64)a_4;
     r_oz = (u64)(r_ij >> 3ull);
-    if (!(r_oz > r_7l)) { r_5r = r_yz; r_17 = ((u8 *)g_static_0); r_0x = 0ull; r_v4 = 0ull; r_sg = 0u; r_7g = 0u; r_8y = 0u; r_k1 = 0u; r_z4 = 0x7fffffffu; goto l_arm_7v; }
-    r_qw_2 = ld64((r_r0 + (i64)((u64)(r_7l << 3ull))));
-    if (r_qw_2 == 0ull) { r_5r = r_yz; r_17 = ((u8 *)g_static_0); r_0x = 0ull; r_v4 = 0ull; r_sg = 0u; r_7g = 0u; r_8y = 0u; r_k1 = 0u; r_z4 = 0x7fffffffu; goto l_arm_7v; }
+    if (!(r_oz > r_7l)) { r_5r = r_yz; r_17 = ((u8 *)g_static_4); r_0x = 0ull; r_v4 = 0ull; r_sg = 0u; r_7g = 0u; r_8y = 0u; r_k1 = 0u; r_z4 = 0x7fffffffu; goto l_arm_7v; }
+    r_qw_2 = ld64(away(r_r0, (u64)(r_7l << 3ull)));
+    if (r_qw_2 == 0ull) { r_5r = r_yz; r_17 = ((u8 *)g_static_4); r_0x = 0ull; r_v4 = 0ull; r_sg = 0u; r_7g = 0u; r_8y = 0u; r_k1 = 0u; r_z4 = 0x7fffffffu; goto l_arm_7v; }
     if ((i32)a_5 < (i32)1u) { r_x2 = 28u; goto l_arm_vr; }
     t_al = (u64)(uptr)r_r0;
     st64(t_zd, 1ull);
@@ -916,7 +5933,7 @@ l_join_vn:;
     st64(r_x5, (r_52 - r_c4_1));
 l_arm_ga:;
     if (!(r_gw > r_24)) { r_eh = 0ull; goto l_join_qm; }
-    u64 r_qw_3 = ld64((((u8 *)(uptr)r_qb) + (i64)((u64)(r_24 << 3ull))));
+    u64 r_qw_3 = ld64(away(((u8 *)(uptr)r_qb), (u64)(r_24 << 3ull)));
     if ((r_qw_3 & 3ull) == 0ull) { r_eh = r_qw_3; goto l_join_qm; }
     r_x2 = 11u;
     goto l_arm_vr;
@@ -926,13 +5943,13 @@ l_join_qm:;
     r_12 = (u32)r_y6;
     r_az = ((u32)(u64)(r_eh >> 32ull) & 65535u);
     r_68 = (r_az + r_12);
-    r_c0 = (u64)t_c8;
-    if (r_ij_1 < ((u64)r_68 * r_c0)) { r_x2 = 10u; goto l_arm_vr; }
+    r_c0_1 = (u64)t_c8;
+    if (r_ij_1 < ((u64)r_68 * r_c0_1)) { r_x2 = 10u; goto l_arm_vr; }
     if (!(u8)((u8)t_0q & (u8)(r_68 == 0u))) goto l_arm_8e;
     r_52_1 = ld64(r_x5);
-    if (r_52_1 < r_c0) { r_x2 = 30u; goto l_arm_vr; }
+    if (r_52_1 < r_c0_1) { r_x2 = 30u; goto l_arm_vr; }
     st64(slot_2, 1ull);
-    st64(r_x5, (r_52_1 - r_c0));
+    st64(r_x5, (r_52_1 - r_c0_1));
     goto l_arm_8e;
 l_join_10:;
     r_12_1 = (u32)r_ij_1;
@@ -1106,9 +6123,9 @@ l_arm_15:;
     goto l_arm_7v;
 l_arm_1u:;
     u64 r_es_2 = (u64)(u32)(r_m3 >> 16u);
-    u64 r_c0_2 = (u64)(r_m3 & 65535u);
-    r_ba = ((u64)((u64)r_4e << 3ull) * (r_c0_2 + r_es_2));
-    r_py = (((u64)(r_es_2 << 32ull) | (u64)(r_c0_2 << 16ull)) | 7ull);
+    u64 r_c0_3 = (u64)(r_m3 & 65535u);
+    r_ba = ((u64)((u64)r_4e << 3ull) * (r_c0_3 + r_es_2));
+    r_py = (((u64)(r_es_2 << 32ull) | (u64)(r_c0_3 << 16ull)) | 7ull);
     goto l_arm_2y;
 l_arm_7v:;
     st64(a_2, r_5r);
@@ -1125,16 +6142,16 @@ l_arm_7v:;
     goto l_capnp_1b;
 l_arm_2y:;
     r_y0_2 = (a_5 + 0xffffffffu);
-    r_c0_3 = away(t_f6_1, (u64)((u64)r_ew << 3ull));
+    r_c0_4 = away(t_f6_1, (u64)((u64)r_ew << 3ull));
     st64(a_2, ((r_vp == 1u) ? ld64(r_x5) : 0ull));
     u8 r_a3_1 = (u8)r_py;
     t_wt_1 = (u32)r_py;
     memset(slot_1, 0u, 6);
     r_s1 = ((r_a3_1 == 6u) ? 1u : (u16)(u64)(r_py >> 32ull));
     switch (r_a3_1) {
-    case 0u: { r_uq = r_s1; t_8g = t_wt_1; r_c7 = r_y0_2; r_9e = r_4e; r_jg = r_ew; r_w7 = r_ig; r_0r = r_ba; r_so = r_c0_3; r_bu_1 = 0u; goto l_capnp_1b; }
-    case 6u: { r_uq = r_s1; t_8g = t_wt_1; r_c7 = r_y0_2; r_9e = r_4e; r_jg = r_ew; r_w7 = r_ig; r_0r = r_ba; r_so = r_c0_3; r_bu_1 = 0u; goto l_capnp_1b; }
-    case 7u: { r_uq = r_s1; t_8g = t_wt_1; r_c7 = r_y0_2; r_9e = r_4e; r_jg = r_ew; r_w7 = r_ig; r_0r = r_ba; r_so = r_c0_3; r_bu_1 = 0u; goto l_capnp_1b; }
+    case 0u: { r_uq = r_s1; t_8g = t_wt_1; r_c7 = r_y0_2; r_9e = r_4e; r_jg = r_ew; r_w7 = r_ig; r_0r = r_ba; r_so = r_c0_4; r_bu_1 = 0u; goto l_capnp_1b; }
+    case 6u: { r_uq = r_s1; t_8g = t_wt_1; r_c7 = r_y0_2; r_9e = r_4e; r_jg = r_ew; r_w7 = r_ig; r_0r = r_ba; r_so = r_c0_4; r_bu_1 = 0u; goto l_capnp_1b; }
+    case 7u: { r_uq = r_s1; t_8g = t_wt_1; r_c7 = r_y0_2; r_9e = r_4e; r_jg = r_ew; r_w7 = r_ig; r_0r = r_ba; r_so = r_c0_4; r_bu_1 = 0u; goto l_capnp_1b; }
     case 1u: goto l_arm_h9_7;
     case 2u: goto l_arm_h9_8;
     case 3u: goto l_arm_h9_9;
@@ -1150,7 +6167,7 @@ l_arm_h9_7:;
     r_jg = r_ew;
     r_w7 = r_ig;
     r_0r = r_ba;
-    r_so = r_c0_3;
+    r_so = r_c0_4;
     r_bu_1 = 1u;
     goto l_capnp_1b;
 l_arm_h9_8:;
@@ -1161,7 +6178,7 @@ l_arm_h9_8:;
     r_jg = r_ew;
     r_w7 = r_ig;
     r_0r = r_ba;
-    r_so = r_c0_3;
+    r_so = r_c0_4;
     r_bu_1 = 8u;
     goto l_capnp_1b;
 l_arm_h9_9:;
@@ -1172,7 +6189,7 @@ l_arm_h9_9:;
     r_jg = r_ew;
     r_w7 = r_ig;
     r_0r = r_ba;
-    r_so = r_c0_3;
+    r_so = r_c0_4;
     r_bu_1 = 16u;
     goto l_capnp_1b;
 l_arm_h9_10:;
@@ -1183,7 +6200,7 @@ l_arm_h9_10:;
     r_jg = r_ew;
     r_w7 = r_ig;
     r_0r = r_ba;
-    r_so = r_c0_3;
+    r_so = r_c0_4;
     r_bu_1 = 32u;
     goto l_capnp_1b;
 l_arm_h9_11:;
@@ -1194,7 +6211,7 @@ l_arm_h9_11:;
     r_jg = r_ew;
     r_w7 = r_ig;
     r_0r = r_ba;
-    r_so = r_c0_3;
+    r_so = r_c0_4;
     r_bu_1 = 64u;
     goto l_capnp_1b;
 l_noarm_e1_1:;
@@ -1214,7 +6231,7 @@ l_capnp_1b:;
     goto l_capnp_d8;
 l_arm_vr:;
     st64(a_2, ((ld8(slot_2) == 1u) ? ld64(r_x5) : 0ull));
-    stp(a_7, ((u8 *)g_static_0));
+    stp(a_7, ((u8 *)g_static_4));
     memset((a_7 + 8), 0u, 40);
     r_v2 = ((u32)r_x2 + 32u);
 l_capnp_d8:;
@@ -1241,20 +6258,20 @@ uint32_t capnp_layout_root(const struct capnp_segments *segments, uint64_t *left
     u32 a_3 = (u32)nesting;
     u8 *a_4 = (u8 *)to;
     u64 r_yz;
-    u32 r_mf;
+    u32 r_j2;
     u32 r_gw;
     r_yz = ld64(a_2);
-    if (ld64((a_1 + 8)) == 0ull) { r_mf = 44u; goto l_arm_ln; }
-    if (ld64((ldp(a_1) + 8)) < 8ull) { r_mf = 55u; goto l_arm_ln; }
-    if (r_yz == 0ull) { r_mf = 62u; goto l_arm_ln; }
+    if (ld64((a_1 + 8)) == 0ull) { r_j2 = 44u; goto l_arm_fs; }
+    if (ld64((ldp(a_1) + 8)) < 8ull) { r_j2 = 55u; goto l_arm_fs; }
+    if (r_yz == 0ull) { r_j2 = 62u; goto l_arm_fs; }
     st64(a_2, (r_yz + 0xffffffffffffffffull));
     u32 r_04 = capnp_layout_c_capnp_layout_struct(a_1, a_2, 0ull, 0u, a_3, a_4);
     r_gw = r_04;
     goto l_capnp_ti;
-l_arm_ln:;
-    stp(a_4, ((u8 *)g_static_0));
+l_arm_fs:;
+    stp(a_4, ((u8 *)g_static_4));
     memset((a_4 + 8), 0u, 32);
-    r_gw = r_mf;
+    r_gw = r_j2;
 l_capnp_ti:;
     return r_gw;
 }
@@ -1304,17 +6321,17 @@ uint32_t capnp_layout_text(const struct capnp_segments *segments, uint64_t *left
     st64(slot_2, 1ull);
     r_x5 = (slot_2 + 8);
     st64(r_x5, r_yz);
-    if (!(a_3 < ld64((a_1 + 8)))) { r_jg = ((u8 *)g_static_0); r_hg = 0ull; goto l_arm_cr; }
+    if (!(a_3 < ld64((a_1 + 8)))) { r_jg = ((u8 *)g_static_4); r_hg = 0ull; goto l_arm_cr; }
     u8 *r_2b = away(ldp(a_1), (u64)(a_3 << 4ull));
     u64 r_qw_1 = ld64((r_2b + 8));
-    r_jg = ((r_qw_1 < 8ull) ? ((u8 *)g_static_0) : ldp(r_2b));
+    r_jg = ((r_qw_1 < 8ull) ? ((u8 *)g_static_4) : ldp(r_2b));
     r_hg = (r_qw_1 & 0xfffffffffffffff8ull);
 l_arm_cr:;
     r_7l = (u64)a_4;
     r_oz = (u64)(r_hg >> 3ull);
-    if (!(r_oz > r_7l)) { r_yj = r_yz; r_94 = ((u8 *)g_static_0); r_41 = 0ull; goto l_arm_2r; }
-    r_qw_2 = ld64((r_jg + (i64)((u64)(r_7l << 3ull))));
-    if (r_qw_2 == 0ull) { r_yj = r_yz; r_94 = ((u8 *)g_static_0); r_41 = 0ull; goto l_arm_2r; }
+    if (!(r_oz > r_7l)) { r_yj = r_yz; r_94 = ((u8 *)g_static_4); r_41 = 0ull; goto l_arm_2r; }
+    r_qw_2 = ld64(away(r_jg, (u64)(r_7l << 3ull)));
+    if (r_qw_2 == 0ull) { r_yj = r_yz; r_94 = ((u8 *)g_static_4); r_41 = 0ull; goto l_arm_2r; }
     st64(t_zd, 1ull);
     if ((r_qw_2 & 3ull) == 2ull) goto l_capnp_b3;
     u64 r_m6 = ((u64)(r_qw_2 >> 2ull) & 0x3fffffffull);
@@ -1363,7 +6380,7 @@ l_arm_ka:;
     if (r_ij == 0ull) { r_x2 = 24u; goto l_arm_vr; }
     u64 r_19 = (r_ij + 0xffffffffull);
     r_nb_2 = (r_19 & 0xffffffffull);
-    if ((ld64((r_y1 + (i64)(((r_nb_2 + t_z6) & 0xffffffff8ull)))) & (u64)(255ull << (((u64)(r_19 << 3ull) & 56ull) & 63u))) == 0ull) goto l_arm_0m;
+    if ((ld64(away(r_y1, ((r_nb_2 + t_z6) & 0xffffffff8ull))) & (u64)(255ull << (((u64)(r_19 << 3ull) & 56ull) & 63u))) == 0ull) goto l_arm_0m;
     r_x2 = 24u;
     goto l_arm_vr;
 l_capnp_f1:;
@@ -1381,7 +6398,7 @@ l_arm_2r:;
     goto l_capnp_12;
 l_arm_vr:;
     st64(a_2, ((ld8(slot_2) == 1u) ? ld64(r_x5) : 0ull));
-    stp(a_5, ((u8 *)g_static_0));
+    stp(a_5, ((u8 *)g_static_4));
     sink_4r = 0ull;
     r_t3 = (r_x2 + 32u);
 l_capnp_12:;
@@ -1424,7 +6441,7 @@ uint32_t capnp_layout_type(const struct capnp_segments *segments, uint64_t *left
     t_gw = (u64)(r_qw_1 >> 3ull);
     r_7l = (u64)a_4;
     if (!(t_gw > r_7l)) { r_x2 = 0u; goto l_capnp_vr; }
-    r_qw_2 = ld64((((r_qw_1 < 8ull) ? ((u8 *)g_static_0) : ldp(r_2b)) + (i64)((u64)(r_7l << 3ull))));
+    r_qw_2 = ld64(away(((r_qw_1 < 8ull) ? ((u8 *)g_static_4) : ldp(r_2b)), (u64)(r_7l << 3ull)));
     if (r_qw_2 == 0ull) { r_x2 = 0u; goto l_capnp_vr; }
     st64(t_zd, 1ull);
     if ((r_qw_2 & 3ull) == 2ull) goto l_capnp_a7;

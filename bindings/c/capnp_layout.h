@@ -617,7 +617,8 @@ CAPNP_LAYOUT_SIZE(capnp_struct_at, 8);
 /* The library's part. The buffer's first `used` words are the message: `bytes` and `room` are its address and its size in
  * bytes. It needn't be aligned or zero. `place` is a struct's, from capnp_place, and `list` a list's, from
  * capnp_list_place. A place that isn't in the message is refused with CAPNP_NO_SUCH_PLACE, and nothing is changed.
- * After CAPNP_NO_ROOM, a call that sets a pointer leaves it null, and one that opens it leaves it unchanged. */
+ * After any other refusal, a call that sets a pointer may leave it null, and does so after CAPNP_NO_ROOM; one that opens
+ * an object leaves it unchanged. */
 uint32_t capnp_layout_start(uint8_t *bytes, size_t room, uint32_t *used);
 uint32_t capnp_layout_init_root(uint8_t *bytes, size_t room, uint32_t *used, uint16_t data_words, uint16_t pointers, uint32_t *at);
 uint32_t capnp_layout_init_struct(uint8_t *bytes, size_t room, uint32_t *used, uint64_t place, uint16_t index, uint16_t data_words,

@@ -1,5 +1,5 @@
 #!/bin/sh
-# run.sh [FOLDER]: tests reading from C: FOLDER/capnp_layout.c, by default that of generated/, and bindings/c/capnp_layout.h.
+# run.sh [FOLDER]: tests reading and building from C: FOLDER/capnp_layout.c, by default that of generated/, and bindings/c/capnp_layout.h.
 # Compiles both with each compiler that is there, for 64 and 32 bits, and for two ARMs, whose programs run in qemu. ROUNDS is the
 # number of mutated messages, by default 20,000 for each part that has any. If the tools for a part are missing, the part is
 # skipped, and a line says so. The last line is `N passed, M failed`.
@@ -71,12 +71,11 @@ runs() {
 # The header, a program over it and the generated C, without a warning.
 header_c() {
     for standard in c99 c11; do
-        for program in edges.c calls.c sound.c defaults.c lists.c print_addressbook.c; do
+        for program in edges.c calls.c sound.c defaults.c lists.c print_addressbook.c build_edges.c build_calls.c rebuild_addressbook.c; do
             # shellcheck disable=SC2086
             "$1" $2 -std=$standard -O1 $warnings $include -c -o "$work/it.o" "$here/$program" || return 1
         done
         for program in reading.c building.c; do
-            [ -f "$top/bindings/c/$program" ] || continue
             # shellcheck disable=SC2086
             "$1" $2 -std=$standard -O1 $warnings $include -c -o "$work/it.o" "$top/bindings/c/$program" || return 1
         done
@@ -87,8 +86,10 @@ header_c() {
 
 header_cpp() {
     for standard in c++11 c++17; do
-        # shellcheck disable=SC2086
-        "$1" -std=$standard -O1 $warnings $include -x c++ -c -o "$work/it.o" "$here/edges.c" || return 1
+        for program in edges.c build_edges.c rebuild_addressbook.c; do
+            # shellcheck disable=SC2086
+            "$1" -std=$standard -O1 $warnings $include -x c++ -c -o "$work/it.o" "$here/$program" || return 1
+        done
     done
 }
 
@@ -161,6 +162,22 @@ books() {
     done
 }
 
+# Random address books, read and built again, also if the buffer grows at each call: `capnp decode` prints the same of them, and
+# the bytes are those of `capnp encode` where that writes one segment.
+rebuilt() {
+    # shellcheck disable=SC2086
+    "$1" $2 -std=gnu11 -O1 -g $sanitizers $include -o "$work/rebuild" "$here/rebuild_addressbook.c" "$folder/capnp_layout.c" || return 1
+    for seed in 1 2 3 4 5 6 7 8 9 10; do
+        python3 "$here/book.py" $seed $((seed * seed - 1)) | capnp encode "$top/tests/typed/addressbook.capnp" AddressBook >"$work/book" || return 1
+        decoded "$work/book" >"$work/wanted" || return 1
+        for how in 16 1000000 '16 copy' '1000000 copy'; do
+            # shellcheck disable=SC2086
+            run "$work/rebuild" $how <"$work/book" >"$work/built" && decoded "$work/built" | cmp - "$work/wanted" || return 1
+            if [ "$(od -An -tu4 -N4 "$work/book" | tr -d ' ')" = 0 ]; then cmp "$work/built" "$work/book" || return 1; fi
+        done
+    done
+}
+
 lists() {
     sanitized "$1" "$2" lists <"$work/message" >"$work/said" && diff "$here/lists.txt" "$work/said"
 }
@@ -184,6 +201,8 @@ parts_with() {
     summed "$called, edges" sanitized "$compiler" "$flags" edges
     summed "$called, calls" sanitized "$compiler" "$flags" calls "$rounds" "${SEED:-1}"
     summed "$called, validation" sound "$compiler" "$flags"
+    summed "$called, building, edges" sanitized "$compiler" "$flags" build_edges
+    summed "$called, building, calls" sanitized "$compiler" "$flags" build_calls "$rounds" "${SEED:-1}"
     if ! has capnp; then
         skip "$called, messages" capnp
         return
@@ -191,8 +210,11 @@ parts_with() {
     summed "$called, defaults" defaults "$compiler" "$flags"
     part "$called, lists" lists "$compiler" "$flags"
     part "$called, example" example "$compiler" "$flags"
-    if [ -f "$top/bindings/c/building.c" ]; then part "$called, example that builds" example_that_builds "$compiler" "$flags"; fi
-    if has python3; then part "$called, address books" books "$compiler" "$flags"; fi
+    part "$called, example that builds" example_that_builds "$compiler" "$flags"
+    if has python3; then
+        part "$called, address books" books "$compiler" "$flags"
+        part "$called, address books built" rebuilt "$compiler" "$flags"
+    fi
 }
 
 for compiler in gcc clang; do

@@ -202,8 +202,8 @@ def move(size):
     at, loads, stores = 0, [], []
     for width in 8, 4, 2, 1:
         while size - at >= width:
-            loads.append(f'u{8 * width} w{at} = ld{8 * width}({offset("from", at)});')
-            stores.append(f'st{8 * width}({offset("to", at)}, w{at});')
+            loads.append(f'u{8 * width} part{at} = ld{8 * width}({offset("from", at)});')
+            stores.append(f'st{8 * width}({offset("to", at)}, part{at});')
             at += width
     return f'INLINE void mv{size}(u8 *to, const u8 *from) {{ {" ".join(loads + stores)} }}'
 

@@ -20,8 +20,8 @@ class Unknown(Exception):
     """The module has something that isn't known here; the text says what."""
 
 
-# Numbers of widths that C doesn't have, which C keeps in 64 bits. They are moved, truncated, extended, shifted and
-# multiplied; nothing else of them is known.
+# Numbers of widths that C doesn't have, which C keeps in 64 bits, where the other bits are zero. They are moved, truncated,
+# extended, shifted, multiplied and combined bit by bit; nothing else of them is known.
 UNCOUNTED = 'i24', 'i40', 'i48', 'i56'
 
 

@@ -172,6 +172,8 @@ class Writer:
             cut = '' if word == 'lshr' else f' & {hex((1 << bits(kind)) - 1)}ull'
             by = f'* {b}' if word == 'mul' else f'{SHIFTS[word]} ({b} & 63u)'
             return self.define(name, kind, f'(({a} {by}){cut})', reads)
+        if kind in UNCOUNTED and word in ('and', 'or', 'xor'):
+            return self.define(name, kind, f'({a} {BINARY[word]} {b})', reads)
         if not bits(kind) or kind in UNCOUNTED or kind == 'i1' and word not in ('and', 'or', 'xor'):
             raise Unknown('arithmetic')
         if kind == 'i1':

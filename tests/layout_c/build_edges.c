@@ -1,0 +1,266 @@
+/* Tests each function of capnp_layout.h that builds, at its edges: each width at each offset around the end of the data, each
+ * kind of list, each index around the last, defaults, refusals, the room that a refused call wants, opening and widening.
+ * What was built is read again by the functions of the same header that read. Each buffer is a block of its own size, so
+ * that the address sanitizer sees a write outside of it.
+ *
+ *     build_edges
+ *
+ * The last line is `N passed, M failed`. */
+#include <inttypes.h>
+#include <stdio.h>
+#include <stdlib.h>
+
+#include "capnp_layout.h"
+
+static unsigned long passed, failed;
+
+static void expect(bool is_so, const char *what, uint32_t at) {
+    if (is_so) {
+        passed++;
+    } else if (failed++ < 20) {
+        printf("FAILED: %s, at %" PRIu32 "\n", what, at);
+    }
+}
+
+/* A buffer that isn't zero. */
+static uint8_t *block(size_t size) {
+    uint8_t *bytes = (uint8_t *)malloc(size ? size : 1);
+    if (!bytes) abort();
+    memset(bytes, 0xaa, size);
+    return bytes;
+}
+
+/* The message that was built, for reading. */
+static struct capnp_struct read_root(struct capnp_message *message, struct capnp_segment *segment, const struct capnp_builder *built) {
+    segment->bytes = built->bytes;
+    segment->size = 8 * (uint64_t)built->used;
+    capnp_open(message, segment, 1);
+    return capnp_root(message);
+}
+
+#define FIELD(NAME, TYPE, VALUE, MISSING)                                                             \
+    do {                                                                                              \
+        bool is_there = offset % sizeof(TYPE) == 0 && offset + sizeof(TYPE) <= 8u * data_words;       \
+        capnp_start(&message, buffer, size);                                                          \
+        root = capnp_init_root(&message, data_words, 0);                                              \
+        capnp_set_##NAME(&root, offset, VALUE, MISSING);                                              \
+        expect(message.refusal == (is_there ? 0u : (uint32_t)CAPNP_NO_SUCH_PLACE), #NAME, offset);    \
+        read = read_root(&from, &segment, &message);                                                  \
+        if (is_there) expect(capnp_get_##NAME(&read, offset, MISSING) == VALUE, #NAME " read", offset); \
+        if (is_there) expect(capnp_get_##NAME(&read, offset, 0) == (TYPE)(VALUE ^ MISSING), #NAME " without its default", offset); \
+    } while (0)
+
+static void fields(void) {
+    size_t size = 8 + 8 * 5;
+    uint8_t *buffer = block(size);
+    struct capnp_builder message;
+    struct capnp_struct_builder root;
+    struct capnp_message from;
+    struct capnp_segment segment;
+    struct capnp_struct read;
+    uint16_t data_words;
+    uint32_t offset;
+    for (data_words = 0; data_words < 4; data_words++) {
+        for (offset = 0; offset < 8u * data_words + 18; offset++) {
+            FIELD(u8, uint8_t, 0xa5, 0x0f);
+            FIELD(u16, uint16_t, 0xa5c3, 0x1234);
+            FIELD(u32, uint32_t, 0xa5c3f00du, 0x12345678u);
+            FIELD(u64, uint64_t, UINT64_C(0xa5c3f00d12345678), UINT64_C(0x1122334455667788));
+            FIELD(i8, int8_t, -5, 17);
+            FIELD(i16, int16_t, -555, 1717);
+            FIELD(i32, int32_t, -55555, 171717);
+            FIELD(i64, int64_t, INT64_C(-5555555555), INT64_C(1717171717));
+        }
+        for (offset = 0; offset < 64u * data_words + 70; offset++) {
+            bool is_there = offset < 64u * data_words, missing = offset & 1;
+            capnp_start(&message, buffer, size);
+            root = capnp_init_root(&message, data_words, 0);
+            capnp_set_bool(&root, offset, offset % 3 == 0, missing);
+            expect(message.refusal == (is_there ? 0u : (uint32_t)CAPNP_NO_SUCH_PLACE), "bool", offset);
+            read = read_root(&from, &segment, &message);
+            if (is_there) expect(capnp_get_bool(&read, offset, missing) == (offset % 3 == 0), "bool read", offset);
+        }
+    }
+    capnp_start(&message, buffer, size);
+    root = capnp_init_root(&message, 2, 0);
+    capnp_set_f32(&root, 4, 1.5f, 0x3f800000);
+    capnp_set_f64(&root, 8, -2.25, 0);
+    read = read_root(&from, &segment, &message);
+    expect(capnp_get_f32(&read, 4, 0x3f800000) == 1.5f && capnp_get_f64(&read, 8, 0) == -2.25, "floats", 0);
+    for (offset = UINT32_MAX - 9; offset != 0; offset++) {
+        capnp_start(&message, buffer, size);
+        root = capnp_init_root(&message, 3, 0);
+        capnp_set_u8(&root, offset, 1, 0);
+        expect(message.refusal == CAPNP_NO_SUCH_PLACE, "far out", offset);
+    }
+    free(buffer);
+}
+
+#define ELEMENTS(NAME, TYPE, SIZE, VALUE)                                                                   \
+    do {                                                                                                    \
+        capnp_start(&message, buffer, size);                                                                \
+        root = capnp_init_root(&message, 0, 1);                                                             \
+        list = capnp_init_list(&root, 0, SIZE, count);                                                      \
+        for (i = 0; i < count; i++) capnp_set_element_##NAME(&list, i, (TYPE)(VALUE));                      \
+        expect(message.refusal == 0, "list of " #NAME, count);                                              \
+        read = read_root(&from, &segment, &message);                                                        \
+        items = capnp_get_list(&read, 0, SIZE);                                                             \
+        expect(capnp_count(&items) == count, "count of " #NAME, count);                                     \
+        for (i = 0; i < count; i++) expect(capnp_element_##NAME(&items, i) == (TYPE)(VALUE), "element of " #NAME, i); \
+        capnp_set_element_##NAME(&list, count, (TYPE)1);                                                    \
+        expect(message.refusal == CAPNP_NO_SUCH_PLACE, "element after the end of " #NAME, count);           \
+        message.refusal = 0;                                                                                \
+        list.size = CAPNP_VOID;                                                                             \
+        capnp_set_element_##NAME(&list, 0, (TYPE)1);                                                        \
+        expect(message.refusal == CAPNP_NO_SUCH_PLACE, "element of another width", count);                  \
+    } while (0)
+
+static void lists(void) {
+    size_t size = 400;
+    uint8_t *buffer = block(size);
+    struct capnp_builder message;
+    struct capnp_struct_builder root, element;
+    struct capnp_list_builder list;
+    struct capnp_message from;
+    struct capnp_segment segment;
+    struct capnp_struct read;
+    struct capnp_list items;
+    struct capnp_text text;
+    struct capnp_data data;
+    uint32_t count, i;
+    for (count = 0; count < 20; count++) {
+        ELEMENTS(u8, uint8_t, CAPNP_BYTE, i * 37 + 1);
+        ELEMENTS(u16, uint16_t, CAPNP_TWO_BYTES, i * 3777 + 1);
+        ELEMENTS(u32, uint32_t, CAPNP_FOUR_BYTES, i * 377777777u + 1);
+        ELEMENTS(u64, uint64_t, CAPNP_EIGHT_BYTES, i * UINT64_C(3777777777777) + 1);
+        ELEMENTS(i8, int8_t, CAPNP_BYTE, i - 9);
+        ELEMENTS(i16, int16_t, CAPNP_TWO_BYTES, i - 9);
+        ELEMENTS(i32, int32_t, CAPNP_FOUR_BYTES, i - 9);
+        ELEMENTS(i64, int64_t, CAPNP_EIGHT_BYTES, i - UINT64_C(9));
+        ELEMENTS(f32, float, CAPNP_FOUR_BYTES, (float)i * 0.5f);
+        ELEMENTS(f64, double, CAPNP_EIGHT_BYTES, (double)i * 0.25);
+        ELEMENTS(bool, bool, CAPNP_BIT, i % 3 == 0);
+    }
+    capnp_start(&message, buffer, size);
+    root = capnp_init_root(&message, 0, 1);
+    list = capnp_init_list(&root, 0, CAPNP_POINTER, 3);
+    capnp_set_element_text(&list, 0, "text");
+    capnp_set_element_data(&list, 1, "\1\2", 2);
+    element = capnp_builder_element(&list, 2);
+    capnp_init_list(&element, 0, CAPNP_VOID, 5);
+    read = read_root(&from, &segment, &message);
+    items = capnp_get_list(&read, 0, CAPNP_POINTER);
+    text = capnp_element_text(&items, 0);
+    data = capnp_element_data(&items, 1);
+    expect(text.size == 4 && strcmp(text.text, "text") == 0, "text of a list", 0);
+    expect(data.size == 2 && memcmp(data.bytes, "\1\2", 2) == 0, "data of a list", 1);
+    items = capnp_element_list(&items, 2, CAPNP_VOID);
+    expect(capnp_count(&items) == 5 && from.refusal == 0 && message.refusal == 0, "list of a list", 2);
+    element = capnp_builder_element(&list, 3);
+    capnp_set_text(&element, 0, "no");
+    expect(message.refusal == CAPNP_NO_SUCH_PLACE, "pointer after the end", 3);
+    for (i = 0; i < 3; i++) {
+        capnp_start(&message, buffer, size);
+        root = capnp_init_root(&message, 0, 1);
+        if (i == 0) capnp_init_list(&root, 0, CAPNP_BYTE, 0x20000000);
+        if (i == 1) capnp_init_struct_list(&root, 0, 0x20000000, 0, 0);
+        if (i == 2) capnp_init_struct_list(&root, 0, 0x10000, 0x1000, 0x1000);
+        expect(message.refusal == CAPNP_MESSAGE_TOO_LARGE, "a list that is too large", i);
+    }
+    free(buffer);
+}
+
+/* A struct with 2 data words and 2 pointers is opened with each size up to 4 and 4. */
+static void opening(void) {
+    size_t size = 400;
+    uint8_t *buffer = block(size);
+    uint16_t d, p;
+    for (d = 0; d < 5; d++) {
+        for (p = 0; p < 5; p++) {
+            struct capnp_builder message;
+            struct capnp_struct_builder root, inner;
+            struct capnp_message from;
+            struct capnp_segment segment;
+            struct capnp_struct read;
+            capnp_start(&message, buffer, size);
+            root = capnp_init_root(&message, 2, 2);
+            capnp_set_u64(&root, 8, 77, 0);
+            capnp_set_text(&root, 1, "kept");
+            root = capnp_open_root(&message, d, p);
+            expect(root.place.data_words == (d > 2 ? d : 2) && root.place.pointers == (p > 2 ? p : 2), "sizes of what is opened", d * 10u + p);
+            inner = capnp_open_struct(&root, 0, d, p);
+            expect(inner.place.data_words == d && inner.place.pointers == p, "sizes of a new struct", d * 10u + p);
+            if (d > 0) capnp_set_u64(&inner, 8 * (d - 1u), 5, 0);
+            capnp_set_capability(&root, 0, 9);
+            capnp_clear(&root, (uint16_t)(root.place.pointers - 1));
+            expect(message.refusal == 0, "opened", d * 10u + p);
+            read = read_root(&from, &segment, &message);
+            expect(capnp_get_u64(&read, 8, 0) == 77, "data of what is opened", d * 10u + p);
+            expect(strcmp(capnp_get_text(&read, 1).text, p > 2 ? "kept" : "") == 0, "pointer of what is opened", d * 10u + p);
+            expect(capnp_get_type(&read, 0) == CAPNP_TYPE_CAPABILITY && from.refusal == 0, "a capability", d * 10u + p);
+            inner = capnp_open_struct(&root, 0, d, p);
+            expect(message.refusal == CAPNP_MESSAGE_CONTAINS_NON_STRUCT_POINTER_WHERE_STRUCT_POINTER_WAS_EXPECTED, "a capability opened as a struct", d * 10u + p);
+        }
+    }
+    free(buffer);
+}
+
+static void some_call(struct capnp_builder *message, int which) {
+    struct capnp_struct_builder root = capnp_root_pointer(message);
+    if (which == 0) capnp_init_root(message, 2, 3);
+    if (which == 1) capnp_init_struct(&root, 0, 2, 3);
+    if (which == 2) capnp_init_struct_list(&root, 0, 3, 1, 2);
+    if (which == 3) capnp_init_list(&root, 0, CAPNP_BIT, 65);
+    if (which == 4) capnp_set_text(&root, 0, "12345678");
+    if (which == 5) capnp_set_data(&root, 0, "123456789", 9);
+    if (which == 6) capnp_open_struct(&root, 0, 2, 3);
+    if (which == 7) capnp_init_list(&root, 0, CAPNP_FOUR_BYTES, 3);
+    if (which == 8) capnp_set_text(&root, 0, "");
+}
+
+/* A refused call names the room that is enough, and one byte less isn't. */
+static void rooms(void) {
+    int which;
+    for (which = 0; which < 9; which++) {
+        size_t wanted, room, frame_size;
+        uint8_t *buffer = block(16);
+        struct capnp_builder message;
+        struct capnp_struct_builder root;
+        capnp_start(&message, buffer, 16);
+        some_call(&message, which);
+        expect(message.refusal == CAPNP_NO_ROOM && message.wanted > 8, "no room", (uint32_t)which);
+        wanted = (size_t)message.wanted;
+        root = capnp_root_pointer(&message);
+        capnp_clear(&root, 0);
+        capnp_set_text(&root, 0, "");
+        expect(message.refusal == CAPNP_NO_ROOM && message.used == 1 && !capnp_finish(&message, &frame_size) && frame_size == 0, "a refusal stays", (uint32_t)which);
+        free(buffer);
+        for (room = wanted - 1; room <= wanted; room++) {
+            buffer = block(room + 8);
+            capnp_start(&message, buffer, room + 8);
+            some_call(&message, which);
+            expect(message.refusal == (room < wanted ? (uint32_t)CAPNP_NO_ROOM : 0), "exactly the room that is wanted", (uint32_t)which);
+            if (room == wanted) {
+                const uint8_t *frame = capnp_finish(&message, &frame_size);
+                expect(frame == buffer && frame_size == wanted + 8 && buffer[4] == message.used && buffer[5] == 0 && buffer[0] == 0, "a frame", (uint32_t)which);
+            }
+            free(buffer);
+        }
+    }
+    for (which = 0; which < 18; which++) {
+        uint8_t *buffer = block((size_t)which);
+        struct capnp_builder message;
+        capnp_start(&message, buffer, (size_t)which);
+        expect(message.refusal == (which < 16 ? (uint32_t)CAPNP_NO_ROOM : 0), "a start", (uint32_t)which);
+        free(buffer);
+    }
+}
+
+int main(void) {
+    fields();
+    lists();
+    opening();
+    rooms();
+    printf("%lu passed, %lu failed\n", passed, failed);
+    return failed != 0;
+}
