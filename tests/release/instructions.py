@@ -283,15 +283,16 @@ def standing(cases):
     before = f'@row = private unnamed_addr constant [{len(text)} x i8] c"{shown}", align 1\n@plain = internal constant [9 x i8] c"say \\22hi?\\22", align 1\n' \
              '@numbers = private unnamed_addr constant [3 x i32] [i32 -1, i32 7, i32 2147483647], align 4\n@zeros = private unnamed_addr constant [4 x i8] zeroinitializer, align 1\n' \
              '@places = private unnamed_addr constant [2 x ptr] [ptr @row, ptr @zeros], align 8\n' \
-             '@record = private constant <{ ptr, ptr, [5 x i8] }> <{ ptr getelementptr (i8, ptr @record, i64 17), ptr @plain, [5 x i8] c"ab\\00\\22c" }>, align 8\n'
+             '@record = private constant <{ ptr, ptr, [5 x i8] }> <{ ptr getelementptr (i8, ptr @record, i64 17), ptr @plain, [5 x i8] c"ab\\00\\22c" }>, align 8\n' \
+             '@mixed = private constant <{ ptr, [8 x i8], ptr, [24 x i8], ptr, [3 x i8] }> <{ ptr @plain, [8 x i8] c"\\04\\00\\00\\00\\00\\00\\00\\00", ptr getelementptr (i8, ptr @mixed, i64 56), [24 x i8] zeroinitializer, ptr @plain, [3 x i8] c"xyz" }>, align 8\n'
     load = '%p = getelementptr inbounds i8, ptr {}, i64 %a\n%v = load i8, ptr %p, align 1\n%r = zext i8 %v to i64\nret i64 %r'
     cases.add(load.format('@row'), lambda a, b: text[a], [(i, 0) for i in range(len(text))], before)
     cases.add(load.format('@plain'), lambda a, b: b'say "hi?"'[a], [(i, 0) for i in range(9)])
     cases.add(load.format('@zeros'), lambda a, b: 0, [(3, 0)])
     cases.add('%p = getelementptr inbounds i32, ptr @numbers, i64 %a\n%v = load i32, ptr %p, align 4\n%r = zext i32 %v to i64\nret i64 %r', lambda a, b: [2**32 - 1, 7, 2**31 - 1][a], [(i, 0) for i in range(3)])
     cases.add('%p = getelementptr inbounds ptr, ptr @places, i64 %a\n%q = load ptr, ptr %p, align 8\n%v = load i8, ptr %q, align 1\n%r = zext i8 %v to i64\nret i64 %r', lambda a, b: [text[0], 0][a], [(0, 0), (1, 0)])
-    for at, wanted in (0, b'b\0"c'), (8, b'say "hi?"'):
-        cases.add(f'%at = getelementptr inbounds i8, ptr @record, i64 {at}\n%q = load ptr, ptr %at, align 8\n%p = getelementptr inbounds i8, ptr %q, i64 %a\n%v = load i8, ptr %p, align 1\n%r = zext i8 %v to i64\nret i64 %r',
+    for record, at, wanted in ('record', 0, b'b\0"c'), ('record', 8, b'say "hi?"'), ('mixed', 0, b'say "hi?"'), ('mixed', 16, b'xyz'), ('mixed', 48, b'say "hi?"'):
+        cases.add(f'%at = getelementptr inbounds i8, ptr @{record}, i64 {at}\n%q = load ptr, ptr %at, align 8\n%p = getelementptr inbounds i8, ptr %q, i64 %a\n%v = load i8, ptr %p, align 1\n%r = zext i8 %v to i64\nret i64 %r',
                   lambda a, b, wanted=wanted: wanted[a], [(i, 0) for i in range(len(wanted))])
     cases.add('%v = load i8, ptr getelementptr inbounds (i8, ptr @row, i64 2), align 1\n%r = zext i8 %v to i64\nret i64 %r', lambda a, b: text[2])
     cases.add('%x = getelementptr inbounds i8, ptr @row, i64 3\n%n = ptrtoint ptr %x to i64\n%r = sub i64 %n, ptrtoint (ptr @row to i64)\nret i64 %r', lambda a, b: 3)

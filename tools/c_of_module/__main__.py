@@ -102,14 +102,15 @@ class Module:
         return f'static {kind} {name}[{count}] = {{ {", ".join(shown)} }};'
 
     def record(self, it, name):
-        """A constant with parts of several types, pointers and then bytes, so that C puts nothing between them."""
+        """A constant with parts of several types, pointers and bytes. Each pointer is at a multiple of 8, so C puts nothing between
+        them."""
         kinds = it.listed(it.type)
         it.next('<')
         parts = it.listed(lambda: (it.type(), it.part()))
         it.end()
-        fields, values = [], []
+        fields, values, at = [], [], 0
         for number, (kind, value) in enumerate(parts):
-            if kind == 'ptr' and all(of == 'ptr' for of in kinds[:number]):
+            if kind == 'ptr' and at % 8 == 0:
                 _, base, by = value if value[0] == 'address' else (None, value, 0)
                 fields.append(f'struct place p{number};')
                 values.append(f'PLACE((const u8 *){self.names(base)} + {by})')
@@ -118,6 +119,7 @@ class Module:
                 values.append(text_of(value, kind[1]))
             else:
                 raise Unknown(f'a part {kind} of a constant')
+            at += 8 if kind == 'ptr' else kind[1]
         if kinds != [kind for kind, _ in parts]:
             raise Unknown('parts of other types')
         return f'static const struct {{ {" ".join(fields)} }} {name}[1] = {{ {{ {", ".join(values)} }} }};'
