@@ -75,6 +75,7 @@ endif
 
 CANONICAL = $(BUILD)/libcapnp_canonical.a $(BUILD)/libcapnp_canonical.$(SHARED_FILE)
 LAYOUT = $(BUILD)/libcapnp_layout.a $(BUILD)/libcapnp_layout.$(SHARED_FILE)
+GENERATOR = $(patsubst generated/%.c,$(BUILD)/%,$(wildcard generated/capnpc_layout_rust.c))
 PARTS = $(patsubst generated/%.c,$(BUILD)/%.o,$(wildcard generated/capnp_canon.c generated/capnp_canon_*.c))
 SELDOM = $(addprefix $(BUILD)/,capnp_canon.o capnp_canon_diffs.o capnp_canon_inputs.o capnp_canon_io.o)
 $(PARTS): PART_FLAGS = $(ALL_FLAGS)
@@ -85,7 +86,7 @@ $(BUILD)/capnp_canon_layer.o: PART_FLAGS = $(LAYER_FLAGS)
 
 program: $(BUILD)/capnp_canon layout
 
-all: program $(CANONICAL) $(LAYOUT) $(BUILD)/layout_tool $(BUILD)/capnpc_layout_rust
+all: program $(CANONICAL) $(LAYOUT) $(BUILD)/layout_tool $(GENERATOR)
 
 layout: $(BUILD)/libcapnp_layout.a
 

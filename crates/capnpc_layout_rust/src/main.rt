@@ -20,11 +20,21 @@ mod types;
 mod unions;
 
 use anyhow::Result;
-use capnpc_schema::files::write_files;
+use capnpc_schema::files::File;
 use capnpc_schema::input::read_standard_input;
 use capnpc_schema::noted::Noted;
 use generating::generate;
 use naming::name_nodes;
+use std::rt::Files;
+use std::{fs, io};
+
+// Writes files into the working directory.
+fn write_files<R: Files>(rt: &R, files: &[File]) -> io::Result<()> {
+    for file in files {
+        fs::write(rt, file.path.as_str(), file.text.as_str())?;
+    }
+    Ok(())
+}
 
 fn main(rt: HostRuntime) -> Result<()> {
     let mut noted = Noted::new(rt.alloc());

@@ -119,6 +119,7 @@ pub const ITEM_WORDS: &[&str] = &[
     "Hash",
     "SIZE",
     "DEFAULT",
+    "M",
 ];
 
 /// Names that variants can't have.

@@ -22,9 +22,6 @@ pub struct Order {
     pub has_failed: bool,
 }
 
-/// The most modules in one another.
-const MAX_DEPTH: usize = 64;
-
 /// Returns the order of the declarations of the file with this id.
 pub fn order_of(alloc: Global, nodes: &[Node], file: u64) -> Order {
     let mut order = Order {
@@ -39,9 +36,7 @@ pub fn order_of(alloc: Global, nodes: &[Node], file: u64) -> Order {
             break;
         };
         let depth = open.len();
-        if let Some(index) = next_in(nodes, scope, start)
-            && depth < MAX_DEPTH
-        {
+        if let Some(index) = next_in(nodes, scope, start) {
             order.add(Entry { index, depth });
             order.open(&mut open, scope, index.saturating_add(1));
             if let Some(node) = nodes.get(index) {

@@ -61,3 +61,4 @@ struct Uses { pair @0 :Pair(Text, Result); any @1 :AnyStruct; l @2 :AnyList; c @
 interface Service { call @0 (x :UInt32) -> (y :Text); struct Arg { a @0 :Text; } const k :UInt8 = 3; interface Deep { enum E { a @0; } } }
 annotation note(*) :Text;
 struct G {} struct Core { x @0 :G; } struct Str {s @0 :Text;}
+struct M { m :group { x @0 :M; y @1 :List(M); } struct M { a @0 :M; union { b @1 :List(M); c @2 :M; } struct M {} } }
