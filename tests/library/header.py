@@ -146,7 +146,7 @@ def facts_of_layout(answers):
     """That the header for reading has these numbers, and declares what its library exports."""
     body = re.search(r'enum capnp_refusal \{(.*?)\n\};', LAYOUT, re.S)[1]
     found = [(name, int(number)) for name, number in re.findall(r'^ +CAPNP_(\w+) = (\d+),?$', body, re.M)]
-    exports = ''.join(it.read_text(encoding='utf-8') for it in (TOP / 'crates/capnp_layout_c/src').glob('*.rt'))
+    exports = ''.join(it.read_text(encoding='utf-8') for it in (TOP / 'crates/capnp_layout_c/src').rglob('*.rt'))
     declared = re.findall(r'^[a-z].* (capnp_layout_\w+)\(', LAYOUT, re.M)
     exported = re.findall(r'^pub extern "C" fn (\w+)', exports, re.M)
     for it in found:

@@ -1,6 +1,6 @@
 -- A copy of a value that is read, into the message in the buffer.
-use Rattle.std.specs.Prelude.{◌≡◌, ℕ, Result, IsOk, IfOk, IfErr}
-use Rattle.capnp_words.specs.Meter.{Meter}
+use Rattle.std.specs.Prelude.{◌≡◌, ℕ, Some, Result, IsOk, IfOk, IfErr}
+use Rattle.capnp_words.specs.Meter.{Meter, unused}
 use Rattle.capnp_words.specs.declared.error.ErrorKind.{ErrorKind}
 use Rattle.capnp_format.specs.Segments.{Grows}
 use Rattle.capnp_format.specs.Tree.{Tree}
@@ -16,7 +16,7 @@ use Rattle.capnp_copies.specs.Rooms.{CanBeCopied}
 use Rattle.capnp_builders.specs.Held.{MakesChild, call_in}
 use Rattle.capnp_builders.specs.Kept.{LeavesCleared, PutsCopy}
 use Rattle.capnp_layout_c.specs.Buffers.{Buffer, Done, Gives, placed_struct, pointer_of}
-use Rattle.capnp_layout_c.specs.Lent.{words_left}
+use Rattle.capnp_layout_c.specs.Lent.{left_over}
 use Rattle.capnp_layout_c.specs.declared.building.places.StructAt.{StructAt}
 
 -- A copy to pointer i of the struct, with the read limiter before and after it.
@@ -35,9 +35,9 @@ pub record CopiesAt (from : Reading) (before after : Meter) (p : StructAt) (i : 
       MakesChild r (call_in (placed_struct p) old.words new.words) i t
   pub grows : Grows old.words new.words
 
--- The same, and C sees the number of the result, and the words that are left of the limit.
-pub record CopiesValue (number : ℕ) (from : Reading) (before : Meter) (left : ℕ) (p : StructAt)
-    (i : ℕ) (b : Buffer) : Type 0 where
+-- The same, and C sees the number of the result, and the words that are left of those that it had.
+pub record CopiesValue (number : ℕ) (from : Reading) (had left : ℕ) (p : StructAt) (i : ℕ)
+    (b : Buffer) : Type 0 where
   pub after : Meter
-  pub left_is : left ≡ words_left after.left
-  pub gives : Gives Done number b (CopiesAt from before after p i)
+  pub left_is : left ≡ left_over had after.left
+  pub gives : Gives Done number b (CopiesAt from (unused (Some had)) after p i)

@@ -1,6 +1,5 @@
 //! Copies of values that are read, into a message in the caller's buffer.
-ghost use Rattle.std.specs.Prelude.{◌≡◌, Some};
-ghost use Rattle.capnp_words.specs.Meter.{unused};
+ghost use Rattle.std.specs.Prelude.{◌≡◌};
 ghost use Rattle.capnp_layout_c.specs.Buffers.{IsPointerIn, Refuses, buffer};
 ghost use Rattle.capnp_layout_c.specs.BuildingNumbers.{bad_place};
 ghost use Rattle.capnp_layout_c.specs.Copies.{CopiesValue};
@@ -8,15 +7,15 @@ ghost use Rattle.capnp_layout_c.specs.Lent.{lent_pointer};
 
 use crate::building::numbers::{BAD_PLACE, number_of};
 use crate::building::places::{StructAt, has_pointer};
+use crate::limits::store_left;
 use crate::segments::Segments;
-use crate::words_left;
 use capnp_lent_arena::lent_arena::LentArena;
 use capnp_words::read_limiter::ReadLimiter;
 use typed_building::copying;
 
 /// Copies the value of the pointer at word `word` of segment `segment` of another message, of any
 /// type, to pointer `index` of a struct, and zeroes what that pointer held. Charges what reading
-/// the whole value costs. After a refusal pointer `index` is null, unless its place is refused.
+/// the whole value costs, unless there is no limit. After a refusal pointer `index` is null, unless its place is refused.
 #[unsafe(no_mangle)]
 pub extern "C" fn capnp_layout_copy(
     bytes: &mut [u8],
@@ -31,7 +30,7 @@ pub extern "C" fn capnp_layout_copy(
 ) -> u32
     ensures copies { IsPointerIn bytes.old used.old place index
         → CopiesValue result (lent_pointer segments.now.list.now segment word nesting)
-        (unused (Some left.old)) left.new place index
+        left.old left.new place index
         (buffer bytes.old used.old bytes.new used.new) }
     ensures misplaced { (IsPointerIn bytes.old used.old place index → ⊥)
         → Refuses result bad_place (buffer bytes.old used.old bytes.new used.new) }
@@ -46,7 +45,7 @@ pub extern "C" fn capnp_layout_copy(
     let to = place.place();
     let result = copying::set_pointer_from(&mut arena, to, index as usize, from, &mut lim);
     *used = arena.used();
-    *left = words_left(&lim);
+    store_left(&lim, left);
     match result {
         Ok(()) => 0,
         Err(kind) => number_of(kind),

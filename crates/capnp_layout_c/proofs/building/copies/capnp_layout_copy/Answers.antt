@@ -27,7 +27,7 @@ returns-in-Ok-clause-copies c _ =
     let e = c.in-Ok.ensures in
     record {
       after = c.set_pointer_from-result.new.lim;
-      left_is = c.words_left.ensures;
+      left_is = c.store_left.ensures;
       gives =
           gives_copied tie c.args.index c.set_pointer_from-result.new.lim (Ok tt) 0 c.place-to.result c.args.place _ (lent_pointer c.args.segments.now.list.now c.args.segment c.args.word c.args.nesting) _ _
           c.place-to.ensures (rw (to_z-of_z w32 c.args.nesting c.ranges.nesting) at c.pointer-from.ensures.place) c.new-lim.ensures refl
@@ -50,7 +50,7 @@ returns-in-Err-clause-copies c _ =
     let e = c.in-Err.ensures in
     record {
       after = c.set_pointer_from-result.new.lim;
-      left_is = c.words_left.ensures;
+      left_is = c.store_left.ensures;
       gives =
           gives_copied tie c.args.index c.set_pointer_from-result.new.lim (Err c.in-Err.kind) c.number_of.result c.place-to.result c.args.place _ (lent_pointer c.args.segments.now.list.now c.args.segment c.args.word c.args.nesting) _ _
           c.place-to.ensures (rw (to_z-of_z w32 c.args.nesting c.ranges.nesting) at c.pointer-from.ensures.place) c.new-lim.ensures c.number_of.ensures.number
