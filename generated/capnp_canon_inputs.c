@@ -7851,7 +7851,7 @@ l_arm_sp:;
     r_ep = (u64)(r_38_45 >> 32ull);
     r_c4_26 = ((u64)((r_nb + 1ull) >> 1ull) + 1ull);
     if (!(r_c4_26 < (u64)(a_ph >> 3ull))) goto l_join_68;
-    r_38_46 = ld64((slot_11 + (i64)((u64)(r_c4_26 << 3ull))));
+    r_38_46 = ld64(away(slot_11, (u64)(r_c4_26 << 3ull)));
     switch ((u8)((u8)r_38_46 & 3u)) {
     case 0u: goto l_arm_78;
     case 2u: goto l_arm_u4;
@@ -7900,7 +7900,7 @@ l_arm_sp_1:;
     r_ep_3 = (u64)(r_38_47 >> 32ull);
     r_c4_29 = ((u64)((r_nb_1 + 1ull) >> 1ull) + 1ull);
     if (!(r_c4_29 < (u64)(a_ph >> 3ull))) goto l_join_63;
-    r_38_48 = ld64((slot_11 + (i64)((u64)(r_c4_29 << 3ull))));
+    r_38_48 = ld64(away(slot_11, (u64)(r_c4_29 << 3ull)));
     switch ((u8)((u8)r_38_48 & 3u)) {
     case 0u: goto l_arm_78_1;
     case 2u: goto l_arm_u4_1;

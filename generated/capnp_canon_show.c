@@ -664,13 +664,13 @@ static struct s_i8_i8 capnp_show_show_json_write_pointed_value_5ccc1be374b2e488(
     u8 *r_rq;
     u64 r_52;
     u64 r_24;
-    u8 *r_a7;
+    u8 *r_2b;
     u8 *r_08;
     u64 r_y1;
     u64 r_pz;
     u64 r_5b;
     u8 *r_fx;
-    u8 *r_2b;
+    u8 *r_2b_1;
     u64 r_mh;
     u8 *r_08_1;
     u64 r_co;
@@ -716,7 +716,7 @@ static struct s_i8_i8 capnp_show_show_json_write_pointed_value_5ccc1be374b2e488(
     u64 r_nq;
     u64 r_xe;
     u8 *r_fx_3;
-    u8 *r_2b_4;
+    u8 *r_2b_5;
     u64 r_y3;
     struct s_i8_i8 r_z6_1;
     u64 r_52_7;
@@ -727,7 +727,7 @@ static struct s_i8_i8 capnp_show_show_json_write_pointed_value_5ccc1be374b2e488(
     u64 r_9w;
     u64 r_wr;
     u8 *r_fx_5;
-    u8 *r_2b_6;
+    u8 *r_2b_7;
     u64 r_pk;
     u8 *r_x9;
     u64 r_tc;
@@ -747,7 +747,7 @@ static struct s_i8_i8 capnp_show_show_json_write_pointed_value_5ccc1be374b2e488(
     u64 r_pn;
     u64 r_i5;
     u64 r_x4;
-    u8 *r_2b_8;
+    u8 *r_2b_9;
     u64 r_qz;
     u8 r_2g;
     u8 r_bs_1;
@@ -759,7 +759,7 @@ static struct s_i8_i8 capnp_show_show_json_write_pointed_value_5ccc1be374b2e488(
     u64 r_tk;
     u64 r_5q_1;
     u8 *r_fx_6;
-    u8 *r_2b_9;
+    u8 *r_2b_10;
     u64 r_il;
     u64 r_gw_1;
     u32 r_ci;
@@ -787,7 +787,7 @@ static struct s_i8_i8 capnp_show_show_json_write_pointed_value_5ccc1be374b2e488(
     u64 r_54;
     u64 r_x4_1;
     u8 *r_fx_10;
-    u8 *r_2b_13;
+    u8 *r_2b_15;
     u64 r_3f;
     u8 r_bs_2;
     u8 r_77_2;
@@ -819,8 +819,8 @@ static struct s_i8_i8 capnp_show_show_json_write_pointed_value_5ccc1be374b2e488(
     st64((slot_6 + 56), 0ull);
     r_24 = (u64)r_5k;
     if (!((u64)(r_qw_1 >> 3ull) > r_24)) goto l_then_km;
-    r_a7 = (r_rv + (i64)((u64)(r_24 << 3ull)));
-    if (!(ld64(r_a7) == 0ull)) goto l_join_zl;
+    r_2b = away(r_rv, (u64)(r_24 << 3ull));
+    if (!(ld64(r_2b) == 0ull)) goto l_join_zl;
 l_then_km:;
     if (r_52 > 0x3ffffbcull) { r_u1 = 0u; goto l_capnp_oj; }
     r_08 = away(a_3, 16ull);
@@ -833,12 +833,12 @@ l_then_km:;
 l_join_tt:;
     r_5b = (r_pz + 4ull);
     r_fx = ldp(a_3);
-    r_2b = away(r_fx, r_pz);
-    if (((u64)(uptr)r_2b - (u64)(uptr)((u8 *)g_static_149)) < 4ull) { r_mh = 0ull; goto l_join_ib; }
-    st32(r_2b, 0x6c6c756eu);
+    r_2b_1 = away(r_fx, r_pz);
+    if (((u64)(uptr)r_2b_1 - (u64)(uptr)((u8 *)g_static_149)) < 4ull) { r_mh = 0ull; goto l_join_ib; }
+    st32(r_2b_1, 0x6c6c756eu);
     goto l_capnp_l4;
 l_join_ib:;
-    st8((r_2b + (i64)(r_mh)), ld8((((u8 *)g_static_149) + (i64)(r_mh))));
+    st8((r_2b_1 + (i64)(r_mh)), ld8((((u8 *)g_static_149) + (i64)(r_mh))));
     u64 r_c4 = (r_mh + 1ull);
     if (!(r_c4 == 4ull)) { r_mh = r_c4; goto l_join_ib; }
 l_capnp_l4:;
@@ -865,7 +865,7 @@ l_join_df:;
     if (!(u8)(ld8(r_r2_1) & 1)) goto l_arm_cw;
     r_8b = capnp_show_show_json_Json_write_place(a_3, ((u8 *)g_static_151), 11ull, r_qw, r_5k);
     if (!(r_8b.f0 == 0u)) goto l_arm_21;
-    r_qw_3 = ld64(r_a7);
+    r_qw_3 = ld64(r_2b);
     if ((r_qw_3 & 3ull) == 2ull) goto l_join_m4;
     goto l_arm_cw;
 l_arm_21:;
@@ -1015,12 +1015,12 @@ l_arm_m3:;
 l_join_me:;
     r_xe = (r_nq + 7ull);
     r_fx_3 = ldp(a_3);
-    r_2b_4 = away(r_fx_3, r_nq);
-    if (((u64)(uptr)r_2b_4 - (u64)(uptr)((u8 *)g_static_160)) < 7ull) { r_y3 = 0ull; goto l_join_f6; }
-    mv7(r_2b_4, ((u8 *)g_static_160));
+    r_2b_5 = away(r_fx_3, r_nq);
+    if (((u64)(uptr)r_2b_5 - (u64)(uptr)((u8 *)g_static_160)) < 7ull) { r_y3 = 0ull; goto l_join_f6; }
+    mv7(r_2b_5, ((u8 *)g_static_160));
     goto l_arm_61;
 l_join_f6:;
-    st8((r_2b_4 + (i64)(r_y3)), ld8((((u8 *)g_static_160) + (i64)(r_y3))));
+    st8((r_2b_5 + (i64)(r_y3)), ld8((((u8 *)g_static_160) + (i64)(r_y3))));
     u64 r_c4_3 = (r_y3 + 1ull);
     if (!(r_c4_3 == 7ull)) { r_y3 = r_c4_3; goto l_join_f6; }
 l_arm_61:;
@@ -1062,12 +1062,12 @@ l_arm_s4:;
 l_join_k6:;
     r_wr = (r_9w + 9ull);
     r_fx_5 = ldp(a_3);
-    r_2b_6 = away(r_fx_5, r_9w);
-    if (((u64)(uptr)r_2b_6 - (u64)(uptr)((u8 *)g_static_162)) < 9ull) { r_pk = 0ull; goto l_join_1p; }
-    mv9(r_2b_6, ((u8 *)g_static_162));
+    r_2b_7 = away(r_fx_5, r_9w);
+    if (((u64)(uptr)r_2b_7 - (u64)(uptr)((u8 *)g_static_162)) < 9ull) { r_pk = 0ull; goto l_join_1p; }
+    mv9(r_2b_7, ((u8 *)g_static_162));
     goto l_arm_um;
 l_join_1p:;
-    st8((r_2b_6 + (i64)(r_pk)), ld8((((u8 *)g_static_162) + (i64)(r_pk))));
+    st8((r_2b_7 + (i64)(r_pk)), ld8((((u8 *)g_static_162) + (i64)(r_pk))));
     u64 r_c4_4 = (r_pk + 1ull);
     if (!(r_c4_4 == 9ull)) { r_pk = r_c4_4; goto l_join_1p; }
 l_arm_um:;
@@ -1086,9 +1086,9 @@ l_join_kl:;
     r_pt = 0ull;
 l_join_jf:;
     u8 r_47_5 = ld8((r_uz_1 + (i64)(r_pt)));
-    u8 *r_a7_6 = (slot_1 + (i64)((u64)(r_pt << 1ull)));
-    st8(r_a7_6, ld8((((u8 *)g_static_117) + (i64)((u64)(u8)((u32)r_47_5 >> 4u)))));
-    st8((r_a7_6 + 1), ld8((((u8 *)g_static_117) + (i64)((u64)(u8)(r_47_5 & 15u)))));
+    u8 *r_a7_5 = (slot_1 + (i64)((u64)(r_pt << 1ull)));
+    st8(r_a7_5, ld8((((u8 *)g_static_117) + (i64)((u64)(u8)((u32)r_47_5 >> 4u)))));
+    st8((r_a7_5 + 1), ld8((((u8 *)g_static_117) + (i64)((u64)(u8)(r_47_5 & 15u)))));
     u64 r_c4_5 = (r_pt + 1ull);
     if (!(r_c4_5 == a_3q)) { r_pt = r_c4_5; goto l_join_jf; }
     r_yb = (u64)(a_3q << 1ull);
@@ -1128,12 +1128,12 @@ l_arm_06:;
     r_i5 = ld64(r_rq);
 l_join_xr:;
     r_x4 = (r_i5 + 2ull);
-    r_2b_8 = away(r_4d, r_i5);
-    if (((u64)(uptr)r_2b_8 - (u64)(uptr)((u8 *)g_static_163)) < 2ull) { r_qz = 0ull; goto l_join_6w; }
-    st16(r_2b_8, 32034u);
+    r_2b_9 = away(r_4d, r_i5);
+    if (((u64)(uptr)r_2b_9 - (u64)(uptr)((u8 *)g_static_163)) < 2ull) { r_qz = 0ull; goto l_join_6w; }
+    st16(r_2b_9, 32034u);
     goto l_core_ga;
 l_join_6w:;
-    st8((r_2b_8 + (i64)(r_qz)), ld8((((u8 *)g_static_163) + (i64)(r_qz))));
+    st8((r_2b_9 + (i64)(r_qz)), ld8((((u8 *)g_static_163) + (i64)(r_qz))));
     u64 r_c4_7 = (r_qz + 1ull);
     if (!(r_c4_7 == 2ull)) { r_qz = r_c4_7; goto l_join_6w; }
 l_core_ga:;
@@ -1176,12 +1176,12 @@ l_capnp_6t:;
 l_join_pq:;
     r_5q_1 = (r_tk + r_ad);
     r_fx_6 = ldp(a_3);
-    r_2b_9 = away(r_fx_6, r_tk);
-    if (((u64)(uptr)r_2b_9 - (u64)(uptr)r_8o) < r_ad) { r_il = 0ull; goto l_join_fh; }
-    memcpy_or_none(r_2b_9, r_8o, r_ad);
+    r_2b_10 = away(r_fx_6, r_tk);
+    if (((u64)(uptr)r_2b_10 - (u64)(uptr)r_8o) < r_ad) { r_il = 0ull; goto l_join_fh; }
+    memcpy_or_none(r_2b_10, r_8o, r_ad);
     goto l_arm_dd;
 l_join_fh:;
-    st8((r_2b_9 + (i64)(r_il)), ld8((r_8o + (i64)(r_il))));
+    st8((r_2b_10 + (i64)(r_il)), ld8((r_8o + (i64)(r_il))));
     u64 r_c4_9 = (r_il + 1ull);
     if (!(r_c4_9 == r_ad)) { r_il = r_c4_9; goto l_join_fh; }
 l_arm_dd:;
@@ -1241,7 +1241,7 @@ l_noarm_e1_2:;
 l_capnp_k6:;
     r_24_4 = (u64)uadd_sat32(r_st, r_wt);
     if (!(r_gw_1 > r_24_4)) { r_pv = 0ull; goto l_capnp_pd; }
-    r_pv = ld64((r_xw + (i64)((u64)(r_24_4 << 3ull))));
+    r_pv = ld64(away(r_xw, (u64)(r_24_4 << 3ull)));
 l_capnp_pd:;
     switch (r_ne) {
     case 1u: goto l_arm_34;
@@ -1336,12 +1336,12 @@ l_arm_06_1:;
 l_join_p3:;
     r_x4_1 = (r_54 + 2ull);
     r_fx_10 = ldp(a_3);
-    r_2b_13 = away(r_fx_10, r_54);
-    if (((u64)(uptr)r_2b_13 - (u64)(uptr)((u8 *)g_static_164)) < 2ull) { r_3f = 0ull; goto l_join_tg; }
-    st16(r_2b_13, 32093u);
+    r_2b_15 = away(r_fx_10, r_54);
+    if (((u64)(uptr)r_2b_15 - (u64)(uptr)((u8 *)g_static_164)) < 2ull) { r_3f = 0ull; goto l_join_tg; }
+    st16(r_2b_15, 32093u);
     goto l_core_ga_1;
 l_join_tg:;
-    st8((r_2b_13 + (i64)(r_3f)), ld8((((u8 *)g_static_164) + (i64)(r_3f))));
+    st8((r_2b_15 + (i64)(r_3f)), ld8((((u8 *)g_static_164) + (i64)(r_3f))));
     u64 r_c4_11 = (r_3f + 1ull);
     if (!(r_c4_11 == 2ull)) { r_3f = r_c4_11; goto l_join_tg; }
 l_core_ga_1:;
@@ -1653,7 +1653,7 @@ static void capnp_show_show_objects_read_object_5ccc1be374b2e488(u8 *a_1, u8 *a_
     u32 r_12_1;
     u32 r_az_1;
     u32 r_68;
-    u64 r_c0;
+    u64 r_c0_1;
     u8 *r_rq_3;
     u64 r_52_3;
     u32 r_12_2;
@@ -1688,7 +1688,7 @@ static void capnp_show_show_objects_read_object_5ccc1be374b2e488(u8 *a_1, u8 *a_
     r_24 = (u64)ld32(away(a_2, 48ull));
     r_gw = (u64)(r_qw_1 >> 3ull);
     if (!(r_gw > r_24)) { r_6f = 0ull; r_3l = 0ull; r_rk = 0u; r_7q = 0u; r_yr = 0ull; r_c1 = 0ull; r_g3 = 0u; r_vx = 0u; r_7j = 0u; r_p8 = 0u; goto l_capnp_6f; }
-    r_qw_2 = ld64((r_rv_1 + (i64)((u64)(r_24 << 3ull))));
+    r_qw_2 = ld64(away(r_rv_1, (u64)(r_24 << 3ull)));
     if (r_qw_2 == 0ull) { r_6f = 0ull; r_3l = 0ull; r_rk = 0u; r_7q = 0u; r_yr = 0ull; r_c1 = 0ull; r_g3 = 0u; r_vx = 0u; r_7j = 0u; r_p8 = 0u; goto l_capnp_6f; }
     t_al = (u64)(uptr)r_rv_1;
     memset(slot_1, 0u, 56);
@@ -1794,7 +1794,7 @@ l_arm_xd:;
     st64(r_rq_2, (r_52_2 - r_c4_1));
 l_arm_ga:;
     if (!(r_gw_2 > r_24_2)) { r_eh = 0ull; goto l_join_qm; }
-    u64 r_qw_3 = ld64((((u8 *)(uptr)r_t9_1) + (i64)((u64)(r_24_2 << 3ull))));
+    u64 r_qw_3 = ld64(away(((u8 *)(uptr)r_t9_1), (u64)(r_24_2 << 3ull)));
     if ((r_qw_3 & 3ull) == 0ull) { r_eh = r_qw_3; goto l_join_qm; }
     r_6f = 0ull;
     r_3l = 0ull;
@@ -1812,15 +1812,15 @@ l_join_qm:;
     r_12_1 = (u32)(u64)(r_eh >> 48ull);
     r_az_1 = ((u32)(u64)(r_eh >> 32ull) & 65535u);
     r_68 = (r_az_1 + r_12_1);
-    r_c0 = (u64)t_c8;
-    if (r_ij < ((u64)r_68 * r_c0)) { r_6f = 0ull; r_3l = 0ull; r_rk = 0u; r_7q = 0u; r_yr = 0ull; r_c1 = 1ull; r_g3 = 10u; r_vx = 0u; r_7j = 0u; r_p8 = 0u; goto l_capnp_6f; }
+    r_c0_1 = (u64)t_c8;
+    if (r_ij < ((u64)r_68 * r_c0_1)) { r_6f = 0ull; r_3l = 0ull; r_rk = 0u; r_7q = 0u; r_yr = 0ull; r_c1 = 1ull; r_g3 = 10u; r_vx = 0u; r_7j = 0u; r_p8 = 0u; goto l_capnp_6f; }
     if ((u8)((u8)t_pa | (u8)(r_68 != 0u))) goto l_arm_o2;
     if (!(ld8(a_3) == 1u)) goto l_arm_o2;
     r_rq_3 = away(a_3, 8ull);
     r_52_3 = ld64(r_rq_3);
-    if (r_52_3 < r_c0) { r_6f = 0ull; r_3l = 0ull; r_rk = 0u; r_7q = 0u; r_yr = 0ull; r_c1 = 1ull; r_g3 = 30u; r_vx = 0u; r_7j = 0u; r_p8 = 0u; goto l_capnp_6f; }
+    if (r_52_3 < r_c0_1) { r_6f = 0ull; r_3l = 0ull; r_rk = 0u; r_7q = 0u; r_yr = 0ull; r_c1 = 1ull; r_g3 = 30u; r_vx = 0u; r_7j = 0u; r_p8 = 0u; goto l_capnp_6f; }
     st64(a_3, 1ull);
-    st64(r_rq_3, (r_52_3 - r_c0));
+    st64(r_rq_3, (r_52_3 - r_c0_1));
 l_arm_o2:;
     r_6f = r_t9_1;
     r_3l = r_v8;
@@ -3554,7 +3554,7 @@ static void capnp_show_show_lines_show_pointer_5ccc1be374b2e488(u8 *a_1, u32 a_2
     u64 r_nq;
     u64 r_xe;
     u8 *r_fx;
-    u8 *r_2b;
+    u8 *r_2b_1;
     u64 r_2y;
     u8 r_1e;
     u8 r_6i;
@@ -3566,7 +3566,7 @@ static void capnp_show_show_lines_show_pointer_5ccc1be374b2e488(u8 *a_1, u32 a_2
     u64 r_pz;
     u64 r_5b;
     u8 *r_fx_1;
-    u8 *r_2b_1;
+    u8 *r_2b_2;
     u64 r_om;
     u8 r_fo;
     u8 r_go;
@@ -3590,7 +3590,7 @@ static void capnp_show_show_lines_show_pointer_5ccc1be374b2e488(u8 *a_1, u32 a_2
     u64 r_rf;
     u64 r_pk;
     u8 *r_fx_2;
-    u8 *r_2b_2;
+    u8 *r_2b_3;
     u64 r_w0;
     u8 r_1e_1;
     u8 r_6i_1;
@@ -3602,7 +3602,7 @@ static void capnp_show_show_lines_show_pointer_5ccc1be374b2e488(u8 *a_1, u32 a_2
     u64 r_xi_1;
     u64 r_4y;
     u8 *r_fx_3;
-    u8 *r_2b_3;
+    u8 *r_2b_4;
     u64 r_6g;
     u8 r_e7;
     struct s_i8_i8 r_o6;
@@ -3617,7 +3617,7 @@ static void capnp_show_show_lines_show_pointer_5ccc1be374b2e488(u8 *a_1, u32 a_2
     u64 r_71;
     u64 r_km;
     u8 *r_fx_4;
-    u8 *r_2b_4;
+    u8 *r_2b_5;
     u64 r_qx;
     u8 r_e7_1;
     struct s_i8_i8 r_o6_1;
@@ -3629,7 +3629,7 @@ static void capnp_show_show_lines_show_pointer_5ccc1be374b2e488(u8 *a_1, u32 a_2
     u64 r_ue;
     u64 r_hc;
     u8 *r_fx_5;
-    u8 *r_2b_5;
+    u8 *r_2b_6;
     u64 r_ip;
     u8 r_i7;
     u8 r_w0_1;
@@ -3642,7 +3642,7 @@ static void capnp_show_show_lines_show_pointer_5ccc1be374b2e488(u8 *a_1, u32 a_2
     u64 r_54;
     u64 r_x4;
     u8 *r_fx_6;
-    u8 *r_2b_6;
+    u8 *r_2b_7;
     u64 r_p7;
     u8 r_1e_2;
     u8 r_6i_2;
@@ -3663,7 +3663,7 @@ static void capnp_show_show_lines_show_pointer_5ccc1be374b2e488(u8 *a_1, u32 a_2
     u64 r_pz_1;
     u64 r_5b_1;
     u8 *r_fx_7;
-    u8 *r_2b_8;
+    u8 *r_2b_9;
     u64 r_1p;
     u8 r_i7_1;
     u8 r_w0_2;
@@ -3712,7 +3712,7 @@ static void capnp_show_show_lines_show_pointer_5ccc1be374b2e488(u8 *a_1, u32 a_2
     u64 r_19_3;
     u64 r_qh_1;
     u8 *r_fx_10;
-    u8 *r_2b_12;
+    u8 *r_2b_14;
     u64 r_es;
     u8 r_e7_2;
     struct s_i8_i8 r_su_1;
@@ -3730,7 +3730,7 @@ static void capnp_show_show_lines_show_pointer_5ccc1be374b2e488(u8 *a_1, u32 a_2
     u64 r_wh;
     u64 r_ob;
     u8 *r_fx_12;
-    u8 *r_2b_14;
+    u8 *r_2b_16;
     u64 r_l8;
     u8 r_e7_3;
     struct s_i8_i8 r_o6_2;
@@ -3742,7 +3742,7 @@ static void capnp_show_show_lines_show_pointer_5ccc1be374b2e488(u8 *a_1, u32 a_2
     u64 r_ue_1;
     u64 r_hc_1;
     u8 *r_fx_13;
-    u8 *r_2b_15;
+    u8 *r_2b_17;
     u64 r_ip_1;
     u8 r_i7_2;
     u8 r_w0_3;
@@ -3755,7 +3755,7 @@ static void capnp_show_show_lines_show_pointer_5ccc1be374b2e488(u8 *a_1, u32 a_2
     u64 r_9w;
     u64 r_wr;
     u8 *r_fx_14;
-    u8 *r_2b_16;
+    u8 *r_2b_18;
     u64 r_e5;
     u8 r_e7_4;
     struct s_i8_i8 r_o6_3;
@@ -3767,7 +3767,7 @@ static void capnp_show_show_lines_show_pointer_5ccc1be374b2e488(u8 *a_1, u32 a_2
     u64 r_ue_2;
     u64 r_hc_2;
     u8 *r_fx_15;
-    u8 *r_2b_17;
+    u8 *r_2b_19;
     u64 r_ip_2;
     u8 r_i7_3;
     u8 r_w0_4;
@@ -3827,7 +3827,7 @@ static void capnp_show_show_lines_show_pointer_5ccc1be374b2e488(u8 *a_1, u32 a_2
     capnp_show_show_lines_Lines_write_place(a_3, r_qw, r_5k);
     r_24 = (u64)r_5k;
     if (!((u64)(r_qw_1 >> 3ull) > r_24)) goto l_capnp_mn;
-    r_qw_2 = ld64((r_rv + (i64)((u64)(r_24 << 3ull))));
+    r_qw_2 = ld64(away(r_rv, (u64)(r_24 << 3ull)));
     if (!((r_qw_2 & 3ull) == 2ull)) goto l_capnp_mn;
     r_q6 = away(a_3, 25ull);
     r_dd = ld8(r_q6);
@@ -3846,12 +3846,12 @@ static void capnp_show_show_lines_show_pointer_5ccc1be374b2e488(u8 *a_1, u32 a_2
 l_join_me:;
     r_xe = (r_nq + 7ull);
     r_fx = ldp(a_3);
-    r_2b = away(r_fx, r_nq);
-    if (((u64)(uptr)r_2b - (u64)(uptr)((u8 *)g_static_227)) < 7ull) { r_2y = 0ull; goto l_join_6j; }
-    mv7(r_2b, ((u8 *)g_static_227));
+    r_2b_1 = away(r_fx, r_nq);
+    if (((u64)(uptr)r_2b_1 - (u64)(uptr)((u8 *)g_static_227)) < 7ull) { r_2y = 0ull; goto l_join_6j; }
+    mv7(r_2b_1, ((u8 *)g_static_227));
     goto l_core_ga;
 l_join_6j:;
-    st8((r_2b + (i64)(r_2y)), ld8((((u8 *)g_static_227) + (i64)(r_2y))));
+    st8((r_2b_1 + (i64)(r_2y)), ld8((((u8 *)g_static_227) + (i64)(r_2y))));
     u64 r_c4 = (r_2y + 1ull);
     if (!(r_c4 == 7ull)) { r_2y = r_c4; goto l_join_6j; }
 l_core_ga:;
@@ -3879,12 +3879,12 @@ l_join_pz:;
 l_join_tt:;
     r_5b = (r_pz + 4ull);
     r_fx_1 = ldp(a_3);
-    r_2b_1 = away(r_fx_1, r_pz);
-    if (((u64)(uptr)r_2b_1 - (u64)(uptr)((u8 *)g_static_228)) < 4ull) { r_om = 0ull; goto l_join_06; }
-    st32(r_2b_1, 0x72616620u);
+    r_2b_2 = away(r_fx_1, r_pz);
+    if (((u64)(uptr)r_2b_2 - (u64)(uptr)((u8 *)g_static_228)) < 4ull) { r_om = 0ull; goto l_join_06; }
+    st32(r_2b_2, 0x72616620u);
     goto l_core_ga_1;
 l_join_06:;
-    st8((r_2b_1 + (i64)(r_om)), ld8((((u8 *)g_static_228) + (i64)(r_om))));
+    st8((r_2b_2 + (i64)(r_om)), ld8((((u8 *)g_static_228) + (i64)(r_om))));
     u64 r_c4_1 = (r_om + 1ull);
     if (!(r_c4_1 == 4ull)) { r_om = r_c4_1; goto l_join_06; }
 l_core_ga_1:;
@@ -3951,12 +3951,12 @@ l_arm_x3:;
 l_join_a9:;
     r_pk = (r_rf + 5ull);
     r_fx_2 = ldp(a_3);
-    r_2b_2 = away(r_fx_2, r_rf);
-    if (((u64)(uptr)r_2b_2 - (u64)(uptr)((u8 *)g_static_229)) < 5ull) { r_w0 = 0ull; goto l_join_wk; }
-    mv5(r_2b_2, ((u8 *)g_static_229));
+    r_2b_3 = away(r_fx_2, r_rf);
+    if (((u64)(uptr)r_2b_3 - (u64)(uptr)((u8 *)g_static_229)) < 5ull) { r_w0 = 0ull; goto l_join_wk; }
+    mv5(r_2b_3, ((u8 *)g_static_229));
     goto l_core_ga_2;
 l_join_wk:;
-    st8((r_2b_2 + (i64)(r_w0)), ld8((((u8 *)g_static_229) + (i64)(r_w0))));
+    st8((r_2b_3 + (i64)(r_w0)), ld8((((u8 *)g_static_229) + (i64)(r_w0))));
     u64 r_c4_4 = (r_w0 + 1ull);
     if (!(r_c4_4 == 5ull)) { r_w0 = r_c4_4; goto l_join_wk; }
 l_core_ga_2:;
@@ -3986,12 +3986,12 @@ l_arm_og:;
 l_join_4b:;
     r_4y = (r_xi_1 + 12ull);
     r_fx_3 = ldp(a_3);
-    r_2b_3 = away(r_fx_3, r_xi_1);
-    if (((u64)(uptr)r_2b_3 - (u64)(uptr)((u8 *)g_static_230)) < 12ull) { r_6g = 0ull; goto l_join_0k; }
-    mv12(r_2b_3, ((u8 *)g_static_230));
+    r_2b_4 = away(r_fx_3, r_xi_1);
+    if (((u64)(uptr)r_2b_4 - (u64)(uptr)((u8 *)g_static_230)) < 12ull) { r_6g = 0ull; goto l_join_0k; }
+    mv12(r_2b_4, ((u8 *)g_static_230));
     goto l_arm_na;
 l_join_0k:;
-    st8((r_2b_3 + (i64)(r_6g)), ld8((((u8 *)g_static_230) + (i64)(r_6g))));
+    st8((r_2b_4 + (i64)(r_6g)), ld8((((u8 *)g_static_230) + (i64)(r_6g))));
     u64 r_c4_5 = (r_6g + 1ull);
     if (!(r_c4_5 == 12ull)) { r_6g = r_c4_5; goto l_join_0k; }
 l_arm_na:;
@@ -4030,12 +4030,12 @@ l_arm_d0:;
 l_join_am:;
     r_km = (r_71 + switch_xq);
     r_fx_4 = ldp(a_3);
-    r_2b_4 = away(r_fx_4, r_71);
-    if (((u64)(uptr)r_2b_4 - (u64)(uptr)switch_mb) < switch_xq) { r_qx = 0ull; goto l_join_7o; }
-    memcpy_or_none(r_2b_4, switch_mb, switch_xq);
+    r_2b_5 = away(r_fx_4, r_71);
+    if (((u64)(uptr)r_2b_5 - (u64)(uptr)switch_mb) < switch_xq) { r_qx = 0ull; goto l_join_7o; }
+    memcpy_or_none(r_2b_5, switch_mb, switch_xq);
     goto l_arm_na_1;
 l_join_7o:;
-    st8((r_2b_4 + (i64)(r_qx)), ld8((switch_mb + (i64)(r_qx))));
+    st8((r_2b_5 + (i64)(r_qx)), ld8((switch_mb + (i64)(r_qx))));
     u64 r_c4_6 = (r_qx + 1ull);
     if (!(r_c4_6 == switch_xq)) { r_qx = r_c4_6; goto l_join_7o; }
 l_arm_na_1:;
@@ -4073,12 +4073,12 @@ l_then_pz:;
 l_join_h7:;
     r_hc = (r_ue + 3ull);
     r_fx_5 = ldp(a_3);
-    r_2b_5 = away(r_fx_5, r_ue);
-    if (((u64)(uptr)r_2b_5 - (u64)(uptr)((u8 *)g_static_237)) < 3ull) { r_ip = 0ull; goto l_join_z5; }
-    mv3(r_2b_5, ((u8 *)g_static_237));
+    r_2b_6 = away(r_fx_5, r_ue);
+    if (((u64)(uptr)r_2b_6 - (u64)(uptr)((u8 *)g_static_237)) < 3ull) { r_ip = 0ull; goto l_join_z5; }
+    mv3(r_2b_6, ((u8 *)g_static_237));
     goto l_core_ga_3;
 l_join_z5:;
-    st8((r_2b_5 + (i64)(r_ip)), ld8((((u8 *)g_static_237) + (i64)(r_ip))));
+    st8((r_2b_6 + (i64)(r_ip)), ld8((((u8 *)g_static_237) + (i64)(r_ip))));
     u64 r_c4_7 = (r_ip + 1ull);
     if (!(r_c4_7 == 3ull)) { r_ip = r_c4_7; goto l_join_z5; }
 l_core_ga_3:;
@@ -4123,12 +4123,12 @@ l_arm_5c:;
 l_join_p3:;
     r_x4 = (r_54 + 2ull);
     r_fx_6 = ldp(a_3);
-    r_2b_6 = away(r_fx_6, r_54);
-    if (((u64)(uptr)r_2b_6 - (u64)(uptr)((u8 *)g_static_57)) < 2ull) { r_p7 = 0ull; goto l_join_3c; }
-    st16(r_2b_6, 8250u);
+    r_2b_7 = away(r_fx_6, r_54);
+    if (((u64)(uptr)r_2b_7 - (u64)(uptr)((u8 *)g_static_57)) < 2ull) { r_p7 = 0ull; goto l_join_3c; }
+    st16(r_2b_7, 8250u);
     goto l_core_ga_4;
 l_join_3c:;
-    st8((r_2b_6 + (i64)(r_p7)), ld8((((u8 *)g_static_57) + (i64)(r_p7))));
+    st8((r_2b_7 + (i64)(r_p7)), ld8((((u8 *)g_static_57) + (i64)(r_p7))));
     u64 r_c4_8 = (r_p7 + 1ull);
     if (!(r_c4_8 == 2ull)) { r_p7 = r_c4_8; goto l_join_3c; }
 l_core_ga_4:;
@@ -4196,12 +4196,12 @@ l_capnp_fk:;
 l_join_tt_1:;
     r_5b_1 = (r_pz_1 + 4ull);
     r_fx_7 = ldp(a_3);
-    r_2b_8 = away(r_fx_7, r_pz_1);
-    if (((u64)(uptr)r_2b_8 - (u64)(uptr)((u8 *)g_static_224)) < 4ull) { r_1p = 0ull; goto l_join_kb; }
-    st32(r_2b_8, 0x6d305b1bu);
+    r_2b_9 = away(r_fx_7, r_pz_1);
+    if (((u64)(uptr)r_2b_9 - (u64)(uptr)((u8 *)g_static_224)) < 4ull) { r_1p = 0ull; goto l_join_kb; }
+    st32(r_2b_9, 0x6d305b1bu);
     goto l_core_ga_5;
 l_join_kb:;
-    st8((r_2b_8 + (i64)(r_1p)), ld8((((u8 *)g_static_224) + (i64)(r_1p))));
+    st8((r_2b_9 + (i64)(r_1p)), ld8((((u8 *)g_static_224) + (i64)(r_1p))));
     u64 r_c4_9 = (r_1p + 1ull);
     if (!(r_c4_9 == 4ull)) { r_1p = r_c4_9; goto l_join_kb; }
 l_core_ga_5:;
@@ -4251,9 +4251,9 @@ l_join_kl:;
     r_pt = 0ull;
 l_join_jf:;
     u8 r_47_18 = ld8((r_x9 + (i64)(r_pt)));
-    u8 *r_a7_12 = (slot_1 + (i64)((u64)(r_pt << 1ull)));
-    st8(r_a7_12, ld8((((u8 *)g_static_117) + (i64)((u64)(u8)((u32)r_47_18 >> 4u)))));
-    st8((r_a7_12 + 1), ld8((((u8 *)g_static_117) + (i64)((u64)(u8)(r_47_18 & 15u)))));
+    u8 *r_a7_11 = (slot_1 + (i64)((u64)(r_pt << 1ull)));
+    st8(r_a7_11, ld8((((u8 *)g_static_117) + (i64)((u64)(u8)((u32)r_47_18 >> 4u)))));
+    st8((r_a7_11 + 1), ld8((((u8 *)g_static_117) + (i64)((u64)(u8)(r_47_18 & 15u)))));
     u64 r_c4_10 = (r_pt + 1ull);
     if (!(r_c4_10 == a_3q)) { r_pt = r_c4_10; goto l_join_jf; }
     r_yb = (u64)(a_3q << 1ull);
@@ -4348,7 +4348,7 @@ l_noarm_e1_2:;
 l_capnp_k6:;
     r_24_4 = (u64)uadd_sat32(r_st, r_z4);
     if (!(r_gw_1 > r_24_4)) { r_de = 0ull; goto l_capnp_0h; }
-    r_de = ld64((r_xw + (i64)((u64)(r_24_4 << 3ull))));
+    r_de = ld64(away(r_xw, (u64)(r_24_4 << 3ull)));
 l_capnp_0h:;
     switch (r_ne) {
     case 1u: goto l_arm_6b;
@@ -4388,12 +4388,12 @@ l_capnp_x3:;
 l_join_ue:;
     r_qh_1 = (r_19_3 + i_0a);
     r_fx_10 = ldp(a_3);
-    r_2b_12 = away(r_fx_10, r_19_3);
-    if (((u64)(uptr)r_2b_12 - (u64)(uptr)static_t6) < i_0a) { r_es = 0ull; goto l_join_fx; }
-    memcpy_or_none(r_2b_12, static_t6, i_0a);
+    r_2b_14 = away(r_fx_10, r_19_3);
+    if (((u64)(uptr)r_2b_14 - (u64)(uptr)static_t6) < i_0a) { r_es = 0ull; goto l_join_fx; }
+    memcpy_or_none(r_2b_14, static_t6, i_0a);
     goto l_arm_na_2;
 l_join_fx:;
-    st8((r_2b_12 + (i64)(r_es)), ld8((static_t6 + (i64)(r_es))));
+    st8((r_2b_14 + (i64)(r_es)), ld8((static_t6 + (i64)(r_es))));
     u64 r_c4_12 = (r_es + 1ull);
     if (!(r_c4_12 == i_0a)) { r_es = r_c4_12; goto l_join_fx; }
 l_arm_na_2:;
@@ -4465,12 +4465,12 @@ l_arm_og_1:;
 l_join_67:;
     r_ob = (r_wh + 10ull);
     r_fx_12 = ldp(a_3);
-    r_2b_14 = away(r_fx_12, r_wh);
-    if (((u64)(uptr)r_2b_14 - (u64)(uptr)((u8 *)g_static_244)) < 10ull) { r_l8 = 0ull; goto l_join_j7; }
-    mv10(r_2b_14, ((u8 *)g_static_244));
+    r_2b_16 = away(r_fx_12, r_wh);
+    if (((u64)(uptr)r_2b_16 - (u64)(uptr)((u8 *)g_static_244)) < 10ull) { r_l8 = 0ull; goto l_join_j7; }
+    mv10(r_2b_16, ((u8 *)g_static_244));
     goto l_arm_na_3;
 l_join_j7:;
-    st8((r_2b_14 + (i64)(r_l8)), ld8((((u8 *)g_static_244) + (i64)(r_l8))));
+    st8((r_2b_16 + (i64)(r_l8)), ld8((((u8 *)g_static_244) + (i64)(r_l8))));
     u64 r_c4_14 = (r_l8 + 1ull);
     if (!(r_c4_14 == 10ull)) { r_l8 = r_c4_14; goto l_join_j7; }
 l_arm_na_3:;
@@ -4509,12 +4509,12 @@ l_then_pz_1:;
 l_join_h7_1:;
     r_hc_1 = (r_ue_1 + 3ull);
     r_fx_13 = ldp(a_3);
-    r_2b_15 = away(r_fx_13, r_ue_1);
-    if (((u64)(uptr)r_2b_15 - (u64)(uptr)((u8 *)g_static_237)) < 3ull) { r_ip_1 = 0ull; goto l_join_z5_1; }
-    mv3(r_2b_15, ((u8 *)g_static_237));
+    r_2b_17 = away(r_fx_13, r_ue_1);
+    if (((u64)(uptr)r_2b_17 - (u64)(uptr)((u8 *)g_static_237)) < 3ull) { r_ip_1 = 0ull; goto l_join_z5_1; }
+    mv3(r_2b_17, ((u8 *)g_static_237));
     goto l_core_ga_6;
 l_join_z5_1:;
-    st8((r_2b_15 + (i64)(r_ip_1)), ld8((((u8 *)g_static_237) + (i64)(r_ip_1))));
+    st8((r_2b_17 + (i64)(r_ip_1)), ld8((((u8 *)g_static_237) + (i64)(r_ip_1))));
     u64 r_c4_15 = (r_ip_1 + 1ull);
     if (!(r_c4_15 == 3ull)) { r_ip_1 = r_c4_15; goto l_join_z5_1; }
 l_core_ga_6:;
@@ -4546,12 +4546,12 @@ l_arm_0h:;
 l_join_k6:;
     r_wr = (r_9w + 9ull);
     r_fx_14 = ldp(a_3);
-    r_2b_16 = away(r_fx_14, r_9w);
-    if (((u64)(uptr)r_2b_16 - (u64)(uptr)((u8 *)g_static_245)) < 9ull) { r_e5 = 0ull; goto l_join_vq; }
-    mv9(r_2b_16, ((u8 *)g_static_245));
+    r_2b_18 = away(r_fx_14, r_9w);
+    if (((u64)(uptr)r_2b_18 - (u64)(uptr)((u8 *)g_static_245)) < 9ull) { r_e5 = 0ull; goto l_join_vq; }
+    mv9(r_2b_18, ((u8 *)g_static_245));
     goto l_arm_na_4;
 l_join_vq:;
-    st8((r_2b_16 + (i64)(r_e5)), ld8((((u8 *)g_static_245) + (i64)(r_e5))));
+    st8((r_2b_18 + (i64)(r_e5)), ld8((((u8 *)g_static_245) + (i64)(r_e5))));
     u64 r_c4_16 = (r_e5 + 1ull);
     if (!(r_c4_16 == 9ull)) { r_e5 = r_c4_16; goto l_join_vq; }
 l_arm_na_4:;
@@ -4589,12 +4589,12 @@ l_then_pz_2:;
 l_join_h7_2:;
     r_hc_2 = (r_ue_2 + 3ull);
     r_fx_15 = ldp(a_3);
-    r_2b_17 = away(r_fx_15, r_ue_2);
-    if (((u64)(uptr)r_2b_17 - (u64)(uptr)((u8 *)g_static_237)) < 3ull) { r_ip_2 = 0ull; goto l_join_z5_2; }
-    mv3(r_2b_17, ((u8 *)g_static_237));
+    r_2b_19 = away(r_fx_15, r_ue_2);
+    if (((u64)(uptr)r_2b_19 - (u64)(uptr)((u8 *)g_static_237)) < 3ull) { r_ip_2 = 0ull; goto l_join_z5_2; }
+    mv3(r_2b_19, ((u8 *)g_static_237));
     goto l_core_ga_7;
 l_join_z5_2:;
-    st8((r_2b_17 + (i64)(r_ip_2)), ld8((((u8 *)g_static_237) + (i64)(r_ip_2))));
+    st8((r_2b_19 + (i64)(r_ip_2)), ld8((((u8 *)g_static_237) + (i64)(r_ip_2))));
     u64 r_c4_17 = (r_ip_2 + 1ull);
     if (!(r_c4_17 == 3ull)) { r_ip_2 = r_c4_17; goto l_join_z5_2; }
 l_core_ga_7:;
@@ -5541,7 +5541,7 @@ l_capnp_xz:;
 l_capnp_k6:;
     r_24 = (u64)uadd_sat32(r_l1, r_5k);
     if (!(r_gw > r_24)) { r_lk = 0ull; goto l_capnp_pz; }
-    r_lk = ld64((r_rv + (i64)((u64)(r_24 << 3ull))));
+    r_lk = ld64(away(r_rv, (u64)(r_24 << 3ull)));
 l_capnp_pz:;
     if (!(r_st == 0u)) { r_as = r_st; goto l_capnp_4a; }
     struct s_i8_i8 r_86 = capnp_show_show_text_Text_push_hex_number(a_1, r_lk);
@@ -5810,7 +5810,7 @@ l_join_gt:;
     st64(t_6c, 0ull);
     r_24 = (u64)r_hq;
     if (!(r_gw > r_24)) goto l_capnp_nv;
-    if (ld64((r_rv + (i64)((u64)(r_24 << 3ull)))) == 0ull) goto l_capnp_nv;
+    if (ld64(away(r_rv, (u64)(r_24 << 3ull))) == 0ull) goto l_capnp_nv;
     if (!(ld8(r_q6) == 0u)) goto l_capnp_ns;
     u64 r_52 = ld64(r_su_1);
     if (!(ld64(r_t9_1) == r_52)) { r_au = r_52; goto l_join_qq; }

@@ -4521,7 +4521,7 @@ l_after_ig:;
     if (r_ep == 0ull) { common_p7 = 0u; goto l_common_57; }
     r_c4_1 = ((u64)((r_nb + 1ull) >> 1ull) + 1ull);
     if (!(r_c4_1 < (u64)(a_2 >> 3ull))) { common_p7 = 1u; goto l_common_57; }
-    r_qw = ld64((a_1 + (i64)((u64)(r_c4_1 << 3ull))));
+    r_qw = ld64(away(a_1, (u64)(r_c4_1 << 3ull)));
     switch ((u8)((u8)r_qw & 3u)) {
     case 0u: goto l_arm_rv;
     case 1u: goto l_arm_a9;
@@ -4613,7 +4613,7 @@ u8 capnp_streams_looks_begins_with_packed_frame(u8 *a_1, u64 a_2)
     r_ep = (u64)(r_38 >> 32ull);
     r_c4_1 = ((u64)((r_nb + 1ull) >> 1ull) + 1ull);
     if (!(r_c4_1 < (u64)(r_bn >> 3ull))) { common_p7 = 0u; goto l_capnp_57; }
-    r_38_1 = ld64((slot_1 + (i64)((u64)(r_c4_1 << 3ull))));
+    r_38_1 = ld64(away(slot_1, (u64)(r_c4_1 << 3ull)));
     switch ((u8)((u8)r_38_1 & 3u)) {
     case 0u: goto l_arm_78;
     case 2u: goto l_arm_at;

@@ -187,7 +187,6 @@ INLINE u8 mask_at(const void *vector) { return (u8)((ld64(vector) & 0x8080808080
 struct s_i8_i32 { u8 f0; u32 f1; };
 
 /* mvN moves N bytes between places that may overlap. */
-INLINE void mv6(u8 *to, const u8 *from) { u32 part0 = ld32(from); u16 part4 = ld16((from + 4)); st32(to, part0); st16((to + 4), part4); }
 INLINE void mv8(u8 *to, const u8 *from) { u64 part0 = ld64(from); st64(to, part0); }
 INLINE void mv16(u8 *to, const u8 *from) { u64 part0 = ld64(from); u64 part8 = ld64((from + 8)); st64(to, part0); st64((to + 8), part8); }
 INLINE void mv24(u8 *to, const u8 *from) { u64 part0 = ld64(from); u64 part8 = ld64((from + 8)); u64 part16 = ld64((from + 16)); st64(to, part0); st64((to + 8), part8); st64((to + 16), part16); }
@@ -195,7 +194,8 @@ INLINE void mv32(u8 *to, const u8 *from) { u64 part0 = ld64(from); u64 part8 = l
 
 static const u8 g_static_4[1] = { 0 };
 static const u64 switch_table_capnp_copies_copy_copy_object_5ec03199cc959fcd[7] = { 0u, 1u, 8u, 16u, 32u, 64u, 0u };
-static const u64 switch_table_capnp_copies_copy_children_copy_children__1fe69969[5] = { 1u, 8u, 16u, 32u, 64u };
+static const u64 switch_table_capnp_objects_pointers_validate_validate__79a49eb6[5] = { 1u, 8u, 16u, 32u, 64u };
+static const u32 switch_table_capnp_layout_list[8] = { 0u, 1u, 8u, 16u, 32u, 64u, 0u, 0u };
 
 static NEVER COLD void capnp_contents_existing_struct_behind_pad_d7a666d2d35ab297(u8 *a_1, u8 *a_2, u32 a_3, u64 a_4);
 static NEVER COLD void capnp_making_landing_follow_far_d7a666d2d35ab297(u8 *a_1, u8 *a_2, u64 a_3);
@@ -220,6 +220,12 @@ static void capnp_arena_traits_arena_writing_copy_words_d7a666d2d35ab297(u8 *a_1
 static NEVER void capnp_copies_copy_children_copy_children_out_of_line_5_f210a996(u8 *a_1, u8 *a_2, u32 a_3, u32 a_4, u8 *a_5, u32 a_6, u8 *a_7, u8 a_8);
 static void capnp_objects_source_expected_narrow_elements_error(u8 *a_1, u8 a_2, u8 a_3);
 static u32 capnp_layout_c_capnp_layout_struct(u8 *a_1, u8 *a_2, u64 a_3, u32 a_4, u32 a_5, u8 *a_6);
+static NEVER u8 capnp_objects_pointers_validate_validate_object_07dcb3_9288a101(u8 *a_1, u32 a_2, u32 a_3, u8 *a_4);
+static NEVER u8 capnp_objects_pointers_validate_validate_pointers_07dc_3ddc9608(u8 *a_1, u32 a_2, u32 a_3, u32 a_4, u8 *a_5);
+static NEVER void capnp_layout_c_validation_refused_pointer(u8 *a_1, u8 *a_2, u32 a_3, u8 *a_4);
+static void capnp_refusals_refusals_search_search_object_07dcb38b0fe92235(u8 *a_1, u8 *a_2, u32 a_3, u32 a_4, u8 *a_5);
+static void capnp_refusals_refusals_search_search_elements_07dcb38b0fe92235(u8 *a_1, u8 *a_2, u32 a_3, u32 a_4, u32 a_5, u8 *a_6);
+static NEVER void capnp_refusals_refusals_search_search_pointers_07dcb38b0fe92235(u8 *a_1, u8 *a_2, u32 a_3, u32 a_4, u32 a_5, u8 *a_6);
 
 /* capnp_contents::existing::struct_behind_pad::<#d7a666d2d35ab297> */
 static NEVER COLD void capnp_contents_existing_struct_behind_pad_d7a666d2d35ab297(u8 *a_1, u8 *a_2, u32 a_3, u64 a_4)
@@ -430,7 +436,7 @@ l_capnp_ob:;
     r_m2 = (u32)a_1p;
     r_m2_1 = (u32)a_1p_1;
     r_68 = (r_m2_1 + r_m2);
-    if (r_68 > ((u32)umin64((u64)(ld64(away(a_2, 8ull)) >> 3ull), 0x1fffffffull) - r_yf)) goto l_arm_4y;
+    if (r_68 > ((u32)umin64((u64)(ld64(away(a_2, 8ull)) >> 3ull), 0x1fffffffull) - r_yf)) goto l_arm_5h;
     r_24 = (u64)r_yf;
     r_z6_1 = (u64)(r_24 << 3ull);
     r_c0 = (u64)(u32)(r_68 << 3u);
@@ -532,7 +538,7 @@ l_capnp_7t:;
     t_cf = (u32)ld8((slot_1 + 8));
     if (pre_r5 == 0u) goto l_capnp_he;
     goto l_arm_6i;
-l_arm_4y:;
+l_arm_5h:;
     u8 *r_xz = away(a_2, 24ull);
     st64(r_xz, uadd_sat64(ld64(r_xz), 1ull));
     r_cp = 1u;
@@ -713,14 +719,14 @@ l_capnp_tn:;
     st64(away(a_1, 16ull), 0ull);
     goto l_common_68;
 l_join_el:;
-    if (!(a_3 > 0x1fffffffu)) goto l_join_4y;
+    if (!(a_3 > 0x1fffffffu)) goto l_join_5h;
     st32(a_1, 1u);
     st32(away(a_1, 4ull), 0u);
     st32(away(a_1, 8ull), 27u);
     st32(away(a_1, 12ull), 0u);
     st64(away(a_1, 16ull), (u64)a_3);
     goto l_common_68;
-l_join_4y:;
+l_join_5h:;
     u8 *r_xz = away(a_2, 24ull);
     st64(r_xz, uadd_sat64(ld64(r_xz), 1ull));
     st32(a_1, 1u);
@@ -887,7 +893,7 @@ l_arm_ue:;
     r_10 = ((((u64)(r_79 << 35ull) | (u64)(u32)((r_4r + (r_7m_1 ^ 0xffffffffu)) << 2u)) | t_wl) | 1ull);
     goto l_arm_i3;
 l_join_fn:;
-    if (r_yf == (u32)umin64((u64)(ld64(r_rq) >> 3ull), 0x1fffffffull)) goto l_arm_4y;
+    if (r_yf == (u32)umin64((u64)(ld64(r_rq) >> 3ull), 0x1fffffffull)) goto l_arm_5h;
     r_z6_1 = (u64)(r_24_1 << 3ull);
     memset(away(r_fx, r_z6_1), 0, 8);
     st32(r_08, (r_yf + 1u));
@@ -908,7 +914,7 @@ l_arm_da:;
     if (indvars_r7 == wide_v1) { r_le = 0u; goto l_capnp_zp; }
     indvars_rj = indvars_r7;
     goto l_join_ue;
-l_arm_4y:;
+l_arm_5h:;
     u8 *r_xz = away(a_2, 24ull);
     st64(r_xz, uadd_sat64(ld64(r_xz), 1ull));
     r_le = 1u;
@@ -1040,7 +1046,7 @@ static NEVER void capnp_contents_opening_new_struct_d7a666d2d35ab297(u8 *a_1, u8
     if (r_68 == 0u) { r_6l = 0xfffffffcull; r_96 = a_3; goto l_arm_7a; }
     r_08 = away(a_2, 16ull);
     r_e3 = ld32(r_08);
-    if (r_68 > ((u32)umin64((u64)(ld64(away(a_2, 8ull)) >> 3ull), 0x1fffffffull) - r_e3)) goto l_arm_4y;
+    if (r_68 > ((u32)umin64((u64)(ld64(away(a_2, 8ull)) >> 3ull), 0x1fffffffull) - r_e3)) goto l_arm_5h;
     r_c0 = (u64)(u32)(r_68 << 3u);
     r_2b = away(ldp(a_2), (u64)((u64)r_e3 << 3ull));
     if (r_68 < 8u) goto l_then_5x;
@@ -1073,7 +1079,7 @@ l_arm_7a:;
     st64(away(a_1, 16ull), 0ull);
 l_common_68:;
     return;
-l_arm_4y:;
+l_arm_5h:;
     u8 *r_xz = away(a_2, 24ull);
     st64(r_xz, uadd_sat64(ld64(r_xz), 1ull));
     st32(a_1, 1u);
@@ -1481,12 +1487,12 @@ l_else_em_1:;
     memset(away(away(r_2b_1, r_z6_4), 0xfffffffffffffff8ull), 0, 8);
     goto l_capnp_22;
 l_join_12:;
-    if (!(r_z3 > 0x1fffffffu)) goto l_join_4y;
+    if (!(r_z3 > 0x1fffffffu)) goto l_join_5h;
     sink_iw = 1u;
     r_7a = 0x1b00000000ull;
     sink_zn = (u64)r_z3;
     goto l_common_ak;
-l_join_4y:;
+l_join_5h:;
     u8 *r_xz = away(a_2, 24ull);
     st64(r_xz, uadd_sat64(ld64(r_xz), 1ull));
     sink_iw = 1u;
@@ -1707,7 +1713,7 @@ static NEVER void capnp_copies_copy_copy_object_5ec03199cc959fcd(u8 *a_1, u8 *a_
     u32 r_e3_4;
     u64 r_z6_39;
     u8 *r_2b_11;
-    u32 r_6i;
+    u32 r_2v;
     u64 r_4i_1;
     u64 r_y6_2;
     u64 r_q7_2;
@@ -2394,13 +2400,13 @@ l_else_we:;
     memset(away(away(r_2b_7, r_z6_29), 0xfffffffffffffff8ull), 0, 8);
     goto l_arm_od;
 l_join_wg:;
-    if (!(r_b6_2 > 0x7ffffff80ull)) goto l_join_4y;
+    if (!(r_b6_2 > 0x7ffffff80ull)) goto l_join_5h;
     r_5k_2 = 1u;
     r_qp = 27u;
     r_7u = 0u;
     r_pz = (r_se + 1ull);
     goto l_join_1g;
-l_join_4y:;
+l_join_5h:;
     u8 *r_xz_1 = away(a_2, 24ull);
     st64(r_xz_1, uadd_sat64(ld64(r_xz_1), 1ull));
     r_5k_2 = 1u;
@@ -2474,13 +2480,13 @@ l_capnp_od_1:;
     if (r_ij == 0ull) { r_5k_2 = 0u; r_qp = 0u; r_7u = 0u; r_pz = 0ull; goto l_join_1g; }
     goto l_join_a0;
 l_arm_4g:;
-    if (!(r_ij == 0x1fffffffull)) goto l_join_4y_1;
+    if (!(r_ij == 0x1fffffffull)) goto l_join_5h_1;
     r_5k_2 = 1u;
     r_qp = 27u;
     r_7u = 0u;
     r_pz = (r_ij + 1ull);
     goto l_join_1g;
-l_join_4y_1:;
+l_join_5h_1:;
     u8 *r_xz_2 = away(a_2, 24ull);
     st64(r_xz_2, uadd_sat64(ld64(r_xz_2), 1ull));
     r_5k_2 = 1u;
@@ -2549,7 +2555,7 @@ l_join_1e:;
     r_ep_4 = (u64)(r_qw_12 >> 32ull);
     if (!((switch_f9_3 == 1ull) ? ((u8)((u8)((u8)r_ep_4 & 7u) + 255u) < 5u) : 0u)) goto l_join_br;
     r_ij_1 = (u64)(r_qw_12 >> 35ull);
-    r_c6_5 = (u64)(((ld64(away(away(((u8 *)switch_table_capnp_copies_copy_children_copy_children__1fe69969), 8 * (r_ep_4 & 7ull)), 0xfffffffffffffff8ull)) * r_ij_1) + 63ull) >> 6ull);
+    r_c6_5 = (u64)(((ld64(away(away(((u8 *)switch_table_capnp_objects_pointers_validate_validate__79a49eb6), 8 * (r_ep_4 & 7ull)), 0xfffffffffffffff8ull)) * r_ij_1) + 63ull) >> 6ull);
     if (!t_0c_2) goto l_join_bd_1;
     st64(r_08_6, uadd_sat64(ld64(r_08_6), 1ull));
 l_join_bd_1:;
@@ -2575,7 +2581,7 @@ l_arm_vo:;
 l_arm_p5:;
     r_z6_38 = (u64)(r_c6_5 << 3ull);
     r_8a = away(t_f6_3, (u64)(r_gk_1 << 3ull));
-    r_1q_2 = (ld64(away(away(((u8 *)switch_table_capnp_copies_copy_children_copy_children__1fe69969), 8 * (r_ep_4 & 7ull)), 0xfffffffffffffff8ull)) * r_ij_1);
+    r_1q_2 = (ld64(away(away(((u8 *)switch_table_capnp_objects_pointers_validate_validate__79a49eb6), 8 * (r_ep_4 & 7ull)), 0xfffffffffffffff8ull)) * r_ij_1);
     r_se_1 = (u64)((r_1q_2 + 63ull) >> 6ull);
     r_12_4 = (u32)r_se_1;
     r_e3_4 = ld32(r_08_2);
@@ -2602,8 +2608,8 @@ l_else_r8:;
 l_core_kl:;
     st32(r_08_2, (r_e3_4 + r_12_4));
     st64((ldp(a_2) + (i64)((u64)((u64)r_sr_3 << 3ull))), ((r_qw_12 & 0xffffffff00000001ull) | (u64)(u32)((r_e3_4 + (r_sr_3 ^ 0xffffffffu)) << 2u)));
-    r_6i = r_e3_4;
-    goto l_arm_7s;
+    r_2v = r_e3_4;
+    goto l_arm_2p;
 l_arm_45_1:;
     capnp_lent_arena_lent_arena_LentArenaBuilderArena_allo_c5878f28(slot_1, a_2, (r_12_4 + 1u));
     if (!(ld8(slot_1) == 0u)) goto l_arm_vh;
@@ -2612,14 +2618,14 @@ l_arm_45_1:;
     u32 r_yf_1 = ld32(r_ix_2);
     st64((ldp(a_2) + (i64)(r_z6_42)), (r_qw_12 & 0xffffffff00000001ull));
     st64((ldp(a_2) + (i64)((u64)((u64)r_sr_3 << 3ull))), (((u64)((u64)r_yf_1 << 32ull) | r_z6_42) | 2ull));
-    r_6i = (r_e3_5 + 1u);
-l_arm_7s:;
-    u64 r_1q_3 = (ld64(away(away(((u8 *)switch_table_capnp_copies_copy_children_copy_children__1fe69969), 8 * (r_ep_4 & 7ull)), 0xfffffffffffffff8ull)) * r_ij_1);
-    capnp_arena_traits_arena_writing_copy_words_d7a666d2d35ab297(a_2, r_6i, r_8a, r_z6_38);
+    r_2v = (r_e3_5 + 1u);
+l_arm_2p:;
+    u64 r_1q_3 = (ld64(away(away(((u8 *)switch_table_capnp_objects_pointers_validate_validate__79a49eb6), 8 * (r_ep_4 & 7ull)), 0xfffffffffffffff8ull)) * r_ij_1);
+    capnp_arena_traits_arena_writing_copy_words_d7a666d2d35ab297(a_2, r_2v, r_8a, r_z6_38);
     r_4i_1 = (r_1q_3 & 63ull);
     if (r_4i_1 == 0ull) goto l_capnp_v7;
     u64 r_0f_4 = (r_c6_5 + 0xffffffffffffffffull);
-    st64((ldp(a_2) + (i64)((u64)((u64)(r_6i + (u32)r_0f_4) << 3ull))), (ld64(away(r_8a, (u64)(r_0f_4 << 3ull))) & ((u64)(0xffffffffffffffffull << (r_4i_1 & 63u)) ^ 0xffffffffffffffffull)));
+    st64((ldp(a_2) + (i64)((u64)((u64)(r_2v + (u32)r_0f_4) << 3ull))), (ld64(away(r_8a, (u64)(r_0f_4 << 3ull))) & ((u64)(0xffffffffffffffffull << (r_4i_1 & 63u)) ^ 0xffffffffffffffffull)));
     goto l_capnp_v7;
 l_arm_vh:;
     r_t8_1 = ld8(r_x5_12);
@@ -2934,7 +2940,7 @@ l_join_iw:;
     r_ep_7 = (u64)(r_qw_20 >> 32ull);
     if (!((switch_f9_4 == 1ull) ? ((u8)((u8)((u8)r_ep_7 & 7u) + 255u) < 5u) : 0u)) goto l_join_br_1;
     r_ij_2 = (u64)(r_qw_20 >> 35ull);
-    r_1q_4 = (ld64(away(away(((u8 *)switch_table_capnp_copies_copy_children_copy_children__1fe69969), 8 * (r_ep_7 & 7ull)), 0xfffffffffffffff8ull)) * r_ij_2);
+    r_1q_4 = (ld64(away(away(((u8 *)switch_table_capnp_objects_pointers_validate_validate__79a49eb6), 8 * (r_ep_7 & 7ull)), 0xfffffffffffffff8ull)) * r_ij_2);
     r_c6_8 = (u64)((r_1q_4 + 63ull) >> 6ull);
     if (!t_0c_6) goto l_join_bd_2;
     st64(r_08_7, uadd_sat64(ld64(r_08_7), 1ull));
@@ -2961,7 +2967,7 @@ l_arm_vo_1:;
 l_arm_p5_1:;
     r_z6_61 = (u64)(r_c6_8 << 3ull);
     r_8a_1 = away(t_f6_2, (u64)(r_gk_2 << 3ull));
-    r_1q_5 = (ld64(away(away(((u8 *)switch_table_capnp_copies_copy_children_copy_children__1fe69969), 8 * (r_ep_7 & 7ull)), 0xfffffffffffffff8ull)) * r_ij_2);
+    r_1q_5 = (ld64(away(away(((u8 *)switch_table_capnp_objects_pointers_validate_validate__79a49eb6), 8 * (r_ep_7 & 7ull)), 0xfffffffffffffff8ull)) * r_ij_2);
     r_se_2 = (u64)((r_1q_5 + 63ull) >> 6ull);
     r_12_5 = (u32)r_se_2;
     r_e3_7 = ld32(r_08_8);
@@ -2995,7 +3001,7 @@ l_join_t5:;
 l_arm_kl:;
     st32(r_08_8, (r_e3_7 + r_12_5));
     st64((ldp(a_2) + (i64)((u64)((u64)r_sr_7 << 3ull))), ((r_qw_20 & 0xffffffff00000001ull) | (u64)(u32)((r_e3_7 + (r_sr_7 ^ 0xffffffffu)) << 2u)));
-    r_1q_6 = (ld64(away(away(((u8 *)switch_table_capnp_copies_copy_children_copy_children__1fe69969), 8 * (r_ep_7 & 7ull)), 0xfffffffffffffff8ull)) * r_ij_2);
+    r_1q_6 = (ld64(away(away(((u8 *)switch_table_capnp_objects_pointers_validate_validate__79a49eb6), 8 * (r_ep_7 & 7ull)), 0xfffffffffffffff8ull)) * r_ij_2);
     if (r_c6_8 == 0ull) goto l_capnp_pq;
     r_2b_21 = away(ldp(a_2), (u64)((u64)r_e3_7 << 3ull));
     if (!(r_1q_4 < 449ull)) goto l_else_r3_3;
@@ -3119,7 +3125,7 @@ l_capnp_hv:;
     goto l_arm_rv;
 l_join_fn:;
     r_e3_8 = ld32(r_08_8);
-    if (r_68_5 > ((u32)umin64((u64)(ld64(r_rq_13) >> 3ull), 0x1fffffffull) - r_e3_8)) goto l_arm_p0;
+    if (r_68_5 > ((u32)umin64((u64)(ld64(r_rq_13) >> 3ull), 0x1fffffffull) - r_e3_8)) goto l_arm_xy;
     r_c0_20 = (u64)(u32)(r_68_5 << 3u);
     r_2b_28 = away(ldp(a_2), (u64)((u64)r_e3_8 << 3ull));
     if (r_68_5 < 8u) goto l_then_5x_1;
@@ -3198,7 +3204,7 @@ l_capnp_no_3:;
     r_ex = r_qh_2;
     t_jr = r_2b_30;
     goto l_capnp_z0;
-l_arm_p0:;
+l_arm_xy:;
     st64(r_xz_3, uadd_sat64(ld64(r_xz_3), 1ull));
     t_ko = 0ull;
     t_h6 = 0u;
@@ -3722,7 +3728,7 @@ l_join_22:;
     r_ep = (u64)(r_qw_3 >> 32ull);
     if (!((switch_f9 == 1ull) ? ((u8)((u8)((u8)r_ep & 7u) + 255u) < 5u) : 0u)) goto l_join_br;
     r_ij = (u64)(r_qw_3 >> 35ull);
-    r_1q = (ld64(away(away(((u8 *)switch_table_capnp_copies_copy_children_copy_children__1fe69969), 8 * (r_ep & 7ull)), 0xfffffffffffffff8ull)) * r_ij);
+    r_1q = (ld64(away(away(((u8 *)switch_table_capnp_objects_pointers_validate_validate__79a49eb6), 8 * (r_ep & 7ull)), 0xfffffffffffffff8ull)) * r_ij);
     r_c6 = (u64)((r_1q + 63ull) >> 6ull);
     if (!t_0c) goto l_join_bd;
     st64(r_08_1, uadd_sat64(ld64(r_08_1), 1ull));
@@ -3749,7 +3755,7 @@ l_arm_i0_1:;
 l_arm_5g:;
     r_z6_1 = (u64)(r_c6 << 3ull);
     r_dx = away(r_rv_1, (u64)(r_la << 3ull));
-    r_1q_1 = (ld64(away(away(((u8 *)switch_table_capnp_copies_copy_children_copy_children__1fe69969), 8 * (r_ep & 7ull)), 0xfffffffffffffff8ull)) * r_ij);
+    r_1q_1 = (ld64(away(away(((u8 *)switch_table_capnp_objects_pointers_validate_validate__79a49eb6), 8 * (r_ep & 7ull)), 0xfffffffffffffff8ull)) * r_ij);
     r_se = (u64)((r_1q_1 + 63ull) >> 6ull);
     r_12 = (u32)r_se;
     r_e3 = ld32(r_08_2);
@@ -3783,7 +3789,7 @@ l_join_m2:;
 l_arm_kl:;
     st32(r_08_2, (r_e3 + r_12));
     st64((ldp(a_2) + (i64)((u64)((u64)r_7m << 3ull))), ((r_qw_3 & 0xffffffff00000001ull) | (u64)(u32)((r_e3 + (r_7m ^ 0xffffffffu)) << 2u)));
-    r_1q_2 = (ld64(away(away(((u8 *)switch_table_capnp_copies_copy_children_copy_children__1fe69969), 8 * (r_ep & 7ull)), 0xfffffffffffffff8ull)) * r_ij);
+    r_1q_2 = (ld64(away(away(((u8 *)switch_table_capnp_objects_pointers_validate_validate__79a49eb6), 8 * (r_ep & 7ull)), 0xfffffffffffffff8ull)) * r_ij);
     if (r_c6 == 0ull) goto l_capnp_pq;
     r_2b_2 = away(ldp(a_2), (u64)((u64)r_e3 << 3ull));
     if (!(r_1q < 449ull)) goto l_else_r3;
@@ -3907,7 +3913,7 @@ l_capnp_hv:;
     goto l_arm_rv;
 l_join_fn:;
     r_e3_1 = ld32(r_08_2);
-    if (r_68 > ((u32)umin64((u64)(ld64(r_rq_2) >> 3ull), 0x1fffffffull) - r_e3_1)) goto l_arm_p0;
+    if (r_68 > ((u32)umin64((u64)(ld64(r_rq_2) >> 3ull), 0x1fffffffull) - r_e3_1)) goto l_arm_xy;
     r_c0 = (u64)(u32)(r_68 << 3u);
     r_2b_10 = away(ldp(a_2), (u64)((u64)r_e3_1 << 3ull));
     if (r_68 < 8u) goto l_then_5x;
@@ -3986,7 +3992,7 @@ l_capnp_no:;
     r_k7 = r_qh;
     t_yl = r_2b_13;
     goto l_capnp_6w;
-l_arm_p0:;
+l_arm_xy:;
     st64(r_xz_1, uadd_sat64(ld64(r_xz_1), 1ull));
     t_i2 = 0ull;
     t_1i = 0u;
@@ -4119,51 +4125,53 @@ static u32 capnp_layout_c_capnp_layout_struct(u8 *a_1, u8 *a_2, u64 a_3, u32 a_4
 {
     A(8) u8 slot_1[56];
     A(8) u8 slot_2[24];
+    u64 r_yz;
     u8 *r_x5;
     u8 *r_zd;
-    u8 *r_iu;
-    u64 r_zd_1;
+    u8 *r_jg;
+    u64 r_hg;
     u64 r_7l;
     u64 r_oz;
     u64 r_qw_2;
     u64 r_lc;
     u64 r_nb;
     u64 r_yz_1;
-    u32 r_zy;
-    u64 r_y2;
-    u64 r_pf;
-    u64 r_wt;
-    u8 *r_xb;
+    u32 r_ob;
+    u64 r_oh;
+    u64 r_q1;
+    u64 r_ly;
+    u8 *r_mf;
     u64 r_ep;
     u64 r_y6;
     u64 r_lc_1;
     u64 r_52;
-    u64 r_i9;
-    u8 *static_x2;
-    u64 sink_nl;
-    u64 sink_wn;
-    u32 sink_qn;
-    u32 sink_jo;
-    u16 sink_na;
-    u32 r_2u;
+    u64 r_un;
+    u64 r_bb;
+    u64 r_o5;
+    u32 r_04;
+    u16 r_b2;
+    u8 *r_3n;
+    u32 r_v8;
+    u32 r_bb_1;
+    u32 r_gw_1;
     st64((slot_2 + 16), 0ull);
-    u64 r_yz = ld64(a_2);
+    r_yz = ld64(a_2);
     st64(slot_2, 1ull);
     r_x5 = (slot_2 + 8);
     st64(r_x5, r_yz);
     r_zd = (slot_2 + 16);
-    if (!(a_3 < ld64((a_1 + 8)))) { r_iu = ((u8 *)g_static_4); r_zd_1 = 0ull; goto l_arm_vi; }
+    if (!(a_3 < ld64((a_1 + 8)))) { r_jg = ((u8 *)g_static_4); r_hg = 0ull; goto l_arm_cr; }
     u8 *r_2b = away(ldp(a_1), (u64)(a_3 << 4ull));
     u64 r_qw_1 = ld64((r_2b + 8));
-    r_iu = ((r_qw_1 < 8ull) ? ((u8 *)g_static_4) : ldp(r_2b));
-    r_zd_1 = (r_qw_1 & 0xfffffffffffffff8ull);
-l_arm_vi:;
+    r_jg = ((r_qw_1 < 8ull) ? ((u8 *)g_static_4) : ldp(r_2b));
+    r_hg = (r_qw_1 & 0xfffffffffffffff8ull);
+l_arm_cr:;
     r_7l = (u64)a_4;
-    r_oz = (u64)(r_zd_1 >> 3ull);
-    if (!(r_oz > r_7l)) { static_x2 = ((u8 *)g_static_4); sink_nl = 0ull; sink_wn = 0ull; sink_qn = 0u; sink_jo = 0x7fffffffu; sink_na = 0u; r_2u = 0u; goto l_join_vr; }
-    r_qw_2 = ld64(away(r_iu, (u64)(r_7l << 3ull)));
-    if (r_qw_2 == 0ull) { static_x2 = ((u8 *)g_static_4); sink_nl = 0ull; sink_wn = 0ull; sink_qn = 0u; sink_jo = 0x7fffffffu; sink_na = 0u; r_2u = 0u; goto l_join_vr; }
-    if ((i32)a_5 < (i32)1u) { static_x2 = ((u8 *)g_static_4); sink_nl = 0ull; sink_wn = 0ull; sink_qn = 0u; sink_jo = 0u; sink_na = 0u; r_2u = 58u; goto l_join_vr; }
+    r_oz = (u64)(r_hg >> 3ull);
+    if (!(r_oz > r_7l)) { r_bb = 0ull; r_o5 = 0ull; r_04 = 0u; r_b2 = 0u; r_3n = ((u8 *)g_static_4); r_v8 = 0x7fffffffu; goto l_arm_c9; }
+    r_qw_2 = ld64(away(r_jg, (u64)(r_7l << 3ull)));
+    if (r_qw_2 == 0ull) { r_bb = 0ull; r_o5 = 0ull; r_04 = 0u; r_b2 = 0u; r_3n = ((u8 *)g_static_4); r_v8 = 0x7fffffffu; goto l_arm_c9; }
+    if ((i32)a_5 < (i32)1u) { r_bb_1 = 58u; goto l_arm_c9_1; }
     st64(r_zd, 1ull);
     if ((r_qw_2 & 3ull) == 2ull) goto l_capnp_nk;
     u64 r_m6 = ((u64)(r_qw_2 >> 2ull) & 0x3fffffffull);
@@ -4178,61 +4186,1087 @@ l_else_70:;
     if ((r_lc < 0x40000000ull) ? 1u : (r_3o > r_nb)) goto l_capnp_5s;
     r_yz_1 = r_3o;
 l_capnp_i5:;
-    r_zy = (u32)r_yz_1;
-    r_y2 = a_3;
-    r_pf = r_qw_2;
-    r_wt = r_zd_1;
-    r_xb = r_iu;
-    goto l_arm_bz;
+    r_ob = (u32)r_yz_1;
+    r_oh = a_3;
+    r_q1 = r_qw_2;
+    r_ly = r_hg;
+    r_mf = r_jg;
+    goto l_arm_7y;
 l_capnp_5s:;
-    r_i9 = 23ull;
-    goto l_arm_i0;
+    r_un = 23ull;
+    goto l_arm_61;
 l_capnp_nk:;
     capnp_objects_source_follow_far_07dcb38b0fe92235(slot_1, a_1, r_qw_2, slot_2);
     u64 r_38 = ld64((slot_1 + 8));
-    if (ld8(slot_1) == 0u) { r_zy = ld32((slot_1 + 40)); r_y2 = ld64((slot_1 + 16)); r_pf = r_38; r_wt = ld64((slot_1 + 32)); r_xb = ((u8 *)(uptr)ld64((slot_1 + 24))); goto l_arm_bz; }
-    r_i9 = r_38;
-    goto l_arm_i0;
-l_arm_bz:;
-    r_ep = (u64)(r_pf >> 32ull);
-    if (!((r_pf & 3ull) == 0ull)) { static_x2 = ((u8 *)g_static_4); sink_nl = 0ull; sink_wn = 0ull; sink_qn = 0u; sink_jo = 0u; sink_na = 0u; r_2u = 53u; goto l_join_vr; }
-    r_y6 = (u64)(r_pf >> 48ull);
+    if (ld8(slot_1) == 0u) { r_ob = ld32((slot_1 + 40)); r_oh = ld64((slot_1 + 16)); r_q1 = r_38; r_ly = ld64((slot_1 + 32)); r_mf = ((u8 *)(uptr)ld64((slot_1 + 24))); goto l_arm_7y; }
+    r_un = r_38;
+    goto l_arm_61;
+l_arm_7y:;
+    r_ep = (u64)(r_q1 >> 32ull);
+    if (!((r_q1 & 3ull) == 0ull)) { r_bb_1 = 53u; goto l_arm_c9_1; }
+    r_y6 = (u64)(r_q1 >> 48ull);
     r_lc_1 = ((r_ep & 65535ull) + r_y6);
-    if (((u64)(r_wt >> 3ull) & 0xffffffffull) < (r_lc_1 + (u64)r_zy)) { static_x2 = ((u8 *)g_static_4); sink_nl = 0ull; sink_wn = 0ull; sink_qn = 0u; sink_jo = 0u; sink_na = 0u; r_2u = 55u; goto l_join_vr; }
+    if (((u64)(r_ly >> 3ull) & 0xffffffffull) < (r_lc_1 + (u64)r_ob)) { r_bb_1 = 55u; goto l_arm_c9_1; }
     if (!(ld8(slot_2) == 1u)) goto l_capnp_jb;
     r_52 = ld64(r_x5);
-    if (r_52 < r_lc_1) { static_x2 = ((u8 *)g_static_4); sink_nl = 0ull; sink_wn = 0ull; sink_qn = 0u; sink_jo = 0u; sink_na = 0u; r_2u = 62u; goto l_join_vr; }
+    if (r_52 < r_lc_1) { r_bb_1 = 62u; goto l_arm_c9_1; }
     st64(slot_2, 1ull);
     st64(r_x5, (r_52 - r_lc_1));
     goto l_capnp_jb;
-l_arm_i0:;
-    static_x2 = ((u8 *)g_static_4);
-    sink_nl = 0ull;
-    sink_wn = 0ull;
-    sink_qn = 0u;
-    sink_jo = 0u;
-    sink_na = 0u;
-    r_2u = (((u32)r_i9 & 255u) + 32u);
-    goto l_join_vr;
+l_arm_61:;
+    r_bb_1 = (((u32)r_un & 255u) + 32u);
+    goto l_arm_c9_1;
 l_capnp_jb:;
     u32 r_az = ((u32)r_ep & 65535u);
-    static_x2 = away(r_xb, (u64)((u64)r_zy << 3ull));
-    sink_nl = (u64)(u32)(r_az << 3u);
-    sink_wn = r_y2;
-    sink_qn = (r_zy + r_az);
-    sink_jo = (a_5 + 0xffffffffu);
-    sink_na = (u16)r_y6;
-    r_2u = 0u;
-l_join_vr:;
+    r_bb = (u64)(u32)(r_az << 3u);
+    r_o5 = r_oh;
+    r_04 = (r_ob + r_az);
+    r_b2 = (u16)r_y6;
+    r_3n = away(r_mf, (u64)((u64)r_ob << 3ull));
+    r_v8 = (a_5 + 0xffffffffu);
+l_arm_c9:;
+    if (r_yz == 0xffffffffffffffffull) goto l_capnp_7m;
     st64(a_2, ((ld8(slot_2) == 1u) ? ld64(r_x5) : 0ull));
+l_capnp_7m:;
+    stp(a_6, r_3n);
+    st64((a_6 + 8), r_bb);
+    st64((a_6 + 16), r_o5);
+    st32((a_6 + 24), r_04);
+    st32((a_6 + 28), r_v8);
+    st16((a_6 + 32), r_b2);
     memset((a_6 + 34), 0u, 6);
-    stp(a_6, static_x2);
-    st64((a_6 + 8), sink_nl);
-    st64((a_6 + 16), sink_wn);
-    st32((a_6 + 24), sink_qn);
-    st32((a_6 + 28), sink_jo);
-    st16((a_6 + 32), sink_na);
-    return r_2u;
+    r_gw_1 = 0u;
+    goto l_join_ti;
+l_arm_c9_1:;
+    if (r_yz == 0xffffffffffffffffull) goto l_capnp_ik;
+    st64(a_2, ((ld8(slot_2) == 1u) ? ld64(r_x5) : 0ull));
+l_capnp_ik:;
+    stp(a_6, ((u8 *)g_static_4));
+    memset((a_6 + 8), 0u, 32);
+    r_gw_1 = r_bb_1;
+l_join_ti:;
+    return r_gw_1;
+}
+
+/* capnp_objects::pointers::validate::validate_object::<#07dcb38b0fe92235> */
+static NEVER u8 capnp_objects_pointers_validate_validate_object_07dcb3_9288a101(u8 *a_1, u32 a_2, u32 a_3, u8 *a_4)
+{
+    A(8) u8 slot_1[56];
+    A(8) u8 slot_2[64];
+    u64 r_52;
+    u8 *r_xw;
+    u64 r_38;
+    u8 r_y8;
+    u8 *r_rq;
+    u8 *r_xw_1;
+    u8 *r_08;
+    u8 *r_su_1;
+    u64 r_7l;
+    u64 r_gw;
+    u64 r_qw;
+    u64 t_al;
+    u8 t_pa;
+    u64 r_lc;
+    u64 r_nb;
+    u64 r_yz;
+    u32 r_ag;
+    u32 r_38_2;
+    u64 r_7w;
+    u64 r_un;
+    u64 r_o2;
+    u64 r_hq;
+    u64 r_ep;
+    u64 r_y6;
+    u64 r_lc_1;
+    u8 *r_t9;
+    u64 r_52_2;
+    u8 switch_wl;
+    u64 r_ij_1;
+    u64 r_c4_1;
+    u64 r_24_1;
+    u64 r_gw_2;
+    u8 *r_t9_1;
+    u64 r_52_3;
+    u64 r_eh;
+    u32 t_c8;
+    u32 r_12_1;
+    u32 r_az_1;
+    u32 r_68_1;
+    u64 r_c0_1;
+    u8 *r_t9_2;
+    u64 r_52_4;
+    u32 r_12_2;
+    u8 *r_t9_3;
+    u64 r_52_5;
+    u8 *r_t9_4;
+    u64 r_52_6;
+    u64 r_hn;
+    u64 r_c6;
+    u8 *r_t9_5;
+    u64 r_52_7;
+    u64 r_2g;
+    u64 r_jg;
+    u64 r_6e;
+    u32 t_h6_1;
+    u32 a_op;
+    u64 r_tq;
+    u32 r_hc;
+    u64 r_vo;
+    u32 r_k1;
+    u32 a_8q;
+    u32 r_nx;
+    u32 r_b0;
+    u32 r_ub;
+    u32 r_7c;
+    u32 r_ae;
+    u32 r_3i;
+    u32 r_ij;
+    u8 *r_c4_2;
+    u8 *r_6c;
+    u32 r_68_3;
+    u32 invariant_w0;
+    u32 r_e3_1;
+    u32 r_9l;
+    u8 r_fk;
+    memset(slot_2, 0u, 64);
+    r_52 = ld64(away(a_1, 24ull));
+    r_xw = ldp(away(a_1, 32ull));
+    r_38 = ld64(away(a_1, 40ull));
+    r_y8 = ld8(a_1);
+    r_rq = away(a_1, 8ull);
+    r_xw_1 = ldp(r_rq);
+    r_08 = away(a_1, 16ull);
+    r_su_1 = away(a_4, 40ull);
+    r_7l = (u64)a_2;
+    r_gw = (u64)(r_38 >> 3ull);
+    if (!(r_gw > r_7l)) { r_fk = 0u; goto l_return_ri; }
+    r_qw = ld64(away(r_xw, (u64)(r_7l << 3ull)));
+    if (r_qw == 0ull) { r_fk = 0u; goto l_return_ri; }
+    t_al = (u64)(uptr)r_xw;
+    memset(slot_1, 0u, 56);
+    t_pa = (r_y8 != 0u);
+    if (t_pa) goto l_capnp_sm;
+    u8 *r_r2 = away(a_4, 56ull);
+    st64(r_r2, uadd_sat64(ld64(r_r2), 1ull));
+    if ((r_qw & 3ull) == 2ull) goto l_capnp_1t;
+    goto l_join_bd;
+l_capnp_sm:;
+    if (!((r_qw & 3ull) == 2ull)) goto l_join_bd;
+    st32((slot_1 + 8), 32u);
+    r_2g = ld64((slot_1 + 8));
+    goto l_capnp_8g;
+l_join_bd:;
+    u64 r_m6 = ((u64)(r_qw >> 2ull) & 0x3fffffffull);
+    r_lc = ((r_7l + 1ull) + r_m6);
+    r_nb = (r_gw & 0xffffffffull);
+    if (!(r_m6 < 0x20000000ull)) goto l_else_70;
+    if (r_lc > r_nb) { r_2g = 23ull; goto l_capnp_8g; }
+    r_yz = r_lc;
+    goto l_capnp_i5;
+l_else_70:;
+    u64 r_3o = (r_lc + 0xffffffffc0000000ull);
+    if ((r_lc < 0x40000000ull) ? 1u : (r_3o > r_nb)) { r_2g = 23ull; goto l_capnp_8g; }
+    r_yz = r_3o;
+l_capnp_i5:;
+    r_ag = 0u;
+    r_38_2 = (u32)r_yz;
+    r_7w = r_52;
+    r_un = r_qw;
+    r_o2 = r_38;
+    r_hq = t_al;
+    goto l_arm_gc;
+l_capnp_1t:;
+    capnp_objects_source_follow_far_07dcb38b0fe92235(slot_1, r_xw_1, r_qw, r_su_1);
+    u64 r_38_3 = ld64((slot_1 + 16));
+    u64 r_38_4 = ld64((slot_1 + 8));
+    if (ld8(slot_1) == 0u) { r_ag = ld32((slot_1 + 44)); r_38_2 = ld32((slot_1 + 40)); r_7w = r_38_3; r_un = r_38_4; r_o2 = ld64((slot_1 + 32)); r_hq = ld64((slot_1 + 24)); goto l_arm_gc; }
+    r_jg = r_38_3;
+    r_6e = r_38_4;
+    goto l_capnp_qu;
+l_arm_gc:;
+    switch ((u8)((u8)r_un & 3u)) {
+    case 0u: goto l_arm_4l;
+    case 1u: goto l_arm_z2;
+    case 2u: { r_hc = 13u; r_vo = 0ull; r_k1 = 0u; goto l_arm_zi; }
+    case 3u: goto l_capnp_32;
+    default: goto l_default_e1;
+    }
+l_arm_4l:;
+    r_ep = (u64)(r_un >> 32ull);
+    r_y6 = (u64)(r_un >> 48ull);
+    if ((i32)a_3 < (i32)1u) { r_hc = 26u; r_vo = 0ull; r_k1 = 0u; goto l_arm_zi; }
+    r_lc_1 = ((r_ep & 65535ull) + r_y6);
+    if (((u64)(r_o2 >> 3ull) & 0xffffffffull) < (r_lc_1 + (u64)r_38_2)) { r_hc = 23u; r_vo = 0ull; r_k1 = 0u; goto l_arm_zi; }
+    if (t_pa) goto l_arm_67;
+    if (!(ld8(r_su_1) == 1u)) goto l_arm_67;
+    r_t9 = away(a_4, 48ull);
+    r_52_2 = ld64(r_t9);
+    if (r_52_2 < r_lc_1) { r_hc = 30u; r_vo = 0ull; r_k1 = 0u; goto l_arm_zi; }
+    st64(r_su_1, 1ull);
+    st64(r_t9, (r_52_2 - r_lc_1));
+l_arm_67:;
+    u32 r_12 = (u32)r_y6;
+    u32 r_az = ((u32)r_ep & 65535u);
+    u32 r_y0 = (a_3 + 0xffffffffu);
+    a_8q = smax32(r_y0, 0u);
+    r_nx = (r_az + r_12);
+    r_b0 = r_y0;
+    r_ub = r_38_2;
+    r_7c = r_ag;
+    r_ae = r_az;
+    r_3i = r_12;
+    r_ij = 1u;
+    goto l_arm_2c;
+l_arm_z2:;
+    switch_wl = (u8)((u8)(u64)(r_un >> 32ull) & 7u);
+    r_ij_1 = (u64)(r_un >> 35ull);
+    switch (switch_wl) {
+    case 7u: goto l_arm_ot;
+    case 6u: goto l_arm_3a;
+    case 0u: goto l_arm_ot_1;
+    case 5u: goto l_arm_h9;
+    case 4u: goto l_arm_h9_1;
+    case 3u: goto l_arm_h9_2;
+    case 1u: { r_hn = 1ull; goto l_capnp_ot; }
+    case 2u: goto l_arm_h9_3;
+    default: goto l_default_e1;
+    }
+l_arm_ot:;
+    if ((i32)a_3 < (i32)1u) { r_hc = 26u; r_vo = 0ull; r_k1 = 0u; goto l_arm_zi; }
+    r_c4_1 = (r_ij_1 + 1ull);
+    r_24_1 = (u64)r_38_2;
+    r_gw_2 = (u64)(r_o2 >> 3ull);
+    if ((r_gw_2 & 0xffffffffull) < (r_c4_1 + r_24_1)) { r_hc = 23u; r_vo = 0ull; r_k1 = 0u; goto l_arm_zi; }
+    if (t_pa) goto l_arm_ga;
+    if (!(ld8(r_su_1) == 1u)) goto l_arm_ga;
+    r_t9_1 = away(a_4, 48ull);
+    r_52_3 = ld64(r_t9_1);
+    if (!(r_52_3 > r_ij_1)) { r_hc = 30u; r_vo = 0ull; r_k1 = 0u; goto l_arm_zi; }
+    st64(r_su_1, 1ull);
+    st64(r_t9_1, (r_52_3 - r_c4_1));
+l_arm_ga:;
+    if (!(r_gw_2 > r_24_1)) { r_eh = 0ull; goto l_join_qm; }
+    u64 r_qw_1 = ld64(away(((u8 *)(uptr)r_hq), (u64)(r_24_1 << 3ull)));
+    if ((r_qw_1 & 3ull) == 0ull) { r_eh = r_qw_1; goto l_join_qm; }
+    r_hc = 11u;
+    r_vo = 0ull;
+    r_k1 = 0u;
+    goto l_arm_zi;
+l_join_qm:;
+    t_c8 = (u32)((u32)r_eh >> 2u);
+    r_12_1 = (u32)(u64)(r_eh >> 48ull);
+    r_az_1 = ((u32)(u64)(r_eh >> 32ull) & 65535u);
+    r_68_1 = (r_az_1 + r_12_1);
+    r_c0_1 = (u64)t_c8;
+    if (r_ij_1 < ((u64)r_68_1 * r_c0_1)) { r_hc = 10u; r_vo = 0ull; r_k1 = 0u; goto l_arm_zi; }
+    if ((u8)((u8)t_pa | (u8)(r_68_1 != 0u))) goto l_arm_gu;
+    if (!(ld8(r_su_1) == 1u)) goto l_arm_gu;
+    r_t9_2 = away(a_4, 48ull);
+    r_52_4 = ld64(r_t9_2);
+    if (r_52_4 < r_c0_1) { r_hc = 30u; r_vo = 0ull; r_k1 = 0u; goto l_arm_zi; }
+    st64(r_su_1, 1ull);
+    st64(r_t9_2, (r_52_4 - r_c0_1));
+l_arm_gu:;
+    u32 r_y0_1 = (a_3 + 0xffffffffu);
+    a_8q = smax32(r_y0_1, 0u);
+    r_nx = (((r_az_1 + r_12_1) * t_c8) + 1u);
+    r_b0 = r_y0_1;
+    r_ub = (r_38_2 + 1u);
+    r_7c = 0u;
+    r_ae = r_az_1;
+    r_3i = r_12_1;
+    r_ij = t_c8;
+    goto l_arm_2c;
+l_arm_3a:;
+    r_12_2 = (u32)r_ij_1;
+    if ((i32)a_3 < (i32)1u) { r_hc = 26u; r_vo = 0ull; r_k1 = 0u; goto l_arm_zi; }
+    if (((u64)(r_o2 >> 3ull) & 0xffffffffull) < (r_ij_1 + (u64)r_38_2)) { r_hc = 23u; r_vo = 0ull; r_k1 = 0u; goto l_arm_zi; }
+    if (t_pa) goto l_arm_vk;
+    if (!(ld8(r_su_1) == 1u)) goto l_arm_vk;
+    r_t9_3 = away(a_4, 48ull);
+    r_52_5 = ld64(r_t9_3);
+    if (r_52_5 < r_ij_1) { r_hc = 30u; r_vo = 0ull; r_k1 = 0u; goto l_arm_zi; }
+    st64(r_su_1, 1ull);
+    st64(r_t9_3, (r_52_5 - r_ij_1));
+    goto l_arm_vk;
+l_arm_ot_1:;
+    if ((i32)a_3 < (i32)1u) { r_hc = 26u; r_vo = 0ull; r_k1 = 0u; goto l_arm_zi; }
+    if (((u64)(r_o2 >> 3ull) & 0xffffffffull) < (u64)r_38_2) { r_hc = 23u; r_vo = 0ull; r_k1 = 0u; goto l_arm_zi; }
+    if (t_pa) goto l_arm_x2;
+    if (!(ld8(r_su_1) == 1u)) goto l_arm_x2;
+    st64(r_su_1, 1ull);
+    r_t9_4 = away(a_4, 48ull);
+    r_52_6 = ld64(r_t9_4);
+    if (r_52_6 < r_ij_1) { r_hc = 30u; r_vo = 0ull; r_k1 = 0u; goto l_arm_zi; }
+    st64(r_t9_4, (r_52_6 - r_ij_1));
+    goto l_arm_x2;
+l_arm_h9_3:;
+    r_hn = 8ull;
+    goto l_capnp_ot;
+l_arm_h9_2:;
+    r_hn = 16ull;
+    goto l_capnp_ot;
+l_arm_h9_1:;
+    r_hn = 32ull;
+    goto l_capnp_ot;
+l_arm_h9:;
+    r_hn = 64ull;
+l_capnp_ot:;
+    if ((i32)a_3 < (i32)1u) { r_hc = 26u; r_vo = 0ull; r_k1 = 0u; goto l_arm_zi; }
+    r_c6 = (u64)(((r_hn * r_ij_1) + 63ull) >> 6ull);
+    if (((u64)(r_o2 >> 3ull) & 0xffffffffull) < (r_c6 + (u64)r_38_2)) { r_hc = 23u; r_vo = 0ull; r_k1 = 0u; goto l_arm_zi; }
+    if (t_pa) goto l_arm_j5;
+    if (!(ld8(r_su_1) == 1u)) goto l_arm_j5;
+    r_t9_5 = away(a_4, 48ull);
+    r_52_7 = ld64(r_t9_5);
+    if (r_52_7 < r_c6) { r_hc = 30u; r_vo = 0ull; r_k1 = 0u; goto l_arm_zi; }
+    st64(r_su_1, 1ull);
+    st64(r_t9_5, (r_52_7 - r_c6));
+    goto l_arm_j5;
+l_default_e1:;
+    UNREACHABLE();
+l_capnp_8g:;
+    r_jg = 0ull;
+    r_6e = r_2g;
+l_capnp_qu:;
+    r_hc = ((u32)r_6e & 255u);
+    r_vo = r_jg;
+    r_k1 = (u32)(u64)(r_6e >> 32ull);
+    goto l_arm_zi;
+l_capnp_32:;
+    u8 r_e6 = ((r_un & 0xffffffffull) == 3ull);
+    if (r_e6) goto l_arm_ix;
+    r_hc = (r_e6 ? 1u : 34u);
+    r_vo = 0ull;
+    r_k1 = 0u;
+    goto l_arm_zi;
+l_arm_vk:;
+    u32 r_y0_2 = (a_3 + 0xffffffffu);
+    a_8q = smax32(r_y0_2, 0u);
+    r_nx = r_12_2;
+    r_b0 = r_y0_2;
+    r_ub = r_38_2;
+    r_7c = r_ag;
+    r_ae = 0u;
+    r_3i = r_12_2;
+    r_ij = 1u;
+    goto l_arm_2c;
+l_arm_ix:;
+    u8 *r_08_1 = away(a_4, 16ull);
+    st64(r_08_1, uadd_sat64(ld64(r_08_1), 1ull));
+    r_fk = 0u;
+    goto l_return_ri;
+l_arm_x2:;
+    a_op = smax32(a_3, 1u);
+    r_tq = 0ull;
+    goto l_capnp_bx;
+l_arm_j5:;
+    t_h6_1 = smax32(a_3, 1u);
+    switch (switch_wl) {
+    case 5u: goto l_arm_h9_4;
+    case 4u: goto l_arm_h9_5;
+    case 3u: goto l_arm_h9_6;
+    case 1u: { a_op = t_h6_1; r_tq = 1ull; goto l_capnp_bx; }
+    case 2u: goto l_arm_h9_7;
+    default: goto l_noarm_e1;
+    }
+l_arm_h9_7:;
+    a_op = t_h6_1;
+    r_tq = 8ull;
+    goto l_capnp_bx;
+l_arm_h9_6:;
+    a_op = t_h6_1;
+    r_tq = 16ull;
+    goto l_capnp_bx;
+l_arm_h9_5:;
+    a_op = t_h6_1;
+    r_tq = 32ull;
+    goto l_capnp_bx;
+l_arm_h9_4:;
+    a_op = t_h6_1;
+    r_tq = 64ull;
+    goto l_capnp_bx;
+l_noarm_e1:;
+    UNREACHABLE();
+l_capnp_bx:;
+    st32(a_4, umin32((a_op + 0xffffffffu), ld32(a_4)));
+    u8 *r_rq_1 = away(a_4, 8ull);
+    st64(r_rq_1, uadd_sat64((u64)(((r_tq * r_ij_1) + 63ull) >> 6ull), ld64(r_rq_1)));
+    r_fk = 0u;
+    goto l_return_ri;
+l_arm_zi:;
+    st32(away(a_4, 24ull), r_hc);
+    st32(away(a_4, 28ull), r_k1);
+    st64(away(a_4, 32ull), r_vo);
+    r_fk = 1u;
+    goto l_return_ri;
+l_arm_2c:;
+    st32(a_4, umin32(a_8q, ld32(a_4)));
+    u8 *r_rq_2 = away(a_4, 8ull);
+    st64(r_rq_2, uadd_sat64((u64)r_nx, ld64(r_rq_2)));
+    u8 *r_rv = ldp(r_rq);
+    u64 r_qw_2 = ld64(r_08);
+    st64(slot_2, (u64)ld8(a_1));
+    stp((slot_2 + 8), r_rv);
+    st64((slot_2 + 16), r_qw_2);
+    st64((slot_2 + 24), r_7w);
+    st64((slot_2 + 32), r_hq);
+    st64((slot_2 + 40), r_o2);
+    r_c4_2 = (slot_2 + 48);
+    st32(r_c4_2, r_ub);
+    st32((slot_2 + 52), r_7c);
+    r_6c = (slot_2 + 56);
+    st32(r_6c, r_b0);
+    if (r_3i == 0u) { r_fk = 0u; goto l_return_ri; }
+    r_68_3 = (r_3i + r_ae);
+    if (r_ij == 0u) { r_fk = 0u; goto l_return_ri; }
+    invariant_w0 = (r_ae + ld32(r_c4_2));
+    r_e3_1 = ld32(r_6c);
+    r_9l = 0u;
+    goto l_join_kq;
+l_loop_i4:;
+    u32 r_ff = (r_9l + 1u);
+    if (r_ff == r_ij) { r_fk = 0u; goto l_return_ri; }
+    r_9l = r_ff;
+l_join_kq:;
+    u8 r_b9 = capnp_objects_pointers_validate_validate_pointers_07dc_3ddc9608(slot_2, ((r_9l * r_68_3) + invariant_w0), r_3i, r_e3_1, a_4);
+    if ((u8)(r_b9 & 1)) { r_fk = 1u; goto l_return_ri; }
+    goto l_loop_i4;
+l_return_ri:;
+    return r_fk;
+}
+
+/* capnp_objects::pointers::validate::validate_pointers::<#07dcb38b0fe92235> */
+static NEVER u8 capnp_objects_pointers_validate_validate_pointers_07dc_3ddc9608(u8 *a_1, u32 a_2, u32 a_3, u32 a_4, u8 *a_5)
+{
+    u8 *r_su;
+    u8 *r_xm;
+    u8 *r_su_1;
+    u8 *r_r2;
+    u8 r_30;
+    u8 *r_t9;
+    u32 t_y0;
+    u8 *r_rq;
+    u8 *r_xz;
+    u8 *r_do;
+    u8 *r_xm_1;
+    u8 r_93;
+    u32 t_1n;
+    u64 wide_7l;
+    u64 indvars_fi;
+    u32 r_7m;
+    u64 r_24;
+    u64 r_gw;
+    u64 r_qw_1;
+    u64 r_ep;
+    u64 r_y6;
+    u64 r_lc;
+    u8 t_pa;
+    u64 r_lc_1;
+    u64 r_nb;
+    u64 r_9v;
+    u32 r_4r;
+    u8 r_8u;
+    u64 r_52_1;
+    u32 r_ae;
+    u32 r_12;
+    u32 r_az;
+    u64 r_ep_1;
+    u64 r_c6;
+    u8 t_0c;
+    u64 r_lc_3;
+    u64 r_nb_1;
+    u64 r_n2;
+    u64 r_52_4;
+    u8 r_hf;
+    u32 r_dq;
+    u8 r_fk;
+    r_su = away(a_1, 40ull);
+    r_xm = away(a_1, 32ull);
+    r_su_1 = away(a_5, 40ull);
+    r_r2 = away(a_5, 56ull);
+    r_30 = ((i32)a_4 < (i32)1u);
+    r_t9 = away(a_5, 48ull);
+    t_y0 = (a_4 + 0xffffffffu);
+    r_rq = away(a_5, 8ull);
+    r_xz = away(a_5, 24ull);
+    r_do = away(a_5, 28ull);
+    r_xm_1 = away(a_5, 32ull);
+    r_93 = (a_4 == 0x80000000u);
+    t_1n = smax32(t_y0, 0u);
+    wide_7l = (u64)a_3;
+    indvars_fi = 0ull;
+    goto l_join_7l;
+l_loop_2y:;
+    u64 indvars_r7 = (indvars_fi + 1ull);
+    if (indvars_r7 == wide_7l) { r_fk = 0u; goto l_return_ri; }
+    indvars_fi = indvars_r7;
+l_join_7l:;
+    r_7m = (a_2 + (u32)indvars_fi);
+    r_24 = (u64)r_7m;
+    r_gw = (u64)(ld64(r_su) >> 3ull);
+    if (!(r_gw > r_24)) goto l_loop_2y;
+    r_qw_1 = ld64(away(ldp(r_xm), (u64)(r_24 << 3ull)));
+    if (r_qw_1 == 0ull) goto l_loop_2y;
+    switch ((u8)((u8)r_qw_1 & 3u)) {
+    case 0u: goto l_arm_kb;
+    case 1u: goto l_arm_ui;
+    case 2u: goto l_after_eu;
+    case 3u: goto l_after_eu;
+    default: goto l_default_e1;
+    }
+l_arm_kb:;
+    r_ep = (u64)(r_qw_1 >> 32ull);
+    r_y6 = (u64)(r_qw_1 >> 48ull);
+    r_lc = ((r_ep & 65535ull) + r_y6);
+    t_pa = (ld8(a_1) != 0u);
+    if (t_pa) goto l_join_bd;
+    st64(r_r2, uadd_sat64(ld64(r_r2), 1ull));
+l_join_bd:;
+    u64 r_m6 = ((u64)(r_qw_1 >> 2ull) & 0x3fffffffull);
+    r_lc_1 = ((r_24 + 1ull) + r_m6);
+    r_nb = (r_gw & 0xffffffffull);
+    if (!(r_m6 < 0x20000000ull)) goto l_else_70;
+    if (r_lc_1 > r_nb) { r_dq = 23u; goto l_return_h4; }
+    r_9v = r_lc_1;
+    goto l_arm_g3;
+l_else_70:;
+    u64 r_3o = (r_lc_1 + 0xffffffffc0000000ull);
+    if ((r_lc_1 < 0x40000000ull) ? 1u : (r_3o > r_nb)) { r_dq = 23u; goto l_return_h4; }
+    r_9v = r_3o;
+l_arm_g3:;
+    r_4r = (u32)r_9v;
+    if (r_30) { r_dq = 26u; goto l_return_h4; }
+    r_8u = (r_nb < (r_9v + r_lc));
+    if ((u8)((u8)t_pa | (u8)r_8u)) goto l_capnp_uj;
+    if (!(ld8(r_su_1) == 1u)) { r_ae = r_4r; goto l_arm_0g; }
+    r_52_1 = ld64(r_t9);
+    if (r_52_1 < r_lc) { r_dq = 30u; goto l_return_h4; }
+    st64(r_su_1, 1ull);
+    st64(r_t9, (r_52_1 - r_lc));
+    r_ae = r_4r;
+    goto l_arm_0g;
+l_capnp_uj:;
+    if (r_8u) { r_dq = 23u; goto l_return_h4; }
+    r_ae = (r_8u ? 0u : r_4r);
+l_arm_0g:;
+    r_12 = (u32)r_y6;
+    r_az = ((u32)r_ep & 65535u);
+    st32(a_5, (r_93 ? 0u : umin32(t_1n, ld32(a_5))));
+    st64(r_rq, uadd_sat64((u64)(r_az + r_12), ld64(r_rq)));
+    if (r_y6 == 0ull) goto l_loop_2y;
+    u8 r_7f = capnp_objects_pointers_validate_validate_pointers_07dc_3ddc9608(a_1, (r_ae + r_az), r_12, t_y0, a_5);
+    r_hf = r_7f;
+    goto l_capnp_5o;
+l_arm_ui:;
+    r_ep_1 = (u64)(r_qw_1 >> 32ull);
+    if (!((u8)((u8)((u8)r_ep_1 & 7u) + 255u) < 5u)) goto l_after_eu;
+    r_c6 = (u64)(((ld64(away(away(((u8 *)switch_table_capnp_objects_pointers_validate_validate__79a49eb6), 8 * (r_ep_1 & 7ull)), 0xfffffffffffffff8ull)) * (u64)(r_qw_1 >> 35ull)) + 63ull) >> 6ull);
+    t_0c = (ld8(a_1) == 0u);
+    if (!t_0c) goto l_join_bd_1;
+    st64(r_r2, uadd_sat64(ld64(r_r2), 1ull));
+l_join_bd_1:;
+    u64 r_m6_1 = ((u64)(r_qw_1 >> 2ull) & 0x3fffffffull);
+    r_lc_3 = ((r_24 + 1ull) + r_m6_1);
+    r_nb_1 = (r_gw & 0xffffffffull);
+    if (!(r_m6_1 < 0x20000000ull)) goto l_else_70_1;
+    if (r_lc_3 > r_nb_1) { r_dq = 23u; goto l_return_h4; }
+    r_n2 = r_lc_3;
+    goto l_arm_l9;
+l_else_70_1:;
+    u64 r_3o_1 = (r_lc_3 + 0xffffffffc0000000ull);
+    if ((r_lc_3 < 0x40000000ull) ? 1u : (r_3o_1 > r_nb_1)) { r_dq = 23u; goto l_return_h4; }
+    r_n2 = r_3o_1;
+l_arm_l9:;
+    if (r_30) { r_dq = 26u; goto l_return_h4; }
+    if (r_nb_1 < (r_n2 + r_c6)) { r_dq = 23u; goto l_return_h4; }
+    if (!t_0c) goto l_arm_z5;
+    if (!(ld8(r_su_1) == 1u)) goto l_arm_z5;
+    r_52_4 = ld64(r_t9);
+    if (r_52_4 < r_c6) { r_dq = 30u; goto l_return_h4; }
+    st64(r_su_1, 1ull);
+    st64(r_t9, (r_52_4 - r_c6));
+l_arm_z5:;
+    st32(a_5, umin32(t_y0, ld32(a_5)));
+    st64(r_rq, uadd_sat64(r_c6, ld64(r_rq)));
+    goto l_loop_2y;
+l_after_eu:;
+    u8 r_5d = capnp_objects_pointers_validate_validate_object_07dcb3_9288a101(a_1, r_7m, a_4, a_5);
+    r_hf = r_5d;
+    goto l_capnp_5o;
+l_default_e1:;
+    UNREACHABLE();
+l_capnp_5o:;
+    if ((u8)(r_hf & 1)) { r_fk = 1u; goto l_return_ri; }
+    goto l_loop_2y;
+l_return_h4:;
+    st32(r_xz, r_dq);
+    st32(r_do, 0u);
+    st64(r_xm_1, 0ull);
+    r_fk = 1u;
+l_return_ri:;
+    return r_fk;
+}
+
+/* capnp_layout_c::validation::refused_pointer */
+static NEVER void capnp_layout_c_validation_refused_pointer(u8 *a_1, u8 *a_2, u32 a_3, u8 *a_4)
+{
+    A(8) u8 slot_1[40];
+    A(8) u8 slot_2[64];
+    u8 *r_e7;
+    u8 *r_mb;
+    u64 r_qw_1;
+    u8 *r_rq;
+    u64 r_52;
+    u64 r_kq;
+    u8 *r_ap;
+    u64 sink_x3;
+    u64 a_zs;
+    u8 *r_9l;
+    u64 r_zl;
+    u64 r_vt;
+    u64 r_8t;
+    u32 r_49;
+    u32 r_1t;
+    u32 r_a3;
+    u32 r_wr;
+    u64 r_hb;
+    st64((slot_2 + 56), 0ull);
+    r_e7 = (a_2 + 8);
+    if (ld64(r_e7) == 0ull) { r_vt = 1ull; r_8t = 0ull; r_49 = 0u; r_1t = 0u; r_a3 = 12u; r_wr = 0u; r_hb = 0ull; goto l_join_s8; }
+    r_mb = ldp(a_2);
+    r_qw_1 = ld64((r_mb + 8));
+    if (r_qw_1 < 8ull) { r_vt = 1ull; r_8t = 0ull; r_49 = 0u; r_1t = 0u; r_a3 = 23u; r_wr = 0u; r_hb = 0ull; goto l_join_s8; }
+    if (!(ld8(a_4) == 1u)) { r_kq = r_qw_1; r_ap = r_mb; goto l_arm_3l; }
+    r_rq = away(a_4, 8ull);
+    r_52 = ld64(r_rq);
+    if (r_52 == 0ull) { r_vt = 1ull; r_8t = 0ull; r_49 = 0u; r_1t = 0u; r_a3 = 30u; r_wr = 0u; r_hb = 0ull; goto l_join_s8; }
+    st64(a_4, 1ull);
+    st64(r_rq, (r_52 + 0xffffffffffffffffull));
+    if (ld64(r_e7) == 0ull) { sink_x3 = 2ull; a_zs = 0ull; r_9l = ((u8 *)g_static_4); r_zl = 0ull; goto l_arm_wl; }
+    u8 *r_mb_1 = ldp(a_2);
+    r_kq = ld64((r_mb_1 + 8));
+    r_ap = r_mb_1;
+l_arm_3l:;
+    sink_x3 = 0ull;
+    a_zs = (u64)(uptr)a_2;
+    r_9l = ((r_kq < 8ull) ? ((u8 *)g_static_4) : ldp(r_ap));
+    r_zl = (r_kq & 0xfffffffffffffff8ull);
+l_arm_wl:;
+    st64(slot_2, sink_x3);
+    st64((slot_2 + 8), a_zs);
+    memset((slot_2 + 16), 0u, 16);
+    stp((slot_2 + 32), r_9l);
+    st64((slot_2 + 40), r_zl);
+    st32((slot_2 + 48), 0u);
+    st32((slot_2 + 52), 0u);
+    st32((slot_2 + 56), a_3);
+    memset(slot_1, 0u, 40);
+    capnp_refusals_refusals_search_search_object_07dcb38b0fe92235(slot_1, slot_2, 0u, a_3, a_4);
+    r_vt = (u64)ld8(slot_1);
+    r_8t = ld64((slot_1 + 8));
+    r_49 = ld32((slot_1 + 16));
+    r_1t = ld32((slot_1 + 20));
+    r_a3 = ld32((slot_1 + 24));
+    r_wr = ld32((slot_1 + 28));
+    r_hb = ld64((slot_1 + 32));
+l_join_s8:;
+    st64(a_1, r_vt);
+    st64(away(a_1, 8ull), r_8t);
+    st32(away(a_1, 16ull), r_49);
+    st32(away(a_1, 20ull), r_1t);
+    st32(away(a_1, 24ull), r_a3);
+    st32(away(a_1, 28ull), r_wr);
+    st64(away(a_1, 32ull), r_hb);
+    return;
+}
+
+/* capnp_refusals::refusals::search::search_object::<#07dcb38b0fe92235> */
+static void capnp_refusals_refusals_search_search_object_07dcb38b0fe92235(u8 *a_1, u8 *a_2, u32 a_3, u32 a_4, u8 *a_5)
+{
+    A(8) u8 slot_1[56];
+    A(8) u8 slot_2[64];
+    A(8) u8 slot_3[64];
+    A(8) u8 slot_4[64];
+    A(8) u8 slot_5[40];
+    u64 r_52;
+    u8 *r_xw;
+    u64 r_38;
+    u8 r_y8;
+    u8 *r_rq;
+    u8 *r_xw_1;
+    u64 r_7l;
+    u64 r_gw;
+    u64 r_qw;
+    u64 t_al;
+    u8 t_pa;
+    u64 r_lc;
+    u64 r_nb;
+    u64 r_yz;
+    u32 r_gx;
+    u32 r_qd;
+    u64 r_d4;
+    u64 r_9h;
+    u64 r_27;
+    u64 r_hv;
+    u64 r_ep;
+    u64 r_y6;
+    u64 r_lc_1;
+    u8 *r_rq_1;
+    u64 r_52_2;
+    u64 r_ij;
+    u64 r_c4_2;
+    u64 r_24_1;
+    u64 r_gw_2;
+    u8 *r_rq_2;
+    u64 r_52_3;
+    u64 r_eh;
+    u32 t_c8;
+    u32 r_12_1;
+    u32 r_az_1;
+    u32 r_68;
+    u64 r_c0_1;
+    u8 *r_rq_3;
+    u64 r_52_4;
+    u32 r_12_2;
+    u8 *r_rq_4;
+    u64 r_52_5;
+    u8 *r_rq_5;
+    u64 r_52_6;
+    u64 r_ac;
+    u64 r_c6;
+    u8 *r_rq_6;
+    u64 r_52_7;
+    u64 r_2g;
+    u64 r_jg;
+    u64 r_6e;
+    u64 r_vt;
+    u64 r_8t;
+    u32 r_49;
+    u32 r_1t;
+    u32 r_a3;
+    u32 r_wr;
+    u64 r_hb;
+    memset(slot_2, 0u, 64);
+    st64((slot_3 + 56), 0ull);
+    memset(slot_4, 0u, 64);
+    memset(slot_5, 0u, 40);
+    r_52 = ld64(away(a_2, 24ull));
+    r_xw = ldp(away(a_2, 32ull));
+    r_38 = ld64(away(a_2, 40ull));
+    r_y8 = ld8(a_2);
+    r_rq = away(a_2, 8ull);
+    r_xw_1 = ldp(r_rq);
+    r_7l = (u64)a_3;
+    r_gw = (u64)(r_38 >> 3ull);
+    if (!(r_gw > r_7l)) goto l_join_c0;
+    r_qw = ld64(away(r_xw, (u64)(r_7l << 3ull)));
+    if (r_qw == 0ull) goto l_join_c0;
+    t_al = (u64)(uptr)r_xw;
+    memset(slot_1, 0u, 56);
+    t_pa = (r_y8 != 0u);
+    if (t_pa) goto l_capnp_sm;
+    u8 *r_08 = away(a_5, 16ull);
+    st64(r_08, uadd_sat64(ld64(r_08), 1ull));
+    if ((r_qw & 3ull) == 2ull) goto l_capnp_3l;
+    goto l_join_bd;
+l_capnp_sm:;
+    if (!((r_qw & 3ull) == 2ull)) goto l_join_bd;
+    st32((slot_1 + 8), 32u);
+    r_2g = ld64((slot_1 + 8));
+    goto l_capnp_8g;
+l_join_bd:;
+    u64 r_m6 = ((u64)(r_qw >> 2ull) & 0x3fffffffull);
+    r_lc = ((r_7l + 1ull) + r_m6);
+    r_nb = (r_gw & 0xffffffffull);
+    if (!(r_m6 < 0x20000000ull)) goto l_else_70;
+    if (r_lc > r_nb) { r_2g = 23ull; goto l_capnp_8g; }
+    r_yz = r_lc;
+    goto l_capnp_i5;
+l_else_70:;
+    u64 r_3o = (r_lc + 0xffffffffc0000000ull);
+    if ((r_lc < 0x40000000ull) ? 1u : (r_3o > r_nb)) { r_2g = 23ull; goto l_capnp_8g; }
+    r_yz = r_3o;
+l_capnp_i5:;
+    r_gx = 0u;
+    r_qd = (u32)r_yz;
+    r_d4 = r_52;
+    r_9h = r_qw;
+    r_27 = r_38;
+    r_hv = t_al;
+    goto l_arm_wn;
+l_capnp_3l:;
+    capnp_objects_source_follow_far_07dcb38b0fe92235(slot_1, r_xw_1, r_qw, a_5);
+    u64 r_38_2 = ld64((slot_1 + 16));
+    u64 r_38_3 = ld64((slot_1 + 8));
+    if (ld8(slot_1) == 0u) { r_gx = ld32((slot_1 + 44)); r_qd = ld32((slot_1 + 40)); r_d4 = r_38_2; r_9h = r_38_3; r_27 = ld64((slot_1 + 32)); r_hv = ld64((slot_1 + 24)); goto l_arm_wn; }
+    r_jg = r_38_2;
+    r_6e = r_38_3;
+    goto l_capnp_qu;
+l_arm_wn:;
+    switch ((u8)((u8)r_9h & 3u)) {
+    case 0u: goto l_arm_9l;
+    case 1u: goto l_arm_z2;
+    case 2u: { r_vt = 1ull; r_8t = r_52; r_49 = a_3; r_1t = 0u; r_a3 = 13u; r_wr = 0u; r_hb = 0ull; goto l_common_s8; }
+    case 3u: goto l_capnp_a6;
+    default: goto l_default_e1;
+    }
+l_arm_9l:;
+    r_ep = (u64)(r_9h >> 32ull);
+    r_y6 = (u64)(r_9h >> 48ull);
+    if ((i32)a_4 < (i32)1u) { r_vt = 1ull; r_8t = r_52; r_49 = a_3; r_1t = 0u; r_a3 = 26u; r_wr = 0u; r_hb = 0ull; goto l_common_s8; }
+    r_lc_1 = ((r_ep & 65535ull) + r_y6);
+    if (((u64)(r_27 >> 3ull) & 0xffffffffull) < (r_lc_1 + (u64)r_qd)) { r_vt = 1ull; r_8t = r_52; r_49 = a_3; r_1t = 0u; r_a3 = 23u; r_wr = 0u; r_hb = 0ull; goto l_common_s8; }
+    if (t_pa) goto l_join_67;
+    if (!(ld8(a_5) == 1u)) goto l_join_67;
+    r_rq_1 = away(a_5, 8ull);
+    r_52_2 = ld64(r_rq_1);
+    if (r_52_2 < r_lc_1) { r_vt = 1ull; r_8t = r_52; r_49 = a_3; r_1t = 0u; r_a3 = 30u; r_wr = 0u; r_hb = 0ull; goto l_common_s8; }
+    st64(a_5, 1ull);
+    st64(r_rq_1, (r_52_2 - r_lc_1));
+l_join_67:;
+    st64(slot_2, (u64)ld8(a_2));
+    mv16((slot_2 + 8), r_rq);
+    st64((slot_2 + 24), r_d4);
+    st64((slot_2 + 32), r_hv);
+    st64((slot_2 + 40), r_27);
+    st32((slot_2 + 48), r_qd);
+    st32((slot_2 + 52), r_gx);
+    st32((slot_2 + 56), (a_4 + 0xffffffffu));
+    capnp_refusals_refusals_search_search_elements_07dcb38b0fe92235(slot_5, slot_2, ((u32)r_ep & 65535u), (u32)r_y6, 1u, a_5);
+    goto l_join_c0;
+l_arm_z2:;
+    r_ij = (u64)(r_9h >> 35ull);
+    switch ((u8)((u8)(u64)(r_9h >> 32ull) & 7u)) {
+    case 7u: goto l_arm_kl;
+    case 6u: goto l_arm_oi;
+    case 0u: goto l_arm_kl_1;
+    case 5u: goto l_arm_h9;
+    case 4u: goto l_arm_h9_1;
+    case 3u: goto l_arm_h9_2;
+    case 1u: { r_ac = 1ull; goto l_capnp_kl; }
+    case 2u: goto l_arm_h9_3;
+    default: goto l_default_e1;
+    }
+l_arm_kl:;
+    if ((i32)a_4 < (i32)1u) { r_vt = 1ull; r_8t = r_52; r_49 = a_3; r_1t = 0u; r_a3 = 26u; r_wr = 0u; r_hb = 0ull; goto l_common_s8; }
+    r_c4_2 = (r_ij + 1ull);
+    r_24_1 = (u64)r_qd;
+    r_gw_2 = (u64)(r_27 >> 3ull);
+    if ((r_gw_2 & 0xffffffffull) < (r_c4_2 + r_24_1)) { r_vt = 1ull; r_8t = r_52; r_49 = a_3; r_1t = 0u; r_a3 = 23u; r_wr = 0u; r_hb = 0ull; goto l_common_s8; }
+    if (t_pa) goto l_arm_ga;
+    if (!(ld8(a_5) == 1u)) goto l_arm_ga;
+    r_rq_2 = away(a_5, 8ull);
+    r_52_3 = ld64(r_rq_2);
+    if (!(r_52_3 > r_ij)) { r_vt = 1ull; r_8t = r_52; r_49 = a_3; r_1t = 0u; r_a3 = 30u; r_wr = 0u; r_hb = 0ull; goto l_common_s8; }
+    st64(a_5, 1ull);
+    st64(r_rq_2, (r_52_3 - r_c4_2));
+l_arm_ga:;
+    if (!(r_gw_2 > r_24_1)) { r_eh = 0ull; goto l_join_qm; }
+    u64 r_qw_1 = ld64(away(((u8 *)(uptr)r_hv), (u64)(r_24_1 << 3ull)));
+    if ((r_qw_1 & 3ull) == 0ull) { r_eh = r_qw_1; goto l_join_qm; }
+    r_vt = 1ull;
+    r_8t = r_52;
+    r_49 = a_3;
+    r_1t = 0u;
+    r_a3 = 11u;
+    r_wr = 0u;
+    r_hb = 0ull;
+    goto l_common_s8;
+l_join_qm:;
+    t_c8 = (u32)((u32)r_eh >> 2u);
+    r_12_1 = (u32)(u64)(r_eh >> 48ull);
+    r_az_1 = ((u32)(u64)(r_eh >> 32ull) & 65535u);
+    r_68 = (r_az_1 + r_12_1);
+    r_c0_1 = (u64)t_c8;
+    if (r_ij < ((u64)r_68 * r_c0_1)) { r_vt = 1ull; r_8t = r_52; r_49 = a_3; r_1t = 0u; r_a3 = 10u; r_wr = 0u; r_hb = 0ull; goto l_common_s8; }
+    if ((u8)((u8)t_pa | (u8)(r_68 != 0u))) goto l_join_4n;
+    if (!(ld8(a_5) == 1u)) goto l_join_4n;
+    r_rq_3 = away(a_5, 8ull);
+    r_52_4 = ld64(r_rq_3);
+    if (r_52_4 < r_c0_1) { r_vt = 1ull; r_8t = r_52; r_49 = a_3; r_1t = 0u; r_a3 = 30u; r_wr = 0u; r_hb = 0ull; goto l_common_s8; }
+    st64(a_5, 1ull);
+    st64(r_rq_3, (r_52_4 - r_c0_1));
+l_join_4n:;
+    st64(slot_4, (u64)ld8(a_2));
+    mv16((slot_4 + 8), r_rq);
+    st64((slot_4 + 24), r_d4);
+    st64((slot_4 + 32), r_hv);
+    st64((slot_4 + 40), r_27);
+    st32((slot_4 + 48), (r_qd + 1u));
+    st32((slot_4 + 52), 0u);
+    st32((slot_4 + 56), (a_4 + 0xffffffffu));
+    capnp_refusals_refusals_search_search_elements_07dcb38b0fe92235(slot_5, slot_4, r_az_1, r_12_1, t_c8, a_5);
+    goto l_join_c0;
+l_arm_oi:;
+    r_12_2 = (u32)r_ij;
+    if ((i32)a_4 < (i32)1u) { r_vt = 1ull; r_8t = r_52; r_49 = a_3; r_1t = 0u; r_a3 = 26u; r_wr = 0u; r_hb = 0ull; goto l_common_s8; }
+    if (((u64)(r_27 >> 3ull) & 0xffffffffull) < (r_ij + (u64)r_qd)) { r_vt = 1ull; r_8t = r_52; r_49 = a_3; r_1t = 0u; r_a3 = 23u; r_wr = 0u; r_hb = 0ull; goto l_common_s8; }
+    if (t_pa) goto l_join_pj;
+    if (!(ld8(a_5) == 1u)) goto l_join_pj;
+    r_rq_4 = away(a_5, 8ull);
+    r_52_5 = ld64(r_rq_4);
+    if (r_52_5 < r_ij) { r_vt = 1ull; r_8t = r_52; r_49 = a_3; r_1t = 0u; r_a3 = 30u; r_wr = 0u; r_hb = 0ull; goto l_common_s8; }
+    st64(a_5, 1ull);
+    st64(r_rq_4, (r_52_5 - r_ij));
+    goto l_join_pj;
+l_arm_kl_1:;
+    if ((i32)a_4 < (i32)1u) { r_vt = 1ull; r_8t = r_52; r_49 = a_3; r_1t = 0u; r_a3 = 26u; r_wr = 0u; r_hb = 0ull; goto l_common_s8; }
+    if (((u64)(r_27 >> 3ull) & 0xffffffffull) < (u64)r_qd) { r_vt = 1ull; r_8t = r_52; r_49 = a_3; r_1t = 0u; r_a3 = 23u; r_wr = 0u; r_hb = 0ull; goto l_common_s8; }
+    if (t_pa) goto l_arm_c3;
+    if (!(ld8(a_5) == 1u)) goto l_arm_c3;
+    st64(a_5, 1ull);
+    r_rq_5 = away(a_5, 8ull);
+    r_52_6 = ld64(r_rq_5);
+    if (r_52_6 < r_ij) { r_vt = 1ull; r_8t = r_52; r_49 = a_3; r_1t = 0u; r_a3 = 30u; r_wr = 0u; r_hb = 0ull; goto l_common_s8; }
+    st64(r_rq_5, (r_52_6 - r_ij));
+    goto l_arm_c3;
+l_arm_h9_3:;
+    r_ac = 8ull;
+    goto l_capnp_kl;
+l_arm_h9_2:;
+    r_ac = 16ull;
+    goto l_capnp_kl;
+l_arm_h9_1:;
+    r_ac = 32ull;
+    goto l_capnp_kl;
+l_arm_h9:;
+    r_ac = 64ull;
+l_capnp_kl:;
+    if ((i32)a_4 < (i32)1u) { r_vt = 1ull; r_8t = r_52; r_49 = a_3; r_1t = 0u; r_a3 = 26u; r_wr = 0u; r_hb = 0ull; goto l_common_s8; }
+    r_c6 = (u64)(((r_ac * r_ij) + 63ull) >> 6ull);
+    if (((u64)(r_27 >> 3ull) & 0xffffffffull) < (r_c6 + (u64)r_qd)) { r_vt = 1ull; r_8t = r_52; r_49 = a_3; r_1t = 0u; r_a3 = 23u; r_wr = 0u; r_hb = 0ull; goto l_common_s8; }
+    if (t_pa) goto l_arm_c3;
+    if (!(ld8(a_5) == 1u)) goto l_arm_c3;
+    r_rq_6 = away(a_5, 8ull);
+    r_52_7 = ld64(r_rq_6);
+    if (r_52_7 < r_c6) { r_vt = 1ull; r_8t = r_52; r_49 = a_3; r_1t = 0u; r_a3 = 30u; r_wr = 0u; r_hb = 0ull; goto l_common_s8; }
+    st64(a_5, 1ull);
+    st64(r_rq_6, (r_52_7 - r_c6));
+    goto l_arm_c3;
+l_default_e1:;
+    UNREACHABLE();
+l_capnp_8g:;
+    r_jg = 0ull;
+    r_6e = r_2g;
+l_capnp_qu:;
+    r_vt = 1ull;
+    r_8t = r_52;
+    r_49 = a_3;
+    r_1t = 0u;
+    r_a3 = ((u32)r_6e & 255u);
+    r_wr = (u32)(u64)(r_6e >> 32ull);
+    r_hb = r_jg;
+    goto l_common_s8;
+l_capnp_a6:;
+    u8 r_e6 = ((r_9h & 0xffffffffull) == 3ull);
+    if (r_e6) goto l_arm_c3_1;
+    r_vt = 1ull;
+    r_8t = r_52;
+    r_49 = a_3;
+    r_1t = 0u;
+    r_a3 = (r_e6 ? 1u : 34u);
+    r_wr = 0u;
+    r_hb = 0ull;
+l_common_s8:;
+    st64(a_1, r_vt);
+    st64(away(a_1, 8ull), r_8t);
+    st32(away(a_1, 16ull), r_49);
+    st32(away(a_1, 20ull), r_1t);
+    st32(away(a_1, 24ull), r_a3);
+    st32(away(a_1, 28ull), r_wr);
+    st64(away(a_1, 32ull), r_hb);
+    return;
+l_join_pj:;
+    st64(slot_3, (u64)ld8(a_2));
+    mv16((slot_3 + 8), r_rq);
+    st64((slot_3 + 24), r_d4);
+    st64((slot_3 + 32), r_hv);
+    st64((slot_3 + 40), r_27);
+    st32((slot_3 + 48), r_qd);
+    st32((slot_3 + 52), r_gx);
+    st32((slot_3 + 56), (a_4 + 0xffffffffu));
+    capnp_refusals_refusals_search_search_elements_07dcb38b0fe92235(slot_5, slot_3, 0u, r_12_2, 1u, a_5);
+    goto l_join_c0;
+l_arm_c3_1:;
+    st64(slot_5, 0ull);
+    goto l_join_c0;
+l_arm_c3:;
+    st64(slot_5, 0ull);
+l_join_c0:;
+    r_vt = (u64)ld8(slot_5);
+    r_8t = ld64((slot_5 + 8));
+    r_49 = ld32((slot_5 + 16));
+    r_1t = ld32((slot_5 + 20));
+    r_a3 = ld32((slot_5 + 24));
+    r_wr = ld32((slot_5 + 28));
+    r_hb = ld64((slot_5 + 32));
+    goto l_common_s8;
+}
+
+/* capnp_refusals::refusals::search::search_elements::<#07dcb38b0fe92235> */
+static void capnp_refusals_refusals_search_search_elements_07dcb38b0fe92235(u8 *a_1, u8 *a_2, u32 a_3, u32 a_4, u32 a_5, u8 *a_6)
+{
+    A(8) u8 slot_1[40];
+    u32 r_yg;
+    u8 *r_t9;
+    u8 *r_r2;
+    u32 r_sv;
+    memset(slot_1, 0u, 40);
+    if (a_4 == 0u) goto l_then_h9;
+    goto l_join_a3;
+l_common_68:;
+    return;
+l_then_h9:;
+    memset(a_1, 0u, 40);
+    goto l_common_68;
+l_join_a3:;
+    r_yg = (a_4 + a_3);
+    if (a_5 == 0u) goto l_after_h9;
+    r_t9 = away(a_2, 48ull);
+    r_r2 = away(a_2, 56ull);
+    r_sv = 0u;
+    goto l_join_tm;
+l_loop_0k:;
+    u32 r_7t = (r_sv + 1u);
+    if (r_7t == a_5) goto l_after_h9;
+    r_sv = r_7t;
+l_join_tm:;
+    capnp_refusals_refusals_search_search_pointers_07dcb38b0fe92235(slot_1, a_2, (((r_sv * r_yg) + a_3) + ld32(r_t9)), a_4, ld32(r_r2), a_6);
+    if (!(ld8(slot_1) == 1u)) goto l_loop_0k;
+    st64(a_1, 1ull);
+    mv32(away(a_1, 8ull), (slot_1 + 8));
+    goto l_common_68;
+l_after_h9:;
+    memset(a_1, 0u, 40);
+    goto l_common_68;
+}
+
+/* capnp_refusals::refusals::search::search_pointers::<#07dcb38b0fe92235> */
+static NEVER void capnp_refusals_refusals_search_search_pointers_07dcb38b0fe92235(u8 *a_1, u8 *a_2, u32 a_3, u32 a_4, u32 a_5, u8 *a_6)
+{
+    A(8) u8 slot_1[40];
+    u32 r_n6;
+    memset(slot_1, 0u, 40);
+    r_n6 = 0u;
+    goto l_join_r5;
+l_loop_0k:;
+    u32 r_7t = (r_n6 + 1u);
+    if (r_7t == a_4) goto l_after_h9;
+    r_n6 = r_7t;
+l_join_r5:;
+    capnp_refusals_refusals_search_search_object_07dcb38b0fe92235(slot_1, a_2, (r_n6 + a_3), a_5, a_6);
+    if (ld8(slot_1) == 1u) goto l_arm_os;
+    goto l_loop_0k;
+l_common_68:;
+    return;
+l_arm_os:;
+    st64(a_1, 1ull);
+    mv32(away(a_1, 8ull), (slot_1 + 8));
+    goto l_common_68;
+l_after_h9:;
+    memset(a_1, 0u, 40);
+    goto l_common_68;
 }
 
 uint32_t capnp_layout_start(uint8_t *bytes, size_t room, uint32_t *used)
@@ -5527,7 +6561,8 @@ uint32_t capnp_layout_copy(uint8_t *bytes, size_t room, uint32_t *used, uint64_t
     u8 r_r5_1;
     u8 *r_2b_2;
     u64 r_qw_3;
-    u8 r_z5;
+    u8 r_z1;
+    u32 r_cf;
     u32 common_ps;
     r_8z = away(a_1, (((uptr)a_1 == (uptr)((u8 *)0)) ? 4096ull : 0ull));
     r_73 = (u32)a_4;
@@ -5612,7 +6647,7 @@ l_typed_hu:;
     st32(t_6c, a_10);
     capnp_copies_copy_copy_object_5ec03199cc959fcd(slot_2, slot_7, 0u, r_w0_1, slot_3, slot_6, 0u);
     t_0c = (ld8(slot_2) == 0u);
-    if (t_0c) { r_z5 = 0u; goto l_capnp_f7; }
+    if (t_0c) { r_z1 = 0u; goto l_capnp_5a; }
     r_r5_1 = ld8((slot_2 + 8));
     r_2b_2 = away(ldp(slot_7), r_z6);
     r_qw_3 = ld64(r_2b_2);
@@ -5624,12 +6659,15 @@ l_typed_hu:;
     if (!((r_qw_3 & 3ull) == 2ull)) goto l_capnp_8g;
     capnp_making_zeroing_zero_far_pads_d7a666d2d35ab297(slot_7, r_qw_3);
 l_capnp_8g:;
-    r_z5 = r_r5_1;
-l_capnp_f7:;
+    r_z1 = r_r5_1;
+l_capnp_5a:;
+    r_cf = (u32)r_z1;
     st32(a_3, ld32(r_zd_1));
+    if (ld64(a_7) == 0xffffffffffffffffull) goto l_capnp_em;
     st64(a_7, ((ld8(slot_6) == 1u) ? ld64(r_x5_2) : 0ull));
+l_capnp_em:;
     if (t_0c) { common_ps = 0u; goto l_capnp_r5; }
-    common_ps = ((r_z5 == 0u) ? 1u : ((u32)r_z5 + 32u));
+    common_ps = ((r_z1 == 0u) ? 1u : (r_cf + 32u));
 l_capnp_r5:;
     return common_ps;
 }
@@ -5646,9 +6684,10 @@ uint32_t capnp_layout_data(const struct capnp_segments *segments, uint64_t *left
     A(8) u8 slot_1[56];
     A(8) u8 slot_2[24];
     u8 *t_zd;
+    u64 r_yz;
     u8 *r_x5;
-    u8 *r_4e;
-    u64 r_va;
+    u8 *r_jg;
+    u64 r_hg;
     u64 r_7l;
     u64 r_oz;
     u64 r_qw_2;
@@ -5662,32 +6701,31 @@ uint32_t capnp_layout_data(const struct capnp_segments *segments, uint64_t *left
     u64 r_ij;
     u64 r_c6;
     u64 r_24;
+    u8 t_0q;
     u64 r_52;
-    u64 r_k4;
-    u64 r_xp;
-    u64 sink_t3;
-    u8 *static_fb;
-    u64 sink_1d;
-    u32 r_gi;
-    u8 *static_rz;
-    u64 sink_9y;
-    u32 r_z3;
+    u64 r_vs;
+    u8 r_bb;
+    u8 *r_o5;
+    u64 r_04;
+    u64 r_2b_2;
+    u32 r_wt;
+    u32 r_8i;
     t_zd = (slot_2 + 16);
-    u64 r_yz = ld64(a_2);
+    r_yz = ld64(a_2);
     st64(slot_2, 1ull);
     r_x5 = (slot_2 + 8);
     st64(r_x5, r_yz);
-    if (!(a_3 < ld64((a_1 + 8)))) { r_4e = ((u8 *)g_static_4); r_va = 0ull; goto l_arm_rg; }
+    if (!(a_3 < ld64((a_1 + 8)))) { r_jg = ((u8 *)g_static_4); r_hg = 0ull; goto l_arm_cr; }
     u8 *r_2b = away(ldp(a_1), (u64)(a_3 << 4ull));
     u64 r_qw_1 = ld64((r_2b + 8));
-    r_4e = ((r_qw_1 < 8ull) ? ((u8 *)g_static_4) : ldp(r_2b));
-    r_va = (r_qw_1 & 0xfffffffffffffff8ull);
-l_arm_rg:;
+    r_jg = ((r_qw_1 < 8ull) ? ((u8 *)g_static_4) : ldp(r_2b));
+    r_hg = (r_qw_1 & 0xfffffffffffffff8ull);
+l_arm_cr:;
     r_7l = (u64)a_4;
-    r_oz = (u64)(r_va >> 3ull);
-    if (!(r_oz > r_7l)) { static_rz = ((u8 *)g_static_4); sink_9y = 0ull; r_z3 = 0u; goto l_capnp_ld; }
-    r_qw_2 = ld64(away(r_4e, (u64)(r_7l << 3ull)));
-    if (r_qw_2 == 0ull) { static_rz = ((u8 *)g_static_4); sink_9y = 0ull; r_z3 = 0u; goto l_capnp_ld; }
+    r_oz = (u64)(r_hg >> 3ull);
+    if (!(r_oz > r_7l)) { r_bb = 1u; r_o5 = ((u8 *)g_static_4); r_04 = 0ull; goto l_arm_c9; }
+    r_qw_2 = ld64(away(r_jg, (u64)(r_7l << 3ull)));
+    if (r_qw_2 == 0ull) { r_bb = 1u; r_o5 = ((u8 *)g_static_4); r_04 = 0ull; goto l_arm_c9; }
     st64(t_zd, 1ull);
     if ((r_qw_2 & 3ull) == 2ull) goto l_capnp_ng;
     u64 r_m6 = ((u64)(r_qw_2 >> 2ull) & 0x3fffffffull);
@@ -5704,59 +6742,57 @@ l_else_70:;
 l_capnp_i5:;
     r_vg = (u32)r_yz_1;
     r_dq = r_qw_2;
-    r_an = r_va;
-    r_y1 = r_4e;
+    r_an = r_hg;
+    r_y1 = r_jg;
     goto l_arm_fc;
 l_capnp_ng:;
     capnp_objects_source_follow_far_07dcb38b0fe92235(slot_1, a_1, r_qw_2, slot_2);
     u64 r_38_1 = ld64((slot_1 + 8));
     if (ld8(slot_1) == 0u) { r_vg = ld32((slot_1 + 40)); r_dq = r_38_1; r_an = ld64((slot_1 + 32)); r_y1 = ((u8 *)(uptr)ld64((slot_1 + 24))); goto l_arm_fc; }
-    r_k4 = r_38_1;
-    goto l_capnp_qa;
+    r_vs = r_38_1;
+    goto l_capnp_l3;
 l_arm_fc:;
     if ((r_dq & 0x700000003ull) == 0x200000001ull) goto l_join_hu;
-    r_xp = (((r_dq & 3ull) == 1ull) ? 14ull : 18ull);
-    goto l_capnp_lw;
+    r_2b_2 = (((r_dq & 3ull) == 1ull) ? 14ull : 18ull);
+    goto l_arm_22;
 l_join_hu:;
     r_ij = (u64)(r_dq >> 35ull);
     r_c6 = (u64)(((u64)(r_ij << 3ull) + 63ull) >> 6ull);
     r_24 = (u64)r_vg;
-    if (((u64)(r_an >> 3ull) & 0xffffffffull) < (r_c6 + r_24)) { r_xp = 23ull; goto l_capnp_lw; }
-    if (!(ld8(slot_2) == 1u)) goto l_thread_k8;
+    if (((u64)(r_an >> 3ull) & 0xffffffffull) < (r_c6 + r_24)) { r_2b_2 = 23ull; goto l_arm_22; }
+    t_0q = (ld8(slot_2) == 1u);
+    if (!t_0q) goto l_arm_gd;
     r_52 = ld64(r_x5);
-    if (r_52 < r_c6) { sink_t3 = r_52; static_fb = ((u8 *)g_static_4); sink_1d = 0ull; r_gi = 62u; goto l_capnp_95; }
-    goto l_t_7o;
+    if (r_52 < r_c6) { r_2b_2 = 30ull; goto l_arm_22; }
+    st64(r_x5, (r_52 - r_c6));
+    goto l_arm_gd;
 l_capnp_8g:;
-    r_k4 = 23ull;
-l_capnp_qa:;
-    r_xp = (r_k4 & 0xffffffff000000ffull);
-    goto l_capnp_lw;
-l_thread_k8:;
-    sink_t3 = 0ull;
-    static_fb = away(r_y1, (u64)(r_24 << 3ull));
-    sink_1d = r_ij;
-    r_gi = 0u;
-    goto l_capnp_95;
-l_capnp_lw:;
-    sink_t3 = ((ld8(slot_2) == 1u) ? ld64(r_x5) : 0ull);
-    static_fb = ((u8 *)g_static_4);
-    sink_1d = 0ull;
-    r_gi = ((u32)r_xp + 32u);
-    goto l_capnp_95;
-l_t_7o:;
-    sink_t3 = (r_52 - r_c6);
-    static_fb = away(r_y1, (u64)(r_24 << 3ull));
-    sink_1d = r_ij;
-    r_gi = 0u;
-l_capnp_95:;
-    st64(a_2, sink_t3);
-    static_rz = static_fb;
-    sink_9y = sink_1d;
-    r_z3 = r_gi;
-l_capnp_ld:;
-    stp(a_5, static_rz);
-    st64((a_5 + 8), sink_9y);
-    return r_z3;
+    r_vs = 23ull;
+l_capnp_l3:;
+    r_2b_2 = (r_vs & 0xffffffff000000ffull);
+    goto l_arm_22;
+l_arm_gd:;
+    r_bb = t_0q;
+    r_o5 = away(r_y1, (u64)(r_24 << 3ull));
+    r_04 = r_ij;
+l_arm_c9:;
+    if (r_yz == 0xffffffffffffffffull) goto l_capnp_mh;
+    st64(a_2, (r_bb ? ld64(r_x5) : 0ull));
+l_capnp_mh:;
+    stp(a_5, r_o5);
+    st64((a_5 + 8), r_04);
+    r_8i = 0u;
+    goto l_capnp_rt;
+l_arm_22:;
+    r_wt = (u32)r_2b_2;
+    if (r_yz == 0xffffffffffffffffull) goto l_capnp_ml;
+    st64(a_2, ((ld8(slot_2) == 1u) ? ld64(r_x5) : 0ull));
+l_capnp_ml:;
+    stp(a_5, ((u8 *)g_static_4));
+    st64((a_5 + 8), 0ull);
+    r_8i = (r_wt + 32u);
+l_capnp_rt:;
+    return r_8i;
 }
 
 uint32_t capnp_layout_list(const struct capnp_segments *segments, uint64_t *left, uint64_t segment, uint32_t word,
@@ -5771,7 +6807,6 @@ uint32_t capnp_layout_list(const struct capnp_segments *segments, uint64_t *left
     u8 *a_7 = (u8 *)to;
     A(8) u8 slot_1[56];
     A(8) u8 slot_2[24];
-    A(2) u8 slot_3[6];
     u8 *t_zd;
     u64 r_yz;
     u8 *r_x5;
@@ -5829,37 +6864,23 @@ uint32_t capnp_layout_list(const struct capnp_segments *segments, uint64_t *left
     u8 r_sf;
     u64 r_99;
     u8 *t_f6_1;
+    u32 r_y0_1;
+    u64 r_z6_2;
     u64 r_es_1;
     u64 r_yj;
-    u64 r_tb;
-    u64 r_5r;
-    u8 *r_17;
-    u64 r_0x;
-    u64 r_v4;
-    u32 r_sg;
-    u16 r_7g;
-    u32 r_8y;
-    u32 r_k1;
-    u32 r_z4;
-    u64 r_ba;
-    u64 r_py;
-    u32 r_y0_2;
-    u8 *r_c0_4;
-    u32 t_wt_1;
-    u16 r_s1;
-    u16 r_uq;
-    u32 t_8g;
-    u32 r_c7;
-    u32 r_9e;
-    u32 r_jg;
-    u64 r_w7;
-    u64 r_0r;
-    u8 *r_so;
-    u32 r_bu_1;
-    u8 r_x2;
-    u32 r_v2;
+    u64 r_es_2;
+    u8 r_bb;
+    u64 r_o5;
+    u64 r_04;
+    u32 r_b2;
+    u64 r_3n;
+    u32 r_v8;
+    u8 *r_fw;
+    u32 r_zx;
+    u8 r_x7;
+    u32 r_cf;
+    u32 r_8i;
     t_zd = (slot_2 + 16);
-    memset(slot_3, 0u, 6);
     r_yz = ld64(a_2);
     st64(slot_2, 1ull);
     r_x5 = (slot_2 + 8);
@@ -5873,10 +6894,10 @@ l_capnp_a5:;
     r_x5_2 = (u8)umin32(a_6, 7u);
     r_7l = (u64)a_4;
     r_oz = (u64)(r_ij >> 3ull);
-    if (!(r_oz > r_7l)) { r_5r = r_yz; r_17 = ((u8 *)g_static_4); r_0x = 0ull; r_v4 = 0ull; r_sg = 0u; r_7g = 0u; r_8y = 0u; r_k1 = 0u; r_z4 = 0x7fffffffu; goto l_arm_7v; }
+    if (!(r_oz > r_7l)) { r_bb = 1u; r_o5 = 0ull; r_04 = 0ull; r_b2 = 0u; r_3n = 0ull; r_v8 = 0u; r_fw = ((u8 *)g_static_4); r_zx = 0x7fffffffu; goto l_arm_c9; }
     r_qw_2 = ld64(away(r_r0, (u64)(r_7l << 3ull)));
-    if (r_qw_2 == 0ull) { r_5r = r_yz; r_17 = ((u8 *)g_static_4); r_0x = 0ull; r_v4 = 0ull; r_sg = 0u; r_7g = 0u; r_8y = 0u; r_k1 = 0u; r_z4 = 0x7fffffffu; goto l_arm_7v; }
-    if ((i32)a_5 < (i32)1u) { r_x2 = 28u; goto l_arm_vr; }
+    if (r_qw_2 == 0ull) { r_bb = 1u; r_o5 = 0ull; r_04 = 0ull; r_b2 = 0u; r_3n = 0ull; r_v8 = 0u; r_fw = ((u8 *)g_static_4); r_zx = 0x7fffffffu; goto l_arm_c9; }
+    if ((i32)a_5 < (i32)1u) { r_x7 = 28u; goto l_arm_vg; }
     t_al = (u64)(uptr)r_r0;
     st64(t_zd, 1ull);
     if ((r_qw_2 & 3ull) == 2ull) goto l_capnp_jd;
@@ -5906,7 +6927,7 @@ l_capnp_jd:;
     goto l_arm_zy;
 l_arm_an:;
     switch_wl = (u8)((u8)(u64)(r_1s >> 32ull) & 7u);
-    if (!((r_1s & 3ull) == 1ull)) { r_x2 = 19u; goto l_arm_vr; }
+    if (!((r_1s & 3ull) == 1ull)) { r_x7 = 19u; goto l_arm_vg; }
     r_ij_1 = (u64)(r_1s >> 35ull);
     switch (switch_wl) {
     case 7u: goto l_join_vn;
@@ -5923,20 +6944,20 @@ l_join_vn:;
     r_c4_1 = (r_ij_1 + 1ull);
     r_24 = (u64)r_wm;
     r_gw = (u64)(r_bu >> 3ull);
-    if ((r_gw & 0xffffffffull) < (r_c4_1 + r_24)) { r_x2 = 23u; goto l_arm_vr; }
+    if ((r_gw & 0xffffffffull) < (r_c4_1 + r_24)) { r_x7 = 23u; goto l_arm_vg; }
     r_uz = ld8(slot_2);
     t_0q = (r_uz == 1u);
     if (!t_0q) goto l_arm_ga;
     r_52 = ld64(r_x5);
-    if (!(r_52 > r_ij_1)) { r_x2 = 30u; goto l_arm_vr; }
+    if (!(r_52 > r_ij_1)) { r_x7 = 30u; goto l_arm_vg; }
     st64(slot_2, 1ull);
     st64(r_x5, (r_52 - r_c4_1));
 l_arm_ga:;
     if (!(r_gw > r_24)) { r_eh = 0ull; goto l_join_qm; }
     u64 r_qw_3 = ld64(away(((u8 *)(uptr)r_qb), (u64)(r_24 << 3ull)));
     if ((r_qw_3 & 3ull) == 0ull) { r_eh = r_qw_3; goto l_join_qm; }
-    r_x2 = 11u;
-    goto l_arm_vr;
+    r_x7 = 11u;
+    goto l_arm_vg;
 l_join_qm:;
     t_c8 = (u32)((u32)r_eh >> 2u);
     r_y6 = (u64)(r_eh >> 48ull);
@@ -5944,30 +6965,30 @@ l_join_qm:;
     r_az = ((u32)(u64)(r_eh >> 32ull) & 65535u);
     r_68 = (r_az + r_12);
     r_c0_1 = (u64)t_c8;
-    if (r_ij_1 < ((u64)r_68 * r_c0_1)) { r_x2 = 10u; goto l_arm_vr; }
+    if (r_ij_1 < ((u64)r_68 * r_c0_1)) { r_x7 = 10u; goto l_arm_vg; }
     if (!(u8)((u8)t_0q & (u8)(r_68 == 0u))) goto l_arm_8e;
     r_52_1 = ld64(r_x5);
-    if (r_52_1 < r_c0_1) { r_x2 = 30u; goto l_arm_vr; }
+    if (r_52_1 < r_c0_1) { r_x7 = 30u; goto l_arm_vg; }
     st64(slot_2, 1ull);
     st64(r_x5, (r_52_1 - r_c0_1));
     goto l_arm_8e;
 l_join_10:;
     r_12_1 = (u32)r_ij_1;
-    if (((u64)(r_bu >> 3ull) & 0xffffffffull) < (r_ij_1 + (u64)r_wm)) { r_x2 = 23u; goto l_arm_vr; }
+    if (((u64)(r_bu >> 3ull) & 0xffffffffull) < (r_ij_1 + (u64)r_wm)) { r_x7 = 23u; goto l_arm_vg; }
     r_uz_1 = ld8(slot_2);
     if (!(r_uz_1 == 1u)) goto l_arm_dk;
     r_52_2 = ld64(r_x5);
-    if (r_52_2 < r_ij_1) { r_x2 = 30u; goto l_arm_vr; }
+    if (r_52_2 < r_ij_1) { r_x7 = 30u; goto l_arm_vg; }
     st64(slot_2, 1ull);
     st64(r_x5, (r_52_2 - r_ij_1));
     goto l_arm_dk;
 l_join_fa:;
-    if (((u64)(r_bu >> 3ull) & 0xffffffffull) < (u64)r_wm) { r_x2 = 23u; goto l_arm_vr; }
+    if (((u64)(r_bu >> 3ull) & 0xffffffffull) < (u64)r_wm) { r_x7 = 23u; goto l_arm_vg; }
     u8 r_uz_2 = ld8(slot_2);
     if (!(r_uz_2 == 1u)) { r_we = r_uz_2; r_y0 = 0u; goto l_arm_da; }
     st64(slot_2, 1ull);
     r_52_3 = ld64(r_x5);
-    if (r_52_3 < r_ij_1) { r_x2 = 30u; goto l_arm_vr; }
+    if (r_52_3 < r_ij_1) { r_x7 = 30u; goto l_arm_vg; }
     st64(r_x5, (r_52_3 - r_ij_1));
     r_we = 1u;
     r_y0 = 0u;
@@ -5985,11 +7006,11 @@ l_arm_qu:;
     r_zh = 64ull;
 l_join_d6:;
     r_c6 = (u64)(((r_zh * r_ij_1) + 63ull) >> 6ull);
-    if (((u64)(r_bu >> 3ull) & 0xffffffffull) < (r_c6 + (u64)r_wm)) { r_x2 = 23u; goto l_arm_vr; }
+    if (((u64)(r_bu >> 3ull) & 0xffffffffull) < (r_c6 + (u64)r_wm)) { r_x7 = 23u; goto l_arm_vg; }
     r_uz_3 = ld8(slot_2);
     if (!(r_uz_3 == 1u)) goto l_arm_eq;
     r_52_4 = ld64(r_x5);
-    if (r_52_4 < r_c6) { r_x2 = 30u; goto l_arm_vr; }
+    if (r_52_4 < r_c6) { r_x7 = 30u; goto l_arm_vg; }
     st64(slot_2, 1ull);
     st64(r_x5, (r_52_4 - r_c6));
 l_arm_eq:;
@@ -6055,27 +7076,29 @@ l_capnp_wn:;
     r_it = r_dp;
     r_sf = (u8)r_5t;
 l_capnp_yc:;
-    if (r_sf == 1u) { r_x2 = r_it; goto l_arm_vr; }
+    if (r_sf == 1u) { r_x7 = r_it; goto l_arm_vg; }
     goto l_capnp_fo;
 l_arm_5s:;
     r_99 = 23ull;
 l_arm_zy:;
-    r_x2 = (u8)r_99;
-    goto l_arm_vr;
+    r_x7 = (u8)r_99;
+    goto l_arm_vg;
 l_capnp_fo:;
     t_f6_1 = ((u8 *)(uptr)r_qb);
-    if (!(r_sf == 0u)) { r_x2 = r_6n; goto l_arm_vr; }
+    if (!(r_sf == 0u)) { r_x7 = r_6n; goto l_arm_vg; }
     switch (r_6n) {
-    case 5u: goto l_arm_1u;
+    case 5u: goto l_arm_qj;
     case 4u: goto l_arm_15;
-    case 3u: goto l_arm_oe;
+    case 3u: goto l_arm_x6;
     default: goto l_default_e1;
     }
-l_arm_oe:;
+l_arm_x6:;
+    r_y0_1 = (a_5 + 0xffffffffu);
+    r_z6_2 = (u64)((u64)r_ew << 3ull);
     r_es_1 = (u64)r_4e;
     switch ((u8)r_m3) {
     case 7u: goto l_arm_h9_1;
-    case 6u: { r_tb = r_es_1; goto l_capnp_h8; }
+    case 6u: { r_es_2 = r_es_1; goto l_capnp_vm; }
     case 0u: { r_yj = 0ull; goto l_capnp_42; }
     case 5u: goto l_arm_h9_2;
     case 4u: goto l_arm_h9_3;
@@ -6085,8 +7108,8 @@ l_arm_oe:;
     default: goto l_noarm_e1;
     }
 l_arm_h9_1:;
-    r_tb = 0ull;
-    goto l_capnp_h8;
+    r_es_2 = 0ull;
+    goto l_capnp_vm;
 l_arm_h9_4:;
     r_yj = 1ull;
     goto l_capnp_42;
@@ -6102,140 +7125,67 @@ l_arm_h9_3:;
 l_arm_h9_2:;
     r_yj = 64ull;
 l_capnp_42:;
-    r_tb = (u64)(((r_yj * r_es_1) + 63ull) >> 6ull);
-    goto l_capnp_h8;
+    r_es_2 = (u64)(((r_yj * r_es_1) + 63ull) >> 6ull);
+    goto l_capnp_vm;
 l_noarm_e1:;
     UNREACHABLE();
-l_capnp_h8:;
-    r_ba = (u64)(r_tb << 3ull);
-    r_py = (u64)(r_m3 & 255u);
-    goto l_arm_2y;
+l_capnp_vm:;
+    r_bb = r_vp;
+    r_o5 = (u64)(r_es_2 << 3ull);
+    r_04 = r_ig;
+    r_b2 = r_ew;
+    r_3n = (u64)(r_m3 & 255u);
+    r_v8 = r_4e;
+    r_fw = away(t_f6_1, r_z6_2);
+    r_zx = r_y0_1;
+    goto l_arm_c9;
 l_arm_15:;
-    r_5r = ((r_vp == 1u) ? ld64(r_x5) : 0ull);
-    r_17 = away(t_f6_1, (u64)((u64)r_ew << 3ull));
-    r_0x = (u64)((u64)r_m3 << 3ull);
-    r_v4 = r_ig;
-    r_sg = r_ew;
-    r_7g = 1u;
-    r_8y = 6u;
-    r_k1 = r_m3;
-    r_z4 = (a_5 + 0xffffffffu);
-    goto l_arm_7v;
-l_arm_1u:;
-    u64 r_es_2 = (u64)(u32)(r_m3 >> 16u);
-    u64 r_c0_3 = (u64)(r_m3 & 65535u);
-    r_ba = ((u64)((u64)r_4e << 3ull) * (r_c0_3 + r_es_2));
-    r_py = (((u64)(r_es_2 << 32ull) | (u64)(r_c0_3 << 16ull)) | 7ull);
-    goto l_arm_2y;
-l_arm_7v:;
-    st64(a_2, r_5r);
-    memset(slot_1, 0u, 6);
-    r_uq = r_7g;
-    t_8g = r_8y;
-    r_c7 = r_z4;
-    r_9e = r_k1;
-    r_jg = r_sg;
-    r_w7 = r_v4;
-    r_0r = r_0x;
-    r_so = r_17;
-    r_bu_1 = 0u;
-    goto l_capnp_1b;
-l_arm_2y:;
-    r_y0_2 = (a_5 + 0xffffffffu);
-    r_c0_4 = away(t_f6_1, (u64)((u64)r_ew << 3ull));
-    st64(a_2, ((r_vp == 1u) ? ld64(r_x5) : 0ull));
-    u8 r_a3_1 = (u8)r_py;
-    t_wt_1 = (u32)r_py;
-    memset(slot_1, 0u, 6);
-    r_s1 = ((r_a3_1 == 6u) ? 1u : (u16)(u64)(r_py >> 32ull));
-    switch (r_a3_1) {
-    case 0u: { r_uq = r_s1; t_8g = t_wt_1; r_c7 = r_y0_2; r_9e = r_4e; r_jg = r_ew; r_w7 = r_ig; r_0r = r_ba; r_so = r_c0_4; r_bu_1 = 0u; goto l_capnp_1b; }
-    case 6u: { r_uq = r_s1; t_8g = t_wt_1; r_c7 = r_y0_2; r_9e = r_4e; r_jg = r_ew; r_w7 = r_ig; r_0r = r_ba; r_so = r_c0_4; r_bu_1 = 0u; goto l_capnp_1b; }
-    case 7u: { r_uq = r_s1; t_8g = t_wt_1; r_c7 = r_y0_2; r_9e = r_4e; r_jg = r_ew; r_w7 = r_ig; r_0r = r_ba; r_so = r_c0_4; r_bu_1 = 0u; goto l_capnp_1b; }
-    case 1u: goto l_arm_h9_7;
-    case 2u: goto l_arm_h9_8;
-    case 3u: goto l_arm_h9_9;
-    case 4u: goto l_arm_h9_10;
-    case 5u: goto l_arm_h9_11;
-    default: goto l_noarm_e1_1;
-    }
-l_arm_h9_7:;
-    r_uq = r_s1;
-    t_8g = t_wt_1;
-    r_c7 = r_y0_2;
-    r_9e = r_4e;
-    r_jg = r_ew;
-    r_w7 = r_ig;
-    r_0r = r_ba;
-    r_so = r_c0_4;
-    r_bu_1 = 1u;
-    goto l_capnp_1b;
-l_arm_h9_8:;
-    r_uq = r_s1;
-    t_8g = t_wt_1;
-    r_c7 = r_y0_2;
-    r_9e = r_4e;
-    r_jg = r_ew;
-    r_w7 = r_ig;
-    r_0r = r_ba;
-    r_so = r_c0_4;
-    r_bu_1 = 8u;
-    goto l_capnp_1b;
-l_arm_h9_9:;
-    r_uq = r_s1;
-    t_8g = t_wt_1;
-    r_c7 = r_y0_2;
-    r_9e = r_4e;
-    r_jg = r_ew;
-    r_w7 = r_ig;
-    r_0r = r_ba;
-    r_so = r_c0_4;
-    r_bu_1 = 16u;
-    goto l_capnp_1b;
-l_arm_h9_10:;
-    r_uq = r_s1;
-    t_8g = t_wt_1;
-    r_c7 = r_y0_2;
-    r_9e = r_4e;
-    r_jg = r_ew;
-    r_w7 = r_ig;
-    r_0r = r_ba;
-    r_so = r_c0_4;
-    r_bu_1 = 32u;
-    goto l_capnp_1b;
-l_arm_h9_11:;
-    r_uq = r_s1;
-    t_8g = t_wt_1;
-    r_c7 = r_y0_2;
-    r_9e = r_4e;
-    r_jg = r_ew;
-    r_w7 = r_ig;
-    r_0r = r_ba;
-    r_so = r_c0_4;
-    r_bu_1 = 64u;
-    goto l_capnp_1b;
-l_noarm_e1_1:;
-    UNREACHABLE();
-l_capnp_1b:;
-    mv6(slot_3, slot_1);
-    stp(a_7, r_so);
-    st64((a_7 + 8), r_0r);
-    st64((a_7 + 16), r_w7);
-    st32((a_7 + 24), r_jg);
-    st32((a_7 + 28), r_9e);
-    st32((a_7 + 32), (r_bu_1 + ((u32)(t_8g >> 10u) & 0x3fffc0u)));
-    st32((a_7 + 36), r_c7);
-    st16((a_7 + 40), r_uq);
-    mv6((a_7 + 42), slot_3);
-    r_v2 = 0u;
-    goto l_capnp_d8;
-l_arm_vr:;
+    r_bb = r_vp;
+    r_o5 = (u64)((u64)r_m3 << 3ull);
+    r_04 = r_ig;
+    r_b2 = r_ew;
+    r_3n = 6ull;
+    r_v8 = r_m3;
+    r_fw = away(t_f6_1, (u64)((u64)r_ew << 3ull));
+    r_zx = (a_5 + 0xffffffffu);
+    goto l_arm_c9;
+l_arm_qj:;
+    u64 r_es_3 = (u64)(u32)(r_m3 >> 16u);
+    u64 r_c0_4 = (u64)(r_m3 & 65535u);
+    r_bb = r_vp;
+    r_o5 = ((u64)((u64)r_4e << 3ull) * (r_c0_4 + r_es_3));
+    r_04 = r_ig;
+    r_b2 = r_ew;
+    r_3n = (((u64)(r_es_3 << 32ull) | (u64)(r_c0_4 << 16ull)) | 7ull);
+    r_v8 = r_4e;
+    r_fw = away(t_f6_1, (u64)((u64)r_ew << 3ull));
+    r_zx = (a_5 + 0xffffffffu);
+l_arm_c9:;
+    if (r_yz == 0xffffffffffffffffull) goto l_capnp_ov;
+    st64(a_2, ((r_bb == 1u) ? ld64(r_x5) : 0ull));
+l_capnp_ov:;
+    u32 r_k2 = (ld32((((u8 *)switch_table_capnp_layout_list) + (i64)(4 * (r_3n & 255ull)))) + ((u32)((u32)r_3n >> 10u) & 0x3fffc0u));
+    stp(a_7, r_fw);
+    st64((a_7 + 8), r_o5);
+    st64((a_7 + 16), r_04);
+    st32((a_7 + 24), r_b2);
+    st32((a_7 + 28), r_v8);
+    st32((a_7 + 32), r_k2);
+    st32((a_7 + 36), r_zx);
+    st16((a_7 + 40), (((r_3n & 255ull) == 6ull) ? 1u : (u16)(u64)(r_3n >> 32ull)));
+    memset((a_7 + 42), 0u, 6);
+    r_8i = 0u;
+    goto l_capnp_rt;
+l_arm_vg:;
+    r_cf = (u32)r_x7;
+    if (r_yz == 0xffffffffffffffffull) goto l_capnp_di;
     st64(a_2, ((ld8(slot_2) == 1u) ? ld64(r_x5) : 0ull));
+l_capnp_di:;
     stp(a_7, ((u8 *)g_static_4));
     memset((a_7 + 8), 0u, 40);
-    r_v2 = ((u32)r_x2 + 32u);
-l_capnp_d8:;
-    return r_v2;
+    r_8i = (r_cf + 32u);
+l_capnp_rt:;
+    return r_8i;
 }
 
 uint32_t capnp_layout_struct(const struct capnp_segments *segments, uint64_t *left, uint64_t segment, uint32_t word,
@@ -6263,8 +7213,14 @@ uint32_t capnp_layout_root(const struct capnp_segments *segments, uint64_t *left
     r_yz = ld64(a_2);
     if (ld64((a_1 + 8)) == 0ull) { r_j2 = 44u; goto l_arm_fs; }
     if (ld64((ldp(a_1) + 8)) < 8ull) { r_j2 = 55u; goto l_arm_fs; }
-    if (r_yz == 0ull) { r_j2 = 62u; goto l_arm_fs; }
+    switch (r_yz) {
+    case 0ull: { r_j2 = 62u; goto l_arm_fs; }
+    case 0xffffffffffffffffull: goto l_capnp_gc;
+    default: goto l_then_o6;
+    }
+l_then_o6:;
     st64(a_2, (r_yz + 0xffffffffffffffffull));
+l_capnp_gc:;
     u32 r_04 = capnp_layout_c_capnp_layout_struct(a_1, a_2, 0ull, 0u, a_3, a_4);
     r_gw = r_04;
     goto l_capnp_ti;
@@ -6310,12 +7266,12 @@ uint32_t capnp_layout_text(const struct capnp_segments *segments, uint64_t *left
     u64 t_z6;
     u64 r_nb_2;
     u64 r_uv;
-    u64 r_yj;
-    u8 *r_94;
-    u64 r_41;
-    u32 r_x2;
-    u64 sink_4r;
-    u32 r_t3;
+    u8 r_3w;
+    u8 *r_nm;
+    u64 r_o8;
+    u64 t_al;
+    u32 r_bb;
+    u32 r_8i;
     t_zd = (slot_2 + 16);
     r_yz = ld64(a_2);
     st64(slot_2, 1ull);
@@ -6329,9 +7285,9 @@ uint32_t capnp_layout_text(const struct capnp_segments *segments, uint64_t *left
 l_arm_cr:;
     r_7l = (u64)a_4;
     r_oz = (u64)(r_hg >> 3ull);
-    if (!(r_oz > r_7l)) { r_yj = r_yz; r_94 = ((u8 *)g_static_4); r_41 = 0ull; goto l_arm_2r; }
+    if (!(r_oz > r_7l)) { r_3w = 1u; r_nm = ((u8 *)g_static_4); r_o8 = 0ull; goto l_arm_yn; }
     r_qw_2 = ld64(away(r_jg, (u64)(r_7l << 3ull)));
-    if (r_qw_2 == 0ull) { r_yj = r_yz; r_94 = ((u8 *)g_static_4); r_41 = 0ull; goto l_arm_2r; }
+    if (r_qw_2 == 0ull) { r_3w = 1u; r_nm = ((u8 *)g_static_4); r_o8 = 0ull; goto l_arm_yn; }
     st64(t_zd, 1ull);
     if ((r_qw_2 & 3ull) == 2ull) goto l_capnp_b3;
     u64 r_m6 = ((u64)(r_qw_2 >> 2ull) & 0x3fffffffull);
@@ -6362,48 +7318,52 @@ l_capnp_b3:;
     goto l_capnp_f1;
 l_arm_fc:;
     if ((r_dq & 0x700000003ull) == 0x200000001ull) goto l_join_hu;
-    r_x2 = (((r_dq & 3ull) == 1ull) ? 15u : 20u);
-    goto l_arm_vr;
+    r_bb = (((r_dq & 3ull) == 1ull) ? 15u : 20u);
+    goto l_arm_c9;
 l_join_hu:;
     r_ij = (u64)(r_dq >> 35ull);
     r_c6 = (u64)(((u64)(r_ij << 3ull) + 63ull) >> 6ull);
     r_24 = (u64)r_vg;
-    if (((u64)(r_an >> 3ull) & 0xffffffffull) < (r_c6 + r_24)) { r_x2 = 23u; goto l_arm_vr; }
+    if (((u64)(r_an >> 3ull) & 0xffffffffull) < (r_c6 + r_24)) { r_bb = 23u; goto l_arm_c9; }
     t_0q = (ld8(slot_2) == 1u);
     if (!t_0q) goto l_arm_ka;
     r_52 = ld64(r_x5);
-    if (r_52 < r_c6) { r_x2 = 30u; goto l_arm_vr; }
+    if (r_52 < r_c6) { r_bb = 30u; goto l_arm_c9; }
     st64(slot_2, 1ull);
     st64(r_x5, (r_52 - r_c6));
 l_arm_ka:;
     t_z6 = (u64)(r_24 << 3ull);
-    if (r_ij == 0ull) { r_x2 = 24u; goto l_arm_vr; }
+    if (r_ij == 0ull) { r_bb = 24u; goto l_arm_c9; }
     u64 r_19 = (r_ij + 0xffffffffull);
     r_nb_2 = (r_19 & 0xffffffffull);
-    if ((ld64(away(r_y1, ((r_nb_2 + t_z6) & 0xffffffff8ull))) & (u64)(255ull << (((u64)(r_19 << 3ull) & 56ull) & 63u))) == 0ull) goto l_arm_0m;
-    r_x2 = 24u;
-    goto l_arm_vr;
+    if ((ld64(away(r_y1, ((r_nb_2 + t_z6) & 0xffffffff8ull))) & (u64)(255ull << (((u64)(r_19 << 3ull) & 56ull) & 63u))) == 0ull) goto l_arm_ge;
+    r_bb = 24u;
+    goto l_arm_c9;
 l_capnp_f1:;
-    r_x2 = ((u32)r_uv & 255u);
-    goto l_arm_vr;
-l_arm_0m:;
-    r_yj = (t_0q ? ld64(r_x5) : 0ull);
-    r_94 = away(r_y1, t_z6);
-    r_41 = r_nb_2;
-l_arm_2r:;
-    st64(a_2, r_yj);
-    st64(a_5, (u64)(uptr)r_94);
-    sink_4r = r_41;
-    r_t3 = 0u;
-    goto l_capnp_12;
-l_arm_vr:;
+    r_bb = ((u32)r_uv & 255u);
+    goto l_arm_c9;
+l_arm_ge:;
+    r_3w = t_0q;
+    r_nm = away(r_y1, t_z6);
+    r_o8 = r_nb_2;
+l_arm_yn:;
+    t_al = (u64)(uptr)r_nm;
+    if (r_yz == 0xffffffffffffffffull) goto l_capnp_px;
+    st64(a_2, (r_3w ? ld64(r_x5) : 0ull));
+l_capnp_px:;
+    st64(a_5, t_al);
+    st64((a_5 + 8), r_o8);
+    r_8i = 0u;
+    goto l_capnp_rt;
+l_arm_c9:;
+    if (r_yz == 0xffffffffffffffffull) goto l_capnp_ml;
     st64(a_2, ((ld8(slot_2) == 1u) ? ld64(r_x5) : 0ull));
+l_capnp_ml:;
     stp(a_5, ((u8 *)g_static_4));
-    sink_4r = 0ull;
-    r_t3 = (r_x2 + 32u);
-l_capnp_12:;
-    st64((a_5 + 8), sink_4r);
-    return r_t3;
+    st64((a_5 + 8), 0ull);
+    r_8i = (r_bb + 32u);
+l_capnp_rt:;
+    return r_8i;
 }
 
 uint32_t capnp_layout_type(const struct capnp_segments *segments, uint64_t *left, uint64_t segment, uint32_t word, uint32_t *kind)
@@ -6416,6 +7376,7 @@ uint32_t capnp_layout_type(const struct capnp_segments *segments, uint64_t *left
     A(8) u8 slot_1[56];
     A(8) u8 slot_2[24];
     u8 *t_zd;
+    u64 r_yz;
     u8 *r_x5;
     u8 *r_2b;
     u64 r_qw_1;
@@ -6424,25 +7385,24 @@ uint32_t capnp_layout_type(const struct capnp_segments *segments, uint64_t *left
     u64 r_qw_2;
     u64 r_lc;
     u64 r_s3;
-    u64 r_6n;
-    u64 r_4k;
-    u32 r_x2;
-    u32 r_x2_1;
-    u32 storemerge_0z;
-    u32 r_3f;
+    u64 r_fs;
+    u64 r_bd;
+    u8 r_bb;
+    u32 r_o5;
+    u32 r_04;
     t_zd = (slot_2 + 16);
-    u64 r_yz = ld64(a_2);
+    r_yz = ld64(a_2);
     st64(slot_2, 1ull);
     r_x5 = (slot_2 + 8);
     st64(r_x5, r_yz);
-    if (!(a_3 < ld64((a_1 + 8)))) { r_x2 = 0u; goto l_capnp_vr; }
+    if (!(a_3 < ld64((a_1 + 8)))) { r_bb = 1u; r_o5 = 0u; r_04 = 0u; goto l_capnp_c9; }
     r_2b = away(ldp(a_1), (u64)(a_3 << 4ull));
     r_qw_1 = ld64((r_2b + 8));
     t_gw = (u64)(r_qw_1 >> 3ull);
     r_7l = (u64)a_4;
-    if (!(t_gw > r_7l)) { r_x2 = 0u; goto l_capnp_vr; }
+    if (!(t_gw > r_7l)) { r_bb = 1u; r_o5 = 0u; r_04 = 0u; goto l_capnp_c9; }
     r_qw_2 = ld64(away(((r_qw_1 < 8ull) ? ((u8 *)g_static_4) : ldp(r_2b)), (u64)(r_7l << 3ull)));
-    if (r_qw_2 == 0ull) { r_x2 = 0u; goto l_capnp_vr; }
+    if (r_qw_2 == 0ull) { r_bb = 1u; r_o5 = 0u; r_04 = 0u; goto l_capnp_c9; }
     st64(t_zd, 1ull);
     if ((r_qw_2 & 3ull) == 2ull) goto l_capnp_a7;
     u64 r_m6 = ((u64)(r_qw_2 >> 2ull) & 0x3fffffffull);
@@ -6454,48 +7414,143 @@ uint32_t capnp_layout_type(const struct capnp_segments *segments, uint64_t *left
 l_else_70:;
     if ((r_lc < 0x40000000ull) ? 1u : ((r_lc + 0xffffffffc0000000ull) > r_s3)) goto l_arm_5s;
 l_capnp_5s:;
-    r_6n = r_qw_2;
-    goto l_arm_s5;
+    r_fs = r_qw_2;
+    goto l_arm_d4;
 l_capnp_a7:;
     capnp_objects_source_follow_far_07dcb38b0fe92235(slot_1, a_1, r_qw_2, slot_2);
     u64 r_38 = ld64((slot_1 + 8));
-    if (ld8(slot_1) == 0u) { r_6n = r_38; goto l_arm_s5; }
-    r_4k = r_38;
-    goto l_arm_vf;
-l_arm_s5:;
-    switch ((u8)((u8)r_6n & 3u)) {
-    case 0u: { r_x2 = 1u; goto l_capnp_vr; }
+    if (ld8(slot_1) == 0u) { r_fs = r_38; goto l_arm_d4; }
+    r_bd = r_38;
+    goto l_arm_vy;
+l_arm_d4:;
+    switch ((u8)((u8)r_fs & 3u)) {
+    case 0u: { r_bb = 1u; r_o5 = 1u; r_04 = 0u; goto l_capnp_c9; }
     case 1u: goto l_arm_h9;
-    case 2u: { r_x2_1 = 65u; goto l_capnp_vr_1; }
-    case 3u: goto l_capnp_of;
+    case 2u: goto l_arm_h9_1;
+    case 3u: goto l_arm_t7;
     default: goto l_default_e1;
     }
 l_arm_h9:;
-    r_x2 = 2u;
-    goto l_capnp_vr;
+    r_bb = 1u;
+    r_o5 = 2u;
+    r_04 = 0u;
+    goto l_capnp_c9;
+l_arm_h9_1:;
+    r_bb = 0u;
+    r_o5 = 0u;
+    r_04 = 33u;
+    goto l_capnp_c9;
+l_arm_t7:;
+    u8 r_e6 = ((r_fs & 0xffffffffull) == 3ull);
+    r_bb = r_e6;
+    r_o5 = (r_e6 ? 3u : 0u);
+    r_04 = (r_e6 ? 0u : 34u);
+    goto l_capnp_c9;
 l_default_e1:;
     UNREACHABLE();
 l_arm_5s:;
-    r_4k = 23ull;
-l_arm_vf:;
-    r_x2_1 = (((u32)r_4k & 255u) + 32u);
-    goto l_capnp_vr_1;
-l_capnp_vr:;
+    r_bd = 23ull;
+l_arm_vy:;
+    r_bb = 0u;
+    r_o5 = 0u;
+    r_04 = ((u32)r_bd & 255u);
+l_capnp_c9:;
+    if (r_yz == 0xffffffffffffffffull) goto l_capnp_og;
     st64(a_2, ((ld8(slot_2) == 1u) ? ld64(r_x5) : 0ull));
-    storemerge_0z = r_x2;
-    r_3f = 0u;
-    goto l_capnp_sq;
-l_capnp_vr_1:;
-    st64(a_2, ((ld8(slot_2) == 1u) ? ld64(r_x5) : 0ull));
-    storemerge_0z = 0u;
-    r_3f = r_x2_1;
-    goto l_capnp_sq;
-l_capnp_of:;
-    u8 r_e6 = ((r_6n & 0xffffffffull) == 3ull);
-    st64(a_2, ((ld8(slot_2) == 1u) ? ld64(r_x5) : 0ull));
-    storemerge_0z = (r_e6 ? 3u : 0u);
-    r_3f = (r_e6 ? 0u : 66u);
-l_capnp_sq:;
-    st32(a_5, storemerge_0z);
-    return r_3f;
+l_capnp_og:;
+    st32(a_5, (r_bb ? r_o5 : 0u));
+    return (r_bb ? 0u : (r_04 + 32u));
+}
+
+uint32_t capnp_layout_validate(const struct capnp_segments *segments, uint64_t *left, int32_t nesting, uint64_t *segment,
+                               uint32_t *word)
+{
+    u8 *a_1 = (u8 *)segments;
+    u8 *a_2 = (u8 *)left;
+    u32 a_3 = (u32)nesting;
+    u8 *a_4 = (u8 *)segment;
+    u8 *a_5 = (u8 *)word;
+    A(8) u8 slot_1[64];
+    A(8) u8 slot_2[64];
+    A(8) u8 slot_3[24];
+    A(8) u8 slot_4[40];
+    u64 r_yz;
+    u8 *t_6c;
+    u8 *r_mb;
+    u64 r_qw_1;
+    u8 *r_lk;
+    u8 r_r5;
+    u64 r_38;
+    u8 r_r4;
+    u64 r_mx;
+    u8 r_hv;
+    u64 r_34;
+    u32 r_cf;
+    u32 common_ps;
+    st64(a_4, 0ull);
+    st32(a_5, 0u);
+    r_yz = ld64(a_2);
+    t_6c = (slot_2 + 56);
+    st64(t_6c, 0ull);
+    if (ld64((a_1 + 8)) == 0ull) { r_r4 = 12u; goto l_capnp_5s; }
+    r_mb = ldp(a_1);
+    r_qw_1 = ld64((r_mb + 8));
+    if (r_qw_1 < 8ull) { r_r4 = 23u; goto l_capnp_5s; }
+    if (r_yz == 0ull) { r_r4 = 30u; goto l_capnp_5s; }
+    u8 *r_rv = ldp(r_mb);
+    st64(slot_2, 0ull);
+    st64((slot_2 + 8), (u64)(uptr)a_1);
+    memset((slot_2 + 16), 0u, 16);
+    stp((slot_2 + 32), r_rv);
+    st64((slot_2 + 40), (r_qw_1 & 0xfffffffffffffff8ull));
+    st32((slot_2 + 48), 0u);
+    st32((slot_2 + 52), 0u);
+    st32(t_6c, a_3);
+    st32(slot_1, smax32(a_3, 0u));
+    memset((slot_1 + 4), 0u, 20);
+    r_lk = (slot_1 + 24);
+    st32(r_lk, 30u);
+    st32((slot_1 + 28), 0u);
+    st64((slot_1 + 32), 0ull);
+    u8 *r_a8_1 = (slot_1 + 40);
+    st64(r_a8_1, 1ull);
+    u8 *r_c4_1 = (slot_1 + 48);
+    st64(r_c4_1, (r_yz + 0xffffffffffffffffull));
+    st64((slot_1 + 56), 0ull);
+    u8 r_d7 = capnp_objects_pointers_validate_validate_object_07dcb3_9288a101(slot_2, 0u, a_3, slot_1);
+    r_r5 = ld8(r_a8_1);
+    r_38 = ld64(r_c4_1);
+    if (!(u8)(r_d7 & 1)) goto l_arm_vw;
+    r_mx = ld64(a_2);
+    r_hv = ld8(r_lk);
+    r_34 = ((r_r5 == 1u) ? r_38 : 0ull);
+    goto l_arm_jp;
+l_capnp_5s:;
+    r_mx = r_yz;
+    r_hv = r_r4;
+    r_34 = r_yz;
+l_arm_jp:;
+    r_cf = (u32)r_hv;
+    st64(slot_3, 1ull);
+    st64((slot_3 + 8), r_mx);
+    st64((slot_3 + 16), 0ull);
+    if (r_mx == 0xffffffffffffffffull) goto l_capnp_ea;
+    st64(a_2, r_34);
+l_capnp_ea:;
+    capnp_layout_c_validation_refused_pointer(slot_4, a_1, a_3, slot_3);
+    if (ld8(slot_4) == 1u) goto l_arm_n4;
+    goto l_join_wm;
+l_arm_vw:;
+    if (ld64(a_2) == 0xffffffffffffffffull) { common_ps = 0u; goto l_capnp_r5; }
+    st64(a_2, ((r_r5 == 1u) ? r_38 : 0ull));
+    common_ps = 0u;
+    goto l_capnp_r5;
+l_arm_n4:;
+    u32 r_z4 = ld32((slot_4 + 16));
+    st64(a_4, ld64((slot_4 + 8)));
+    st32(a_5, r_z4);
+l_join_wm:;
+    common_ps = (r_cf + 32u);
+l_capnp_r5:;
+    return common_ps;
 }
