@@ -105,7 +105,7 @@ static void expect_same(const struct capnp_segment *list, uint32_t count, int32_
     if (refusal == 0) {
         expect(limit - left == extent.cost && segment == 0 && word == 0, "what is taken");
     } else {
-        capnp_canonical_segments_locate(same, count, nesting, limit, CAPNP_CANONICAL_READING_VALUE, &pointer);
+        expect(capnp_canonical_segments_locate(same, count, nesting, limit, CAPNP_CANONICAL_READING_VALUE, &pointer) == 0, "search");
         expect(pointer.refusal == refusal && pointer.segment == segment && pointer.word == word, "place");
     }
 #else
