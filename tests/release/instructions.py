@@ -175,6 +175,13 @@ def remembering(cases):
                   lambda a, b: a >> 8 * b & 0xff, [(0x0123456789abcdef, b) for b in range(width // 8)])
         cases.add(f'%n = trunc i64 %b to i{width}\n%by = shl i{width} %n, 3\n%w = lshr i{width} 66051, %by\n%c = trunc i{width} %w to i8\n%r = zext i8 %c to i64\nret i64 %r',
                   lambda a, b: 0x010203 >> 8 * b & 0xff, [(0, b) for b in range(width // 8)])
+        # a choice of two such tables, which C could keep in 32 bits
+        choice = f'%c = icmp ult i64 %a, 5\n%v = select i1 %c, i{width} 66051, i{width} 197121\n'
+        for word in 'lshr', 'shl':
+            cases.add(f'{choice}%n = trunc i64 %b to i{width}\n%by = shl i{width} %n, 3\n%w = {word} i{width} %v, %by\n%r = zext i{width} %w to i64\nret i64 %r',
+                      lambda a, b, w=width, count=BINARY[word]: count(0x010203 if a < 5 else 0x030201, 8 * b, w) % 2**w, [(a, b) for a in (4, 5) for b in range(width // 8)])
+        cases.add(f'{choice}%d = icmp ult i64 %b, 5\n%y = select i1 %d, i{width} 16777215, i{width} 16777214\n%w = mul i{width} %v, %y\n%r = zext i{width} %w to i64\nret i64 %r',
+                  lambda a, b, w=width: (0x010203 if a < 5 else 0x030201) * (2**24 - 1 - (b > 4)) % 2**w, [(4, 4), (4, 5), (5, 4), (5, 5)])
     # an unused cast, and a value that is read only for it
     cases.add('%at = alloca i64, align 8\nstore i64 %a, ptr %at, align 8\n%v = load i8, ptr %at, align 8\n%u = trunc i8 %v to i1\nret i64 %b', lambda a, b: b, [(5, 8)])
     # a read before a write returns the old value

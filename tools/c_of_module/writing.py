@@ -282,6 +282,9 @@ class Writer:
             raise Unknown('a choice by a vector of bits')
         found = [self.get(*part) for part in (when, yes, no)]
         (a, _), (b, _), (c, _) = found
+        if yes[0] in UNCOUNTED and b[0].isdigit() and c[0].isdigit():
+            # two numbers that are written out may be shorter in C than the `u64` that such a number is in
+            b = f'(u64){b}'
         self.define(name, yes[0], f'({a} ? {b} : {c})', any(reads for _, reads in found))
 
     def do_shufflevector(self, it, name):
