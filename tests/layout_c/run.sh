@@ -116,7 +116,8 @@ sound() {
     compiler=$1 bits=$2 other=
     if [ "$bits" = -m64 ]; then
         other=$work/canonical.o
-        "$compiler" -std=gnu11 -O1 -I"$top/bindings/c" -c -o "$other" "$top/generated/capnp_canonical.c" || return 1
+        # shellcheck disable=SC2086
+        "$compiler" -std=gnu11 -O0 -g $sanitizers -I"$top/bindings/c" -c -o "$other" "$top/generated/capnp_canonical.c" || return 1
     fi
     # shellcheck disable=SC2086
     "$compiler" $bits -std=gnu11 -O1 -g $sanitizers $include -o "$work/sound" "$here/sound.c" "$folder/capnp_layout.c" $other &&
