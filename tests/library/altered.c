@@ -1,6 +1,6 @@
-/* Calls every function of the library with random messages, some of them altered, as frames, as words and as segments; with
- * random limits, paths, rooms and packed bytes. To be run with sanitizers, over a library that is compiled with them, too: each
- * buffer is a block of the heap of its very size, at any address, or null if it is empty; and all that a call writes is looked at.
+/* Calls every function of the library with random messages, some of them altered: frames, words and segments; with random
+ * limits, paths, rooms and packed bytes. To be run with sanitizers, over a library that is compiled with them, too: each buffer is
+ * a block of the heap of its very size, at any address, or null if it is empty; and what a call has to write must be written.
  * Answers of different functions about the same message have to agree.
  *
  *     altered ROUNDS [SEED]
@@ -47,7 +47,7 @@ struct given {
 #define CALL_AT(it, name, ...) \
     CALL_NAMED(it, name, name, (it)->steps ? (it)->path : NULL, (it)->steps, (it)->nesting, (it)->words, __VA_ARGS__)
 
-/* A block of exactly this size, which starts up to 7 bytes after a multiple of 8; `*whole` is to be freed. */
+/* A block of exactly this size, which starts up to 7 bytes after a multiple of 8. Writes to `*whole` what the caller frees. */
 static uint8_t *block(size_t size, void **whole) {
     size_t by = below(3) ? 0 : below(8);
     uint8_t *made_here = (uint8_t *)malloc(by + size);
