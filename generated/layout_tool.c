@@ -304,14 +304,14 @@ INLINE u8 *c_getcwd(u8 *to, u64 room)
     return (u8 *)getcwd((char *)to, room);
 }
 
-/* Opens a file for reading: the program needs nothing else. In the system's flags, 0 in the last two bits means that. */
+/* Opens a file for reading, or a new or emptied one for writing: the programs need nothing else. The flags are those of Linux:
+ * 0 in the last two bits is for reading, and these three bits are for the other. */
 INLINE u32 c_open(u8 *path, u32 how, ...)
 {
-    if (how & 3) {
-        errno = EINVAL;
-        return (u32)-1;
-    }
-    return (u32)open((const char *)path, O_RDONLY | O_NOCTTY | O_CLOEXEC);
+    if ((how & 3) == 0) return (u32)open((const char *)path, O_RDONLY | O_NOCTTY | O_CLOEXEC);
+    if ((how & 0x243) == 0x241) return (u32)open((const char *)path, O_WRONLY | O_CREAT | O_TRUNC | O_NOCTTY | O_CLOEXEC, 0666);
+    errno = EINVAL;
+    return (u32)-1;
 }
 
 INLINE u32 c_close(u32 file)

@@ -182,6 +182,10 @@ def remembering(cases):
                       lambda a, b, w=width, count=BINARY[word]: count(0x010203 if a < 5 else 0x030201, 8 * b, w) % 2**w, [(a, b) for a in (4, 5) for b in range(width // 8)])
         cases.add(f'{choice}%d = icmp ult i64 %b, 5\n%y = select i1 %d, i{width} 16777215, i{width} 16777214\n%w = mul i{width} %v, %y\n%r = zext i{width} %w to i64\nret i64 %r',
                   lambda a, b, w=width: (0x010203 if a < 5 else 0x030201) * (2**24 - 1 - (b > 4)) % 2**w, [(4, 4), (4, 5), (5, 4), (5, 5)])
+    for width, how in itertools.product((24, 40, 48, 56), ('eq', 'ne', 'ult', 'uge')):
+        cases.add(f'%v = trunc i64 %a to i{width}\n%w = trunc i64 %b to i{width}\n%c = icmp {how} i{width} %v, %w\n%d = icmp {how} i{width} %v, 7\n'
+                  '%x = zext i1 %c to i64\n%y = zext i1 %d to i64\n%z = shl i64 %x, 1\n%r = or i64 %z, %y\nret i64 %r',
+                  lambda a, b, w=width, it=COMPARED[how]: 2 * it(a % 2**w, b % 2**w, w) + it(a % 2**w, 7, w), [*edges(64)[:20], (7, 7), (7 << width | 7, 7), (7, 7 << width)])
     # an unused cast, and a value that is read only for it
     cases.add('%at = alloca i64, align 8\nstore i64 %a, ptr %at, align 8\n%v = load i8, ptr %at, align 8\n%u = trunc i8 %v to i1\nret i64 %b', lambda a, b: b, [(5, 8)])
     # a read before a write returns the old value
@@ -401,7 +405,7 @@ attributes #2 = { cold noinline nounwind }
 # Modules that must be refused: with things that no proved module has, or that would mean something else in C.
 BODY = 'define i64 @test_0(i64 %a, i64 %b) #0 {{\nstart:\n  {}\n  ret i64 %a\n}}\n'
 REFUSED = [BODY.format(it) for it in (
-    '%x = fadd double 1.0, 2.0', '%x = add i128 1, 2', '%x = add i24 1, 2', '%x = icmp eq i56 0, 0', '%x = sext i40 0 to i64', '%x = ptrtoint ptr null to i56', '%x = alloca i48, align 8', '%x = uitofp i64 %a to double', 'fence seq_cst', '%x = atomicrmw add ptr null, i64 1 seq_cst, align 8',
+    '%x = fadd double 1.0, 2.0', '%x = add i128 1, 2', '%x = add i24 1, 2', '%x = icmp slt i56 0, 0', '%x = sext i40 0 to i64', '%x = ptrtoint ptr null to i56', '%x = alloca i48, align 8', '%x = uitofp i64 %a to double', 'fence seq_cst', '%x = atomicrmw add ptr null, i64 1 seq_cst, align 8',
     '%x = cmpxchg ptr null, i64 1, i64 2 seq_cst seq_cst, align 8', '%x = load volatile i64, ptr null, align 8', '%x = load atomic i64, ptr null seq_cst, align 8',
     'store volatile i64 1, ptr null, align 8', 'store atomic i64 1, ptr null seq_cst, align 8', '%x = load i1, ptr null, align 1', 'store i1 true, ptr null, align 1', '%x = load double, ptr null, align 8',
     '%x = load ptr addrspace(1), ptr null, align 8', '%p = inttoptr i64 %a to ptr\n  %x = call i64 %p(i64 1)', 'call void asm sideeffect "nop", ""()', '%x = va_arg ptr null, i64', '%x = udiv <16 x i8> zeroinitializer, zeroinitializer',

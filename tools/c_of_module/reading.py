@@ -21,7 +21,7 @@ class Unknown(Exception):
 
 
 # Numbers of widths that C doesn't have, which C keeps in 64 bits, where the other bits are zero. They are moved, truncated,
-# extended, shifted, multiplied and combined bit by bit; nothing else of them is known.
+# extended, shifted, multiplied, compared without a sign and combined bit by bit; nothing else of them is known.
 UNCOUNTED = 'i24', 'i40', 'i48', 'i56'
 
 

@@ -199,7 +199,7 @@ class Writer:
         if kind[0] == 'vector':
             cast = f'(w{kind[1]})' if is_signed else ''
             return self.define(name, (*kind[:2], 'i1'), f'(v{kind[1]})({cast}{a} {sign} {cast}{b})', reads)
-        if kind in UNCOUNTED or is_signed and kind in ('i1', 'ptr'):
+        if is_signed and kind in (*UNCOUNTED, 'i1', 'ptr'):
             raise Unknown('a comparison')
         cast = '(uptr)' if kind == 'ptr' else f'(i{bits(kind)})' if is_signed else ''
         return self.define(name, 'i1', f'({cast}{a} {sign} {cast}{b})', reads)
