@@ -756,22 +756,33 @@ CAPNP_INLINE struct capnp_struct_builder capnp_init_struct(const struct capnp_st
     return made;
 }
 
+/* The words that opening this struct takes after CAPNP_NO_ROOM. If it is there, the larger of both sizes of each section. */
+CAPNP_INLINE uint64_t capnp_words_to_open(const struct capnp_struct_builder *of, uint16_t index, uint16_t data_words, uint16_t pointers) {
+    struct capnp_builder *message = of->message;
+    struct capnp_struct_at old;
+    uint64_t pointer;
+    memcpy(&pointer, message->bytes + 8 * ((size_t)of->place.at + of->place.data_words + index), sizeof pointer);
+    if (pointer != 0 &&
+        capnp_layout_get_struct(message->bytes, message->room, &message->used, capnp_place(of->place), index, 0, 0, &old) == 0) {
+        if (old.data_words > data_words) data_words = old.data_words;
+        if (old.pointers > pointers) pointers = old.pointers;
+    }
+    return (uint64_t)data_words + pointers;
+}
+
 /* Opens the struct that the pointer leads to. Null becomes a new struct, all zero; one with smaller sections, as of an older
  * schema, is moved to new words. */
 CAPNP_INLINE struct capnp_struct_builder capnp_open_struct(const struct capnp_struct_builder *of, uint16_t index, uint16_t data_words,
                                                            uint16_t pointers) {
     struct capnp_builder *message = of->message;
     struct capnp_struct_builder found;
-    uint64_t words = (uint64_t)data_words + pointers;
+    uint32_t answer;
     found.message = message;
     memset(&found.place, 0, sizeof found.place);
-    while (message->refusal == 0 &&
-           capnp_again(message,
-                       capnp_layout_get_struct(message->bytes, message->room, &message->used, capnp_place(of->place), index,
-                                               data_words, pointers, &found.place),
-                       words)) {
-        /* A struct that is moved keeps its larger section. */
-        words = 0x20000;
+    while (message->refusal == 0) {
+        answer = capnp_layout_get_struct(message->bytes, message->room, &message->used, capnp_place(of->place), index, data_words,
+                                         pointers, &found.place);
+        if (!capnp_again(message, answer, answer == CAPNP_NO_ROOM ? capnp_words_to_open(of, index, data_words, pointers) : 0)) break;
     }
     return found;
 }
@@ -961,16 +972,19 @@ CAPNP_INLINE void capnp_copy_pointer(const struct capnp_struct_builder *of, uint
                                      uint32_t word, int32_t nesting) {
     struct capnp_builder *message = of->message;
     uint32_t used = message->used, answer;
-    uint64_t left = from->left;
+    /* What reading costs is counted without a limit too, because the room that is wanted follows from it. */
+    bool is_limited = from->left != CAPNP_NO_LIMIT;
+    uint64_t before = is_limited ? from->left : CAPNP_NO_LIMIT - 1, left;
     while (message->refusal == 0) {
-        from->left = left;
-        answer = capnp_layout_copy(message->bytes, message->room, &message->used, capnp_place(of->place), index, &from->segments,
-                                   &from->left, segment, word, nesting);
+        left = before;
+        answer = capnp_layout_copy(message->bytes, message->room, &message->used, capnp_place(of->place), index, &from->segments, &left,
+                                   segment, word, nesting);
+        if (is_limited) from->left = left;
         if (answer != 0 && answer != CAPNP_NO_ROOM && answer != CAPNP_NO_SUCH_PLACE) capnp_refuse(from, answer, segment, word);
         /* What a refused copy has allocated is zero, and no pointer leads there. */
         if (answer == CAPNP_NO_ROOM) message->used = used;
-        /* A copy has at most as many words as reading it costs. What was read until the buffer was full is known. */
-        if (!capnp_again(message, answer, 2 * (left - from->left) + 1)) break;
+        /* A copy has at most one word more than twice what reading it costs. What was read until the buffer was full is known. */
+        if (!capnp_again(message, answer, 2 * (before - left) + 1)) break;
     }
 }
 

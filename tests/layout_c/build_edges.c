@@ -256,11 +256,51 @@ static void rooms(void) {
     }
 }
 
+static int grown;
+
+static bool grow_once(struct capnp_builder *message, size_t wanted) {
+    uint8_t *larger = block(wanted + 8);
+    memcpy(larger, message->bytes - 8, 8 + 8 * (size_t)message->used);
+    free(message->bytes - 8);
+    message->bytes = larger + 8;
+    message->room = wanted;
+    return grown++ == 0;
+}
+
+/* A struct of 2 data words and 1 pointer, opened with 1 and 3, takes 5 more words: exactly that is wanted, however much room there is. */
+static void rooms_to_move(void) {
+    size_t room;
+    for (room = 32; room <= 80; room++) {
+        uint8_t *buffer = block(room + 8);
+        int i;
+        for (i = 0; i < 2; i++) {
+            struct capnp_builder message;
+            struct capnp_struct_builder root;
+            capnp_start(&message, buffer, room + 8);
+            root = capnp_init_root(&message, 2, 1);
+            capnp_set_u64(&root, 8, 77, 0);
+            grown = 0;
+            if (i == 1) message.grow = grow_once;
+            root = capnp_open_root(&message, 1, 3);
+            buffer = message.bytes - 8;
+            if (room < 72 && i == 0) {
+                expect(message.refusal == CAPNP_NO_ROOM && message.wanted == 72 && message.used == 4, "the room to move a struct", (uint32_t)room);
+                expect(root.place.data_words == 0 && root.place.pointers == 0, "a struct that isn't opened", (uint32_t)room);
+                continue;
+            }
+            expect(message.refusal == 0 && message.used == 9 && message.room == (room < 72 ? 72 : room), "a struct is moved", (uint32_t)room);
+            expect(root.place.data_words == 2 && root.place.pointers == 3 && grown == (room < 72), "a struct that was moved", (uint32_t)room);
+        }
+        free(buffer);
+    }
+}
+
 int main(void) {
     fields();
     lists();
     opening();
     rooms();
+    rooms_to_move();
     printf("%lu passed, %lu failed\n", passed, failed);
     return failed != 0;
 }

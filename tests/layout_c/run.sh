@@ -1,8 +1,8 @@
 #!/bin/sh
 # run.sh [FOLDER]: tests reading and building from C: FOLDER/capnp_layout.c, by default that of generated/, and bindings/c/capnp_layout.h.
 # Compiles both with each compiler that is there, for 64 and 32 bits, and for two ARMs, whose programs run in qemu. ROUNDS is the
-# number of mutated messages, by default 20,000 for each part that has any. If the tools for a part are missing, the part is
-# skipped, and a line says so. The last line is `N passed, M failed`.
+# number of mutated messages, and of lists of calls that build, by default 20,000 for each part that has any. If the tools for a
+# part are missing, the part is skipped, and a line says so. The last line is `N passed, M failed`.
 set -u
 here=$(cd "$(dirname "$0")" && pwd)
 top=$(cd "$here/../.." && pwd)
@@ -190,6 +190,12 @@ beside() {
             -fsanitize=undefined -lcapnp -lkj && ./beside "$rounds" "${SEED:-1}"
 }
 
+built_beside() {
+    cd "$work" && cc -std=gnu11 -O1 -g $sanitizers -I"$top/bindings/c" -c -o layout.o "$folder/capnp_layout.c" &&
+        c++ -std=c++17 -O1 -g $sanitizers -Wall -Wextra -I"$top/bindings/c" -o build_beside "$here/build_beside.cc" layout.o -lcapnp -lkj &&
+        ./build_beside "$rounds" "${SEED:-1}"
+}
+
 if has capnp; then capnp eval -b "$here/lists.capnp" lists >"$work/message"; fi
 # All parts with a compiler and its flags; the first word is what they are called.
 parts_with() {
@@ -234,7 +240,12 @@ for compiler in g++ clang++; do
     if has $compiler; then part "$compiler, no warnings" header_cpp $compiler; else skip "$compiler" compiler; fi
 done
 if has gcc nm; then part 'names' names gcc; fi
-if has capnp c++ && [ -f /usr/include/capnp/serialize.h ]; then summed 'beside C++' beside; else skip 'beside C++' 'C++ Cap'\''n Proto'; fi
+if has capnp c++ && [ -f /usr/include/capnp/serialize.h ]; then
+    summed 'beside C++' beside
+    summed 'building, beside C++' built_beside
+else
+    skip 'beside C++' 'C++ Cap'\''n Proto'
+fi
 if has python3; then
     python3 -B "$here/sizes.py" --check >"$work/sizes"
     if grep -q '^skipped' "$work/sizes"; then skip 'sizes in docs/C.md' "$(sed 's/^skipped, no //' "$work/sizes")"; else summed 'sizes in docs/C.md' cat "$work/sizes"; fi
