@@ -34,8 +34,13 @@
 #endif
 #endif
 
-/* Functions defined in this header, not in the library. */
+/* Functions defined in this header, not in the library. The second kind isn't made part of its callers. */
 #define CAPNP_INLINE static inline
+#ifdef __GNUC__
+#define CAPNP_SELDOM static __attribute__((cold, noinline, unused))
+#else
+#define CAPNP_SELDOM static inline
+#endif
 
 #ifdef __cplusplus
 extern "C" {
@@ -617,8 +622,9 @@ CAPNP_LAYOUT_SIZE(capnp_struct_at, 8);
 /* The library's part. The buffer's first `used` words are the message: `bytes` and `room` are its address and its size in
  * bytes. It needn't be aligned or zero. `place` is a struct's, from capnp_place, and `list` a list's, from
  * capnp_list_place. A place that isn't in the message is refused with CAPNP_NO_SUCH_PLACE, and nothing is changed.
- * After any other refusal, a call that sets a pointer may leave it null, and does so after CAPNP_NO_ROOM; one that opens
- * an object leaves it unchanged. */
+ * After any other refusal a call that opens an object has changed nothing, and one that sets a pointer leaves it null; but
+ * CAPNP_MESSAGE_TOO_LARGE changes nothing, if it isn't for one of the largest lists: 2^29 - 1 pointers or elements of 8
+ * bytes, or structs of 2^29 - 2 or 2^29 - 1 words together. */
 uint32_t capnp_layout_start(uint8_t *bytes, size_t room, uint32_t *used);
 uint32_t capnp_layout_init_root(uint8_t *bytes, size_t room, uint32_t *used, uint16_t data_words, uint16_t pointers, uint32_t *at);
 uint32_t capnp_layout_init_struct(uint8_t *bytes, size_t room, uint32_t *used, uint64_t place, uint16_t index, uint16_t data_words,
@@ -693,15 +699,15 @@ struct capnp_list_builder {
     enum capnp_size size;
 };
 
-/* Keeps the answer of a call that needs room for `words` words. Returns true if `grow` has made room, so that
- * the caller repeats the call. */
-CAPNP_INLINE bool capnp_again(struct capnp_builder *message, uint32_t answer, uint64_t words) {
-    if (answer == CAPNP_NO_ROOM) {
+/* Keeps the refusal of a call that needs room for `words` words. Returns true if `grow` has made room, so that the caller
+ * repeats the call. */
+CAPNP_SELDOM bool capnp_again(struct capnp_builder *message, uint32_t refusal, uint64_t words) {
+    if (refusal == CAPNP_NO_ROOM) {
         uint64_t wanted = 8 * (message->used + words);
         if (message->grow && wanted > message->room && wanted <= SIZE_MAX && message->grow(message, (size_t)wanted)) return true;
         message->wanted = wanted;
     }
-    message->refusal = answer;
+    message->refusal = refusal;
     return false;
 }
 
@@ -721,9 +727,10 @@ CAPNP_INLINE struct capnp_struct_builder capnp_init_root(struct capnp_builder *m
     made.place.at = 0;
     made.place.data_words = data_words;
     made.place.pointers = pointers;
-    while (message->refusal == 0 &&
-           capnp_again(message, capnp_layout_init_root(message->bytes, message->room, &message->used, data_words, pointers, &made.place.at),
-                       (uint64_t)data_words + pointers)) {
+    while (message->refusal == 0) {
+        uint32_t answer = capnp_layout_init_root(message->bytes, message->room, &message->used, data_words, pointers,
+                                                 &made.place.at);
+        if (answer == 0 || !capnp_again(message, answer, (uint64_t)data_words + pointers)) break;
     }
     return made;
 }
@@ -747,11 +754,10 @@ CAPNP_INLINE struct capnp_struct_builder capnp_init_struct(const struct capnp_st
     made.place.at = 0;
     made.place.data_words = data_words;
     made.place.pointers = pointers;
-    while (message->refusal == 0 &&
-           capnp_again(message,
-                       capnp_layout_init_struct(message->bytes, message->room, &message->used, capnp_place(of->place), index,
-                                                data_words, pointers, &made.place.at),
-                       (uint64_t)data_words + pointers)) {
+    while (message->refusal == 0) {
+        uint32_t answer = capnp_layout_init_struct(message->bytes, message->room, &message->used, capnp_place(of->place), index,
+                                                   data_words, pointers, &made.place.at);
+        if (answer == 0 || !capnp_again(message, answer, (uint64_t)data_words + pointers)) break;
     }
     return made;
 }
@@ -760,9 +766,9 @@ CAPNP_INLINE struct capnp_struct_builder capnp_init_struct(const struct capnp_st
 CAPNP_INLINE uint64_t capnp_words_to_open(const struct capnp_struct_builder *of, uint16_t index, uint16_t data_words, uint16_t pointers) {
     struct capnp_builder *message = of->message;
     struct capnp_struct_at old;
-    uint64_t pointer;
-    memcpy(&pointer, message->bytes + 8 * ((size_t)of->place.at + of->place.data_words + index), sizeof pointer);
-    if (pointer != 0 &&
+    uint64_t word;
+    memcpy(&word, message->bytes + 8 * ((size_t)of->place.at + of->place.data_words + index), sizeof word);
+    if (word != 0 &&
         capnp_layout_get_struct(message->bytes, message->room, &message->used, capnp_place(of->place), index, 0, 0, &old) == 0) {
         if (old.data_words > data_words) data_words = old.data_words;
         if (old.pointers > pointers) pointers = old.pointers;
@@ -782,6 +788,7 @@ CAPNP_INLINE struct capnp_struct_builder capnp_open_struct(const struct capnp_st
     while (message->refusal == 0) {
         answer = capnp_layout_get_struct(message->bytes, message->room, &message->used, capnp_place(of->place), index, data_words,
                                          pointers, &found.place);
+        if (answer == 0) break;
         if (!capnp_again(message, answer, answer == CAPNP_NO_ROOM ? capnp_words_to_open(of, index, data_words, pointers) : 0)) break;
     }
     return found;
@@ -803,11 +810,10 @@ CAPNP_INLINE struct capnp_list_builder capnp_init_struct_list(const struct capnp
     made.first.data_words = data_words;
     made.first.pointers = pointers;
     made.size = CAPNP_STRUCT;
-    while (message->refusal == 0 &&
-           capnp_again(message,
-                       capnp_layout_init_struct_list(message->bytes, message->room, &message->used, capnp_place(of->place), index,
-                                                     count, data_words, pointers, &made.first.at),
-                       1 + (uint64_t)count * ((uint64_t)data_words + pointers))) {
+    while (message->refusal == 0) {
+        uint32_t answer = capnp_layout_init_struct_list(message->bytes, message->room, &message->used, capnp_place(of->place), index,
+                                                        count, data_words, pointers, &made.first.at);
+        if (answer == 0 || !capnp_again(message, answer, 1 + (uint64_t)count * ((uint64_t)data_words + pointers))) break;
     }
     made.count = message->refusal == 0 ? count : 0;
     return made;
@@ -824,11 +830,10 @@ CAPNP_INLINE struct capnp_list_builder capnp_init_list(const struct capnp_struct
     made.first.data_words = 0;
     made.first.pointers = 1;
     made.size = size;
-    while (message->refusal == 0 &&
-           capnp_again(message,
-                       capnp_layout_init_list(message->bytes, message->room, &message->used, capnp_place(of->place), index,
-                                              (uint32_t)size, count, &made.first.at),
-                       ((uint64_t)count * bits[(uint32_t)size & 7] + 63) / 64)) {
+    while (message->refusal == 0) {
+        uint32_t answer = capnp_layout_init_list(message->bytes, message->room, &message->used, capnp_place(of->place), index,
+                                                 (uint32_t)size, count, &made.first.at);
+        if (answer == 0 || !capnp_again(message, answer, ((uint64_t)count * bits[(uint32_t)size & 7] + 63) / 64)) break;
     }
     made.count = message->refusal == 0 ? count : 0;
     return made;
@@ -849,11 +854,10 @@ CAPNP_INLINE struct capnp_struct_builder capnp_builder_element(const struct capn
 /* Makes the pointer lead to a new text: `size` bytes, and a zero byte. */
 CAPNP_INLINE void capnp_set_text_n(const struct capnp_struct_builder *of, uint16_t index, const char *text, size_t size) {
     struct capnp_builder *message = of->message;
-    const uint8_t *bytes = (const uint8_t *)(size == 0 ? "" : text);
-    while (message->refusal == 0 &&
-           capnp_again(message,
-                       capnp_layout_set_text(message->bytes, message->room, &message->used, capnp_place(of->place), index, bytes, size),
-                       (uint64_t)size / 8 + 1)) {
+    while (message->refusal == 0) {
+        uint32_t answer = capnp_layout_set_text(message->bytes, message->room, &message->used, capnp_place(of->place), index,
+                                                (const uint8_t *)text, size);
+        if (answer == 0 || !capnp_again(message, answer, (uint64_t)size / 8 + 1)) break;
     }
 }
 
@@ -864,11 +868,10 @@ CAPNP_INLINE void capnp_set_text(const struct capnp_struct_builder *of, uint16_t
 /* Makes the pointer lead to new data. */
 CAPNP_INLINE void capnp_set_data(const struct capnp_struct_builder *of, uint16_t index, const void *data, size_t size) {
     struct capnp_builder *message = of->message;
-    const uint8_t *bytes = size == 0 ? (const uint8_t *)"" : (const uint8_t *)data;
-    while (message->refusal == 0 &&
-           capnp_again(message,
-                       capnp_layout_set_data(message->bytes, message->room, &message->used, capnp_place(of->place), index, bytes, size),
-                       ((uint64_t)size + 7) / 8)) {
+    while (message->refusal == 0) {
+        uint32_t answer = capnp_layout_set_data(message->bytes, message->room, &message->used, capnp_place(of->place), index,
+                                                (const uint8_t *)data, size);
+        if (answer == 0 || !capnp_again(message, answer, ((uint64_t)size + 7) / 8)) break;
     }
 }
 
@@ -888,26 +891,36 @@ CAPNP_INLINE void capnp_set_capability(const struct capnp_struct_builder *of, ui
     }
 }
 
+/* Where the number of `size` bytes at byte `offset` of a struct's data section is. Null if it isn't in the message. */
+CAPNP_INLINE uint8_t *capnp_field_to_set(const struct capnp_struct_builder *of, uint32_t offset, uint32_t size) {
+    const struct capnp_builder *message = of->message;
+    bool is_there = (uint64_t)of->place.at + of->place.data_words + of->place.pointers <= message->used &&
+                    (uint64_t)offset + size <= 8u * of->place.data_words && offset % size == 0;
+    return is_there ? message->bytes + 8 * (size_t)of->place.at + offset : NULL;
+}
+
 /* Write a field of the data section. `offset` is in bytes from its start, for a bool in bits; it is refused if it isn't a
  * multiple of the field's width. `missing` is the schema's default, of a float as its bits. Write the tag of a union before
  * its member. */
-#define CAPNP_SET(NAME, TYPE, UNSIGNED, CALL)                                                                              \
+#define CAPNP_SET(NAME, TYPE)                                                                                              \
     CAPNP_INLINE void capnp_set_##NAME(const struct capnp_struct_builder *of, uint32_t offset, TYPE value, TYPE missing) { \
-        struct capnp_builder *message = of->message;                                                                       \
-        uint32_t at = offset % sizeof value == 0 ? offset / (uint32_t)sizeof value : UINT32_MAX;                           \
-        if (message->refusal == 0) {                                                                                       \
-            message->refusal = capnp_layout_set_##CALL(message->bytes, message->room, message->used,                       \
-                                                       capnp_place(of->place), at, (UNSIGNED)(value ^ missing));           \
+        uint8_t *to = capnp_field_to_set(of, offset, (uint32_t)sizeof value);                                              \
+        TYPE bits = (TYPE)(value ^ missing);                                                                               \
+        if (of->message->refusal != 0) return;                                                                             \
+        if (!to) {                                                                                                         \
+            of->message->refusal = CAPNP_NO_SUCH_PLACE;                                                                    \
+            return;                                                                                                        \
         }                                                                                                                  \
+        memcpy(to, &bits, sizeof bits);                                                                                    \
     }
-CAPNP_SET(u8, uint8_t, uint8_t, u8)
-CAPNP_SET(u16, uint16_t, uint16_t, u16)
-CAPNP_SET(u32, uint32_t, uint32_t, u32)
-CAPNP_SET(u64, uint64_t, uint64_t, u64)
-CAPNP_SET(i8, int8_t, uint8_t, u8)
-CAPNP_SET(i16, int16_t, uint16_t, u16)
-CAPNP_SET(i32, int32_t, uint32_t, u32)
-CAPNP_SET(i64, int64_t, uint64_t, u64)
+CAPNP_SET(u8, uint8_t)
+CAPNP_SET(u16, uint16_t)
+CAPNP_SET(u32, uint32_t)
+CAPNP_SET(u64, uint64_t)
+CAPNP_SET(i8, int8_t)
+CAPNP_SET(i16, int16_t)
+CAPNP_SET(i32, int32_t)
+CAPNP_SET(i64, int64_t)
 #undef CAPNP_SET
 
 CAPNP_INLINE void capnp_set_bool(const struct capnp_struct_builder *of, uint32_t offset, bool value, bool missing) {
@@ -984,7 +997,7 @@ CAPNP_INLINE void capnp_copy_pointer(const struct capnp_struct_builder *of, uint
         /* What a refused copy has allocated is zero, and no pointer leads there. */
         if (answer == CAPNP_NO_ROOM) message->used = used;
         /* A copy has at most one word more than twice what reading it costs. What was read until the buffer was full is known. */
-        if (!capnp_again(message, answer, 2 * (before - left) + 1)) break;
+        if (answer == 0 || !capnp_again(message, answer, 2 * (before - left) + 1)) break;
     }
 }
 

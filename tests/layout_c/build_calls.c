@@ -70,12 +70,20 @@ static bool has_elements(const struct buffer *b, uint32_t at, uint32_t count, ui
 
 static bool is_same(const struct buffer *b) { return b->used == b->was && memcmp(b->bytes, b->old, b->room) == 0; }
 
+/* After a refusal that cleared a pointer: the pointer is null, what it held may be zeroed, and nothing else is changed. */
+static bool is_cleared(const struct buffer *b, size_t pointer) {
+    bool is_so = b->used == b->was;
+    size_t i;
+    for (i = 0; i < b->room; i++) is_so = is_so && (b->bytes[i] == b->old[i] || b->bytes[i] == 0);
+    for (i = 0; i < 8; i++) is_so = is_so && b->bytes[8 * pointer + i] == 0;
+    return is_so;
+}
+
 /* The answer of a call whose place is right or wrong. */
 static void answered(const struct buffer *b, uint32_t answer, bool is_placed) {
     answers[answer < 100 ? answer : 99]++;
     expect((answer == CAPNP_NO_SUCH_PLACE) == !is_placed, "a place is told from another");
     if (answer == CAPNP_NO_SUCH_PLACE) expect(is_same(b), "a bad place changes nothing");
-    if (answer == CAPNP_MESSAGE_TOO_LARGE) expect(b->used == b->was, "an object that is too large takes no words");
     if (is_message(b)) {
         expect(b->used <= b->room / 8 && b->used >= b->was, "the message is in the buffer, and no shorter");
         expect(memcmp(b->bytes + 8 * (size_t)b->used, b->old + 8 * (size_t)b->used, b->room - 8 * (size_t)b->used) == 0, "nothing behind it is written");
@@ -136,13 +144,22 @@ static void make(struct buffer *b, struct capnp_struct_at p) {
     uint16_t index = few(), data_words = few(), pointers = few();
     uint32_t at = 77, count = below(4) ? below(6) : some(), size = below(8) ? below(7) : some(), answer;
     bool is_placed = has_struct(b, p) && index < p.pointers;
+    /* Counts that are too large: nothing is changed. And the largest others, for which the call clears the pointer first. */
+    bool is_too_large = false, is_largest = false;
+    uint64_t words = (uint64_t)count * ((uint64_t)data_words + pointers);
     struct capnp_struct_at inner = {77, 77, 77};
     switch (below(5)) {
     case 0: answer = capnp_layout_init_struct(b->bytes, b->room, &b->used, place, index, data_words, pointers, &at); break;
-    case 1: answer = capnp_layout_init_struct_list(b->bytes, b->room, &b->used, place, index, count, data_words, pointers, &at); break;
+    case 1:
+        answer = capnp_layout_init_struct_list(b->bytes, b->room, &b->used, place, index, count, data_words, pointers, &at);
+        is_too_large = count >= 0x20000000 || words >= 0x20000000;
+        is_largest = words == 0x1ffffffe || words == 0x1fffffff;
+        break;
     case 2:
         answer = capnp_layout_init_list(b->bytes, b->room, &b->used, place, index, size, count, &at);
         is_placed = is_placed && size <= 6;
+        is_too_large = count >= 0x20000000;
+        is_largest = count == 0x1fffffff && size >= CAPNP_EIGHT_BYTES;
         break;
     case 3:
         answer = capnp_layout_init_root(b->bytes, b->room, &b->used, data_words, pointers, &at);
@@ -156,6 +173,11 @@ static void make(struct buffer *b, struct capnp_struct_at p) {
     }
     answered(b, answer, is_placed);
     expect(answer == 0 || at == 0, "a refused call stores 0");
+    if (is_placed) expect((answer == CAPNP_MESSAGE_TOO_LARGE) == (is_too_large || is_largest), "what is too large");
+    if (answer == CAPNP_MESSAGE_TOO_LARGE && is_too_large) expect(is_same(b), "what is too large changes nothing");
+    if (answer == CAPNP_MESSAGE_TOO_LARGE && is_largest && !is_too_large) {
+        expect(is_cleared(b, (size_t)p.at + p.data_words + index), "the largest lists leave the pointer null, and change nothing else");
+    }
 }
 
 static void set_bytes(struct buffer *b, struct capnp_struct_at p) {
@@ -173,6 +195,7 @@ static void set_bytes(struct buffer *b, struct capnp_struct_at p) {
     default: answer = capnp_layout_set_capability(b->bytes, b->room, b->used, place, index, some()); break;
     }
     answered(b, answer, is_placed);
+    expect(answer != CAPNP_MESSAGE_TOO_LARGE, "nothing short is too large");
 }
 
 static void round_of(void) {

@@ -146,6 +146,10 @@ static void lists(void) {
     list = capnp_init_list(&root, 0, CAPNP_POINTER, 3);
     capnp_set_element_text(&list, 0, "text");
     capnp_set_element_data(&list, 1, "\1\2", 2);
+    element = capnp_builder_element(&list, 0);
+    capnp_set_data(&element, 0, NULL, 0);
+    capnp_set_text_n(&element, 0, NULL, 0);
+    capnp_set_text(&element, 0, "text");
     element = capnp_builder_element(&list, 2);
     capnp_init_list(&element, 0, CAPNP_VOID, 5);
     read = read_root(&from, &segment, &message);
@@ -159,6 +163,19 @@ static void lists(void) {
     element = capnp_builder_element(&list, 3);
     capnp_set_text(&element, 0, "no");
     expect(message.refusal == CAPNP_NO_SUCH_PLACE, "pointer after the end", 3);
+    for (i = 0; i < 6; i++) {
+        capnp_start(&message, buffer, size);
+        root = capnp_init_root(&message, 0, 1);
+        list = capnp_init_struct_list(&root, 0, 3, 2, 1);
+        element = capnp_builder_element(&list, i);
+        capnp_set_u64(&element, 8, 77, 0);
+        expect(message.refusal == (i < 3 ? 0u : (uint32_t)CAPNP_NO_SUCH_PLACE), "a field of an element", i);
+        /* a place that starts in the message, and ends after it */
+        message.refusal = 0;
+        element.place.at = message.used - 3 + i;
+        capnp_set_u64(&element, 8, 77, 0);
+        expect(message.refusal == (i == 0 ? 0u : (uint32_t)CAPNP_NO_SUCH_PLACE), "a field of a struct at the end", i);
+    }
     for (i = 0; i < 3; i++) {
         capnp_start(&message, buffer, size);
         root = capnp_init_root(&message, 0, 1);

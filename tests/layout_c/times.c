@@ -1,8 +1,10 @@
-/* The part of times.cc that is compiled as C: reads and validates an address book. */
-#include "addressbook.capnp.h"
+/* The part of times.cc that is compiled as C: reads, validates and builds an address book. */
+#include "addressbook_building.capnp.h"
+#include "times.h"
 
 uint64_t c_read(const uint8_t *bytes, size_t size, bool limited);
 bool c_validate(const uint8_t *bytes, size_t size);
+const uint8_t *c_build(const struct times_person *people, uint8_t *buffer, size_t size, size_t *built);
 
 static void open(struct capnp_message *message, struct capnp_segment *segment, const uint8_t *bytes, size_t size) {
     segment->bytes = bytes + 8;
@@ -48,4 +50,43 @@ bool c_validate(const uint8_t *bytes, size_t size) {
     struct capnp_message message;
     open(&message, &segment, bytes, size);
     return capnp_validate(&message) == 0;
+}
+
+static struct capnp_text of(struct times_text it) {
+    struct capnp_text text;
+    text.text = it.text;
+    text.size = it.size;
+    return text;
+}
+
+static void build_person(const struct times_person *from, const addressbook_Person_builder *it) {
+    addressbook_Person_set_id(it, from->id);
+    addressbook_Person_set_name(it, of(from->name));
+    addressbook_Person_set_email(it, of(from->email));
+    addressbook_Person_PhoneNumber_list_builder phones = addressbook_Person_init_phones(it, from->phones);
+    for (uint32_t i = 0; i < from->phones; i++) {
+        addressbook_Person_PhoneNumber_builder phone = addressbook_Person_PhoneNumber_list_builder_at(&phones, i);
+        addressbook_Person_PhoneNumber_set_number(&phone, of(from->numbers[i]));
+        addressbook_Person_PhoneNumber_set_type(&phone, from->types[i]);
+    }
+    addressbook_Person_employment_builder employment = addressbook_Person_build_employment(it);
+    switch (from->employment) {
+    case addressbook_Person_employment_employer: addressbook_Person_employment_set_employer(&employment, of(from->place)); break;
+    case addressbook_Person_employment_school: addressbook_Person_employment_set_school(&employment, of(from->place)); break;
+    case addressbook_Person_employment_selfEmployed: addressbook_Person_employment_set_selfEmployed(&employment); break;
+    default: addressbook_Person_employment_set_unemployed(&employment);
+    }
+}
+
+/* Builds a frame. */
+const uint8_t *c_build(const struct times_person *people, uint8_t *buffer, size_t size, size_t *built) {
+    struct capnp_builder message;
+    capnp_start(&message, buffer, size);
+    addressbook_AddressBook_builder book = addressbook_AddressBook_init_root(&message);
+    addressbook_Person_list_builder list = addressbook_AddressBook_init_people(&book, TIMES_PEOPLE);
+    for (uint32_t i = 0; i < TIMES_PEOPLE; i++) {
+        addressbook_Person_builder it = addressbook_Person_list_builder_at(&list, i);
+        build_person(&people[i], &it);
+    }
+    return capnp_finish(&message, built);
 }
