@@ -29,7 +29,8 @@ PARTS = (
     ('types of pointers, capabilities', r'type|capability'),
     ('frames', r'open_frame'),
     ('checking a whole message first', r'validate\w*'),
-    ('building', r'start|finish|grow|clear|(?:init|get|set|copy)_\w+'),
+    ('building', r'start|finish|grow|clear|(?:init|get|set)_\w+'),
+    ('copies of what is read', r'copy\w*'),
     ('the rest', r'\w+'),
 )
 # What the C needs of the C library. It is declared here, so that no machine's own headers are needed.
@@ -38,6 +39,7 @@ void *memcpy(void *, const void *, size_t);
 void *memmove(void *, const void *, size_t);
 void *memset(void *, int, size_t);
 int memcmp(const void *, const void *, size_t);
+size_t strlen(const char *);
 '''
 
 

@@ -1,5 +1,5 @@
 #!/bin/sh
-# times.sh [FOLDER]: how long reading and validating take in C and in C++: FOLDER/capnp_layout.c, by default that of generated/,
+# times.sh [FOLDER]: how long reading, validating and building take in C and in C++: FOLDER/capnp_layout.c, by default that of generated/,
 # compiled by CC (gcc). With COUNT, prints the instructions of each part too, of COUNT runs by valgrind.
 set -eu
 here=$(cd "$(dirname "$0")" && pwd)
