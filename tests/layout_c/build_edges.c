@@ -284,29 +284,31 @@ static bool grow_once(struct capnp_builder *message, size_t wanted) {
     return grown++ == 0;
 }
 
-/* A struct of 2 data words and 1 pointer, opened with 1 and 3, takes 5 more words: exactly that is wanted, however much room there is. */
+/* A struct of 2 data words and 1 pointer, opened with 1 and 3, takes 5 more words, and so does one of 1 and 2, opened with 3
+ * and 1: exactly that is wanted, however much room there is. */
 static void rooms_to_move(void) {
     size_t room;
     for (room = 32; room <= 80; room++) {
         uint8_t *buffer = block(room + 8);
         int i;
-        for (i = 0; i < 2; i++) {
+        for (i = 0; i < 4; i++) {
             struct capnp_builder message;
             struct capnp_struct_builder root;
+            bool has_data = i % 2 == 0;
             capnp_start(&message, buffer, room + 8);
-            root = capnp_init_root(&message, 2, 1);
-            capnp_set_u64(&root, 8, 77, 0);
+            root = capnp_init_root(&message, has_data ? 2 : 1, has_data ? 1 : 2);
             grown = 0;
-            if (i == 1) message.grow = grow_once;
-            root = capnp_open_root(&message, 1, 3);
+            if (i >= 2) message.grow = grow_once;
+            root = capnp_open_root(&message, has_data ? 1 : 3, has_data ? 3 : 1);
             buffer = message.bytes - 8;
-            if (room < 72 && i == 0) {
+            if (room < 72 && i < 2) {
                 expect(message.refusal == CAPNP_NO_ROOM && message.wanted == 72 && message.used == 4, "the room to move a struct", (uint32_t)room);
                 expect(root.place.data_words == 0 && root.place.pointers == 0, "a struct that isn't opened", (uint32_t)room);
                 continue;
             }
             expect(message.refusal == 0 && message.used == 9 && message.room == (room < 72 ? 72 : room), "a struct is moved", (uint32_t)room);
-            expect(root.place.data_words == 2 && root.place.pointers == 3 && grown == (room < 72), "a struct that was moved", (uint32_t)room);
+            expect(root.place.data_words == (has_data ? 2 : 3) && root.place.pointers == (has_data ? 3 : 2), "a struct that was moved", (uint32_t)room);
+            if (i == 2) expect(grown == (room < 72), "the buffer grows once", (uint32_t)room);
         }
         free(buffer);
     }
