@@ -76,6 +76,8 @@ enum capnp_refusal {
     CAPNP_MESSAGE_TOO_LONG = 18,
     /* The bytes end inside the frame. */
     CAPNP_TRUNCATED = 19,
+    /* The value has a capability, which a canonical copy can't have. */
+    CAPNP_CANNOT_CREATE_A_CANONICAL_MESSAGE_WITH_A_CAPABILITY = 33,
     /* A list of pointers was expected, and the elements are structs without pointers. */
     CAPNP_EXPECTED_A_POINTER_LIST_BUT_GOT_A_LIST_OF_DATA_ONLY_STRUCTS = 38,
     /* A list of numbers was expected, and the elements are structs without data. */
@@ -643,9 +645,13 @@ uint32_t capnp_layout_clear(uint8_t *bytes, size_t room, uint32_t used, uint64_t
 uint32_t capnp_layout_set_capability(uint8_t *bytes, size_t room, uint32_t used, uint64_t place, uint16_t index, uint32_t capability);
 
 /* Copies the value of the pointer at word `word` of segment `segment` of another message, and charges `left` what reading all
- * of it costs. After any refusal but CAPNP_NO_SUCH_PLACE the pointer `index` is null. */
+ * of it costs. After any refusal but CAPNP_NO_SUCH_PLACE the pointer `index` is null. The second one copies it in canonical
+ * form. */
 uint32_t capnp_layout_copy(uint8_t *bytes, size_t room, uint32_t *used, uint64_t place, uint16_t index,
                            const struct capnp_segments *segments, uint64_t *left, uint64_t segment, uint32_t word, int32_t nesting);
+uint32_t capnp_layout_copy_canonical(uint8_t *bytes, size_t room, uint32_t *used, uint64_t place, uint16_t index,
+                                     const struct capnp_segments *segments, uint64_t *left, uint64_t segment, uint32_t word,
+                                     int32_t nesting);
 
 /* `offset` is in values of that width, and in bits for a bool. */
 uint32_t capnp_layout_set_bool(uint8_t *bytes, size_t room, uint32_t used, uint64_t place, uint32_t offset, bool value);
@@ -979,10 +985,14 @@ CAPNP_INLINE void capnp_set_element_data(const struct capnp_list_builder *of, ui
     capnp_set_data(&element, 0, data, size);
 }
 
-/* Copies what the pointer at word `word` of a segment of another message leads to, of any type, to pointer `index`. Takes what
- * reading all of it costs from the limit of that message. A refusal to read it is kept by both messages. */
-CAPNP_INLINE void capnp_copy_pointer(const struct capnp_struct_builder *of, uint16_t index, struct capnp_message *from, uint64_t segment,
-                                     uint32_t word, int32_t nesting) {
+/* capnp_layout_copy, or capnp_layout_copy_canonical. */
+typedef uint32_t (*capnp_copying)(uint8_t *bytes, size_t room, uint32_t *used, uint64_t place, uint16_t index,
+                                  const struct capnp_segments *segments, uint64_t *left, uint64_t segment, uint32_t word, int32_t nesting);
+
+/* Copies by one of these what the pointer at word `word` of a segment of another message leads to, of any type, to pointer
+ * `index`. Takes what reading all of it costs from the limit of that message. A refusal to read it is kept by both messages. */
+CAPNP_INLINE void capnp_copy_by(capnp_copying copying, const struct capnp_struct_builder *of, uint16_t index, struct capnp_message *from,
+                                uint64_t segment, uint32_t word, int32_t nesting) {
     struct capnp_builder *message = of->message;
     uint32_t used = message->used, answer;
     /* What reading costs is counted without a limit too, because the room that is wanted follows from it. */
@@ -990,8 +1000,8 @@ CAPNP_INLINE void capnp_copy_pointer(const struct capnp_struct_builder *of, uint
     uint64_t before = is_limited ? from->left : CAPNP_NO_LIMIT - 1, left;
     while (message->refusal == 0) {
         left = before;
-        answer = capnp_layout_copy(message->bytes, message->room, &message->used, capnp_place(of->place), index, &from->segments, &left,
-                                   segment, word, nesting);
+        answer = copying(message->bytes, message->room, &message->used, capnp_place(of->place), index, &from->segments, &left, segment,
+                         word, nesting);
         if (is_limited) from->left = left;
         if (answer != 0 && answer != CAPNP_NO_ROOM && answer != CAPNP_NO_SUCH_PLACE) capnp_refuse(from, answer, segment, word);
         /* What a refused copy has allocated is zero, and no pointer leads there. */
@@ -999,6 +1009,11 @@ CAPNP_INLINE void capnp_copy_pointer(const struct capnp_struct_builder *of, uint
         /* A copy has at most one word more than twice what reading it costs. What was read until the buffer was full is known. */
         if (answer == 0 || !capnp_again(message, answer, 2 * (before - left) + 1)) break;
     }
+}
+
+CAPNP_INLINE void capnp_copy_pointer(const struct capnp_struct_builder *of, uint16_t index, struct capnp_message *from, uint64_t segment,
+                                     uint32_t word, int32_t nesting) {
+    capnp_copy_by(capnp_layout_copy, of, index, from, segment, word, nesting);
 }
 
 /* The same, for pointer `from_index` of a struct that is read. If the struct has no such pointer, the copy is null. */
@@ -1010,10 +1025,27 @@ CAPNP_INLINE void capnp_copy(const struct capnp_struct_builder *of, uint16_t ind
     }
 }
 
+/* The same, in canonical form. A value with a capability is refused. */
+CAPNP_INLINE void capnp_copy_canonical(const struct capnp_struct_builder *of, uint16_t index, const struct capnp_struct *from,
+                                       uint16_t from_index) {
+    if (from_index < from->at.pointers) {
+        capnp_copy_by(capnp_layout_copy_canonical, of, index, from->message, from->at.segment, from->at.pointers_at + from_index,
+                      from->at.nesting);
+    } else {
+        capnp_clear(of, index);
+    }
+}
+
 /* The same, for the root of a message, which becomes the root of this one. */
 CAPNP_INLINE void capnp_copy_root(struct capnp_builder *message, struct capnp_message *from) {
     struct capnp_struct_builder root = capnp_root_pointer(message);
     capnp_copy_pointer(&root, 0, from, 0, 0, from->nesting);
+}
+
+/* The same, in canonical form. If this message was just started, it is the canonical one afterwards. */
+CAPNP_INLINE void capnp_copy_root_canonical(struct capnp_builder *message, struct capnp_message *from) {
+    struct capnp_struct_builder root = capnp_root_pointer(message);
+    capnp_copy_by(capnp_layout_copy_canonical, &root, 0, from, 0, 0, from->nesting);
 }
 
 /* Writes the table in front of the segment, and returns the frame, of `size` bytes; null if a call was refused. Building may

@@ -222,6 +222,43 @@ static void opening(void) {
     free(buffer);
 }
 
+/* A canonical copy has the words that the rules of the format say, and no other. */
+static void canonical(void) {
+    static const uint8_t wanted[] = {
+        0, 0, 0, 0, 1, 0, 1, 0, 5, 0, 0, 0, 0, 0, 0, 0, 1, 0, 0, 0, 0x1a, 0, 0, 0, 'h', 'i', 0, 0, 0, 0, 0, 0,
+    };
+    size_t size = 400, frame_size;
+    uint8_t *buffer = block(size), *other = block(size);
+    struct capnp_builder message, to;
+    struct capnp_struct_builder root;
+    struct capnp_message from;
+    struct capnp_segment segment;
+    struct capnp_struct read;
+    capnp_start(&message, buffer, size);
+    capnp_init_root(&message, 7, 7);
+    root = capnp_init_root(&message, 3, 3);
+    capnp_set_u8(&root, 0, 5, 0);
+    capnp_set_text(&root, 0, "hi");
+    read = read_root(&from, &segment, &message);
+    capnp_start(&to, other, size);
+    capnp_copy_root_canonical(&to, &from);
+    expect(capnp_finish(&to, &frame_size) == other && frame_size == 8 + sizeof wanted && memcmp(other + 8, wanted, sizeof wanted) == 0, "a canonical copy", 0);
+    capnp_start(&to, other, size);
+    root = capnp_init_root(&to, 0, 2);
+    capnp_copy_canonical(&root, 1, &read, 0);
+    capnp_copy_canonical(&root, 0, &read, 3);
+    expect(to.refusal == 0 && to.used == 4 && to.bytes[8 * 3] == 'h', "a canonical copy of a part", 0);
+    root = capnp_root_pointer(&message);
+    root = capnp_open_struct(&root, 0, 0, 0);
+    capnp_set_capability(&root, 1, 4);
+    read_root(&from, &segment, &message);
+    capnp_start(&to, other, size);
+    capnp_copy_root_canonical(&to, &from);
+    expect(to.refusal == CAPNP_CANNOT_CREATE_A_CANONICAL_MESSAGE_WITH_A_CAPABILITY && from.refusal == to.refusal, "a capability", 0);
+    free(other);
+    free(buffer);
+}
+
 static void some_call(struct capnp_builder *message, int which) {
     struct capnp_struct_builder root = capnp_root_pointer(message);
     if (which == 0) capnp_init_root(message, 2, 3);
@@ -318,6 +355,7 @@ int main(void) {
     fields();
     lists();
     opening();
+    canonical();
     rooms();
     rooms_to_move();
     printf("%lu passed, %lu failed\n", passed, failed);

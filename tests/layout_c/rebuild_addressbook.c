@@ -86,7 +86,9 @@ int main(int argc, char **argv) {
     capnp_open_frame(&from, input, fread(input, 1, sizeof input, stdin), room, 512, NULL);
     capnp_start(&to, buffer, size);
     to.grow = grow;
-    if (argc > 2) {
+    if (argc > 2 && strcmp(argv[2], "canonical") == 0) {
+        capnp_copy_root_canonical(&to, &from);
+    } else if (argc > 2) {
         capnp_copy_root(&to, &from);
     } else {
         copy_book(&from, &to);

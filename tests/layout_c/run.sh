@@ -164,7 +164,7 @@ books() {
 }
 
 # Random address books, read and built again, also if the buffer grows at each call: `capnp decode` prints the same of them, and
-# the bytes are those of `capnp encode` where that writes one segment.
+# the bytes are those of `capnp encode` where that writes one segment, and a canonical copy is that of `capnp convert`.
 rebuilt() {
     # shellcheck disable=SC2086
     "$1" $2 -std=gnu11 -O1 -g $sanitizers $include -o "$work/rebuild" "$here/rebuild_addressbook.c" "$folder/capnp_layout.c" || return 1
@@ -175,6 +175,10 @@ rebuilt() {
             # shellcheck disable=SC2086
             run "$work/rebuild" $how <"$work/book" >"$work/built" && decoded "$work/built" | cmp - "$work/wanted" || return 1
             if [ "$(od -An -tu4 -N4 "$work/book" | tr -d ' ')" = 0 ]; then cmp "$work/built" "$work/book" || return 1; fi
+        done
+        capnp convert binary:canonical <"$work/book" >"$work/canonical" || return 1
+        for size in 16 1000000; do
+            run "$work/rebuild" $size canonical <"$work/book" >"$work/built" && tail -c +9 "$work/built" | cmp - "$work/canonical" || return 1
         done
     done
 }

@@ -1,6 +1,7 @@
 use Rattle.std.proofs.Common.{refl, sym, rules, w32}
 use Rattle.std.proofs.lemmas.Int.{to_z-of_z}
 use Rattle.std.specs.Prelude.{Ok, Err}
+use Rattle.capnp_objects.specs.Wanted.{plain}
 use Rattle.capnp_layout_c.specs.Lent.{lent_pointer}
 use Rattle.capnp_layout_c.proofs.BuildingCalls.{Tie, place_there}
 use Rattle.capnp_layout_c.proofs.BuildingCopies.{gives_copied}
@@ -29,7 +30,7 @@ returns-in-Ok-clause-copies c _ =
       after = c.set_pointer_from-result.new.lim;
       left_is = c.store_left.ensures;
       gives =
-          gives_copied tie c.args.index c.set_pointer_from-result.new.lim (Ok tt) 0 c.place-to.result c.args.place _ (lent_pointer c.args.segments.now.list.now c.args.segment c.args.word c.args.nesting) _ _
+          gives_copied tie plain c.args.index c.set_pointer_from-result.new.lim (Ok tt) 0 c.place-to.result c.args.place _ (lent_pointer c.args.segments.now.list.now c.args.segment c.args.word c.args.nesting) _ _
           c.place-to.ensures (rw (to_z-of_z w32 c.args.nesting c.ranges.nesting) at c.pointer-from.ensures.place) c.new-lim.ensures refl
           e.copied e.fits e.refused e.taken e.child e.grows;
     }
@@ -52,7 +53,7 @@ returns-in-Err-clause-copies c _ =
       after = c.set_pointer_from-result.new.lim;
       left_is = c.store_left.ensures;
       gives =
-          gives_copied tie c.args.index c.set_pointer_from-result.new.lim (Err c.in-Err.kind) c.number_of.result c.place-to.result c.args.place _ (lent_pointer c.args.segments.now.list.now c.args.segment c.args.word c.args.nesting) _ _
+          gives_copied tie plain c.args.index c.set_pointer_from-result.new.lim (Err c.in-Err.kind) c.number_of.result c.place-to.result c.args.place _ (lent_pointer c.args.segments.now.list.now c.args.segment c.args.word c.args.nesting) _ _
           c.place-to.ensures (rw (to_z-of_z w32 c.args.nesting c.ranges.nesting) at c.pointer-from.ensures.place) c.new-lim.ensures c.number_of.ensures.number
           e.copied e.fits e.refused e.taken e.child e.grows;
     }
