@@ -78,6 +78,10 @@ enum capnp_refusal {
     CAPNP_TRUNCATED = 19,
     /* The value has a capability, which a canonical copy can't have. */
     CAPNP_CANNOT_CREATE_A_CANONICAL_MESSAGE_WITH_A_CAPABILITY = 33,
+    /* The elements of the list that is opened are narrower than expected. */
+    CAPNP_EXISTING_LIST_VALUE_IS_INCOMPATIBLE_WITH_EXPECTED_TYPE = 36,
+    /* A list is opened, and the pointer leads to something else. */
+    CAPNP_EXISTING_POINTER_IS_NOT_A_LIST = 37,
     /* A list of pointers was expected, and the elements are structs without pointers. */
     CAPNP_EXPECTED_A_POINTER_LIST_BUT_GOT_A_LIST_OF_DATA_ONLY_STRUCTS = 38,
     /* A list of numbers was expected, and the elements are structs without data. */
@@ -621,6 +625,16 @@ struct capnp_struct_at {
 
 CAPNP_LAYOUT_SIZE(capnp_struct_at, 8);
 
+/* A list that was opened: the place of its first element, without sections if the elements aren't structs; their number; and
+ * a number of enum capnp_size for what they are. All 0 for null. */
+struct capnp_elements_at {
+    struct capnp_struct_at first;
+    uint32_t count;
+    uint32_t size;
+};
+
+CAPNP_LAYOUT_SIZE(capnp_elements_at, 16);
+
 /* The library's part. The buffer's first `used` words are the message: `bytes` and `room` are its address and its size in
  * bytes. It needn't be aligned or zero. `place` is a struct's, from capnp_place, and `list` a list's, from
  * capnp_list_place. A place that isn't in the message is refused with CAPNP_NO_SUCH_PLACE, and nothing is changed.
@@ -637,6 +651,10 @@ uint32_t capnp_layout_init_list(uint8_t *bytes, size_t room, uint32_t *used, uin
                                 uint32_t count, uint32_t *first);
 uint32_t capnp_layout_get_struct(uint8_t *bytes, size_t room, uint32_t *used, uint64_t place, uint16_t index, uint16_t data_words,
                                  uint16_t pointers, struct capnp_struct_at *inner);
+uint32_t capnp_layout_get_struct_list(uint8_t *bytes, size_t room, uint32_t *used, uint64_t place, uint16_t index, uint16_t data_words,
+                                      uint16_t pointers, struct capnp_elements_at *to);
+uint32_t capnp_layout_get_list(uint8_t *bytes, size_t room, uint32_t used, uint64_t place, uint16_t index, uint32_t size,
+                               struct capnp_elements_at *to);
 uint32_t capnp_layout_set_text(uint8_t *bytes, size_t room, uint32_t *used, uint64_t place, uint16_t index, const uint8_t *text,
                                size_t size);
 uint32_t capnp_layout_set_data(uint8_t *bytes, size_t room, uint32_t *used, uint64_t place, uint16_t index, const uint8_t *data,
@@ -843,6 +861,58 @@ CAPNP_INLINE struct capnp_list_builder capnp_init_list(const struct capnp_struct
     }
     made.count = message->refusal == 0 ? count : 0;
     return made;
+}
+
+/* How many words a list takes once it is one of structs of at least these sizes, with its tag. */
+CAPNP_INLINE uint64_t capnp_widened_words(const struct capnp_struct_builder *of, uint16_t index, uint16_t data_words, uint16_t pointers) {
+    struct capnp_builder *message = of->message;
+    struct capnp_elements_at old;
+    capnp_layout_get_list(message->bytes, message->room, message->used, capnp_place(of->place), index, CAPNP_VOID, &old);
+    if (old.size >= CAPNP_BYTE && old.size <= CAPNP_EIGHT_BYTES) old.first.data_words = 1;
+    if (old.size == CAPNP_POINTER) old.first.pointers = 1;
+    if (old.first.data_words < data_words) old.first.data_words = data_words;
+    if (old.first.pointers < pointers) old.first.pointers = pointers;
+    return 1 + (uint64_t)old.count * ((uint64_t)old.first.data_words + old.first.pointers);
+}
+
+/* Opens the list that the pointer leads to, as a list of structs. One of smaller structs, as of an older schema, of numbers or of
+ * pointers is moved to new words. Null stays null, and is a list without elements. */
+CAPNP_INLINE struct capnp_list_builder capnp_open_struct_list(const struct capnp_struct_builder *of, uint16_t index, uint16_t data_words,
+                                                              uint16_t pointers) {
+    struct capnp_builder *message = of->message;
+    struct capnp_list_builder found;
+    struct capnp_elements_at at;
+    memset(&at, 0, sizeof at);
+    while (message->refusal == 0) {
+        uint32_t answer = capnp_layout_get_struct_list(message->bytes, message->room, &message->used, capnp_place(of->place), index,
+                                                       data_words, pointers, &at);
+        uint64_t words = answer == CAPNP_NO_ROOM ? capnp_widened_words(of, index, data_words, pointers) : 0;
+        if (!capnp_again(message, answer, words)) break;
+    }
+    found.message = message;
+    found.first = at.first;
+    found.count = at.count;
+    found.size = CAPNP_STRUCT;
+    return found;
+}
+
+/* Opens the list that the pointer leads to, of elements with the size `size` or a wider one, or of structs that begin with such
+ * an element. `size` of the list says what they are. Null stays null, and is a list without elements. */
+CAPNP_INLINE struct capnp_list_builder capnp_open_list(const struct capnp_struct_builder *of, uint16_t index, enum capnp_size size) {
+    struct capnp_builder *message = of->message;
+    struct capnp_list_builder found;
+    struct capnp_elements_at at;
+    memset(&at, 0, sizeof at);
+    if (message->refusal == 0) {
+        message->refusal = capnp_layout_get_list(message->bytes, message->room, message->used, capnp_place(of->place), index,
+                                                 (uint32_t)size, &at);
+    }
+    found.message = message;
+    found.first = at.first;
+    if (at.size == CAPNP_POINTER) found.first.pointers = 1;
+    found.count = at.count;
+    found.size = at.count == 0 ? size : (enum capnp_size)at.size;
+    return found;
 }
 
 /* Element `index` of a list of structs; or of a list of pointers, a struct without data, whose pointer 0 it is. If

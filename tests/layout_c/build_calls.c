@@ -148,7 +148,8 @@ static void make(struct buffer *b, struct capnp_struct_at p) {
     bool is_too_large = false, is_largest = false;
     uint64_t words = (uint64_t)count * ((uint64_t)data_words + pointers);
     struct capnp_struct_at inner = {77, 77, 77};
-    switch (below(5)) {
+    struct capnp_elements_at list = {{77, 77, 77}, 77, 77};
+    switch (below(7)) {
     case 0: answer = capnp_layout_init_struct(b->bytes, b->room, &b->used, place, index, data_words, pointers, &at); break;
     case 1:
         answer = capnp_layout_init_struct_list(b->bytes, b->room, &b->used, place, index, count, data_words, pointers, &at);
@@ -164,6 +165,17 @@ static void make(struct buffer *b, struct capnp_struct_at p) {
     case 3:
         answer = capnp_layout_init_root(b->bytes, b->room, &b->used, data_words, pointers, &at);
         is_placed = is_message(b) && b->was >= 1;
+        break;
+    case 4:
+        answer = capnp_layout_get_struct_list(b->bytes, b->room, &b->used, place, index, data_words, pointers, &list);
+        at = answer == 0 ? 1 : list.first.at | list.first.data_words | list.first.pointers | list.count | list.size;
+        if (answer == 0 && list.size != 0) expect(list.size == CAPNP_STRUCT && list.first.data_words >= data_words && list.first.pointers >= pointers, "structs that are opened are wide enough");
+        break;
+    case 5:
+        answer = capnp_layout_get_list(b->bytes, b->room, b->used, place, index, size, &list);
+        at = answer == 0 ? 1 : list.first.at | list.first.data_words | list.first.pointers | list.count | list.size;
+        is_placed = is_placed && size <= 6;
+        expect(is_same(b), "a list that is found changes nothing");
         break;
     default:
         answer = capnp_layout_get_struct(b->bytes, b->room, &b->used, place, index, data_words, pointers, &inner);

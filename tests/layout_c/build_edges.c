@@ -222,6 +222,151 @@ static void opening(void) {
     free(buffer);
 }
 
+/* A list of each size is opened as one of each size. The numbers are those of elements' bits and pointers. */
+static void opening_lists(void) {
+    static const uint32_t bits[] = {0, 1, 8, 16, 32, 64, 0}, pointers[] = {0, 0, 0, 0, 0, 0, 1};
+    size_t size = 400;
+    uint8_t *buffer = block(size), *before = block(size);
+    uint32_t made, asked;
+    for (made = 0; made < 7; made++) {
+        for (asked = 0; asked < 7; asked++) {
+            struct capnp_builder message;
+            struct capnp_struct_builder root;
+            struct capnp_list_builder list, found;
+            bool is_wide = bits[made] >= bits[asked] && pointers[made] >= pointers[asked];
+            capnp_start(&message, buffer, size);
+            root = capnp_init_root(&message, 1, 2);
+            list = capnp_init_list(&root, 1, (enum capnp_size)made, 9);
+            if (made == CAPNP_TWO_BYTES) capnp_set_element_u16(&list, 3, 7);
+            memcpy(before, buffer, size);
+            found = capnp_open_list(&root, 1, (enum capnp_size)asked);
+            expect(message.refusal == (is_wide ? 0u : (uint32_t)CAPNP_EXISTING_LIST_VALUE_IS_INCOMPATIBLE_WITH_EXPECTED_TYPE), "a list opened", made * 10 + asked);
+            expect(found.count == (is_wide ? 9u : 0u) && found.size == (enum capnp_size)(is_wide ? made : asked), "what is opened", made * 10 + asked);
+            if (is_wide) expect(found.first.at == list.first.at, "where it is", made * 10 + asked);
+            expect(memcmp(buffer, before, size) == 0, "opening changes nothing", made * 10 + asked);
+            if (is_wide && made == CAPNP_TWO_BYTES) {
+                capnp_set_element_i16(&found, 8, -2);
+                expect(message.refusal == 0 && message.bytes[8 * (size_t)list.first.at + 16] == 0xfe, "an element of it", asked);
+            }
+            if (is_wide && made == CAPNP_POINTER) {
+                capnp_set_element_text(&found, 8, "end");
+                expect(message.refusal == 0 && message.used == list.first.at + 10u, "a pointer of it", asked);
+            }
+        }
+    }
+    free(before);
+    free(buffer);
+}
+
+/* Lists of structs, of numbers and of pointers are opened as lists of structs with each size. */
+static void widening_lists(void) {
+    size_t size = 800;
+    uint8_t *buffer = block(size);
+    uint16_t d, p, kind;
+    for (kind = 0; kind < 3; kind++) {
+        for (d = 0; d < 4; d++) {
+            for (p = 0; p < 4; p++) {
+                struct capnp_builder message;
+                struct capnp_struct_builder root, element;
+                struct capnp_list_builder list;
+                struct capnp_message from;
+                struct capnp_segment segment;
+                struct capnp_struct read;
+                struct capnp_list items;
+                uint16_t old_d = kind == 2 ? 0 : 1, old_p = kind == 1 ? 0 : 1;
+                uint32_t at = kind * 100u + d * 10u + p, i, used;
+                capnp_start(&message, buffer, size);
+                root = capnp_init_root(&message, 0, 1);
+                if (kind == 0) list = capnp_init_struct_list(&root, 0, 5, 1, 1);
+                else list = capnp_init_list(&root, 0, kind == 1 ? CAPNP_TWO_BYTES : CAPNP_POINTER, 5);
+                for (i = 0; i < 5; i++) {
+                    element = capnp_builder_element(&list, i);
+                    if (kind == 0) capnp_set_u16(&element, 0, (uint16_t)(i + 500), 0);
+                    if (kind == 1) capnp_set_element_u16(&list, i, (uint16_t)(i + 500));
+                    if (kind != 1) capnp_set_text(&element, 0, "kept");
+                }
+                used = message.used;
+                list = capnp_open_struct_list(&root, 0, d, p);
+                expect(message.refusal == 0 && list.count == 5 && list.size == CAPNP_STRUCT, "a list opened as structs", at);
+                expect(list.first.data_words == (d > old_d ? d : old_d) && list.first.pointers == (p > old_p ? p : old_p), "its sizes", at);
+                if (kind == 0 && d <= 1 && p <= 1) expect(message.used == used, "a list that is large enough stays", at);
+                else expect(message.used == used + 1 + 5u * list.first.data_words + 5u * list.first.pointers, "the words of a list that is moved", at);
+                element = capnp_builder_element(&list, 4);
+                if (d > 1) capnp_set_u64(&element, 8u * (d - 1u), 99, 0);
+                if (p > 1) capnp_set_text(&element, (uint16_t)(p - 1), "new");
+                expect(message.refusal == 0, "a new field", at);
+                read = read_root(&from, &segment, &message);
+                items = capnp_get_list(&read, 0, CAPNP_STRUCT);
+                expect(capnp_count(&items) == 5, "elements read", at);
+                for (i = 0; i < 5; i++) {
+                    read = capnp_get_element(&items, i);
+                    if (kind != 2) expect(capnp_get_u16(&read, 0, 0) == i + 500, "numbers kept", at);
+                    if (kind != 1) expect(strcmp(capnp_get_text(&read, 0).text, "kept") == 0, "texts kept", at);
+                }
+                if (d > 1) expect(capnp_get_u64(&read, 8u * (d - 1u), 0) == 99, "a new number read", at);
+                if (p > 1) expect(strcmp(capnp_get_text(&read, (uint16_t)(p - 1)).text, "new") == 0, "a new text read", at);
+                expect(from.refusal == 0, "no refusal", at);
+            }
+        }
+    }
+    free(buffer);
+}
+
+/* What isn't a list to open: null, a struct, bits as structs, structs as bits, and a full buffer. */
+static void unopened(void) {
+    size_t size = 400, room;
+    uint8_t *buffer = block(size);
+    struct capnp_builder message;
+    struct capnp_struct_builder root, element;
+    struct capnp_list_builder list;
+    uint32_t used, i;
+    capnp_start(&message, buffer, size);
+    root = capnp_init_root(&message, 0, 4);
+    used = message.used;
+    list = capnp_open_list(&root, 0, CAPNP_FOUR_BYTES);
+    expect(message.refusal == 0 && list.count == 0 && list.size == CAPNP_FOUR_BYTES && message.used == used, "null as a list", 0);
+    list = capnp_open_struct_list(&root, 0, 2, 2);
+    expect(message.refusal == 0 && list.count == 0 && list.size == CAPNP_STRUCT && message.used == used, "null as a list of structs", 0);
+    capnp_set_text(&root, 0, "later");
+    capnp_init_struct(&root, 1, 1, 0);
+    capnp_init_list(&root, 2, CAPNP_BIT, 3);
+    capnp_init_struct_list(&root, 3, 2, 1, 0);
+    expect(message.refusal == 0, "objects", 0);
+    for (i = 0; i < 7; i++) {
+        static const uint32_t refusals[] = {
+            CAPNP_EXISTING_POINTER_IS_NOT_A_LIST, CAPNP_EXISTING_POINTER_IS_NOT_A_LIST, CAPNP_FOUND_BIT_LIST_WHERE_STRUCT_LIST_WAS_EXPECTED,
+            CAPNP_FOUND_STRUCT_LIST_WHERE_BIT_LIST_WAS_EXPECTED, CAPNP_EXISTING_LIST_VALUE_IS_INCOMPATIBLE_WITH_EXPECTED_TYPE,
+            CAPNP_NO_SUCH_PLACE, CAPNP_NO_SUCH_PLACE,
+        };
+        message.refusal = 0;
+        if (i == 0) capnp_open_list(&root, 1, CAPNP_BYTE);
+        if (i == 1) capnp_open_struct_list(&root, 1, 0, 0);
+        if (i == 2) capnp_open_struct_list(&root, 2, 0, 0);
+        if (i == 3) capnp_open_list(&root, 3, CAPNP_BIT);
+        if (i == 4) capnp_open_list(&root, 3, CAPNP_POINTER);
+        if (i == 5) capnp_open_list(&root, 4, CAPNP_BYTE);
+        if (i == 6) capnp_open_list(&root, 3, CAPNP_STRUCT);
+        expect(message.refusal == refusals[i], "a list that isn't opened", i);
+    }
+    message.refusal = 0;
+    list = capnp_open_list(&root, 3, CAPNP_TWO_BYTES);
+    element = capnp_builder_element(&list, 1);
+    capnp_set_u16(&element, 0, 5, 0);
+    expect(message.refusal == 0 && list.size == CAPNP_STRUCT && list.count == 2, "structs opened as numbers", 0);
+    free(buffer);
+    /* A root, its pointer, a list of 5 numbers in 2 words; and structs of 2 and 1 words with their tag. */
+    for (room = 8 * (4 + 16) - 1; room <= 8 * (4 + 16); room++) {
+        buffer = block(room + 8);
+        capnp_start(&message, buffer, room + 8);
+        root = capnp_init_root(&message, 0, 1);
+        list = capnp_init_list(&root, 0, CAPNP_TWO_BYTES, 5);
+        list = capnp_open_struct_list(&root, 0, 2, 1);
+        if (room == 8 * (4 + 16)) expect(message.refusal == 0 && list.count == 5, "exactly the room", 0);
+        else expect(message.refusal == CAPNP_NO_ROOM && message.wanted == room + 1 && list.count == 0, "one byte less", 0);
+        free(buffer);
+    }
+}
+
 /* A canonical copy has the words that the rules of the format say, and no other. */
 static void canonical(void) {
     static const uint8_t wanted[] = {
@@ -355,6 +500,9 @@ int main(void) {
     fields();
     lists();
     opening();
+    opening_lists();
+    widening_lists();
+    unopened();
     canonical();
     rooms();
     rooms_to_move();

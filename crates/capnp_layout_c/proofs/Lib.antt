@@ -1,5 +1,6 @@
 pub mod BuildingCalls
 pub mod BuildingCopies
+pub mod BuildingLists
 pub mod Children
 pub mod Cuts
 pub mod ElementsFound

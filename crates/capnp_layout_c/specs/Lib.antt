@@ -4,5 +4,6 @@ pub mod Builds
 pub mod Copies
 pub mod Found
 pub mod Lent
+pub mod Lists
 pub mod Opened
 pub mod Validated

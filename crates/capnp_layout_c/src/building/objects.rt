@@ -4,13 +4,15 @@ ghost use Rattle.capnp_format.specs.Tree.{Tree, Trees};
 ghost use Rattle.capnp_words.specs.Sizes.{sized};
 ghost use Rattle.capnp_making.specs.Made.{list_words, nulls, words_of_zero, zero_elements, zero_list, zero_struct, zero_structs};
 ghost use Rattle.capnp_making.specs.Stored.{IsStored};
-ghost use Rattle.capnp_builders.specs.Held.{HasStruct, Holder, element_of, pointer_to};
+ghost use Rattle.capnp_contents.specs.Existing.{size_of};
+ghost use Rattle.capnp_builders.specs.Held.{HasList, HasStruct, Holder, element_of, pointer_to};
 ghost use Rattle.capnp_readers.specs.declared.readers.list_reader.ListPlace.{ListPlace};
 ghost use Rattle.capnp_readers.specs.declared.readers.struct_reader.StructPlace.{StructPlace};
 ghost use Rattle.capnp_numbers.specs.Numbers.{no_room_number};
-ghost use Rattle.capnp_layout_c.specs.Buffers.{Gives, IsPointerIn, IsStructIn, Refuses, buffer, pointer_of, sized_at, placed_struct, words_in};
+ghost use Rattle.capnp_layout_c.specs.Buffers.{Gives, IsPointerIn, IsStructIn, Refuses, buffer, pointer_of, sized_at, placed_list, placed_struct, words_in};
 ghost use Rattle.capnp_layout_c.specs.BuildingNumbers.{bad_place, too_large};
 ghost use Rattle.capnp_layout_c.specs.Builds.{BuildsAt, BuildsRoot};
+ghost use Rattle.capnp_layout_c.specs.Lists.{listed_at};
 
 use crate::building::numbers::{BAD_PLACE, TOO_LARGE, number_of};
 use crate::building::places::{ROOT, StructAt, element_size, has_pointer, has_struct, word_of};
@@ -201,6 +203,10 @@ pub extern "C" fn capnp_layout_init_list(
     ensures builds { IsPointerIn bytes.old used.old place index → size ≤ 6 → count < 2 ^ 29
         → Gives ListPlace result (buffer bytes.old used.old bytes.new used.new)
         (BuildsAt place index (zero_list size count) (list_words size count)) }
+    ensures made { (x : Holder) (ws : List ℕ) (ts : Trees)
+        → HasStruct (words_in bytes.old used.old) x (placed_struct place) ws ts → result ≡ 0
+        → HasList (words_in bytes.new used.new) 0 (pointer_of place index)
+        (placed_list (size_of size) (listed_at first.new count)) (zero_list size count) }
     ensures misplaced { (IsPointerIn bytes.old used.old place index → ⊥)
         → Refuses result bad_place (buffer bytes.old used.old bytes.new used.new) }
     ensures sizes { 6 < size

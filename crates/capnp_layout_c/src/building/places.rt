@@ -1,8 +1,11 @@
 //! Places as C has them.
 ghost use Rattle.std.specs.Prelude.{◌≡◌, ◌<◌, ◌≤◌, ◌+◌, ◌*◌, ◌/◌, ◌^◌, ◌↔◌, ℕ, length, IsTrue};
 ghost use Rattle.capnp_words.specs.Sizes.{size_number};
+ghost use Rattle.capnp_contents.specs.Existing.{size_of};
 ghost use Rattle.capnp_layout_c.specs.Buffers.{IsMessage, IsPointerIn, IsStructIn, placed_list, placed_struct};
+ghost use Rattle.capnp_layout_c.specs.Lists.{elements_of_found};
 
+use capnp_contents::existing::ExistingList;
 use capnp_readers::readers::{ListPlace, StructPlace};
 use capnp_words::wire_pointer::{ElementSize, StructSize};
 
@@ -30,6 +33,32 @@ pub struct ListAt {
     pub count: u32,
 }
 
+/// The list that a call opened: where its elements start, their number, and what each of them is.
+/// All numbers are 0 if the pointer is null, and after a refusal.
+#[repr(C)]
+#[derive(Clone, Copy)]
+pub struct ElementsAt {
+    /// The word at which the elements start.
+    pub at: u32,
+    /// The number of words of the data section of each element, if the elements are structs.
+    pub data_words: u16,
+    /// The number of pointers of each element, if the elements are structs.
+    pub pointers: u16,
+    /// The number of elements.
+    pub count: u32,
+    /// The number of the element size: 7 for structs.
+    pub size: u32,
+}
+
+/// No list.
+pub(crate) const NO_ELEMENTS: ElementsAt = ElementsAt {
+    at: 0,
+    data_words: 0,
+    pointers: 0,
+    count: 0,
+    size: 0,
+};
+
 /// The root pointer of a message, in the form of a struct without data.
 pub(crate) const ROOT: StructAt = StructAt {
     at: 0,
@@ -40,7 +69,8 @@ pub(crate) const ROOT: StructAt = StructAt {
 /// The element size with a number from 0 to 6.
 pub(crate) fn element_size(number: u32) -> ElementSize
     requires { number ≤ 6 }
-    ensures { size_number result ≡ number }
+    ensures number { size_number result ≡ number }
+    ensures is { result ≡ size_of number }
 {
     match number {
         0 => ElementSize::Void,
@@ -50,6 +80,38 @@ pub(crate) fn element_size(number: u32) -> ElementSize
         4 => ElementSize::FourBytes,
         5 => ElementSize::EightBytes,
         _ => ElementSize::Pointer,
+    }
+}
+
+/// The list that was found, in the form that C has.
+pub(crate) fn elements_of(found: Option<ExistingList>) -> ElementsAt
+    ensures { result ≡ elements_of_found found }
+{
+    match found {
+        Some(list) => ElementsAt {
+            at: list.start,
+            data_words: list.struct_size.data_words,
+            pointers: list.struct_size.pointers,
+            count: list.count,
+            size: number_of_size(list.size),
+        },
+        None => NO_ELEMENTS,
+    }
+}
+
+/// The number of an element size, from 0 to 7.
+fn number_of_size(size: ElementSize) -> u32
+    ensures { result ≡ size_number size }
+{
+    match size {
+        ElementSize::Void => 0,
+        ElementSize::Bit => 1,
+        ElementSize::Byte => 2,
+        ElementSize::TwoBytes => 3,
+        ElementSize::FourBytes => 4,
+        ElementSize::EightBytes => 5,
+        ElementSize::Pointer => 6,
+        ElementSize::InlineComposite => 7,
     }
 }
 
