@@ -34,6 +34,9 @@
 #endif
 #endif
 
+/* The version of this header's interface. Headers that capnpc-layout-c has generated for another version don't compile. */
+#define CAPNP_LAYOUT_MAJOR 1
+
 /* Functions defined in this header, not in the library. The second kind isn't made part of its callers. */
 #define CAPNP_INLINE static inline
 #ifdef __GNUC__
@@ -490,6 +493,29 @@ CAPNP_INLINE struct capnp_data capnp_get_data_or(const struct capnp_struct *from
     return capnp_has(from, index) ? capnp_get_data(from, index) : capnp_get_data(&other, 0);
 }
 
+/* The pointer with this index, in the form of a struct without data, whose pointer 0 it is. So it can be read later, by index 0,
+ * when you know what it leads to. */
+CAPNP_INLINE struct capnp_struct capnp_get_pointer(const struct capnp_struct *from, uint16_t index) {
+    struct capnp_struct to = *from;
+    to.at.data = NULL;
+    to.at.size = 0;
+    to.at.pointers_at = index < from->at.pointers ? from->at.pointers_at + index : 0;
+    to.at.pointers = index < from->at.pointers ? 1 : 0;
+    return to;
+}
+
+CAPNP_INLINE struct capnp_struct capnp_get_pointer_or(const struct capnp_struct *from, uint16_t index, const struct capnp_message *missing) {
+    return capnp_has(from, index) ? capnp_get_pointer(from, index) : capnp_missing(from, missing);
+}
+
+/* A struct of one pointer, that of a constant, which is in the form of a default value. */
+CAPNP_INLINE struct capnp_struct capnp_constant(const struct capnp_message *value) {
+    struct capnp_struct none;
+    memset(&none, 0, sizeof none);
+    none.at.nesting = CAPNP_NESTING;
+    return capnp_missing(&none, value);
+}
+
 /* Fields of the data section. `offset` is in bytes from its start, for a bool in bits. `missing` is the schema's default, of
  * a float as its bits; a message holds a field's value xor its default. */
 #define CAPNP_FIELD(NAME, TYPE)                                                                                      \
@@ -526,6 +552,17 @@ CAPNP_INLINE double capnp_get_f64(const struct capnp_struct *from, uint32_t offs
     double value;
     memcpy(&value, &bits, sizeof value);
     return value;
+}
+
+/* The struct, if the member of its union with this number is set; otherwise one without data and pointers, whose fields all
+ * have their default values. `tag` is the offset of the union's tag, in bytes. */
+CAPNP_INLINE struct capnp_struct capnp_member(const struct capnp_struct *from, uint32_t tag, uint16_t number) {
+    struct capnp_struct to = *from;
+    if (capnp_get_u16(from, tag, 0) != number) {
+        to.at.size = 0;
+        to.at.pointers = 0;
+    }
+    return to;
 }
 
 /* Lists. */
@@ -925,6 +962,16 @@ CAPNP_INLINE struct capnp_struct_builder capnp_builder_element(const struct capn
     element.place = of->first;
     element.place.at = is_there ? of->first.at + index * step : UINT32_MAX;
     return element;
+}
+
+/* The pointer with this index, in the form of a struct without data, whose pointer 0 it is. So it can be set later, by index 0,
+ * to anything. If the struct has no such pointer, a place that each call refuses. */
+CAPNP_INLINE struct capnp_struct_builder capnp_builder_pointer(const struct capnp_struct_builder *of, uint16_t index) {
+    struct capnp_struct_builder to = *of;
+    to.place.at = index < of->place.pointers ? of->place.at + of->place.data_words + index : UINT32_MAX;
+    to.place.data_words = 0;
+    to.place.pointers = 1;
+    return to;
 }
 
 /* Makes the pointer lead to a new text: `size` bytes, and a zero byte. */
