@@ -3,7 +3,8 @@
 # `tools/generated.py` writes from the proved sources.
 #
 #     make                    the program capnp_canon, and the static library capnp_layout
-#     make all                both libraries, static and shared, and the programs capnp_canon, layout_tool and capnpc_layout_rust
+#     make all                both libraries, static and shared, and the programs capnp_canon, layout_tool, capnpc_layout_rust and
+#                             capnpc_layout_c
 #     make check              tests them: one message, the C tests, and, if python3 is there, all vectors
 #     make check-streams      runs the program over all streams, with python3; this takes minutes
 #     make install            installs them below PREFIX, with DESTDIR in front; LIBDIR and others can be set separately
@@ -75,7 +76,7 @@ endif
 
 CANONICAL = $(BUILD)/libcapnp_canonical.a $(BUILD)/libcapnp_canonical.$(SHARED_FILE)
 LAYOUT = $(BUILD)/libcapnp_layout.a $(BUILD)/libcapnp_layout.$(SHARED_FILE)
-GENERATOR = $(patsubst generated/%.c,$(BUILD)/%,$(wildcard generated/capnpc_layout_rust.c))
+GENERATOR = $(patsubst generated/%.c,$(BUILD)/%,$(wildcard generated/capnpc_layout_rust.c generated/capnpc_layout_c.c))
 PARTS = $(patsubst generated/%.c,$(BUILD)/%.o,$(wildcard generated/capnp_canon.c generated/capnp_canon_*.c))
 SELDOM = $(addprefix $(BUILD)/,capnp_canon.o capnp_canon_diffs.o capnp_canon_inputs.o capnp_canon_io.o)
 $(PARTS): PART_FLAGS = $(ALL_FLAGS)
