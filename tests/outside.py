@@ -31,6 +31,7 @@ PARTS = (
     ('crate', (sys.executable, '-B', 'tests/rust/layout_crate.py'), ('cargo',)),
     ('typed', (sys.executable, '-B', 'tests/typed/run.py'), ('rt', 'capnp')),
     ('typed_rust', (sys.executable, '-B', 'tests/typed/rust.py'), ('cargo', 'rustfmt', 'capnp', 'make|crates/capnpc_layout_rust/out/capnpc_layout_rust')),
+    ('typed_c', (sys.executable, '-B', 'tests/typed/c.py'), ('gcc', 'g++', 'clang', 'clang++', 'capnp', 'make|crates/capnpc_layout_c/out/capnpc_layout_c')),
     ('conforming', (sys.executable, '-B', 'tests/typed/conforming.py'), ('cargo', 'capnp')),
     ('viewer', ('sh', 'tests/viewer/run.sh'), ('node', os.environ.get('CHROMIUM', 'chromium'))),
     ('library', ('sh', 'tests/library/run.sh'), ('rt',)),

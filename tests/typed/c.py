@@ -1,0 +1,260 @@
+#!/usr/bin/env python3
+"""Tests `capnpc-layout-c`, and what it generates.
+
+    c.py [--generator PROGRAM] [--library FILE.c] [--schemas N] [--structs S] [--messages M] [--write] [PART..]
+
+The parts, by default all of them:
+
+- `ours`: for `addressbook.capnp` and `fields.capnp` the generator writes the files of `c`, byte for byte. With `--write` it writes
+  these files.
+- `headers`: these files are compiled as C99 and C++11, by gcc and by clang, without a warning.
+- `book`: `c/print.c` prints random address books as `capnp decode --short` does, and `c/rebuild.c` writes the bytes of `capnp
+  encode` for them, field by field and as copies.
+- `fields`: a program over the code for `fields.capnp` prints M random messages (by default 300), made by `capnp encode`, as
+  `capnp decode` prints them, with and without a check before. It copies them field by field: `capnp decode` prints the copies as
+  it prints the messages, and C++ makes the same canonical words of both. The sanitizers of addresses and of undefined behaviour
+  find nothing.
+- `random`: like `fields`, for N random schemas (by default 3) of S structs (by default 20). Each struct in turn is the root of a
+  message.
+- `versions`: the code of an old version of a random schema, without the last fields of its structs, and that of the new one
+  print messages of each other.
+- `bugs`: a program over the code of `fields.capnp` with a planted bug, one of each kind, isn't compiled, or prints or copies
+  something else.
+- `odd`: the code for schemas with odd names and declarations is compiled like `headers`, and standard error names what isn't
+  written.
+
+The generator is by default `capnpc-layout-c` at the top, and the library `generated/capnp_layout.c`. The last line is `N passed,
+M failed`."""
+import argparse
+import pathlib
+import re
+import subprocess
+import sys
+import tempfile
+
+import c_program
+import messages
+import run
+from schema import Schema
+
+HERE = pathlib.Path(__file__).resolve().parent
+BINDINGS = run.TOP / 'bindings/c'
+SCHEMAS = 'addressbook', 'fields'
+PARTS = 'ours', 'headers', 'book', 'fields', 'random', 'versions', 'bugs', 'odd'
+STRICT = '-Wall -Wextra -Wpedantic -Wconversion -Wshadow -Werror'.split()
+COMPILERS = ('gcc', '-std=c99'), ('clang', '-std=c99'), ('g++', '-std=c++11', '-x', 'c++'), ('clang++', '-std=c++11', '-x', 'c++')
+# The planted bugs: what is wrong, what is before it, a part of the code, and what takes the place of that.
+BUGS = (
+    ('offset', 'Root_id(', ', 20, 0)', ', 24, 0)'),
+    ('offset', 'Root_set_id(', ', 20, value, 0)', ', 24, value, 0)'),
+    ('bit', 'Root_flag(', ', 0, false)', ', 1, false)'),
+    ('bit', 'Root_set_flag(', ', 0, value', ', 1, value'),
+    ('sense', 'Root_flagSet(', 'true', 'false'),
+    ('default', 'Root_short(', '-300', '-301'),
+    ('default', 'Root_set_port(', '8080', '8081'),
+    ('default', 'Root_ratio(', '(1069547520)', '(1069547521)'),
+    ('default', 'Root_set_background(', 'value, 1)', 'value, 2)'),
+    ('default', 'Root_default_greeting_bytes[]', ' 101,', ' 100,'),
+    ('length', 'Root_default_greeting_bytes[]', '1, 0, 0, 0, 50,', '1, 0, 0, 0, 42,'),
+    ('default', 'Root_default_named_bytes[]', ' 98,', ' 97,'),
+    ('index', 'Root_name(', '&of->reader, 0)', '&of->reader, 1)'),
+    ('index', 'Root_set_blob(', '&of->it, 2,', '&of->it, 3,'),
+    ('index', 'Root_inner(', '&of->reader, 4)', '&of->reader, 5)'),
+    ('index', 'Root_init_names(', '&of->it, 15,', '&of->it, 16,'),
+    ('index', 'Root_has_names(', '&of->reader, 15)', '&of->reader, 16)'),
+    ('sections', 'Root_open_inner(', '&of->it, 4, 1, 2)', '&of->it, 4, 0, 2)'),
+    ('sections', 'Root_shape_init_corners(', 'count, 1, 2)', 'count, 0, 2)'),
+    ('element', 'Root_shorts(', 'CAPNP_TWO_BYTES', 'CAPNP_FOUR_BYTES'),
+    ('tag', 'Root_shape_set_radius(', ', 1, 0);', ', 2, 0);'),
+    ('member', 'Root_shape_radius(', ', 1);', ', 2);'),
+    ('tag offset', 'Root_shape_get_which(', 'reader, ', 'reader, 2 + '),
+    ('number', 'enum Root_shape_which', 'radius = 1', 'radius = 7'),
+    ('cleared', 'Root_shape_init_side(', 'of->it, 4 * 14, 0, 0);', 'of->it, 0, 77, 0);'),
+)
+
+
+def generate(generator, path, folder):
+    """Writes the header for a schema into a folder, and returns its name and what the generator says."""
+    ran = subprocess.run(['capnp', 'compile', f'--src-prefix={pathlib.Path(path).parent}', f'-o{generator}:{folder}', path], stderr=subprocess.PIPE, encoding='utf-8')
+    if ran.returncode:
+        sys.exit(f'c.py: {path}: {ran.stderr}')
+    return f'{pathlib.Path(path).name}.h', ran.stderr
+
+
+def compiled(words):
+    """Runs a compiler; whether it succeeded, and what it said."""
+    ran = subprocess.run([str(it) for it in words], stdout=subprocess.PIPE, stderr=subprocess.STDOUT, encoding='utf-8', errors='replace')
+    return ran.returncode == 0, ran.stdout[:3000]
+
+
+def library(options, room):
+    """The compiled library."""
+    made = room / 'capnp_layout.o'
+    if not made.is_file():
+        passed, said = compiled(['gcc', '-std=c11', '-O1', f'-I{BINDINGS}', '-c', '-o', made, options.library])
+        if not passed:
+            sys.exit(f'c.py: {said}')
+    return made
+
+
+class Generated(run.Programs):
+    """A program over the generated code of a schema."""
+
+    def __init__(self, options, room, name, text, roots=None):
+        folder = room / name
+        folder.mkdir()
+        path = folder / f'{name}.capnp'
+        path.write_text(text, encoding='utf-8')
+        self.folder, self.file, self.library, self.is_quiet = folder, path.name, library(options, room), False
+        self.schema = Schema(str(path))
+        self.roots = roots or self.schema.structs()
+        self.header, _ = generate(options.generator, str(path), folder)
+        (folder / 'main.c').write_text(c_program.program(self.schema, self.header, self.roots), encoding='utf-8')
+
+    def build(self, counts):
+        words = ['gcc', '-std=c99', '-g', '-fsanitize=address,undefined', '-fno-sanitize-recover', *STRICT, f'-I{BINDINGS}', f'-I{self.folder}']
+        built, said = compiled([*words, '-o', self.folder / 'program', self.folder / 'main.c', self.library])
+        counts.say(built, f'{self.file}: the code for {len(self.schema.structs())} structs is compiled without a warning' if built else said)
+        return built
+
+    def run(self, program, frames):
+        ran = subprocess.run([self.folder / 'program', {'printer': 'print', 'copier': 'copy'}[program]], input=b''.join(frames), stdout=subprocess.PIPE, stderr=subprocess.PIPE)
+        if ran.returncode and not self.is_quiet:
+            print(ran.stderr.decode(errors='replace')[-3000:])
+        return ran.stdout.decode(errors='replace').splitlines() if not ran.returncode else []
+
+    def test(self, count, seed, counts):
+        if self.build(counts):
+            frames = messages.frames(self.schema, self.roots, count, seed)
+            self.read(frames, '', counts)
+            self.copy(frames, counts)
+
+
+def ours(options, room, counts):
+    for stem in SCHEMAS:
+        folder = room / f'ours_{stem}'
+        folder.mkdir()
+        header, _ = generate(options.generator, str(HERE / f'{stem}.capnp'), folder)
+        made, kept = folder / header, HERE / 'c' / header
+        if options.write:
+            kept.write_bytes(made.read_bytes())
+        counts.say(kept.is_file() and made.read_bytes() == kept.read_bytes(), f'{stem}.capnp: the file is tests/typed/c/{header}')
+
+
+def strictly(folder, headers, room, counts, what):
+    """Compiles a file that includes each of these headers, by each compiler."""
+    source = room / 'included.c'
+    for compiler in COMPILERS:
+        said = ''
+        for header in headers:
+            source.write_text(f'#include "{header}"\n', encoding='utf-8')
+            said += compiled([*compiler, *STRICT, f'-I{BINDINGS}', f'-I{folder}', '-c', '-o', room / 'included.o', source])[1]
+        counts.say(not said, f'{what}: {len(headers)} headers are compiled without a warning by {" ".join(compiler[:2])}' if not said else said)
+
+
+def headers(options, room, counts):
+    strictly(HERE / 'c', [f'{it}.capnp.h' for it in SCHEMAS], room, counts, 'headers')
+
+
+def book(options, room, counts):
+    schema, programs = HERE / 'addressbook.capnp', {}
+    for name in 'print', 'rebuild':
+        programs[name] = room / name
+        words = ['gcc', '-std=c99', '-g', '-fsanitize=address,undefined', *STRICT, f'-I{BINDINGS}', f'-I{HERE / "c"}']
+        built, said = compiled([*words, '-o', programs[name], HERE / f'c/{name}.c', library(options, room)])
+        counts.say(built, f'book: {name}.c is compiled without a warning' if built else said)
+        if not built:
+            return
+    same = {'print': 0, 'rebuild': 0, 'copy': 0}
+    for seed in range(50):
+        text = subprocess.run([sys.executable, run.TOP / 'tests/layout_c/book.py', str(seed), '5'], stdout=subprocess.PIPE, check=True).stdout
+        frame = subprocess.run(['capnp', 'encode', schema, 'AddressBook'], input=text, stdout=subprocess.PIPE, check=True).stdout
+        shown = subprocess.run(['capnp', 'decode', '--short', schema, 'AddressBook'], input=frame, stdout=subprocess.PIPE, check=True).stdout
+        for name, words, wanted in ('print', ['print'], shown), ('rebuild', ['rebuild'], frame), ('copy', ['rebuild', '16', 'copy'], frame):
+            same[name] += subprocess.run([programs[words[0]], *words[1:]], input=frame, stdout=subprocess.PIPE).stdout == wanted
+    counts.say(same['print'] == 50, f'book: {same["print"]} of 50 books are printed as capnp decode --short prints them')
+    counts.say(same['rebuild'] == 50, f'book: {same["rebuild"]} of 50 books are built with the bytes of capnp encode')
+    counts.say(same['copy'] == 50, f'book: {same["copy"]} of 50 books are validated and copied with the bytes of capnp encode')
+
+
+def fields(options, room, counts):
+    text = (HERE / 'fields.capnp').read_text(encoding='utf-8')
+    Generated(options, room, 'fields', text, ['Root']).test(options.messages, 7, counts)
+
+
+def random(options, room, counts):
+    for seed in range(options.schemas):
+        text = messages.RandomSchema(100 + seed, options.structs, 12).text
+        Generated(options, room, f'random{seed}', text).test(options.messages, seed, counts)
+
+
+def versions(options, room, counts):
+    made = messages.RandomSchema(200, options.structs, 12)
+    old, new = (Generated(options, room, name, text, made.structs) for name, text in (('old', made.old), ('new', made.text)))
+    if old.build(counts) and new.build(counts):
+        for reader, writer in (old, new), (new, old):
+            reader.read(messages.frames(writer.schema, made.structs, options.messages, 9), f' of {writer.file}', counts)
+
+
+class Silent(run.Counts):
+    """Counts, and says nothing."""
+
+    def say(self, holds, what):
+        self.passed, self.failed = self.passed + bool(holds), self.failed + (not holds)
+
+
+def bugs(options, room, counts):
+    text = (HERE / 'fields.capnp').read_text(encoding='utf-8')
+    made = Generated(options, room, 'bugs', text, ['Root'])
+    made.is_quiet, path = True, made.folder / made.header
+    whole = path.read_text(encoding='utf-8')
+    frames = messages.frames(made.schema, ['Root'], min(options.messages, 100), 8)
+    found = 0
+    for what, call, old, new in BUGS:
+        start = re.search(rf'(?<![A-Za-z_]){re.escape(call)}', whole)
+        at = whole.find(old, start.end()) if start else -1
+        if at < 0 or at - start.end() > 2000:
+            counts.say(False, f'bugs: {call} has no {old}')
+            continue
+        path.write_text(whole[:at] + new + whole[at + len(old):], encoding='utf-8')
+        silent = Silent()
+        if made.build(silent):
+            made.read(frames, '', silent)
+            made.copy(frames, silent)
+        found += silent.failed > 0
+        if not silent.failed:
+            counts.say(False, f'bugs: {what} of {call} is not found')
+    counts.say(found == len(BUGS), f'bugs: {found} of {len(BUGS)} planted bugs are found')
+
+
+def odd(options, room, counts):
+    folder = room / 'odd'
+    folder.mkdir()
+    said = ''
+    for path in sorted((HERE / 'odd').glob('*.capnp')):
+        said += generate(options.generator, str(path), folder)[1]
+    strictly(folder, sorted(it.name for it in folder.glob('*.h')), room, counts, 'odd')
+    wanted = (HERE / 'odd/skipped_c.txt').read_text(encoding='utf-8')
+    counts.say(said == wanted, 'odd: standard error names what is not written' if said == wanted else f'odd: standard error is {said}')
+
+
+def main():
+    parser = argparse.ArgumentParser(description=__doc__, formatter_class=argparse.RawDescriptionHelpFormatter)
+    parser.add_argument('--generator', default=str(run.TOP / 'capnpc-layout-c'))
+    parser.add_argument('--library', default=str(run.TOP / 'generated/capnp_layout.c'))
+    parser.add_argument('--schemas', type=int, default=3)
+    parser.add_argument('--structs', type=int, default=20)
+    parser.add_argument('--messages', type=int, default=300)
+    parser.add_argument('--write', action='store_true')
+    parser.add_argument('parts', nargs='*', choices=[[], *PARTS], metavar='PART')
+    options = parser.parse_args()
+    counts = run.Counts()
+    with tempfile.TemporaryDirectory(prefix='typed-c-') as room:
+        for name in options.parts or PARTS:
+            globals()[name](options, pathlib.Path(room), counts)
+    print(f'{counts.passed} passed, {counts.failed} failed')
+    return 1 if counts.failed or not counts.passed else 0
+
+
+if __name__ == '__main__':
+    sys.exit(main())
