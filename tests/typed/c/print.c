@@ -52,6 +52,9 @@ static void put_employment(const Person *person) {
     default: break;
     }
     fputs("))", stdout);
+    /* Both are in the same pointer: what isn't set has its default value. */
+    if (Person_employment_has_employer(&of) && Person_employment_school(&of).size != 0) fputs("both are read", stdout);
+    if (Person_employment_has_school(&of) && Person_employment_employer(&of).size != 0) fputs("both are read", stdout);
 }
 
 static void put_person(const Person *person) {
