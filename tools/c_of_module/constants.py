@@ -59,7 +59,7 @@ def parts_of_module(text):
 def parts_of_c(fields, values):
     """The same for C. C fills a row with zeros."""
     for size in re.findall(r'struct place \w+;|u8 \w+\[(\d+)\];', fields):
-        shape = r'\{ ([\d,\s]*) \}|("(?:[^"\\]|\\.)*"(?:\s+"(?:[^"\\]|\\.)*")*)' if size else r'PLACE\(\(const u8 \*\)(\w+) \+ (\d+)\)'
+        shape = r'\{([\d,\s]*)\}|("(?:[^"\\]|\\.)*"(?:\s+"(?:[^"\\]|\\.)*")*)' if size else r'PLACE\(\(const\s+u8\s+\*\)(\w+)\s+\+\s+(\d+)\)'
         part = re.compile(r'[\s,]*(?:' + shape + ')').match(values)
         found = [part[1], int(part[2])] if not size else bytes_of_c(part[2]) if part[2] else [int(it) for it in part[1].split(',')]
         yield from found + [0] * (int(size or 0) - len(found))
