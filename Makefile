@@ -54,8 +54,21 @@ SHARED_FILE = $(VERSION).dylib
 SHARED_FLAGS = -dynamiclib -Wl,-install_name,$(LIBDIR)/lib$*.$(SHARED_MAJOR) -Wl,-compatibility_version,$(MAJOR) -Wl,-current_version,$(VERSION) \
 	-Wl,-exported_symbols_list,$(BUILD)/$*.names
 endif
-FILLED = sed -e 's|@PREFIX@|$(PREFIX)|' -e 's|@LIBDIR@|$(LIBDIR)|' -e 's|@INCLUDEDIR@|$(INCLUDEDIR)|' -e 's|@VERSION@|$(VERSION)|' -e 's|@MAJOR@|$(MAJOR)|' \
-	-e 's|@PYTHONDIR@|$(PYTHONDIR)|' -e 's|@SHARED_FILE@|$(SHARED_FILE)|' -e 's|@SHARED_MAJOR@|$(SHARED_MAJOR)|'
+# A folder below PREFIX, as seen from the variable of a file that names PREFIX; another folder as it is.
+#
+#     $(call below,VARIABLE,FOLDER)
+below = $(patsubst $(PREFIX)/%,$${$(1)}/%,$(2))
+# PREFIX as seen from a folder below it, which a variable names there, so that the files can be moved; otherwise PREFIX.
+#
+#     $(call up,VARIABLE,FOLDER)
+empty =
+up = $(if $(filter $(PREFIX)/%,$(2)),$${$(1)}/$(subst $(empty) $(empty),/,$(patsubst %,..,$(subst /, ,$(2:$(PREFIX)/%=%)))),$(PREFIX))
+# Fills in a file in which a variable names PREFIX.
+#
+#     $(call filled,VARIABLE,VARIABLE OF THE FILE'S FOLDER,FOLDER)
+filled = sed -e 's|@PREFIX@|$(call up,$(2),$(3))|' -e 's|@LIBDIR@|$(call below,$(1),$(LIBDIR))|' \
+	-e 's|@INCLUDEDIR@|$(call below,$(1),$(INCLUDEDIR))|' -e 's|@PYTHONDIR@|$(call below,$(1),$(PYTHONDIR))|' \
+	-e 's|@VERSION@|$(VERSION)|' -e 's|@MAJOR@|$(MAJOR)|' -e 's|@SHARED_FILE@|$(SHARED_FILE)|' -e 's|@SHARED_MAJOR@|$(SHARED_MAJOR)|'
 # the flags among these that the compiler takes without a word
 tried = $(foreach flag,$(1),$(shell $(CC) -Werror $(flag) -x c -S -o /dev/null /dev/null 2>/dev/null && echo ' $(flag)'))
 STACK_FLAGS := $(call tried,-fstack-clash-protection)
@@ -136,9 +149,9 @@ define installed
 	$(INSTALL) -m 755 $(BUILD)/lib$(1).$(SHARED_FILE) $(DESTDIR)$(LIBDIR)
 	ln -sf lib$(1).$(SHARED_FILE) $(DESTDIR)$(LIBDIR)/lib$(1).$(SHARED_MAJOR)
 	ln -sf lib$(1).$(SHARED_MAJOR) $(DESTDIR)$(LIBDIR)/lib$(1).$(SHARED)
-	$(FILLED) bindings/c/$(1).pc.in >$(DESTDIR)$(PKGCONFIGDIR)/$(1).pc
+	$(call filled,prefix,pcfiledir,$(PKGCONFIGDIR)) bindings/c/$(1).pc.in >$(DESTDIR)$(PKGCONFIGDIR)/$(1).pc
 	for it in config config-version; do \
-		$(FILLED) -e 's|@NAME@|$(1)|g' bindings/c/cmake/$$it.cmake.in >$(DESTDIR)$(2)/$(1)-$$it.cmake || exit 1; done
+		$(call filled,$(1)_prefix,CMAKE_CURRENT_LIST_DIR,$(2)) -e 's|@NAME@|$(1)|g' bindings/c/cmake/$$it.cmake.in >$(DESTDIR)$(2)/$(1)-$$it.cmake || exit 1; done
 	$(INSTALL) -m 644 bindings/c/$(1).h $(DESTDIR)$(INCLUDEDIR)
 	$(INSTALL) -m 644 LICENSE $(DESTDIR)$(3)
 endef

@@ -6,8 +6,8 @@ tested against schemas, of the viewer, and the comparison with C++ Cap'n Proto.
     outside.py [NAME..]
 
 NAMEs choose the parts: start, completion, shell, peer, js, rust, crate, typed, typed_rust, conforming, viewer, library, layout_c,
-clone, release;
-by default all, which takes more than an hour. Some parts prove and build what isn't built yet; start, clone and release test the last commit.
+clone, release, packages;
+by default all, which takes more than an hour. Some parts prove and build what isn't built yet; start, clone, release and packages test the last commit.
 
 Prints the last line of each part, and the lines that say what the part itself skipped. If a part fails, also prints the end
 of its output. A part whose tools are missing is skipped and not counted. The last line is `N passed, M failed`, with the
@@ -38,6 +38,7 @@ PARTS = (
     ('layout_c', ('sh', 'tests/layout_c/run.sh'), ('gcc', 'capnp')),
     ('clone', ('sh', 'tests/release/clone.sh'), ('git', 'make', 'cc')),
     ('release', ('sh', 'tests/release/run.sh'), ('git', 'make', 'gcc|clang')),
+    ('packages', ('sh', 'tests/release/packages.sh'), ('git', 'ssh-keygen')),
 )
 COUNTS = re.compile(r'(\d+) passed, (\d+) failed(?:; skipped: .*)?')
 SKIPPED = re.compile(r'(?:^|: )skipped\b')

@@ -48,8 +48,12 @@ test_that 'a staged installation' install_staged
 test_that 'the list has every file' lists_all
 test_that 'the library is in the folder for libraries' [ -f "$stage$libdir/libcapnp_canonical.so.1" ]
 test_that 'no file names the stage' sh -c "! grep -rlF '$work' '$stage'"
-test_that 'pkg-config says the folders' same "$(PKG_CONFIG_LIBDIR=$stage$libdir/pkgconfig pkg-config --variable=libdir capnp_canonical)" $libdir
-test_that 'pkg-config says the folders of capnp_layout' same "$(PKG_CONFIG_LIBDIR=$stage$libdir/pkgconfig pkg-config --variable=libdir capnp_layout)" $libdir
+# The folders are named from that of the .pc file, so they are those of the stage here.
+for name in capnp_canonical capnp_layout; do
+    test_that "pkg-config says the folders of $name" \
+        same "$(realpath "$(PKG_CONFIG_LIBDIR=$stage$libdir/pkgconfig pkg-config --variable=libdir $name)")" "$(realpath "$stage$libdir")"
+done
+
 test_that 'a program reads with capnp_layout, static' reads "$stage$libdir/libcapnp_layout.a"
 test_that 'a program reads with capnp_layout, shared' reads "$stage$libdir/libcapnp_layout.so"
 test_that 'the program runs' "$stage/usr/bin/capnp_canon" --version
