@@ -1,7 +1,8 @@
 #!/bin/sh
-# in_debian.sh: uses the installed Debian packages, in the root in which packages.sh installed them, by pkg-config, CMake, Python
-# and the shell. Every command has to succeed.
+# in_debian.sh: installs the Debian packages of /packages, and uses them by pkg-config, CMake, Python and the shell. packages.sh runs
+# it in a new Debian. Every command has to succeed.
 set -eux
+apt-get install -y /packages/*.deb
 canonical=62cac392152416d2e5417a2626d7f3eae39e50670674e711134666536187c231
 work=$(mktemp -d) && cd "$work"
 message=/packages/person.bin

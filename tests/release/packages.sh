@@ -114,8 +114,7 @@ linted() {
 installed() {
     mkdir "$work/packages" && cp "$work"/debian/*.deb "$work/packages" && rm -f "$work"/packages/*dbgsym* && cp "$top/tests/peer/person.bin" "$work/packages" || return 1
     mmdebstrap --variant=apt --mode="${MMDEBSTRAP_MODE:-auto}" --include=gcc,g++,libc6-dev,pkg-config,cmake,make,python3 \
-        --customize-hook="copy-in $work/packages /" --customize-hook="copy-in $here/in_debian.sh /" \
-        --customize-hook='chroot "$1" apt-get install -y /packages/*.deb' --customize-hook='chroot "$1" sh /in_debian.sh' \
+        --customize-hook="copy-in $work/packages /" --customize-hook="copy-in $here/in_debian.sh /" --customize-hook='chroot "$1" sh /in_debian.sh' \
         "$(. /etc/os-release && echo "$VERSION_CODENAME")" "$work/root.tar"
 }
 
