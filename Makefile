@@ -54,11 +54,11 @@ SHARED_FILE = $(VERSION).dylib
 SHARED_FLAGS = -dynamiclib -Wl,-install_name,$(LIBDIR)/lib$*.$(SHARED_MAJOR) -Wl,-compatibility_version,$(MAJOR) -Wl,-current_version,$(VERSION) \
 	-Wl,-exported_symbols_list,$(BUILD)/$*.names
 endif
-# A folder below PREFIX, as seen from the variable of a file that names PREFIX; another folder as it is.
+# A folder below PREFIX, named by the variable of PREFIX in a file; another folder unchanged.
 #
 #     $(call below,VARIABLE,FOLDER)
 below = $(patsubst $(PREFIX)/%,$${$(1)}/%,$(2))
-# PREFIX as seen from a folder below it, which a variable names there, so that the files can be moved; otherwise PREFIX.
+# The path from a folder below PREFIX, which a variable names there, to PREFIX, so that files can be moved; otherwise PREFIX.
 #
 #     $(call up,VARIABLE,FOLDER)
 empty =
