@@ -1,7 +1,6 @@
 //! Person.employment
 ghost use Rattle.std.specs.Prelude.{◌≡◌, ◌≢◌, ◌≤◌, ◌↔◌, IsTrue, IfOk, IfErr, IsOk, ⊤};
 ghost use Rattle.std.specs.Result.{result_err};
-ghost use Rattle.capnp_format.specs.Segments.{AreWords};
 ghost use Rattle.capnp_format.specs.Tree.{Tree, Null};
 ghost use Rattle.capnp_words.specs.Meter.{Affords};
 ghost use Rattle.capnp_objects.specs.Expected.{text_expected};
@@ -47,7 +46,7 @@ impl<'a, A: ReaderArena> Reader<'a, A> {
             → IfOk result (λ text. text.now ≡ person_employment_employer t) }
         ensures answered { let start = source_start A.ReaderArena self.now.reader.source in
             (t : Tree) (shows : ShowsStructOf A.ReaderArena self.now.reader t)
-            → AreWords start.segments → IsText (child 3 t)
+            → IsText (child 3 t)
             → Affords start.charging lim.old (child_cost A.ReaderArena shows 3)
             → IsOk result }
         ensures exactly { reading_outcome text_expected
@@ -73,7 +72,7 @@ impl<'a, A: ReaderArena> Reader<'a, A> {
             → IfOk result (λ text. text.now ≡ person_employment_school t) }
         ensures answered { let start = source_start A.ReaderArena self.now.reader.source in
             (t : Tree) (shows : ShowsStructOf A.ReaderArena self.now.reader t)
-            → AreWords start.segments → IsText (child 3 t)
+            → IsText (child 3 t)
             → Affords start.charging lim.old (child_cost A.ReaderArena shows 3)
             → IsOk result }
         ensures exactly { reading_outcome text_expected

@@ -1,10 +1,10 @@
 -- From the steps of a reading that expects an object of some kind to its outcome.
-use Rattle.std.proofs.Common.{◌≡◌, ◌≢◌, inl, inr, ℕ, zero, suc, ◌+◌, ◌-◌, ◌*◌, ◌/◌, ◌%◌, ◌^◌, ◌<◌, ◌≤◌, Bool, true, false, ◌||◌, cond, nat_eq, Option, Some, None, Result, Ok, Err, IfOk, refl, sym, ap, ap₂, ◌⊎◌, ◌∙◌, arith, eqb-true}
+use Rattle.std.proofs.Common.{◌≡◌, ◌≢◌, inl, inr, ℕ, zero, suc, ◌-◌, ◌<◌, ◌≤◌, Bool, true, false, ◌||◌, cond, nat_eq, Option, Some, None, Result, Ok, Err, IfOk, refl, sym, ap, ap₂, ◌⊎◌, ◌∙◌, arith, eqb-true}
 use Rattle.std.proofs.lemmas.Bool.{ne_eqb}
 use Rattle.capnp_words.specs.declared.error.ErrorKind.{ErrorKind}
 use Rattle.capnp_words.specs.Meter.{Meter}
 use Rattle.capnp_format.specs.Word.{kind, data_words, pointer_count, element_size, list_count}
-use Rattle.capnp_format.specs.Segments.{Segments, Target, word_at}
+use Rattle.capnp_format.specs.Segments.{Segments, Target, segment}
 use Rattle.capnp_words.specs.declared.wire_pointer.ElementSize.{ElementSize}
 use Rattle.capnp_words.specs.declared.wire_pointer.ElementSize.TheVariants.{Void, Bit, Byte, TwoBytes, FourBytes, EightBytes, Pointer, InlineComposite}
 use Rattle.capnp_words.specs.declared.wire_pointer.StructSize.{StructSize}
@@ -16,13 +16,13 @@ use Rattle.capnp_objects.specs.declared.object.Object.TheVariants.{Null as Objec
 use Rattle.capnp_objects.specs.declared.object.Place.{Place}
 use Rattle.capnp_objects.specs.Demands.{tag}
 use Rattle.capnp_objects.specs.Enter.{Shape, nothing, follow, enter, object_shape, result_shape}
-use Rattle.capnp_objects.specs.Entering.{object_misfit, place_byte, IsObjectHeld}
+use Rattle.capnp_objects.specs.Entering.{object_misfit, last_byte, IsObjectHeld}
 use Rattle.capnp_objects.specs.Expected.{Expectation, struct_expected, list_expected, text_expected, data_expected, expectation, narrow_elements, narrow_structs, HasExpected, null_pointer, fitting, IsExpected}
 use Rattle.capnp_objects.specs.Metered.{Metered, answer, onward, ◌>>>◌, refuse_if}
 use Rattle.capnp_objects.specs.Faults.{LeadsTo}
 use Rattle.capnp_objects.specs.Objects.{IsObject}
 use Rattle.capnp_objects.specs.Outcomes.{Entered}
-use Rattle.capnp_objects.specs.Reading.{Reading, word_of, tag_size}
+use Rattle.capnp_objects.specs.Reading.{Reading, list_byte, word_of, tag_size}
 use Rattle.capnp_objects.specs.Refusals.{Unfollowed, exceeding, leading_nowhere}
 use Rattle.capnp_objects.specs.Values.{enter_expected, expect}
 use Rattle.capnp_objects.specs.declared.object.Purpose.TheVariants.{Value}
@@ -116,8 +116,8 @@ misfit_of_text (ObjectStruct start size) k h = absurd (let z = h.seen.0 in omega
 misfit_of_text {S} {a} (ObjectFlat start size count) k h =
     let wide = h.seen.4 in
     let byte : size ≡ Byte = is_byte size (omega (arith, wide, k.1)) in
-    let bytes : (i : ℕ) → place_byte start i ≡ word_at S a.segment (a.start + i / 8) / 2 ^ (8 * (i % 8)) % 256 = λ i. rw (h.held.0, h.seen.2, h.seen.3) refl in
-    rw (byte, h.seen.5, bytes (list_count a.word - 1)) refl
+    let last : (n : ℕ) → last_byte start n ≡ list_byte (segment S a.segment) a.start n (n - 1) = λ n. rw (h.held.0, h.seen.2, h.seen.3) refl in
+    rw (byte, h.seen.5, last (list_count a.word)) refl
 misfit_of_text (ObjectPointers start count) k h = absurd (let six = h.seen.1 in omega (arith, six, k.1))
 misfit_of_text (ObjectStructs start sections count) k h = absurd (let seven = h.seen.1 in omega (arith, seven, k.1))
 

@@ -22,6 +22,7 @@ pub mod TypesComputed
 pub mod Shorthands
 pub mod Walked
 pub mod Measures
+pub mod TextEnds
 pub mod Expecting
 pub mod ExpectedComputed
 pub mod Entries

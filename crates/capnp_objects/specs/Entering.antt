@@ -1,8 +1,8 @@
 -- The steps of reading one object: a function for each private function of `src/source.rt` and
 -- below. `Enter.antt` has the reading as a whole.
-use Rattle.std.specs.Prelude.{◌≡◌, ℕ, ◌+◌, ◌-◌, ◌*◌, ◌/◌, ◌%◌, ◌^◌, ◌<◌, ◌≤◌, Bool, if◌then◌else◌, not}
+use Rattle.std.specs.Prelude.{◌≡◌, ℕ, ◌+◌, ◌-◌, ◌*◌, ◌<◌, ◌≤◌, Bool, if◌then◌else◌, not}
 use Rattle.std.specs.Prelude.{◌||◌, nat_eq, nat_lt, nat_le, Option, Some, None, Result, Ok, Err, IfOk}
-use Rattle.std.specs.Prelude.{get_or, length, ⊤}
+use Rattle.std.specs.Prelude.{length, ⊤}
 use Rattle.capnp_words.specs.declared.error.ErrorKind.{ErrorKind}
 use Rattle.capnp_words.specs.declared.error.ErrorKind.TheVariants.{InlineCompositeListsElementsOverrunItsWordCount}
 use Rattle.capnp_words.specs.declared.error.ErrorKind.TheVariants.{MessageContainsOutOfBoundsPointer}
@@ -35,7 +35,7 @@ use Rattle.capnp_objects.specs.Expected.{narrow_elements, narrow_structs}
 use Rattle.capnp_objects.specs.Follow.{follow_far}
 use Rattle.capnp_objects.specs.Metered.{Metered, outcome, answer, ◌>>>◌, demand, charge_words}
 use Rattle.capnp_objects.specs.Objects.{IsHeld, IsFew}
-use Rattle.capnp_objects.specs.Reading.{Reading, source_start}
+use Rattle.capnp_objects.specs.Reading.{Reading, list_byte, source_start}
 use Rattle.capnp_objects.specs.Refusals.{landing_words}
 
 -- What following a pointer found, as a target; or the refusal.
@@ -117,9 +117,9 @@ pub record ReadsAs (f : Metered Shape) (S : Segments) (m m' : Meter)
   pub few : IfOk result IsFew
   pub at_hand : IfOk result IsAtHand
 
--- Byte i after the place.
-abbrev pub place_byte : Place → ℕ → ℕ
-place_byte here i = get_or (words_of here.bytes.now) (here.at + i / 8) 0 / 2 ^ (8 * (i % 8)) % 256
+-- The last of the n bytes from the place on.
+abbrev pub last_byte : Place → ℕ → ℕ
+last_byte here n = list_byte (words_of here.bytes.now) here.at n (n - 1)
 
 -- Why an object that was read isn't what was expected, if it isn't.
 abbrev pub object_misfit : Expected → Object → Option ErrorKind
@@ -127,6 +127,6 @@ object_misfit (List size) (ObjectFlat start found count) = narrow_elements size 
 object_misfit (List size) (ObjectPointers start count) = narrow_elements size 6
 object_misfit (List size) (ObjectStructs start sections count) = narrow_structs size sections
 object_misfit Text (ObjectFlat start Byte count) =
-    if nat_eq count 0 || not (nat_eq (place_byte start (count - 1)) 0) then
+    if nat_eq count 0 || not (nat_eq (last_byte start count) 0) then
     Some MessageContainsTextThatIsNotNULTerminated else None
 object_misfit expected object = None

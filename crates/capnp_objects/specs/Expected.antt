@@ -1,7 +1,7 @@
 -- What a reading call expects of the object at a place: which demands that makes in addition to
 -- those of every object, in which order they are checked, with which errors they are refused, and
 -- what was granted before ("Structs", "Lists"; docs/FORMAT.md, "Charges and refusals").
-use Rattle.std.specs.Prelude.{◌≡◌, ◌≢◌, ℕ, ◌+◌, ◌-◌, ◌*◌, ◌/◌, ◌%◌, ◌^◌, ◌<◌, if◌then◌else◌, not}
+use Rattle.std.specs.Prelude.{◌≡◌, ◌≢◌, ℕ, ◌-◌, ◌<◌, if◌then◌else◌, not}
 use Rattle.std.specs.Prelude.{◌&&◌, ◌||◌, nat_eq, nat_lt, Option, Some, None, Ok, ⊤}
 use Rattle.capnp_words.specs.declared.error.ErrorKind.{ErrorKind}
 use Rattle.capnp_words.specs.declared.error.ErrorKind.TheVariants.{ExpectedAPointerListButGotAListOfDataOnlyStructs}
@@ -27,7 +27,7 @@ use Rattle.capnp_words.specs.declared.wire_pointer.StructSize.{StructSize}
 use Rattle.capnp_words.specs.Sizes.{size_number}
 use Rattle.capnp_format.specs.Word.{kind, element_size, list_count}
 use Rattle.capnp_format.specs.Numbers.{element_bits}
-use Rattle.capnp_format.specs.Segments.{Segments, word_at, Target}
+use Rattle.capnp_format.specs.Segments.{Segments, segment, Target}
 use Rattle.capnp_objects.specs.declared.object.Expected.{Expected}
 use Rattle.capnp_objects.specs.declared.object.Expected.TheVariants.{Struct, List, Text, Data}
 use Rattle.capnp_objects.specs.declared.object.Object.{Object}
@@ -38,7 +38,7 @@ use Rattle.capnp_objects.specs.declared.object.Object.TheVariants.{Pointers as O
 use Rattle.capnp_objects.specs.declared.object.Object.TheVariants.{Structs as ObjectStructs}
 use Rattle.capnp_objects.specs.declared.object.Purpose.TheVariants.{Value}
 use Rattle.capnp_objects.specs.Outcomes.{Entered}
-use Rattle.capnp_objects.specs.Reading.{Reading, word_of, tag_size}
+use Rattle.capnp_objects.specs.Reading.{Reading, list_byte, word_of, tag_size}
 use Rattle.capnp_objects.specs.Refusals.{Unfollowed, Stopped}
 use Rattle.capnp_objects.specs.Spending.{Paid}
 use Rattle.capnp_objects.specs.Wanted.{plain, follow_at, FollowsTo}
@@ -109,9 +109,9 @@ text_expected = record {
       else Some MessageContainsListPointerOfNonBytesWhereTextWasExpected) else Some
       MessageContainsNonListPointerWhereTextWasExpected;
   misfit = λ S a.
-      let last = list_count a.word - 1 in
-      let byte = word_at S a.segment (a.start + last / 8) / 2 ^ (8 * (last % 8)) % 256 in
-      if nat_eq (list_count a.word) 0 || not (nat_eq byte 0) then
+      let n = list_count a.word in
+      let last = list_byte (segment S a.segment) a.start n (n - 1) in
+      if nat_eq n 0 || not (nat_eq last 0) then
       Some MessageContainsTextThatIsNotNULTerminated else None;
 }
 

@@ -1,6 +1,7 @@
 -- A place that is read, and the place at which a source is read.
-use Rattle.std.specs.Prelude.{ℕ, ℤ, Bool, true, false, List, [], ◌+◌, ◌*◌}
+use Rattle.std.specs.Prelude.{ℕ, ℤ, Bool, true, false, List, [], ◌+◌, ◌*◌, get_or, take, drop}
 use Rattle.capnp_format.specs.Bytes.{message}
+use Rattle.capnp_format.specs.Numbers.{unpacked, words_for}
 use Rattle.capnp_format.specs.Segments.{Segments, Target, segment, word_at, words_at}
 use Rattle.capnp_format.specs.Word.{data_words, pointer_count}
 use Rattle.capnp_arena_traits.specs.declared.arena.reader_arena.ReaderArena.{Ghosts}
@@ -62,6 +63,10 @@ segment_read r = segment r.segments r.segment
 
 abbrev pub words_from : Reading → ℕ → List ℕ
 words_from r n = words_at r.segments r.segment r.at n
+
+-- Byte i of the n bytes from word p of these words on ("Lists").
+abbrev pub list_byte : List ℕ → ℕ → ℕ → ℕ → ℕ
+list_byte ws p n i = get_or (unpacked 2 n (take (words_for 2 n) (drop p ws))) i 0
 
 -- The pointers of element j of a list of structs of this size, whose elements start at the place r.
 abbrev pub pointers_of : Reading → StructSize → ℕ → Reading

@@ -6,7 +6,7 @@ ghost use Rattle.capnp_format.specs.Tree.{Tree, Null};
 ghost use Rattle.capnp_objects.specs.Outcomes.{MeansThere};
 ghost use Rattle.capnp_objects.specs.Spending.{Paid};
 ghost use Rattle.capnp_words.specs.Meter.{Meter, Affords, charged};
-ghost use Rattle.capnp_format.specs.Segments.{word_at, segment, IsPlace, AreWords};
+ghost use Rattle.capnp_format.specs.Segments.{word_at, segment, IsPlace};
 ghost use Rattle.capnp_words.specs.declared.error.ErrorKind.TheVariants.{MessageContainsNonCapabilityPointerWhereCapabilityPointerWasExpected, MessageContainsNullCapabilityPointer, MessageContainsOutOfBoundsPointer, ReadLimitExceeded};
 ghost use Rattle.capnp_arena_traits.specs.Checks.{Holds, misplaced};
 ghost use Rattle.capnp_objects.specs.Source.{default_segment, levels};
@@ -446,8 +446,7 @@ impl<'a, A: ReaderArena> PointerReader<'a, A> {
         ensures answered { let place = place_read A.ReaderArena self.entry default.entry in
             (t : Tree) (c : ℕ)
             → IfSome default.entry (λ bytes. (8 ≤ length bytes.now) × (t ≢ Null))
-            → AreWords place.segments → IsText t → MeansThere place t c
-            → Affords place.charging lim.old c → IsOk result }
+            → IsText t → MeansThere place t c → Affords place.charging lim.old c → IsOk result }
     {
         let found = self.read_as_expected(Expected::Text, lim, default)?;
         match found.1 {

@@ -61,9 +61,6 @@ Rattle.capnp_format.specs.Bytes
 Rattle.capnp_format.specs.Means
  Means |Means
 
-Rattle.capnp_format.specs.Segments
- AreWords |AreWords
-
 Rattle.capnp_format.specs.Tree
  Tree) |Tree
  Capability |Capability

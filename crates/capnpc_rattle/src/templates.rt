@@ -37,8 +37,6 @@ pub const ROOT: &str = "    /// Returns the root of a message.
             → IfOk result (λ r. (shows : ShowsStructOf A.ReaderArena r.reader t) (i : ℕ)
             → Affords (source_start A.ReaderArena r.reader.source).charging lim.new
             (child_cost A.ReaderArena shows i)) }
-        ensures words { AreWords (message (A.segments arena.now))
-            → IfOk result (λ r. AreWords (source_start A.ReaderArena r.reader.source).segments) }
         ensures exactly { root_outcome A.ReaderArena arena.entry lim.old
             ≡ (result_err result, lim.new) }
         ensures sections { (t : Tree)
@@ -193,7 +191,7 @@ pub const TEXT: &str =
             → IfOk result (λ text. text.now ≡ ~spec~ t) }
         ensures answered { let start = source_start A.ReaderArena self.now.reader.source in
             (t : Tree) (shows : ShowsStructOf A.ReaderArena self.now.reader t)
-            → AreWords start.segments → IsText (child ~index~ t)
+            → IsText (child ~index~ t)
             → Affords start.charging lim.old (child_cost A.ReaderArena shows ~index~)
             → IsOk result }
         ensures exactly { reading_outcome text_expected
@@ -238,8 +236,6 @@ pub const STRUCT: &str =
             (inner : ShowsStructOf A.ReaderArena r.reader (~spec~ t)) (i : ℕ)
             → Affords (source_start A.ReaderArena r.reader.source).charging lim.new
             (child_cost A.ReaderArena inner i)) }
-        ensures words { AreWords (source_start A.ReaderArena self.now.reader.source).segments
-            → IfOk result (λ r. AreWords (source_start A.ReaderArena r.reader.source).segments) }
         ensures exactly { reading_outcome struct_expected
             (pointer_field A.ReaderArena self.now.reader ~index~) lim.old
             ≡ (result_err result, lim.new) }

@@ -3,7 +3,6 @@ ghost use Rattle.std.specs.Prelude.{◌≡◌, ◌<◌, ◌+◌, ◌↔◌, ℕ,
 ghost use Rattle.std.specs.Result.{result_err};
 ghost use Rattle.capnp_format.specs.Bytes.{message};
 ghost use Rattle.capnp_format.specs.Means.{Means};
-ghost use Rattle.capnp_format.specs.Segments.{AreWords};
 ghost use Rattle.capnp_format.specs.Tree.{Tree};
 ghost use Rattle.capnp_words.specs.Meter.{Affords};
 ghost use Rattle.capnp_arena_traits.specs.Checks.{Holds};
@@ -79,7 +78,7 @@ pub fn name_of_root<'a, A: ReaderArena>(
         → Means (message (A.segments arena.now)) (levels (A.nesting arena.now)) 0 0 t c
         → IfOk result (λ name. name.now ≡ person_name t) }
     ensures answered { let S = message (A.segments arena.now) in (t : Tree) (c : ℕ)
-        → Holds S 0 0 1 → AreWords S → IsStructOrNull t → IsText (child 0 t)
+        → Holds S 0 0 1 → IsStructOrNull t → IsText (child 0 t)
         → Means S (levels (A.nesting arena.now)) 0 0 t c
         → Affords (A.charging arena.now) lim.old (1 + c) → IsOk result }
 {

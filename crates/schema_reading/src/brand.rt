@@ -3,7 +3,6 @@ ghost use Rattle.std.specs.Prelude.{◌≡◌, ◌≢◌, ◌<◌, ◌+◌, ◌�
 ghost use Rattle.std.specs.Result.{result_err};
 ghost use Rattle.capnp_format.specs.Bytes.{message};
 ghost use Rattle.capnp_format.specs.Means.{Means};
-ghost use Rattle.capnp_format.specs.Segments.{AreWords};
 ghost use Rattle.capnp_format.specs.Tree.{Tree, Null};
 ghost use Rattle.capnp_words.specs.Meter.{Affords};
 ghost use Rattle.capnp_words.specs.declared.wire_pointer.ElementSize.TheVariants.{InlineComposite};
@@ -59,8 +58,6 @@ impl<'a, A: ReaderArena> Reader<'a, A> {
             → IfOk result (λ r. (shows : ShowsStructOf A.ReaderArena r.reader t) (i : ℕ)
             → Affords (source_start A.ReaderArena r.reader.source).charging lim.new
             (child_cost A.ReaderArena shows i)) }
-        ensures words { AreWords (message (A.segments arena.now))
-            → IfOk result (λ r. AreWords (source_start A.ReaderArena r.reader.source).segments) }
         ensures exactly { root_outcome A.ReaderArena arena.entry lim.old
             ≡ (result_err result, lim.new) }
         ensures sections { (t : Tree)

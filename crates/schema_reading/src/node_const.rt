@@ -1,7 +1,6 @@
 //! Node.const
 ghost use Rattle.std.specs.Prelude.{◌≡◌, ◌≢◌, ◌↔◌, ℕ, IsTrue, IfOk, IsOk, ⊤};
 ghost use Rattle.std.specs.Result.{result_err};
-ghost use Rattle.capnp_format.specs.Segments.{AreWords};
 ghost use Rattle.capnp_format.specs.Tree.{Tree, Null};
 ghost use Rattle.capnp_words.specs.Meter.{Affords};
 ghost use Rattle.capnp_objects.specs.Expected.{struct_expected};
@@ -56,8 +55,6 @@ impl<'a, A: ReaderArena> Reader<'a, A> {
             (inner : ShowsStructOf A.ReaderArena r.reader (node_const_type t)) (i : ℕ)
             → Affords (source_start A.ReaderArena r.reader.source).charging lim.new
             (child_cost A.ReaderArena inner i)) }
-        ensures words { AreWords (source_start A.ReaderArena self.now.reader.source).segments
-            → IfOk result (λ r. AreWords (source_start A.ReaderArena r.reader.source).segments) }
         ensures exactly { reading_outcome struct_expected
             (pointer_field A.ReaderArena self.now.reader 3) lim.old
             ≡ (result_err result, lim.new) }
@@ -98,8 +95,6 @@ impl<'a, A: ReaderArena> Reader<'a, A> {
             (inner : ShowsStructOf A.ReaderArena r.reader (node_const_value t)) (i : ℕ)
             → Affords (source_start A.ReaderArena r.reader.source).charging lim.new
             (child_cost A.ReaderArena inner i)) }
-        ensures words { AreWords (source_start A.ReaderArena self.now.reader.source).segments
-            → IfOk result (λ r. AreWords (source_start A.ReaderArena r.reader.source).segments) }
         ensures exactly { reading_outcome struct_expected
             (pointer_field A.ReaderArena self.now.reader 4) lim.old
             ≡ (result_err result, lim.new) }

@@ -5,7 +5,6 @@ use Rattle.capnp_words.specs.Meter.{Meter, Affords}
 use Rattle.capnp_words.specs.declared.wire_pointer.ElementSize.{ElementSize}
 use Rattle.capnp_format.proofs.Levels.{one_value}
 use Rattle.capnp_format.specs.Means.{MeansElements}
-use Rattle.capnp_format.specs.Segments.{AreWords}
 use Rattle.capnp_format.specs.Tree.{Tree, Null, Capability, Struct, Flat, Pointers, Structs, Trees, no_trees, tree, Elements, no_elements, element}
 use Rattle.capnp_arena_traits.specs.declared.arena.reader_arena.ReaderArena.{Ghosts}
 use Rattle.capnp_objects.specs.Expected.{list_expected, struct_expected}
@@ -47,11 +46,6 @@ pub stays_itself : (r : Reading) → StaysIn r r
 stays_itself r = record { words = λ all. all; affords = λ m k h. h }
 
 module _ {A : Type 0} (g : Ghosts A) where
-  -- the words of the message are those of what was read in it
-  pub words_stay : (x : Reading) (result : Result (StructReader A g) ErrorKind) → IfOk result (λ r. StaysIn x (source_start g r.source)) → AreWords x.segments → IfOk result (λ r. AreWords (source_start g r.source).segments)
-  words_stay x (Ok r) stays all = stays.words all
-  words_stay x (Err k) stays all = tt
-
   -- the children of a struct cost at most what the struct does
   struct_cost : (p : PointerReader A g) (m m' : Meter) (r : StructReader A g) (t : Tree) (c : ℕ) → IsStructRead g p m m' r → MeansThere (read_by g p) t c → (shows : ShowsStructOf g r t) → shows.cost ≤ c
   struct_cost p m m' r Null c read means shows = omega (arith, shows.children_are)

@@ -2,7 +2,6 @@
 ghost use Rattle.std.specs.Prelude.{◌≡◌, ◌≢◌, ◌<◌, ◌≤◌, ◌-◌, ◌%◌, ◌/◌, ◌^◌, ℕ, List, length, IfOk, IsOk, OnOk, slice_index, ⊤};
 ghost use Rattle.std.specs.Result.{result_err};
 ghost use Rattle.capnp_format.specs.Numbers.{element_bits};
-ghost use Rattle.capnp_format.specs.Segments.{AreWords};
 ghost use Rattle.capnp_format.specs.Tree.{Tree, Null, Flat};
 ghost use Rattle.capnp_words.specs.Meter.{Affords};
 ghost use Rattle.capnp_words.specs.Sizes.{size_number};
@@ -154,7 +153,7 @@ impl<'a, A: ReaderArena> TextsReader<'a, A> {
             → IfOk result (λ text. text.now ≡ text_bytes (pointer_element index t)) }
         ensures answered { let start = source_start A.ReaderArena self.now.reader.source in
             (t : Tree) (shows : ShowsListOf A.ReaderArena self.now.reader t) → HasStructs t
-            → AreWords start.segments → IsText (pointer_element index t)
+            → IsText (pointer_element index t)
             → Affords start.charging lim.old (pointer_cost A.ReaderArena shows index)
             → IsOk result }
         ensures spent { let start = source_start A.ReaderArena self.now.reader.source in

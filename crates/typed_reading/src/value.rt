@@ -3,7 +3,6 @@ ghost use Rattle.std.specs.Prelude.{◌≡◌, ◌≢◌, ◌+◌, ◌-◌, ◌*
 ghost use Rattle.std.specs.Result.{result_err};
 ghost use Rattle.capnp_format.specs.Bytes.{message};
 ghost use Rattle.capnp_format.specs.Means.{Means};
-ghost use Rattle.capnp_format.specs.Segments.{AreWords};
 ghost use Rattle.capnp_format.specs.Tree.{Tree, Capability, Null, Struct, no_trees};
 ghost use Rattle.capnp_words.specs.Meter.{Affords, charged};
 ghost use Rattle.capnp_arena_traits.specs.Checks.{Holds};
@@ -55,8 +54,6 @@ pub fn root<'a, A: ReaderArena>(
     ensures stays { IfOk result (λ r.
         StaysIn (source_start A.ReaderArena (Source.Arena arena.entry))
         (source_start A.ReaderArena r.source)) }
-    ensures words { AreWords (message (A.segments arena.now))
-        → IfOk result (λ r. AreWords (source_start A.ReaderArena r.source).segments) }
     ensures exactly { root_outcome A.ReaderArena arena.entry lim.old
         ≡ (result_err result, lim.new) }
     ensures sections { (t : Tree) → LeadsToSectionsOf (root_place A.ReaderArena arena.entry) t
@@ -206,8 +203,7 @@ pub fn get_text<'a, A: ReaderArena>(
     ensures value { (t : Tree) → ShowsStructOf A.ReaderArena reader.now t
         → IfOk result (λ text. text.now ≡ text_bytes (child index t)) }
     ensures answered { let start = source_start A.ReaderArena reader.now.source in
-        (t : Tree) (shows : ShowsStructOf A.ReaderArena reader.now t)
-        → AreWords start.segments → IsText (child index t)
+        (t : Tree) (shows : ShowsStructOf A.ReaderArena reader.now t) → IsText (child index t)
         → Affords start.charging lim.old (child_cost A.ReaderArena shows index) → IsOk result }
     ensures spent { let start = source_start A.ReaderArena reader.now.source in
         (t : Tree) (shows : ShowsStructOf A.ReaderArena reader.now t) → child index t ≢ Null
@@ -230,8 +226,7 @@ pub fn get_text_or<'a, A: ReaderArena>(
     ensures value { (t : Tree) → ShowsStructOf A.ReaderArena reader.now t
         → IfOk result (λ text. text.now ≡ text_or default.now (child index t)) }
     ensures answered { let start = source_start A.ReaderArena reader.now.source in
-        (t : Tree) (shows : ShowsStructOf A.ReaderArena reader.now t)
-        → AreWords start.segments → IsText (child index t)
+        (t : Tree) (shows : ShowsStructOf A.ReaderArena reader.now t) → IsText (child index t)
         → Affords start.charging lim.old (child_cost A.ReaderArena shows index) → IsOk result }
     ensures spent { let start = source_start A.ReaderArena reader.now.source in
         (t : Tree) (shows : ShowsStructOf A.ReaderArena reader.now t) → child index t ≢ Null
@@ -325,8 +320,6 @@ pub fn get_struct<'a, A: ReaderArena>(
         (child_cost A.ReaderArena inner i)) }
     ensures stays { IfOk result (λ r. StaysIn (source_start A.ReaderArena reader.now.source)
         (source_start A.ReaderArena r.source)) }
-    ensures words { AreWords (source_start A.ReaderArena reader.now.source).segments
-        → IfOk result (λ r. AreWords (source_start A.ReaderArena r.source).segments) }
     ensures exactly { reading_outcome struct_expected
         (pointer_field A.ReaderArena reader.now index) lim.old ≡ (result_err result, lim.new) }
     ensures sections { (t : Tree)

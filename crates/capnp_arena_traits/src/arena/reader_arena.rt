@@ -14,7 +14,9 @@ use capnp_words::read_limiter::ReadLimiter;
 /// what reading costs. Sections "Messages", "Inter-Segment Pointers" and "Security Considerations"
 /// of the encoding specification.
 pub trait ReaderArena {
-    // The bytes of the whole words of each segment.
+    // The bytes of the whole words of each segment. No law says that they are below 256: a law is
+    // about any numbers, and `with_bytes` of `BuilderArena` puts any there. Those that
+    // `get_segment` lends are, by their type.
     ghost segments: { Self → List (List ℕ) };
 
     ghost nesting: { Self → ℤ };

@@ -1,13 +1,14 @@
 //! Reads an object that has to be of an expected kind: a struct, a list of elements that are wide
 //! enough, a text, or data.
 ghost use Rattle.std.specs.Prelude.{◌≡◌, None, ◌<◌, ◌≤◌, ◌+◌, ◌-◌, ◌*◌, ◌↔◌, pos, IsTrue, IsOk, IfOk, IfErr, length};
+ghost use Rattle.capnp_format.specs.Bytes.{words_of};
 ghost use Rattle.capnp_format.specs.Numbers.{words_for};
 ghost use Rattle.capnp_words.specs.Sizes.{size_number};
 ghost use Rattle.capnp_objects.specs.declared.object.Purpose.TheVariants.{Value};
-ghost use Rattle.capnp_objects.specs.Reading.{source_start, reading_at};
+ghost use Rattle.capnp_objects.specs.Reading.{source_start, reading_at, list_byte};
 ghost use Rattle.capnp_objects.specs.Objects.{IsObject, IsHeld, IsFew};
 ghost use Rattle.capnp_objects.specs.Expected.{expectation, narrow_elements, narrow_structs, HasExpected, IsExpected, RefusesExpected};
-ghost use Rattle.capnp_objects.specs.Entering.{found_target, entered_from, ReadsAs, object_misfit, place_byte, IsAtHand};
+ghost use Rattle.capnp_objects.specs.Entering.{found_target, entered_from, ReadsAs, object_misfit, IsAtHand};
 ghost use Rattle.capnp_objects.specs.Values.{enter_expected, expect};
 
 use super::Source;
@@ -186,23 +187,24 @@ fn mismatch_error(expected: Expected, object: Object) -> Option<ErrorKind>
                 size: ElementSize::Byte,
                 count,
             },
-        ) if !ends_in_zero(start, count) => {
+        ) if !ends_in_zero(start.bytes, start.at, count) => {
             Some(ErrorKind::MessageContainsTextThatIsNotNULTerminated)
         }
         _ => None,
     }
 }
 
-// Whether the `count` bytes from a place on end in a zero byte.
-fn ends_in_zero(start: Place, count: u32) -> bool
-    requires { 8 * (start.at + words_for 2 count) ≤ length start.bytes.now }
-    ensures { IsTrue result ↔ (0 < count) × (place_byte start.entry (count - 1) ≡ 0) }
+// Whether the `count` bytes from word `start` of a segment on end in a zero byte.
+fn ends_in_zero(bytes: &[u8], start: u32, count: u32) -> bool
+    requires { 8 * (start + words_for 2 count) ≤ length bytes.now }
+    ensures { IsTrue result
+        ↔ (0 < count) × (list_byte (words_of bytes.now) start count (count - 1) ≡ 0) }
 {
     if count == 0 {
         return false;
     }
     let last = (count - 1) as usize;
-    let word = word_at(start.bytes, start.at as usize + last / 8);
+    let word = word_at(bytes, start as usize + last / 8);
     word >> (8 * (last % 8)) & 0xff == 0
 }
 

@@ -3,7 +3,7 @@ use Rattle.capnp_readers.specs.Readers.{read_by}
 use Rattle.capnp_readers.specs.Values.{child_cost}
 use Rattle.typed_reading.specs.Sections.{pointer_field}
 use Rattle.typed_reading.specs.Values.{child}
-use Rattle.typed_reading.proofs.Left.{stays_itself, struct_left, words_stay}
+use Rattle.typed_reading.proofs.Left.{stays_itself, struct_left}
 use Rattle.typed_reading.proofs.Outcomes.{struct_outcome}
 use Rattle.typed_reading.proofs.Sections.{field_read, sections_if}
 use Rattle.typed_reading.proofs.value.get_struct.Goals as goal
@@ -29,6 +29,5 @@ returns g c =
           (child c.args.index t) (child_cost g.A.ReaderArena shows c.args.index) (field.means t shows) (field.stays.affords c.args.lim.now (child_cost g.A.ReaderArena shows c.args.index) covers);
       exactly = struct_outcome g.A.ReaderArena c.get_pointer_field.result here place c.args.lim.now c.get_struct.new.lim c.get_struct.result read.exactly read.read read.refused;
       sections = sections_if g.A.ReaderArena c.get_pointer_field.result here place c.args.lim.now c.get_struct.new.lim c.get_struct.result read.read;
-      words = words_stay g.A.ReaderArena (source_start g.A.ReaderArena c.args.reader.now.source) c.get_struct.result (read.stays (source_start g.A.ReaderArena c.args.reader.now.source) field.stays);
       stays = read.stays (source_start g.A.ReaderArena c.args.reader.now.source) field.stays;
     }

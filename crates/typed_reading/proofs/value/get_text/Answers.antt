@@ -16,9 +16,9 @@ returns g c =
     let place = field_read g.A.ReaderArena c.args.reader.now c.args.index c.get_pointer_field.result field.source field.place field.nesting field.nothing field.nowhere in
     record {
       value = λ t shows. read.value (child c.args.index t) (field.value t shows);
-      answered = λ t shows words is covers.
+      answered = λ t shows is covers.
           let k = child_cost g.A.ReaderArena shows c.args.index in
-          read.answered (child c.args.index t) k tt (field.stays.words words) is (field.means t shows) (field.stays.affords c.args.lim.now k covers);
+          read.answered (child c.args.index t) k tt is (field.means t shows) (field.stays.affords c.args.lim.now k covers);
       spent = λ t shows other. rw (field.charging t shows other) at (read.spent (child c.args.index t) (child_cost g.A.ReaderArena shows c.args.index) other (field.means t shows));
       exactly = bytes_outcome g.A.ReaderArena text_expected 1 c.get_pointer_field.result (pointer_field g.A.ReaderArena c.args.reader.now c.args.index) place c.args.lim.now c.get_text.new.lim c.get_text.result read.exactly read.read read.refused;
     }

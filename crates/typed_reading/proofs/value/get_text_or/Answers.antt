@@ -9,7 +9,7 @@ use Rattle.typed_reading.proofs.value.get_text_or.Goals as goal
 pub returns-then-is_null : goal.returns-then-is_null
 returns-then-is_null g c = record {
   value = λ t shows. text_of_default c.args.default.now (child c.args.index t) ((c.is_null.ensures.value t shows).0 c.if-is_null.true);
-  answered = λ t shows words is covers. refl;
+  answered = λ t shows is covers. refl;
   spent = λ t shows other. absurd (other ((c.is_null.ensures.value t shows).0 c.if-is_null.true));
   exactly = null_outcome text_expected (pointer_field g.A.ReaderArena c.args.reader.now c.args.index) c.args.lim.now (c.is_null.ensures.word.0 c.if-is_null.true);
 }

@@ -3,7 +3,7 @@ use Rattle.capnp_objects.specs.declared.source.Source.TheVariants.{Arena}
 use Rattle.std.proofs.Common.{refl, ◌∙◌}
 use Rattle.capnp_readers.specs.Readers.{read_by}
 use Rattle.typed_reading.specs.Outcomes.{root_place}
-use Rattle.typed_reading.proofs.Left.{stays_itself, struct_left, words_stay}
+use Rattle.typed_reading.proofs.Left.{stays_itself, struct_left}
 use Rattle.typed_reading.proofs.Outcomes.{root_granted, root_read, root_refused, struct_outcome}
 use Rattle.typed_reading.proofs.Sections.{sections_if}
 use Rattle.typed_reading.proofs.Root.{root_affords, stays_in_source}
@@ -19,7 +19,6 @@ returns-in-Err g c = record {
   spent = λ t k other means. tt;
   stays = tt;
   left = λ t k means covers. tt;
-  words = λ all. tt;
   sections = λ t leads. tt;
   exactly = root_refused g.A.ReaderArena c.args.arena c.args.lim.now c.get_root_from_arena.new.lim c.in-Err.kind (λ there covered. let yes = c.in-Err.ensures.exactly.1 (there, covered) in absurd (cc yes)) c.in-Err.ensures.refused c.in-Err.ensures.outside c.in-Err.ensures.budget;
 }
@@ -43,6 +42,5 @@ returns-in-Ok g c =
       sections = sections_if g.A.ReaderArena c.in-Ok.root here place m c.get_struct.new.lim c.get_struct.result read.read;
       exactly = root_granted g.A.ReaderArena c.args.arena c.args.lim.now (root.exactly.0 refl).0 (root.exactly.0 refl).1
           ∙ rw root.granted at (struct_outcome g.A.ReaderArena c.in-Ok.root here place m c.get_struct.new.lim c.get_struct.result read.exactly read.read read.refused);
-      words = words_stay g.A.ReaderArena (source_start g.A.ReaderArena source) c.get_struct.result (read.stays (source_start g.A.ReaderArena source) (stays_in_source g.A.ReaderArena c.in-Ok.root source root.source));
       stays = read.stays (source_start g.A.ReaderArena source) (stays_in_source g.A.ReaderArena c.in-Ok.root source root.source);
     }

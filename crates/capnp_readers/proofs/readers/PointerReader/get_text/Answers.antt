@@ -38,9 +38,9 @@ pub returns-in_default-clause-value : goal.returns-in_default-clause-value
 returns-in_default-clause-value g c = bytes_value g.A.ReaderArena 1 [] (returns-in_default-clause-read g c)
 
 pub returns-in_err-found-clause-answered : goal.returns-in_err-found-clause-answered
-returns-in_err-found-clause-answered g c = λ t k whole words is means covers.
+returns-in_err-found-clause-answered g c = λ t k whole is means covers.
     let place = place_read g.A.ReaderArena c.args.self c.args.default in
-    absurd (never_refused g.A.ReaderArena (record { from = c.args.self; expected = text_expected; default = c.args.default }) c.in_err-found.ensures.refused (λ bytes e. let has = of_some _ c.args.default whole bytes e in (has.0, inr (not_null place t k means has.1))) (text_suits place t k c.args.lim.now words is means covers))
+    absurd (never_refused g.A.ReaderArena (record { from = c.args.self; expected = text_expected; default = c.args.default }) c.in_err-found.ensures.refused (λ bytes e. let has = of_some _ c.args.default whole bytes e in (has.0, inr (not_null place t k means has.1))) (text_suits place t k c.args.lim.now is means covers))
 
 pub returns-in-Flat-clause-spent : goal.returns-in-Flat-clause-spent
 returns-in-Flat-clause-spent g c = bytes_spent g.A.ReaderArena 1 c.bytes_at-bytes.result.now (returns-in-Flat-clause-read g c)

@@ -15,7 +15,7 @@ unwrap-requires g c =
           let T = c.args.self.now.schema.now in
           let ps = c.args.self.now.pointers.now in
           let h : Conforms T (wanted ps (struct_data s.struct) c.args.index) (child c.args.index s.struct) = child_conforms T ps c.args.index s.struct s.shows.is_struct s.conforms in
-          c.get_text.ensures.answered s.struct s.shows s.words (kind_of T Text (child c.args.index s.struct) (rw (c.requires s.struct s.shows) at h))
+          c.get_text.ensures.answered s.struct s.shows (kind_of T Text (child c.args.index s.struct) (rw (c.requires s.struct s.shows) at h))
           (affords_all (source_start g.A.ReaderArena c.args.self.now.reader.source).charging _ (child_cost g.A.ReaderArena s.shows c.args.index) (ap (λ m. m.left) c.new-unlimited.ensures))
     ])
 

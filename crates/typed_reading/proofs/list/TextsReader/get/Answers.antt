@@ -24,7 +24,7 @@ returns g c =
     let place : read_by g.A.ReaderArena c.get_pointer_element.result ≡ here = rw (element.source, element.place.0, element.place.1, element.nesting) refl in
     record {
       value = λ t shows has. read.value (pointer_element c.args.index t) (element.value t shows has);
-      answered = λ t shows has words is covers. read.answered (pointer_element c.args.index t) (pointer_cost g.A.ReaderArena shows c.args.index) tt (rw element.source words) is (element.means t shows has) (rw element.source covers);
+      answered = λ t shows has is covers. read.answered (pointer_element c.args.index t) (pointer_cost g.A.ReaderArena shows c.args.index) tt is (element.means t shows has) (rw element.source covers);
       spent = λ t shows has other. rw element.source at (read.spent (pointer_element c.args.index t) (pointer_cost g.A.ReaderArena shows c.args.index) other (element.means t shows has));
       exactly = bytes_outcome g.A.ReaderArena text_expected 1 c.get_pointer_element.result here place c.args.lim.now c.get_text.new.lim c.get_text.result read.exactly read.read read.refused;
     }
