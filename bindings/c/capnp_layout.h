@@ -673,8 +673,9 @@ struct capnp_elements_at {
 CAPNP_LAYOUT_SIZE(capnp_elements_at, 16);
 
 /* The library's part. The buffer's first `used` words are the message: `bytes` and `room` are its address and its size in
- * bytes. It needn't be aligned or zero. `place` is a struct's, from capnp_place, and `list` a list's, from
- * capnp_list_place. A place that isn't in the message is refused with CAPNP_NO_SUCH_PLACE, and nothing is changed.
+ * bytes. It needn't be aligned or zero. `place` is a struct's, from capnp_place, `word` a pointer's, from
+ * capnp_pointer_word, and `list` a list's, from capnp_list_place. A place that isn't in the message is refused with
+ * CAPNP_NO_SUCH_PLACE, and nothing is changed.
  * After any other refusal a call that opens an object has changed nothing, and one that sets a pointer leaves it null; but
  * CAPNP_MESSAGE_TOO_LARGE changes nothing, if it isn't for one of the largest lists: 2^29 - 1 pointers or elements of 8
  * bytes, or structs of 2^29 - 2 or 2^29 - 1 words together. */
@@ -692,10 +693,8 @@ uint32_t capnp_layout_get_struct_list(uint8_t *bytes, size_t room, uint32_t *use
                                       uint16_t pointers, struct capnp_elements_at *to);
 uint32_t capnp_layout_get_list(uint8_t *bytes, size_t room, uint32_t used, uint64_t place, uint16_t index, uint32_t size,
                                struct capnp_elements_at *to);
-uint32_t capnp_layout_set_text(uint8_t *bytes, size_t room, uint32_t *used, uint64_t place, uint16_t index, const uint8_t *text,
-                               size_t size);
-uint32_t capnp_layout_set_data(uint8_t *bytes, size_t room, uint32_t *used, uint64_t place, uint16_t index, const uint8_t *data,
-                               size_t size);
+uint32_t capnp_layout_set_text(uint8_t *bytes, size_t room, uint32_t *used, uint64_t word, const uint8_t *text, size_t size);
+uint32_t capnp_layout_set_data(uint8_t *bytes, size_t room, uint32_t *used, uint64_t word, const uint8_t *data, size_t size);
 uint32_t capnp_layout_clear(uint8_t *bytes, size_t room, uint32_t used, uint64_t place, uint16_t index);
 uint32_t capnp_layout_set_capability(uint8_t *bytes, size_t room, uint32_t used, uint64_t place, uint16_t index, uint32_t capability);
 
@@ -720,9 +719,14 @@ uint32_t capnp_layout_set_element_u16(uint8_t *bytes, size_t room, uint32_t used
 uint32_t capnp_layout_set_element_u32(uint8_t *bytes, size_t room, uint32_t used, uint64_t list, uint32_t index, uint32_t value);
 uint32_t capnp_layout_set_element_u64(uint8_t *bytes, size_t room, uint32_t used, uint64_t list, uint32_t index, uint64_t value);
 
-/* The place of a struct, and that of a list of `count` elements from word `at` on. */
+/* The place of a struct, the word of its pointer `index`, and the place of a list of `count` elements from word `at` on. If the
+ * struct doesn't have the pointer, the word is one that no message has. */
 CAPNP_INLINE uint64_t capnp_place(struct capnp_struct_at at) {
     return at.at | (uint64_t)at.data_words << 32 | (uint64_t)at.pointers << 48;
+}
+
+CAPNP_INLINE uint64_t capnp_pointer_word(struct capnp_struct_at at, uint16_t index) {
+    return index < at.pointers ? (uint64_t)at.at + at.data_words + index : UINT64_MAX;
 }
 
 CAPNP_INLINE uint64_t capnp_list_place(uint32_t at, uint32_t count) { return at | (uint64_t)count << 32; }
@@ -784,15 +788,15 @@ CAPNP_INLINE void capnp_start(struct capnp_builder *message, void *buffer, size_
 /* Makes the root pointer lead to a new struct, all zero. */
 CAPNP_INLINE struct capnp_struct_builder capnp_init_root(struct capnp_builder *message, uint16_t data_words, uint16_t pointers) {
     struct capnp_struct_builder made;
-    made.message = message;
-    made.place.at = 0;
-    made.place.data_words = data_words;
-    made.place.pointers = pointers;
+    uint32_t at = 0;
     while (message->refusal == 0) {
-        uint32_t answer = capnp_layout_init_root(message->bytes, message->room, &message->used, data_words, pointers,
-                                                 &made.place.at);
+        uint32_t answer = capnp_layout_init_root(message->bytes, message->room, &message->used, data_words, pointers, &at);
         if (answer == 0 || !capnp_again(message, answer, (uint64_t)data_words + pointers)) break;
     }
+    made.message = message;
+    made.place.at = at;
+    made.place.data_words = data_words;
+    made.place.pointers = pointers;
     return made;
 }
 
@@ -806,20 +810,32 @@ CAPNP_INLINE struct capnp_struct_builder capnp_root_pointer(struct capnp_builder
     return root;
 }
 
+/* The functions whose names end in `_again` repeat a call that was refused with `answer` while `grow` makes room. They are
+ * seldom called, and so not part of the functions that call them. */
+CAPNP_SELDOM uint32_t capnp_init_struct_again(struct capnp_builder *message, uint64_t place, uint16_t index, uint16_t data_words,
+                                              uint16_t pointers, uint32_t answer) {
+    uint32_t at = 0;
+    while (answer != 0 && capnp_again(message, answer, (uint64_t)data_words + pointers)) {
+        answer = capnp_layout_init_struct(message->bytes, message->room, &message->used, place, index, data_words, pointers, &at);
+    }
+    return at;
+}
+
 /* Makes the pointer with this index lead to a new struct, all zero. */
 CAPNP_INLINE struct capnp_struct_builder capnp_init_struct(const struct capnp_struct_builder *of, uint16_t index, uint16_t data_words,
                                                            uint16_t pointers) {
     struct capnp_builder *message = of->message;
     struct capnp_struct_builder made;
+    uint32_t at = 0;
+    if (message->refusal == 0) {
+        uint64_t place = capnp_place(of->place);
+        uint32_t answer = capnp_layout_init_struct(message->bytes, message->room, &message->used, place, index, data_words, pointers, &at);
+        if (answer != 0) at = capnp_init_struct_again(message, place, index, data_words, pointers, answer);
+    }
     made.message = message;
-    made.place.at = 0;
+    made.place.at = at;
     made.place.data_words = data_words;
     made.place.pointers = pointers;
-    while (message->refusal == 0) {
-        uint32_t answer = capnp_layout_init_struct(message->bytes, message->room, &message->used, capnp_place(of->place), index,
-                                                   data_words, pointers, &made.place.at);
-        if (answer == 0 || !capnp_again(message, answer, (uint64_t)data_words + pointers)) break;
-    }
     return made;
 }
 
@@ -861,42 +877,64 @@ CAPNP_INLINE struct capnp_struct_builder capnp_open_root(struct capnp_builder *m
     return capnp_open_struct(&root, 0, data_words, pointers);
 }
 
+CAPNP_SELDOM uint32_t capnp_init_struct_list_again(struct capnp_builder *message, uint64_t place, uint16_t index, uint32_t count,
+                                                   uint16_t data_words, uint16_t pointers, uint32_t answer) {
+    uint32_t first = 0;
+    while (answer != 0 && capnp_again(message, answer, 1 + (uint64_t)count * ((uint64_t)data_words + pointers))) {
+        answer = capnp_layout_init_struct_list(message->bytes, message->room, &message->used, place, index, count, data_words,
+                                               pointers, &first);
+    }
+    return first;
+}
+
 /* Makes the pointer lead to a new list of `count` structs, all zero. */
 CAPNP_INLINE struct capnp_list_builder capnp_init_struct_list(const struct capnp_struct_builder *of, uint16_t index, uint32_t count,
                                                               uint16_t data_words, uint16_t pointers) {
     struct capnp_builder *message = of->message;
     struct capnp_list_builder made;
+    uint32_t first = 0;
+    if (message->refusal == 0) {
+        uint64_t place = capnp_place(of->place);
+        uint32_t answer = capnp_layout_init_struct_list(message->bytes, message->room, &message->used, place, index, count, data_words,
+                                                        pointers, &first);
+        if (answer != 0) first = capnp_init_struct_list_again(message, place, index, count, data_words, pointers, answer);
+    }
     made.message = message;
-    made.first.at = 0;
+    made.first.at = first;
     made.first.data_words = data_words;
     made.first.pointers = pointers;
-    made.size = CAPNP_STRUCT;
-    while (message->refusal == 0) {
-        uint32_t answer = capnp_layout_init_struct_list(message->bytes, message->room, &message->used, capnp_place(of->place), index,
-                                                        count, data_words, pointers, &made.first.at);
-        if (answer == 0 || !capnp_again(message, answer, 1 + (uint64_t)count * ((uint64_t)data_words + pointers))) break;
-    }
     made.count = message->refusal == 0 ? count : 0;
+    made.size = CAPNP_STRUCT;
     return made;
+}
+
+CAPNP_SELDOM uint32_t capnp_init_list_again(struct capnp_builder *message, uint64_t place, uint16_t index, enum capnp_size size,
+                                            uint32_t count, uint32_t answer) {
+    static const uint8_t bits[] = {0, 1, 8, 16, 32, 64, 64, 0};
+    uint32_t first = 0;
+    while (answer != 0 && capnp_again(message, answer, ((uint64_t)count * bits[(uint32_t)size & 7] + 63) / 64)) {
+        answer = capnp_layout_init_list(message->bytes, message->room, &message->used, place, index, (uint32_t)size, count, &first);
+    }
+    return first;
 }
 
 /* Makes the pointer lead to a new list of `count` elements that aren't structs, all zero or null. */
 CAPNP_INLINE struct capnp_list_builder capnp_init_list(const struct capnp_struct_builder *of, uint16_t index, enum capnp_size size,
                                                        uint32_t count) {
-    static const uint8_t bits[] = {0, 1, 8, 16, 32, 64, 64, 0};
     struct capnp_builder *message = of->message;
     struct capnp_list_builder made;
+    uint32_t first = 0;
+    if (message->refusal == 0) {
+        uint64_t place = capnp_place(of->place);
+        uint32_t answer = capnp_layout_init_list(message->bytes, message->room, &message->used, place, index, (uint32_t)size, count, &first);
+        if (answer != 0) first = capnp_init_list_again(message, place, index, size, count, answer);
+    }
     made.message = message;
-    made.first.at = 0;
+    made.first.at = first;
     made.first.data_words = 0;
     made.first.pointers = 1;
-    made.size = size;
-    while (message->refusal == 0) {
-        uint32_t answer = capnp_layout_init_list(message->bytes, message->room, &message->used, capnp_place(of->place), index,
-                                                 (uint32_t)size, count, &made.first.at);
-        if (answer == 0 || !capnp_again(message, answer, ((uint64_t)count * bits[(uint32_t)size & 7] + 63) / 64)) break;
-    }
     made.count = message->refusal == 0 ? count : 0;
+    made.size = size;
     return made;
 }
 
@@ -974,13 +1012,19 @@ CAPNP_INLINE struct capnp_struct_builder capnp_builder_pointer(const struct capn
     return to;
 }
 
+CAPNP_SELDOM void capnp_set_text_again(struct capnp_builder *message, uint64_t word, const char *text, size_t size, uint32_t answer) {
+    while (answer != 0 && capnp_again(message, answer, (uint64_t)size / 8 + 1)) {
+        answer = capnp_layout_set_text(message->bytes, message->room, &message->used, word, (const uint8_t *)text, size);
+    }
+}
+
 /* Makes the pointer lead to a new text: `size` bytes, and a zero byte. */
 CAPNP_INLINE void capnp_set_text_n(const struct capnp_struct_builder *of, uint16_t index, const char *text, size_t size) {
     struct capnp_builder *message = of->message;
-    while (message->refusal == 0) {
-        uint32_t answer = capnp_layout_set_text(message->bytes, message->room, &message->used, capnp_place(of->place), index,
-                                                (const uint8_t *)text, size);
-        if (answer == 0 || !capnp_again(message, answer, (uint64_t)size / 8 + 1)) break;
+    if (message->refusal == 0) {
+        uint64_t word = capnp_pointer_word(of->place, index);
+        uint32_t answer = capnp_layout_set_text(message->bytes, message->room, &message->used, word, (const uint8_t *)text, size);
+        if (answer != 0) capnp_set_text_again(message, word, text, size, answer);
     }
 }
 
@@ -988,13 +1032,19 @@ CAPNP_INLINE void capnp_set_text(const struct capnp_struct_builder *of, uint16_t
     capnp_set_text_n(of, index, text, strlen(text));
 }
 
+CAPNP_SELDOM void capnp_set_data_again(struct capnp_builder *message, uint64_t word, const void *data, size_t size, uint32_t answer) {
+    while (answer != 0 && capnp_again(message, answer, ((uint64_t)size + 7) / 8)) {
+        answer = capnp_layout_set_data(message->bytes, message->room, &message->used, word, (const uint8_t *)data, size);
+    }
+}
+
 /* Makes the pointer lead to new data. */
 CAPNP_INLINE void capnp_set_data(const struct capnp_struct_builder *of, uint16_t index, const void *data, size_t size) {
     struct capnp_builder *message = of->message;
-    while (message->refusal == 0) {
-        uint32_t answer = capnp_layout_set_data(message->bytes, message->room, &message->used, capnp_place(of->place), index,
-                                                (const uint8_t *)data, size);
-        if (answer == 0 || !capnp_again(message, answer, ((uint64_t)size + 7) / 8)) break;
+    if (message->refusal == 0) {
+        uint64_t word = capnp_pointer_word(of->place, index);
+        uint32_t answer = capnp_layout_set_data(message->bytes, message->room, &message->used, word, (const uint8_t *)data, size);
+        if (answer != 0) capnp_set_data_again(message, word, data, size, answer);
     }
 }
 
@@ -1014,12 +1064,10 @@ CAPNP_INLINE void capnp_set_capability(const struct capnp_struct_builder *of, ui
     }
 }
 
-/* Where the number of `size` bytes at byte `offset` of a struct's data section is. Null if it isn't in the message. */
-CAPNP_INLINE uint8_t *capnp_field_to_set(const struct capnp_struct_builder *of, uint32_t offset, uint32_t size) {
-    const struct capnp_builder *message = of->message;
-    bool is_there = (uint64_t)of->place.at + of->place.data_words + of->place.pointers <= message->used &&
-                    (uint64_t)offset + size <= 8u * of->place.data_words && offset % size == 0;
-    return is_there ? message->bytes + 8 * (size_t)of->place.at + offset : NULL;
+/* Whether the message has the number of `size` bytes at byte `offset` of a struct's data section. */
+CAPNP_INLINE bool capnp_has_field(const struct capnp_struct_builder *of, uint32_t offset, uint32_t size) {
+    return (uint64_t)of->place.at + of->place.data_words + of->place.pointers <= of->message->used &&
+           (uint64_t)offset + size <= 8u * of->place.data_words && offset % size == 0;
 }
 
 /* Write a field of the data section. `offset` is in bytes from its start, for a bool in bits; it is refused if it isn't a
@@ -1027,14 +1075,14 @@ CAPNP_INLINE uint8_t *capnp_field_to_set(const struct capnp_struct_builder *of, 
  * its member. */
 #define CAPNP_SET(NAME, TYPE)                                                                                              \
     CAPNP_INLINE void capnp_set_##NAME(const struct capnp_struct_builder *of, uint32_t offset, TYPE value, TYPE missing) { \
-        uint8_t *to = capnp_field_to_set(of, offset, (uint32_t)sizeof value);                                              \
+        struct capnp_builder *message = of->message;                                                                       \
         TYPE bits = (TYPE)(value ^ missing);                                                                               \
-        if (of->message->refusal != 0) return;                                                                             \
-        if (!to) {                                                                                                         \
-            of->message->refusal = CAPNP_NO_SUCH_PLACE;                                                                    \
-            return;                                                                                                        \
+        if (message->refusal != 0) return;                                                                                 \
+        if (capnp_has_field(of, offset, (uint32_t)sizeof value)) {                                                         \
+            memcpy(message->bytes + 8 * (size_t)of->place.at + offset, &bits, sizeof bits);                                \
+        } else {                                                                                                           \
+            message->refusal = CAPNP_NO_SUCH_PLACE;                                                                        \
         }                                                                                                                  \
-        memcpy(to, &bits, sizeof bits);                                                                                    \
     }
 CAPNP_SET(u8, uint8_t)
 CAPNP_SET(u16, uint16_t)

@@ -168,6 +168,8 @@ static void make(struct buffer *b, struct capnp_struct_at p) {
         break;
     case 4:
         answer = capnp_layout_get_struct_list(b->bytes, b->room, &b->used, place, index, data_words, pointers, &list);
+        /* a message that no call has built may have a list of too many elements without width */
+        is_too_large = answer == CAPNP_MESSAGE_TOO_LARGE;
         at = answer == 0 ? 1 : list.first.at | list.first.data_words | list.first.pointers | list.count | list.size;
         if (answer == 0 && list.size != 0) expect(list.size == CAPNP_STRUCT && list.first.data_words >= data_words && list.first.pointers >= pointers, "structs that are opened are wide enough");
         break;
@@ -192,22 +194,47 @@ static void make(struct buffer *b, struct capnp_struct_at p) {
     }
 }
 
-static void set_bytes(struct buffer *b, struct capnp_struct_at p) {
+/* The list of `count` bytes, those of the content and zeros, is behind the message, and the pointer leads there. All other
+ * bytes are as before. The pointer was null. */
+static void listed(const struct buffer *b, size_t pointer, const uint8_t *content, size_t size, size_t count) {
+    uint8_t wanted[ROOM];
+    size_t words = (count + 7) / 8, i;
+    uint64_t word = 1 | (uint64_t)(uint32_t)((b->was - (uint32_t)pointer - 1) << 2) | (uint64_t)2 << 32 | (uint64_t)count << 35;
+    memcpy(wanted, b->old, b->room);
+    for (i = 0; i < 8; i++) wanted[8 * pointer + i] = (uint8_t)(word >> (8 * i));
+    for (i = 0; i < 8 * words; i++) wanted[8 * (size_t)b->was + i] = i < size ? content[i] : 0;
+    expect(b->used == b->was + words && memcmp(wanted, b->bytes, b->room) == 0, "bytes and their pointer are written");
+}
+
+static bool is_null(const struct buffer *b, size_t pointer) {
+    static const uint8_t zeros[8];
+    return memcmp(b->old + 8 * pointer, zeros, 8) == 0;
+}
+
+static void set_bytes(struct buffer *b) {
     uint8_t content[80];
-    size_t size = below(sizeof content + 1);
+    size_t size = below(sizeof content + 1), i;
+    uint64_t pointer = below(8) ? below(30) : below(2) ? some() : any();
+    bool is_placed = is_message(b) && pointer < b->was, is_text = below(2);
+    uint32_t answer;
+    for (i = 0; i < sizeof content; i++) content[i] = (uint8_t)any();
+    if (is_text) answer = capnp_layout_set_text(b->bytes, b->room, &b->used, pointer, content, size);
+    else answer = capnp_layout_set_data(b->bytes, b->room, &b->used, pointer, content, size);
+    answered(b, answer, is_placed);
+    expect(answer != CAPNP_MESSAGE_TOO_LARGE, "nothing short is too large");
+    if (answer == 0 && is_null(b, (size_t)pointer)) listed(b, (size_t)pointer, content, size, size + is_text);
+    if (is_placed && answer != 0) expect((size + is_text + 7) / 8 > b->room / 8 - b->was, "bytes are refused only without room");
+}
+
+static void set_pointer(struct buffer *b, struct capnp_struct_at p) {
     uint64_t place = capnp_place(p);
     uint16_t index = few();
     bool is_placed = has_struct(b, p) && index < p.pointers;
-    uint32_t answer = 0;
-    memset(content, 'x', sizeof content);
-    switch (below(4)) {
-    case 0: answer = capnp_layout_set_text(b->bytes, b->room, &b->used, place, index, content, size); break;
-    case 1: answer = capnp_layout_set_data(b->bytes, b->room, &b->used, place, index, content, size); break;
-    case 2: answer = capnp_layout_clear(b->bytes, b->room, b->used, place, index); break;
-    default: answer = capnp_layout_set_capability(b->bytes, b->room, b->used, place, index, some()); break;
-    }
+    uint32_t answer;
+    if (below(2)) answer = capnp_layout_clear(b->bytes, b->room, b->used, place, index);
+    else answer = capnp_layout_set_capability(b->bytes, b->room, b->used, place, index, some());
     answered(b, answer, is_placed);
-    expect(answer != CAPNP_MESSAGE_TOO_LARGE, "nothing short is too large");
+    expect(answer != CAPNP_MESSAGE_TOO_LARGE, "no pointer is too large");
 }
 
 static void round_of(void) {
@@ -228,10 +255,11 @@ static void round_of(void) {
         if (below(4) == 0) p.at = 0, p.data_words = 0, p.pointers = 1;
         b.was = b.used;
         memcpy(b.old, b.bytes, b.room);
-        switch (below(4)) {
+        switch (below(5)) {
         case 0: set_field(&b, p); break;
         case 1: set_element(&b); break;
-        case 2: set_bytes(&b, p); break;
+        case 2: set_bytes(&b); break;
+        case 3: set_pointer(&b, p); break;
         default: make(&b, p); break;
         }
     }

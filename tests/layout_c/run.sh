@@ -187,6 +187,15 @@ lists() {
     sanitized "$1" "$2" lists <"$work/message" >"$work/said" && diff "$here/lists.txt" "$work/said"
 }
 
+# What the other library makes of a frame that was built: `capnp` makes the same bytes of it, and the digest is theirs.
+finished() {
+    gcc -std=gnu11 -O0 -g $sanitizers -I"$top/bindings/c" -o "$work/finished" "$here/finished.c" "$folder/capnp_layout.c" "$top/generated/capnp_canonical.c" || return 1
+    mkdir -p "$work/built" && "$work/finished" "$work/built" >"$work/said" && cd "$work/built" || return 1
+    capnp convert binary:packed <frame | cmp - packed || return 1
+    capnp convert binary:canonical <frame | cmp - words || return 1
+    { echo "$(($(wc -c <frame) / 8 - 2)) words" && echo 'not canonical' && sha256sum words | cut -d ' ' -f 1; } | diff - "$work/said"
+}
+
 beside() {
     mkdir -p "$work/cpp" && cp "$top/tests/typed/addressbook.capnp" "$work" && cd "$work" && capnp compile -oc++:cpp addressbook.capnp &&
         cc -std=gnu11 -O1 -g -fsanitize=address,undefined -I"$top/bindings/c" -c -o layout.o "$folder/capnp_layout.c" &&
@@ -244,6 +253,11 @@ for compiler in g++ clang++; do
     if has $compiler; then part "$compiler, no warnings" header_cpp $compiler; else skip "$compiler" compiler; fi
 done
 if has gcc nm; then part 'names' names gcc; fi
+if has capnp gcc sha256sum && grep -q '^uint32_t capnp_canonical_pack(' "$top/generated/capnp_canonical.c"; then
+    part 'with the other library' finished
+else
+    skip 'with the other library' 'gcc, capnp or capnp_canonical_pack'
+fi
 if has capnp c++ && [ -f /usr/include/capnp/serialize.h ]; then
     summed 'beside C++' beside
     summed 'building, beside C++' built_beside

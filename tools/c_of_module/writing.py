@@ -10,6 +10,8 @@ COMPARED = {'eq': '==', 'ne': '!=', 'lt': '<', 'le': '<=', 'gt': '>', 'ge': '>='
 # Intrinsics: those that move or set blocks of memory, and functions of numbers, each with its number of arguments.
 BLOCKS = 'memset.p0.i64', 'memmove.p0.p0.i64', 'memcpy.p0.p0.i64'
 NUMBERS = {'abs': 1, 'ctpop': 1, 'cttz': 1, 'ctlz': 1, 'bswap': 1, 'umin': 2, 'umax': 2, 'smin': 2, 'smax': 2, 'uadd.sat': 2, 'usub.sat': 2, 'fshl': 3, 'fshr': 3}
+# One of two constant numbers, as `do_select` writes it.
+EITHER = re.compile(r'\((\(.*\)) \? (\d+ull) : (\d+ull)\)')
 # The size of the largest block that is moved by reading all of it before writing any.
 MOVED = 64
 
@@ -321,6 +323,10 @@ class Writer:
             return self.define(name, 'ptr', offset(text, bytes_) if is_inside else away(text, constant(by, str(bytes_))), reads)
         more, further = self.get(by, index)
         more = f'{step} * {more}' if step > 1 else more
+        # one of two pointers, which compilers choose in fewer instructions than one of two distances
+        if (either := EITHER.fullmatch(more)) and not is_inside and re.fullmatch(r'\w+', text):
+            condition, one, other = either.groups()
+            return self.define(name, 'ptr', f'({condition} ? {away(text, one)} : {away(text, other)})', reads or further)
         self.define(name, 'ptr', f'({text} + (i64)({more}))' if is_inside else away(text, more), reads or further)
 
     def do_load(self, it, name):

@@ -24,14 +24,16 @@ use Rattle.capnp_readers.specs.declared.readers.list_reader.ListPlace.{ListPlace
 use Rattle.capnp_readers.specs.Readers.{IsStructPlace, IsListPlace}
 use Rattle.capnp_readers.specs.declared.readers.struct_reader.StructPlace.{StructPlace}
 use Rattle.capnp_making.specs.Makes.{Allocates, CallAt, MakesObject, call_at}
+use Rattle.capnp_contents.proofs.Growing.{object_grows}
+use Rattle.capnp_builders.proofs.HeldMade.{child_made}
 use Rattle.capnp_contents.specs.Anew.{OnlyWrites}
 use Rattle.capnp_contents.specs.Rooms.{OpeningFits, UsesMemory}
 use Rattle.capnp_contents.specs.Widened.{IsAtLeast}
 use Rattle.capnp_format.specs.Path.{put_tree}
 use Rattle.capnp_readers.specs.Sections.{elements_words}
-use Rattle.capnp_layout_c.specs.Buffers.{Gives, buffer, placed_list, pointer_of, sized_at, placed_struct, view_in, words_in}
+use Rattle.capnp_layout_c.specs.Buffers.{Buffer, Gives, buffer, placed_list, pointer_of, sized_at, placed_struct, view_in, words_in}
 use Rattle.capnp_layout_c.specs.BuildingNumbers.{number_of_result}
-use Rattle.capnp_layout_c.specs.Builds.{BuildsAt, OpensAt, PutsIn, WritesElement, WritesIn, call_of, existing_at}
+use Rattle.capnp_layout_c.specs.Builds.{BuildsAt, MakesAt, OpensAt, PutsIn, WritesElement, WritesIn, call_of, existing_at}
 use Rattle.capnp_layout_c.specs.declared.building.places.ListAt.{ListAt}
 use Rattle.capnp_layout_c.specs.declared.building.places.StructAt.{StructAt}
 
@@ -263,6 +265,30 @@ element_start list i first size e same is =
     subst (λ s. first + i * (size.data_words + size.pointers) ≡ (element_place s list i).byte / 8) (sym e)
     (subst (λ n. first + i * n ≡ (8 * (list.byte / 8 + i * (list.struct_size.data_words + list.struct_size.pointers))) / 8) (ap both same)
     (let k : ℕ = i * (list.struct_size.data_words + list.struct_size.pointers) in omega (arith, is)))
+
+-- A word inside of the message is a place of the arena.
+pub word_there : (a : Arena) (used at : ℕ) → a.used ≡ used → at < used → IsPlace (view a).words 0 at
+word_there a used at u h = omega (arith, allocated_words Slice.ghosts a, u, h)
+
+-- An object that is made at the word of a pointer of a struct is the pointer's new child.
+pub built_at : {A : Type 0} (number at n i : ℕ) (b : Buffer) (p : StructAt) (t : Tree) → i < p.pointers →
+    at ≡ pointer_of p i → Gives A number b (MakesAt at t n) → Gives A number b (BuildsAt p i t n)
+built_at {A} number at n i b p t inside e g =
+    let old : View = view_in g.name 0 b.old b.from in
+    let new : View = view_in g.name g.refusals b.new b.used in
+    let object : MakesObject g.found (call_at 0 (pointer_of p i) old new) t n =
+    subst (λ k. MakesObject g.found (call_at 0 k old new) t n) e g.does.object in
+    record {
+      found = g.found;
+      name = g.name;
+      refusals = g.refusals;
+      is = g.is;
+      does = record {
+        object = object;
+        child = child_made g.found old new (placed_struct p) i t n inside object;
+        grows = object_grows g.found object;
+      };
+    }
 
 -- A struct inside of the message is in the arena.
 pub place_there : (a : Arena) (used : ℕ) (p : StructAt) (place : StructPlace) → a.used ≡ used →

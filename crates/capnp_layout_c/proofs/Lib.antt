@@ -7,6 +7,7 @@ pub mod ElementsFound
 pub mod FrameCases
 pub mod Insides
 pub mod LentWords
+pub mod NearLists
 pub mod OwnPlace
 pub mod Shown
 pub mod Unlimited

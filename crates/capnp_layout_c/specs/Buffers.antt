@@ -73,6 +73,10 @@ IsStructIn bytes used p = IsMessage bytes used × (p.at + p.data_words + p.point
 abbrev pub IsPointerIn : List ℕ → ℕ → StructAt → ℕ → Type 0
 IsPointerIn bytes used p i = IsStructIn bytes used p × (i < p.pointers)
 
+-- Word `at` is inside of the message.
+abbrev pub IsWordIn : List ℕ → ℕ → ℕ → Type 0
+IsWordIn bytes used at = IsMessage bytes used × (at < used)
+
 -- Element i of the list is inside of the message, and so is the list.
 abbrev pub IsElementIn : List ℕ → ℕ → ElementSize → ListAt → ℕ → Type 0
 IsElementIn bytes used size l i =

@@ -33,6 +33,12 @@ pub record BuildsAt {A : Type 0} (p : StructAt) (i : ℕ) (t : Tree) (n : ℕ) (
   pub child : MakesChild r (call_in (placed_struct p) old.words new.words) i t
   pub grows : Grows old.words new.words
 
+-- The call makes the pointer at this word lead to a new object, and changes nothing else. If it is
+-- refused, the pointer is null afterwards.
+pub record MakesAt {A : Type 0} (at : ℕ) (t : Tree) (n : ℕ) (r : Result A ErrorKind)
+    (old new : View) : Type 0 where
+  pub object : MakesObject r (call_at 0 at old new) t n
+
 -- The same, for the root pointer.
 pub record BuildsRoot {A : Type 0} (t : Tree) (n : ℕ) (r : Result A ErrorKind) (old new : View)
     : Type 0 where

@@ -9,6 +9,7 @@
 mod copies;
 mod elements;
 mod fields;
+mod near;
 mod numbers;
 mod objects;
 mod opening;

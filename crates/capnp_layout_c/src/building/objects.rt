@@ -14,8 +14,11 @@ ghost use Rattle.capnp_layout_c.specs.BuildingNumbers.{bad_place, too_large};
 ghost use Rattle.capnp_layout_c.specs.Builds.{BuildsAt, BuildsRoot};
 ghost use Rattle.capnp_layout_c.specs.Lists.{listed_at};
 
+use crate::building::near::put_structs;
 use crate::building::numbers::{BAD_PLACE, TOO_LARGE, number_of};
-use crate::building::places::{ROOT, StructAt, element_size, has_pointer, has_struct, word_of};
+use crate::building::places::{
+    ROOT, StructAt, element_size, has_null_and_room, has_pointer, has_struct, word_of,
+};
 use capnp_builders::fields;
 use capnp_lent_arena::lent_arena::LentArena;
 use capnp_numbers::NO_ROOM;
@@ -132,6 +135,59 @@ pub extern "C" fn capnp_layout_init_struct(
 /// is null. Also refuses 2^29 structs or more, and structs of 2^29 words or more together.
 #[unsafe(no_mangle)]
 pub extern "C" fn capnp_layout_init_struct_list(
+    bytes: &mut [u8],
+    used: &mut u32,
+    place: StructAt,
+    index: u16,
+    count: u32,
+    data_words: u16,
+    pointers: u16,
+    first: &mut u32,
+) -> u32
+    ensures builds { IsPointerIn bytes.old used.old place index → count < 2 ^ 29
+        → count * (data_words + pointers) < 2 ^ 29
+        → Gives ListPlace result (buffer bytes.old used.old bytes.new used.new)
+        (BuildsAt place index (zero_structs count (sized data_words pointers))
+        (1 + count * (data_words + pointers))) }
+    ensures made { (x : Holder) (ws : List ℕ) (ts : Trees) (i : ℕ) → i < count
+        → HasStruct (words_in bytes.old used.old) x (placed_struct place) ws ts → result ≡ 0
+        → HasStruct (words_in bytes.new used.new)
+        (element_of 0 (pointer_of place index) (sized data_words pointers)
+        (zero_elements data_words pointers count) i)
+        (placed_struct (sized_at (first.new + i * (data_words + pointers)) data_words pointers))
+        (words_of_zero data_words) (nulls pointers) }
+    ensures misplaced { (IsPointerIn bytes.old used.old place index → ⊥)
+        → Refuses result bad_place (buffer bytes.old used.old bytes.new used.new) }
+    ensures many { IsPointerIn bytes.old used.old place index → 2 ^ 29 ≤ count
+        → Refuses result too_large (buffer bytes.old used.old bytes.new used.new) }
+    ensures large { IsPointerIn bytes.old used.old place index
+        → 2 ^ 29 ≤ count * (data_words + pointers)
+        → Refuses result too_large (buffer bytes.old used.old bytes.new used.new) }
+    ensures none { result ≢ 0 → first.new ≡ 0 }
+{
+    if has_pointer(bytes, *used, place, index) {
+        let at = place.at + u32::from(place.data_words) + u32::from(index);
+        let words = u64::from(count) * (u64::from(data_words) + u64::from(pointers));
+        if count < 0x2000_0000 && has_null_and_room(bytes, *used, at, 1 + words) {
+            let size = StructSize {
+                data_words,
+                pointers,
+            };
+            let mut arena = LentArena::new(bytes, *used);
+            let start = put_structs(&mut arena, 0, at, count, size);
+            *used = arena.used();
+            *first = start.at + 1;
+            return 0;
+        }
+    }
+    init_any_struct_list(
+        bytes, used, place, index, count, data_words, pointers, first,
+    )
+}
+
+/// Makes the list like `capnp_layout_init_struct_list`.
+#[inline(never)]
+fn init_any_struct_list(
     bytes: &mut [u8],
     used: &mut u32,
     place: StructAt,

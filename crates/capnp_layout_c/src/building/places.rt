@@ -1,13 +1,16 @@
 //! Places as C has them.
-ghost use Rattle.std.specs.Prelude.{◌≡◌, ◌<◌, ◌≤◌, ◌+◌, ◌*◌, ◌/◌, ◌^◌, ◌↔◌, ℕ, length, IsTrue};
+ghost use Rattle.std.specs.Prelude.{◌≡◌, ◌<◌, ◌≤◌, ◌+◌, ◌*◌, ◌/◌, ◌^◌, ◌↔◌, ℕ, length, min, slice_index, IsTrue};
+ghost use Rattle.capnp_arena_traits.specs.Allocations.{max_segment_words};
+ghost use Rattle.capnp_format.specs.Bytes.{words_of};
 ghost use Rattle.capnp_words.specs.Sizes.{size_number};
 ghost use Rattle.capnp_contents.specs.Existing.{size_of};
-ghost use Rattle.capnp_layout_c.specs.Buffers.{IsMessage, IsPointerIn, IsStructIn, placed_list, placed_struct};
+ghost use Rattle.capnp_layout_c.specs.Buffers.{IsMessage, IsPointerIn, IsStructIn, IsWordIn, placed_list, placed_struct};
 ghost use Rattle.capnp_layout_c.specs.Lists.{elements_of_found};
 
 use capnp_contents::existing::ExistingList;
 use capnp_readers::readers::{ListPlace, StructPlace};
 use capnp_words::wire_pointer::{ElementSize, StructSize};
+use capnp_words::words;
 
 /// Where a struct is: the word at which its data starts, and the sizes of its two sections. Its
 /// pointers come right after its data.
@@ -138,6 +141,37 @@ pub(crate) fn has_pointer(bytes: &[u8], used: u32, place: StructAt, index: u16) 
     ensures { IsTrue result ↔ IsPointerIn bytes.now used place index }
 {
     has_struct(bytes, used, place) && index < place.pointers
+}
+
+/// Whether the first `used` words of `bytes` can be a message, and have word `at`.
+pub(crate) fn has_word(bytes: &[u8], used: u32, at: u64) -> bool
+    ensures { IsTrue result ↔ IsWordIn bytes.now used at }
+{
+    let words = (bytes.len() / 8).min(0x1fff_ffff);
+    used as usize <= words && at < u64::from(used)
+}
+
+/// Whether the first `used` words of `bytes` can be a message, and word `at` of it is zero, as a null
+/// pointer is.
+#[inline(always)]
+pub(crate) fn has_null(bytes: &[u8], used: u32, at: u64) -> bool
+    ensures { IsTrue result
+        ↔ (IsWordIn bytes.now used at × (slice_index (words_of bytes.now) at ≡ 0)) }
+{
+    has_word(bytes, used, at) && words::word_at(bytes, at as usize) == 0
+}
+
+/// Whether word `at` of the first `used` words of `bytes` is zero, and `words` more words have room
+/// after them. Precondition: the first `used` words can be a message, and have word `at`.
+#[inline(always)]
+pub(crate) fn has_null_and_room(bytes: &[u8], used: u32, at: u32, words: u64) -> bool
+    requires { IsWordIn bytes.now used at }
+    ensures { IsTrue result
+        ↔ ((slice_index (words_of bytes.now) at ≡ 0)
+        × (used + words ≤ min (length bytes.now / 8) max_segment_words)) }
+{
+    let most = (bytes.len() / 8).min(0x1fff_ffff);
+    words <= (most - used as usize) as u64 && words::word_at(bytes, at as usize) == 0
 }
 
 impl StructAt {

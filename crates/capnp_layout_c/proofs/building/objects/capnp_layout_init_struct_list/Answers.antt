@@ -1,27 +1,30 @@
-use Rattle.std.proofs.Common.{◌+◌, ◌*◌, refl, sym, subst, rules, arith}
-use Rattle.std.specs.Prelude.{Ok, Err}
+use Rattle.std.proofs.Common.{ℕ, List, MutBor, ap, refl, sym, rules, arith}
 use Rattle.capnp_words.specs.Sizes.{sized}
-use Rattle.capnp_making.specs.Made.{nulls, words_of_zero, zero_elements, zero_structs}
-use Rattle.capnp_readers.specs.declared.readers.struct_reader.StructPlace.{StructPlace}
-use Rattle.capnp_builders.specs.Held.{HasStruct, element_of}
-use Rattle.capnp_builders.specs.Places.{element_place}
-use Rattle.capnp_layout_c.specs.Buffers.{sized_at, placed_struct}
-use Rattle.capnp_layout_c.proofs.BuildingCalls.{Tie, element_segment, element_start, gives_built, in_buffer, kept_at, list_byte, made_at, place_there, view}
+use Rattle.capnp_layout_c.proofs.BuildingCalls.{Tie, word_there}
+use Rattle.capnp_layout_c.proofs.NearLists.{gives_structs, null_there, room_there, structs_there}
 use Rattle.capnp_layout_c.proofs.building.objects.capnp_layout_init_struct_list.Goals as goal
 
-pub init_struct_list-result-requires-clause-inside : goal.init_struct_list-result-requires-clause-inside
-init_struct_list-result-requires-clause-inside c =
-    place_there c.new-arena.result c.args.used.now c.args.place c.place.result c.new-arena.ensures.used
-    (c.has_pointer.ensures.0 (search rules)).0.1 c.place.ensures
+pub put_structs-start-requires-clause-place : goal.put_structs-start-requires-clause-place
+put_structs-start-requires-clause-place c =
+    let there = c.has_pointer.ensures.0 (search rules) in
+    word_there c.new-arena.result c.args.used.now _ c.new-arena.ensures.used (omega (arith, there.0.1, there.1, c.from.ensures, c.from-then-has_pointer.ensures))
 
-pub word_of-requires : goal.word_of-requires
-word_of-requires c = list_byte c.init_struct_list-result.new.arena c.in-Ok.made c.in-Ok.ensures.inside
+pub put_structs-start-requires-clause-null : goal.put_structs-start-requires-clause-null
+put_structs-start-requires-clause-null c =
+    let there = c.has_pointer.ensures.0 (search rules) in
+    let free = c.has_null_and_room.ensures.0 (search rules) in
+    null_there c.new-arena.result c.args.bytes.now c.args.used.now _ (ap (λ (s : MutBor (List ℕ)). s.now) c.new-arena.ensures.bytes) c.new-arena.ensures.used c.new-arena.ensures.refused
+    there.0.0.0 (omega (arith, there.0.1, there.1, c.from.ensures, c.from-then-has_pointer.ensures)) free.0
 
-pub returns-in-Ok-clause-builds : goal.returns-in-Ok-clause-builds
-returns-in-Ok-clause-builds c _ _ _ =
-    let a = c.new-arena.result in
-    let b = c.init_struct_list-result.new.arena in
-    let tie : Tie a b c.args.bytes.now _ c.args.used.now c.used.result = record {
+pub put_structs-start-requires-clause-room : goal.put_structs-start-requires-clause-room
+put_structs-start-requires-clause-room c =
+    let free = c.has_null_and_room.ensures.0 (search rules) in
+    room_there c.new-arena.result c.args.bytes.now c.args.used.now _ (ap (λ (s : MutBor (List ℕ)). s.now) c.new-arena.ensures.bytes) c.new-arena.ensures.used
+    (rw (c.from-then-has_pointer-2.ensures, c.from-then-has_pointer-3.ensures, c.from-then-has_pointer-4.ensures) at free.1)
+
+pub returns-then-has_null_and_room-clause-builds : goal.returns-then-has_null_and_room-clause-builds
+returns-then-has_null_and_room-clause-builds c there _ _ =
+    let tie : Tie c.new-arena.result c.put_structs-start.new.arena c.args.bytes.now _ c.args.used.now c.used.result = record {
       lent = _;
       is = c.new-arena.ensures.bytes;
       was = refl;
@@ -30,14 +33,13 @@ returns-in-Ok-clause-builds c _ _ _ =
       used_is = sym c.used.ensures;
       back = c.bytes-1.given.1.1;
     } in
-    let e = c.in-Ok.ensures in
-    gives_built tie (Ok c.in-Ok.made) c.place.result c.args.place c.args.index (zero_structs c.args.count (sized c.args.data_words c.args.pointers)) _ 0 c.place.ensures refl e.object e.child e.grows
+    gives_structs tie c.args.place c.args.index c.args.count (sized c.args.data_words c.args.pointers) c.put_structs-start.result there.1
+    (rw (c.from.ensures, c.from-then-has_pointer.ensures) at c.put_structs-start.ensures.gives)
 
-pub returns-in-Err-clause-builds : goal.returns-in-Err-clause-builds
-returns-in-Err-clause-builds c _ _ _ =
-    let a = c.new-arena.result in
-    let b = c.init_struct_list-result.new.arena in
-    let tie : Tie a b c.args.bytes.now _ c.args.used.now c.used.result = record {
+pub returns-then-has_null_and_room-clause-made : goal.returns-then-has_null_and_room-clause-made
+returns-then-has_null_and_room-clause-made c x ws ts i below has _ =
+    let there = c.has_pointer.ensures.0 (search rules) in
+    let tie : Tie c.new-arena.result c.put_structs-start.new.arena c.args.bytes.now _ c.args.used.now c.used.result = record {
       lent = _;
       is = c.new-arena.ensures.bytes;
       was = refl;
@@ -46,38 +48,5 @@ returns-in-Err-clause-builds c _ _ _ =
       used_is = sym c.used.ensures;
       back = c.bytes-1.given.1.1;
     } in
-    let e = c.in-Err.ensures in
-    gives_built tie (Err c.in-Err.kind) c.place.result c.args.place c.args.index (zero_structs c.args.count (sized c.args.data_words c.args.pointers)) _ _ c.place.ensures c.number_of.ensures.number e.object e.child e.grows
-
-pub returns-in-Ok-clause-made : goal.returns-in-Ok-clause-made
-returns-in-Ok-clause-made c x ws ts i below has _ =
-    let a = c.new-arena.result in
-    let b = c.init_struct_list-result.new.arena in
-    let tie : Tie a b c.args.bytes.now _ c.args.used.now c.used.result = record {
-      lent = _;
-      is = c.new-arena.ensures.bytes;
-      was = refl;
-      from_is = c.new-arena.ensures.used;
-      fresh = c.new-arena.ensures.refused;
-      used_is = sym c.used.ensures;
-      back = c.bytes-1.given.1.1;
-    } in
-    let list = c.in-Ok.made in
-    let p = c.args.place in
-    let d = c.args.data_words in
-    let q = c.args.pointers in
-    let e = c.in-Ok.ensures in
-    in_buffer tie (λ S T. HasStruct S x (placed_struct p) ws ts → HasStruct T
-    (element_of 0 (p.at + p.data_words + c.args.index) (sized d q) (zero_elements d q c.args.count) i)
-    (placed_struct (sized_at (c.word_of.result + i * (d + q)) d q)) (words_of_zero d) (nulls q))
-    (kept_at tie (Ok list) c.place.result.segment (c.place.result.pointers_at + c.args.index) _ _ e.object)
-    (λ h. made_at (view b).words (element_of 0 (p.at + p.data_words + c.args.index) (sized d q) (zero_elements d q c.args.count) i)
-    (element_place list.size list i) (c.word_of.result + i * (d + q)) d q
-    (element_segment list i e.size e.inside.0) (element_start list i c.word_of.result (sized d q) e.size e.sections c.word_of.ensures)
-    (subst (λ (y : StructPlace). HasStruct (view b).words (element_of y.segment (y.pointers_at + c.args.index) (sized d q) (zero_elements d q c.args.count) i)
-    (element_place list.size list i) (words_of_zero d) (nulls q))
-    c.place.ensures (e.made x ws ts i below (rw c.place.ensures h))))
-    has
-
-pub returns-in-Err-clause-made : goal.returns-in-Err-clause-made
-returns-in-Err-clause-made c x ws ts i below has none = absurd (omega (arith, none, c.number_of.ensures.some))
+    structs_there tie c.args.place c.args.index c.args.count i (sized c.args.data_words c.args.pointers) c.put_structs-start.result x ws ts there.1 below c.put_structs-start.ensures.segment
+    (rw (c.from.ensures, c.from-then-has_pointer.ensures) at c.put_structs-start.ensures.gives) has
