@@ -24,6 +24,19 @@ impl Type {
         self.base
     }
 
+    /// Whether a field of the type is in its struct's pointer section.
+    pub fn is_pointer(self) -> bool {
+        self.lists > 0
+            || matches!(
+                self.base.kind,
+                BaseKind::Text
+                    | BaseKind::Data
+                    | BaseKind::Struct
+                    | BaseKind::Capability
+                    | BaseKind::Pointer
+            )
+    }
+
     /// Whether a field of the type has no value.
     pub fn is_void(self) -> bool {
         self.lists == 0 && matches!(self.base.kind, BaseKind::Void)
