@@ -9,14 +9,16 @@ The parts, by default all of them:
   as rustfmt writes them. With `--write` it writes these files.
 - `package`: the package `rust` is built without a warning of rustc and clippy, and its tests pass.
 - `fields`: a program over the code for `fields.capnp` prints M random messages (by default 300), made by `capnp encode`, as
-  `capnp decode` prints them, lazily and after a check. It copies them field by field: `capnp decode` prints the copies as it
-  prints the messages, and C++ makes the same canonical words of both.
+  `capnp decode` prints them: lazily, after a check without the schema, and after one against it. It copies them field by field:
+  `capnp decode` prints the copies as it prints the messages, and C++ makes the same canonical words of both. Then bits of
+  the messages are altered. After a yes of the check against the schema, checked readers read what lazy ones do; after a
+  no, something of the message is refused by another reader.
 - `random`: like `fields`, for N random schemas (by default 3) of S structs (by default 20). Each struct in turn is the root of a
   message.
 - `versions`: the code of an old version of a random schema, without the last fields of its structs, and that of the new one
-  print messages of each other.
+  print and check messages of each other.
 - `bugs`: a program over the code of `fields.capnp` with a planted bug, one of each kind, isn't compiled, or prints or copies
-  something else.
+  something else, or its readers disagree.
 - `odd`: schemas with odd names and declarations are compiled without a warning.
 
 The generator is by default `capnpc-layout-rust` at the top. The last line is `N passed, M failed`."""
@@ -26,6 +28,8 @@ import pathlib
 import subprocess
 import sys
 import tempfile
+from collections import Counter
+from random import Random
 
 import messages
 import rust_program
@@ -73,6 +77,22 @@ BUGS = (
     ('variant', 'enum Colour', '0 => Self::Red,\n            1 => Self::Green', '1 => Self::Red,\n            0 => Self::Green'),
     ('number', 'for u16 {', 'Colour::Red => 0,\n            Colour::Green => 1', 'Colour::Red => 1,\n            Colour::Green => 0'),
     ('cleared', 'fn init_side(', 'self.0.set', 'self.0.set(0, 1u8);\n            self.0.set'),
+    ('table: a text as any', 'const TABLE', '36, 3, 3, 4, 4,', '36, 0, 3, 4, 4,'),
+    ('table: a text as data', 'const TABLE', '36, 3, 3, 4, 4,', '36, 4, 3, 4, 4,'),
+    ('table: a text that needn\'t be UTF-8', 'const TABLE', '36, 3, 3, 4, 4,', '36, 2, 3, 4, 4,'),
+    ('table: data as text', 'const TABLE', '36, 3, 3, 4, 4,', '36, 3, 3, 3, 4,'),
+    ('table: the row of a struct', 'const TABLE', '4, 4, 21, 133,', '4, 4, 21, 21,'),
+    ('table: the size of elements', 'const TABLE', '0, 8, 9, 10, 11,', '0, 8, 9, 10, 10,'),
+    ('table: wider elements', 'const TABLE', '0, 8, 9, 10, 11,', '0, 8, 9, 11, 11,'),
+    ('table: a list of structs as any list', 'const TABLE', ' 31, 798, 830,', ' 6, 798, 830,'),
+    ('table: elements of a list of lists', 'const TABLE', ' 798, 830,', ' 766, 830,'),
+    ('table: the offset of a tag', 'const TABLE', '27, 3, 31, 951', '26, 3, 31, 951'),
+    ('table: the number of a member', 'const TABLE', '27, 3, 31, 951', '27, 5, 31, 951'),
+    ('table: a member', 'const TABLE', '27, 3, 31, 951', '27, 3, 0, 951'),
+    ('table: the members after one', 'const TABLE', '27, 3, 31, 951', '27, 3, 31, 0'),
+    ('table: fewer pointers', 'const TABLE', ' 36, 3, 3, 4, 4,', ' 35, 3, 3, 4, 4,'),
+    ('row', 'impl g::StructType for Root', 'ROW: u32 = 8', 'ROW: u32 = 1'),
+    ('row', 'impl g::StructType for Root', 'ROW: u32 = 8', 'ROW: u32 = 0'),
 )
 
 
@@ -112,7 +132,7 @@ class Generated(run.Programs):
         return built
 
     def run(self, program, frames):
-        ran = subprocess.run([self.target / 'debug' / self.stem, {'printer': 'print', 'copier': 'copy'}[program]], input=b''.join(frames), stdout=subprocess.PIPE, stderr=subprocess.PIPE)
+        ran = subprocess.run([self.target / 'debug' / self.stem, {'printer': 'print', 'copier': 'copy', 'checker': 'check'}[program]], input=b''.join(frames), stdout=subprocess.PIPE, stderr=subprocess.PIPE)
         if ran.returncode and not self.is_quiet:
             print(ran.stderr.decode(errors='replace')[-3000:])
         return ran.stdout.decode(errors='replace').splitlines()
@@ -122,6 +142,28 @@ class Generated(run.Programs):
             frames = messages.frames(self.schema, self.roots, count, seed)
             self.read(frames, '', counts)
             self.copy(frames, counts)
+            self.check(frames, seed, counts)
+
+    def check(self, frames, seed, counts):
+        """Whether all readers agree on altered messages."""
+        answers = self.run('checker', frames)
+        counts.say(answers == ['yes'] * len(frames), f'{self.file}: the check says yes to {len(frames)} messages')
+        random = Random(seed)
+        answers = self.run('checker', [altered(it, random) for it in frames * 10])
+        found = Counter(answers)
+        agree = len(answers) == 10 * len(frames) and set(found) <= {'yes', 'no'} and min(found['yes'], found['no']) > 0
+        said = f'{self.file}: all readers agree on {len(answers)} altered messages, of which {found["no"]} are refused'
+        counts.say(agree, said if agree else f'{self.file}: {[it for it in found if it not in ("yes", "no")][:3]} {found["yes"]} {found["no"]} {len(answers)}')
+
+
+def altered(frame, random):
+    """A frame with some altered bits after its table of segments."""
+    table = 8 * (int.from_bytes(frame[:4], 'little') // 2 + 1)
+    made = bytearray(frame)
+    for _ in range(random.choice((1, 1, 2, 4))):
+        at = random.randrange(table, len(frame))
+        made[at] ^= 1 << random.randrange(8)
+    return bytes(made)
 
 
 def ours(options, room, counts):
@@ -160,7 +202,9 @@ def versions(options, room, counts):
     old, new = (Generated(options.generator, room / name, room / 'target', text, name, roots) for name, text in (('old', made.old), ('new', made.text)))
     if old.build(counts) and new.build(counts):
         for reader, writer in (old, new), (new, old):
-            reader.read(messages.frames(writer.schema, roots, options.messages, 9), f' of {writer.file}', counts)
+            frames = messages.frames(writer.schema, roots, options.messages, 9)
+            reader.read(frames, f' of {writer.file}', counts)
+            reader.check(frames, 9, counts)
 
 
 class Silent(run.Counts):
@@ -187,6 +231,7 @@ def bugs(options, room, counts):
         if made.build(silent):
             made.read(frames, '', silent)
             made.copy(frames, silent)
+            made.check(frames, 8, silent)
         found += silent.failed > 0
         if not silent.failed:
             counts.say(False, f'bugs: {what} of {call} is not found')

@@ -15,7 +15,7 @@ pub const CALLS: &[(&str, &str)] = &[
 ];
 
 /// Names of calls that fields can't have, since each struct has such calls.
-pub const CALL_WORDS: &[&str] = &["which"];
+pub const CALL_WORDS: &[&str] = &["which", "read_which"];
 
 /// Names that calls, modules and files can't have: words of Rust.
 pub const RUST_WORDS: &[&str] = &[
@@ -119,6 +119,8 @@ pub const ITEM_WORDS: &[&str] = &[
     "Hash",
     "SIZE",
     "DEFAULT",
+    "TABLE",
+    "NAMES",
     "M",
 ];
 

@@ -120,7 +120,7 @@ pub fn push_which_type(schema: &Schema<'_>, piece: &mut Piece, node: &Node, it: 
     values.put(
         "parameters",
         match parameters(schema, it) {
-            "<'a, M>" => "<'a, M: g::Meter = g::Sound>",
+            "<'a, M>" => "<'a, M: g::Meter = g::Typed>",
             other => other,
         },
     );

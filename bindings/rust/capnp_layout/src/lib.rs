@@ -60,6 +60,7 @@ extern crate alloc as rust_alloc;
 
 mod builder;
 mod building;
+mod checking;
 mod element;
 mod error;
 #[doc(hidden)]
@@ -88,7 +89,7 @@ pub use error::{Error, Reason};
 pub use list::{Iter, List};
 pub use list_building::ListBuilder;
 pub use message::{Checked, Limits, Message};
-pub use meter::{Lazy, Meter, Sound};
+pub use meter::{Lazy, Meter, Outcome, Sound, Typed};
 pub use reading::{Pointer, Struct, Target};
 pub use segments::Segments;
 pub use typed::{Enum, PointerBuilder, StructType, TypedBuilder};
