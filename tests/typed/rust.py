@@ -149,20 +149,22 @@ class Generated(run.Programs):
         answers = self.run('checker', frames)
         counts.say(answers == ['yes'] * len(frames), f'{self.file}: the check says yes to {len(frames)} messages')
         random = Random(seed)
-        answers = self.run('checker', [altered(it, random) for it in frames * 10])
+        answers = self.run('checker', [altered(it, random) for it in frames * 20])
         found = Counter(answers)
-        agree = len(answers) == 10 * len(frames) and set(found) <= {'yes', 'no'} and min(found['yes'], found['no']) > 0
+        agree = len(answers) == 20 * len(frames) and set(found) <= {'yes', 'no'} and min(found['yes'], found['no']) > 0
         said = f'{self.file}: all readers agree on {len(answers)} altered messages, of which {found["no"]} are refused'
         counts.say(agree, said if agree else f'{self.file}: {[it for it in found if it not in ("yes", "no")][:3]} {found["yes"]} {found["no"]} {len(answers)}')
 
 
 def altered(frame, random):
-    """A frame with some altered bits after its table of segments."""
+    """A frame with some altered bits after its table of segments: mostly in the first words, among which are the pointers of the
+    root, and of these mostly those that say what a pointer leads to."""
     table = 8 * (int.from_bytes(frame[:4], 'little') // 2 + 1)
-    made = bytearray(frame)
+    made, words = bytearray(frame), (len(frame) - table) // 8
     for _ in range(random.choice((1, 1, 2, 4))):
-        at = random.randrange(table, len(frame))
-        made[at] ^= 1 << random.randrange(8)
+        word = random.randrange(min(words, 64) if random.random() < .75 else words)
+        bit = random.choice((0, 1, 32, 33, 34)) if random.random() < .75 else random.randrange(64)
+        made[table + 8 * word + bit // 8] ^= 1 << bit % 8
     return bytes(made)
 
 

@@ -139,8 +139,9 @@ impl Error {
     /// The field of the schema that the refused pointer is, such as `Person.phones`; for an element
     /// of a list of texts, data or lists, the field that the list is. If several members of unions
     /// share the pointer, all of them are named: `Person.employment.employer or
-    /// employment.school`. `None` if the refusal isn't that of a check against a schema, or if the
-    /// schema doesn't know the pointer.
+    /// employment.school`. Only the struct, `Person`, if the schema doesn't know the pointer. `None`
+    /// if the refusal isn't that of a check against a schema, or is about a pointer that the schema
+    /// says nothing of.
     pub fn field(&self) -> Option<&str> {
         self.details.as_ref()?.field.as_deref()
     }
