@@ -5,8 +5,8 @@
 
 The parts, by default all of them:
 
-- `ours`: for `addressbook.capnp` and `fields.capnp` the generator writes the files of `rust/src`, byte for byte; and they are
-  as rustfmt writes them. With `--write` it writes these files.
+- `ours`: for `addressbook.capnp` and `fields.capnp` the generator writes the files of `rust/src`, and with `--values` those of
+  `rust/src/values`, byte for byte; and they are as rustfmt writes them. With `--write` it writes these files.
 - `package`: the package `rust` is built without a warning of rustc and clippy, and its tests pass.
 - `fields`: a program over the code for `fields.capnp` prints M random messages (by default 300), made by `capnp encode`, as
   `capnp decode` prints them: lazily, after a check without the schema, and after one against it. It copies them field by field:
@@ -25,6 +25,7 @@ The generator is by default `capnpc-layout-rust` at the top. The last line is `N
 import argparse
 import os
 import pathlib
+import shlex
 import subprocess
 import sys
 import tempfile
@@ -96,6 +97,14 @@ BUGS = (
 )
 
 
+def with_values(generator, room):
+    """A plug-in that calls the generator for plain values, since `capnp compile` passes no arguments."""
+    script = pathlib.Path(room) / 'with-values'
+    script.write_text(f'#!/bin/sh\nexec {shlex.quote(str(generator))} --values\n', encoding='utf-8')
+    script.chmod(0o755)
+    return script
+
+
 def generate(generator, path, folder):
     """Writes the code for a schema into a folder, and returns the names of its files' modules and what the generator says."""
     ran = subprocess.run(['capnp', 'compile', f'--src-prefix={pathlib.Path(path).parent}', f'-o{generator}:{folder}', path], stderr=subprocess.PIPE, encoding='utf-8')
@@ -122,7 +131,7 @@ class Generated(run.Programs):
         self.folder, self.target, self.file, self.stem = folder, target, path.name, stem
         self.schema = Schema(str(path))
         self.roots = roots or self.schema.structs()
-        (module,), _ = generate(generator, str(path), folder / 'src')
+        (module,), _ = generate(with_values(generator, folder), str(path), folder / 'src')
         (folder / 'Cargo.toml').write_text(MANIFEST.replace('"made"', f'"{stem}"'), encoding='utf-8')
         (folder / 'src/main.rs').write_text(rust_program.program(self.schema, module, self.roots), encoding='utf-8')
 
@@ -132,7 +141,7 @@ class Generated(run.Programs):
         return built
 
     def run(self, program, frames):
-        ran = subprocess.run([self.target / 'debug' / self.stem, {'printer': 'print', 'copier': 'copy', 'checker': 'check'}[program]], input=b''.join(frames), stdout=subprocess.PIPE, stderr=subprocess.PIPE)
+        ran = subprocess.run([self.target / 'debug' / self.stem, {'printer': 'print', 'copier': 'copy'}.get(program, program)], input=b''.join(frames), stdout=subprocess.PIPE, stderr=subprocess.PIPE)
         if ran.returncode and not self.is_quiet:
             print(ran.stderr.decode(errors='replace')[-3000:])
         return ran.stdout.decode(errors='replace').splitlines()
@@ -143,13 +152,21 @@ class Generated(run.Programs):
             self.read(frames, '', counts)
             self.copy(frames, counts)
             self.check(frames, seed, counts)
+            self.values(frames, counts)
+
+    def values(self, frames, counts):
+        """Whether what plain values are written as is read as what they were made from, but for empty texts and lists, which are null."""
+        answers = self.run('value', frames)
+        differing = [it for it in answers if it != 'same'][:1]
+        holds = len(answers) == len(frames) and not differing
+        counts.say(holds, f'{self.file}: {len(frames)} messages are copied by plain values' if holds else f'{self.file}: {differing} {len(answers)}')
 
     def check(self, frames, seed, counts):
         """Whether all readers agree on altered messages."""
-        answers = self.run('checker', frames)
+        answers = self.run('check', frames)
         counts.say(answers == ['yes'] * len(frames), f'{self.file}: the check says yes to {len(frames)} messages')
         random = Random(seed)
-        answers = self.run('checker', [altered(it, random) for it in frames * 20])
+        answers = self.run('check', [altered(it, random) for it in frames * 20])
         found = Counter(answers)
         agree = len(answers) == 20 * len(frames) and set(found) <= {'yes', 'no'} and min(found['yes'], found['no']) > 0
         said = f'{self.file}: all readers agree on {len(answers)} altered messages, of which {found["no"]} are refused'
@@ -169,14 +186,16 @@ def altered(frame, random):
 
 
 def ours(options, room, counts):
-    for stem in SCHEMAS:
-        folder = room / f'ours_{stem}'
-        folder.mkdir()
-        (module,), _ = generate(options.generator, str(HERE / f'{stem}.capnp'), folder)
-        made, kept = folder / f'{module}.rs', HERE / f'rust/src/{module}.rs'
+    for stem, place, generator in ((stem, place, generator) for stem in SCHEMAS
+                                   for place, generator in (('src', options.generator), ('src/values', with_values(options.generator, room)))):
+        folder = room / 'ours' / place / stem
+        folder.mkdir(parents=True)
+        (module,), _ = generate(generator, str(HERE / f'{stem}.capnp'), folder)
+        made, kept = folder / f'{module}.rs', HERE / 'rust' / place / f'{module}.rs'
         if options.write:
+            kept.parent.mkdir(exist_ok=True)
             kept.write_bytes(made.read_bytes())
-        counts.say(kept.is_file() and made.read_bytes() == kept.read_bytes(), f'{stem}.capnp: the file is tests/typed/rust/src/{kept.name}')
+        counts.say(kept.is_file() and made.read_bytes() == kept.read_bytes(), f'{stem}.capnp: the file is tests/typed/rust/{place}/{kept.name}')
         ran = subprocess.run(['rustfmt', '--edition', '2021', '--check', made], stdout=subprocess.PIPE, encoding='utf-8')
         counts.say(ran.returncode == 0, f'{stem}.capnp: the file is as rustfmt writes it' if ran.returncode == 0 else ran.stdout[:2000])
 
@@ -234,6 +253,7 @@ def bugs(options, room, counts):
             made.read(frames, '', silent)
             made.copy(frames, silent)
             made.check(frames, 8, silent)
+            made.values(frames, silent)
         found += silent.failed > 0
         if not silent.failed:
             counts.say(False, f'bugs: {what} of {call} is not found')

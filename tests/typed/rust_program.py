@@ -1,5 +1,5 @@
-"""Writes a program in Rust over generated code: it prints messages, copies each field of them, or checks them, by the words
-`print`, `copy` and `check`. It prints in the notation of `capnp decode`, except that enums are numbers, and floats their bits, and
+"""Writes a program in Rust over generated code: it prints messages, copies each field of them, checks them, or copies
+them by plain values, by the words `print`, `copy`, `check` and `value`. It prints in the notation of `capnp decode`, except that enums are numbers, and floats their bits, and
 that bytes are lists.
 
 Each function is written twice: for checked readers, whose getters return values, and for the others, whose getters return a
@@ -43,6 +43,15 @@ fn hex(built: Builder) -> Result<String, Error> {{
     Ok(built.to_frame()?.iter().map(|byte| format!("{{byte:02x}}")).collect())
 }}
 
+/// `same`, if what is read is as it was. A value doesn't tell empty texts and lists from null, and keeps no pointer of any kind.
+fn copied(old: &str, new: &str, are_equal: bool) -> String {{
+    let plain = |text: &str| text.replace("= null", "= []").replace("= any", "= []");
+    match plain(old) == plain(new) && are_equal {{
+        true => "same".into(),
+        false => format!("{{old}} became {{new}}"),
+    }}
+}}
+
 /// `yes` or `no`, if all readers agree: whoever reads after a yes gets what lazy readers read, and if all fields of a
 /// sound message can be read, the answer is yes.
 fn agreed(checked: Result<String, Error>, sound: Result<String, Error>, lazy: Result<String, Error>) -> String {{
@@ -73,6 +82,15 @@ ARM = '''            {which} => (|| {{
                 let mut built = Builder::new();
                 match (word.as_str(), i % 3) {{
                     ("check", _) => return Ok(agreed(checked(), sound(), lazy())),
+                    ("value", _) => {{
+                        let value = {module}::Value::from(message.root::<{type}>()?);
+                        value.write_to(built.init::<{type}>());
+                        let made = built.as_message()?;
+                        let mut out = String::new();
+                        checked_{name}(made.root::<{type}>()?, &mut out, 64);
+                        let again = {module}::Value::from(made.root::<{type}>()?);
+                        return Ok(copied(&checked()?, &out, format!("{{value:?}}") == format!("{{again:?}}")));
+                    }}
                     ("copy", 0) => copy_{name}(message.sound()?.into(), built.init::<{type}>(), 64)?,
                     ("copy", _) => copy_checked_{name}(message.root::<{type}>()?, built.init::<{type}>(), 64),
                     (_, 0) => return lazy(),
@@ -315,5 +333,5 @@ def program(schema, file, roots):
     for code.is_checked in (False, True):
         functions += ''.join(code.shower(node) + code.copier(node) for node in structs)
     found = [schema.find(it) for it in roots]
-    arms = ''.join(ARM.format(which=i if i + 1 < len(roots) else '_', name=node['module'], type=code.type(node)) for i, node in enumerate(found))
+    arms = ''.join(ARM.format(which=i if i + 1 < len(roots) else '_', name=node['module'], type=code.type(node), module=f'{node["around"]}::{node["own"]}') for i, node in enumerate(found))
     return HEAD.format(file=file) + functions + MAIN.format(count=len(roots), arms=arms)

@@ -24,17 +24,19 @@ pub struct Generated {
     pub skipped: String,
 }
 
-/// Generates the files of a request.
+/// Generates the files of a request, with plain values if `has_values` says so.
 pub fn generate(
     alloc: Global,
     requested: &[SchemaFile],
     nodes: &[Node],
+    has_values: bool,
 ) -> Result<Generated, AllocError> {
     let mut files = Vec::new(alloc);
     let mut schema = Schema {
         alloc,
         nodes,
         skipped: Text::new(alloc),
+        has_values,
         file: 0,
         table: table_of(alloc, nodes, &[], UTF8),
     };

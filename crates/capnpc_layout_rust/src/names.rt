@@ -124,6 +124,9 @@ pub const ITEM_WORDS: &[&str] = &[
     "M",
 ];
 
+/// Names that types in the scope of a struct can't have if structs have plain values.
+pub const VALUE_WORDS: &[&str] = &["Value", "WhichValue"];
+
 /// Names that variants can't have.
 pub const VARIANT_WORDS: &[&str] = &["Self", "Unknown"];
 

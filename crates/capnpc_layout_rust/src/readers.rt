@@ -6,7 +6,7 @@ use crate::naming::{accessor, call_name};
 use crate::paths::push_path;
 use crate::piece::{PUBLIC, Piece};
 use crate::templates;
-use crate::types::{is_pointer, lacking_in_rust, path_to};
+use crate::types::{lacking_in_rust, path_to};
 use crate::unions::{is_fallible, is_member, push_which_call};
 use capnpc_schema::model::{Field, FieldKind, Node, Slot, Struct, find_node, lacking, type_name};
 use capnpc_schema::table::Table;
@@ -22,6 +22,8 @@ pub struct Schema<'m> {
     pub nodes: &'m [Node],
     /// What isn't written, and why: a line for each.
     pub skipped: Text,
+    /// Whether structs have plain values.
+    pub has_values: bool,
     /// The id of the file that is written.
     pub file: u64,
     /// What the pointers of the file's structs may lead to, and of those that they lead to.
@@ -277,7 +279,7 @@ fn write_bytes_and_has(piece: &mut Piece, slot: &Slot, values: &mut Values) {
         piece.push_default("        ", values);
         piece.push("        M::give(~read_bytes~)\n    }\n", values);
     }
-    if is_pointer(slot.of) {
+    if slot.of.is_pointer() {
         values.put_lines("about=Whether `~field~` isn't null.\nread=self.0.has(~index~)");
         push_has(piece, values);
     }
@@ -286,7 +288,7 @@ fn write_bytes_and_has(piece: &mut Piece, slot: &Slot, values: &mut Values) {
 // Writes the call that says whether a member of a union is set, and isn't null, if it is a pointer.
 fn write_member_has(piece: &mut Piece, field: &Field, values: &mut Values) {
     if let FieldKind::Slot(slot) = &field.kind
-        && is_pointer(slot.of)
+        && slot.of.is_pointer()
     {
         values.put_lines(MEMBER_HAS);
         push_has(piece, values);

@@ -1,7 +1,7 @@
 //! The groups of a struct, with the members of unions that have to be set for each; and the structs of
 //! a file.
 
-use crate::model::{FieldKind, NO_DISCRIMINANT, Node, NodeKind, Struct, find_node};
+use crate::model::{FieldKind, NO_DISCRIMINANT, Node, NodeKind, Struct, find_node, find_struct};
 use crate::text::Text;
 use std::alloc::Global;
 
@@ -16,29 +16,34 @@ pub struct Test {
 
 /// A struct, or a group in it.
 #[derive(Drop)]
-pub struct Group<'m> {
-    /// Its fields.
-    pub it: &'m Struct,
+pub struct Group {
+    /// The id of its declaration.
+    pub id: u64,
     /// What has to hold for the group to be set, outer unions first.
     pub tests: Vec<Test>,
-    /// What is before the name of a field: the struct's name, those of groups, and dots.
+    /// What is before the name of a field: the names of the groups around it, and dots.
     pub prefix: Text,
-    // The bytes of `prefix` that are the struct's name and its dot.
-    outer: usize,
 }
 
 /// A struct and its groups. The list is marked as failed if memory was lacking.
 #[derive(Drop)]
-pub struct Groups<'m> {
+pub struct Groups {
     /// The groups: the struct itself, and each before those in it.
-    pub groups: Vec<Group<'m>>,
+    pub groups: Vec<Group>,
     /// Whether memory was lacking.
     pub has_failed: bool,
 }
 
-impl<'m> Group<'m> {
-    /// What has to hold for field `index` to be set. Sets `has_failed` if memory was lacking.
-    pub fn tests_of(&self, alloc: Global, index: usize, has_failed: &mut bool) -> Vec<Test> {
+impl Group {
+    /// What has to hold for field `index` of `it`, which is this group, to be set. Sets `has_failed`
+    /// if memory was lacking.
+    pub fn tests_of(
+        &self,
+        alloc: Global,
+        it: &Struct,
+        index: usize,
+        has_failed: &mut bool,
+    ) -> Vec<Test> {
         let mut tests = match self.tests.as_slice().to_vec(alloc) {
             Ok(tests) => tests,
             Err(_) => {
@@ -46,11 +51,11 @@ impl<'m> Group<'m> {
                 Vec::new(alloc)
             }
         };
-        if let Some(field) = self.it.fields.get(index)
+        if let Some(field) = it.fields.get(index)
             && field.discriminant != NO_DISCRIMINANT
         {
             let test = Test {
-                offset: self.it.tag_offset,
+                offset: it.tag_offset,
                 number: field.discriminant,
             };
             if tests.push(test).is_err() {
@@ -59,85 +64,63 @@ impl<'m> Group<'m> {
         }
         tests
     }
-
-    /// A name that begins with `prefix`, without the struct's.
-    pub fn inner_name<'n>(&self, name: &'n str) -> &'n str {
-        match name.split_at_checked(self.outer) {
-            Some((_, inner)) => inner,
-            None => name,
-        }
-    }
 }
 
-/// Returns a struct of this name and its groups.
-pub fn groups_of<'m>(alloc: Global, nodes: &'m [Node], name: &str, it: &'m Struct) -> Groups<'m> {
+/// Returns the struct with this id and its groups.
+pub fn groups_of(alloc: Global, nodes: &[Node], id: u64) -> Groups {
     let mut found = Groups {
         groups: Vec::new(alloc),
         has_failed: false,
     };
-    let mut prefix = Text::new(alloc);
-    prefix.push_all(&[name, "."]);
-    let outer = prefix.as_str().len();
     let tests = Vec::new(alloc);
-    found.add(Group {
-        it,
-        tests,
-        prefix,
-        outer,
-    });
+    let prefix = Text::new(alloc);
+    found.add(Group { id, tests, prefix });
     for i in 0..nodes.len() {
-        found.add_inner(alloc, nodes, i);
+        if let Some(group) = found.groups.get(i) {
+            let id = group.id;
+            if let Some(it) = find_struct(nodes, id) {
+                found.add_inner(alloc, it, i);
+            }
+        }
     }
     found
 }
 
-impl<'m> Groups<'m> {
+impl Groups {
     // Adds a group.
-    fn add(&mut self, group: Group<'m>) {
+    fn add(&mut self, group: Group) {
         let has_failed = group.prefix.has_failed;
         if self.groups.push(group).is_err() || has_failed {
             self.has_failed = true;
         }
     }
 
-    // Adds the groups in group `index`, if there is such a group.
-    fn add_inner(&mut self, alloc: Global, nodes: &'m [Node], index: usize) {
-        let Some(group) = self.groups.get(index) else {
-            return;
-        };
-        let it = group.it;
-        let mut has_failed = false;
+    // Adds the groups in `it`, which is group `index`.
+    fn add_inner(&mut self, alloc: Global, it: &Struct, index: usize) {
         for (i, field) in it.fields.iter().enumerate() {
-            if let FieldKind::Group(id) = &field.kind
-                && let Some(node) = find_node(nodes, *id)
-                && let NodeKind::Struct(inner) = &node.kind
-                && let Some(outer) = self.groups.get(index)
-            {
-                let tests = outer.tests_of(alloc, i, &mut has_failed);
-                let made = inner_group(alloc, outer, tests, field.name.as_str(), inner);
-                self.add(made);
+            if let FieldKind::Group(id) = &field.kind {
+                self.add_group(alloc, it, index, i, *id);
             }
         }
-        self.has_failed = self.has_failed || has_failed;
     }
-}
 
-// A group in another one.
-fn inner_group<'m>(
-    alloc: Global,
-    outer: &Group<'_>,
-    tests: Vec<Test>,
-    name: &str,
-    it: &'m Struct,
-) -> Group<'m> {
-    let mut prefix = Text::new(alloc);
-    prefix.append(&outer.prefix);
-    prefix.push_all(&[name, "."]);
-    Group {
-        it,
-        tests,
-        prefix,
-        outer: outer.outer,
+    // Adds the group with this id, which is field `field` of `it`, which is group `index`.
+    fn add_group(&mut self, alloc: Global, it: &Struct, index: usize, field: usize, id: u64) {
+        let mut has_failed = false;
+        let mut prefix = Text::new(alloc);
+        let tests = match self.groups.get(index) {
+            Some(outer) => {
+                prefix.append(&outer.prefix);
+                outer.tests_of(alloc, it, field, &mut has_failed)
+            }
+            None => Vec::new(alloc),
+        };
+        if let Some(declared) = it.fields.get(field) {
+            prefix.push(declared.name.as_str());
+            prefix.push(".");
+        }
+        self.add(Group { id, tests, prefix });
+        self.has_failed = self.has_failed || has_failed;
     }
 }
 
@@ -157,14 +140,14 @@ pub fn structs_of_file(alloc: Global, nodes: &[Node], file: u64) -> Ids {
         has_failed: false,
     };
     let mut declared = Vec::new(alloc);
-    for node in nodes {
-        if is_struct(node) && is_in_file(nodes, node, file) && declared.push(node).is_err() {
+    for (i, node) in nodes.iter().enumerate() {
+        if is_struct(node) && is_in_file(nodes, node, file) && declared.push(i).is_err() {
             found.has_failed = true;
         }
     }
     let mut last = "";
     for _ in 0..declared.len() {
-        if let Some(node) = next_by_name(declared.as_slice(), last) {
+        if let Some(node) = next_by_name(nodes, declared.as_slice(), last) {
             last = node.full.as_str();
             found.add(node.id);
         }
@@ -204,17 +187,18 @@ fn is_in_file(nodes: &[Node], node: &Node, file: u64) -> bool {
     false
 }
 
-// The first declaration by name whose name is after this one.
-fn next_by_name<'m>(nodes: &[&'m Node], last: &str) -> Option<&'m Node> {
+// The first declaration by name whose name is after this one, of those at these places.
+fn next_by_name<'m>(nodes: &'m [Node], places: &[usize], last: &str) -> Option<&'m Node> {
     let mut found: Option<&'m Node> = None;
-    for node in nodes {
+    for place in places {
+        let node = nodes.get(*place)?;
         let name = node.full.as_str();
         let is_first = match found {
             Some(known) => name < known.full.as_str(),
             None => true,
         };
         if name > last && is_first {
-            found = Some(*node);
+            found = Some(node);
         }
     }
     found

@@ -183,6 +183,17 @@ pub fn find_node(nodes: &[Node], id: u64) -> Option<&Node> {
     None
 }
 
+/// The struct or group with this id.
+pub fn find_struct(nodes: &[Node], id: u64) -> Option<&Struct> {
+    match find_node(nodes, id) {
+        Some(node) => match &node.kind {
+            NodeKind::Struct(it) => Some(it),
+            _ => None,
+        },
+        None => None,
+    }
+}
+
 /// The name of a type in the schema.
 pub fn type_name(alloc: Global, nodes: &[Node], of: Type) -> Text {
     let mut name = Text::new(alloc);

@@ -2,7 +2,7 @@
 //! its form.
 
 use crate::groups::{Group, Test, groups_of};
-use crate::model::{FieldKind, Node, NodeKind, Struct, Type, find_node};
+use crate::model::{FieldKind, Node, NodeKind, Struct, Type, find_node, find_struct};
 use crate::text::Text;
 use crate::types::BaseKind;
 use std::alloc::Global;
@@ -232,9 +232,9 @@ impl<'m> Making<'m> {
     }
 
     // Adds the row of a struct.
-    fn add_struct(&mut self, node: &Node, it: &'m Struct) {
+    fn add_struct(&mut self, node: &Node, it: &Struct) {
         let alloc = self.table.alloc;
-        let groups = groups_of(alloc, self.nodes, node.full.as_str(), it);
+        let groups = groups_of(alloc, self.nodes, node.id);
         self.table.has_failed = self.table.has_failed || groups.has_failed;
         let row = self.table.push_row(it.pointers);
         let place = self.table.rows.len();
@@ -249,7 +249,8 @@ impl<'m> Making<'m> {
         });
         let mut fields = Vec::new(alloc);
         for index in 0..it.pointers {
-            let names = self.add_pointer(groups.groups.as_slice(), row, u32::from(index));
+            let groups = groups.groups.as_slice();
+            let names = self.add_pointer(node, groups, row, u32::from(index));
             if fields.push(names).is_err() {
                 self.table.has_failed = true;
             }
@@ -260,36 +261,59 @@ impl<'m> Making<'m> {
     }
 
     // Writes what pointer `index` of a row may lead to, and returns the names of its fields.
-    fn add_pointer(&mut self, groups: &[Group<'m>], row: u32, index: u32) -> String {
+    fn add_pointer(&mut self, node: &Node, groups: &[Group], row: u32, index: u32) -> String {
         let alloc = self.table.alloc;
         let mut names = Text::new(alloc);
         // the words that say what else the pointer may lead to
         let mut open = Vec::new(alloc);
         self.push_open(&mut open, row.saturating_add(1).saturating_add(index));
         for group in groups {
-            self.add_fields(group, index, &mut open, &mut names);
+            if let Some(it) = find_struct(self.nodes, group.id) {
+                self.add_fields(node, group, it, index, &mut open, &mut names);
+            }
         }
         self.table.string_of(names)
     }
 
     // Adds the fields of a group that are pointer `index`.
-    fn add_fields(&mut self, group: &Group<'m>, index: u32, open: &mut Vec<u32>, names: &mut Text) {
-        let alloc = self.table.alloc;
-        let mut has_failed = false;
-        for (i, field) in group.it.fields.iter().enumerate() {
+    fn add_fields(
+        &mut self,
+        node: &Node,
+        group: &Group,
+        it: &Struct,
+        index: u32,
+        open: &mut Vec<u32>,
+        names: &mut Text,
+    ) {
+        for (i, field) in it.fields.iter().enumerate() {
             if let FieldKind::Slot(slot) = &field.kind
                 && slot.offset == index
                 && slot.of.is_pointer()
             {
-                let tests = group.tests_of(alloc, i, &mut has_failed);
-                let at = self.add_tests(tests.as_slice(), open);
-                let mut name = Text::new(alloc);
-                name.push_all(&[group.prefix.as_str(), field.name.as_str()]);
+                let at = self.add_tests_of(group, it, i, open);
+                push_name(names, group.prefix.as_str(), field.name.as_str());
+                let mut name = Text::new(self.table.alloc);
+                name.push(node.full.as_str());
+                name.push(".");
+                name.append(&group.prefix);
+                name.push(field.name.as_str());
                 self.add_kind(at, slot.of, name.as_str());
-                push_name(names, group.inner_name(name.as_str()));
             }
         }
+    }
+
+    // Adds the tests that have to hold for field `index` of a group.
+    fn add_tests_of(
+        &mut self,
+        group: &Group,
+        it: &Struct,
+        index: usize,
+        open: &mut Vec<u32>,
+    ) -> u32 {
+        let mut has_failed = false;
+        let tests = group.tests_of(self.table.alloc, it, index, &mut has_failed);
         self.table.has_failed = self.table.has_failed || has_failed;
+        self.add_tests(tests.as_slice(), open)
     }
 
     // Adds tests that all have to hold, and returns the position of the word that says what is so then.
@@ -347,9 +371,10 @@ impl<'m> Making<'m> {
                 if is_list {
                     at = self.table.push_elements(at, name);
                 }
-                self.table.set(at, self.kind_of_pointer(of));
+                let kind = self.kind_of_pointer(of);
+                self.table.set(at, kind);
             }
-            _ => self.table.set(at, LIST + element_size(of.base.bits)),
+            _ => self.table.set(at, list_kind(of.base.bits)),
         }
     }
 
@@ -387,21 +412,22 @@ impl<'m> Making<'m> {
 }
 
 // Adds a name to those of the fields that share a pointer.
-fn push_name(names: &mut Text, name: &str) {
+fn push_name(names: &mut Text, prefix: &str, name: &str) {
     if !names.as_str().is_empty() {
         names.push(" or ");
     }
+    names.push(prefix);
     names.push(name);
 }
 
-// The number of the size of elements with this many bits.
-fn element_size(bits: u64) -> u32 {
+// The kind of a list of elements with this many bits.
+fn list_kind(bits: u64) -> u32 {
     match bits {
-        1 => 1,
-        8 => 2,
-        16 => 3,
-        32 => 4,
-        64 => 5,
-        _ => 0,
+        1 => LIST + 1,
+        8 => LIST + 2,
+        16 => LIST + 3,
+        32 => LIST + 4,
+        64 => LIST + 5,
+        _ => LIST,
     }
 }

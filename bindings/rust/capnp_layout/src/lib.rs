@@ -86,6 +86,7 @@ mod searching;
 mod segments;
 mod showing;
 mod typed;
+mod values;
 
 pub use builder::Builder;
 pub use building::StructBuilder;
