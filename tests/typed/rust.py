@@ -19,6 +19,8 @@ The parts, by default all of them:
   print and check messages of each other.
 - `bugs`: a program over the code of `fields.capnp` with a planted bug, one of each kind, isn't compiled, or prints or copies
   something else, or its readers disagree.
+- `build`: the package `bindings/rust/capnpc_layout_rust/example`, whose build script generates its code, is built and runs; the crate
+  for build scripts passes clippy; and it says which program is missing, or what `capnp` refuses.
 - `odd`: schemas with odd names and declarations are compiled without a warning.
 
 The generator is by default `capnpc-layout-rust` at the top. The last line is `N passed, M failed`."""
@@ -26,6 +28,7 @@ import argparse
 import os
 import pathlib
 import shlex
+import shutil
 import subprocess
 import sys
 import tempfile
@@ -39,8 +42,9 @@ from schema import Schema
 
 HERE = pathlib.Path(__file__).resolve().parent
 LAYOUT = run.TOP / 'bindings/rust/capnp_layout'
+BUILD = run.TOP / 'bindings/rust/capnpc_layout_rust'
 SCHEMAS = 'addressbook', 'fields'
-PARTS = 'ours', 'package', 'fields', 'random', 'versions', 'bugs', 'odd'
+PARTS = 'ours', 'package', 'fields', 'random', 'versions', 'bugs', 'build', 'odd'
 MANIFEST = f'''[package]
 name = "made"
 version = "0.0.0"
@@ -113,9 +117,9 @@ def generate(generator, path, folder):
     return sorted(it.stem for it in pathlib.Path(folder).glob('*_capnp.rs')), ran.stderr
 
 
-def cargo(words, folder, target):
+def cargo(words, folder, target, **variables):
     """Runs cargo without a registry; whether it succeeded, and what it said."""
-    env = {**os.environ, 'CARGO_TARGET_DIR': str(target), 'RUSTFLAGS': '-Dwarnings'}
+    env = {**os.environ, 'CARGO_TARGET_DIR': str(target), 'RUSTFLAGS': '-Dwarnings', **variables}
     ran = subprocess.run(['cargo', *words, '--offline', '--quiet', '-j2'], cwd=folder, env=env, stdin=subprocess.DEVNULL, stdout=subprocess.PIPE, stderr=subprocess.STDOUT, encoding='utf-8', errors='replace')
     return ran.returncode == 0, ran.stdout
 
@@ -155,7 +159,7 @@ class Generated(run.Programs):
             self.values(frames, counts)
 
     def values(self, frames, counts):
-        """Whether what plain values are written as is read as what they were made from, but for empty texts and lists, which are null."""
+        """Whether what plain values are written as is read as what they were made from. Empty texts and lists become null."""
         answers = self.run('value', frames)
         differing = [it for it in answers if it != 'same'][:1]
         holds = len(answers) == len(frames) and not differing
@@ -258,6 +262,27 @@ def bugs(options, room, counts):
         if not silent.failed:
             counts.say(False, f'bugs: {what} of {call} is not found')
     counts.say(found == len(BUGS), f'bugs: {found} of {len(BUGS)} planted bugs are found')
+
+
+def build(options, room, counts):
+    example, target, generator = room / 'example', room / 'target', os.path.abspath(options.generator)
+    shutil.copytree(BUILD / 'example', example, ignore=shutil.ignore_patterns('target', 'Cargo.lock'))
+    manifest = (example / 'Cargo.toml').read_text(encoding='utf-8')
+    manifest = manifest.replace('"../../capnp_layout"', f'"{LAYOUT}"').replace('".."', f'"{BUILD}"')
+    (example / 'Cargo.toml').write_text(manifest, encoding='utf-8')
+    passed, said = cargo(['run'], example, target, CAPNPC_LAYOUT_RUST=generator)
+    counts.say(passed and said == '7: Alice\n', f'build: the example prints {said!r}')
+    passed, said = cargo(['clippy', '--all-targets'], BUILD, target)
+    counts.say(passed, 'build: no warning of rustc or clippy' if passed else said[-3000:])
+    schema = example / 'schema/shop.capnp'
+    for what, variables, wanted in (
+            ('a generator that is not there', {'CAPNPC_LAYOUT_RUST': '/nowhere/generator'}, 'CAPNPC_LAYOUT_RUST is /nowhere/generator: '),
+            ('no capnp', {'CAPNP': '/nowhere/capnp', 'CAPNPC_LAYOUT_RUST': generator}, "/nowhere/capnp isn't there: it is in Debian's package capnproto"),
+            ('a wrong schema', {'CAPNPC_LAYOUT_RUST': generator}, 'shop.capnp:1:')):
+        if what == 'a wrong schema':
+            schema.write_text('strukt', encoding='utf-8')
+        passed, said = cargo(['build'], example, target, **variables)
+        counts.say(not passed and wanted in said, f'build: {what} is named' if wanted in said else f'build: {what}: {said[-1000:]}')
 
 
 def odd(options, room, counts):

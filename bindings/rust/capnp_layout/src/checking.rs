@@ -57,7 +57,7 @@ fn checked_struct<'a, T: StructType>(raw: PointerReader<'a, Arena<'a>>) -> Reade
 }
 
 impl<'a> Message<'a> {
-    /// The root as a struct of type `T`, which `capnpc-layout-rust` generates from a schema. This
+    /// The root, a struct of type `T` that `capnpc-layout-rust` has generated from a schema. This
     /// checks the whole message once: its frame, its pointers, that it is within its limits, and
     /// that each pointer that the schema knows leads to what the schema says, with texts in UTF-8.
     /// From then on getters return values, and nothing refuses them. A message of an older or newer
@@ -93,8 +93,8 @@ impl<'a> Message<'a> {
 }
 
 impl<'a, M: Meter> Pointer<'a, M> {
-    /// The struct that the pointer leads to, as one of type `T`, after a check of it and of all that it
-    /// leads to. See [`Message::root`].
+    /// The struct of type `T` that the pointer leads to, after a check of it and of all that it leads
+    /// to. See [`Message::root`].
     pub fn as_checked<T: StructType>(&self) -> Result<Reader<'a, T>, Error> {
         let mut before = self.meter.limiter();
         let kind = Kind::Struct(T::ROW);

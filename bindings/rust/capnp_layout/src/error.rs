@@ -140,8 +140,8 @@ impl Error {
     /// of a list of texts, data or lists, the field that the list is. If several members of unions
     /// share the pointer, all of them are named: `Person.employment.employer or
     /// employment.school`. Only the struct, `Person`, if the schema doesn't know the pointer. `None`
-    /// if the refusal isn't that of a check against a schema, or is about a pointer that the schema
-    /// says nothing of.
+    /// if the refusal isn't that of a check against a schema, or is about what a pointer of any kind
+    /// leads to.
     pub fn field(&self) -> Option<&str> {
         self.details.as_ref()?.field.as_deref()
     }

@@ -100,13 +100,13 @@ pub fn capability<M: Meter>(pointer: Pointer<'_, M>) -> Result<Option<u32>> {
     pointer.as_capability().map(Some)
 }
 
-/// A pointer that the schema says nothing of.
+/// A pointer of any kind.
 #[inline(always)]
 pub fn any<'a, M: Meter>(pointer: Pointer<'a, M>) -> Pointer<'a, M::Plain> {
     pointer.plain()
 }
 
-/// A struct without what the schema says of it.
+/// A struct without its schema.
 #[inline(always)]
 pub fn plain<'a, M: Meter>(fields: Struct<'a, M>) -> Struct<'a, M::Plain> {
     Struct {
