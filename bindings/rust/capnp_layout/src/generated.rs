@@ -7,11 +7,11 @@ use crate::Outcome;
 use core::str;
 
 pub use crate::meter::sealed::Closed;
+pub use crate::values::{boxed, fill, no_struct, own_list, Owned};
 pub use crate::{
     Element, ElementSize, Enum, Error, List, ListBuilder, Lists, Meter, Pointer, PointerBuilder,
     Pointers, Reason, Struct, StructBuilder, StructSize, StructType, Structs, Typed, TypedBuilder,
 };
-pub use crate::values::{boxed, fill, no_struct, own_list, Owned};
 pub use core::fmt;
 pub use rust_alloc::{boxed::Box, string::String, vec::Vec};
 
