@@ -171,6 +171,7 @@ fn write_members(schema: &Schema<'_>, piece: &mut Piece, node: &Node, it: &Struc
 }
 
 // The templates of a member of a union: its variant, how it is read, and how it is written.
+#[derive(Clone, Copy)]
 struct MemberForms {
     declared: &'static str,
     owned: &'static str,
