@@ -165,25 +165,26 @@ class Generated(run.Programs):
         holds = len(answers) == len(frames) and not differing
         counts.say(holds, f'{self.file}: {len(frames)} messages are copied by plain values' if holds else f'{self.file}: {differing} {len(answers)}')
 
-    def check(self, frames, seed, counts):
-        """Whether all readers agree on altered messages."""
+    def check(self, frames, seed, counts, times=20):
+        """Whether all readers agree on altered messages: on each message altered in this many ways."""
         answers = self.run('check', frames)
         counts.say(answers == ['yes'] * len(frames), f'{self.file}: the check says yes to {len(frames)} messages')
         random = Random(seed)
-        answers = self.run('check', [altered(it, random) for it in frames * 20])
+        answers = self.run('check', [altered(it, random) for it in frames * times])
         found = Counter(answers)
-        agree = len(answers) == 20 * len(frames) and set(found) <= {'yes', 'no'} and min(found['yes'], found['no']) > 0
+        agree = len(answers) == times * len(frames) and set(found) <= {'yes', 'no'} and min(found['yes'], found['no']) > 0
         said = f'{self.file}: all readers agree on {len(answers)} altered messages, of which {found["no"]} are refused'
         counts.say(agree, said if agree else f'{self.file}: {[it for it in found if it not in ("yes", "no")][:3]} {found["yes"]} {found["no"]} {len(answers)}')
 
 
 def altered(frame, random):
-    """A frame with some altered bits after its table of segments: mostly in the first words, among which are the pointers of the
-    root, and of these mostly those that say what a pointer leads to."""
+    """A frame with some altered bits in words that aren't zero: mostly in the first of these, among which are the pointers of the
+    root, and there mostly the bits that say what a pointer leads to."""
     table = 8 * (int.from_bytes(frame[:4], 'little') // 2 + 1)
-    made, words = bytearray(frame), (len(frame) - table) // 8
+    made = bytearray(frame)
+    words = [it for it in range((len(frame) - table) // 8) if any(frame[table + 8 * it:table + 8 * it + 8])] or [0]
     for _ in range(random.choice((1, 1, 2, 4))):
-        word = random.randrange(min(words, 64) if random.random() < .75 else words)
+        word = random.choice(words[:64] if random.random() < .75 else words)
         bit = random.choice((0, 1, 32, 33, 34)) if random.random() < .75 else random.randrange(64)
         made[table + 8 * word + bit // 8] ^= 1 << bit % 8
     return bytes(made)
@@ -256,7 +257,7 @@ def bugs(options, room, counts):
         if made.build(silent):
             made.read(frames, '', silent)
             made.copy(frames, silent)
-            made.check(frames, 8, silent)
+            made.check(frames, 8, silent, 60)
             made.values(frames, silent)
         found += silent.failed > 0
         if not silent.failed:
