@@ -58,13 +58,13 @@ fn checked_struct<'a, T: StructType>(raw: PointerReader<'a, Arena<'a>>) -> Reade
 
 impl<'a> Message<'a> {
     /// The root, a struct of type `T` that `capnpc-layout-rust` has generated from a schema. This
-    /// checks the whole message once: its frame, its pointers, that it is within its limits, and
+    /// checks the whole message once: its pointers, that it is within its limits, and
     /// that each pointer that the schema knows leads to what the schema says, with texts in UTF-8.
     /// From then on getters return values, and nothing refuses them. A message of an older or newer
     /// version of the schema passes, too.
     ///
-    /// The check takes somewhat less time than reading everything once, takes no memory, and each
-    /// call makes it again: pass the root on, or keep a [`Checked`].
+    /// The check takes about as long as reading everything once, takes no memory, and each call makes
+    /// it again: pass the root on, or keep a [`Checked`].
     ///
     /// The error has the reason, the [path](Error::path) and the [place](Error::place) of the
     /// pointer that was refused, and the name of its [field](Error::field), such as `Person.phones`.
