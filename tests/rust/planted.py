@@ -88,6 +88,9 @@ IN_LAYER = (
     ('elements from behind are off by one', 'reading', 'iterators', 'list.rs', 'self.list.meter, self.end))', 'self.list.meter, self.end - 1))'),
     ('lists of other lengths are equal', 'reading', 'equal_values', 'list.rs', 'self.len() == other.len() && ', ''),
     ('null is taken for a value', 'reading', 'fields_that_are_not_there_are_zero_or_null', 'reading.rs', '!self.raw.is_pointer_field_null(index)', 'self.raw.is_pointer_field_null(index)'),
+    ('the name of the next field', 'checking', 'a_refusal_has_path_place_and_field', 'checking.rs', "nth(index as usize)", "nth(index as usize + 1)"),
+    ('the path of another pointer', 'checking', 'a_refusal_has_path_place_and_field', 'searching.rs', 'if self.refuses == Some(place) {', 'if self.refuses.is_some() {'),
+    ('a check against a schema without the limit', 'checking', 'the_least_limits_of_a_check', 'checking.rs', 'let mut lim = self.limiter();', 'let mut lim = ReadLimiter::new(None);'),
     ('a text that is not UTF-8 is empty', 'reading', 'texts_have_to_be_utf8', 'reading.rs', 'str::from_utf8(bytes).map_err(|_| Reason::TextIsNotUtf8.into())', 'Ok(str::from_utf8(bytes).unwrap_or_default())'),
 )
 

@@ -5,27 +5,35 @@
 
 The parts, by default all of them:
 
-- `ours`: for `addressbook.capnp` and `fields.capnp` the generator writes the files of `rust/src`, byte for byte; and they are
-  as rustfmt writes them. With `--write` it writes these files.
+- `ours`: for `addressbook.capnp` and `fields.capnp` the generator writes the files of `rust/src`, and with `--values` those of
+  `rust/src/values`, byte for byte; and they are as rustfmt writes them. With `--write` it writes these files.
 - `package`: the package `rust` is built without a warning of rustc and clippy, and its tests pass.
 - `fields`: a program over the code for `fields.capnp` prints M random messages (by default 300), made by `capnp encode`, as
-  `capnp decode` prints them, lazily and after a check. It copies them field by field: `capnp decode` prints the copies as it
-  prints the messages, and C++ makes the same canonical words of both.
+  `capnp decode` prints them: lazily, after a check without the schema, and after one against it. It copies them field by field:
+  `capnp decode` prints the copies as it prints the messages, and C++ makes the same canonical words of both. Then bits of
+  the messages are altered. After a yes of the check against the schema, checked readers read what lazy ones do; after a
+  no, something of the message is refused by another reader.
 - `random`: like `fields`, for N random schemas (by default 3) of S structs (by default 20). Each struct in turn is the root of a
   message.
 - `versions`: the code of an old version of a random schema, without the last fields of its structs, and that of the new one
-  print messages of each other.
+  print and check messages of each other.
 - `bugs`: a program over the code of `fields.capnp` with a planted bug, one of each kind, isn't compiled, or prints or copies
-  something else.
+  something else, or its readers disagree.
+- `build`: the package `bindings/rust/capnpc_layout_rust/example`, whose build script generates its code, is built and runs; the crate
+  for build scripts passes clippy; and it says which program is missing, or what `capnp` refuses.
 - `odd`: schemas with odd names and declarations are compiled without a warning.
 
 The generator is by default `capnpc-layout-rust` at the top. The last line is `N passed, M failed`."""
 import argparse
 import os
 import pathlib
+import shlex
+import shutil
 import subprocess
 import sys
 import tempfile
+from collections import Counter
+from random import Random
 
 import messages
 import rust_program
@@ -34,8 +42,9 @@ from schema import Schema
 
 HERE = pathlib.Path(__file__).resolve().parent
 LAYOUT = run.TOP / 'bindings/rust/capnp_layout'
+BUILD = run.TOP / 'bindings/rust/capnpc_layout_rust'
 SCHEMAS = 'addressbook', 'fields'
-PARTS = 'ours', 'package', 'fields', 'random', 'versions', 'bugs', 'odd'
+PARTS = 'ours', 'package', 'fields', 'random', 'versions', 'bugs', 'build', 'odd'
 MANIFEST = f'''[package]
 name = "made"
 version = "0.0.0"
@@ -73,7 +82,28 @@ BUGS = (
     ('variant', 'enum Colour', '0 => Self::Red,\n            1 => Self::Green', '1 => Self::Red,\n            0 => Self::Green'),
     ('number', 'for u16 {', 'Colour::Red => 0,\n            Colour::Green => 1', 'Colour::Red => 1,\n            Colour::Green => 0'),
     ('cleared', 'fn init_side(', 'self.0.set', 'self.0.set(0, 1u8);\n            self.0.set'),
+    ('table: a text as any', 'const TABLE', '36, 3, 3, 4, 4,', '36, 0, 3, 4, 4,'),
+    ('table: a text as data', 'const TABLE', '36, 3, 3, 4, 4,', '36, 4, 3, 4, 4,'),
+    ('table: a text that needn\'t be UTF-8', 'const TABLE', '36, 3, 3, 4, 4,', '36, 2, 3, 4, 4,'),
+    ('table: the row of a struct', 'const TABLE', '4, 4, 21, 133,', '4, 4, 21, 21,'),
+    ('table: the size of elements', 'const TABLE', '0, 8, 9, 10, 11,', '0, 8, 9, 10, 10,'),
+    ('table: a list of structs as any list', 'const TABLE', ' 31, 798, 830,', ' 6, 798, 830,'),
+    ('table: elements of a list of lists', 'const TABLE', ' 798, 830,', ' 766, 830,'),
+    ('table: the offset of a tag', 'const TABLE', '27, 3, 31, 951', '26, 3, 31, 951'),
+    ('table: the number of a member', 'const TABLE', '27, 3, 31, 951', '27, 5, 31, 951'),
+    ('table: a member', 'const TABLE', '27, 3, 31, 951', '27, 3, 0, 951'),
+    ('table: the members after one', 'const TABLE', '27, 3, 31, 951', '27, 3, 31, 0'),
+    ('table: fewer pointers', 'const TABLE', ' 36, 3, 3, 4, 4,', ' 35, 3, 3, 4, 4,'),
+    ('row', 'impl g::StructType for Root', 'ROW: u32 = 8', 'ROW: u32 = 1'),
 )
+
+
+def with_values(generator, room):
+    """A plug-in that calls the generator for plain values, since `capnp compile` passes no arguments."""
+    script = pathlib.Path(room) / 'with-values'
+    script.write_text(f'#!/bin/sh\nexec {shlex.quote(str(generator))} --values\n', encoding='utf-8')
+    script.chmod(0o755)
+    return script
 
 
 def generate(generator, path, folder):
@@ -84,9 +114,9 @@ def generate(generator, path, folder):
     return sorted(it.stem for it in pathlib.Path(folder).glob('*_capnp.rs')), ran.stderr
 
 
-def cargo(words, folder, target):
+def cargo(words, folder, target, **variables):
     """Runs cargo without a registry; whether it succeeded, and what it said."""
-    env = {**os.environ, 'CARGO_TARGET_DIR': str(target), 'RUSTFLAGS': '-Dwarnings'}
+    env = {**os.environ, 'CARGO_TARGET_DIR': str(target), 'RUSTFLAGS': '-Dwarnings', **variables}
     ran = subprocess.run(['cargo', *words, '--offline', '--quiet', '-j2'], cwd=folder, env=env, stdin=subprocess.DEVNULL, stdout=subprocess.PIPE, stderr=subprocess.STDOUT, encoding='utf-8', errors='replace')
     return ran.returncode == 0, ran.stdout
 
@@ -102,7 +132,7 @@ class Generated(run.Programs):
         self.folder, self.target, self.file, self.stem = folder, target, path.name, stem
         self.schema = Schema(str(path))
         self.roots = roots or self.schema.structs()
-        (module,), _ = generate(generator, str(path), folder / 'src')
+        (module,), _ = generate(with_values(generator, folder), str(path), folder / 'src')
         (folder / 'Cargo.toml').write_text(MANIFEST.replace('"made"', f'"{stem}"'), encoding='utf-8')
         (folder / 'src/main.rs').write_text(rust_program.program(self.schema, module, self.roots), encoding='utf-8')
 
@@ -112,7 +142,7 @@ class Generated(run.Programs):
         return built
 
     def run(self, program, frames):
-        ran = subprocess.run([self.target / 'debug' / self.stem, {'printer': 'print', 'copier': 'copy'}[program]], input=b''.join(frames), stdout=subprocess.PIPE, stderr=subprocess.PIPE)
+        ran = subprocess.run([self.target / 'debug' / self.stem, {'printer': 'print', 'copier': 'copy'}.get(program, program)], input=b''.join(frames), stdout=subprocess.PIPE, stderr=subprocess.PIPE)
         if ran.returncode and not self.is_quiet:
             print(ran.stderr.decode(errors='replace')[-3000:])
         return ran.stdout.decode(errors='replace').splitlines()
@@ -122,17 +152,52 @@ class Generated(run.Programs):
             frames = messages.frames(self.schema, self.roots, count, seed)
             self.read(frames, '', counts)
             self.copy(frames, counts)
+            self.check(frames, seed, counts)
+            self.values(frames, counts)
+
+    def values(self, frames, counts):
+        """Whether what plain values are written as is read as what they were made from. Empty texts and lists become null."""
+        answers = self.run('value', frames)
+        differing = [it for it in answers if it != 'same'][:1]
+        holds = len(answers) == len(frames) and not differing
+        counts.say(holds, f'{self.file}: {len(frames)} messages are copied by plain values' if holds else f'{self.file}: {differing} {len(answers)}')
+
+    def check(self, frames, seed, counts, times=20):
+        """Whether all readers agree on altered messages: on each message altered in this many ways."""
+        answers = self.run('check', frames)
+        counts.say(answers == ['yes'] * len(frames), f'{self.file}: the check says yes to {len(frames)} messages')
+        random = Random(seed)
+        answers = self.run('check', [altered(it, random) for it in frames * times])
+        found = Counter(answers)
+        agree = len(answers) == times * len(frames) and set(found) <= {'yes', 'no'} and min(found['yes'], found['no']) > 0
+        said = f'{self.file}: all readers agree on {len(answers)} altered messages, of which {found["no"]} are refused'
+        counts.say(agree, said if agree else f'{self.file}: {[it for it in found if it not in ("yes", "no")][:3]} {found["yes"]} {found["no"]} {len(answers)}')
+
+
+def altered(frame, random):
+    """A frame with some altered bits in words that aren't zero: mostly in the first of these, among which are the pointers of the
+    root, and there mostly the bits that say what a pointer leads to."""
+    table = 8 * (int.from_bytes(frame[:4], 'little') // 2 + 1)
+    made = bytearray(frame)
+    words = [it for it in range((len(frame) - table) // 8) if any(frame[table + 8 * it:table + 8 * it + 8])] or [0]
+    for _ in range(random.choice((1, 1, 2, 4))):
+        word = random.choice(words[:64] if random.random() < .75 else words)
+        bit = random.choice((0, 1, 32, 33, 34)) if random.random() < .75 else random.randrange(64)
+        made[table + 8 * word + bit // 8] ^= 1 << bit % 8
+    return bytes(made)
 
 
 def ours(options, room, counts):
-    for stem in SCHEMAS:
-        folder = room / f'ours_{stem}'
-        folder.mkdir()
-        (module,), _ = generate(options.generator, str(HERE / f'{stem}.capnp'), folder)
-        made, kept = folder / f'{module}.rs', HERE / f'rust/src/{module}.rs'
+    for stem, place, generator in ((stem, place, generator) for stem in SCHEMAS
+                                   for place, generator in (('src', options.generator), ('src/values', with_values(options.generator, room)))):
+        folder = room / 'ours' / place / stem
+        folder.mkdir(parents=True)
+        (module,), _ = generate(generator, str(HERE / f'{stem}.capnp'), folder)
+        made, kept = folder / f'{module}.rs', HERE / 'rust' / place / f'{module}.rs'
         if options.write:
+            kept.parent.mkdir(exist_ok=True)
             kept.write_bytes(made.read_bytes())
-        counts.say(kept.is_file() and made.read_bytes() == kept.read_bytes(), f'{stem}.capnp: the file is tests/typed/rust/src/{kept.name}')
+        counts.say(kept.is_file() and made.read_bytes() == kept.read_bytes(), f'{stem}.capnp: the file is tests/typed/rust/{place}/{kept.name}')
         ran = subprocess.run(['rustfmt', '--edition', '2021', '--check', made], stdout=subprocess.PIPE, encoding='utf-8')
         counts.say(ran.returncode == 0, f'{stem}.capnp: the file is as rustfmt writes it' if ran.returncode == 0 else ran.stdout[:2000])
 
@@ -160,7 +225,9 @@ def versions(options, room, counts):
     old, new = (Generated(options.generator, room / name, room / 'target', text, name, roots) for name, text in (('old', made.old), ('new', made.text)))
     if old.build(counts) and new.build(counts):
         for reader, writer in (old, new), (new, old):
-            reader.read(messages.frames(writer.schema, roots, options.messages, 9), f' of {writer.file}', counts)
+            frames = messages.frames(writer.schema, roots, options.messages, 9)
+            reader.read(frames, f' of {writer.file}', counts)
+            reader.check(frames, 9, counts)
 
 
 class Silent(run.Counts):
@@ -187,10 +254,33 @@ def bugs(options, room, counts):
         if made.build(silent):
             made.read(frames, '', silent)
             made.copy(frames, silent)
+            made.check(frames, 8, silent, 60)
+            made.values(frames, silent)
         found += silent.failed > 0
         if not silent.failed:
             counts.say(False, f'bugs: {what} of {call} is not found')
     counts.say(found == len(BUGS), f'bugs: {found} of {len(BUGS)} planted bugs are found')
+
+
+def build(options, room, counts):
+    example, target, generator = room / 'example', room / 'target', os.path.abspath(options.generator)
+    shutil.copytree(BUILD / 'example', example, ignore=shutil.ignore_patterns('target', 'Cargo.lock'))
+    manifest = (example / 'Cargo.toml').read_text(encoding='utf-8')
+    manifest = manifest.replace('"../../capnp_layout"', f'"{LAYOUT}"').replace('".."', f'"{BUILD}"')
+    (example / 'Cargo.toml').write_text(manifest, encoding='utf-8')
+    passed, said = cargo(['run'], example, target, CAPNPC_LAYOUT_RUST=generator)
+    counts.say(passed and said == '7: Alice\n', f'build: the example prints {said!r}')
+    passed, said = cargo(['clippy', '--all-targets'], BUILD, target)
+    counts.say(passed, 'build: no warning of rustc or clippy' if passed else said[-3000:])
+    schema = example / 'schema/shop.capnp'
+    for what, variables, wanted in (
+            ('a generator that is not there', {'CAPNPC_LAYOUT_RUST': '/nowhere/generator'}, 'CAPNPC_LAYOUT_RUST is /nowhere/generator: '),
+            ('no capnp', {'CAPNP': '/nowhere/capnp', 'CAPNPC_LAYOUT_RUST': generator}, "/nowhere/capnp isn't there: it is in Debian's package capnproto"),
+            ('a wrong schema', {'CAPNPC_LAYOUT_RUST': generator}, 'shop.capnp:1:')):
+        if what == 'a wrong schema':
+            schema.write_text('strukt', encoding='utf-8')
+        passed, said = cargo(['build'], example, target, **variables)
+        counts.say(not passed and wanted in said, f'build: {what} is named' if wanted in said else f'build: {what}: {said[-1000:]}')
 
 
 def odd(options, room, counts):

@@ -1,17 +1,19 @@
-"""Writes a program in Rust over generated code: it prints messages, or copies each field of them, by the words `print` and `copy`.
-It prints in the notation of `capnp decode`, except that enums are numbers, and floats their bits, and that bytes are lists."""
+"""Writes a program in Rust over generated code: it prints messages, copies each field of them, checks them, or copies
+them by plain values, by the words `print`, `copy`, `check` and `value`. It prints in the notation of `capnp decode`, except that enums are numbers, and floats their bits, and
+that bytes are lists.
+
+Each function is written twice: for checked readers, whose getters return values, and for the others, whose getters return a
+`Result`."""
 import re
 
 from schema import BITS, NO_DISCRIMINANT, always, has_default, kind, members, name_of, take, unquoted
 
-HEAD = '''//! Prints or copies each message of standard input, by generated code.
+HEAD = '''//! Prints, copies or checks each message of standard input, by generated code.
 mod {file};
 
-use capnp_layout::{{Builder, Error, Limits, Message, Meter}};
+use capnp_layout::{{Builder, Error, Limits, Message, Meter, Outcome}};
 use std::fmt::Write as _;
 use std::io::{{Read as _, Write as _}};
-
-type Shown = Result<(), Error>;
 
 fn show_bytes(bytes: &[u8], out: &mut String) {{
     out.push('[');
@@ -25,7 +27,7 @@ MAIN = '''
 fn main() {{
     let mut bytes = Vec::new();
     std::io::stdin().read_to_end(&mut bytes).unwrap();
-    let copies = std::env::args().nth(1).as_deref() == Some("copy");
+    let word = std::env::args().nth(1).unwrap();
     let (mut rest, mut i) = (&bytes[..], 0);
     while !rest.is_empty() {{
         let (message, after) = Message::open_first(rest, Limits::default()).unwrap();
@@ -40,21 +42,62 @@ fn main() {{
 fn hex(built: Builder) -> Result<String, Error> {{
     Ok(built.to_frame()?.iter().map(|byte| format!("{{byte:02x}}")).collect())
 }}
+
+/// `same`, if what is read is as it was. A value doesn't tell empty texts and lists from null, and keeps no pointer of any kind.
+fn copied(old: &str, new: &str, are_equal: bool) -> String {{
+    let plain = |text: &str| text.replace("= null", "= []").replace("= any", "= []");
+    match plain(old) == plain(new) && are_equal {{
+        true => "same".into(),
+        false => format!("{{old}} became {{new}}"),
+    }}
+}}
+
+/// `yes` or `no`, if all readers agree: whoever reads after a yes gets what lazy readers read, and if all fields of a
+/// sound message can be read, the answer is yes.
+fn agreed(checked: Result<String, Error>, sound: Result<String, Error>, lazy: Result<String, Error>) -> String {{
+    match (checked, sound, lazy) {{
+        (Ok(checked), Ok(sound), Ok(lazy)) if checked == sound && sound == lazy => "yes".into(),
+        (Err(_), Err(_), _) => "no".into(),
+        (checked, sound, lazy) => format!("{{checked:?}}, but {{sound:?}} and {{lazy:?}}"),
+    }}
+}}
 '''
-# In turn, what a message's struct is read by: lazily, or after a check of the whole message.
-ARM = '''            {which} if copies => (|| {{
-                let mut built = Builder::new();
-                copy_{name}(message.sound()?.into(), built.init::<{type}<'_>>(), 64)?;
-                hex(built)
-            }})(),
-            {which} => (|| {{
-                let mut out = String::new();
-                if i % 2 == 0 {{
-                    show_{name}(message.lazy()?.into(), &mut out, 64)?;
-                }} else {{
+# What is done with a message. It is printed, in turn, by a lazy reader, after a check without the schema, and after one against it.
+ARM = '''            {which} => (|| {{
+                let checked = || {{
+                    let mut out = String::new();
+                    checked_{name}(message.root::<{type}>()?, &mut out, 64);
+                    Ok::<_, Error>(out)
+                }};
+                let sound = || {{
+                    let mut out = String::new();
                     show_{name}(message.sound()?.into(), &mut out, 64)?;
+                    Ok::<_, Error>(out)
+                }};
+                let lazy = || {{
+                    let mut out = String::new();
+                    show_{name}(message.lazy()?.into(), &mut out, 64)?;
+                    Ok::<_, Error>(out)
+                }};
+                let mut built = Builder::new();
+                match (word.as_str(), i % 3) {{
+                    ("check", _) => return Ok(agreed(checked(), sound(), lazy())),
+                    ("value", _) => {{
+                        let value = {module}::Value::from(message.root::<{type}>()?);
+                        value.write_to(built.init::<{type}>());
+                        let made = built.as_message()?;
+                        let mut out = String::new();
+                        checked_{name}(made.root::<{type}>()?, &mut out, 64);
+                        let again = {module}::Value::from(made.root::<{type}>()?);
+                        return Ok(copied(&checked()?, &out, format!("{{value:?}}") == format!("{{again:?}}")));
+                    }}
+                    ("copy", 0) => copy_{name}(message.sound()?.into(), built.init::<{type}>(), 64)?,
+                    ("copy", _) => copy_checked_{name}(message.root::<{type}>()?, built.init::<{type}>(), 64),
+                    (_, 0) => return lazy(),
+                    (_, 1) => return sound(),
+                    _ => return checked(),
                 }}
-                Ok::<_, Error>(out)
+                hex(built)
             }})(),
 '''
 WORDS = set('as async await break const continue crate dyn else enum extern false fn for if impl in let loop match mod move mut pub ref return self static struct super trait true type unsafe use where while abstract become box do final gen macro override priv try typeof unsized virtual yield'.split())
@@ -74,7 +117,7 @@ class Code:
     """The functions of a program for a schema."""
 
     def __init__(self, schema, file):
-        self.schema, taken = schema, {}
+        self.schema, self.is_checked, taken = schema, False, {}
         for node in schema.nodes.values():
             node['last'] = unquoted(node['displayName']).decode().split(':')[-1].split('.')[-1]
             scope = taken.setdefault(node['scopeId'], WORDS | {'Self', 'Builder', 'Which', 'Option', 'Result', 'g'})
@@ -98,6 +141,31 @@ class Code:
         name = snake(name_of(field))
         return name + '_' if name in WORDS else name
 
+    def tried(self, call, is_followed=True):
+        """A call that follows a pointer, with a `?` unless the reader was checked. `into_result` is for functions for readers of every kind."""
+        return f'{call}.into_result()?' if is_followed and not self.is_checked else call
+
+    def of(self, name):
+        """The name of a function: those for checked readers differ."""
+        return {'show': 'checked', 'copy': 'copy_checked'}[name] if self.is_checked else name
+
+    def function(self, name, node, args):
+        """A call of a function for a struct or a group."""
+        return f'{self.of(name)}_{node["module"]}({args}, depth - 1){"" if self.is_checked else "?"};\n'
+
+    def struct(self, name, of, args):
+        return self.function(name, self.schema.declared(of), args)
+
+    def group(self, name, field, args):
+        return self.function(name, self.schema.nodes[field['group']['typeId']], args)
+
+    def head(self, name, node, args):
+        """What begins a function, and what ends it."""
+        if self.is_checked:
+            return f'\nfn {self.of(name)}_{node["module"]}(r: {self.type(node)}, {args}, depth: u32) {{\n', 'return;\n', '}\n'
+        generic = f'<M: Meter>(r: {self.type(node)}<\'_, M>'
+        return f'\nfn {name}_{node["module"]}{generic}, {args}, depth: u32) -> Result<(), Error> {{\n', 'return Ok(());\n', 'Ok(())\n}\n'
+
     def show(self, of, got, to):
         """Prints a value that is read."""
         what = kind(of)
@@ -114,11 +182,11 @@ class Code:
         elif what == 'data':
             to.append(f'show_bytes({got}, out);\n')
         elif what == 'struct':
-            to.append(f'show_{self.schema.declared(of)["module"]}({got}, out, depth - 1)?;\n')
+            to.append(self.struct('show', of, f'{got}, out'))
         elif what == 'list':
             inner = of['list']['elementType']
             to.append(f'out.push(\'[\');\nfor item in {got} {{\n')
-            self.show(inner, 'item?' if kind(inner) in ('text', 'data', 'list') else 'item', to)
+            self.show(inner, self.tried('item', kind(inner) in ('text', 'data', 'list')), to)
             to.append('out.push_str(", ");\n}\nout.push(\']\');\n')
         else:
             to.append(f'let _ = {got};\nout.push_str("any");\n')
@@ -127,21 +195,21 @@ class Code:
         to.append(f'out.push_str("{name_of(field)} = ");\n')
         call = self.call(field)
         if 'group' in field:
-            to.append(f'show_{self.schema.nodes[field["group"]["typeId"]]["module"]}(r.{call}(), out, depth - 1)?;\n')
+            to.append(self.group('show', field, f'r.{call}(), out'))
             to.append('out.push_str(", ");\n')
             return
         of = field['slot']['type']
         what = kind(of)
         may_be_null = what in ('struct', 'list', 'anyPointer', 'interface') and not has_default(field)
         to.append(f'if !r.has_{snake(name_of(field))}() {{\nout.push_str("null");\n}} else {{\n' if may_be_null else '')
-        self.show(of, 'r' if what == 'void' else f'r.{call}(){"?" if what in FOLLOWED else ""}', to)
+        self.show(of, 'r' if what == 'void' else self.tried(f'r.{call}()', what in FOLLOWED), to)
         to.append('}\n' if may_be_null else '')
         to.append('out.push_str(", ");\n')
 
     def which(self, node):
         """The call that says which member is set."""
         followed = any('slot' in it and kind(it['slot']['type']) in FOLLOWED for it in members(node))
-        return f'r.which(){"?" if followed else ""}'
+        return self.tried('r.which()', followed)
 
     def variants(self, node, write, to):
         """A match of a union: what `write` says for each member."""
@@ -157,7 +225,7 @@ class Code:
     def show_member(self, field, to):
         to.append(f'out.push_str("{name_of(field)} = ");\n')
         if 'group' in field:
-            to.append(f'show_{self.schema.nodes[field["group"]["typeId"]]["module"]}(v, out, depth - 1)?;\n')
+            to.append(self.group('show', field, 'v, out'))
         else:
             self.show(field['slot']['type'], 'r' if kind(field['slot']['type']) == 'void' else 'v', to)
 
@@ -168,23 +236,23 @@ class Code:
         if members(node):
             self.variants(node, self.show_member, body)
         text = ''.join(body).replace('UNKNOWN', 'write!(out, "unknown = {n}").unwrap();\n')
-        return (f'\nfn show_{node["module"]}<M: Meter>(r: {self.type(node)}<\'_, M>, out: &mut String, depth: u32) -> Shown {{\nlet _ = (&r, depth);\n'
-                f'if depth == 0 {{\nout.push_str("deep");\nreturn Ok(());\n}}\nout.push(\'(\');\n{text}out.push(\')\');\nOk(())\n}}\n')
+        head, leave, end = self.head('show', node, 'out: &mut String')
+        return f'{head}let _ = (&r, depth);\nif depth == 0 {{\nout.push_str("deep");\n{leave}}}\nout.push(\'(\');\n{text}out.push(\')\');\n{end}'
 
     def copy_elements(self, of, source, made, to):
         """Copies the elements of a list: `source` is the list, and `made` the new one."""
         what = kind(of)
         to.append(f'{{\nlet list = {source};\nlet mut made = {made};\nfor (i, item) in list.into_iter().enumerate() {{\n')
         if what == 'struct':
-            to.append(f'copy_{self.schema.declared(of)["module"]}(item, made.at(i), depth - 1)?;\n')
+            to.append(self.struct('copy', of, 'item, made.at(i)'))
         elif what == 'list':
             inner = of['list']['elementType']
             init = 'init_structs' if kind(inner) == 'struct' else 'init'
-            self.copy_elements(inner, 'item?', f'made.{init}(i, list.len())', to)
+            self.copy_elements(inner, self.tried('item'), f'made.{init}(i, list.len())', to)
         elif what == 'void':
             to.append('let () = item;\nlet _ = (i, &mut made);\n')
         elif what in ('text', 'data'):
-            to.append('made.set(i, item?);\n')
+            to.append(f'made.set(i, {self.tried("item")});\n')
         elif what in BITS:
             to.append('made.set(i, item);\n')
         else:
@@ -201,7 +269,7 @@ class Code:
             to.append(f'to.set_{name}({got});\n')
         elif what == 'struct':
             to.append(f'to.init_{name}();\n' if reopens else '')
-            to.append(f'copy_{self.schema.declared(of)["module"]}({got}, to.{"edit" if reopens else "init"}_{name}(), depth - 1)?;\n')
+            to.append(self.struct('copy', of, f'{got}, to.{"edit" if reopens else "init"}_{name}()'))
         else:
             to.append(f'to.init_{name}({got}.len());\n' if reopens else '')
             self.copy_elements(of['list']['elementType'], got, f'to.edit_{name}()' if reopens else f'to.init_{name}(list.len())', to)
@@ -225,12 +293,12 @@ class Code:
     def copy_field(self, field, to):
         call = self.call(field)
         if 'group' in field:
-            to.append(f'copy_{self.schema.nodes[field["group"]["typeId"]]["module"]}(r.{call}(), to.{call}(), depth - 1)?;\n')
+            to.append(self.group('copy', field, f'r.{call}(), to.{call}()'))
             return
         what = kind(field['slot']['type'])
         if what == 'void' or what == 'interface':
             return
-        got = f'r.{call}(){"?" if what in FOLLOWED else ""}'
+        got = self.tried(f'r.{call}()', what in FOLLOWED)
         to.append(f'if r.has_{snake(name_of(field))}() {{\n' if what in FOLLOWED else '')
         self.copy_value(field, got, to)
         to.append('}\n' if what in FOLLOWED else '')
@@ -238,7 +306,7 @@ class Code:
     def copy_member(self, field, to):
         name = snake(name_of(field))
         if 'group' in field:
-            to.append(f'copy_{self.schema.nodes[field["group"]["typeId"]]["module"]}(v, to.init_{name}(), depth - 1)?;\n')
+            to.append(self.group('copy', field, f'v, to.init_{name}()'))
         elif kind(field['slot']['type']) == 'void':
             to.append(f'to.set_{name}();\n')
         elif kind(field['slot']['type']) in FOLLOWED:
@@ -253,15 +321,17 @@ class Code:
         if members(node):
             self.variants(node, self.copy_member, body)
         text = ''.join(body).replace('UNKNOWN', '')
-        return (f'\nfn copy_{node["module"]}<M: Meter>(r: {self.type(node)}<\'_, M>, mut to: {node["around"]}::{node["own"]}::Builder<\'_>, depth: u32) -> Shown {{\n'
-                f'let _ = (&r, &mut to, depth);\nif depth == 0 {{\nreturn Ok(());\n}}\n{text}Ok(())\n}}\n')
+        head, leave, end = self.head('copy', node, f'mut to: {node["around"]}::{node["own"]}::Builder<\'_>')
+        return f'{head}let _ = (&r, &mut to, depth);\nif depth == 0 {{\n{leave}}}\n{text}{end}'
 
 
 def program(schema, file, roots):
     """The text of the program for messages whose roots are these structs in turn. `file` is the generated module."""
     code = Code(schema, file)
     structs = [node for node in schema.written if 'struct' in node]
-    functions = ''.join(code.shower(node) + code.copier(node) for node in structs)
+    functions = ''
+    for code.is_checked in (False, True):
+        functions += ''.join(code.shower(node) + code.copier(node) for node in structs)
     found = [schema.find(it) for it in roots]
-    arms = ''.join(ARM.format(which=i if i + 1 < len(roots) else '_', name=node['module'], type=code.type(node)) for i, node in enumerate(found))
+    arms = ''.join(ARM.format(which=i if i + 1 < len(roots) else '_', name=node['module'], type=code.type(node), module=f'{node["around"]}::{node["own"]}') for i, node in enumerate(found))
     return HEAD.format(file=file) + functions + MAIN.format(count=len(roots), arms=arms)

@@ -5,6 +5,7 @@ use crate::piece::{PUBLIC, Piece};
 use crate::readers::{Schema, comment_of, is_void};
 use crate::templates;
 use crate::unions::{is_member, push_which_type};
+use crate::values::write_value;
 use capnpc_schema::model::{Default, Field, FieldKind, Node, Slot, Struct};
 use capnpc_schema::names::Names;
 use capnpc_schema::slots::add_group_slots;
@@ -12,7 +13,7 @@ use capnpc_schema::text::{Text, Values};
 use capnpc_schema::types::BaseKind;
 use std::alloc::Global;
 
-/// Writes the head of the module of a struct or a group: its builder, and its union.
+/// Writes the head of the module of a struct or a group: its builder, its union, and its plain value.
 pub fn write_module_head(schema: &Schema<'_>, node: &Node, it: &Struct, depth: usize) -> Piece {
     let mut piece = Piece::new(schema.alloc, depth);
     let mut values = schema.node_values(node);
@@ -32,6 +33,9 @@ pub fn write_module_head(schema: &Schema<'_>, node: &Node, it: &Struct, depth: u
     }
     if it.members > 0 {
         push_which_type(schema, &mut piece, node, it);
+    }
+    if schema.has_values {
+        write_value(schema, &mut piece, node, it);
     }
     piece
 }

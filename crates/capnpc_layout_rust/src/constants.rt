@@ -113,15 +113,15 @@ fn write_object(
         Default::Words(words) => byte_array(schema.alloc, words.as_slice()),
         _ => byte_array(schema.alloc, &[0, 0, 0, 0, 0, 0, 0, 0]),
     };
-    let element = element_type(schema.alloc, schema.nodes, node.scope, of, "'a");
+    let element = element_type(schema.alloc, schema.nodes, node.scope, of, "'static");
     values.put_text("element", element);
     let is_list = of.lists > 0;
     values.put_lines(if is_list {
-        "gives=g::Result<g::List<'a, ~element~>>\nread=g::list_or(g::null(), DEFAULT)"
+        "gives=g::List<'static, ~element~, g::Typed>\nread=g::constant_list(DEFAULT)"
     } else {
-        "gives=g::Result<~element~>\nread=g::struct_or(g::null(), DEFAULT)"
+        "gives=~element~\nread=g::constant_struct(DEFAULT)"
     });
-    piece.push("~allow~pub fn ~type~<'a>() -> ~gives~ {\n", values);
+    piece.push("~allow~pub fn ~type~() -> ~gives~ {\n", values);
     piece.push_array("    ", "const DEFAULT: &[u8] = &[", items.as_str(), "];");
     piece.push("    ~read~\n}\n", values);
 }

@@ -7,9 +7,10 @@ use capnpc_schema::text::{Lines, Text, Values};
 use capnpc_schema::types::BaseKind;
 use std::alloc::Global;
 
-/// Puts what the calls of a field have in common: `payload`, the type of its value; `fails`, a `?` if a
-/// reader's call returns a `Result`; `read`, how that reads it; `value` and `set` of a builder's
-/// call; `const` for a default value. `from` is the module of the code.
+/// Puts what the calls of a field have in common: `payload`, the type of its value; `fails`, a `?` if
+/// reading it can be refused; `read`, which reads it, and `body`, which returns it in the form of
+/// the meter; `value` and `set` of a builder's call; `const` for a default value. `from` is the
+/// module of the code.
 pub fn put_slot(alloc: Global, nodes: &[Node], from: u64, slot: &Slot, values: &mut Values) {
     let of = slot.of;
     values.put_number("index", u64::from(slot.offset));
@@ -26,9 +27,9 @@ pub fn put_slot(alloc: Global, nodes: &[Node], from: u64, slot: &Slot, values: &
     put_default(alloc, of, &slot.default, values);
     let is_fallible = !values.get("fails").is_empty();
     values.put_lines(if is_fallible {
-        "gives=g::Result<~payload~>"
+        "gives=M::Out<~payload~>\nbody=M::give(~read~)"
     } else {
-        "gives=~payload~"
+        "gives=~payload~\nbody=~read~"
     });
 }
 
@@ -141,14 +142,14 @@ init=self.0.init_as(~index~)
 edit_about=The struct that `~field~` leads to; a new one if it is null.
 edit=self.0.edit_as(~index~)";
 
-const CAPABILITY: Lines = "payload=u32
+const CAPABILITY: Lines = "payload=Option<u32>
 fails=?
-read=self.0.get_capability(~index~)
+read=g::capability(self.0.get_pointer(~index~))
 value=u32
 set=self.0.set_capability(~index~, value)";
 
-const POINTER: Lines = "payload=g::Pointer<'a, M>
-read=self.0.get_pointer(~index~)
+const POINTER: Lines = "payload=g::Pointer<'a, M::Plain>
+read=g::any(self.0.get_pointer(~index~))
 value=g::Pointer<'_, M>
 set=self.0.set_pointer(~index~, value)
 gives_init=g::PointerBuilder<'_>

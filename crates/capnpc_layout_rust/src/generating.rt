@@ -8,8 +8,10 @@ use crate::piece::Piece;
 use crate::readers::{Schema, put_allow};
 use crate::templates;
 use capnpc_schema::files::File;
+use capnpc_schema::groups::structs_of_file;
 use capnpc_schema::model::{Constant, Node, NodeKind, find_node};
 use capnpc_schema::request::SchemaFile;
+use capnpc_schema::table::{TableRow, UTF8, table_of};
 use capnpc_schema::text::{Text, Values};
 use std::alloc::{AllocError, Global};
 
@@ -22,17 +24,21 @@ pub struct Generated {
     pub skipped: String,
 }
 
-/// Generates the files of a request.
+/// Generates the files of a request, with plain values if `has_values` says so.
 pub fn generate(
     alloc: Global,
     requested: &[SchemaFile],
     nodes: &[Node],
+    has_values: bool,
 ) -> Result<Generated, AllocError> {
     let mut files = Vec::new(alloc);
     let mut schema = Schema {
         alloc,
         nodes,
         skipped: Text::new(alloc),
+        has_values,
+        file: 0,
+        table: table_of(alloc, nodes, &[], UTF8),
     };
     for file in requested {
         if let Some(node) = find_node(nodes, file.id) {
@@ -52,6 +58,8 @@ fn generate_file(schema: &mut Schema<'_>, node: &Node, name: &str) -> Result<Fil
     let mut values = Values::new(schema.alloc);
     values.put("file", name);
     text.push_filled(templates::FILE_HEAD, &values);
+    make_table(schema, node.id);
+    write_table(schema, &mut text);
     let order = order_of(schema.alloc, schema.nodes, node.id);
     text.note_if_failed(order.has_failed);
     let mut open = 0usize;
@@ -65,6 +73,55 @@ fn generate_file(schema: &mut Schema<'_>, node: &Node, name: &str) -> Result<Fil
     let path = path.into_string()?;
     let text = text.into_string()?;
     Ok(File { path, text })
+}
+
+// Makes the table of the structs of a file.
+fn make_table(schema: &mut Schema<'_>, file: u64) {
+    let structs = structs_of_file(schema.alloc, schema.nodes, file);
+    schema.file = file;
+    schema.table = table_of(schema.alloc, schema.nodes, structs.ids.as_slice(), UTF8);
+    schema.table.has_failed = schema.table.has_failed || structs.has_failed;
+}
+
+// Writes the table of a file that has structs.
+fn write_table(schema: &Schema<'_>, text: &mut Text) {
+    text.note_if_failed(schema.table.has_failed);
+    if schema.table.rows.is_empty() {
+        return;
+    }
+    let mut piece = Piece::new(schema.alloc, 0);
+    let mut words = Text::new(schema.alloc);
+    for word in schema.table.words.iter() {
+        push_item(&mut words, *word);
+    }
+    piece.text.push(templates::TABLE);
+    piece.push_array("", "const TABLE: &[u32] = &[", words.as_str(), "];");
+    piece.text.push(templates::NAMES);
+    for row in schema.table.rows.iter() {
+        push_row_names(&mut piece.text, row);
+    }
+    piece.text.push("\";\n");
+    piece.push_into(text, 0);
+}
+
+// Appends a word of an array.
+fn push_item(words: &mut Text, word: u32) {
+    if !words.as_str().is_empty() {
+        words.push(", ");
+    }
+    words.push_number(u64::from(word));
+}
+
+// Appends the line of names of a row.
+fn push_row_names(text: &mut Text, row: &TableRow) {
+    text.push_number(u64::from(row.position));
+    text.push_all(&[" ", row.name.as_str()]);
+    let mut separator = " ";
+    for field in row.fields.iter() {
+        text.push_all(&[separator, field.as_str()]);
+        separator = ",";
+    }
+    text.push("\n");
 }
 
 // Closes modules until only `depth` of `open` are open.

@@ -15,7 +15,7 @@ pub const CALLS: &[(&str, &str)] = &[
 ];
 
 /// Names of calls that fields can't have, since each struct has such calls.
-pub const CALL_WORDS: &[&str] = &["which"];
+pub const CALL_WORDS: &[&str] = &["which", "read_which"];
 
 /// Names that calls, modules and files can't have: words of Rust.
 pub const RUST_WORDS: &[&str] = &[
@@ -119,8 +119,13 @@ pub const ITEM_WORDS: &[&str] = &[
     "Hash",
     "SIZE",
     "DEFAULT",
+    "TABLE",
+    "NAMES",
     "M",
 ];
+
+/// Names that types in the scope of a struct can't have if structs have plain values.
+pub const VALUE_WORDS: &[&str] = &["Value", "WhichValue"];
 
 /// Names that variants can't have.
 pub const VARIANT_WORDS: &[&str] = &["Self", "Unknown"];

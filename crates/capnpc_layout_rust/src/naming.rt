@@ -1,10 +1,10 @@
 //! Names the declarations of a request and the fields of structs in generated Rust.
 
 use crate::names::{
-    CALL_WORDS, CALLS, ITEM_WORDS, RUST_WORDS, VARIANT_WORDS, is_word, last_part, snake_name,
-    upper_name,
+    CALL_WORDS, CALLS, ITEM_WORDS, RUST_WORDS, VALUE_WORDS, VARIANT_WORDS, is_word, last_part,
+    snake_name, upper_name,
 };
-use crate::types::{is_bytes, is_pointer};
+use crate::types::is_bytes;
 use capnpc_schema::input::stem;
 use capnpc_schema::model::{Field, Node, NodeKind};
 use capnpc_schema::names::{Names, capitalized};
@@ -12,13 +12,29 @@ use capnpc_schema::noted::Noted;
 use capnpc_schema::text::Text;
 use std::alloc::Global;
 
-/// Names each declaration: its module, and its type or constant. Names the fields of structs.
-pub fn name_nodes(nodes: &mut Vec<Node>, noted: &mut Noted) {
+/// Names each declaration: its module, and its type or constant. Names the fields of structs. If
+/// `has_values` says so, the names of plain values in the scope of each struct stay free.
+pub fn name_nodes(nodes: &mut Vec<Node>, has_values: bool, noted: &mut Noted) {
     let mut taken = Names::new(noted.alloc);
+    if has_values {
+        for node in nodes.iter() {
+            take_values(node, &mut taken, noted.alloc);
+        }
+    }
     for node in nodes.iter_mut() {
         name_node(node, &mut taken, noted);
     }
     noted.note_if_failed(taken.has_failed);
+}
+
+// Takes the names of plain values in the scope of a struct.
+fn take_values(node: &Node, taken: &mut Names, alloc: Global) {
+    if let NodeKind::Struct(_) = &node.kind {
+        for name in VALUE_WORDS {
+            let key = scoped(alloc, node.id, name);
+            taken.add(alloc, key.as_str());
+        }
+    }
 }
 
 // Names a declaration.
@@ -40,7 +56,7 @@ fn name_node(node: &mut Node, taken: &mut Names, noted: &mut Noted) {
         NodeKind::Enum(_) => node.item = unique_in(scope, capitalized(alloc, last), taken, noted),
         NodeKind::Const(constant) => {
             let is_call = match constant {
-                Some(it) => is_pointer(it.of) && !is_bytes(it.of),
+                Some(it) => it.of.is_pointer() && !is_bytes(it.of),
                 None => false,
             };
             let name = if is_call {

@@ -4,7 +4,7 @@ use crate::docs::MAX_WIDTH;
 use capnpc_schema::text::{Text, Values};
 use std::alloc::Global;
 
-/// The most characters of an array in one line.
+/// The most characters of an array's items in one line.
 const ARRAY_WIDTH: usize = 60;
 
 /// The most characters of a call's arguments in one line.
@@ -115,7 +115,7 @@ impl Piece {
         self.text.push_all(&[indent, start]);
         let line = indent.len().saturating_add(start.len());
         let whole = line.saturating_add(items.len()).saturating_add(end.len());
-        if items.len() <= ARRAY_WIDTH.saturating_sub(2) && whole <= self.width {
+        if items.len() <= ARRAY_WIDTH && whole <= self.width {
             self.text.push_all(&[items, end, "\n"]);
             return;
         }

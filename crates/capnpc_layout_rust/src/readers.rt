@@ -3,11 +3,13 @@
 use crate::docs::push_docs;
 use crate::forms::put_slot;
 use crate::naming::{accessor, call_name};
+use crate::paths::push_path;
 use crate::piece::{PUBLIC, Piece};
 use crate::templates;
-use crate::types::{is_pointer, lacking_in_rust, path_to};
+use crate::types::{lacking_in_rust, path_to};
 use crate::unions::{is_fallible, is_member, push_which_call};
 use capnpc_schema::model::{Field, FieldKind, Node, Slot, Struct, find_node, lacking, type_name};
+use capnpc_schema::table::Table;
 use capnpc_schema::text::{Text, Values};
 use std::alloc::Global;
 
@@ -20,6 +22,12 @@ pub struct Schema<'m> {
     pub nodes: &'m [Node],
     /// What isn't written, and why: a line for each.
     pub skipped: Text,
+    /// Whether structs have plain values.
+    pub has_values: bool,
+    /// The id of the file that is written.
+    pub file: u64,
+    /// What the pointers of the file's structs may lead to, and of those that they lead to.
+    pub table: Table,
 }
 
 impl<'m> Schema<'m> {
@@ -118,6 +126,7 @@ impl<'m> Schema<'m> {
         piece.push(templates::FROM_STRUCT, &values);
         if !it.is_group {
             self.write_element(&mut piece, node);
+            self.put_row(node, &mut values);
             piece.push(templates::STRUCT_TYPE, &values);
         }
         self.write_debug(&mut piece, node, it);
@@ -169,6 +178,15 @@ impl<'m> Schema<'m> {
         piece.push(templates::ELEMENT_END, &values);
     }
 
+    // Puts the row of a struct in the table of its file, and the module of the table.
+    fn put_row(&self, node: &Node, values: &mut Values) {
+        let row = self.table.row_of(node.id).unwrap_or(0);
+        values.put_number("row", u64::from(row));
+        let mut path = Text::new(self.alloc);
+        push_path(self.alloc, self.nodes, node.scope, self.file, &mut path);
+        values.put_text("top", path);
+    }
+
     // Writes what `{:?}` shows of a struct.
     fn write_debug(&self, piece: &mut Piece, node: &Node, it: &Struct) {
         let values = self.node_values(node);
@@ -184,7 +202,7 @@ impl<'m> Schema<'m> {
         if it.members > 0 {
             let is_result = is_fallible(it);
             let read = if is_result {
-                "&g::Shown(self.which())"
+                "&g::shown(self.which())"
             } else {
                 "&self.which()"
             };
@@ -197,8 +215,8 @@ impl<'m> Schema<'m> {
 // How a field is shown.
 const SHOW: &str = "show=&self.~call~()";
 
-// How a field is shown whose call returns a `Result`.
-const SHOW_RESULT: &str = "show=&g::Shown(self.~call~())";
+// How a field is shown whose call may return a `Result`.
+const SHOW_RESULT: &str = "show=&g::shown(self.~call~())";
 
 /// Puts what is before an item inside of this many modules.
 pub fn put_allow(depth: usize, values: &mut Values) {
@@ -226,7 +244,7 @@ fn write_getter(piece: &mut Piece, field: &Field, comment: &str, values: &mut Va
     match &field.kind {
         FieldKind::Group(_) => {
             values.put_lines(
-                "name=~call~\nparams=&self\ngives=~path~~item~<'a, M>\nread=self.0.into()",
+                "name=~call~\nparams=&self\ngives=~path~~item~<'a, M>\nbody=self.0.into()",
             );
             push_getter(piece, comment, values);
         }
@@ -245,7 +263,7 @@ fn push_getter(piece: &mut Piece, comment: &str, values: &Values) {
     push_docs(&mut piece.text, "    ", comment, values.get("line"));
     piece.push_signature(PUBLIC, values);
     piece.push_default("        ", values);
-    piece.push("        ~read~\n    }\n", values);
+    piece.push("        ~body~\n    }\n", values);
 }
 
 // Writes the other calls of a pointer.
@@ -256,12 +274,12 @@ fn write_bytes_and_has(piece: &mut Piece, slot: &Slot, values: &mut Values) {
             "    /// The bytes of `~field~`, which needn't be UTF-8.\n",
             values,
         );
-        values.put_lines("name=~bytes_call~\ngives=g::Result<&'a [u8]>");
+        values.put_lines("name=~bytes_call~\ngives=M::Out<&'a [u8]>");
         piece.push_signature(PUBLIC, values);
         piece.push_default("        ", values);
-        piece.push("        ~read_bytes~\n    }\n", values);
+        piece.push("        M::give(~read_bytes~)\n    }\n", values);
     }
-    if is_pointer(slot.of) {
+    if slot.of.is_pointer() {
         values.put_lines("about=Whether `~field~` isn't null.\nread=self.0.has(~index~)");
         push_has(piece, values);
     }
@@ -270,7 +288,7 @@ fn write_bytes_and_has(piece: &mut Piece, slot: &Slot, values: &mut Values) {
 // Writes the call that says whether a member of a union is set, and isn't null, if it is a pointer.
 fn write_member_has(piece: &mut Piece, field: &Field, values: &mut Values) {
     if let FieldKind::Slot(slot) = &field.kind
-        && is_pointer(slot.of)
+        && slot.of.is_pointer()
     {
         values.put_lines(MEMBER_HAS);
         push_has(piece, values);

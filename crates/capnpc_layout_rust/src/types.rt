@@ -6,19 +6,6 @@ use capnpc_schema::text::Text;
 use capnpc_schema::types::BaseKind;
 use std::alloc::Global;
 
-/// Whether a field of the type is in its struct's pointer section.
-pub fn is_pointer(of: Type) -> bool {
-    of.lists > 0
-        || matches!(
-            of.base.kind,
-            BaseKind::Text
-                | BaseKind::Data
-                | BaseKind::Struct
-                | BaseKind::Capability
-                | BaseKind::Pointer
-        )
-}
-
 /// Whether the type is text or data.
 pub fn is_bytes(of: Type) -> bool {
     of.lists == 0 && matches!(of.base.kind, BaseKind::Text | BaseKind::Data)
@@ -79,6 +66,30 @@ pub fn element_type(alloc: Global, nodes: &[Node], from: u64, of: Type, life: &s
         _ => name.append(&scalar_type(alloc, nodes, from, of)),
     }
     for _ in 1..of.lists {
+        name.push(">");
+    }
+    name
+}
+
+/// The type of the plain value of a field.
+pub fn element_value(alloc: Global, nodes: &[Node], from: u64, of: Type) -> Text {
+    let mut name = Text::new(alloc);
+    for _ in 0..of.lists {
+        name.push("g::Vec<");
+    }
+    match of.base.kind {
+        BaseKind::Text => name.push("g::String"),
+        BaseKind::Data => name.push("g::Vec<u8>"),
+        BaseKind::Struct => {
+            name.append(&path_to(alloc, nodes, from, of.id));
+            if let Some(node) = find_node(nodes, of.id) {
+                name.push(node.module.as_str());
+                name.push("::Value");
+            }
+        }
+        _ => name.append(&scalar_type(alloc, nodes, from, of)),
+    }
+    for _ in 0..of.lists {
         name.push(">");
     }
     name

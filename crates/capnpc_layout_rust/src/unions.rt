@@ -4,7 +4,6 @@ use crate::docs::push_docs;
 use crate::piece::Piece;
 use crate::readers::{Schema, comment_of, is_void};
 use crate::templates;
-use crate::types::is_pointer;
 use capnpc_schema::model::{Field, FieldKind, NO_DISCRIMINANT, Node, Struct};
 use capnpc_schema::types::BaseKind;
 
@@ -28,14 +27,14 @@ fn is_followed(field: &Field) -> bool {
     match &field.kind {
         FieldKind::Slot(slot) => {
             let is_any = slot.of.lists == 0 && matches!(slot.of.base.kind, BaseKind::Pointer);
-            is_pointer(slot.of) && !is_any
+            slot.of.is_pointer() && !is_any
         }
         _ => false,
     }
 }
 
-// What parameters the type of a union has: `'a` and `M`, `'a`, or none.
-fn parameters(schema: &Schema<'_>, it: &Struct) -> &'static str {
+/// What parameters the type of a union has: `'a` and `M`, `'a`, or none.
+pub fn parameters(schema: &Schema<'_>, it: &Struct) -> &'static str {
     let mut found = "";
     for field in it.fields.iter() {
         if is_member(field) && schema.skip_reason(field).is_empty() {
@@ -120,7 +119,7 @@ pub fn push_which_type(schema: &Schema<'_>, piece: &mut Piece, node: &Node, it: 
     values.put(
         "parameters",
         match parameters(schema, it) {
-            "<'a, M>" => "<'a, M: g::Meter = g::Sound>",
+            "<'a, M>" => "<'a, M: g::Meter = g::Typed>",
             other => other,
         },
     );

@@ -4,11 +4,13 @@
 
 pub mod defaults;
 pub mod files;
+pub mod groups;
 pub mod input;
 pub mod model;
 pub mod names;
 pub mod noted;
 pub mod request;
 pub mod slots;
+pub mod table;
 pub mod text;
 pub mod types;

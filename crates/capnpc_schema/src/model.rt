@@ -24,6 +24,19 @@ impl Type {
         self.base
     }
 
+    /// Whether a field of the type is in its struct's pointer section.
+    pub fn is_pointer(self) -> bool {
+        self.lists > 0
+            || matches!(
+                self.base.kind,
+                BaseKind::Text
+                    | BaseKind::Data
+                    | BaseKind::Struct
+                    | BaseKind::Capability
+                    | BaseKind::Pointer
+            )
+    }
+
     /// Whether a field of the type has no value.
     pub fn is_void(self) -> bool {
         self.lists == 0 && matches!(self.base.kind, BaseKind::Void)
@@ -168,6 +181,17 @@ pub fn find_node(nodes: &[Node], id: u64) -> Option<&Node> {
         }
     }
     None
+}
+
+/// The struct or group with this id.
+pub fn find_struct(nodes: &[Node], id: u64) -> Option<&Struct> {
+    match find_node(nodes, id) {
+        Some(node) => match &node.kind {
+            NodeKind::Struct(it) => Some(it),
+            _ => None,
+        },
+        None => None,
+    }
 }
 
 /// The name of a type in the schema.

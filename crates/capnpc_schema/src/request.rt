@@ -4,7 +4,7 @@ use crate::defaults::canonical_words;
 use crate::model::{Constant, Default, Field, FieldKind, Node, NodeKind, Slot, Struct, Type};
 use crate::noted::Noted;
 use crate::text::Text;
-use crate::types::{BaseKind, base_of};
+use crate::types::{ANY_CAPABILITY, ANY_LIST, ANY_POINTER, ANY_STRUCT, Base, BaseKind, base_of};
 use capnp_arena_traits::arena::ReaderArena;
 use capnp_readers::readers::PointerReader;
 use capnp_words::error::ErrorKind;
@@ -12,7 +12,8 @@ use capnp_words::read_limiter::ReadLimiter;
 use schema_reading::{
     code_generator_request, code_generator_request_requested_file, enumerant, field, field_ordinal,
     field_ordinal_which, field_slot, field_which, node, node_const, node_source_info,
-    node_source_info_member, node_struct, node_which, type_, type_which, value_,
+    node_source_info_member, node_struct, node_which, type_, type_any_pointer,
+    type_any_pointer_unconstrained_which, type_any_pointer_which, type_which, value_,
 };
 
 /// The most lists of lists that a type is read of.
@@ -363,7 +364,10 @@ fn type_of<A: ReaderArena>(
     which: type_which::Which,
     lists: u32,
 ) -> Type {
-    let base = base_of(which as usize);
+    let base = match which {
+        type_which::Which::AnyPointer => any_base_of(from.get_any_pointer()),
+        _ => base_of(which as usize),
+    };
     let is_declared = base.name.is_empty();
     Type {
         lists,
@@ -373,6 +377,22 @@ fn type_of<A: ReaderArena>(
         } else {
             0
         },
+    }
+}
+
+// The type of a pointer that isn't typed any further. A type parameter is any pointer.
+fn any_base_of<A: ReaderArena>(from: type_any_pointer::Reader<'_, A>) -> &'static Base {
+    if !matches!(
+        from.which(),
+        Ok(type_any_pointer_which::Which::Unconstrained)
+    ) {
+        return ANY_POINTER;
+    }
+    match from.get_unconstrained().which() {
+        Ok(type_any_pointer_unconstrained_which::Which::Struct) => ANY_STRUCT,
+        Ok(type_any_pointer_unconstrained_which::Which::List) => ANY_LIST,
+        Ok(type_any_pointer_unconstrained_which::Which::Capability) => ANY_CAPABILITY,
+        _ => ANY_POINTER,
     }
 }
 

@@ -58,6 +58,15 @@ const MAX: u64 = u64::MAX;
 /// Any pointer.
 pub const ANY_POINTER: &Base = &base!(Pointer, "AnyPointer", "()", 0, MAX);
 
+/// A pointer to a struct of any type.
+pub const ANY_STRUCT: &Base = &base!(Pointer, "AnyStruct", "()", 0, MAX);
+
+/// A pointer to a list of any type.
+pub const ANY_LIST: &Base = &base!(Pointer, "AnyList", "()", 0, MAX);
+
+/// A capability of any type, as a pointer.
+pub const ANY_CAPABILITY: &Base = &base!(Pointer, "Capability", "()", 0, MAX);
+
 // The types, by their numbers in `schema.capnp`.
 const BASES: &[Base] = &[
     base!(Void, "Void", "()", 0, MAX),

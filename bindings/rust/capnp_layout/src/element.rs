@@ -1,6 +1,5 @@
 //! The types that elements of a list can have.
 
-use crate::error::Error;
 use crate::list::List;
 use crate::meter::sealed::Closed;
 use crate::meter::Meter;
@@ -10,6 +9,7 @@ use crate::proved::capnp_words::wire_pointer::ElementSize;
 use crate::proved::capnp_words::zero::Zero;
 use crate::reading::{Pointer, Struct};
 use crate::segments::Arena;
+use core::fmt;
 use core::marker::PhantomData;
 
 /// A number that a struct or a list can hold.
@@ -33,9 +33,9 @@ pub trait Element: Closed {
     /// The least size of the elements.
     #[doc(hidden)]
     const SIZE: ElementSize;
-    /// What an element is read as. For texts, data and lists it is a `Result`, since a pointer is
-    /// followed.
-    type Item<'a, M: Meter>;
+    /// What an element is read as. For texts, data and lists it is what a getter of a generated type
+    /// returns: a `Result`, unless the message was checked against its schema.
+    type Item<'a, M: Meter>: fmt::Debug;
     /// Element `index`, which the list has.
     #[doc(hidden)]
     fn read<'a, M: Meter>(
@@ -184,9 +184,9 @@ macro_rules! pointers {
 }
 
 pointers! {
-    [] str, Result<&'a str, Error>, |it: Pointer<'a, M>| it.as_text();
-    [] [u8], Result<&'a [u8], Error>, |it: Pointer<'a, M>| it.as_data();
-    [] Pointers, Pointer<'a, M>, |it| it;
-    [T: Element + ?Sized] Lists<T>, Result<List<'a, T, M>, Error>,
-        |it: Pointer<'a, M>| it.as_list();
+    [] str, M::Out<&'a str>, |it: Pointer<'a, M>| M::give(it.as_text());
+    [] [u8], M::Out<&'a [u8]>, |it: Pointer<'a, M>| M::give(it.as_data());
+    [] Pointers, Pointer<'a, M::Plain>, |it: Pointer<'a, M>| it.plain();
+    [T: Element + ?Sized] Lists<T>, M::Out<List<'a, T, M>>,
+        |it: Pointer<'a, M>| M::give(it.as_list());
 }

@@ -83,15 +83,19 @@ impl fmt::Display for Reason {
 /// What only few refusals have.
 #[derive(Clone, Debug, Default)]
 struct Details {
-    /// The refused pointer: its path, its segment, and its position in words.
-    pointer: Option<(String, u64, u32)>,
+    /// The path to the refused pointer.
+    path: Option<String>,
+    /// Its segment, and its position there in words.
+    place: Option<(u64, u32)>,
+    /// The name of its field.
+    field: Option<String>,
     #[cfg(feature = "std")]
     source: Option<rust_alloc::sync::Arc<std::io::Error>>,
 }
 
 /// A refusal: what is wrong, and, if that is known, the pointer that is wrong.
 ///
-/// Two errors are equal if reason, path and place are.
+/// Two errors are equal if reason, path, place and field are.
 #[derive(Clone, Debug)]
 pub struct Error {
     reason: Reason,
@@ -114,22 +118,32 @@ impl Error {
         self.reason.number()
     }
 
-    fn pointer(&self) -> Option<&(String, u64, u32)> {
-        self.details.as_ref()?.pointer.as_ref()
+    fn pointer(&self) -> (Option<&str>, Option<(u64, u32)>, Option<&str>) {
+        (self.path(), self.place(), self.field())
     }
 
     /// The path to the refused pointer, in the form of `capnp_canon --at`: `0.2.[7].1` is pointer 1
     /// of element 7 of the list that pointer 2 of the root's pointer 0 leads to; `root` is the
     /// root pointer. `None` if the refusal isn't that of a check of a whole message, such as
-    /// [`Message::sound`](crate::Message::sound).
+    /// [`Message::root`](crate::Message::root) or [`Message::sound`](crate::Message::sound).
     pub fn path(&self) -> Option<&str> {
-        self.pointer().map(|(path, ..)| path.as_str())
+        self.details.as_ref()?.path.as_deref()
     }
 
-    /// The place of the refused pointer, if there is a path: its segment, and its position there in
+    /// The place of the refused pointer, if that is known: its segment, and its position there in
     /// words.
     pub fn place(&self) -> Option<(u64, u32)> {
-        self.pointer().map(|(_, segment, word)| (*segment, *word))
+        self.details.as_ref()?.place
+    }
+
+    /// The field of the schema that the refused pointer is, such as `Person.phones`; for an element
+    /// of a list of texts, data or lists, the field that the list is. If several members of unions
+    /// share the pointer, all of them are named: `Person.employment.employer or
+    /// employment.school`. Only the struct, `Person`, if the schema doesn't know the pointer. `None`
+    /// if the refusal isn't that of a check against a schema, or is about what a pointer of any kind
+    /// leads to.
+    pub fn field(&self) -> Option<&str> {
+        self.details.as_ref()?.field.as_deref()
     }
 
     /// Whether a limit was reached. With other [`Limits`](crate::Limits) the message may be
@@ -147,11 +161,18 @@ impl Error {
     }
 
     #[cold]
-    pub(crate) fn at(reason: Reason, path: String, segment: u64, word: u32) -> Self {
+    pub(crate) fn at(
+        reason: Reason,
+        path: Option<String>,
+        place: (u64, u32),
+        field: Option<String>,
+    ) -> Self {
         // without std there is no other field
         #[allow(clippy::needless_update)]
         let details = Details {
-            pointer: Some((path, segment, word)),
+            path,
+            place: Some(place),
+            field,
             ..Details::default()
         };
         Error {
@@ -206,11 +227,20 @@ impl From<FrameError> for Error {
     }
 }
 
-/// `InvalidSegmentId(7)`, or with a path `pointer 0.2.[7].1: InvalidSegmentId(7)`.
+/// `InvalidSegmentId(7)`; with a path `pointer 0.2.[7].1: InvalidSegmentId(7)`; after a check against a
+/// schema `Person.phones (pointer 0.2.[7].1 at segment 0, word 5): InvalidSegmentId(7)`.
 impl fmt::Display for Error {
     fn fmt(&self, f: &mut fmt::Formatter<'_>) -> fmt::Result {
-        if let Some(path) = self.path() {
-            write!(f, "pointer {path}: ")?;
+        match self.pointer() {
+            (path, Some((segment, word)), Some(field)) => {
+                write!(f, "{field} (pointer ")?;
+                if let Some(path) = path {
+                    write!(f, "{path} ")?;
+                }
+                write!(f, "at segment {segment}, word {word}): ")?;
+            }
+            (Some(path), ..) => write!(f, "pointer {path}: ")?,
+            _ => {}
         }
         self.reason.fmt(f)
     }

@@ -3,14 +3,17 @@
 
 use crate::proved::capnp_readers::readers::{ListReader, PointerReader};
 use crate::segments::Arena;
+use crate::Outcome;
 use core::str;
 
 pub use crate::meter::sealed::Closed;
+pub use crate::values::{boxed, fill, no_struct, own_list, Owned};
 pub use crate::{
     Element, ElementSize, Enum, Error, List, ListBuilder, Lists, Meter, Pointer, PointerBuilder,
-    Pointers, Reason, Sound, Struct, StructBuilder, StructSize, StructType, Structs, TypedBuilder,
+    Pointers, Reason, Struct, StructBuilder, StructSize, StructType, Structs, Typed, TypedBuilder,
 };
 pub use core::fmt;
+pub use rust_alloc::{boxed::Box, string::String, vec::Vec};
 
 /// What a getter returns that follows a pointer.
 pub type Result<T> = core::result::Result<T, Error>;
@@ -71,11 +74,44 @@ pub fn list_or<'a, T: Element + ?Sized, M: Meter>(
     Ok(List::of(raw, meter))
 }
 
-/// A null pointer, for constants.
-pub fn null<'a>() -> Pointer<'a> {
+/// A null pointer of a message that was checked.
+fn null<'a>() -> Pointer<'a, Typed> {
     Pointer {
         raw: PointerReader::new_default(),
-        meter: Sound::NEW,
+        meter: Typed::NEW,
+    }
+}
+
+/// The struct of a constant: a message of one segment.
+pub fn constant_struct<T: From<Struct<'static, Typed>> + fmt::Debug>(words: &'static [u8]) -> T {
+    Typed::give(struct_or(null(), words))
+}
+
+/// The list of a constant: a message of one segment.
+pub fn constant_list<T: Element + ?Sized>(words: &'static [u8]) -> List<'static, T, Typed> {
+    Typed::give(list_or(null(), words))
+}
+
+/// The index of the capability; `None` if the pointer is null.
+pub fn capability<M: Meter>(pointer: Pointer<'_, M>) -> Result<Option<u32>> {
+    if pointer.is_null() {
+        return Ok(None);
+    }
+    pointer.as_capability().map(Some)
+}
+
+/// A pointer of any kind.
+#[inline(always)]
+pub fn any<'a, M: Meter>(pointer: Pointer<'a, M>) -> Pointer<'a, M::Plain> {
+    pointer.plain()
+}
+
+/// A struct without its schema.
+#[inline(always)]
+pub fn plain<'a, M: Meter>(fields: Struct<'a, M>) -> Struct<'a, M::Plain> {
+    Struct {
+        raw: fields.raw,
+        meter: fields.meter.plain(),
     }
 }
 
@@ -87,8 +123,13 @@ pub const fn text(bytes: &'static [u8]) -> &'static str {
     }
 }
 
+/// What a getter returned, to be shown as the value or as its refusal.
+pub fn shown<T, O: Outcome<T>>(read: O) -> Shown<T> {
+    Shown(read.into_result())
+}
+
 /// What a getter returned, shown as the value or as its refusal.
-pub struct Shown<T>(pub Result<T>);
+pub struct Shown<T>(Result<T>);
 
 impl<T: fmt::Debug> fmt::Debug for Shown<T> {
     fn fmt(&self, f: &mut fmt::Formatter<'_>) -> fmt::Result {

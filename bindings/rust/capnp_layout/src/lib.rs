@@ -19,12 +19,17 @@
 //!
 //! # Checked once, or as it is read
 //!
-//! [`Message::sound`] checks the whole message. After it neither a limit nor a broken pointer can
-//! refuse a getter, and readers are `Copy`, `Send` and `Sync`. [`Message::lazy`] checks each object
-//! when it is read, and charges the message's limits through a `Cell`. Both have readers of the
-//! same types: [`Struct`], [`List`] and [`Pointer`]. A getter that follows a pointer
-//! returns a `Result`, since neither check knows what the program expects: a list where a text is
-//! wanted is refused, and so is a text that isn't UTF-8.
+//! With code that `capnpc-layout-rust` generates from a schema, [`Message::root`] checks the whole
+//! message against the schema, once. After it getters return values: nothing can be refused.
+//!
+//! Without a schema, [`Message::sound`] checks the whole message. After it neither a limit nor a
+//! broken pointer can refuse a getter. [`Message::lazy`] checks each object when it is read, and
+//! charges the message's limits through a `Cell`. Both have readers of the same types: [`Struct`],
+//! [`List`] and [`Pointer`]. A getter that follows a pointer returns a `Result`, since neither
+//! check knows what the program expects: a list where a text is wanted is refused, and so is a
+//! text that isn't UTF-8.
+//!
+//! Readers of a checked message are `Copy`, `Send` and `Sync`.
 //!
 //! # Building
 //!
@@ -60,6 +65,7 @@ extern crate alloc as rust_alloc;
 
 mod builder;
 mod building;
+mod checking;
 mod element;
 mod error;
 #[doc(hidden)]
@@ -80,6 +86,7 @@ mod searching;
 mod segments;
 mod showing;
 mod typed;
+mod values;
 
 pub use builder::Builder;
 pub use building::StructBuilder;
@@ -88,7 +95,7 @@ pub use error::{Error, Reason};
 pub use list::{Iter, List};
 pub use list_building::ListBuilder;
 pub use message::{Checked, Limits, Message};
-pub use meter::{Lazy, Meter, Sound};
+pub use meter::{Lazy, Meter, Outcome, Sound, Typed};
 pub use reading::{Pointer, Struct, Target};
 pub use segments::Segments;
 pub use typed::{Enum, PointerBuilder, StructType, TypedBuilder};

@@ -122,10 +122,7 @@ impl<'a, T: Element + ?Sized, M: Meter> IntoIterator for &List<'a, T, M> {
     }
 }
 
-impl<'a, T: Element + ?Sized, M: Meter> fmt::Debug for List<'a, T, M>
-where
-    T::Item<'a, M>: fmt::Debug,
-{
+impl<T: Element + ?Sized, M: Meter> fmt::Debug for List<'_, T, M> {
     fn fmt(&self, f: &mut fmt::Formatter<'_>) -> fmt::Result {
         f.debug_list().entries(self).finish()
     }
@@ -154,10 +151,7 @@ impl<T: ?Sized, M: Copy> Clone for Iter<'_, T, M> {
     }
 }
 
-impl<'a, T: Element + ?Sized, M: Meter> fmt::Debug for Iter<'a, T, M>
-where
-    T::Item<'a, M>: fmt::Debug,
-{
+impl<T: Element + ?Sized, M: Meter> fmt::Debug for Iter<'_, T, M> {
     fn fmt(&self, f: &mut fmt::Formatter<'_>) -> fmt::Result {
         f.debug_list().entries(self.clone()).finish()
     }

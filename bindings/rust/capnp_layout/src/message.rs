@@ -1,5 +1,6 @@
 //! Messages that were received.
 
+use crate::element::Structs;
 use crate::error::Error;
 use crate::growing::Growing;
 use crate::meter::{Lazy, Sound};
@@ -18,6 +19,7 @@ use crate::searching;
 use crate::segments::{Arena, Held, Segments};
 use core::cell::Cell;
 use core::fmt;
+use core::marker::PhantomData;
 use rust_alloc::vec;
 use rust_alloc::vec::Vec;
 
@@ -59,7 +61,8 @@ impl Default for Limits {
 
 /// A message that was received, in the memory of the program or in its own.
 ///
-/// [`sound`](Message::sound) checks all of it, and then reads at no further cost;
+/// [`root`](Message::root) checks all of it against a schema, and then no getter is refused;
+/// [`sound`](Message::sound) checks all of it without a schema, and then reads at no further cost;
 /// [`lazy`](Message::lazy) checks each object when it is read. Opening reads only the frame, so a
 /// message that was opened may be broken.
 ///
@@ -96,7 +99,7 @@ impl<'a> Message<'a> {
         self.arena.size_in_words()
     }
 
-    fn limiter(&self) -> ReadLimiter {
+    pub(crate) fn limiter(&self) -> ReadLimiter {
         ReadLimiter::new(Some(self.limits.words))
     }
 
@@ -153,9 +156,7 @@ impl<'a> Message<'a> {
     /// Checks the message as [`sound`](Message::sound) does, and keeps it.
     pub fn into_checked(self) -> Result<Checked<'a>, Error> {
         self.sound()?;
-        Ok(Checked {
-            message: self.arena,
-        })
+        Ok(Checked::of(self.arena))
     }
 
     /// The canonical words, one segment: equal values have equal words (encoding specification,
@@ -285,23 +286,34 @@ impl fmt::Debug for Message<'_> {
 /// assert_eq!(worker.join().unwrap(), 5);
 /// # Ok::<(), capnp_layout::Error>(())
 /// ```
-pub struct Checked<'a> {
+///
+/// `T` is the type of the root if the message was checked against its schema, by
+/// [`Message::into_root`].
+pub struct Checked<'a, T: ?Sized = Structs> {
     message: Arena<'a>,
+    of: PhantomData<fn() -> *const T>,
 }
 
-impl Checked<'_> {
-    /// The root. Costs no check.
-    pub fn root(&self) -> Struct<'_> {
-        let root = PointerReader::get_root_from_arena(&self.message, &mut ReadLimiter::new(None));
-        match root.map(|raw| {
-            Pointer {
-                raw,
-                meter: Sound::NEW,
-            }
-            .as_struct()
-        }) {
-            Ok(Ok(root)) => root,
-            _ => unreachable!("a checked message was refused"),
+impl<'a, T: ?Sized> Checked<'a, T> {
+    pub(crate) fn of(message: Arena<'a>) -> Self {
+        Checked {
+            message,
+            of: PhantomData,
+        }
+    }
+
+    fn sound_pointer(&self) -> Pointer<'_> {
+        Pointer {
+            raw: self.root_pointer(),
+            meter: Sound::NEW,
+        }
+    }
+
+    /// The root pointer of a message that has one.
+    pub(crate) fn root_pointer(&self) -> PointerReader<'_, Arena<'_>> {
+        match PointerReader::get_root_from_arena(&self.message, &mut ReadLimiter::new(None)) {
+            Ok(root) => root,
+            Err(_) => unreachable!("a checked message was refused"),
         }
     }
 
@@ -311,14 +323,26 @@ impl Checked<'_> {
     }
 }
 
-impl<'b> PartialEq<Checked<'b>> for Checked<'_> {
-    fn eq(&self, other: &Checked<'b>) -> bool {
-        self.root() == other.root()
+impl Checked<'_> {
+    /// The root. Costs no check.
+    pub fn root(&self) -> Struct<'_> {
+        match self.sound_pointer().as_struct() {
+            Ok(root) => root,
+            Err(_) => unreachable!("a checked message was refused"),
+        }
     }
 }
 
-impl fmt::Debug for Checked<'_> {
+impl<'b, T: ?Sized, U: ?Sized> PartialEq<Checked<'b, U>> for Checked<'_, T> {
+    fn eq(&self, other: &Checked<'b, U>) -> bool {
+        self.sound_pointer() == other.sound_pointer()
+    }
+}
+
+impl<T: ?Sized> fmt::Debug for Checked<'_, T> {
     fn fmt(&self, f: &mut fmt::Formatter<'_>) -> fmt::Result {
-        f.debug_tuple("Checked").field(&self.root()).finish()
+        f.debug_tuple("Checked")
+            .field(&self.sound_pointer())
+            .finish()
     }
 }

@@ -46,6 +46,15 @@ fn text_of(bytes: &[u8]) -> Result<&str, Error> {
 }
 
 impl<'a, M: Meter> Pointer<'a, M> {
+    /// The same without the schema that the message was checked against.
+    #[inline(always)]
+    pub(crate) fn plain(self) -> Pointer<'a, M::Plain> {
+        Pointer {
+            raw: self.raw,
+            meter: self.meter.plain(),
+        }
+    }
+
     /// Whether the pointer is null.
     #[inline(always)]
     pub fn is_null(&self) -> bool {

@@ -18,32 +18,32 @@ enum Step {
     Element(u32),
 }
 
-/// The place of the refused pointer.
-struct Refused {
-    segment: u64,
-    word: u32,
-}
+/// The place of the refused pointer: its segment, and its position there in words.
+type Refused = (u64, u32);
 
 /// A search, with the path from the root to the pointer that is read.
 struct Search<'l> {
     lim: &'l mut ReadLimiter,
     /// Whether a capability is refused.
     refuses_capabilities: bool,
+    /// A pointer that is refused.
+    refuses: Option<Refused>,
     path: Vec<Step>,
 }
 
 impl Search<'_> {
     /// Reads the value of a pointer, and leaves the path at the first pointer that is refused.
     fn pointer(&mut self, from: From<'_>) -> Result<(), Refused> {
+        let place = (from.place.segment, from.place.at);
+        if self.refuses == Some(place) {
+            return Err(place);
+        }
         match from.next(self.lim) {
             Ok(Target::Struct(found)) => self.structure(found),
             Ok(Target::List(found)) => self.list(found),
             Ok(Target::Null) => Ok(()),
             Ok(Target::Cap(_)) if !self.refuses_capabilities => Ok(()),
-            _ => Err(Refused {
-                segment: from.place.segment,
-                word: from.place.at,
-            }),
+            _ => Err(place),
         }
     }
 
@@ -98,15 +98,37 @@ pub fn error_of(kind: ErrorKind, root: From<'_>, lim: &mut ReadLimiter) -> Error
     let mut search = Search {
         lim,
         refuses_capabilities,
+        refuses: None,
         path: Vec::new(),
     };
     match search.pointer(root) {
-        Err(at) => Error::at(
+        Err(place) => Error::at(
             Reason::Layout(kind),
-            text_of(&search.path),
-            at.segment,
-            at.word,
+            Some(text_of(&search.path)),
+            place,
+            None,
         ),
         Ok(()) => kind.into(),
     }
+}
+
+/// The error of a check of `root` against a schema that refused the pointer at `place`, which is the
+/// field of this name. `lim` is as it was before the check.
+#[cold]
+pub fn misfit(
+    reason: Reason,
+    root: From<'_>,
+    place: Refused,
+    field: Option<String>,
+    lim: &mut ReadLimiter,
+) -> Error {
+    let mut search = Search {
+        lim,
+        refuses_capabilities: false,
+        refuses: Some(place),
+        path: Vec::new(),
+    };
+    let is_found = search.pointer(root) == Err(place);
+    let path = is_found.then(|| text_of(&search.path));
+    Error::at(reason, path, place, field)
 }

@@ -40,10 +40,7 @@ impl<M: Meter> fmt::Debug for Struct<'_, M> {
 }
 
 impl<M: Meter> Pointer<'_, M> {
-    fn show_list<T: Element + ?Sized>(&self, f: &mut fmt::Formatter<'_>) -> fmt::Result
-    where
-        for<'x> T::Item<'x, M>: fmt::Debug,
-    {
+    fn show_list<T: Element + ?Sized>(&self, f: &mut fmt::Formatter<'_>) -> fmt::Result {
         match self.as_list::<T>() {
             Ok(list) => fmt::Debug::fmt(&list, f),
             Err(error) => error.fmt_refusal(f),

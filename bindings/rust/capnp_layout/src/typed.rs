@@ -9,8 +9,9 @@ use crate::meter::sealed::Closed;
 use crate::meter::Meter;
 use crate::proved::capnp_readers::readers::{ListReader, PrimitiveElement};
 use crate::proved::capnp_words::wire_pointer::{ElementSize, StructSize};
-use crate::reading::Pointer;
+use crate::reading::{Pointer, Struct};
 use crate::segments::Arena;
+use core::fmt;
 
 /// A struct of a schema that is being built.
 pub trait TypedBuilder<'b>: From<StructBuilder<'b>> {
@@ -22,6 +23,20 @@ pub trait TypedBuilder<'b>: From<StructBuilder<'b>> {
 pub trait StructType: Element {
     /// The struct while a message is built.
     type Builder<'b>: TypedBuilder<'b>;
+    /// What the pointers of the schema's structs may lead to: a table in the form of
+    /// `typed_conforming`.
+    #[doc(hidden)]
+    const TABLE: &'static [u32];
+    /// For each row of the table a line: its position, its name, and the names of its pointers with
+    /// commas between them.
+    #[doc(hidden)]
+    const NAMES: &'static str;
+    /// The position of the struct's row.
+    #[doc(hidden)]
+    const ROW: u32;
+    /// The reader of a struct.
+    #[doc(hidden)]
+    fn of<'a, M: Meter>(fields: Struct<'a, M>) -> Self::Item<'a, M>;
 }
 
 /// The sections of structs of a type.
@@ -30,7 +45,7 @@ const fn sections<T: StructType>() -> StructSize {
 }
 
 /// An enum of a schema.
-pub trait Enum: Copy + From<u16> + Into<u16> {}
+pub trait Enum: Copy + fmt::Debug + From<u16> + Into<u16> {}
 
 impl<T: Enum> Closed for T {}
 

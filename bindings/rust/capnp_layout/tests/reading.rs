@@ -1,7 +1,8 @@
 //! Reads a message with a field of each kind, which `capnp encode tests/all.capnp All` wrote, in
 //! both ways.
 use capnp_layout::{
-    ElementSize, Error, ErrorKind, Limits, Lists, Message, Meter, Pointers, Reason, Struct, Target,
+    ElementSize, Error, ErrorKind, Limits, Lists, Message, Meter, Outcome, Pointers, Reason,
+    Struct, Target,
 };
 use std::panic::catch_unwind;
 
@@ -18,6 +19,7 @@ fn expect_all<M: Meter>(all: Struct<'_, M>) -> Result<(), Error> {
     assert_eq!(
         all.get_list::<str>(2)?
             .iter()
+            .map(Outcome::into_result)
             .collect::<Result<Vec<_>, _>>()?,
         ["a", "", "ü"]
     );
@@ -25,14 +27,15 @@ fn expect_all<M: Meter>(all: Struct<'_, M>) -> Result<(), Error> {
     assert_eq!(
         all.get_list::<[u8]>(4)?
             .iter()
+            .map(Outcome::into_result)
             .collect::<Result<Vec<_>, _>>()?,
         [&b"x"[..], b"yz"]
     );
     let nested: Vec<Vec<u8>> = all
         .get_list::<Lists<u8>>(5)?
         .iter()
-        .map(|it| it.map(|it| it.iter().collect()))
-        .collect::<Result<_, _>>()?;
+        .map(|it| Ok(it.into_result()?.iter().collect()))
+        .collect::<Result<_, Error>>()?;
     assert_eq!(nested, [vec![1, 2], vec![], vec![3]]);
     let inner = all.get_struct(6)?;
     assert_eq!(
@@ -46,7 +49,7 @@ fn expect_all<M: Meter>(all: Struct<'_, M>) -> Result<(), Error> {
     assert!(!all.has(8) && all.has(7) && all.get_pointer(8).is_null());
     let alls = all.get_structs(9)?;
     assert_eq!((alls.len(), alls.at(0).get_i64(1)), (2, 1));
-    assert_eq!(alls.at(1).get_list::<str>(2)?.at(0)?, "deep");
+    assert_eq!(alls.at(1).get_list::<str>(2)?.at(0).into_result()?, "deep");
     assert_eq!(
         (all.get_text(10)?, all.get_text_bytes(10)?),
         ("Zoë", "Zoë".as_bytes())

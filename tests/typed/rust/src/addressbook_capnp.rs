@@ -2,10 +2,20 @@
 
 use capnp_layout::generated as g;
 
+// What the pointers of each struct may lead to: the table that `Message::root` checks a message against.
+const TABLE: &[u32] = &[0, 1, 63, 4, 3, 3, 271, 135, 2, 1, 3, 199, 2, 2, 3, 0, 1, 3];
+
+// The name of each row of `TABLE` and of its pointers, by the position of the row.
+const NAMES: &str = "\
+1 AddressBook people
+3 Person name,email,phones,employment.employer or employment.school
+16 Person.PhoneNumber number
+";
+
 /// `Person`
 #[allow(dead_code, clippy::style)]
 #[derive(Clone, Copy)]
-pub struct Person<'a, M = g::Sound>(g::Struct<'a, M>);
+pub struct Person<'a, M = g::Typed>(g::Struct<'a, M>);
 
 #[allow(dead_code, clippy::style)]
 impl<'a, M: g::Meter> Person<'a, M> {
@@ -15,13 +25,13 @@ impl<'a, M: g::Meter> Person<'a, M> {
     }
 
     /// `name @1 :Text`
-    pub fn name(&self) -> g::Result<&'a str> {
-        self.0.get_text(0)
+    pub fn name(&self) -> M::Out<&'a str> {
+        M::give(self.0.get_text(0))
     }
 
     /// The bytes of `name`, which needn't be UTF-8.
-    pub fn name_bytes(&self) -> g::Result<&'a [u8]> {
-        self.0.get_text_bytes(0)
+    pub fn name_bytes(&self) -> M::Out<&'a [u8]> {
+        M::give(self.0.get_text_bytes(0))
     }
 
     /// Whether `name` isn't null.
@@ -30,13 +40,13 @@ impl<'a, M: g::Meter> Person<'a, M> {
     }
 
     /// `email @2 :Text`
-    pub fn email(&self) -> g::Result<&'a str> {
-        self.0.get_text(1)
+    pub fn email(&self) -> M::Out<&'a str> {
+        M::give(self.0.get_text(1))
     }
 
     /// The bytes of `email`, which needn't be UTF-8.
-    pub fn email_bytes(&self) -> g::Result<&'a [u8]> {
-        self.0.get_text_bytes(1)
+    pub fn email_bytes(&self) -> M::Out<&'a [u8]> {
+        M::give(self.0.get_text_bytes(1))
     }
 
     /// Whether `email` isn't null.
@@ -45,8 +55,8 @@ impl<'a, M: g::Meter> Person<'a, M> {
     }
 
     /// `phones @3 :List(Person.PhoneNumber)`
-    pub fn phones(&self) -> g::Result<g::List<'a, person::PhoneNumber<'a>, M>> {
-        self.0.get_list(2)
+    pub fn phones(&self) -> M::Out<g::List<'a, person::PhoneNumber<'a>, M>> {
+        M::give(self.0.get_list(2))
     }
 
     /// Whether `phones` isn't null.
@@ -66,9 +76,9 @@ impl<'a, M> From<g::Struct<'a, M>> for Person<'a, M> {
     }
 }
 
-impl<'a, M> From<Person<'a, M>> for g::Struct<'a, M> {
+impl<'a, M: g::Meter> From<Person<'a, M>> for g::Struct<'a, M::Plain> {
     fn from(reader: Person<'a, M>) -> Self {
-        reader.0
+        g::plain(reader.0)
     }
 }
 
@@ -85,6 +95,13 @@ impl g::Element for Person<'_> {
 
 impl g::StructType for Person<'_> {
     type Builder<'b> = person::Builder<'b>;
+    const TABLE: &'static [u32] = TABLE;
+    const NAMES: &'static str = NAMES;
+    const ROW: u32 = 3;
+
+    fn of<'a, M: g::Meter>(fields: g::Struct<'a, M>) -> Self::Item<'a, M> {
+        fields.into()
+    }
 }
 
 /// Equal values: equal canonical words.
@@ -98,9 +115,9 @@ impl<M: g::Meter> g::fmt::Debug for Person<'_, M> {
     fn fmt(&self, f: &mut g::fmt::Formatter<'_>) -> g::fmt::Result {
         let mut shown = f.debug_struct("Person");
         shown.field("id", &self.id());
-        shown.field("name", &g::Shown(self.name()));
-        shown.field("email", &g::Shown(self.email()));
-        shown.field("phones", &g::Shown(self.phones()));
+        shown.field("name", &g::shown(self.name()));
+        shown.field("email", &g::shown(self.email()));
+        shown.field("phones", &g::shown(self.phones()));
         shown.field("employment", &self.employment());
         shown.finish()
     }
@@ -182,7 +199,7 @@ pub mod person {
 
     /// `Person.employment`
     #[derive(Clone, Copy)]
-    pub struct Employment<'a, M = g::Sound>(g::Struct<'a, M>);
+    pub struct Employment<'a, M = g::Typed>(g::Struct<'a, M>);
 
     impl<'a, M: g::Meter> Employment<'a, M> {
         /// Whether `employer` is the member that is set, and isn't null.
@@ -196,7 +213,12 @@ pub mod person {
         }
 
         /// The member of the union that is set.
-        pub fn which(&self) -> g::Result<employment::Which<'a>> {
+        pub fn which(&self) -> M::Out<employment::Which<'a>> {
+            M::give(self.read_which())
+        }
+
+        #[inline(always)]
+        fn read_which(&self) -> g::Result<employment::Which<'a>> {
             Ok(match self.0.get::<u16>(2) {
                 0 => employment::Which::Unemployed,
                 1 => employment::Which::Employer(self.0.get_text(3)?),
@@ -216,7 +238,7 @@ pub mod person {
     impl<M: g::Meter> g::fmt::Debug for Employment<'_, M> {
         fn fmt(&self, f: &mut g::fmt::Formatter<'_>) -> g::fmt::Result {
             let mut shown = f.debug_struct("Employment");
-            shown.field("which", &g::Shown(self.which()));
+            shown.field("which", &g::shown(self.which()));
             shown.finish()
         }
     }
@@ -286,17 +308,17 @@ pub mod person {
 
     /// `Person.PhoneNumber`
     #[derive(Clone, Copy)]
-    pub struct PhoneNumber<'a, M = g::Sound>(g::Struct<'a, M>);
+    pub struct PhoneNumber<'a, M = g::Typed>(g::Struct<'a, M>);
 
     impl<'a, M: g::Meter> PhoneNumber<'a, M> {
         /// `number @0 :Text`
-        pub fn number(&self) -> g::Result<&'a str> {
-            self.0.get_text(0)
+        pub fn number(&self) -> M::Out<&'a str> {
+            M::give(self.0.get_text(0))
         }
 
         /// The bytes of `number`, which needn't be UTF-8.
-        pub fn number_bytes(&self) -> g::Result<&'a [u8]> {
-            self.0.get_text_bytes(0)
+        pub fn number_bytes(&self) -> M::Out<&'a [u8]> {
+            M::give(self.0.get_text_bytes(0))
         }
 
         /// Whether `number` isn't null.
@@ -316,9 +338,9 @@ pub mod person {
         }
     }
 
-    impl<'a, M> From<PhoneNumber<'a, M>> for g::Struct<'a, M> {
+    impl<'a, M: g::Meter> From<PhoneNumber<'a, M>> for g::Struct<'a, M::Plain> {
         fn from(reader: PhoneNumber<'a, M>) -> Self {
-            reader.0
+            g::plain(reader.0)
         }
     }
 
@@ -335,6 +357,13 @@ pub mod person {
 
     impl g::StructType for PhoneNumber<'_> {
         type Builder<'b> = phone_number::Builder<'b>;
+        const TABLE: &'static [u32] = super::TABLE;
+        const NAMES: &'static str = super::NAMES;
+        const ROW: u32 = 16;
+
+        fn of<'a, M: g::Meter>(fields: g::Struct<'a, M>) -> Self::Item<'a, M> {
+            fields.into()
+        }
     }
 
     /// Equal values: equal canonical words.
@@ -347,7 +376,7 @@ pub mod person {
     impl<M: g::Meter> g::fmt::Debug for PhoneNumber<'_, M> {
         fn fmt(&self, f: &mut g::fmt::Formatter<'_>) -> g::fmt::Result {
             let mut shown = f.debug_struct("PhoneNumber");
-            shown.field("number", &g::Shown(self.number()));
+            shown.field("number", &g::shown(self.number()));
             shown.field("type", &self.type_());
             shown.finish()
         }
@@ -438,13 +467,13 @@ pub mod person {
 /// `AddressBook`
 #[allow(dead_code, clippy::style)]
 #[derive(Clone, Copy)]
-pub struct AddressBook<'a, M = g::Sound>(g::Struct<'a, M>);
+pub struct AddressBook<'a, M = g::Typed>(g::Struct<'a, M>);
 
 #[allow(dead_code, clippy::style)]
 impl<'a, M: g::Meter> AddressBook<'a, M> {
     /// `people @0 :List(Person)`
-    pub fn people(&self) -> g::Result<g::List<'a, Person<'a>, M>> {
-        self.0.get_list(0)
+    pub fn people(&self) -> M::Out<g::List<'a, Person<'a>, M>> {
+        M::give(self.0.get_list(0))
     }
 
     /// Whether `people` isn't null.
@@ -459,9 +488,9 @@ impl<'a, M> From<g::Struct<'a, M>> for AddressBook<'a, M> {
     }
 }
 
-impl<'a, M> From<AddressBook<'a, M>> for g::Struct<'a, M> {
+impl<'a, M: g::Meter> From<AddressBook<'a, M>> for g::Struct<'a, M::Plain> {
     fn from(reader: AddressBook<'a, M>) -> Self {
-        reader.0
+        g::plain(reader.0)
     }
 }
 
@@ -478,6 +507,13 @@ impl g::Element for AddressBook<'_> {
 
 impl g::StructType for AddressBook<'_> {
     type Builder<'b> = address_book::Builder<'b>;
+    const TABLE: &'static [u32] = TABLE;
+    const NAMES: &'static str = NAMES;
+    const ROW: u32 = 1;
+
+    fn of<'a, M: g::Meter>(fields: g::Struct<'a, M>) -> Self::Item<'a, M> {
+        fields.into()
+    }
 }
 
 /// Equal values: equal canonical words.
@@ -490,7 +526,7 @@ impl<M: g::Meter> PartialEq for AddressBook<'_, M> {
 impl<M: g::Meter> g::fmt::Debug for AddressBook<'_, M> {
     fn fmt(&self, f: &mut g::fmt::Formatter<'_>) -> g::fmt::Result {
         let mut shown = f.debug_struct("AddressBook");
-        shown.field("people", &g::Shown(self.people()));
+        shown.field("people", &g::shown(self.people()));
         shown.finish()
     }
 }

@@ -2,10 +2,32 @@
 
 use capnp_layout::generated as g;
 
+// What the pointers of each struct may lead to: the table that `Message::root` checks a message against.
+const TABLE: &[u32] = &[
+    0, 2, 3, 71, 2, 1, 3, 0, 36, 3, 3, 4, 4, 21, 133, 0, 8, 9, 10, 11, 12, 13, 13, 11, 734, 766,
+    31, 798, 830, 21, 11, 31, 862, 887, 1, 1406, 10, 11, 12, 13, 12, 9, 1438, 1470, 3, 1, 3, 1, 4,
+    1, 11, 1, 31, 1, 3, 27, 3, 31, 951, 27, 4, 21, 1015, 27, 8, 4, 1079, 27, 9, 12, 1143, 27, 10,
+    1, 1207, 27, 11, 0, 1271, 27, 2, 1335, 0, 32, 1, 3, 0, 1, 1, 1, 4, 1, 10,
+];
+
+// The name of each row of `TABLE` and of its pointers, by the position of the row.
+const NAMES: &str = "\
+1 Inner where,type
+8 Root name,greeting,blob,magic,inner,next,any,voids,flags,bytes,shorts,words,longs,ratios,colours,names,blobs,inners,rows,grid,filled,counted,listed,named,shape.corners or shape.other or shape.photo or shape.sizes or shape.agent or shape.extra or shape.side.unit.foot,service,services,tinies,ports,deltas,keys,scales,checked,sealed,tabled,spot.note
+45 Root.names
+47 Root.blobs
+49 Root.rows
+51 Root.grid
+53 Root.named
+87 Root.services
+89 Root.sealed
+91 Root.tabled
+";
+
 /// `Inner`
 #[allow(dead_code, clippy::style)]
 #[derive(Clone, Copy)]
-pub struct Inner<'a, M = g::Sound>(g::Struct<'a, M>);
+pub struct Inner<'a, M = g::Typed>(g::Struct<'a, M>);
 
 #[allow(dead_code, clippy::style)]
 impl<'a, M: g::Meter> Inner<'a, M> {
@@ -15,13 +37,13 @@ impl<'a, M: g::Meter> Inner<'a, M> {
     }
 
     /// `where @1 :Text`
-    pub fn where_(&self) -> g::Result<&'a str> {
-        self.0.get_text(0)
+    pub fn where_(&self) -> M::Out<&'a str> {
+        M::give(self.0.get_text(0))
     }
 
     /// The bytes of `where`, which needn't be UTF-8.
-    pub fn where_bytes(&self) -> g::Result<&'a [u8]> {
-        self.0.get_text_bytes(0)
+    pub fn where_bytes(&self) -> M::Out<&'a [u8]> {
+        M::give(self.0.get_text_bytes(0))
     }
 
     /// Whether `where` isn't null.
@@ -35,7 +57,12 @@ impl<'a, M: g::Meter> Inner<'a, M> {
     }
 
     /// The member of the union that is set.
-    pub fn which(&self) -> g::Result<inner::Which<'a>> {
+    pub fn which(&self) -> M::Out<inner::Which<'a>> {
+        M::give(self.read_which())
+    }
+
+    #[inline(always)]
+    fn read_which(&self) -> g::Result<inner::Which<'a>> {
         Ok(match self.0.get::<u16>(2) {
             0 => inner::Which::Self_(self.0.get(2)),
             1 => inner::Which::Type(self.0.get_text(1)?),
@@ -51,9 +78,9 @@ impl<'a, M> From<g::Struct<'a, M>> for Inner<'a, M> {
     }
 }
 
-impl<'a, M> From<Inner<'a, M>> for g::Struct<'a, M> {
+impl<'a, M: g::Meter> From<Inner<'a, M>> for g::Struct<'a, M::Plain> {
     fn from(reader: Inner<'a, M>) -> Self {
-        reader.0
+        g::plain(reader.0)
     }
 }
 
@@ -70,6 +97,13 @@ impl g::Element for Inner<'_> {
 
 impl g::StructType for Inner<'_> {
     type Builder<'b> = inner::Builder<'b>;
+    const TABLE: &'static [u32] = TABLE;
+    const NAMES: &'static str = NAMES;
+    const ROW: u32 = 1;
+
+    fn of<'a, M: g::Meter>(fields: g::Struct<'a, M>) -> Self::Item<'a, M> {
+        fields.into()
+    }
 }
 
 /// Equal values: equal canonical words.
@@ -83,8 +117,8 @@ impl<M: g::Meter> g::fmt::Debug for Inner<'_, M> {
     fn fmt(&self, f: &mut g::fmt::Formatter<'_>) -> g::fmt::Result {
         let mut shown = f.debug_struct("Inner");
         shown.field("match", &self.match_());
-        shown.field("where", &g::Shown(self.where_()));
-        shown.field("which", &g::Shown(self.which()));
+        shown.field("where", &g::shown(self.where_()));
+        shown.field("which", &g::shown(self.which()));
         shown.finish()
     }
 }
@@ -169,67 +203,67 @@ pub mod inner {
 
 /// `const filledDefault :Inner`
 #[allow(dead_code, clippy::style)]
-pub fn filled_default<'a>() -> g::Result<Inner<'a>> {
+pub fn filled_default() -> Inner<'static> {
     const DEFAULT: &[u8] = &[
         0, 0, 0, 0, 1, 0, 2, 0, 5, 0, 0, 0, 1, 0, 0, 0, 5, 0, 0, 0, 50, 0, 0, 0, 5, 0, 0, 0, 26, 0,
         0, 0, 116, 104, 101, 114, 101, 0, 0, 0, 111, 102, 0, 0, 0, 0, 0, 0,
     ];
-    g::struct_or(g::null(), DEFAULT)
+    g::constant_struct(DEFAULT)
 }
 
 /// `const countedDefault :List(UInt16)`
 #[allow(dead_code, clippy::style)]
-pub fn counted_default<'a>() -> g::Result<g::List<'a, u16>> {
+pub fn counted_default() -> g::List<'static, u16, g::Typed> {
     const DEFAULT: &[u8] = &[1, 0, 0, 0, 27, 0, 0, 0, 1, 0, 2, 0, 3, 0, 0, 0];
-    g::list_or(g::null(), DEFAULT)
+    g::constant_list(DEFAULT)
 }
 
 /// `const listedDefault :List(Inner)`
 #[allow(dead_code, clippy::style)]
-pub fn listed_default<'a>() -> g::Result<g::List<'a, Inner<'a>>> {
+pub fn listed_default() -> g::List<'static, Inner<'static>, g::Typed> {
     const DEFAULT: &[u8] = &[
         1, 0, 0, 0, 39, 0, 0, 0, 8, 0, 0, 0, 1, 0, 1, 0, 7, 0, 0, 0, 0, 0, 0, 0, 0, 0, 0, 0, 0, 0,
         0, 0, 0, 0, 0, 0, 0, 0, 0, 0, 1, 0, 0, 0, 18, 0, 0, 0, 120, 0, 0, 0, 0, 0, 0, 0,
     ];
-    g::list_or(g::null(), DEFAULT)
+    g::constant_list(DEFAULT)
 }
 
 /// `const namedDefault :List(Text)`
 #[allow(dead_code, clippy::style)]
-pub fn named_default<'a>() -> g::Result<g::List<'a, str>> {
+pub fn named_default() -> g::List<'static, str, g::Typed> {
     const DEFAULT: &[u8] = &[
         1, 0, 0, 0, 30, 0, 0, 0, 9, 0, 0, 0, 18, 0, 0, 0, 9, 0, 0, 0, 10, 0, 0, 0, 9, 0, 0, 0, 82,
         0, 0, 0, 97, 0, 0, 0, 0, 0, 0, 0, 0, 0, 0, 0, 0, 0, 0, 0, 98, 99, 100, 101, 102, 103, 104,
         105, 106, 0, 0, 0, 0, 0, 0, 0,
     ];
-    g::list_or(g::null(), DEFAULT)
+    g::constant_list(DEFAULT)
 }
 
 /// `const checkedDefault :List(Bool)`
 #[allow(dead_code, clippy::style)]
-pub fn checked_default<'a>() -> g::Result<g::List<'a, bool>> {
+pub fn checked_default() -> g::List<'static, bool, g::Typed> {
     const DEFAULT: &[u8] = &[1, 0, 0, 0, 25, 0, 0, 0, 5, 0, 0, 0, 0, 0, 0, 0];
-    g::list_or(g::null(), DEFAULT)
+    g::constant_list(DEFAULT)
 }
 
 /// `const sealedDefault :List(Data)`
 #[allow(dead_code, clippy::style)]
-pub fn sealed_default<'a>() -> g::Result<g::List<'a, [u8]>> {
+pub fn sealed_default() -> g::List<'static, [u8], g::Typed> {
     const DEFAULT: &[u8] = &[
         1, 0, 0, 0, 22, 0, 0, 0, 5, 0, 0, 0, 18, 0, 0, 0, 5, 0, 0, 0, 10, 0, 0, 0, 0, 255, 0, 0, 0,
         0, 0, 0, 120, 0, 0, 0, 0, 0, 0, 0,
     ];
-    g::list_or(g::null(), DEFAULT)
+    g::constant_list(DEFAULT)
 }
 
 /// `const tabledDefault :List(List(Int8))`
 #[allow(dead_code, clippy::style)]
-pub fn tabled_default<'a>() -> g::Result<g::List<'a, g::Lists<i8>>> {
+pub fn tabled_default() -> g::List<'static, g::Lists<i8>, g::Typed> {
     const DEFAULT: &[u8] = &[
         1, 0, 0, 0, 30, 0, 0, 0, 9, 0, 0, 0, 18, 0, 0, 0, 9, 0, 0, 0, 2, 0, 0, 0, 5, 0, 0, 0, 10,
         0, 0, 0, 1, 254, 0, 0, 0, 0, 0, 0, 3, 0, 0, 0, 0, 0, 0, 0,
     ];
-    g::list_or(g::null(), DEFAULT)
+    g::constant_list(DEFAULT)
 }
 
 // Service isn't written: an interface.
@@ -279,7 +313,7 @@ impl g::Enum for Colour {}
 /// `Root`
 #[allow(dead_code, clippy::style)]
 #[derive(Clone, Copy)]
-pub struct Root<'a, M = g::Sound>(g::Struct<'a, M>);
+pub struct Root<'a, M = g::Typed>(g::Struct<'a, M>);
 
 #[allow(dead_code, clippy::style)]
 impl<'a, M: g::Meter> Root<'a, M> {
@@ -360,13 +394,13 @@ impl<'a, M: g::Meter> Root<'a, M> {
     }
 
     /// `name @15 :Text`
-    pub fn name(&self) -> g::Result<&'a str> {
-        self.0.get_text(0)
+    pub fn name(&self) -> M::Out<&'a str> {
+        M::give(self.0.get_text(0))
     }
 
     /// The bytes of `name`, which needn't be UTF-8.
-    pub fn name_bytes(&self) -> g::Result<&'a [u8]> {
-        self.0.get_text_bytes(0)
+    pub fn name_bytes(&self) -> M::Out<&'a [u8]> {
+        M::give(self.0.get_text_bytes(0))
     }
 
     /// Whether `name` isn't null.
@@ -375,15 +409,15 @@ impl<'a, M: g::Meter> Root<'a, M> {
     }
 
     /// `greeting @16 :Text`
-    pub fn greeting(&self) -> g::Result<&'a str> {
+    pub fn greeting(&self) -> M::Out<&'a str> {
         const DEFAULT: &[u8] = b"hello";
-        g::text_or(self.0.get_pointer(1), DEFAULT)
+        M::give(g::text_or(self.0.get_pointer(1), DEFAULT))
     }
 
     /// The bytes of `greeting`, which needn't be UTF-8.
-    pub fn greeting_bytes(&self) -> g::Result<&'a [u8]> {
+    pub fn greeting_bytes(&self) -> M::Out<&'a [u8]> {
         const DEFAULT: &[u8] = b"hello";
-        g::text_bytes_or(self.0.get_pointer(1), DEFAULT)
+        M::give(g::text_bytes_or(self.0.get_pointer(1), DEFAULT))
     }
 
     /// Whether `greeting` isn't null.
@@ -392,8 +426,8 @@ impl<'a, M: g::Meter> Root<'a, M> {
     }
 
     /// `blob @17 :Data`
-    pub fn blob(&self) -> g::Result<&'a [u8]> {
-        self.0.get_data(2)
+    pub fn blob(&self) -> M::Out<&'a [u8]> {
+        M::give(self.0.get_data(2))
     }
 
     /// Whether `blob` isn't null.
@@ -402,9 +436,9 @@ impl<'a, M: g::Meter> Root<'a, M> {
     }
 
     /// `magic @18 :Data`
-    pub fn magic(&self) -> g::Result<&'a [u8]> {
+    pub fn magic(&self) -> M::Out<&'a [u8]> {
         const DEFAULT: &[u8] = b"\x00\xff\x10\"";
-        g::data_or(self.0.get_pointer(3), DEFAULT)
+        M::give(g::data_or(self.0.get_pointer(3), DEFAULT))
     }
 
     /// Whether `magic` isn't null.
@@ -413,8 +447,8 @@ impl<'a, M: g::Meter> Root<'a, M> {
     }
 
     /// `inner @19 :Inner`
-    pub fn inner(&self) -> g::Result<Inner<'a, M>> {
-        self.0.get_struct(4).map(Into::into)
+    pub fn inner(&self) -> M::Out<Inner<'a, M>> {
+        M::give(self.0.get_struct(4).map(Into::into))
     }
 
     /// Whether `inner` isn't null.
@@ -423,8 +457,8 @@ impl<'a, M: g::Meter> Root<'a, M> {
     }
 
     /// `next @20 :Root`
-    pub fn next(&self) -> g::Result<Root<'a, M>> {
-        self.0.get_struct(5).map(Into::into)
+    pub fn next(&self) -> M::Out<Root<'a, M>> {
+        M::give(self.0.get_struct(5).map(Into::into))
     }
 
     /// Whether `next` isn't null.
@@ -433,8 +467,8 @@ impl<'a, M: g::Meter> Root<'a, M> {
     }
 
     /// `any @21 :AnyPointer`
-    pub fn any(&self) -> g::Pointer<'a, M> {
-        self.0.get_pointer(6)
+    pub fn any(&self) -> g::Pointer<'a, M::Plain> {
+        g::any(self.0.get_pointer(6))
     }
 
     /// Whether `any` isn't null.
@@ -443,8 +477,8 @@ impl<'a, M: g::Meter> Root<'a, M> {
     }
 
     /// `voids @22 :List(Void)`
-    pub fn voids(&self) -> g::Result<g::List<'a, (), M>> {
-        self.0.get_list(7)
+    pub fn voids(&self) -> M::Out<g::List<'a, (), M>> {
+        M::give(self.0.get_list(7))
     }
 
     /// Whether `voids` isn't null.
@@ -453,8 +487,8 @@ impl<'a, M: g::Meter> Root<'a, M> {
     }
 
     /// `flags @23 :List(Bool)`
-    pub fn flags(&self) -> g::Result<g::List<'a, bool, M>> {
-        self.0.get_list(8)
+    pub fn flags(&self) -> M::Out<g::List<'a, bool, M>> {
+        M::give(self.0.get_list(8))
     }
 
     /// Whether `flags` isn't null.
@@ -463,8 +497,8 @@ impl<'a, M: g::Meter> Root<'a, M> {
     }
 
     /// `bytes @24 :List(UInt8)`
-    pub fn bytes(&self) -> g::Result<g::List<'a, u8, M>> {
-        self.0.get_list(9)
+    pub fn bytes(&self) -> M::Out<g::List<'a, u8, M>> {
+        M::give(self.0.get_list(9))
     }
 
     /// Whether `bytes` isn't null.
@@ -473,8 +507,8 @@ impl<'a, M: g::Meter> Root<'a, M> {
     }
 
     /// `shorts @25 :List(Int16)`
-    pub fn shorts(&self) -> g::Result<g::List<'a, i16, M>> {
-        self.0.get_list(10)
+    pub fn shorts(&self) -> M::Out<g::List<'a, i16, M>> {
+        M::give(self.0.get_list(10))
     }
 
     /// Whether `shorts` isn't null.
@@ -483,8 +517,8 @@ impl<'a, M: g::Meter> Root<'a, M> {
     }
 
     /// `words @26 :List(UInt32)`
-    pub fn words(&self) -> g::Result<g::List<'a, u32, M>> {
-        self.0.get_list(11)
+    pub fn words(&self) -> M::Out<g::List<'a, u32, M>> {
+        M::give(self.0.get_list(11))
     }
 
     /// Whether `words` isn't null.
@@ -493,8 +527,8 @@ impl<'a, M: g::Meter> Root<'a, M> {
     }
 
     /// `longs @27 :List(Int64)`
-    pub fn longs(&self) -> g::Result<g::List<'a, i64, M>> {
-        self.0.get_list(12)
+    pub fn longs(&self) -> M::Out<g::List<'a, i64, M>> {
+        M::give(self.0.get_list(12))
     }
 
     /// Whether `longs` isn't null.
@@ -503,8 +537,8 @@ impl<'a, M: g::Meter> Root<'a, M> {
     }
 
     /// `ratios @28 :List(Float64)`
-    pub fn ratios(&self) -> g::Result<g::List<'a, f64, M>> {
-        self.0.get_list(13)
+    pub fn ratios(&self) -> M::Out<g::List<'a, f64, M>> {
+        M::give(self.0.get_list(13))
     }
 
     /// Whether `ratios` isn't null.
@@ -513,8 +547,8 @@ impl<'a, M: g::Meter> Root<'a, M> {
     }
 
     /// `colours @29 :List(Colour)`
-    pub fn colours(&self) -> g::Result<g::List<'a, Colour, M>> {
-        self.0.get_list(14)
+    pub fn colours(&self) -> M::Out<g::List<'a, Colour, M>> {
+        M::give(self.0.get_list(14))
     }
 
     /// Whether `colours` isn't null.
@@ -523,8 +557,8 @@ impl<'a, M: g::Meter> Root<'a, M> {
     }
 
     /// `names @30 :List(Text)`
-    pub fn names(&self) -> g::Result<g::List<'a, str, M>> {
-        self.0.get_list(15)
+    pub fn names(&self) -> M::Out<g::List<'a, str, M>> {
+        M::give(self.0.get_list(15))
     }
 
     /// Whether `names` isn't null.
@@ -533,8 +567,8 @@ impl<'a, M: g::Meter> Root<'a, M> {
     }
 
     /// `blobs @31 :List(Data)`
-    pub fn blobs(&self) -> g::Result<g::List<'a, [u8], M>> {
-        self.0.get_list(16)
+    pub fn blobs(&self) -> M::Out<g::List<'a, [u8], M>> {
+        M::give(self.0.get_list(16))
     }
 
     /// Whether `blobs` isn't null.
@@ -543,8 +577,8 @@ impl<'a, M: g::Meter> Root<'a, M> {
     }
 
     /// `inners @32 :List(Inner)`
-    pub fn inners(&self) -> g::Result<g::List<'a, Inner<'a>, M>> {
-        self.0.get_list(17)
+    pub fn inners(&self) -> M::Out<g::List<'a, Inner<'a>, M>> {
+        M::give(self.0.get_list(17))
     }
 
     /// Whether `inners` isn't null.
@@ -553,8 +587,8 @@ impl<'a, M: g::Meter> Root<'a, M> {
     }
 
     /// `rows @33 :List(List(UInt16))`
-    pub fn rows(&self) -> g::Result<g::List<'a, g::Lists<u16>, M>> {
-        self.0.get_list(18)
+    pub fn rows(&self) -> M::Out<g::List<'a, g::Lists<u16>, M>> {
+        M::give(self.0.get_list(18))
     }
 
     /// Whether `rows` isn't null.
@@ -563,8 +597,8 @@ impl<'a, M: g::Meter> Root<'a, M> {
     }
 
     /// `grid @34 :List(List(Inner))`
-    pub fn grid(&self) -> g::Result<g::List<'a, g::Lists<Inner<'a>>, M>> {
-        self.0.get_list(19)
+    pub fn grid(&self) -> M::Out<g::List<'a, g::Lists<Inner<'a>>, M>> {
+        M::give(self.0.get_list(19))
     }
 
     /// Whether `grid` isn't null.
@@ -593,12 +627,12 @@ impl<'a, M: g::Meter> Root<'a, M> {
     }
 
     /// `filled @39 :Inner`
-    pub fn filled(&self) -> g::Result<Inner<'a, M>> {
+    pub fn filled(&self) -> M::Out<Inner<'a, M>> {
         const DEFAULT: &[u8] = &[
             0, 0, 0, 0, 1, 0, 2, 0, 5, 0, 0, 0, 1, 0, 0, 0, 5, 0, 0, 0, 50, 0, 0, 0, 5, 0, 0, 0,
             26, 0, 0, 0, 116, 104, 101, 114, 101, 0, 0, 0, 111, 102, 0, 0, 0, 0, 0, 0,
         ];
-        g::struct_or(self.0.get_pointer(20), DEFAULT)
+        M::give(g::struct_or(self.0.get_pointer(20), DEFAULT))
     }
 
     /// Whether `filled` isn't null.
@@ -607,9 +641,9 @@ impl<'a, M: g::Meter> Root<'a, M> {
     }
 
     /// `counted @40 :List(UInt16)`
-    pub fn counted(&self) -> g::Result<g::List<'a, u16, M>> {
+    pub fn counted(&self) -> M::Out<g::List<'a, u16, M>> {
         const DEFAULT: &[u8] = &[1, 0, 0, 0, 27, 0, 0, 0, 1, 0, 2, 0, 3, 0, 0, 0];
-        g::list_or(self.0.get_pointer(21), DEFAULT)
+        M::give(g::list_or(self.0.get_pointer(21), DEFAULT))
     }
 
     /// Whether `counted` isn't null.
@@ -618,12 +652,12 @@ impl<'a, M: g::Meter> Root<'a, M> {
     }
 
     /// `listed @41 :List(Inner)`
-    pub fn listed(&self) -> g::Result<g::List<'a, Inner<'a>, M>> {
+    pub fn listed(&self) -> M::Out<g::List<'a, Inner<'a>, M>> {
         const DEFAULT: &[u8] = &[
             1, 0, 0, 0, 39, 0, 0, 0, 8, 0, 0, 0, 1, 0, 1, 0, 7, 0, 0, 0, 0, 0, 0, 0, 0, 0, 0, 0, 0,
             0, 0, 0, 0, 0, 0, 0, 0, 0, 0, 0, 1, 0, 0, 0, 18, 0, 0, 0, 120, 0, 0, 0, 0, 0, 0, 0,
         ];
-        g::list_or(self.0.get_pointer(22), DEFAULT)
+        M::give(g::list_or(self.0.get_pointer(22), DEFAULT))
     }
 
     /// Whether `listed` isn't null.
@@ -632,13 +666,13 @@ impl<'a, M: g::Meter> Root<'a, M> {
     }
 
     /// `named @42 :List(Text)`
-    pub fn named(&self) -> g::Result<g::List<'a, str, M>> {
+    pub fn named(&self) -> M::Out<g::List<'a, str, M>> {
         const DEFAULT: &[u8] = &[
             1, 0, 0, 0, 30, 0, 0, 0, 9, 0, 0, 0, 18, 0, 0, 0, 9, 0, 0, 0, 10, 0, 0, 0, 9, 0, 0, 0,
             82, 0, 0, 0, 97, 0, 0, 0, 0, 0, 0, 0, 0, 0, 0, 0, 0, 0, 0, 0, 98, 99, 100, 101, 102,
             103, 104, 105, 106, 0, 0, 0, 0, 0, 0, 0,
         ];
-        g::list_or(self.0.get_pointer(23), DEFAULT)
+        M::give(g::list_or(self.0.get_pointer(23), DEFAULT))
     }
 
     /// Whether `named` isn't null.
@@ -673,8 +707,8 @@ impl<'a, M: g::Meter> Root<'a, M> {
     }
 
     /// `service @62 :Service`
-    pub fn service(&self) -> g::Result<u32> {
-        self.0.get_capability(25)
+    pub fn service(&self) -> M::Out<Option<u32>> {
+        M::give(g::capability(self.0.get_pointer(25)))
     }
 
     /// Whether `service` isn't null.
@@ -683,8 +717,8 @@ impl<'a, M: g::Meter> Root<'a, M> {
     }
 
     /// `services @63 :List(Service)`
-    pub fn services(&self) -> g::Result<g::List<'a, g::Pointers, M>> {
-        self.0.get_list(26)
+    pub fn services(&self) -> M::Out<g::List<'a, g::Pointers, M>> {
+        M::give(self.0.get_list(26))
     }
 
     /// Whether `services` isn't null.
@@ -693,8 +727,8 @@ impl<'a, M: g::Meter> Root<'a, M> {
     }
 
     /// `tinies @64 :List(Int8)`
-    pub fn tinies(&self) -> g::Result<g::List<'a, i8, M>> {
-        self.0.get_list(27)
+    pub fn tinies(&self) -> M::Out<g::List<'a, i8, M>> {
+        M::give(self.0.get_list(27))
     }
 
     /// Whether `tinies` isn't null.
@@ -703,8 +737,8 @@ impl<'a, M: g::Meter> Root<'a, M> {
     }
 
     /// `ports @65 :List(UInt16)`
-    pub fn ports(&self) -> g::Result<g::List<'a, u16, M>> {
-        self.0.get_list(28)
+    pub fn ports(&self) -> M::Out<g::List<'a, u16, M>> {
+        M::give(self.0.get_list(28))
     }
 
     /// Whether `ports` isn't null.
@@ -713,8 +747,8 @@ impl<'a, M: g::Meter> Root<'a, M> {
     }
 
     /// `deltas @66 :List(Int32)`
-    pub fn deltas(&self) -> g::Result<g::List<'a, i32, M>> {
-        self.0.get_list(29)
+    pub fn deltas(&self) -> M::Out<g::List<'a, i32, M>> {
+        M::give(self.0.get_list(29))
     }
 
     /// Whether `deltas` isn't null.
@@ -723,8 +757,8 @@ impl<'a, M: g::Meter> Root<'a, M> {
     }
 
     /// `keys @67 :List(UInt64)`
-    pub fn keys(&self) -> g::Result<g::List<'a, u64, M>> {
-        self.0.get_list(30)
+    pub fn keys(&self) -> M::Out<g::List<'a, u64, M>> {
+        M::give(self.0.get_list(30))
     }
 
     /// Whether `keys` isn't null.
@@ -733,8 +767,8 @@ impl<'a, M: g::Meter> Root<'a, M> {
     }
 
     /// `scales @68 :List(Float32)`
-    pub fn scales(&self) -> g::Result<g::List<'a, f32, M>> {
-        self.0.get_list(31)
+    pub fn scales(&self) -> M::Out<g::List<'a, f32, M>> {
+        M::give(self.0.get_list(31))
     }
 
     /// Whether `scales` isn't null.
@@ -743,9 +777,9 @@ impl<'a, M: g::Meter> Root<'a, M> {
     }
 
     /// `checked @69 :List(Bool)`
-    pub fn checked(&self) -> g::Result<g::List<'a, bool, M>> {
+    pub fn checked(&self) -> M::Out<g::List<'a, bool, M>> {
         const DEFAULT: &[u8] = &[1, 0, 0, 0, 25, 0, 0, 0, 5, 0, 0, 0, 0, 0, 0, 0];
-        g::list_or(self.0.get_pointer(32), DEFAULT)
+        M::give(g::list_or(self.0.get_pointer(32), DEFAULT))
     }
 
     /// Whether `checked` isn't null.
@@ -754,12 +788,12 @@ impl<'a, M: g::Meter> Root<'a, M> {
     }
 
     /// `sealed @70 :List(Data)`
-    pub fn sealed(&self) -> g::Result<g::List<'a, [u8], M>> {
+    pub fn sealed(&self) -> M::Out<g::List<'a, [u8], M>> {
         const DEFAULT: &[u8] = &[
             1, 0, 0, 0, 22, 0, 0, 0, 5, 0, 0, 0, 18, 0, 0, 0, 5, 0, 0, 0, 10, 0, 0, 0, 0, 255, 0,
             0, 0, 0, 0, 0, 120, 0, 0, 0, 0, 0, 0, 0,
         ];
-        g::list_or(self.0.get_pointer(33), DEFAULT)
+        M::give(g::list_or(self.0.get_pointer(33), DEFAULT))
     }
 
     /// Whether `sealed` isn't null.
@@ -768,12 +802,12 @@ impl<'a, M: g::Meter> Root<'a, M> {
     }
 
     /// `tabled @71 :List(List(Int8))`
-    pub fn tabled(&self) -> g::Result<g::List<'a, g::Lists<i8>, M>> {
+    pub fn tabled(&self) -> M::Out<g::List<'a, g::Lists<i8>, M>> {
         const DEFAULT: &[u8] = &[
             1, 0, 0, 0, 30, 0, 0, 0, 9, 0, 0, 0, 18, 0, 0, 0, 9, 0, 0, 0, 2, 0, 0, 0, 5, 0, 0, 0,
             10, 0, 0, 0, 1, 254, 0, 0, 0, 0, 0, 0, 3, 0, 0, 0, 0, 0, 0, 0,
         ];
-        g::list_or(self.0.get_pointer(34), DEFAULT)
+        M::give(g::list_or(self.0.get_pointer(34), DEFAULT))
     }
 
     /// Whether `tabled` isn't null.
@@ -793,9 +827,9 @@ impl<'a, M> From<g::Struct<'a, M>> for Root<'a, M> {
     }
 }
 
-impl<'a, M> From<Root<'a, M>> for g::Struct<'a, M> {
+impl<'a, M: g::Meter> From<Root<'a, M>> for g::Struct<'a, M::Plain> {
     fn from(reader: Root<'a, M>) -> Self {
-        reader.0
+        g::plain(reader.0)
     }
 }
 
@@ -812,6 +846,13 @@ impl g::Element for Root<'_> {
 
 impl g::StructType for Root<'_> {
     type Builder<'b> = root::Builder<'b>;
+    const TABLE: &'static [u32] = TABLE;
+    const NAMES: &'static str = NAMES;
+    const ROW: u32 = 8;
+
+    fn of<'a, M: g::Meter>(fields: g::Struct<'a, M>) -> Self::Item<'a, M> {
+        fields.into()
+    }
 }
 
 /// Equal values: equal canonical words.
@@ -839,49 +880,49 @@ impl<M: g::Meter> g::fmt::Debug for Root<'_, M> {
         shown.field("exact", &self.exact());
         shown.field("colour", &self.colour());
         shown.field("background", &self.background());
-        shown.field("name", &g::Shown(self.name()));
-        shown.field("greeting", &g::Shown(self.greeting()));
-        shown.field("blob", &g::Shown(self.blob()));
-        shown.field("magic", &g::Shown(self.magic()));
-        shown.field("inner", &g::Shown(self.inner()));
-        shown.field("next", &g::Shown(self.next()));
+        shown.field("name", &g::shown(self.name()));
+        shown.field("greeting", &g::shown(self.greeting()));
+        shown.field("blob", &g::shown(self.blob()));
+        shown.field("magic", &g::shown(self.magic()));
+        shown.field("inner", &g::shown(self.inner()));
+        shown.field("next", &g::shown(self.next()));
         shown.field("any", &self.any());
-        shown.field("voids", &g::Shown(self.voids()));
-        shown.field("flags", &g::Shown(self.flags()));
-        shown.field("bytes", &g::Shown(self.bytes()));
-        shown.field("shorts", &g::Shown(self.shorts()));
-        shown.field("words", &g::Shown(self.words()));
-        shown.field("longs", &g::Shown(self.longs()));
-        shown.field("ratios", &g::Shown(self.ratios()));
-        shown.field("colours", &g::Shown(self.colours()));
-        shown.field("names", &g::Shown(self.names()));
-        shown.field("blobs", &g::Shown(self.blobs()));
-        shown.field("inners", &g::Shown(self.inners()));
-        shown.field("rows", &g::Shown(self.rows()));
-        shown.field("grid", &g::Shown(self.grid()));
+        shown.field("voids", &g::shown(self.voids()));
+        shown.field("flags", &g::shown(self.flags()));
+        shown.field("bytes", &g::shown(self.bytes()));
+        shown.field("shorts", &g::shown(self.shorts()));
+        shown.field("words", &g::shown(self.words()));
+        shown.field("longs", &g::shown(self.longs()));
+        shown.field("ratios", &g::shown(self.ratios()));
+        shown.field("colours", &g::shown(self.colours()));
+        shown.field("names", &g::shown(self.names()));
+        shown.field("blobs", &g::shown(self.blobs()));
+        shown.field("inners", &g::shown(self.inners()));
+        shown.field("rows", &g::shown(self.rows()));
+        shown.field("grid", &g::shown(self.grid()));
         shown.field("match", &self.match_());
         shown.field("result", &self.result());
         shown.field("data", &self.data());
         shown.field("record", &self.record());
-        shown.field("filled", &g::Shown(self.filled()));
-        shown.field("counted", &g::Shown(self.counted()));
-        shown.field("listed", &g::Shown(self.listed()));
-        shown.field("named", &g::Shown(self.named()));
+        shown.field("filled", &g::shown(self.filled()));
+        shown.field("counted", &g::shown(self.counted()));
+        shown.field("listed", &g::shown(self.listed()));
+        shown.field("named", &g::shown(self.named()));
         shown.field("shape", &self.shape());
         shown.field("tiny", &self.tiny());
         shown.field("amount", &self.amount());
         shown.field("total", &self.total());
         shown.field("weight", &self.weight());
-        shown.field("service", &g::Shown(self.service()));
-        shown.field("services", &g::Shown(self.services()));
-        shown.field("tinies", &g::Shown(self.tinies()));
-        shown.field("ports", &g::Shown(self.ports()));
-        shown.field("deltas", &g::Shown(self.deltas()));
-        shown.field("keys", &g::Shown(self.keys()));
-        shown.field("scales", &g::Shown(self.scales()));
-        shown.field("checked", &g::Shown(self.checked()));
-        shown.field("sealed", &g::Shown(self.sealed()));
-        shown.field("tabled", &g::Shown(self.tabled()));
+        shown.field("service", &g::shown(self.service()));
+        shown.field("services", &g::shown(self.services()));
+        shown.field("tinies", &g::shown(self.tinies()));
+        shown.field("ports", &g::shown(self.ports()));
+        shown.field("deltas", &g::shown(self.deltas()));
+        shown.field("keys", &g::shown(self.keys()));
+        shown.field("scales", &g::shown(self.scales()));
+        shown.field("checked", &g::shown(self.checked()));
+        shown.field("sealed", &g::shown(self.sealed()));
+        shown.field("tabled", &g::shown(self.tabled()));
         shown.field("spot", &self.spot());
         shown.finish()
     }
@@ -1456,7 +1497,7 @@ pub mod root {
 
     /// `Root.shape`
     #[derive(Clone, Copy)]
-    pub struct Shape<'a, M = g::Sound>(g::Struct<'a, M>);
+    pub struct Shape<'a, M = g::Typed>(g::Struct<'a, M>);
 
     impl<'a, M: g::Meter> Shape<'a, M> {
         /// Whether `corners` is the member that is set, and isn't null.
@@ -1490,7 +1531,12 @@ pub mod root {
         }
 
         /// The member of the union that is set.
-        pub fn which(&self) -> g::Result<shape::Which<'a, M>> {
+        pub fn which(&self) -> M::Out<shape::Which<'a, M>> {
+            M::give(self.read_which())
+        }
+
+        #[inline(always)]
+        fn read_which(&self) -> g::Result<shape::Which<'a, M>> {
             Ok(match self.0.get::<u16>(27) {
                 0 => shape::Which::None,
                 1 => shape::Which::Radius(self.0.get(7)),
@@ -1502,8 +1548,8 @@ pub mod root {
                 7 => shape::Which::Paint(self.0.get(32)),
                 8 => shape::Which::Photo(self.0.get_data(24)?),
                 9 => shape::Which::Sizes(self.0.get_list(24)?),
-                10 => shape::Which::Agent(self.0.get_capability(24)?),
-                11 => shape::Which::Extra(self.0.get_pointer(24)),
+                10 => shape::Which::Agent(g::capability(self.0.get_pointer(24))?),
+                11 => shape::Which::Extra(g::any(self.0.get_pointer(24))),
                 number => shape::Which::Unknown(number),
             })
         }
@@ -1518,7 +1564,7 @@ pub mod root {
     impl<M: g::Meter> g::fmt::Debug for Shape<'_, M> {
         fn fmt(&self, f: &mut g::fmt::Formatter<'_>) -> g::fmt::Result {
             let mut shown = f.debug_struct("Shape");
-            shown.field("which", &g::Shown(self.which()));
+            shown.field("which", &g::shown(self.which()));
             shown.finish()
         }
     }
@@ -1682,7 +1728,7 @@ pub mod root {
 
         /// The members of the union of `Root.shape`.
         #[derive(Clone, Copy, Debug)]
-        pub enum Which<'a, M: g::Meter = g::Sound> {
+        pub enum Which<'a, M: g::Meter = g::Typed> {
             /// `none @43 :Void`
             None,
             /// `radius @44 :Float64`
@@ -1704,16 +1750,16 @@ pub mod root {
             /// `sizes @55 :List(UInt32)`
             Sizes(g::List<'a, u32, M>),
             /// `agent @56 :Service`
-            Agent(u32),
+            Agent(Option<u32>),
             /// `extra @57 :AnyPointer`
-            Extra(g::Pointer<'a, M>),
+            Extra(g::Pointer<'a, M::Plain>),
             /// A member that the schema doesn't have, by its number.
             Unknown(u16),
         }
 
         /// `Root.shape.side`
         #[derive(Clone, Copy)]
-        pub struct Side<'a, M = g::Sound>(g::Struct<'a, M>);
+        pub struct Side<'a, M = g::Typed>(g::Struct<'a, M>);
 
         impl<'a, M: g::Meter> Side<'a, M> {
             /// `width @45 :UInt32`
@@ -1788,7 +1834,7 @@ pub mod root {
 
             /// `Root.shape.side.unit`
             #[derive(Clone, Copy)]
-            pub struct Unit<'a, M = g::Sound>(g::Struct<'a, M>);
+            pub struct Unit<'a, M = g::Typed>(g::Struct<'a, M>);
 
             impl<'a, M: g::Meter> Unit<'a, M> {
                 /// Whether `foot` is the member that is set, and isn't null.
@@ -1797,7 +1843,12 @@ pub mod root {
                 }
 
                 /// The member of the union that is set.
-                pub fn which(&self) -> g::Result<unit::Which<'a>> {
+                pub fn which(&self) -> M::Out<unit::Which<'a>> {
+                    M::give(self.read_which())
+                }
+
+                #[inline(always)]
+                fn read_which(&self) -> g::Result<unit::Which<'a>> {
                     Ok(match self.0.get::<u16>(32) {
                         0 => unit::Which::Metre,
                         1 => unit::Which::Foot(self.0.get_text(24)?),
@@ -1815,7 +1866,7 @@ pub mod root {
             impl<M: g::Meter> g::fmt::Debug for Unit<'_, M> {
                 fn fmt(&self, f: &mut g::fmt::Formatter<'_>) -> g::fmt::Result {
                     let mut shown = f.debug_struct("Unit");
-                    shown.field("which", &g::Shown(self.which()));
+                    shown.field("which", &g::shown(self.which()));
                     shown.finish()
                 }
             }
@@ -1870,7 +1921,7 @@ pub mod root {
 
     /// `Root.spot`
     #[derive(Clone, Copy)]
-    pub struct Spot<'a, M = g::Sound>(g::Struct<'a, M>);
+    pub struct Spot<'a, M = g::Typed>(g::Struct<'a, M>);
 
     impl<'a, M: g::Meter> Spot<'a, M> {
         /// `x @72 :Int32`
@@ -1884,13 +1935,13 @@ pub mod root {
         }
 
         /// `note @74 :Text`
-        pub fn note(&self) -> g::Result<&'a str> {
-            self.0.get_text(35)
+        pub fn note(&self) -> M::Out<&'a str> {
+            M::give(self.0.get_text(35))
         }
 
         /// The bytes of `note`, which needn't be UTF-8.
-        pub fn note_bytes(&self) -> g::Result<&'a [u8]> {
-            self.0.get_text_bytes(35)
+        pub fn note_bytes(&self) -> M::Out<&'a [u8]> {
+            M::give(self.0.get_text_bytes(35))
         }
 
         /// Whether `note` isn't null.
@@ -1910,7 +1961,7 @@ pub mod root {
             let mut shown = f.debug_struct("Spot");
             shown.field("x", &self.x());
             shown.field("on", &self.on());
-            shown.field("note", &g::Shown(self.note()));
+            shown.field("note", &g::shown(self.note()));
             shown.finish()
         }
     }

@@ -6,3 +6,4 @@
 pub mod addressbook_capnp;
 /// `fields.capnp`
 pub mod fields_capnp;
+pub mod values;

@@ -1,0 +1,216 @@
+//! Writes plain values of structs: the types, and what copies a reader into a value, and a value into
+//! a builder.
+
+use crate::piece::Piece;
+use crate::readers::{Schema, is_void};
+use crate::types::{element_value, is_bytes};
+use crate::unions::{is_member, parameters};
+use crate::value_templates;
+use capnpc_schema::model::{Default, Field, FieldKind, Node, Slot, Struct, Type};
+use capnpc_schema::text::{Lines, Text, Values};
+use capnpc_schema::types::BaseKind;
+
+/// Writes the value of a struct or a group, in its module.
+pub fn write_value(schema: &Schema<'_>, piece: &mut Piece, node: &Node, it: &Struct) {
+    let mut values = schema.node_values(node);
+    put_fields(schema, node, it, &mut values);
+    let has_union = it.members > 0;
+    if has_union {
+        values.put("which", value_templates::WHICH);
+        values.put("own_which", value_templates::OWN_WHICH);
+        values.put("put_which", value_templates::PUT_WHICH);
+    }
+    let has_fields = !values.get("owned").is_empty();
+    values.put("mut", if has_fields { "mut " } else { "" });
+    piece.push(
+        if has_fields || has_union {
+            value_templates::VALUE
+        } else {
+            value_templates::EMPTY_VALUE
+        },
+        &values,
+    );
+    piece.push(value_templates::DEFAULT, &values);
+    if !it.is_group {
+        piece.push(value_templates::OWNED, &values);
+    }
+    if has_union {
+        write_members(schema, piece, node, it);
+    }
+}
+
+// Puts the fields of a value, how they are read, and how they are written.
+fn put_fields(schema: &Schema<'_>, node: &Node, it: &Struct, to: &mut Values) {
+    let mut declared = Text::new(schema.alloc);
+    let mut owned = Text::new(schema.alloc);
+    let mut puts = Text::new(schema.alloc);
+    for field in it.fields.iter() {
+        if !is_member(field) && !is_void(field) && schema.skip_reason(field).is_empty() {
+            let values = value_of(schema, node, field);
+            if !values.get("vtype").is_empty() {
+                declared.push_filled(value_templates::FIELD, &values);
+                owned.push_filled("            ~call~: ~own~,\n", &values);
+                puts.push_filled(put_of(field), &values);
+            }
+        }
+    }
+    to.put_text("declared", declared);
+    to.put_text("owned", owned);
+    to.put_text("puts", puts);
+}
+
+// The words of a field of a value.
+fn value_of(schema: &Schema<'_>, node: &Node, field: &Field) -> Values {
+    let mut values = schema.field_values(node, field, node.id);
+    match &field.kind {
+        FieldKind::Slot(slot) => {
+            let element = element_value(schema.alloc, schema.nodes, node.id, slot.of);
+            values.put_text("evalue", element);
+            values.put_lines(form_of(slot.of));
+            if !matches!(slot.default, Default::Zero) && is_struct(slot.of) {
+                values.put_lines("own=g::boxed(true, it.~call~())");
+            }
+        }
+        _ => values.put_lines(GROUP),
+    }
+    values
+}
+
+// Whether the type is a struct.
+fn is_struct(of: Type) -> bool {
+    of.lists == 0 && matches!(of.base.kind, BaseKind::Struct)
+}
+
+// Whether the type has values: whether nothing in it is a pointer of any kind, or a list of capabilities.
+fn has_value(of: Type) -> bool {
+    match of.base.kind {
+        BaseKind::Pointer => false,
+        BaseKind::Capability => of.lists == 0,
+        _ => true,
+    }
+}
+
+// What is done with a field of a type: `vtype`, the type of its value, and `own`, which reads it; the same
+// for a member of a union, `mtype` and `mown`.
+fn form_of(of: Type) -> Lines {
+    match of.base.kind {
+        _ if !has_value(of) => "vtype=\nmtype=",
+        _ if of.lists > 0 => LIST,
+        BaseKind::Text | BaseKind::Data => BYTES,
+        BaseKind::Struct => STRUCT,
+        BaseKind::Capability => "vtype=Option<u32>\nown=it.~call~()\nmtype=~vtype~\nmown=it",
+        _ => "vtype=~payload~\nown=it.~call~()\nmtype=~payload~\nmown=it",
+    }
+}
+
+const GROUP: Lines = "vtype=~path~~module~::Value
+own=it.~call~().into()
+mtype=~vtype~
+mown=it.into()";
+
+const LIST: Lines = "vtype=~evalue~
+own=g::own_list(it.~call~())
+mtype=~evalue~
+mown=g::own_list(it)";
+
+const BYTES: Lines = "vtype=~evalue~
+own=it.~call~().into()
+mtype=~evalue~
+mown=it.into()";
+
+const STRUCT: Lines = "vtype=Option<g::Box<~evalue~>>
+own=g::boxed(it.0.has(~index~), it.~call~())
+mtype=g::Box<~evalue~>
+mown=g::Box::new(it.into())";
+
+// How a field of a value is written. An empty text or list that has no default value is left out.
+fn put_of(field: &Field) -> &'static str {
+    match &field.kind {
+        FieldKind::Slot(slot) => put_of_slot(slot),
+        _ => value_templates::PUT_GROUP,
+    }
+}
+
+// How a field is written that isn't a group.
+fn put_of_slot(slot: &Slot) -> &'static str {
+    let is_null_by_default = matches!(slot.default, Default::Zero);
+    match slot.of.base.kind {
+        _ if slot.of.lists > 0 && is_null_by_default => value_templates::PUT_SOME_LIST,
+        _ if slot.of.lists > 0 => value_templates::PUT_LIST,
+        _ if is_bytes(slot.of) && is_null_by_default => value_templates::PUT_SOME_BYTES,
+        _ if is_bytes(slot.of) => value_templates::PUT_BYTES,
+        BaseKind::Struct => value_templates::PUT_STRUCT,
+        BaseKind::Capability => value_templates::PUT_CAPABILITY,
+        _ => value_templates::PUT_NUMBER,
+    }
+}
+
+// Writes the members of a union as values.
+fn write_members(schema: &Schema<'_>, piece: &mut Piece, node: &Node, it: &Struct) {
+    let mut declared = Text::new(schema.alloc);
+    let mut owned = Text::new(schema.alloc);
+    let mut puts = Text::new(schema.alloc);
+    for field in it.fields.iter() {
+        if is_member(field) && schema.skip_reason(field).is_empty() {
+            let mut values = value_of(schema, node, field);
+            values.put_number("tag", u64::from(it.tag_offset));
+            let forms = forms_of_member(field, &values);
+            declared.push_filled(forms.declared, &values);
+            owned.push_filled(forms.owned, &values);
+            puts.push_filled(forms.put, &values);
+        }
+    }
+    let mut values = schema.node_values(node);
+    values.put_number("tag", u64::from(it.tag_offset));
+    let is_plain = parameters(schema, it).is_empty();
+    values.put("life", if is_plain { "" } else { "<'_>" });
+    values.put_text("declared", declared);
+    values.put_text("owned", owned);
+    values.put_text("puts", puts);
+    piece.push(value_templates::WHICH_VALUE, &values);
+}
+
+// The templates of a member of a union: its variant, how it is read, and how it is written.
+#[derive(Clone, Copy)]
+struct MemberForms {
+    declared: &'static str,
+    owned: &'static str,
+    put: &'static str,
+}
+
+// The templates of a member. One that has no value is only named.
+fn forms_of_member(field: &Field, values: &Values) -> MemberForms {
+    if is_void(field) {
+        return MemberForms {
+            declared: "    /// `~line~`\n    ~variant~,\n",
+            owned: "            Which::~variant~ => WhichValue::~variant~,\n",
+            put: value_templates::MEMBER_VOID,
+        };
+    }
+    if values.get("mtype").is_empty() {
+        return MemberForms {
+            declared: "    /// `~line~`, which has no plain value\n    ~variant~,\n",
+            owned: "            Which::~variant~(_) => WhichValue::~variant~,\n",
+            put: value_templates::MEMBER_TAG,
+        };
+    }
+    MemberForms {
+        declared: "    /// `~line~`\n    ~variant~(~mtype~),\n",
+        owned: "            Which::~variant~(it) => WhichValue::~variant~(~mown~),\n",
+        put: put_of_member(field),
+    }
+}
+
+// How a member with a value is written.
+fn put_of_member(field: &Field) -> &'static str {
+    match &field.kind {
+        FieldKind::Slot(slot) => match slot.of.base.kind {
+            _ if slot.of.lists > 0 => value_templates::MEMBER_LIST,
+            BaseKind::Text | BaseKind::Data => value_templates::MEMBER_BYTES,
+            BaseKind::Struct => value_templates::MEMBER_STRUCT,
+            BaseKind::Capability => value_templates::MEMBER_CAPABILITY,
+            _ => value_templates::MEMBER_NUMBER,
+        },
+        _ => value_templates::MEMBER_STRUCT,
+    }
+}

@@ -1,0 +1,6 @@
+//! What the generator writes with `--values`.
+
+/// `addressbook.capnp`
+pub mod addressbook_capnp;
+/// `fields.capnp`
+pub mod fields_capnp;
