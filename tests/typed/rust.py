@@ -13,11 +13,16 @@ The parts, by default all of them:
   prints the messages, and C++ makes the same canonical words of both.
 - `random`: like `fields`, for N random schemas (by default 3) of S structs (by default 20). Each struct in turn is the root of a
   message.
+- `large`: the same for schemas of three kinds: with every feature of the language, of a trading system, and with 100 structs that
+  refer to one another, 500 fields, and groups 60 deep.
 - `versions`: the code of an old version of a random schema, without the last fields of its structs, and that of the new one
   print messages of each other.
+- `altered`: the program over the code for `fields.capnp` prints altered messages as `capnp decode` does, or refuses them, and
+  refuses what that refuses.
 - `bugs`: a program over the code of `fields.capnp` with a planted bug, one of each kind, isn't compiled, or prints or copies
   something else.
-- `odd`: schemas with odd names and declarations are compiled without a warning.
+- `odd`: schemas with odd names and declarations, and a request of a later schema compiler, are compiled without a warning, and
+  standard error names what isn't written.
 
 The generator is by default `capnpc-layout-rust` at the top. The last line is `N passed, M failed`."""
 import argparse
@@ -30,12 +35,13 @@ import tempfile
 import messages
 import rust_program
 import run
+import unknown
 from schema import Schema
 
 HERE = pathlib.Path(__file__).resolve().parent
 LAYOUT = run.TOP / 'bindings/rust/capnp_layout'
 SCHEMAS = 'addressbook', 'fields'
-PARTS = 'ours', 'package', 'fields', 'random', 'versions', 'bugs', 'odd'
+PARTS = 'ours', 'package', 'fields', 'random', 'large', 'versions', 'altered', 'bugs', 'odd'
 MANIFEST = f'''[package]
 name = "made"
 version = "0.0.0"
@@ -112,7 +118,7 @@ class Generated(run.Programs):
         return built
 
     def run(self, program, frames):
-        ran = subprocess.run([self.target / 'debug' / self.stem, {'printer': 'print', 'copier': 'copy'}[program]], input=b''.join(frames), stdout=subprocess.PIPE, stderr=subprocess.PIPE)
+        ran = subprocess.run([self.target / 'debug' / self.stem, {'printer': 'print', 'copier': 'copy'}.get(program, program)], input=b''.join(frames), stdout=subprocess.PIPE, stderr=subprocess.PIPE)
         if ran.returncode and not self.is_quiet:
             print(ran.stderr.decode(errors='replace')[-3000:])
         return ran.stdout.decode(errors='replace').splitlines()
@@ -154,6 +160,12 @@ def random(options, room, counts):
         Generated(options.generator, room / f'random{seed}', room / 'target', text, f'random{seed}').test(options.messages, seed, counts)
 
 
+def large(options, room, counts):
+    texts = {it.stem: it.read_text(encoding='utf-8') for it in sorted((HERE / 'large').glob('*.capnp'))}
+    for stem, text in {**texts, 'mutual': messages.mutual()}.items():
+        Generated(options.generator, room / stem, room / 'target', text, stem).test(options.messages, 5, counts)
+
+
 def versions(options, room, counts):
     made = messages.RandomSchema(200, options.structs, 12)
     roots = made.structs
@@ -161,6 +173,13 @@ def versions(options, room, counts):
     if old.build(counts) and new.build(counts):
         for reader, writer in (old, new), (new, old):
             reader.read(messages.frames(writer.schema, roots, options.messages, 9), f' of {writer.file}', counts)
+
+
+def altered(options, room, counts):
+    text = (HERE / 'fields.capnp').read_text(encoding='utf-8')
+    made = Generated(options.generator, room / 'altered', room / 'target', text, 'altered', ['Root'])
+    if made.build(counts):
+        made.read_altered(messages.frames(made.schema, made.roots, options.messages, 11), 11, counts)
 
 
 class Silent(run.Counts):
@@ -199,6 +218,9 @@ def odd(options, room, counts):
     said = ''
     for path in sorted((HERE / 'odd').glob('*.capnp')):
         said += generate(options.generator, str(path), folder)[1]
+    status, unknown_said = unknown.generate(options.generator, folder)
+    counts.say(status == 0, 'odd: what a later schema compiler asks for')
+    said += unknown_said
     modules = sorted(it.stem for it in folder.glob('*_capnp.rs'))
     (folder / 'main.rs').write_text(''.join(f'mod {it};\n' for it in modules) + '\nfn main() {}\n', encoding='utf-8')
     (folder.parent / 'Cargo.toml').write_text(MANIFEST, encoding='utf-8')

@@ -25,13 +25,17 @@ MAIN = '''
 fn main() {{
     let mut bytes = Vec::new();
     std::io::stdin().read_to_end(&mut bytes).unwrap();
-    let copies = std::env::args().nth(1).as_deref() == Some("copy");
+    let word = std::env::args().nth(1);
+    let (copies, is_altered) = (word.as_deref() == Some("copy"), word.as_deref() == Some("altered"));
     let (mut rest, mut i) = (&bytes[..], 0);
     while !rest.is_empty() {{
         let (message, after) = Message::open_first(rest, Limits::default()).unwrap();
         let made = match i % {count} {{
 {arms}        }};
-        println!("{{}}", made.unwrap());
+        match made {{
+            Err(_) if is_altered => println!("refused"),
+            made => println!("{{}}", made.unwrap()),
+        }}
         (rest, i) = (after, i + 1);
     }}
     std::io::stdout().flush().unwrap();
