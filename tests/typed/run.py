@@ -58,9 +58,12 @@ READERS = 'capnp_format capnp_words capnp_arena_traits capnp_objects capnp_reade
 PROGRAM = 'capnp_format capnp_words capnp_arena_traits capnp_arena capnp_framing capnp_objects capnp_readers typed_reading'
 BUILT_ON = 'capnp_making capnp_contents capnp_copies capnp_builders typed_building'
 PARTS = 'ours', 'fields', 'bugs', 'random', 'versions', 'odd', 'page'
-# Faults that `capnp decode` finds and upstream doesn't, in landing pads of two words, and that the programs don't look at: they don't
-# read what any pointer leads to.
-UNSEEN = 'Second word of double-far pad must be far pointer', 'double-far pointer to unknown segment', 'unknown pointer type'
+# Faults that `capnp decode` finds and upstream doesn't, in landing pads of two words; that the programs don't look at, since they don't
+# read what any pointer leads to; and that are none: it can't print capabilities.
+UNSEEN = (
+    'Second word of double-far pad must be far pointer', 'double-far pointer to unknown segment', 'unknown pointer type',
+    'or use the Cap\'n Proto RPC system',
+)
 # A line of `rattle check --progress`.
 CHECKED = re.compile(r'checked (\S+), \d+ of \d+$')
 # What some kinds of fields are called where costs are printed.
