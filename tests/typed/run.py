@@ -59,7 +59,7 @@ PROGRAM = 'capnp_format capnp_words capnp_arena_traits capnp_arena capnp_framing
 BUILT_ON = 'capnp_making capnp_contents capnp_copies capnp_builders typed_building'
 PARTS = 'ours', 'fields', 'bugs', 'random', 'versions', 'odd', 'page'
 # Faults that `capnp decode` finds and upstream doesn't, in landing pads of two words; that the programs don't look at, since they don't
-# read what any pointer leads to; and that are none: it can't print capabilities.
+# read what any pointer leads to. And `capnp decode` prints no capabilities.
 UNSEEN = (
     'Second word of double-far pad must be far pointer', 'double-far pointer to unknown segment', 'unknown pointer type',
     'or use the Cap\'n Proto RPC system',
@@ -288,8 +288,8 @@ class Programs:
         counts.say(frames and not difference, f'{self.file}: {same} messages{whose} with {fields} fields' + (f', then {difference}' if difference else ''))
 
     def read_altered(self, frames, seed, counts):
-        """Reads altered messages. What the program and `capnp decode` both read, they print the same, and the program refuses what that
-        refuses, but for a few faults."""
+        """Reads altered messages. What the program and `capnp decode` both read, they print the same. What that refuses, the program
+        refuses too, except for the faults of `UNSEEN`."""
         rng = random.Random(seed)
         frames = [messages.altered(rng, it) for it in frames if it[:4] == bytes(4) and len(it) > 8]
         ours = []

@@ -29,7 +29,7 @@ def offset(pointer, by):
 
 class Writer:
     """Writes a function. `waiting` has the C of values that are written where they are used, and whether they read memory. Such a value
-    is used once: whatever takes it removes it."""
+    is used once, and is removed then."""
 
     def __init__(self, function):
         self.function, self.module, self.names = function, function.module, function.names
