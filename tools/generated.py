@@ -25,7 +25,7 @@ from libraries import FOR_C, PARTS, TOP, Crates
 NAME = 'capnp_canonical'
 EXPORTS = 'tools/exports.txt'
 # The libraries and the programs.
-CRATES = *FOR_C, 'capnp_canon', 'layout_tool', 'capnpc_layout_rust'
+CRATES = *FOR_C, 'capnp_canon', 'layout_tool', 'capnpc_layout_rust', 'capnpc_layout_c'
 WRITER = 'tools/generate.py', 'tools/c_of_module'
 WASM = 'bindings/js'
 AGAIN = 'run python3 tools/generated.py'

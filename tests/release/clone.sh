@@ -96,6 +96,16 @@ programs() {
         [ "$(echo 0000000001000000 2a00000000000000 | tr -d ' ' | ./layout_tool canon 64 8388608)" = 00000000010000002a00000000000000 ]
 }
 
+# The generators, which make builds first, write the code that the repository has.
+generators() {
+    mkdir "$work/typed" && capnp compile --src-prefix=tests/typed -o./capnpc-layout-c:"$work/typed" -o./capnpc-layout-rust:"$work/typed" \
+        tests/typed/addressbook.capnp tests/typed/fields.capnp || return 1
+    for it in addressbook fields; do
+        cmp "$work/typed/$it.capnp.h" "tests/typed/c/$it.capnp.h" && cmp "$work/typed/${it}_capnp.rs" "tests/typed/rust/src/${it}_capnp.rs" || return 1
+    done
+    [ -x build/capnpc_layout_c ] && [ -x build/capnpc_layout_rust ]
+}
+
 # Builds into a folder of this name, and runs `make check`.
 #
 #     checked NAME CC [CFLAGS [VARIABLE=VALUE..]]
@@ -266,13 +276,17 @@ END
 fi
 if is_wanted check; then
     part 'the programs' programs
+    if has 'the generators' capnp; then part 'the generators' generators; fi
     part "make check, $CC" make check CC="$CC"
     if has 'vectors over layout_tool' python3; then part 'vectors over layout_tool' python3 -B tests/vectors/run.py build/layout_tool; fi
     if has 'sums of generated/' python3; then part 'sums of generated/' python3 -B tools/generated.py --sums; fi
 fi
 if is_wanted compilers; then
     for compiler in gcc clang; do
-        if has "make check, $compiler" $compiler; then part "make check, $compiler" checked $compiler $compiler '-O2 -Wall -Wextra -Werror'; fi
+        if has "make check, $compiler" $compiler; then
+            part "make all, $compiler" make all BUILD="$work/$compiler" CC="$compiler" CFLAGS='-O2 -Wall -Wextra -Werror'
+            part "make check, $compiler" checked $compiler $compiler '-O2 -Wall -Wextra -Werror'
+        fi
     done
 fi
 if is_wanted sanitized; then part "make check, $CC, sanitized" checked sanitized "$CC" "$sanitized"; fi

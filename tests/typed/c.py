@@ -16,12 +16,16 @@ The parts, by default all of them:
   find nothing.
 - `random`: like `fields`, for N random schemas (by default 3) of S structs (by default 20). Each struct in turn is the root of a
   message.
+- `large`: the same for schemas of three kinds: with every feature of the language, of a trading system, and with 100 structs that
+  refer to one another, 500 fields, and groups 60 deep.
 - `versions`: the code of an old version of a random schema, without the last fields of its structs, and that of the new one
   print messages of each other.
+- `altered`: the program over the code for `fields.capnp` prints altered messages as `capnp decode` does, or refuses them, and
+  refuses what that refuses.
 - `bugs`: a program over the code of `fields.capnp` with a planted bug, one of each kind, isn't compiled, or prints or copies
   something else.
-- `odd`: the code for schemas with odd names and declarations is compiled like `headers`, and standard error names what isn't
-  written.
+- `odd`: the code for schemas with odd names and declarations, and for a request of a later schema compiler, is compiled like
+  `headers`, and standard error names what isn't written.
 
 The generator is by default `capnpc-layout-c` at the top, and the library `generated/capnp_layout.c`. The last line is `N passed,
 M failed`."""
@@ -35,12 +39,13 @@ import tempfile
 import c_program
 import messages
 import run
+import unknown
 from schema import Schema
 
 HERE = pathlib.Path(__file__).resolve().parent
 BINDINGS = run.TOP / 'bindings/c'
 SCHEMAS = 'addressbook', 'fields'
-PARTS = 'ours', 'headers', 'book', 'fields', 'random', 'versions', 'bugs', 'odd'
+PARTS = 'ours', 'headers', 'book', 'fields', 'random', 'large', 'versions', 'altered', 'bugs', 'odd'
 STRICT = '-Wall -Wextra -Wpedantic -Wconversion -Wshadow -Werror'.split()
 COMPILERS = ('gcc', '-std=c99'), ('clang', '-std=c99'), ('g++', '-std=c++11', '-x', 'c++'), ('clang++', '-std=c++11', '-x', 'c++')
 # The planted bugs: what is wrong, what is before it, a part of the code, and what takes the place of that.
@@ -99,6 +104,7 @@ def library(options, room):
 
 class Generated(run.Programs):
     """A program over the generated code of a schema."""
+    says_after = True
 
     def __init__(self, options, room, name, text, roots=None):
         folder = room / name
@@ -118,7 +124,7 @@ class Generated(run.Programs):
         return built
 
     def run(self, program, frames):
-        ran = subprocess.run([self.folder / 'program', {'printer': 'print', 'copier': 'copy'}[program]], input=b''.join(frames), stdout=subprocess.PIPE, stderr=subprocess.PIPE)
+        ran = subprocess.run([self.folder / 'program', {'printer': 'print', 'copier': 'copy'}.get(program, program)], input=b''.join(frames), stdout=subprocess.PIPE, stderr=subprocess.PIPE)
         if ran.returncode and not self.is_quiet:
             print(ran.stderr.decode(errors='replace')[-3000:])
         return ran.stdout.decode(errors='replace').splitlines() if not ran.returncode else []
@@ -188,12 +194,25 @@ def random(options, room, counts):
         Generated(options, room, f'random{seed}', text).test(options.messages, seed, counts)
 
 
+def large(options, room, counts):
+    texts = {it.stem: it.read_text(encoding='utf-8') for it in sorted((HERE / 'large').glob('*.capnp'))}
+    for stem, text in {**texts, 'mutual': messages.mutual()}.items():
+        Generated(options, room, stem, text).test(options.messages, 5, counts)
+
+
 def versions(options, room, counts):
     made = messages.RandomSchema(200, options.structs, 12)
     old, new = (Generated(options, room, name, text, made.structs) for name, text in (('old', made.old), ('new', made.text)))
     if old.build(counts) and new.build(counts):
         for reader, writer in (old, new), (new, old):
             reader.read(messages.frames(writer.schema, made.structs, options.messages, 9), f' of {writer.file}', counts)
+
+
+def altered(options, room, counts):
+    text = (HERE / 'fields.capnp').read_text(encoding='utf-8')
+    made = Generated(options, room, 'altered', text, ['Root'])
+    if made.build(counts):
+        made.read_altered(messages.frames(made.schema, made.roots, options.messages, 11), 11, counts)
 
 
 class Silent(run.Counts):
@@ -233,6 +252,9 @@ def odd(options, room, counts):
     said = ''
     for path in sorted((HERE / 'odd').glob('*.capnp')):
         said += generate(options.generator, str(path), folder)[1]
+    status, unknown_said = unknown.generate(options.generator, folder)
+    counts.say(status == 0, 'odd: what a later schema compiler asks for')
+    said += unknown_said
     strictly(folder, sorted(it.name for it in folder.glob('*.h')), room, counts, 'odd')
     wanted = (HERE / 'odd/skipped_c.txt').read_text(encoding='utf-8')
     counts.say(said == wanted, 'odd: standard error names what is not written' if said == wanted else f'odd: standard error is {said}')

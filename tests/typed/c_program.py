@@ -78,7 +78,9 @@ int main(int argc, char **argv) {{
         if (i % 2 != 0) capnp_validate(&message);
         if (argc > 1 && argv[1][0] == 'c') copy_message(&message, i % {count});
         else print_message(&message, i % {count});
-        if (message.refusal != 0) {{
+        if (message.refusal != 0 && argc > 1 && argv[1][0] == 'a') {{
+            puts("refused");
+        }} else if (message.refusal != 0) {{
             fprintf(stderr, "message %u: refusal %u\\n", i, (unsigned)message.refusal);
             return 1;
         }}

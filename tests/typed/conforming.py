@@ -21,6 +21,7 @@ import sys
 HERE = pathlib.Path(__file__).resolve().parent
 sys.path.insert(0, str(HERE.parent))
 from crates.run import CONFORMING_RUNS, build
+from messages import altered
 
 SCHEMAS = {'kinds': (HERE / 'kinds.capnp', 'Kinds'), 'book': (HERE / 'addressbook.capnp', 'AddressBook')}
 # Faults of two-word landing pads that C++ refuses, and upstream doesn't.
@@ -105,21 +106,6 @@ def frames(stream):
         size = 8 + 8 * int.from_bytes(stream[at + 4:at + 8], 'little')
         yield stream[at:at + size]
         at += size
-
-
-def altered(rng, frame):
-    """The frame with one to three changes of its words: a bit, a byte, or a word that is zeroed or copied over another."""
-    changed, words = bytearray(frame), len(frame) // 8 - 1
-    for _ in range(rng.randint(1, 3)):
-        at, other = (8 + 8 * rng.randrange(words) for _ in range(2))
-        what = rng.randrange(4)
-        if what == 0:
-            changed[at + rng.randrange(8)] ^= 1 << rng.randrange(8)
-        elif what == 1:
-            changed[at + rng.randrange(8)] = rng.randrange(256)
-        else:
-            changed[at:at + 8] = bytes(8) if what == 2 else changed[other:other + 8]
-    return bytes(changed)
 
 
 def answers(schema, messages):

@@ -97,6 +97,25 @@ class RandomSchema:
         return lines
 
 
+def mutual(structs=100, fields=500, depth=60):
+    """The text of a schema that is hard for generators: structs that all refer to one another, one with many fields, groups inside
+    one another, and unions inside one another."""
+    choices = random.Random(structs)
+    kinds = [*(SHOWN[it] for it in (*NUMBERS[1:], 'bool', 'void', 'text', 'data')), 'E']
+    lines = ['@0xd0d1d2d3d4d5d604;', 'enum E { a @0; b @1; c @2; }']
+    for i in range(structs):
+        other = [f'S{(i * by + more) % structs}' for by, more in ((1, 1), (7, 3), (31, 5), (1, structs // 2), (1, 2), (1, 3))]
+        lines.append(f'struct S{i} {{ next @0 :{other[0]}; all @1 :List({other[1]}); up @2 :{other[2]}; id @3 :UInt32; name @4 :Text; '
+                     f'rows @5 :List(List({other[3]})); union {{ left @6 :{other[4]}; right @7 :List({other[5]}); none @8 :Void; }} }}')
+    lines.append('struct Many {')
+    for i in range(fields):
+        inner = choices.choice([*kinds, f'S{choices.randrange(structs)}'])
+        lines.append(f'  f{i} @{i} :{f"List({inner})" if choices.random() < .2 else inner};')
+    lines += ['}', 'struct Deep {', *(f'  g{i} :group {{ v{i} @{2 * i} :UInt8; t{i} @{2 * i + 1} :Text;' for i in range(depth)), '}' * depth, '}']
+    lines += ['struct Unions {', *(f'  u{i} :union {{ a{i} @{2 * i} :Void; b{i} @{2 * i + 1} :Text;' for i in range(3)), '}}}', '}']
+    return '\n'.join(lines) + '\n'
+
+
 def number(choices, what):
     """The text of a number of this kind."""
     if what == 'bool':
@@ -166,6 +185,21 @@ def frames(schema, roots, count, seed):
     return every(encoded, range(count))
 
 
+def altered(rng, frame):
+    """The frame with one to three changes of its words: a bit, a byte, or a word that is zeroed or copied over another."""
+    changed, words = bytearray(frame), len(frame) // 8 - 1
+    for _ in range(rng.randint(1, 3)):
+        at, other = (8 + 8 * rng.randrange(words) for _ in range(2))
+        what = rng.randrange(4)
+        if what == 0:
+            changed[at + rng.randrange(8)] ^= 1 << rng.randrange(8)
+        elif what == 1:
+            changed[at + rng.randrange(8)] = rng.randrange(256)
+        else:
+            changed[at:at + 8] = bytes(8) if what == 2 else changed[other:other + 8]
+    return bytes(changed)
+
+
 def every(of, them):
     """What a function returns for each of them, which calls other programs."""
     with multiprocessing.pool.ThreadPool() as pool:
@@ -193,6 +227,7 @@ class Compared:
             form, size = ('<f', 4) if what == 'float32' else ('<d', 8)
             ours, theirs = struct.unpack(form, int(ours).to_bytes(size, 'little'))[0], float(theirs)
             same = ours == struct.unpack(form, struct.pack(form, theirs))[0] or what == 'float32' and float(f'{ours:.8g}') == theirs
+            same |= ours != ours and theirs != theirs
         else:
             same = ours == theirs
         if not same:

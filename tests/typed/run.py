@@ -19,6 +19,8 @@ The parts, by default all of them:
   its program prints messages.
 - `versions`: the readers of an old version of a random schema, without the last fields of its structs, and those of the new one
   print messages of each other.
+- `odd`: what is generated for schemas with odd names and declarations, and for a request of a later schema compiler, is proved, and
+  standard error names what isn't written. Several schemas at once are refused.
 
 With `--unproved` it only runs the programs, and with `--messages 0` it only proves.
 
@@ -29,9 +31,11 @@ loading the libraries. It is measured with one job (`--jobs`, by default 1).
 The gate must have built the libraries of the crates below. If the generator isn't built from its current sources, it is proved and
 built first. The last line is `N passed, M failed`."""
 import argparse
+import collections
 import filecmp
 import os
 import pathlib
+import random
 import re
 import resource
 import shutil
@@ -42,6 +46,7 @@ import tempfile
 import copier
 import messages
 import printer
+import unknown
 from schema import NO_DISCRIMINANT, Schema, described, kind, values
 
 TOP = pathlib.Path(__file__).resolve().parents[2]
@@ -52,7 +57,13 @@ from libraries import Crates
 READERS = 'capnp_format capnp_words capnp_arena_traits capnp_objects capnp_readers typed_reading'
 PROGRAM = 'capnp_format capnp_words capnp_arena_traits capnp_arena capnp_framing capnp_objects capnp_readers typed_reading'
 BUILT_ON = 'capnp_making capnp_contents capnp_copies capnp_builders typed_building'
-PARTS = 'ours', 'fields', 'bugs', 'random', 'versions', 'page'
+PARTS = 'ours', 'fields', 'bugs', 'random', 'versions', 'odd', 'page'
+# Faults that `capnp decode` finds and upstream doesn't, in landing pads of two words; that the programs don't look at, since they don't
+# read what any pointer leads to. And `capnp decode` prints no capabilities.
+UNSEEN = (
+    'Second word of double-far pad must be far pointer', 'double-far pointer to unknown segment', 'unknown pointer type',
+    'or use the Cap\'n Proto RPC system',
+)
 # A line of `rattle check --progress`.
 CHECKED = re.compile(r'checked (\S+), \d+ of \d+$')
 # What some kinds of fields are called where costs are printed.
@@ -251,12 +262,14 @@ def kinds_of_calls(node):
 class Programs:
     """Programs over the generated code of a schema: the file `file`, whose declarations are `schema`. The roots of messages are
     structs of the schema in turn. `run` runs a program of a name for messages, and returns the lines that it prints."""
+    # whether the program prints what it has read of a message, and then that it refuses it
+    says_after = False
 
     def decoded(self, frames):
         """What `capnp decode` prints for each of these messages."""
         texts = [None] * len(frames)
-        for i, root in enumerate(self.roots):
-            run = subprocess.run(['capnp', 'decode', self.schema.path, root], input=b''.join(frames[i::len(self.roots)]), stdout=subprocess.PIPE, check=True)
+        for i, root in enumerate(self.roots[:len(frames)]):
+            run = subprocess.run(['capnp', 'decode', '--quiet', self.schema.path, root], input=b''.join(frames[i::len(self.roots)]), stdout=subprocess.PIPE, check=True)
             texts[i::len(self.roots)] = values(run.stdout.decode())
         return texts
 
@@ -264,7 +277,7 @@ class Programs:
         """The canonical words of each message, by C++."""
         def words(i):
             root = self.roots[i % len(self.roots)]
-            return subprocess.run(['capnp', 'convert', 'binary:canonical', self.schema.path, root], input=frames[i], stdout=subprocess.PIPE, check=True).stdout
+            return subprocess.run(['capnp', 'convert', '--quiet', 'binary:canonical', self.schema.path, root], input=frames[i], stdout=subprocess.PIPE, check=True).stdout
 
         return messages.every(words, range(len(frames)))
 
@@ -273,6 +286,33 @@ class Programs:
         ours = list(values('\n'.join(self.run('printer', frames))))
         same, fields, difference = messages.compared(self.schema, self.roots, ours, self.decoded(frames))
         counts.say(frames and not difference, f'{self.file}: {same} messages{whose} with {fields} fields' + (f', then {difference}' if difference else ''))
+
+    def read_altered(self, frames, seed, counts):
+        """Reads altered messages. What the program and `capnp decode` both read, they print the same. What that refuses, the program
+        refuses too, except for the faults of `UNSEEN`."""
+        rng = random.Random(seed)
+        frames = [messages.altered(rng, it) for it in frames if it[:4] == bytes(4) and len(it) > 8]
+        ours = []
+        for line in self.run('altered', frames):
+            # the program in C says afterwards that it has refused the message
+            ours[-1 if line == 'refused' and self.says_after else len(ours):] = [line]
+        theirs = messages.every(lambda i: self.decoded_one(self.roots[i % len(self.roots)], frames[i]), range(len(frames)))
+        found, of = collections.Counter(), {}
+        for i, (one, (status, other)) in enumerate(zip(ours, theirs)):
+            what = 'refused' if one == 'refused' else 'read', 'refused' if status else 'read'
+            found[what] += 1
+            of.setdefault(what, []).append(i)
+        both, wrong = of.get(('read', 'read'), []), of.get(('read', 'refused'), [])
+        wrong = [i for i in wrong if not any(it in theirs[i][1] for it in UNSEEN)]
+        differs = [i for i in both if messages.compared(self.schema, [self.roots[i % len(self.roots)]], [ours[i]], [next(values(theirs[i][1]), '()')])[2]]
+        print(f'  {self.file}: altered messages, by this program and by capnp decode: ' + ', '.join(f'{" and ".join(what)} {count}' for what, count in sorted(found.items())), flush=True)
+        counts.say(frames and len(ours) == len(frames) and not differs, f'{self.file}: {len(both)} altered messages are printed as by capnp decode' + (f', but {len(differs)} are not: {differs[:3]}' if differs else ''))
+        counts.say(not wrong, f'{self.file}: what capnp decode refuses is refused' + (f', but not {[(i, theirs[i][1][-200:]) for i in wrong[:3]]}' if wrong else ''))
+
+    def decoded_one(self, root, frame):
+        """The status of `capnp decode` for a message, and what it prints."""
+        ran = subprocess.run(['capnp', 'decode', '--quiet', self.schema.path, root], input=frame, stdout=subprocess.PIPE, stderr=subprocess.STDOUT)
+        return ran.returncode, ran.stdout.decode('utf-8', 'surrogateescape')
 
     def copy(self, frames, counts):
         """Compares messages with their copies, by readers and builders."""
@@ -410,6 +450,38 @@ def versions(folder, structs, count, jobs, counts):
             made.prove(made.readers, jobs, counts)
 
 
+def odd(folder, jobs, counts):
+    """The schemas of the folder `odd`, whose crates are in one repository."""
+    folder.mkdir()
+    crates, said, here = tree(folder), '', TOP / 'tests/typed/odd'
+    command = ['capnp', 'compile', f'--src-prefix={here}', f'-o{TOP}/capnpc-rattle:{crates}']
+    before = {*crates.iterdir()}
+    several = subprocess.run([*command, here / 'a.capnp', here / 'b.capnp'], stderr=subprocess.PIPE)
+    counts.say(several.returncode and {*crates.iterdir()} == before, 'odd: several schemas are refused, and nothing is written')
+    for path in [*sorted(here.glob('*.capnp')), None]:
+        if path:
+            ran = subprocess.run([*command, path], stderr=subprocess.PIPE, encoding='utf-8')
+            status, text = ran.returncode, ran.stderr
+        else:
+            status, text = unknown.generate(f'{TOP}/capnpc-rattle', crates)
+        said += text
+        made = sorted(it.name for it in {*crates.iterdir()} - before)
+        before = {*crates.iterdir()}
+        counts.say(status == 0 and len(made) == 2, f'odd: {path.name if path else "a later schema compiler"}: {" ".join(made)}')
+        builders, readers = made
+        add(folder, f'{readers}: {READERS}')
+        add(folder, f'{builders}: {READERS} {BUILT_ON} {readers}')
+        for name in (readers, builders) if jobs else ():
+            start = prover_seconds()
+            proved, why, _ = prove(folder, name, jobs)
+            functions = len(re.findall(r'^(?:fn|struct) .*: proved', why, re.MULTILINE))
+            counts.say(proved, f'{name}: {functions} functions proved in {prover_seconds() - start:.0f} processor seconds' if proved else f'{name}: {why[-3000:]}')
+            if proved and name == readers:
+                build(folder, name)
+    wanted = (here / 'skipped_rattle.txt').read_text(encoding='utf-8')
+    counts.say(said == wanted, 'odd: standard error names what is not written' if said == wanted else f'odd: standard error is {said}')
+
+
 def blocks(page, heading):
     """The blocks of a page below a heading, by their kind."""
     text = (TOP / page).read_text(encoding='utf-8').partition(f'\n## {heading}\n')[2].partition('\n## ')[0]
@@ -473,6 +545,8 @@ def main():
             trip(Generated(pathlib.Path(folder) / f'random{seed}', text, f'random{seed}'), given.messages, seed, jobs, counts)
         if 'versions' in parts:
             versions(pathlib.Path(folder), given.structs, given.messages, jobs, counts)
+        if 'odd' in parts:
+            odd(pathlib.Path(folder) / 'odd', jobs, counts)
         if 'page' in parts and jobs:
             type_page(folder, counts)
     print(f'{counts.passed} passed, {counts.failed} failed')

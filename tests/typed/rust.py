@@ -15,13 +15,18 @@ The parts, by default all of them:
   no, something of the message is refused by another reader.
 - `random`: like `fields`, for N random schemas (by default 3) of S structs (by default 20). Each struct in turn is the root of a
   message.
+- `large`: the same for schemas of three kinds: with every feature of the language, of a trading system, and with 100 structs that
+  refer to one another, 500 fields, and groups 60 deep.
 - `versions`: the code of an old version of a random schema, without the last fields of its structs, and that of the new one
   print and check messages of each other.
+- `altered`: the program over the code for `fields.capnp` prints altered messages as `capnp decode` does, or refuses them, and
+  refuses what that refuses.
 - `bugs`: a program over the code of `fields.capnp` with a planted bug, one of each kind, isn't compiled, or prints or copies
   something else, or its readers disagree.
 - `build`: the package `bindings/rust/capnpc_layout_rust/example`, whose build script generates its code, is built and runs; the crate
   for build scripts passes clippy; and it says which program is missing, or what `capnp` refuses.
-- `odd`: schemas with odd names and declarations are compiled without a warning.
+- `odd`: schemas with odd names and declarations, and a request of a later schema compiler, are compiled without a warning, and
+  standard error names what isn't written.
 
 The generator is by default `capnpc-layout-rust` at the top. The last line is `N passed, M failed`."""
 import argparse
@@ -38,13 +43,14 @@ from random import Random
 import messages
 import rust_program
 import run
+import unknown
 from schema import Schema
 
 HERE = pathlib.Path(__file__).resolve().parent
 LAYOUT = run.TOP / 'bindings/rust/capnp_layout'
 BUILD = run.TOP / 'bindings/rust/capnpc_layout_rust'
 SCHEMAS = 'addressbook', 'fields'
-PARTS = 'ours', 'package', 'fields', 'random', 'versions', 'bugs', 'build', 'odd'
+PARTS = 'ours', 'package', 'fields', 'random', 'large', 'versions', 'altered', 'bugs', 'build', 'odd'
 MANIFEST = f'''[package]
 name = "made"
 version = "0.0.0"
@@ -219,6 +225,12 @@ def random(options, room, counts):
         Generated(options.generator, room / f'random{seed}', room / 'target', text, f'random{seed}').test(options.messages, seed, counts)
 
 
+def large(options, room, counts):
+    texts = {it.stem: it.read_text(encoding='utf-8') for it in sorted((HERE / 'large').glob('*.capnp'))}
+    for stem, text in {**texts, 'mutual': messages.mutual()}.items():
+        Generated(options.generator, room / stem, room / 'target', text, stem).test(options.messages, 5, counts)
+
+
 def versions(options, room, counts):
     made = messages.RandomSchema(200, options.structs, 12)
     roots = made.structs
@@ -228,6 +240,13 @@ def versions(options, room, counts):
             frames = messages.frames(writer.schema, roots, options.messages, 9)
             reader.read(frames, f' of {writer.file}', counts)
             reader.check(frames, 9, counts)
+
+
+def altered(options, room, counts):
+    text = (HERE / 'fields.capnp').read_text(encoding='utf-8')
+    made = Generated(options.generator, room / 'altered', room / 'target', text, 'altered', ['Root'])
+    if made.build(counts):
+        made.read_altered(messages.frames(made.schema, made.roots, options.messages, 11), 11, counts)
 
 
 class Silent(run.Counts):
@@ -289,6 +308,9 @@ def odd(options, room, counts):
     said = ''
     for path in sorted((HERE / 'odd').glob('*.capnp')):
         said += generate(options.generator, str(path), folder)[1]
+    status, unknown_said = unknown.generate(options.generator, folder)
+    counts.say(status == 0, 'odd: what a later schema compiler asks for')
+    said += unknown_said
     modules = sorted(it.stem for it in folder.glob('*_capnp.rs'))
     (folder / 'main.rs').write_text(''.join(f'mod {it};\n' for it in modules) + '\nfn main() {}\n', encoding='utf-8')
     (folder.parent / 'Cargo.toml').write_text(MANIFEST, encoding='utf-8')

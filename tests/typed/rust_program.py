@@ -28,12 +28,16 @@ fn main() {{
     let mut bytes = Vec::new();
     std::io::stdin().read_to_end(&mut bytes).unwrap();
     let word = std::env::args().nth(1).unwrap();
+    let is_altered = word == "altered";
     let (mut rest, mut i) = (&bytes[..], 0);
     while !rest.is_empty() {{
         let (message, after) = Message::open_first(rest, Limits::default()).unwrap();
         let made = match i % {count} {{
 {arms}        }};
-        println!("{{}}", made.unwrap());
+        match made {{
+            Err(_) if is_altered => println!("refused"),
+            made => println!("{{}}", made.unwrap()),
+        }}
         (rest, i) = (after, i + 1);
     }}
     std::io::stdout().flush().unwrap();

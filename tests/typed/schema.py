@@ -77,7 +77,7 @@ def unquoted(token):
     """The bytes of a text or of data."""
     if token.startswith('0x"'):
         return bytes.fromhex(token[3:-1].replace(' ', ''))
-    out, text, at = bytearray(), token[1:-1].encode(), 0
+    out, text, at = bytearray(), token[1:-1].encode('utf-8', 'surrogateescape'), 0
     while at < len(text):
         if text[at] != 0x5c:
             out.append(text[at])
@@ -136,12 +136,13 @@ class Schema:
     """The declarations of a schema: `nodes` by their ids; structs and groups with their fields, enums with their variants."""
 
     def __init__(self, path):
-        self.path = path
+        self.path, self.defaults = path, {}
         asked = subprocess.run(['capnp', 'compile', '-o-', path], check=True, stdout=subprocess.PIPE).stdout
         text = subprocess.run(['capnp', 'decode', described(), 'CodeGeneratorRequest'], input=asked, check=True, stdout=subprocess.PIPE).stdout
         every = parsed(text.decode())['nodes']
         self.nodes = {node['id']: node for node in every}
-        self.written = [node for node in every if 'struct' in node or 'enum' in node]
+        # without the structs that the compiler makes, or imports, for the parameters and results of methods
+        self.written = [node for node in every if ('struct' in node or 'enum' in node) and not re.search(r'\$|capnp/stream\.capnp:', node['displayName'])]
         taken = set(MODULE_WORDS)
         for node in self.written:
             node['full'] = unquoted(node['displayName']).decode().split(':', 1)[1]
@@ -154,12 +155,12 @@ class Schema:
                 if int(node['struct']['discriminantCount']):
                     node['which'] = take(taken, node['snake'] + '_which')
             else:
-                used = set(VARIANT_WORDS)
+                used = VARIANT_WORDS | {node['type']}
                 node['variants'] = [take(used, capitalized(name_of(it))) for it in node['enum'].get('enumerants', [])]
 
     def name_fields(self, node):
         """Names the calls of a struct's fields, and the variants of its union."""
-        used, set_by, variants = set(), set(BUILDER_WORDS), set(VARIANT_WORDS)
+        used, set_by, variants = set(), set(BUILDER_WORDS), VARIANT_WORDS | {'Which'}
         node['fields'] = node['struct'].get('fields', [])
         for field in node['fields']:
             field['getter'] = take(used, snake_case(name_of(field)))
@@ -169,8 +170,10 @@ class Schema:
 
     def default(self, name):
         """The default value of a field: a schema has a constant for each, which `capnp` prints."""
-        run = subprocess.run(['capnp', 'eval', self.path, f'{name}Default'], stdout=subprocess.PIPE, check=True)
-        return parsed(run.stdout.decode())
+        if name not in self.defaults:
+            run = subprocess.run(['capnp', 'eval', self.path, f'{name}Default'], stdout=subprocess.PIPE, check=True)
+            self.defaults[name] = parsed(run.stdout.decode())
+        return self.defaults[name]
 
     def structs(self):
         """The names of the structs."""

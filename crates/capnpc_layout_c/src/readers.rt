@@ -96,10 +96,7 @@ impl<'m> Schema<'m> {
                 Some(_) => "",
                 None => "its group is unknown",
             },
-            FieldKind::Slot(slot) => match lacking(self.nodes, slot) {
-                "its enum has no names" => "",
-                why => why,
-            },
+            FieldKind::Slot(slot) => lacking(self.nodes, slot),
         }
     }
 

@@ -94,7 +94,7 @@ impl<'m> Schema<'m> {
             },
             FieldKind::Slot(slot) => {
                 let why = lacking(self.nodes, slot);
-                if why.is_empty() || why == "its enum has no names" {
+                if why.is_empty() {
                     return lacking_in_rust(slot.of, &slot.default);
                 }
                 why

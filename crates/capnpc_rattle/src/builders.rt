@@ -6,7 +6,7 @@ use crate::fields::{
 };
 use crate::forms::form_of;
 use crate::imports::BUILDERS;
-use crate::names::{BUILDER_WORDS, VARIANT_WORDS};
+use crate::names::{BUILDER_WORDS, has_enum, variant_name};
 use crate::output::Output;
 use crate::parts::builder_template;
 use crate::slots::{slot_items, slot_list};
@@ -16,7 +16,7 @@ use capnpc_schema::files::File;
 use capnpc_schema::model::{
     Default, Field, FieldKind, NO_DISCRIMINANT, Node, NodeKind, Slot, Struct, lacking,
 };
-use capnpc_schema::names::{Names, capitalized};
+use capnpc_schema::names::Names;
 use capnpc_schema::slots::add_group_slots;
 use capnpc_schema::text::{Text, Values};
 use capnpc_schema::types::BaseKind;
@@ -135,6 +135,10 @@ impl<'m> Builders<'m> {
             values.put_number("index", u64::from(it.tag_offset));
             values.put_number("count", u64::from(it.members));
             module.specs.add(self.alloc, it.tag.as_str());
+            if !has_enum(usize::from(it.members)) {
+                write_call(module, calls::WHICH_NUMBER, &mut values);
+                return;
+            }
             module.numbers.add_once(self.alloc, it.which.as_str());
             write_call(module, calls::WHICH, &mut values);
         }
@@ -162,7 +166,7 @@ impl<'m> Builders<'m> {
 
     // Writes the module of an enum.
     fn write_enum(&mut self, node: &Node, names: &[String]) {
-        if names.is_empty() {
+        if !has_enum(names.len()) {
             return;
         }
         let mut module = Module::new(self.alloc, node.module.as_str());
@@ -221,7 +225,7 @@ impl<'m> Builders<'m> {
         if slot.of.is_void() && field.discriminant == NO_DISCRIMINANT {
             return;
         }
-        let form = form_of(slot.of);
+        let form = form_of(self.output.nodes, slot.of);
         let has_default = !matches!(slot.default, Default::Zero);
         put_slot(&self.output, slot, values);
         if slot.of.lists > 0 || !matches!(slot.of.base.kind, BaseKind::Pointer) {
@@ -300,8 +304,7 @@ fn put_arms(alloc: Global, names: &[String], values: &mut Values) {
     let mut arms = Text::new(alloc);
     let mut number = 0u64;
     for name in names {
-        let mut variant = capitalized(alloc, name.as_str());
-        taken.make_unique_and_add(alloc, VARIANT_WORDS, &mut variant);
+        let variant = variant_name(alloc, values.get("enum"), name.as_str(), &mut taken);
         let mut row = Values::new(alloc);
         row.put_text("variant", variant);
         row.put("enum", values.get("enum"));

@@ -200,6 +200,15 @@ params=self;arena: &A
 end= -> ~gives~
 clauses=here get_enum";
 
+/// Returns the number of the member of a union that is set.
+pub const WHICH_NUMBER: Lines = "gives=u16
+read=reading::get_number(arena, self.place, ~index~)
+comment=returns_member_number
+start=pub fn which<A: BuilderArena>
+params=self;arena: &A
+end= -> ~gives~
+clauses=here get_unsigned";
+
 /// Opens a struct.
 pub const OPEN_STRUCT: Lines = "comment=open_struct_about
 start=pub fn get_~snake~<A: BuilderArena>

@@ -8,13 +8,15 @@ use capnpc_schema::text::Text;
 use std::alloc::Global;
 
 /// Names the fields of each struct, and the definitions.
-pub fn name_definitions(nodes: &mut Vec<Node>, noted: &mut Noted) {
+pub fn name_definitions(nodes: &mut Vec<Node>, order: &[usize], noted: &mut Noted) {
     let mut taken = Names::new(noted.alloc);
     for node in nodes.iter() {
         reserve_own_names(noted.alloc, node, &mut taken);
     }
-    for node in nodes.iter_mut() {
-        name_struct_definitions(node, &mut taken, noted);
+    for i in order {
+        if let Some(node) = nodes.get_mut(*i) {
+            name_struct_definitions(node, &mut taken, noted);
+        }
     }
     noted.note_if_failed(taken.has_failed);
 }

@@ -1,7 +1,8 @@
 //! The types of the schema language, and what generated code does with fields of each.
 
+use crate::names::has_enum;
 use crate::{calls, templates};
-use capnpc_schema::model::Type;
+use capnpc_schema::model::{Node, NodeKind, Type, find_node};
 use capnpc_schema::text::Lines;
 use capnpc_schema::types::{Base, BaseKind};
 
@@ -27,11 +28,23 @@ pub struct Form {
 }
 
 /// What generated code does with a field of a type.
-pub fn form_of(of: Type) -> &'static Form {
+pub fn form_of(nodes: &[Node], of: Type) -> &'static Form {
     match of.lists {
+        0 if is_enum_of_numbers(nodes, of) => UNSIGNED,
         0 => form_of_kind(of.base.kind),
         1 if matches!(of.base.kind, BaseKind::Struct) => STRUCTS,
         _ => LIST,
+    }
+}
+
+// Whether a type is an enum of the schema whose fields are numbers.
+fn is_enum_of_numbers(nodes: &[Node], of: Type) -> bool {
+    match find_node(nodes, of.id) {
+        Some(node) => match &node.kind {
+            NodeKind::Enum(names) => !has_enum(names.len()),
+            _ => false,
+        },
+        None => false,
     }
 }
 

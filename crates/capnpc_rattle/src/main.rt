@@ -1,6 +1,6 @@
 //! The program `capnpc-rattle`, a plug-in of the schema compiler, `capnp compile`: reads the compiler's
 //! request from standard input, and writes a crate of readers and one of builders into the working
-//! directory. The crates need no proof of their own.
+//! directory. The crates need no proof of their own. What it doesn't write, it names on standard error.
 #![tactic(auto)]
 
 mod builders;
@@ -19,30 +19,38 @@ mod slots;
 mod templates;
 mod writing;
 
-use anyhow::Result;
+use anyhow::{Result, anyhow};
 use builders::Builders;
 use capnpc_schema::files::{File, write_files};
 use capnpc_schema::input::{read_standard_input, stem};
 use capnpc_schema::noted::Noted;
 use capnpc_schema::request::Request;
 use definitions::name_definitions;
-use modules::name_modules;
+use modules::{name_modules, naming_order};
 use names::crate_name;
-use readers::Readers;
+use output::unwritten_lines;
+use readers::{Generated, Readers};
 use std::alloc::{AllocError, Global};
 
 /// Reads the request, and names the modules and the definitions.
 fn read_named_request(rt: &(impl Input + AllocGlobal)) -> Result<Request> {
     let mut noted = Noted::new(rt.alloc());
     let mut request = read_standard_input(rt, &mut noted)?;
-    name_modules(&mut request.nodes, &mut noted);
-    name_definitions(&mut request.nodes, &mut noted);
+    if request.files.len() > 1 {
+        return Err(anyhow!(
+            "two crates have one schema file: run `capnp compile` for each file by itself"
+        ));
+    }
+    let file = request.first_id();
+    let order = naming_order(request.nodes.as_slice(), file, &mut noted);
+    name_modules(&mut request.nodes, order.as_slice(), &mut noted);
+    name_definitions(&mut request.nodes, order.as_slice(), &mut noted);
     noted.finish()?;
     Ok(request)
 }
 
-/// Returns the files of the crate of readers.
-fn generate_readers(alloc: Global, request: &Request) -> Result<Vec<File>, AllocError> {
+/// Generates the crate of readers.
+fn generate_readers(alloc: Global, request: &Request) -> Result<Generated, AllocError> {
     let stem = stem(request.first_file());
     let name = crate_name(alloc, stem, "_reading")?;
     Readers::new(alloc, name.as_str(), request.nodes.as_slice()).generate(stem)
@@ -61,7 +69,14 @@ fn main(rt: HostRuntime) -> Result<()> {
     let request = read_named_request(&rt)?;
     let readers = generate_readers(rt.alloc(), &request)?;
     let builders = generate_builders(rt.alloc(), &request)?;
-    write_files(&rt, readers.as_slice())?;
+    let unwritten = unwritten_lines(rt.alloc(), request.nodes.as_slice(), request.first_id())?;
+    write_files(&rt, readers.files.as_slice())?;
     write_files(&rt, builders.as_slice())?;
+    for line in unwritten.lines() {
+        eprintln!(rt; "{line}")?;
+    }
+    for line in readers.skipped.lines() {
+        eprintln!(rt; "{line}")?;
+    }
     Ok(())
 }

@@ -1,6 +1,6 @@
 //! Names in generated crates.
 
-use capnpc_schema::names::snake_case;
+use capnpc_schema::names::{Names, capitalized, snake_case};
 use capnpc_schema::text::Text;
 use std::alloc::{AllocError, Global};
 
@@ -82,9 +82,57 @@ pub fn upper_camel_case(alloc: Global, module: &str) -> Text {
     camel
 }
 
-/// The name of a crate: that of the schema's file without its ending, in snake case, and `end`.
+/// The name of a crate: that of the schema's file without its ending, in snake case, and `end`. An `n`
+/// is before a digit, since no name starts with one.
 pub fn crate_name(alloc: Global, stem: &str, end: &str) -> Result<String, AllocError> {
-    let mut name = snake_case(alloc, stem);
+    let snake = snake_case(alloc, stem);
+    let mut name = Text::new(alloc);
+    if let Some(first) = snake.as_str().as_bytes().first()
+        && first.is_ascii_digit()
+    {
+        name.push("n");
+    }
+    name.append(&snake);
     name.push(end);
     name.into_string()
+}
+
+// The most characters of a module's name; a file's name, which has more, can have 255.
+const MAX_MODULE: usize = 200;
+
+// How many of them are kept of a longer name.
+const KEPT: usize = 170;
+
+/// The name of a declaration's module, before any `_` that makes it new: the declaration's own, in snake
+/// case. A long one is cut, and ends in the declaration's id.
+pub fn module_name(alloc: Global, snake: &str, id: u64) -> Text {
+    let mut name = Text::new(alloc);
+    match snake.split_at_checked(KEPT) {
+        Some((start, _)) if snake.len() > MAX_MODULE => {
+            name.push_all(&[start, "_"]);
+            name.push_number(id);
+        }
+        _ => name.push(snake),
+    }
+    name
+}
+
+/// The most variants that the compiler takes of an enum.
+const MAX_VARIANTS: usize = 256;
+
+/// Whether a crate has an enum for one of the schema with this many names, or for a union with this many
+/// members. Otherwise it has numbers.
+pub fn has_enum(names: usize) -> bool {
+    0 < names && names <= MAX_VARIANTS
+}
+
+/// The name of a variant of the enum `of`, which is also the name of a member of a union. `taken` has those
+/// before it.
+pub fn variant_name(alloc: Global, of: &str, name: &str, taken: &mut Names) -> Text {
+    let mut variant = capitalized(alloc, name);
+    if variant.as_str() == of {
+        variant.push_char('_');
+    }
+    taken.make_unique_and_add(alloc, VARIANT_WORDS, &mut variant);
+    variant
 }

@@ -1,7 +1,8 @@
 //! The files of a crate as they are generated.
 
 use crate::imports::Kind;
-use crate::names::upper_camel_case;
+use crate::modules::is_declared_in;
+use crate::names::{has_enum, upper_camel_case};
 use crate::writing::Module;
 use capnpc_schema::files::File;
 use capnpc_schema::model::{Node, NodeKind, find_node};
@@ -166,17 +167,42 @@ fn push_lines(to: &mut Text, start: &str, names: &[String], end: &str) {
 
 // Writes the line of the root module for a declaration, if that gets no code.
 fn push_line_if_unwritten(to: &mut Text, node: &Node) {
-    match &node.kind {
-        NodeKind::Const(_) => push_unwritten_line(to, node.full.as_str(), "a constant"),
-        NodeKind::Other(what) => push_unwritten_line(to, node.full.as_str(), what),
-        NodeKind::Enum(names) if names.is_empty() => {
-            push_unwritten_line(to, node.full.as_str(), "an enum without names");
-        }
-        _ => {}
+    let what = why_unwritten(node);
+    if !what.is_empty() {
+        to.push("//!\n//! Not written: `");
+        push_two(to, node.full.as_str(), "`, ", what);
+        to.push(".\n");
     }
 }
 
-// Writes such a line: what the declaration is called, and what it is.
-fn push_unwritten_line(to: &mut Text, full: &str, what: &str) {
-    to.push_all(&["//!\n//! Not written: `", full, "`, ", what, ".\n"]);
+// Appends what a declaration is called, and what it is.
+fn push_two(to: &mut Text, full: &str, between: &str, what: &str) {
+    to.push(full);
+    to.push(between);
+    to.push(what);
+}
+
+// What a declaration is that gets no code; empty if it gets some.
+fn why_unwritten(node: &Node) -> &'static str {
+    match &node.kind {
+        NodeKind::Const(_) => "a constant",
+        NodeKind::Other(what) => what,
+        NodeKind::Enum(names) if !has_enum(names.len()) => AS_NUMBERS,
+        _ => "",
+    }
+}
+
+const AS_NUMBERS: &str = "an enum with no names or too many, whose fields are numbers";
+
+/// Returns a line for each declaration of a file that gets no code.
+pub fn unwritten_lines(alloc: Global, nodes: &[Node], file: u64) -> Result<String, AllocError> {
+    let mut lines = Text::new(alloc);
+    for node in nodes {
+        let what = why_unwritten(node);
+        if !what.is_empty() && is_declared_in(nodes, node, file) {
+            push_two(&mut lines, node.full.as_str(), " isn't written: ", what);
+            lines.push("\n");
+        }
+    }
+    lines.into_string()
 }

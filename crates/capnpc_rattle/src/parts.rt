@@ -266,6 +266,8 @@ const PARTS: &str = "@there: What each call that writes needs and that has no ot
     /// Returns ~name~.
 @returns_member: The comment of the call that returns which member of a union is set.
     /// Returns which member is set.
+@returns_member_number: The comment of that call if the union has too many members for an enum.
+    /// Returns the number of the member that is set. There are too many for an enum.
 @has_about: The comment of the call that returns whether a pointer is set.
     /// Whether the pointer of ~name~ is not null.
 @group_field: The comment of the call that returns the builder of a group.

@@ -5,16 +5,25 @@ use crate::fields::{
 };
 use crate::forms::form_of;
 use crate::imports::READERS;
-use crate::names::VARIANT_WORDS;
+use crate::names::{has_enum, variant_name};
 use crate::output::Output;
 use crate::templates;
 use crate::writing::Module;
 use capnpc_schema::files::File;
 use capnpc_schema::model::{Default, Field, FieldKind, Node, NodeKind, Slot, Struct, lacking};
-use capnpc_schema::names::{Names, capitalized};
+use capnpc_schema::names::Names;
 use capnpc_schema::text::{Text, Values};
 use capnpc_schema::types::BaseKind;
 use std::alloc::{AllocError, Global};
+
+/// What is generated for readers.
+#[derive(Drop)]
+pub struct Generated {
+    /// The files.
+    pub files: Vec<File>,
+    /// A line for each field that isn't written.
+    pub skipped: String,
+}
 
 /// A crate of readers as it is generated.
 #[derive(Drop)]
@@ -24,6 +33,8 @@ pub struct Readers<'m> {
     output: Output<'m>,
     // The definitions of the fields.
     definitions: Text,
+    // A line for each field that has no calls.
+    skipped: Text,
 }
 
 impl<'m> Readers<'m> {
@@ -33,12 +44,12 @@ impl<'m> Readers<'m> {
             alloc,
             output: Output::new(alloc, name, name, nodes, READERS),
             definitions: Text::new(alloc),
+            skipped: Text::new(alloc),
         }
     }
 
-    /// Generates all files, and returns them. `stem` is the name of the schema's file, without its
-    /// ending.
-    pub fn generate(mut self, stem: &str) -> Result<Vec<File>, AllocError> {
+    /// Generates all files. `stem` is the name of the schema's file, without its ending.
+    pub fn generate(mut self, stem: &str) -> Result<Generated, AllocError> {
         self.definitions.push(templates::DEFINITIONS);
         let nodes = self.output.nodes;
         for node in nodes {
@@ -51,10 +62,13 @@ impl<'m> Readers<'m> {
         let Readers {
             mut output,
             definitions,
+            skipped,
             ..
         } = self;
         output.finish_crate(stem, definitions);
-        output.into_files()
+        let files = output.into_files()?;
+        let skipped = skipped.into_string()?;
+        Ok(Generated { files, skipped })
     }
 
     // Adds a definition: `values` has its name, `spec`, what it is about, its type, and its value.
@@ -89,6 +103,9 @@ impl<'m> Readers<'m> {
 
     // Writes the module of a union's members.
     fn write_union_module(&mut self, node: &Node, it: &Struct) {
+        if !has_enum(usize::from(it.members)) {
+            return;
+        }
         let mut about = Text::new(self.alloc);
         about.push_all(&["Which member of ", node.full.as_str(), " is set"]);
         let members = member_names(self.alloc, it);
@@ -126,19 +143,28 @@ impl<'m> Readers<'m> {
         values.put_number("bit", offset.saturating_mul(16));
         values.put_number("index", offset);
         values.put_number("count", u64::from(it.members));
+        values.put_lines(templates::ANY);
+        if !has_enum(usize::from(it.members)) {
+            values.put_lines(templates::WHICH);
+            values.put_lines(templates::WHICH_NUMBER);
+            self.define(module, templates::DEFINITION, &values);
+            module.begin_item();
+            module.body.push(templates::WHICH_NUMBER_ABOUT);
+            push_getter(module, templates::UNSIGNED, &values);
+            return;
+        }
         module.put_path(it.which.as_str(), &mut values);
         module.numbers.add_once(self.alloc, it.which.as_str());
-        values.put_lines(templates::ANY);
         values.put_lines(templates::WHICH);
         self.define(module, templates::DEFINITION, &values);
         module.begin_item();
-        module.body.push("    /// Returns which member is set.\n");
+        module.body.push(templates::WHICH_ABOUT);
         push_getter(module, templates::ENUM, &values);
     }
 
     // Writes the module of an enum.
     fn write_enum(&mut self, node: &Node, names: &[String]) {
-        if names.is_empty() {
+        if !has_enum(names.len()) {
             return;
         }
         let name = enum_type_name(self.alloc, node);
@@ -175,19 +201,19 @@ impl<'m> Readers<'m> {
             FieldKind::Slot(slot) => {
                 let why = self.skip_reason(slot);
                 if !why.is_empty() {
-                    push_skip_comment(module, why, values);
+                    self.skip_field(module, why, values);
                 } else if !slot.of.is_void() {
                     self.write_slot_calls(module, field, slot, values);
                 }
             }
-            FieldKind::Unknown => push_skip_comment(module, "its type is unknown", values),
+            FieldKind::Unknown => self.skip_field(module, "its type is unknown", values),
         }
     }
 
     // Writes the getter of a group.
     fn write_group_getter(&mut self, module: &mut Module, id: u64, values: &mut Values) {
         let Some(node) = self.output.node(id) else {
-            push_skip_comment(module, "its group is unknown", values);
+            self.skip_field(module, "its group is unknown", values);
             return;
         };
         module.begin_item();
@@ -195,6 +221,13 @@ impl<'m> Readers<'m> {
         module.put_path(node.module.as_str(), values);
         values.put_lines(templates::GROUP_PARTS);
         push_getter(module, templates::GROUP, values);
+    }
+
+    // Writes a comment in place of a field's calls, and notes that.
+    fn skip_field(&mut self, module: &mut Module, why: &'static str, values: &mut Values) {
+        push_skip_comment(module, why, values);
+        self.skipped
+            .push_filled("~full~.~name~ isn't written: ~why~\n", values);
     }
 
     // Why a field has no getter; empty if it has one.
@@ -217,7 +250,7 @@ impl<'m> Readers<'m> {
         slot: &Slot,
         values: &mut Values,
     ) {
-        let form = form_of(slot.of);
+        let form = form_of(self.output.nodes, slot.of);
         let has_default = !matches!(slot.default, Default::Zero);
         put_slot(&self.output, slot, values);
         module.begin_item();
@@ -291,8 +324,7 @@ fn variant_values(
     taken: &mut Names,
     values: &Values,
 ) -> Values {
-    let mut variant = capitalized(alloc, name);
-    taken.make_unique_and_add(alloc, VARIANT_WORDS, &mut variant);
+    let variant = variant_name(alloc, values.get("type"), name, taken);
     let mut row = Values::new(alloc);
     row.put("name", name);
     row.put_text("variant", variant);

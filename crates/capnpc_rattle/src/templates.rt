@@ -135,6 +135,17 @@ read=value::get_number(&self.reader, ~index~)
 call=which
 gives=Result<~path~Which, NotInSchema>";
 
+/// What that call puts if the union has too many members for an enum.
+pub const WHICH_NUMBER: Lines = "gives=u16";
+
+/// The comments of these calls.
+pub const WHICH_ABOUT: &str = "    /// Returns which member is set.
+";
+
+pub const WHICH_NUMBER_ABOUT: &str =
+    "    /// Returns the number of the member that is set. There are too many for an enum.
+";
+
 /// What the call puts that says whether a pointer is set.
 pub const HAS_PARTS: Lines = "call=has_~snake~
 params=&self

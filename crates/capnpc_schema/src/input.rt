@@ -35,9 +35,9 @@ fn read_message<A: ReaderArena>(
     Ok(read_request(root, lim, noted))
 }
 
-/// The name of a file without its folders and its ending.
+/// The name of a file without its folders and its last ending.
 pub fn stem(file: &str) -> &str {
     let (_, name) = file.rsplit_once('/').unwrap_or(("", file));
-    let (stem, _) = name.split_once('.').unwrap_or((name, ""));
+    let (stem, _) = name.rsplit_once('.').unwrap_or((name, ""));
     stem
 }

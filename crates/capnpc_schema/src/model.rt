@@ -222,8 +222,8 @@ pub fn lacking(nodes: &[Node], slot: &Slot) -> &'static str {
         (BaseKind::Struct, None) => "its struct is unknown",
         (BaseKind::Enum, None) => "its enum is unknown",
         (BaseKind::Enum, Some(node)) => match &node.kind {
-            NodeKind::Enum(names) if !names.is_empty() => "",
-            _ => "its enum has no names",
+            NodeKind::Enum(_) => "",
+            _ => "its enum is unknown",
         },
         _ => "",
     }

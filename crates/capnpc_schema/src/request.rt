@@ -36,6 +36,14 @@ impl Request {
             None => "",
         }
     }
+
+    /// The id of that file; 0 if there is none.
+    pub fn first_id(&self) -> u64 {
+        match self.files.first() {
+            Some(file) => file.id,
+            None => 0,
+        }
+    }
 }
 
 /// A file of a schema.
