@@ -9,7 +9,8 @@ them, reads each by getters that may be refused, and after a yes by getters that
 
 - Each message that `capnp encode` made conforms.
 - `capnp decode` decodes each message that conforms, except for two faults of landing pads that upstream doesn't test.
-- It refuses each that can be read whole but doesn't conform.
+- It refuses each that can be read whole but doesn't conform, unless that is because of a text that isn't UTF-8. Then it
+  prints bytes that aren't UTF-8. The texts of an address book that conforms are.
 
 Prints how many answers of each kind there were. The last line is `N passed, M failed`."""
 import collections
@@ -26,6 +27,8 @@ from messages import altered
 SCHEMAS = {'kinds': (HERE / 'kinds.capnp', 'Kinds'), 'book': (HERE / 'addressbook.capnp', 'AddressBook')}
 # Faults of two-word landing pads that C++ refuses, and upstream doesn't.
 OF_PADS = b'Second word of double-far pad must be far pointer', b'double-far pointer to unknown segment'
+# The refusal of a text that isn't UTF-8.
+NOT_UTF8 = 'ExistingListValueIsIncompatibleWithExpectedType'
 # How many messages that don't conform are decoded, at most: each needs a process.
 REFUSED = 300
 
@@ -90,13 +93,24 @@ def capnp(command, schema, given):
     return subprocess.run(['capnp', command, path, name], input=given, stdout=subprocess.PIPE, stderr=subprocess.PIPE)
 
 
-def undecoded(schema, messages):
-    """The errors of `capnp decode` for those of the messages that it refuses."""
+def decoded(schema, messages):
+    """What `capnp decode` prints for those of the messages that it decodes, and its errors for the others."""
     run = capnp('decode', schema, b''.join(messages))
     if run.returncode == 0:
-        return []
+        return run.stdout, []
     half = len(messages) // 2
-    return undecoded(schema, messages[:half]) + undecoded(schema, messages[half:]) if half else [run.stderr]
+    if not half:
+        return b'', [run.stderr]
+    (one, first), (two, second) = decoded(schema, messages[:half]), decoded(schema, messages[half:])
+    return one + two, first + second
+
+
+def is_utf8(text):
+    try:
+        text.decode()
+    except UnicodeDecodeError:
+        return False
+    return True
 
 
 def frames(stream):
@@ -125,15 +139,19 @@ def test(schema, make, count, copies):
         print(f'{schema}: conforming_runs or capnp encode failed')
         return 0, 1
     yes = [it for it, answer in zip(all_made, found) if answer[0] == 'yes']
-    readable = [it for it, answer in zip(all_made, found) if answer[0] == 'no' and answer[2] == 'ok']
+    coded = [it for it, answer in zip(all_made, found) if answer[1] == NOT_UTF8 and answer[2] == 'ok']
+    readable = [it for it, answer in zip(all_made, found) if answer[0] == 'no' and answer[2] == 'ok' and it not in coded]
+    printed, errors = decoded(schema, yes)
     counts = collections.Counter((answer[0], *('ok' if it == 'ok' else 'refused' for it in answer[2:])) for answer in found)
     for (test, validate, getters), number in sorted(counts.items()):
         print(f'{schema}: {test}: {number} messages, validate: {validate}, getters: {getters}')
     tests = {
         'messages that were encoded conform': all(answer[0] == 'yes' for answer in found[:count]),
-        'messages that conform are decoded': all(any(it in said for it in OF_PADS) for said in undecoded(schema, yes)),
+        'messages that conform are decoded': all(any(it in said for it in OF_PADS) for said in errors),
         'readable messages that do not conform are refused': all(capnp('decode', schema, it).returncode for it in readable[:REFUSED]),
-        'messages of both kinds': bool(readable) and len(yes) > count,
+        'texts that are refused are not UTF-8': not any(is_utf8(capnp('decode', schema, it).stdout) for it in coded[:REFUSED]),
+        'texts of a book that conforms are UTF-8': schema != 'book' or is_utf8(printed),
+        'messages of each kind': bool(readable) and bool(coded) and len(yes) > count,
     }
     for name in [name for name, passed in tests.items() if not passed]:
         print(f'{schema}: {name}: failed')

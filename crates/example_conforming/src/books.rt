@@ -8,18 +8,18 @@ ghost use Rattle.capnp_objects.specs.Source.{levels};
 ghost use Rattle.capnp_readers.specs.Values.{HasStructs, struct_element, text_bytes};
 ghost use Rattle.typed_reading.specs.Values.{child};
 
-use crate::table::{ADDRESS_BOOK, SCHEMA};
+use crate::table::{ADDRESS_BOOK, PERSON, SCHEMA};
 use capnp_arena_traits::arena::ReaderArena;
-use capnp_words::error::ErrorKind;
 use capnp_words::read_limiter::ReadLimiter;
 use typed_conforming::checked::CheckedStruct;
+use typed_conforming::schema::Misfit;
 use typed_reading::value::get_number;
 
 /// Returns the name of the first person, or `None` if there are no people.
 pub fn first_name<'a, A: ReaderArena>(
     arena: &'a A,
     lim: &mut ReadLimiter,
-) -> Result<Option<&'a [u8]>, ErrorKind>
+) -> Result<Option<&'a str>, Misfit>
     requires { AreWords (message (A.segments arena.now)) }
     ensures { (t : Tree) (c : ℕ)
         → Means (message (A.segments arena.now)) (levels (A.nesting arena.now)) 0 0 t c
@@ -28,27 +28,27 @@ pub fn first_name<'a, A: ReaderArena>(
 {
     let book = match CheckedStruct::root(arena, &SCHEMA, ADDRESS_BOOK, lim) {
         Ok(book) => book,
-        Err(kind) => return Err(kind),
+        Err(misfit) => return Err(misfit),
     };
-    let people = book.get_structs(0, 1);
+    let people = book.get_structs(0, PERSON);
     if people.len() == 0 {
         return Ok(None);
     }
-    Ok(Some(people.get(0).get_text(0)))
+    Ok(Some(people.get(0).get_str(0)))
 }
 
 /// Returns the name of the first person's employer, or `None` if there is none.
 pub fn first_employer<'a, A: ReaderArena>(
     arena: &'a A,
     lim: &mut ReadLimiter,
-) -> Result<Option<&'a [u8]>, ErrorKind>
+) -> Result<Option<&'a str>, Misfit>
     requires { AreWords (message (A.segments arena.now)) }
 {
     let book = match CheckedStruct::root(arena, &SCHEMA, ADDRESS_BOOK, lim) {
         Ok(book) => book,
-        Err(kind) => return Err(kind),
+        Err(misfit) => return Err(misfit),
     };
-    let people = book.get_structs(0, 1);
+    let people = book.get_structs(0, PERSON);
     if people.len() == 0 {
         return Ok(None);
     }
@@ -57,5 +57,5 @@ pub fn first_employer<'a, A: ReaderArena>(
     if which != 1 {
         return Ok(None);
     }
-    Ok(Some(person.get_text(3)))
+    Ok(Some(person.get_str(3)))
 }

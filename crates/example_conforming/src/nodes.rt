@@ -9,42 +9,29 @@ ghost use Rattle.capnp_readers.specs.Values.{text_bytes};
 ghost use Rattle.typed_reading.specs.Values.{child};
 
 use capnp_arena_traits::arena::ReaderArena;
-use capnp_words::error::ErrorKind;
 use capnp_words::read_limiter::ReadLimiter;
 use typed_conforming::checked::CheckedStruct;
-use typed_conforming::schema::{Kind, PointerField, PointerRow, StructRow};
+use typed_conforming::schema::Misfit;
 
 /// The row of `Node`.
-pub static NODES: [StructRow<'static>; 1] = [StructRow {
-    pointers: &[
-        PointerRow {
-            fields: &[PointerField {
-                kind: Kind::Text,
-                members: &[],
-            }],
-        },
-        PointerRow {
-            fields: &[PointerField {
-                kind: Kind::Struct(0),
-                members: &[],
-            }],
-        },
-    ],
-}];
+pub const NODE: u32 = 1;
+
+/// The table of `Node`: its row has a text and a struct of the same row.
+pub static NODES: [u32; 4] = [0, 2, 2, 21];
 
 /// Returns the name of the node after the root.
 pub fn second_name<'a, A: ReaderArena>(
     arena: &'a A,
     lim: &mut ReadLimiter,
-) -> Result<&'a [u8], ErrorKind>
+) -> Result<&'a [u8], Misfit>
     requires { AreWords (message (A.segments arena.now)) }
     ensures { (t : Tree) (c : ℕ)
         → Means (message (A.segments arena.now)) (levels (A.nesting arena.now)) 0 0 t c
         → IfOk result (λ name. name.now ≡ text_bytes (child 0 (child 1 t))) }
 {
-    let node = match CheckedStruct::root(arena, &NODES, 0, lim) {
+    let node = match CheckedStruct::root(arena, &NODES, NODE, lim) {
         Ok(node) => node,
-        Err(kind) => return Err(kind),
+        Err(misfit) => return Err(misfit),
     };
-    Ok(node.get_struct(1, 0).get_text(0))
+    Ok(node.get_struct(1, NODE).get_text(0))
 }

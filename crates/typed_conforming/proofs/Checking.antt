@@ -1,5 +1,5 @@
 -- What the getters of a struct that conforms find.
-use Rattle.std.proofs.Common.{◌≡◌, inl, inr, ◌<◌, ◌≤◌, [], ◌∷◌, length, ◌∙◌, ℕ, zero, suc, ◌+◌, Bool, true, false, None, Option, Some, Ok, Err, Result, IsOk, List, refl, sym, ap, subst, arith}
+use Rattle.std.proofs.Common.{◌≡◌, inl, inr, ◌<◌, ◌≤◌, [], ◌∷◌, length, ◌∙◌, ℕ, zero, suc, ◌+◌, Bool, true, false, None, Option, Some, Ok, Err, Result, IsOk, MatchResult, List, refl, sym, ap, subst, arith}
 use Rattle.std.proofs.lemmas.Bool.{le-ltb}
 use Rattle.std.proofs.Math.Logic.{∥∥₁_elim}
 use mathlib.Core.Bool.{Bool-set}
@@ -19,16 +19,15 @@ use Rattle.capnp_objects.specs.Reading.{source_start, word_of}
 use Rattle.capnp_readers.specs.Sections.{bytes_for}
 use Rattle.capnp_readers.specs.declared.readers.list_reader.ListReader.{ListReader}
 use Rattle.capnp_readers.specs.declared.readers.struct_reader.StructReader.{StructReader}
-use Rattle.capnp_readers.specs.Values.{FitsSize, HasStructs, IsStructOrNull, ShowsListOf, ShowsNumber, ShowsStructOf, struct_children, struct_data, struct_element}
+use Rattle.capnp_readers.specs.Values.{FitsSize, HasStructs, IsStructOrNull, IsText, ShowsListOf, ShowsNumber, ShowsStructOf, struct_children, struct_data, struct_element}
 use Rattle.typed_reading.specs.Outcomes.{reading_outcome}
 use Rattle.typed_reading.specs.Sections.{pointer_field}
 use Rattle.typed_reading.specs.Values.{child}
 use Rattle.typed_reading.proofs.Outcomes.{null_outcome}
 use Rattle.typed_conforming.specs.declared.schema.Kind.{Kind}
-use Rattle.typed_conforming.specs.declared.schema.Kind.TheVariants.{Any, AnyList, Capability as CapabilityKind, Data, Text, Struct as StructKind, List as ListKind}
-use Rattle.typed_conforming.specs.declared.schema.PointerRow.{PointerRow}
-use Rattle.typed_conforming.specs.declared.schema.StructRow.{StructRow}
-use Rattle.typed_conforming.specs.Conforms.{Conforms, ConformAll, ConformEach, ConformElements, IsOfKind, elements_wanted, row_pointers, wanted}
+use Rattle.typed_conforming.specs.declared.schema.Kind.TheVariants.{Any, AnyList, Capability as CapabilityKind, Data, Text, Utf8, Struct as StructKind, List as ListKind}
+use Rattle.typed_conforming.specs.Tables.{elements_wanted, is_text_kind, wanted}
+use Rattle.typed_conforming.specs.Conforms.{Conforms, ConformAll, ConformEach, ConformElements, IsOfKind}
 use Rattle.typed_conforming.specs.Checked.{ElementsConform, IsChecked, IsCheckedList}
 use Rattle.typed_conforming.proofs.Fitting.{null_conforms_to}
 
@@ -38,7 +37,7 @@ affords_all true m c none = rw none tt
 affords_all false m c none = tt
 
 -- A value that conforms is what is wanted.
-pub kind_of : (T : List StructRow) (k : Kind) (t : Tree) → Conforms T k t → IsOfKind k t
+pub kind_of : (T : List ℕ) (k : Kind) (t : Tree) → Conforms T k t → IsOfKind k t
 kind_of T k Null h = h
 kind_of T k (Capability i) h = h
 kind_of T k (Struct ws ts) h = h.0
@@ -47,31 +46,43 @@ kind_of T k (Pointers ts) h = h.0
 kind_of T k (Structs d q es) h = h.0
 
 -- A list of elements of this size.
-pub elements_fit : (T : List StructRow) (k : Kind) (size : ElementSize) (t : Tree) → elements_wanted k ≡ Some size → Conforms T k t → FitsSize size t
+pub elements_fit : (T : List ℕ) (k : Kind) (size : ElementSize) (t : Tree) → elements_wanted k ≡ Some size → Conforms T k t → FitsSize size t
 elements_fit T (ListKind found row) size t e h = subst (λ z. FitsSize z t) (let same : found ≡ size = cc e in same) (kind_of T (ListKind found row) t h)
 elements_fit T Any size t e h = absurd (cc e)
 elements_fit T AnyList size t e h = absurd (cc e)
 elements_fit T CapabilityKind size t e h = absurd (cc e)
 elements_fit T Text size t e h = absurd (cc e)
+elements_fit T Utf8 size t e h = absurd (cc e)
 elements_fit T Data size t e h = absurd (cc e)
 elements_fit T (StructKind row) size t e h = absurd (cc e)
 
--- Child j of several that conform from index i on.
-child_of : (T : List StructRow) (ps : List PointerRow) (ws : List ℕ) (i j n : ℕ) (ts : Trees) → n ≡ i + j → ConformAll T ps ws i ts → Conforms T (wanted ps ws n) (tree_at ts j)
-child_of T ps ws i j n no_trees e h = null_conforms_to (wanted ps ws n)
-child_of T ps ws i zero n (tree t ts) e h = subst (λ x. Conforms T (wanted ps ws x) t) (let f : i ≡ n = omega (arith, e) in f) h.0
-child_of T ps ws i (suc j) n (tree t ts) e h = child_of T ps ws (suc i) j n ts (omega (arith, e)) h.1
+-- A text.
+pub text_fits : (T : List ℕ) (k : Kind) (t : Tree) → is_text_kind k ≡ true → Conforms T k t → IsText t
+text_fits T Text t e h = kind_of T Text t h
+text_fits T Utf8 t e h = (kind_of T Utf8 t h).0
+text_fits T Any t e h = absurd (cc e)
+text_fits T AnyList t e h = absurd (cc e)
+text_fits T CapabilityKind t e h = absurd (cc e)
+text_fits T Data t e h = absurd (cc e)
+text_fits T (StructKind row) t e h = absurd (cc e)
+text_fits T (ListKind size row) t e h = absurd (cc e)
 
-pub child_conforms : (T : List StructRow) (ps : List PointerRow) (i : ℕ) (t : Tree) → IsStructOrNull t → ConformAll T ps (struct_data t) 0 (struct_children t) → Conforms T (wanted ps (struct_data t) i) (child i t)
-child_conforms T ps i (Struct ws ts) is h = child_of T ps ws 0 i i ts (omega arith) h
-child_conforms T ps i Null is h = null_conforms_to (wanted ps (struct_data Null) i)
-child_conforms T ps i (Capability n) is h = absurd is
-child_conforms T ps i (Flat size ns) is h = absurd is
-child_conforms T ps i (Pointers ts) is h = absurd is
-child_conforms T ps i (Structs d q es) is h = absurd is
+-- Child j of several that conform from index i on.
+child_of : (T : List ℕ) (row : ℕ) (ws : List ℕ) (i j n : ℕ) (ts : Trees) → n ≡ i + j → ConformAll T row ws i ts → Conforms T (wanted T row ws n) (tree_at ts j)
+child_of T row ws i j n no_trees e h = null_conforms_to (wanted T row ws n)
+child_of T row ws i zero n (tree t ts) e h = subst (λ x. Conforms T (wanted T row ws x) t) (let f : i ≡ n = omega (arith, e) in f) h.0
+child_of T row ws i (suc j) n (tree t ts) e h = child_of T row ws (suc i) j n ts (omega (arith, e)) h.1
+
+pub child_conforms : (T : List ℕ) (row : ℕ) (i : ℕ) (t : Tree) → IsStructOrNull t → ConformAll T row (struct_data t) 0 (struct_children t) → Conforms T (wanted T row (struct_data t) i) (child i t)
+child_conforms T row i (Struct ws ts) is h = child_of T row ws 0 i i ts (omega arith) h
+child_conforms T row i Null is h = null_conforms_to (wanted T row (struct_data Null) i)
+child_conforms T row i (Capability n) is h = absurd is
+child_conforms T row i (Flat size ns) is h = absurd is
+child_conforms T row i (Pointers ts) is h = absurd is
+child_conforms T row i (Structs d q es) is h = absurd is
 
 -- The children of a struct that conforms.
-pub children_conform : (T : List StructRow) (row : ℕ) (t : Tree) → Conforms T (StructKind row) t → ConformAll T (row_pointers T row) (struct_data t) 0 (struct_children t)
+pub children_conform : (T : List ℕ) (row : ℕ) (t : Tree) → Conforms T (StructKind row) t → ConformAll T row (struct_data t) 0 (struct_children t)
 children_conform T row Null h = tt
 children_conform T row (Struct ws ts) h = h.1
 children_conform T row (Capability n) h = absurd h
@@ -82,6 +93,11 @@ children_conform T row (Structs d q es) h = absurd h.0
 -- What follows from a truncated fact: that a result is Ok.
 pub ok_from : {A E : Type 0} {S : Type 0} (r : Result A E) → ∥ S ∥₁ → (S → IsOk r) → IsOk r
 ok_from r fact f = ∥∥₁_elim fact (let p : IsProp (IsOk r) = hlevel (Bool-set) in p) f
+
+-- What follows from what a result says in both cases.
+pub ok_unless : {A E : Type 0} (P : A → Type 0) (Q : E → Type 0) (r : Result A E) → MatchResult r P Q → ((e : E) → Q e → ⊥) → IsOk r
+ok_unless P Q (Ok x) h never = refl
+ok_unless P Q (Err e) h never = absurd (never e h)
 
 -- There is no child past the last one.
 tree_past : (i : ℕ) (ts : Trees) → count ts ≤ i → tree_at ts i ≡ Null
@@ -98,7 +114,7 @@ child_past i (Pointers ts) h = refl
 child_past i (Structs d q es) h = refl
 
 -- The elements of a list that conforms.
-pub elements_conform : (T : List StructRow) (size : ElementSize) (row : ℕ) (t : Tree) → Conforms T (ListKind size row) t → ElementsConform T (row_pointers T row) t
+pub elements_conform : (T : List ℕ) (size : ElementSize) (row : ℕ) (t : Tree) → Conforms T (ListKind size row) t → ElementsConform T row t
 elements_conform T size row Null h = tt
 elements_conform T size row (Struct ws ts) h = tt
 elements_conform T size row (Capability n) h = tt
@@ -106,24 +122,24 @@ elements_conform T size row (Flat z ns) h = tt
 elements_conform T size row (Pointers ts) h = h.1
 elements_conform T size row (Structs d q es) h = h.1
 
-each_of : (T : List StructRow) (ps : List PointerRow) (i : ℕ) (ts : Trees) → ConformEach T ps ts → Conforms T (wanted ps [] 0) (tree_at ts i)
-each_of T ps i no_trees h = null_conforms_to (wanted ps [] 0)
-each_of T ps zero (tree t ts) h = h.0
-each_of T ps (suc i) (tree t ts) h = each_of T ps i ts h.1
+each_of : (T : List ℕ) (row : ℕ) (i : ℕ) (ts : Trees) → ConformEach T row ts → Conforms T (wanted T row [] 0) (tree_at ts i)
+each_of T row i no_trees h = null_conforms_to (wanted T row [] 0)
+each_of T row zero (tree t ts) h = h.0
+each_of T row (suc i) (tree t ts) h = each_of T row i ts h.1
 
-element_of : (T : List StructRow) (ps : List PointerRow) (i : ℕ) (es : Elements) → ConformElements T ps es → ConformAll T ps (struct_data (struct_at es i)) 0 (struct_children (struct_at es i))
-element_of T ps i no_elements h = tt
-element_of T ps zero (element ws ts es) h = h.0
-element_of T ps (suc i) (element ws ts es) h = element_of T ps i es h.1
+element_of : (T : List ℕ) (row : ℕ) (i : ℕ) (es : Elements) → ConformElements T row es → ConformAll T row (struct_data (struct_at es i)) 0 (struct_children (struct_at es i))
+element_of T row i no_elements h = tt
+element_of T row zero (element ws ts es) h = h.0
+element_of T row (suc i) (element ws ts es) h = element_of T row i es h.1
 
 -- An element of a list that conforms, as a struct.
-pub element_conforms : (T : List StructRow) (size : ElementSize) (row i : ℕ) (t : Tree) → Conforms T (ListKind size row) t → ConformAll T (row_pointers T row) (struct_data (struct_element t i)) 0 (struct_children (struct_element t i))
+pub element_conforms : (T : List ℕ) (size : ElementSize) (row i : ℕ) (t : Tree) → Conforms T (ListKind size row) t → ConformAll T row (struct_data (struct_element t i)) 0 (struct_children (struct_element t i))
 element_conforms T size row i Null h = tt
 element_conforms T size row i (Struct ws ts) h = tt
 element_conforms T size row i (Capability n) h = tt
 element_conforms T size row i (Flat z ns) h = tt
-element_conforms T size row i (Pointers ts) h = (each_of T (row_pointers T row) i ts h.1, tt)
-element_conforms T size row i (Structs d q es) h = element_of T (row_pointers T row) i es h.1
+element_conforms T size row i (Pointers ts) h = (each_of T row i ts h.1, tt)
+element_conforms T size row i (Structs d q es) h = element_of T row i es h.1
 
 -- A limiter that affords a word, and then c words, affords both.
 fits_both : (left : Option ℕ) (c : ℕ) → FitsIn left 1 → FitsIn (less left 1) c → FitsIn left (1 + c)
@@ -161,19 +177,19 @@ module _ {A : Type 0} (g : Ghosts A) where
   empty_list r none = record { cost = 0; shown = (none, refl) }
 
   -- An element of a list whose elements conform.
-  pub element_checked : (T : List StructRow) (ps : List PointerRow) (l : ListReader A g) (i : ℕ) (x : StructReader A g) → x.source ≡ l.source → i < l.count →
+  pub element_checked : (T : List ℕ) (row : ℕ) (l : ListReader A g) (i : ℕ) (x : StructReader A g) → x.source ≡ l.source → i < l.count →
       ((t : Tree) → ShowsListOf g l t → HasStructs t → ShowsStructOf g x (struct_element t i)) →
       ((size : ℕ) (ns : List ℕ) → ShowsListOf g l (Flat size ns) → ShowsNumber g x (element_bits size) (slice_index ns i)) →
-      IsCheckedList g T ps l → IsChecked g T ps x
-  element_checked T ps l i x same inside structs number s = go s.list s.shows s.conforms
+      IsCheckedList g T row l → IsChecked g T row x
+  element_checked T row l i x same inside structs number s = go s.list s.shows s.conforms
     where
       words : AreWords (source_start g x.source).segments
       words = rw same s.words
 
-      go : (t : Tree) → ShowsListOf g l t → ElementsConform T ps t → IsChecked g T ps x
+      go : (t : Tree) → ShowsListOf g l t → ElementsConform T row t → IsChecked g T row x
       go Null shows h = absurd (let none : l.count ≡ 0 = shows.shown.0 in omega (arith, none, inside))
       go (Flat size ns) shows h = inr (number size ns shows).no_pointers
-      go (Pointers ts) shows h = inl (record { struct = Struct [] (tree (tree_at ts i) no_trees); shows = structs (Pointers ts) shows tt; conforms = (each_of T ps i ts h, tt); words = words })
-      go (Structs d q es) shows h = inl (record { struct = struct_at es i; shows = structs (Structs d q es) shows tt; conforms = element_of T ps i es h; words = words })
+      go (Pointers ts) shows h = inl (record { struct = Struct [] (tree (tree_at ts i) no_trees); shows = structs (Pointers ts) shows tt; conforms = (each_of T row i ts h, tt); words = words })
+      go (Structs d q es) shows h = inl (record { struct = struct_at es i; shows = structs (Structs d q es) shows tt; conforms = element_of T row i es h; words = words })
       go (Capability n) shows h = absurd shows.shown
       go (Struct ws ts) shows h = absurd shows.shown

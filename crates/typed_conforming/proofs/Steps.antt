@@ -13,7 +13,6 @@ use Rattle.capnp_words.specs.declared.wire_pointer.StructSize.{StructSize}
 use Rattle.capnp_objects.specs.declared.object.Place.{Place}
 use Rattle.capnp_objects.specs.Enter.{Shape, flat, nothing, object_shape, read}
 use Rattle.capnp_objects.specs.Entering.{IsObjectHeld}
-use Rattle.capnp_objects.specs.Metered.{onward}
 use Rattle.capnp_objects.specs.Objects.{EntersNear, IsObject, near_at}
 use Rattle.capnp_objects.specs.Sizes.{IsWordAt}
 use Rattle.capnp_objects.specs.Reading.{Reading, place_past, segment_read, word_of, words_from}
@@ -25,88 +24,101 @@ use Rattle.capnp_objects.proofs.Computed.{entering_is, null_is, object_is, stopp
 use Rattle.capnp_objects.proofs.Walked.{beginning}
 use Rattle.typed_conforming.specs.declared.conforms.ObjectElements.{ObjectElements}
 use Rattle.typed_conforming.specs.declared.schema.Kind.{Kind}
-use Rattle.typed_conforming.specs.declared.schema.Kind.TheVariants.{Any, AnyList, Capability, Data, List as ListKind, Struct, Text}
-use Rattle.typed_conforming.specs.declared.schema.PointerRow.{PointerRow}
-use Rattle.typed_conforming.specs.declared.schema.StructRow.{StructRow}
-use Rattle.typed_conforming.specs.Conforms.{wanted, pointers_below}
+use Rattle.typed_conforming.specs.declared.schema.Kind.TheVariants.{Any, AnyList, Capability, Data, List as ListKind, Struct, Text, Utf8}
+use Rattle.typed_conforming.specs.declared.schema.Misfit.{Misfit}
+use Rattle.typed_conforming.specs.declared.conforms.SchemaPointer.{SchemaPointer}
+use Rattle.typed_conforming.specs.Tables.{row_below, table_below}
 use Rattle.typed_conforming.specs.Rows.{AreElementsOf}
 use Rattle.typed_conforming.specs.Misfits.{kind_misfit}
-use Rattle.typed_conforming.specs.Walk.{KindTest, check_children, check_elements, check_place, check_pointers, check_within}
+use Rattle.typed_conforming.specs.Walk.{PointerTest, TestOutcome, and_then, check_children, check_elements, check_place, check_pointers, check_read, check_within, misfit_at, schema_pointer}
 
 -- The object is refused, or isn't what is wanted.
-pub unread : (T : List StructRow) (k : Kind) (r : Reading) (m m' : Meter) (e : ErrorKind) → read Value r m ≡ (Err e, m') → check_place T k r m ≡ (Err e, m')
+pub unread : (T : List ℕ) (p : SchemaPointer) (r : Reading) (m m' : Meter) (e : ErrorKind) → read Value r m ≡ (Err e, m') → check_place T p r m ≡ (Err (misfit_at p r e), m')
 unfolding check_within
-unread T k r m m' e h = go r.levels h
+unread T p r m m' e h = go r.levels h
   where
-    go : (n : ℕ) → read Value (record r { levels = n }) m ≡ (Err e, m') → check_within T n k r m ≡ (Err e, m')
-    go zero h = ap (onward _) h
-    go (suc n) h = ap (onward _) h
+    go : (n : ℕ) → read Value (record r { levels = n }) m ≡ (Err e, m') → check_within T n p r m ≡ (Err (misfit_at p r e), m')
+    go zero h = ap (check_read p r _) h
+    go (suc n) h = ap (check_read p r _) h
 
-pub not_read : (T : List StructRow) (k : Kind) (r : Reading) (m m' : Meter) (e : ErrorKind) → NotRead Value r m m' e → check_place T k r m ≡ (Err e, m')
-not_read T k r m m' e refusal = unread T k r m m' e (stopped_is Value r m m' e (λ e. absurd (cc e)) refusal)
+pub not_read : (T : List ℕ) (p : SchemaPointer) (r : Reading) (m m' : Meter) (e : ErrorKind) → NotRead Value r m m' e → check_place T p r m ≡ (Err (misfit_at p r e), m')
+not_read T p r m m' e refusal = unread T p r m m' e (stopped_is Value r m m' e (λ e. absurd (cc e)) refusal)
 
-pub unfit : (T : List StructRow) (k : Kind) (r : Reading) (m m' : Meter) (o : Shape) (e : ErrorKind) → read Value r m ≡ (Ok o, m') → kind_misfit k r.segments o ≡ Some e → check_place T k r m ≡ (Err e, m')
+pub unfit : (T : List ℕ) (p : SchemaPointer) (r : Reading) (m m' : Meter) (o : Shape) (e : ErrorKind) → read Value r m ≡ (Ok o, m') → kind_misfit p.kind r.segments o ≡ Some e → check_place T p r m ≡ (Err (misfit_at p r e), m')
 unfolding check_within
-unfit T k r m m' o e h misses = go r.levels h
+unfit T p r m m' o e h misses = go r.levels h
   where
-    go : (n : ℕ) → read Value (record r { levels = n }) m ≡ (Ok o, m') → check_within T n k r m ≡ (Err e, m')
-    go zero h = ap (onward _) h ∙ rw misses refl
-    go (suc n) h = ap (onward _) h ∙ rw misses refl
+    go : (n : ℕ) → read Value (record r { levels = n }) m ≡ (Ok o, m') → check_within T n p r m ≡ (Err (misfit_at p r e), m')
+    go zero h = ap (check_read p r _) h ∙ rw misses refl
+    go (suc n) h = ap (check_read p r _) h ∙ rw misses refl
+
+-- The test of the children of what the pointer p leads to, which are read with n levels.
+abbrev pub children_test : List ℕ → SchemaPointer → ℕ → Reading → Shape → Meter → TestOutcome
+children_test T p n r = check_children (check_within (table_below T p.kind) n) (schema_pointer (table_below T p.kind) (row_below p.kind)) (record r { levels = n })
 
 -- The object is what is wanted, and has children; or it has none.
-pub opened : (T : List StructRow) (k : Kind) (r : Reading) (m m' : Meter) (o : Shape) → 0 < r.levels → read Value r m ≡ (Ok o, m') → kind_misfit k r.segments o ≡ None →
-    check_place T k r m ≡ check_children (check_within T (pred r.levels)) (pointers_below T k) (record r { levels = pred r.levels }) o m'
+pub opened : (T : List ℕ) (p : SchemaPointer) (r : Reading) (m m' : Meter) (o : Shape) → 0 < r.levels → read Value r m ≡ (Ok o, m') → kind_misfit p.kind r.segments o ≡ None →
+    check_place T p r m ≡ children_test T p (pred r.levels) r o m'
 unfolding check_within
-opened T k r m m' o some h suits = go r.levels some h
+opened T p r m m' o some h suits = go r.levels some h
   where
-    go : (n : ℕ) → 0 < n → read Value (record r { levels = n }) m ≡ (Ok o, m') → check_within T n k r m ≡ check_children (check_within T (pred n)) (pointers_below T k) (record r { levels = pred n }) o m'
+    go : (n : ℕ) → 0 < n → read Value (record r { levels = n }) m ≡ (Ok o, m') → check_within T n p r m ≡ children_test T p (pred n) r o m'
     go zero some h = absurd (omega arith)
-    go (suc n) some h = ap (onward _) h ∙ rw suits refl
+    go (suc n) some h = ap (check_read p r _) h ∙ rw suits refl
 
-pub leaf : (T : List StructRow) (k : Kind) (r : Reading) (m m' : Meter) (o : Shape) → ((f : KindTest) (ps : List PointerRow) (s : Reading) (m : Meter) → check_children f ps s o m ≡ (Ok tt, m)) → read Value r m ≡ (Ok o, m') → kind_misfit k r.segments o ≡ None →
-    check_place T k r m ≡ (Ok tt, m')
+pub closed : (T : List ℕ) (p : SchemaPointer) (r : Reading) (m m' : Meter) (o : Shape) → r.levels ≡ 0 → read Value r m ≡ (Ok o, m') → kind_misfit p.kind r.segments o ≡ None → check_place T p r m ≡ (Ok tt, m')
 unfolding check_within
-leaf T k r m m' o none h suits = go r.levels h
+closed T p r m m' o none h suits = go r.levels none h
   where
-    go : (n : ℕ) → read Value (record r { levels = n }) m ≡ (Ok o, m') → check_within T n k r m ≡ (Ok tt, m')
-    go zero h = ap (onward _) h ∙ rw suits refl
-    go (suc n) h = ap (onward _) h ∙ rw suits (none (check_within T n) (pointers_below T k) (record r { levels = n }) m')
+    go : (n : ℕ) → n ≡ 0 → read Value (record r { levels = n }) m ≡ (Ok o, m') → check_within T n p r m ≡ (Ok tt, m')
+    go zero none h = ap (check_read p r _) h ∙ rw suits refl
+    go (suc n) none h = absurd (omega arith)
+
+pub leaf : (T : List ℕ) (p : SchemaPointer) (r : Reading) (m m' : Meter) (o : Shape) → ((f : PointerTest) (ps : List ℕ → ℕ → SchemaPointer) (s : Reading) (m : Meter) → check_children f ps s o m ≡ (Ok tt, m)) → read Value r m ≡ (Ok o, m') → kind_misfit p.kind r.segments o ≡ None →
+    check_place T p r m ≡ (Ok tt, m')
+unfolding check_within
+leaf T p r m m' o none h suits = go r.levels h
+  where
+    go : (n : ℕ) → read Value (record r { levels = n }) m ≡ (Ok o, m') → check_within T n p r m ≡ (Ok tt, m')
+    go zero h = ap (check_read p r _) h ∙ rw suits refl
+    go (suc n) h = ap (check_read p r _) h ∙ rw suits (none (check_within (table_below T p.kind) n) (schema_pointer (table_below T p.kind) (row_below p.kind)) (record r { levels = n }) m')
 
 null_fits : (k : Kind) (r : Reading) → kind_misfit k r.segments nothing ≡ None
 null_fits Any r = refl
 null_fits Capability r = refl
 null_fits Text r = refl
+null_fits Utf8 r = refl
 null_fits Data r = refl
 null_fits (Struct row) r = refl
 null_fits AnyList r = refl
 null_fits (ListKind size row) r = refl
 
-pub null_conforms : (T : List StructRow) (k : Kind) (r : Reading) (m : Meter) → word_of r ≡ 0 → check_place T k r m ≡ (Ok tt, m)
-null_conforms T k r m none = leaf T k r m m nothing (λ f ps s m. refl) (null_is Value r m none) (null_fits k r)
+pub null_conforms : (T : List ℕ) (p : SchemaPointer) (r : Reading) (m : Meter) → word_of r ≡ 0 → check_place T p r m ≡ (Ok tt, m)
+null_conforms T p r m none = leaf T p r m m nothing (λ f ps s m. refl) (null_is Value r m none) (null_fits p.kind r)
 
 -- One of several consecutive pointers is tested, or stops the walk.
-pub one_more : (f : KindTest) (ps : List PointerRow) (ws : List ℕ) (r : Reading) (i k : ℕ) (m m' : Meter) → f (wanted ps ws i) (place_past r i) m ≡ (Ok tt, m') →
-    check_pointers f ps ws i (suc k) (place_past r i) m ≡ check_pointers f ps ws (i + 1) k (place_past r (i + 1)) m'
-one_more f ps ws r i k m m' h = ap (onward _) h ∙ ap₂ (λ n p. check_pointers f ps ws n k (record r { at = p }) m') (let e : suc i ≡ i + 1 = omega arith in e) (let e : r.at + i + 1 ≡ r.at + (i + 1) = omega arith in e)
+pub one_more : (f : PointerTest) (ps : ℕ → SchemaPointer) (r : Reading) (i k : ℕ) (m m' : Meter) → f (ps i) (place_past r i) m ≡ (Ok tt, m') →
+    check_pointers f ps i (suc k) (place_past r i) m ≡ check_pointers f ps (i + 1) k (place_past r (i + 1)) m'
+one_more f ps r i k m m' h = ap (and_then _) h ∙ ap₂ (λ n p. check_pointers f ps n k (record r { at = p }) m') (let e : suc i ≡ i + 1 = omega arith in e) (let e : r.at + i + 1 ≡ r.at + (i + 1) = omega arith in e)
 
-pub one_stops : (f : KindTest) (ps : List PointerRow) (ws : List ℕ) (r : Reading) (i k : ℕ) (m m' : Meter) (e : ErrorKind) → f (wanted ps ws i) r m ≡ (Err e, m') → check_pointers f ps ws i (suc k) r m ≡ (Err e, m')
-one_stops f ps ws r i k m m' e h = ap (onward _) h
+pub one_stops : (f : PointerTest) (ps : ℕ → SchemaPointer) (r : Reading) (i k : ℕ) (m m' : Meter) (e : Misfit) → f (ps i) r m ≡ (Err e, m') → check_pointers f ps i (suc k) r m ≡ (Err e, m')
+one_stops f ps r i k m m' e h = ap (and_then _) h
 
 -- One of several consecutive elements is tested, or stops the walk.
-pub row_more : (f : KindTest) (ps : List PointerRow) (r : Reading) (d q i k : ℕ) (m m' : Meter) →
-    check_pointers f ps (words_from (place_past r (i * (d + q))) d) 0 q (place_past (place_past r (i * (d + q))) d) m ≡ (Ok tt, m') →
+pub row_more : (f : PointerTest) (ps : List ℕ → ℕ → SchemaPointer) (r : Reading) (d q i k : ℕ) (m m' : Meter) →
+    check_pointers f (ps (words_from (place_past r (i * (d + q))) d)) 0 q (place_past (place_past r (i * (d + q))) d) m ≡ (Ok tt, m') →
     check_elements f ps d q (suc k) (place_past r (i * (d + q))) m ≡ check_elements f ps d q k (place_past r ((i + 1) * (d + q))) m'
-row_more f ps r d q i k m m' h = ap (onward _) h ∙ ap (λ p. check_elements f ps d q k (record r { at = p }) m') (let e : r.at + i * (d + q) + (d + q) ≡ r.at + (i + 1) * (d + q) = omega arith in e)
+row_more f ps r d q i k m m' h = ap (and_then _) h ∙ ap (λ p. check_elements f ps d q k (record r { at = p }) m') (let e : r.at + i * (d + q) + (d + q) ≡ r.at + (i + 1) * (d + q) = omega arith in e)
 
-pub row_stops : (f : KindTest) (ps : List PointerRow) (r : Reading) (d q k : ℕ) (m m' : Meter) (e : ErrorKind) → check_pointers f ps (words_from r d) 0 q (place_past r d) m ≡ (Err e, m') → check_elements f ps d q (suc k) r m ≡ (Err e, m')
-row_stops f ps r d q k m m' e h = ap (onward _) h
+pub row_stops : (f : PointerTest) (ps : List ℕ → ℕ → SchemaPointer) (r : Reading) (d q k : ℕ) (m m' : Meter) (e : Misfit) → check_pointers f (ps (words_from r d)) 0 q (place_past r d) m ≡ (Err e, m') → check_elements f ps d q (suc k) r m ≡ (Err e, m')
+row_stops f ps r d q k m m' e h = ap (and_then _) h
 
-pub no_pointers : (f : KindTest) (ps : List PointerRow) (r : Reading) (d n : ℕ) (m : Meter) → check_elements f ps d 0 n r m ≡ (Ok tt, m)
+pub no_pointers : (f : PointerTest) (ps : List ℕ → ℕ → SchemaPointer) (r : Reading) (d n : ℕ) (m : Meter) → check_elements f ps d 0 n r m ≡ (Ok tt, m)
 no_pointers f ps r d zero m = refl
 no_pointers f ps r d (suc n) m = no_pointers f ps (place_past r (d + 0)) d n m
 
 -- The program's objects.
-pub no_children : (f : KindTest) (ps : List PointerRow) (r : Reading) (x : Object) (m : Meter) → ((rows : ObjectElements) → AreElementsOf x rows → ⊥) → check_children f ps r (object_shape x) m ≡ (Ok tt, m)
+pub no_children : (f : PointerTest) (ps : List ℕ → ℕ → SchemaPointer) (r : Reading) (x : Object) (m : Meter) → ((rows : ObjectElements) → AreElementsOf x rows → ⊥) → check_children f ps r (object_shape x) m ≡ (Ok tt, m)
 no_children f ps r ObjectNull m h = refl
 no_children f ps r (ObjectCapability i) m h = refl
 no_children f ps r (ObjectFlat start size i) m h = refl
@@ -114,7 +126,7 @@ no_children f ps r (ObjectStruct start size) m h = absurd (h (record { start = s
 no_children f ps r (ObjectPointers start i) m h = absurd (h (record { start = start; data_words = 0; pointers = 1; count = i }) (refl, refl, refl, refl))
 no_children f ps r (ObjectStructs start size i) m h = absurd (h (record { start = start; data_words = size.data_words; pointers = size.pointers; count = i }) (refl, refl, refl, refl))
 
-pub children_are : (f : KindTest) (ps : List PointerRow) (r : Reading) (x : Object) (rows : ObjectElements) (m : Meter) → AreElementsOf x rows →
+pub children_are : (f : PointerTest) (ps : List ℕ → ℕ → SchemaPointer) (r : Reading) (x : Object) (rows : ObjectElements) (m : Meter) → AreElementsOf x rows →
     check_children f ps r (object_shape x) m ≡ check_elements f ps rows.data_words rows.pointers rows.count (record r { segment = rows.start.segment; at = rows.start.at }) m
 children_are f ps r (ObjectStruct start size) rows m (a, d, q, i) = rw (a, d, q, i) refl
 children_are f ps r (ObjectPointers start len) rows m (a, d, q, i) = rw (a, d, q, i) refl
@@ -123,17 +135,17 @@ children_are f ps r ObjectNull rows m h = absurd h
 children_are f ps r (ObjectCapability i) rows m h = absurd h
 children_are f ps r (ObjectFlat start size i) rows m h = absurd h
 
-pub object_ends : (T : List StructRow) (k : Kind) (r : Reading) (m m' : Meter) (x : Object) → IsObject Value r m m' x → kind_misfit k r.segments (object_shape x) ≡ None → ((rows : ObjectElements) → AreElementsOf x rows → ⊥) → check_place T k r m ≡ (Ok tt, m')
-object_ends T k r m m' x object suits none = leaf T k r m m' (object_shape x) (λ f ps s m. no_children f ps s x m none) (object_is Value r m m' x object) suits
+pub object_ends : (T : List ℕ) (p : SchemaPointer) (r : Reading) (m m' : Meter) (x : Object) → IsObject Value r m m' x → kind_misfit p.kind r.segments (object_shape x) ≡ None → ((rows : ObjectElements) → AreElementsOf x rows → ⊥) → check_place T p r m ≡ (Ok tt, m')
+object_ends T p r m m' x object suits none = leaf T p r m m' (object_shape x) (λ f ps s m. no_children f ps s x m none) (object_is Value r m m' x object) suits
 
-pub object_unfit : (T : List StructRow) (k : Kind) (r : Reading) (m m' : Meter) (x : Object) (e : ErrorKind) → IsObject Value r m m' x → kind_misfit k r.segments (object_shape x) ≡ Some e → check_place T k r m ≡ (Err e, m')
-object_unfit T k r m m' x e object misses = unfit T k r m m' (object_shape x) e (object_is Value r m m' x object) misses
+pub object_unfit : (T : List ℕ) (p : SchemaPointer) (r : Reading) (m m' : Meter) (x : Object) (e : ErrorKind) → IsObject Value r m m' x → kind_misfit p.kind r.segments (object_shape x) ≡ Some e → check_place T p r m ≡ (Err (misfit_at p r e), m')
+object_unfit T p r m m' x e object misses = unfit T p r m m' (object_shape x) e (object_is Value r m m' x object) misses
 
-pub object_opens : (T : List StructRow) (k : Kind) (r : Reading) (m m' : Meter) (x : Object) (n : ℕ) (rows : ObjectElements) → 0 < r.levels → n ≡ pred r.levels → IsObject Value r m m' x → kind_misfit k r.segments (object_shape x) ≡ None → AreElementsOf x rows →
-    check_place T k r m ≡ check_elements (check_within T n) (pointers_below T k) rows.data_words rows.pointers rows.count (record r { levels = n; segment = rows.start.segment; at = rows.start.at }) m'
-object_opens T k r m m' x n rows some level object suits has =
-    opened T k r m m' (object_shape x) some (object_is Value r m m' x object) suits
-    ∙ children_are (check_within T (pred r.levels)) (pointers_below T k) (record r { levels = pred r.levels }) x rows m' has ∙ rw level refl
+pub object_opens : (T : List ℕ) (p : SchemaPointer) (r : Reading) (m m' : Meter) (x : Object) (n : ℕ) (rows : ObjectElements) → 0 < r.levels → n ≡ pred r.levels → IsObject Value r m m' x → kind_misfit p.kind r.segments (object_shape x) ≡ None → AreElementsOf x rows →
+    check_place T p r m ≡ check_elements (check_within (table_below T p.kind) n) (schema_pointer (table_below T p.kind) (row_below p.kind)) rows.data_words rows.pointers rows.count (record r { levels = n; segment = rows.start.segment; at = rows.start.at }) m'
+object_opens T p r m m' x n rows some level object suits has =
+    opened T p r m m' (object_shape x) some (object_is Value r m m' x object) suits
+    ∙ children_are (check_within (table_below T p.kind) (pred r.levels)) (schema_pointer (table_below T p.kind) (row_below p.kind)) (record r { levels = pred r.levels }) x rows m' has ∙ rw level refl
 
 -- What is known of an object that was read: its bytes, the level it took, and where its elements end.
 pub held : (r : Reading) (m m' : Meter) (x : Object) → IsObject Value r m m' x → IsObjectHeld r.segments x
@@ -172,15 +184,15 @@ near_read {w} {r} {m} {m'} {p} word is_list small o =
     ∙ ap (λ x. (Ok x, m')) (near_flat r p (subst (λ x. kind x ≡ 1) word.there is_list) (subst (λ x. element_size x ≤ 5) word.there small))
     ∙ ap (λ x. (Ok (flat r.segment p (element_size x) (list_count x)), m')) (sym word.there)
 
-pub flat_unfit : {w : ℕ} {r : Reading} {m m' : Meter} {p : ℕ} (T : List StructRow) (k : Kind) (e : ErrorKind) (size n : ℕ) → IsWordAt w r → kind w ≡ 1 → element_size w ≤ 5 → EntersNear Value r m m' p → size ≡ element_size w → n ≡ list_count w → kind_misfit k r.segments (flat r.segment p size n) ≡ Some e →
-    check_place T k r m ≡ (Err e, m')
-flat_unfit {w} {r} {m} {m'} {p} T k e size n word is_list small o wide many misses =
-    unfit T k r m m' (flat r.segment p (element_size w) (list_count w)) e (near_read word is_list small o) (rw (wide, many) at misses)
+pub flat_unfit : {w : ℕ} {r : Reading} {m m' : Meter} {at : ℕ} (T : List ℕ) (p : SchemaPointer) (e : ErrorKind) (size n : ℕ) → IsWordAt w r → kind w ≡ 1 → element_size w ≤ 5 → EntersNear Value r m m' at → size ≡ element_size w → n ≡ list_count w → kind_misfit p.kind r.segments (flat r.segment at size n) ≡ Some e →
+    check_place T p r m ≡ (Err (misfit_at p r e), m')
+flat_unfit {w} {r} {m} {m'} {at} T p e size n word is_list small o wide many misses =
+    unfit T p r m m' (flat r.segment at (element_size w) (list_count w)) e (near_read word is_list small o) (rw (wide, many) at misses)
 
-pub flat_ends : {w : ℕ} {r : Reading} {m m' : Meter} {p : ℕ} (T : List StructRow) (k : Kind) (size n : ℕ) → IsWordAt w r → kind w ≡ 1 → element_size w ≤ 5 → EntersNear Value r m m' p → size ≡ element_size w → n ≡ list_count w → kind_misfit k r.segments (flat r.segment p size n) ≡ None →
-    check_place T k r m ≡ (Ok tt, m')
-flat_ends {w} {r} {m} {m'} {p} T k size n word is_list small o wide many suits =
-    leaf T k r m m' (flat r.segment p (element_size w) (list_count w)) (λ f ps s m. refl) (near_read word is_list small o) (rw (wide, many) at suits)
+pub flat_ends : {w : ℕ} {r : Reading} {m m' : Meter} {at : ℕ} (T : List ℕ) (p : SchemaPointer) (size n : ℕ) → IsWordAt w r → kind w ≡ 1 → element_size w ≤ 5 → EntersNear Value r m m' at → size ≡ element_size w → n ≡ list_count w → kind_misfit p.kind r.segments (flat r.segment at size n) ≡ None →
+    check_place T p r m ≡ (Ok tt, m')
+flat_ends {w} {r} {m} {m'} {at} T p size n word is_list small o wide many suits =
+    leaf T p r m m' (flat r.segment at (element_size w) (list_count w)) (λ f ps s m. refl) (near_read word is_list small o) (rw (wide, many) at suits)
 
 -- The bytes of such a list are there.
 pub flat_at_hand : {w : ℕ} {r : Reading} {m m' : Meter} {p : ℕ} (bytes : List ℕ) (size n : ℕ) → IsWordAt w r → kind w ≡ 1 → element_size w ≤ 5 → EntersNear Value r m m' p → size ≡ element_size w → n ≡ list_count w → length bytes ≡ 8 * length (segment r.segments r.segment) →

@@ -1,8 +1,11 @@
 -- Which objects a pointer of some kind may not lead to, and with which error they are refused: that
 -- of the getter for the kind.
 use Rattle.std.specs.Prelude.{ℕ, ◌+◌, ◌-◌, ◌*◌, ◌/◌, ◌%◌, ◌^◌, Bool, ◌&&◌, nat_eq, nat_lt}
-use Rattle.std.specs.Prelude.{if◌then◌else◌, Option, Some, None}
+use Rattle.std.specs.Prelude.{if◌then◌else◌, List, take, Option, Some, None}
+use Rattle.std.specs.Option.{option_or}
+use Rattle.std.specs.Str.{is_utf8}
 use Rattle.capnp_words.specs.declared.error.ErrorKind.{ErrorKind}
+use Rattle.capnp_words.specs.declared.error.ErrorKind.TheVariants.{ExistingListValueIsIncompatibleWithExpectedType}
 use Rattle.capnp_words.specs.declared.error.ErrorKind.TheVariants.{MessageContainsListPointerOfNonBytesWhereDataWasExpected}
 use Rattle.capnp_words.specs.declared.error.ErrorKind.TheVariants.{MessageContainsListPointerOfNonBytesWhereTextWasExpected}
 use Rattle.capnp_words.specs.declared.error.ErrorKind.TheVariants.{MessageContainsNonCapabilityPointerWhereCapabilityPointerWasExpected}
@@ -13,11 +16,12 @@ use Rattle.capnp_words.specs.declared.error.ErrorKind.TheVariants.{MessageContai
 use Rattle.capnp_words.specs.declared.error.ErrorKind.TheVariants.{MessageContainsTextThatIsNotNULTerminated}
 use Rattle.capnp_words.specs.declared.wire_pointer.ElementSize.{ElementSize}
 use Rattle.capnp_words.specs.Sizes.{sized}
-use Rattle.capnp_format.specs.Segments.{Segments, word_at}
+use Rattle.capnp_format.specs.Numbers.{unpacked, words_for}
+use Rattle.capnp_format.specs.Segments.{Segments, word_at, words_at}
 use Rattle.capnp_objects.specs.Enter.{Shape, nothing, capability, struct, flat, pointers, structs}
 use Rattle.capnp_objects.specs.Expected.{narrow_elements, narrow_structs}
 use Rattle.typed_conforming.specs.declared.schema.Kind.{Kind}
-use Rattle.typed_conforming.specs.declared.schema.Kind.TheVariants.{Any, Capability, Text, Data, Struct}
+use Rattle.typed_conforming.specs.declared.schema.Kind.TheVariants.{Any, Capability, Text, Utf8, Data, Struct}
 use Rattle.typed_conforming.specs.declared.schema.Kind.TheVariants.{AnyList, List as ListKind}
 
 -- Byte i of the object at position p of segment s.
@@ -27,6 +31,18 @@ object_byte S s p i = word_at S s (p + i / 8) / 2 ^ (8 * (i % 8)) % 256
 -- Whether the n bytes at position p of segment s end in a zero byte.
 abbrev pub bytes_end_in_zero : Segments → ℕ → ℕ → ℕ → Bool
 bytes_end_in_zero S s p n = nat_lt 0 n && nat_eq (object_byte S s p (n - 1)) 0
+
+-- The n bytes at position p of segment s.
+abbrev pub list_bytes : Segments → ℕ → ℕ → ℕ → List ℕ
+list_bytes S s p n = unpacked 2 n (words_at S s p (words_for 2 n))
+
+-- Whether the n bytes at position p of segment s, without the last one, are UTF-8.
+abbrev pub bytes_are_utf8 : Segments → ℕ → ℕ → ℕ → Bool
+bytes_are_utf8 S s p n = is_utf8 (take (n - 1) (list_bytes S s p n))
+
+-- The refusal of a text that isn't UTF-8.
+abbrev pub not_utf8 : ErrorKind
+not_utf8 = ExistingListValueIsIncompatibleWithExpectedType
 
 -- Why an object isn't a text, if it isn't.
 abbrev pub text_misfit : Segments → Shape → Option ErrorKind
@@ -38,6 +54,12 @@ text_misfit S (flat s p size n) =
     else Some MessageContainsTextThatIsNotNULTerminated)
     else Some MessageContainsListPointerOfNonBytesWhereTextWasExpected
 text_misfit S o = Some MessageContainsListPointerOfNonBytesWhereTextWasExpected
+
+-- Why a text isn't UTF-8, if it isn't.
+abbrev pub utf8_misfit : Segments → Shape → Option ErrorKind
+utf8_misfit S (flat s p size n) =
+    if nat_eq size 2 then (if bytes_are_utf8 S s p n then None else Some not_utf8) else None
+utf8_misfit S o = None
 
 -- Why an object isn't data, if it isn't.
 abbrev pub data_misfit : Shape → Option ErrorKind
@@ -64,6 +86,7 @@ kind_misfit Capability S (capability i) = None
 kind_misfit Capability S o =
     Some MessageContainsNonCapabilityPointerWhereCapabilityPointerWasExpected
 kind_misfit Text S o = text_misfit S o
+kind_misfit Utf8 S o = option_or (text_misfit S o) (utf8_misfit S o)
 kind_misfit Data S o = data_misfit o
 kind_misfit (Struct row) S nothing = None
 kind_misfit (Struct row) S (struct s p d q) = None

@@ -1,31 +1,31 @@
 //! The walk that tests whether a value conforms to a schema.
-ghost use Rattle.std.specs.Prelude.{◌≡◌, ◌↔◌, ◌<◌, ◌≤◌, ◌+◌, ◌*◌, length, take, drop, List, ℕ, IsOk, OnOk, MatchOption};
+ghost use Rattle.std.specs.Prelude.{◌≡◌, ◌↔◌, ◌<◌, ◌≤◌, ◌+◌, ◌*◌, length, take, drop, slice_index, List, ℕ, IfErr, IsOk, OnOk, MatchOption};
+ghost use Rattle.std.specs.Str.{is_utf8};
 ghost use Rattle.capnp_format.specs.Numbers.{words_for};
 ghost use Rattle.capnp_words.specs.Sizes.{size_number};
 ghost use Rattle.capnp_objects.specs.Expected.{narrow_elements, narrow_structs};
 ghost use Rattle.capnp_objects.specs.Objects.{IsHeld};
 ghost use Rattle.typed_conforming.specs.declared.conforms.ObjectElements.{ObjectElements};
-ghost use Rattle.capnp_format.specs.Bytes.{words_of};
-ghost use Rattle.capnp_format.specs.Fields.{field_in};
 ghost use Rattle.capnp_format.specs.Tree.{Tree};
 ghost use Rattle.capnp_format.specs.Word.{kind, element_size};
 ghost use Rattle.capnp_objects.specs.Sizes.{IsWordAt};
-ghost use Rattle.typed_conforming.specs.declared.schema.StructRow.{StructRow};
 ghost use Rattle.capnp_words.specs.Meter.{Affords};
 ghost use Rattle.capnp_objects.specs.Outcomes.{MeansThere};
 ghost use Rattle.capnp_objects.specs.Spending.{Paid, pointers_in};
 ghost use Rattle.capnp_objects.specs.Reading.{segment_read};
 ghost use Rattle.capnp_objects.specs.Pointers.{reading, reading_on};
-ghost use Rattle.typed_conforming.specs.Conforms.{Conforms, are_set, pointers_below, row_pointers, wanted, wanted_field};
+ghost use Rattle.typed_conforming.specs.Conforms.{Conforms};
 ghost use Rattle.capnp_format.specs.Segments.{AreWords, Segments};
 ghost use Rattle.capnp_objects.specs.Enter.{object_shape};
 ghost use Rattle.capnp_objects.specs.Entering.{IsAtHand, IsObjectHeld};
 ghost use Rattle.capnp_objects.specs.Reading.{place_past, words_from};
 ghost use Rattle.typed_conforming.specs.Rows.{AreElementsOf};
-ghost use Rattle.typed_conforming.specs.Misfits.{bytes_end_in_zero, data_misfit, kind_misfit, list_misfit, text_misfit};
-ghost use Rattle.typed_conforming.specs.Walk.{check_elements, check_place, check_pointers, check_within};
+ghost use Rattle.typed_conforming.specs.Misfits.{bytes_are_utf8, bytes_end_in_zero, data_misfit, kind_misfit, list_misfit, text_misfit, utf8_misfit};
+ghost use Rattle.typed_conforming.specs.Blame.{IsTrueFrom, first_visit};
+ghost use Rattle.typed_conforming.specs.Walk.{check_elements, check_place, check_pointers, check_within, rowless_pointer, misfit_at, schema_pointer};
 
-use crate::schema::{Kind, Member, PointerField, PointerRow, StructRow};
+use crate::schema::{Kind, Misfit, NOT_UTF8};
+use crate::table::{row_below, wanted};
 use capnp_arena_traits::arena::ReaderArena;
 use capnp_objects::nesting::one_level_less;
 use capnp_objects::object::{Object, Place, PointerWord};
@@ -37,79 +37,6 @@ use capnp_words::wire_pointer::{
     is_primitive_list, words_for_elements,
 };
 use capnp_words::words::word_at;
-
-// The 16 bits from `bit` on of the `count` data words at `data`; zero if they are outside.
-fn tag_at(data: Place, count: u32, bit: u32) -> u16
-    requires inside { data.at + count ≤ length (words_of data.bytes.now) }
-    ensures { let ws = take count (drop data.entry.at (words_of data.entry.bytes.now)) in
-        result ≡ field_in ws bit 16 }
-{
-    let word = bit / 64;
-    if word >= count {
-        return 0;
-    }
-    (word_at(data.bytes, data.at as usize + word as usize) >> (bit % 64) & 0xffff) as u16
-}
-
-// Whether all of these members are set in a struct with `count` data words at `data`.
-fn are_set(members: &[Member], data: Place, count: u32) -> bool
-    requires inside { data.at + count ≤ length (words_of data.bytes.now) }
-    ensures { let ws = take count (drop data.entry.at (words_of data.entry.bytes.now)) in
-        result ≡ are_set members.now ws }
-{
-    for member in members {
-        if tag_at(data, count, member.bit) != member.number {
-            return false;
-        }
-    }
-    true
-}
-
-// What the pointer of these fields may lead to, in a struct with `count` data words at `data`.
-fn wanted_field(fields: &[PointerField], data: Place, count: u32) -> Kind
-    requires inside { data.at + count ≤ length (words_of data.bytes.now) }
-    ensures { let ws = take count (drop data.entry.at (words_of data.entry.bytes.now)) in
-        result ≡ wanted_field fields.now ws }
-{
-    for field in fields {
-        if are_set(field.members, data, count) {
-            return field.kind;
-        }
-    }
-    Kind::Any
-}
-
-// What pointer `index` may lead to, in a struct with `count` data words at `data`.
-fn wanted(rows: &[PointerRow], data: Place, count: u32, index: u32) -> Kind
-    requires inside { data.at + count ≤ length (words_of data.bytes.now) }
-    ensures { let ws = take count (drop data.entry.at (words_of data.entry.bytes.now)) in
-        result ≡ wanted rows.now ws index }
-{
-    if index as usize >= rows.len() {
-        return Kind::Any;
-    }
-    wanted_field(rows[index as usize].fields, data, count)
-}
-
-// The pointers of row `row` of a schema; none if there is no such row.
-pub(crate) fn row_pointers<'s>(schema: &'s [StructRow<'s>], row: u16) -> &'s [PointerRow<'s>]
-    ensures { result.now ≡ row_pointers schema.entry.now row }
-{
-    if row as usize >= schema.len() {
-        return &[];
-    }
-    schema[row as usize].pointers
-}
-
-// The pointers of the structs that a pointer of this kind leads to.
-fn pointers_below<'s>(schema: &'s [StructRow<'s>], kind: Kind) -> &'s [PointerRow<'s>]
-    ensures { result.now ≡ pointers_below schema.entry.now kind }
-{
-    match kind {
-        Kind::Struct(row) | Kind::List(_, row) => row_pointers(schema, row),
-        _ => &[],
-    }
-}
 
 // The refusal for elements of a list that are too narrow, if they are.
 fn narrow_elements_error(expected: ElementSize, found: ElementSize) -> Option<ErrorKind>
@@ -159,6 +86,32 @@ fn ends_in_zero(start: Place, count: u32) -> bool
     word >> (8 * (last % 8)) & 0xff == 0
 }
 
+// The `count` bytes from a place on.
+fn bytes_at<'a>(start: Place<'a>, count: u32) -> &'a [u8]
+    requires { 8 * start.at + count ≤ length start.bytes.now }
+    ensures { result.now ≡ take count (drop (8 * start.entry.at) start.entry.bytes.now) }
+{
+    let first = 8 * start.at as usize;
+    &start.bytes[first..first + count as usize]
+}
+
+// Whether bytes are UTF-8. Each of them is below 256.
+fn are_utf8(bytes: &[u8]) -> bool
+    ensures value { result ≡ is_utf8 bytes.now }
+    ensures small { (i : ℕ) → slice_index bytes.now i < 256 }
+{
+    str::from_utf8(bytes).is_ok()
+}
+
+// Whether the `count` bytes from a place on are UTF-8, without the last one.
+fn is_utf8_text(start: Place, count: u32) -> bool
+    requires { 8 * (start.at + words_for 2 count) ≤ length start.bytes.now }
+    ensures { (S : Segments) → IsHeld S start.entry
+        → result ≡ bytes_are_utf8 S start.entry.segment start.entry.at count }
+{
+    are_utf8(bytes_at(start, count.saturating_sub(1)))
+}
+
 // The refusal for an object that isn't a text, if it isn't.
 #[inline(always)]
 fn text_error(object: Object) -> Option<ErrorKind>
@@ -183,6 +136,28 @@ fn text_error(object: Object) -> Option<ErrorKind>
             Some(ErrorKind::MessageContainsListPointerOfNonBytesWhereTextWasExpected)
         }
         _ => Some(ErrorKind::MessageContainsNonListPointerWhereTextWasExpected),
+    }
+}
+
+// The refusal for a text that isn't UTF-8, if it isn't.
+fn utf8_error(object: Object) -> Option<ErrorKind>
+    requires { IsAtHand object }
+    ensures { (S : Segments) → IsObjectHeld S object.entry
+        → result ≡ utf8_misfit S (object_shape object.entry) }
+{
+    match object {
+        Object::Flat {
+            start,
+            size: ElementSize::Byte,
+            count,
+        } => {
+            if is_utf8_text(start, count) {
+                None
+            } else {
+                Some(NOT_UTF8)
+            }
+        }
+        _ => None,
     }
 }
 
@@ -229,6 +204,10 @@ fn misfit_error(kind: Kind, object: Object) -> Option<ErrorKind>
     match kind {
         Kind::Any => None,
         Kind::Text => text_error(object),
+        Kind::Utf8 => match text_error(object) {
+            Some(error) => Some(error),
+            None => utf8_error(object),
+        },
         Kind::Data => data_error(object),
         Kind::List(size, _) => list_error(size, object),
         Kind::Capability => match object {
@@ -293,24 +272,52 @@ fn elements_of(object: Object) -> Option<ObjectElements>
     }
 }
 
+// A pointer as the schema has it: what it may lead to, its row, and its index there.
+#[derive(Clone, Copy)]
+struct SchemaPointer {
+    kind: Kind,
+    row: u32,
+    index: u32,
+}
+
+// The refusal of the pointer at `at`.
+#[inline(always)]
+fn misfit_of<A: ReaderArena>(
+    pointer: SchemaPointer,
+    from: &Pointer<'_, A>,
+    at: u32,
+    error: ErrorKind,
+) -> Misfit
+    ensures { result
+        ≡ misfit_at pointer (reading_on A.ReaderArena from.now at from.now.nesting_limit) error }
+{
+    Misfit {
+        error,
+        segment: from.place.segment,
+        word: at,
+        row: pointer.row,
+        index: pointer.index,
+    }
+}
+
 // Tests the list of bits or numbers that the word at `at` describes.
 #[inline(always)]
 fn check_primitive_list<A: ReaderArena>(
-    wanted: Kind,
+    pointer: SchemaPointer,
     from: &Pointer<'_, A>,
     at: u32,
     word: WirePointer,
     lim: &mut ReadLimiter,
-) -> Result<(), ErrorKind>
+) -> Result<(), Misfit>
     requires word { IsWordAt word.0
         (reading_on A.ReaderArena from.now at from.now.nesting_limit) }
     requires is_list { kind word.0 ≡ 1 }
     requires of_bits { (0 < element_size word.0) × (element_size word.0 ≤ 5) }
-    ensures { (T : List StructRow) → check_place T wanted
+    ensures { (T : List ℕ) → check_place T pointer
         (reading_on A.ReaderArena from.now at from.now.nesting_limit) lim.old
         ≡ (result, lim.new) }
 {
-    let pointer = PointerWord {
+    let place = PointerWord {
         place: Place { at, ..from.place },
         word,
         nesting_limit: from.nesting_limit,
@@ -318,13 +325,16 @@ fn check_primitive_list<A: ReaderArena>(
     let size = word.list_element_size();
     let count = word.list_element_count();
     let words = words_for_elements(size, count);
-    let at = match from.source.read_near_primitive_list(pointer, words, lim) {
-        Ok(at) => at,
-        Err(error) => return Err(error),
+    let first = match from.source.read_near_primitive_list(place, words, lim) {
+        Ok(first) => first,
+        Err(error) => return Err(misfit_of(pointer, from, at, error)),
     };
-    let start = Place { at, ..from.place };
-    match misfit_error(wanted, Object::Flat { start, size, count }) {
-        Some(error) => Err(error),
+    let start = Place {
+        at: first,
+        ..from.place
+    };
+    match misfit_error(pointer.kind, Object::Flat { start, size, count }) {
+        Some(error) => Err(misfit_of(pointer, from, at, error)),
         None => Ok(()),
     }
 }
@@ -333,14 +343,14 @@ fn check_primitive_list<A: ReaderArena>(
 // text, is tested in place.
 #[cycle(conforming)]
 #[inline(always)]
-fn check_pointer<'s, A: ReaderArena>(
-    schema: &'s [StructRow<'s>],
-    kind: Kind,
+fn check_pointer<A: ReaderArena>(
+    table: &[u32],
+    pointer: SchemaPointer,
     from: &Pointer<'_, A>,
     at: u32,
     lim: &mut ReadLimiter,
-) -> Result<(), ErrorKind>
-    ensures { check_place schema.now kind
+) -> Result<(), Misfit>
+    ensures { check_place table.now pointer
         (reading_on A.ReaderArena from.now at from.now.nesting_limit) lim.old
         ≡ (result, lim.new) }
 {
@@ -350,9 +360,9 @@ fn check_pointer<'s, A: ReaderArena>(
     }
     match word.kind() {
         WirePointerKind::List if is_primitive_list(word) => {
-            check_primitive_list(kind, from, at, word, lim)
+            check_primitive_list(pointer, from, at, word, lim)
         }
-        _ => check_object(schema, kind, from, at, lim),
+        _ => check_object(table, pointer, from, at, lim),
     }
 }
 
@@ -360,24 +370,24 @@ fn check_pointer<'s, A: ReaderArena>(
 // pointers, so that most pointers need no call.
 #[cycle(conforming)]
 #[inline(never)]
-fn check_object<'s, A: ReaderArena>(
-    schema: &'s [StructRow<'s>],
-    kind: Kind,
+fn check_object<A: ReaderArena>(
+    table: &[u32],
+    pointer: SchemaPointer,
     from: &Pointer<'_, A>,
     at: u32,
     lim: &mut ReadLimiter,
-) -> Result<(), ErrorKind>
-    ensures { check_place schema.now kind
+) -> Result<(), Misfit>
+    ensures { check_place table.now pointer
         (reading_on A.ReaderArena from.now at from.now.nesting_limit) lim.old
         ≡ (result, lim.new) }
 {
     let place = Place { at, ..from.place };
     let object = match from.source.read_object(place, from.nesting_limit, lim) {
         Ok(object) => object,
-        Err(kind) => return Err(kind),
+        Err(error) => return Err(misfit_of(pointer, from, at, error)),
     };
-    match misfit_error(kind, object) {
-        Some(error) => return Err(error),
+    match misfit_error(pointer.kind, object) {
+        Some(error) => return Err(misfit_of(pointer, from, at, error)),
         None => {}
     }
     let Some(elements) = elements_of(object) else {
@@ -388,9 +398,10 @@ fn check_object<'s, A: ReaderArena>(
         place: elements.start,
         nesting_limit: one_level_less(from.nesting_limit),
     };
+    let below = row_below(table, pointer.kind);
     check_elements(
-        schema,
-        pointers_below(schema, kind),
+        below.table,
+        below.row,
         &first,
         elements.data_words,
         elements.pointers,
@@ -401,20 +412,20 @@ fn check_object<'s, A: ReaderArena>(
 
 // Tests the pointers of `count` elements, of `data_words` and `pointers` words, from `from` on.
 #[cycle(conforming)]
-fn check_elements<'s, A: ReaderArena>(
-    schema: &'s [StructRow<'s>],
-    rows: &'s [PointerRow<'s>],
+fn check_elements<A: ReaderArena>(
+    table: &[u32],
+    row: u32,
     from: &Pointer<'_, A>,
     data_words: u32,
     pointers: u32,
     count: u32,
     lim: &mut ReadLimiter,
-) -> Result<(), ErrorKind>
+) -> Result<(), Misfit>
     requires inside { from.now.place.at + count * (data_words + pointers)
         ≤ length (segment_read (reading A.ReaderArena from.now)) }
     ensures { let r = reading A.ReaderArena from.now in
-        check_elements (check_within schema.now r.levels) rows.now data_words pointers count r
-        lim.old ≡ (result, lim.new) }
+        check_elements (check_within table.now r.levels) (schema_pointer table.now row)
+        data_words pointers count r lim.old ≡ (result, lim.new) }
 {
     if pointers == 0 {
         return Ok(());
@@ -422,9 +433,9 @@ fn check_elements<'s, A: ReaderArena>(
     let width = u64::from(data_words) + u64::from(pointers);
     for i in 0..count {
         let at = u64::from(from.place.at) + u64::from(i) * width;
-        match check_pointers(schema, rows, from, at as u32, data_words, pointers, lim) {
+        match check_pointers(table, row, from, at as u32, data_words, pointers, lim) {
             Ok(()) => {}
-            Err(kind) => return Err(kind),
+            Err(misfit) => return Err(misfit),
         }
     }
     Ok(())
@@ -432,35 +443,41 @@ fn check_elements<'s, A: ReaderArena>(
 
 // Tests the pointers of the element at `at`.
 #[cycle(conforming)]
-fn check_pointers<'s, A: ReaderArena>(
-    schema: &'s [StructRow<'s>],
-    rows: &'s [PointerRow<'s>],
+fn check_pointers<A: ReaderArena>(
+    table: &[u32],
+    row: u32,
     from: &Pointer<'_, A>,
     at: u32,
     data_words: u32,
     pointers: u32,
     lim: &mut ReadLimiter,
-) -> Result<(), ErrorKind>
+) -> Result<(), Misfit>
     requires inside { at + (data_words + pointers)
         ≤ length (segment_read (reading A.ReaderArena from.now)) }
     ensures { let r = reading_on A.ReaderArena from.now at from.now.nesting_limit in
-        check_pointers (check_within schema.now r.levels) rows.now (words_from r data_words) 0
-        pointers (place_past r data_words) lim.old ≡ (result, lim.new) }
+        check_pointers (check_within table.now r.levels)
+        (schema_pointer table.now row (words_from r data_words)) 0 pointers
+        (place_past r data_words) lim.old ≡ (result, lim.new) }
 {
     let element = Place { at, ..from.place };
     for i in 0..pointers {
-        let kind = wanted(rows, element, data_words, i);
-        match check_pointer(schema, kind, from, at + data_words + i, lim) {
+        let kind = wanted(table, row, element, data_words, i);
+        let pointer = SchemaPointer {
+            kind,
+            row,
+            index: i,
+        };
+        match check_pointer(table, pointer, from, at + data_words + i, lim) {
             Ok(()) => {}
-            Err(kind) => return Err(kind),
+            Err(misfit) => return Err(misfit),
         }
     }
     Ok(())
 }
 
-/// Tests whether a whole value can be read within both limits, and conforms to a schema. `kind`
-/// says what `pointer` itself may lead to; `Kind::Struct(row)` for the root of a message. Reads
-/// each object once and allocates nothing.
+/// Tests whether a whole value can be read within both limits, and conforms to a schema, which is a
+/// table ([`schema`](crate::schema)). `kind` says what `pointer` itself may lead to;
+/// `Kind::Struct(row)` for the root of a message. Reads each object once and allocates nothing.
 ///
 /// Counts and charges what `Pointer::validate` does: what reading the value once costs. A pointer
 /// that the schema doesn't have, or whose members aren't set, has to be readable too, but may lead
@@ -468,20 +485,29 @@ fn check_pointers<'s, A: ReaderArena>(
 ///
 /// Refuses with the first fault found, in the order of the walk: like `Pointer::validate` if an
 /// object can't be read; like the getter for the kind if an object is readable but isn't what the
-/// kind allows, such as `MessageContainsTextThatIsNotNULTerminated`. What was charged before stays
-/// charged.
-pub fn conforms<'s, A: ReaderArena>(
-    schema: &'s [StructRow<'s>],
+/// kind allows, such as `MessageContainsTextThatIsNotNULTerminated`; with `NOT_UTF8` if a text isn't
+/// UTF-8. Names the pointer at fault. What was charged before stays charged.
+pub fn conforms<A: ReaderArena>(
+    table: &[u32],
     kind: Kind,
     pointer: &Pointer<'_, A>,
     lim: &mut ReadLimiter,
-) -> Result<(), ErrorKind>
+) -> Result<(), Misfit>
     ensures exactly { let r = reading A.ReaderArena pointer.now in AreWords r.segments
-        → (IsOk result ↔ ((t : Tree) × (c : ℕ) × Conforms schema.now kind t × MeansThere r t c
+        → (IsOk result ↔ ((t : Tree) × (c : ℕ) × Conforms table.now kind t × MeansThere r t c
         × Affords r.charging lim.old c)) }
     ensures spent { let r = reading A.ReaderArena pointer.now in (t : Tree) (c : ℕ)
         → AreWords r.segments → MeansThere r t c
         → OnOk result (Paid r.charging lim.old lim.new c (pointers_in t)) }
+    ensures walk { check_place table.now (rowless_pointer kind) (reading A.ReaderArena pointer.now)
+        lim.old ≡ (result, lim.new) }
+    ensures refused { IfErr result (IsTrueFrom
+        (first_visit table.now kind (reading A.ReaderArena pointer.now)) lim.new) }
 {
-    check_pointer(schema, kind, pointer, pointer.place.at, lim)
+    let first = SchemaPointer {
+        kind,
+        row: 0,
+        index: 0,
+    };
+    check_pointer(table, first, pointer, pointer.place.at, lim)
 }

@@ -6,3 +6,4 @@ pub mod checked;
 pub mod conforms;
 pub mod laws;
 pub mod schema;
+mod table;

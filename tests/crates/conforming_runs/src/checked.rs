@@ -1,7 +1,7 @@
 //! Reads messages by getters that can't be refused, after the whole message was tested.
 
 use crate::lazy::Read;
-use crate::tables::ITEM;
+use crate::tables::{ITEM, KINDS_ROW, LISTS, PERSON, PHONE, TEXTS};
 use capnp_proved::capnp_arena::arena::ReaderArena;
 use capnp_proved::typed_conforming::checked::CheckedStruct;
 use capnp_proved::typed_reading::value;
@@ -11,11 +11,11 @@ pub fn read_kinds<A: ReaderArena>(kinds: CheckedStruct<'_, '_, A>, read: &mut Re
     read.bytes("text", kinds.get_text(0));
     read.bytes("data", kinds.get_data(1));
     if value::has(&kinds.reader, 2) {
-        read_kinds(kinds.get_struct(2, 0), read);
+        read_kinds(kinds.get_struct(2, KINDS_ROW), read);
     }
-    let texts = kinds.get_pointers(4, 2);
+    let texts = kinds.get_pointers(4, TEXTS);
     for i in 0..texts.len() {
-        read.bytes("texts", texts.get(i).get_text(0));
+        read.text("texts", texts.get(i).get_str(0));
     }
     let numbers = kinds.get_numbers::<u32>(5);
     for i in 0..numbers.len() {
@@ -26,7 +26,7 @@ pub fn read_kinds<A: ReaderArena>(kinds: CheckedStruct<'_, '_, A>, read: &mut Re
         read.number("bits", bits.get(i));
     }
     read_items(kinds, 7, read);
-    let lists = kinds.get_pointers(8, 3);
+    let lists = kinds.get_pointers(8, LISTS);
     for i in 0..lists.len() {
         let numbers = lists.get(i).get_numbers::<u16>(0);
         read.number("lists", numbers.len());
@@ -52,26 +52,26 @@ fn read_items<A: ReaderArena>(kinds: CheckedStruct<'_, '_, A>, index: u16, read:
 }
 
 fn read_item<A: ReaderArena>(item: CheckedStruct<'_, '_, A>, read: &mut Read) {
-    read.bytes("item", item.get_text(0));
+    read.text("item", item.get_str(0));
     read.number("item", value::get_number::<A, u32>(&item.reader, 0));
 }
 
 /// Reads an `AddressBook` of `tests/typed/addressbook.capnp`.
 pub fn read_book<A: ReaderArena>(book: CheckedStruct<'_, '_, A>, read: &mut Read) {
-    let people = book.get_structs(0, 1);
+    let people = book.get_structs(0, PERSON);
     for i in 0..people.len() {
         let person = people.get(i);
         read.number("id", value::get_number::<A, u32>(&person.reader, 0));
-        read.bytes("name", person.get_text(0));
-        read.bytes("email", person.get_text(1));
-        let phones = person.get_structs(2, 2);
+        read.text("name", person.get_str(0));
+        read.text("email", person.get_str(1));
+        let phones = person.get_structs(2, PHONE);
         for j in 0..phones.len() {
             let phone = phones.get(j);
-            read.bytes("number", phone.get_text(0));
+            read.text("number", phone.get_str(0));
             read.number("type", value::get_number::<A, u16>(&phone.reader, 0));
         }
         if let 1 | 2 = value::get_number::<A, u16>(&person.reader, 2) {
-            read.bytes("employment", person.get_text(3));
+            read.text("employment", person.get_str(3));
         }
     }
 }

@@ -4,6 +4,7 @@ use capnp_proved::capnp_arena::arena::ReaderArena;
 use capnp_proved::capnp_readers::readers::StructReader;
 use capnp_proved::capnp_words::error::ErrorKind;
 use capnp_proved::capnp_words::read_limiter::ReadLimiter;
+use capnp_proved::typed_conforming::schema::NOT_UTF8;
 use capnp_proved::typed_reading::{list, value};
 
 /// What was read, in order.
@@ -13,6 +14,17 @@ pub struct Read(pub Vec<String>);
 impl Read {
     pub fn bytes(&mut self, name: &str, bytes: &[u8]) {
         self.0.push(format!("{name}={}", bytes.escape_ascii()));
+    }
+
+    pub fn text(&mut self, name: &str, text: &str) {
+        self.bytes(name, text.as_bytes());
+    }
+
+    /// The same for bytes that have to be UTF-8.
+    fn try_text(&mut self, name: &str, bytes: &[u8]) -> Result<(), ErrorKind> {
+        let text = str::from_utf8(bytes).map_err(|_| NOT_UTF8)?;
+        self.text(name, text);
+        Ok(())
     }
 
     pub fn number(&mut self, name: &str, number: impl ToString) {
@@ -33,7 +45,7 @@ pub fn read_kinds<A: ReaderArena>(
     }
     let texts = list::get_texts(kinds, 4, lim)?;
     for i in 0..texts.len() {
-        read.bytes("texts", texts.get(i, lim)?);
+        read.try_text("texts", texts.get(i, lim)?)?;
     }
     let numbers = list::get_numbers::<A, u32>(kinds, 5, lim)?;
     for i in 0..numbers.len() {
@@ -83,7 +95,7 @@ fn read_item<A: ReaderArena>(
     lim: &mut ReadLimiter,
     read: &mut Read,
 ) -> Result<(), ErrorKind> {
-    read.bytes("item", value::get_text(item, 0, lim)?);
+    read.try_text("item", value::get_text(item, 0, lim)?)?;
     read.number("item", value::get_number::<A, u32>(item, 0));
     Ok(())
 }
@@ -98,16 +110,16 @@ pub fn read_book<A: ReaderArena>(
     for i in 0..people.len() {
         let person = people.get(i);
         read.number("id", value::get_number::<A, u32>(&person, 0));
-        read.bytes("name", value::get_text(&person, 0, lim)?);
-        read.bytes("email", value::get_text(&person, 1, lim)?);
+        read.try_text("name", value::get_text(&person, 0, lim)?)?;
+        read.try_text("email", value::get_text(&person, 1, lim)?)?;
         let phones = list::get_structs(&person, 2, lim)?;
         for j in 0..phones.len() {
             let phone = phones.get(j);
-            read.bytes("number", value::get_text(&phone, 0, lim)?);
+            read.try_text("number", value::get_text(&phone, 0, lim)?)?;
             read.number("type", value::get_number::<A, u16>(&phone, 0));
         }
         if let 1 | 2 = value::get_number::<A, u16>(&person, 2) {
-            read.bytes("employment", value::get_text(&person, 3, lim)?);
+            read.try_text("employment", value::get_text(&person, 3, lim)?)?;
         }
     }
     Ok(())

@@ -19,7 +19,7 @@ use capnp_proved::capnp_words::read_limiter::ReadLimiter;
 use capnp_proved::support::alloc::Global;
 use capnp_proved::typed_conforming::checked::CheckedStruct;
 use capnp_proved::typed_conforming::conforms::conforms;
-use capnp_proved::typed_conforming::schema::{Kind, StructRow};
+use capnp_proved::typed_conforming::schema::{Kind, Misfit};
 use capnp_proved::typed_reading::value;
 use lazy::Read;
 use std::hint::black_box;
@@ -33,10 +33,18 @@ pub enum Schema {
 }
 
 impl Schema {
-    fn rows(self) -> &'static [StructRow<'static>] {
+    fn table(self) -> &'static [u32] {
         match self {
             Schema::Kinds => &tables::KINDS,
             Schema::Book => &tables::BOOK,
+        }
+    }
+
+    /// The row of the root.
+    fn row(self) -> u32 {
+        match self {
+            Schema::Kinds => tables::KINDS_ROW,
+            Schema::Book => tables::BOOK_ROW,
         }
     }
 }
@@ -49,7 +57,7 @@ pub struct Answers {
     /// The getters that may be refused.
     pub lazy: Result<Read, ErrorKind>,
     /// `CheckedStruct::root`, and then the getters that can't be refused.
-    pub checked: Result<Read, ErrorKind>,
+    pub checked: Result<Read, Misfit>,
 }
 
 impl Answers {
@@ -60,8 +68,8 @@ impl Answers {
     pub fn agree(&self) -> bool {
         match (&self.validate, &self.lazy, &self.checked) {
             (Ok(()), Ok(lazy), Ok(checked)) => lazy == checked,
-            (Ok(()), Err(lazy), Err(checked)) => lazy == checked,
-            (Err(validate), Ok(_), Err(checked)) => validate == checked,
+            (Ok(()), Err(lazy), Err(checked)) => *lazy == checked.error,
+            (Err(validate), Ok(_), Err(checked)) => *validate == checked.error,
             (Err(_), Err(_), Err(_)) => true,
             _ => false,
         }
@@ -91,9 +99,9 @@ fn read_checked(
     arena: &impl ReaderArena,
     schema: Schema,
     lim: &mut ReadLimiter,
-) -> Result<Read, ErrorKind> {
+) -> Result<Read, Misfit> {
     let mut read = Read::default();
-    let root = CheckedStruct::root(arena, schema.rows(), 0, lim)?;
+    let root = CheckedStruct::root(arena, schema.table(), schema.row(), lim)?;
     match schema {
         Schema::Kinds => checked::read_kinds(root, &mut read),
         Schema::Book => checked::read_book(root, &mut read),
@@ -119,7 +127,7 @@ fn print_answers(
     let answers = answers(arena, schema, limit);
     let word = |error: Option<&ErrorKind>| error.map_or("ok".to_owned(), ToString::to_string);
     let test = if answers.checked.is_ok() { "yes" } else { "no" };
-    let checked = word(answers.checked.as_ref().err());
+    let checked = word(answers.checked.as_ref().err().map(|misfit| &misfit.error));
     let validate = word(answers.validate.as_ref().err());
     println!(
         "{test} {checked} {validate} {}",
@@ -134,7 +142,7 @@ fn repeat(arena: &ReaderArenaImpl<OwnedSegments>, schema: Schema, conforming: bo
         let mut lim = ReadLimiter::new(None);
         let root = Pointer::get_root_from_arena(arena, &mut lim).expect("a root");
         if conforming {
-            let answer = conforms(schema.rows(), Kind::Struct(0), &root, &mut lim);
+            let answer = conforms(schema.table(), Kind::Struct(schema.row()), &root, &mut lim);
             black_box(answer).expect("a message that conforms");
         } else {
             black_box(root.validate(&mut lim)).expect("a message that can be read");

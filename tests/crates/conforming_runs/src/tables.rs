@@ -1,99 +1,71 @@
-//! Schemas as data.
+//! Schemas as data, by hand. Each line is a row or a test, at the position in its comment.
 
-use capnp_proved::capnp_words::wire_pointer::ElementSize;
-use capnp_proved::typed_conforming::schema::{Kind, Member, PointerField, PointerRow, StructRow};
+/// Kind words without an argument.
+const ANY: u32 = 0;
+const TEXT: u32 = 2;
+const UTF8: u32 = 3;
+const DATA: u32 = 4;
+const BITS: u32 = list(1, 0);
+const SHORTS: u32 = list(3, 0);
+const WORDS: u32 = list(4, 0);
 
-/// A row that no schema has.
-const NO_ROW: u16 = u16::MAX;
-
-/// A pointer of one field that isn't in a union.
-const fn row(field: &'static [PointerField<'static>; 1]) -> PointerRow<'static> {
-    PointerRow { fields: field }
+/// The kind word of a struct of this row.
+const fn record(row: u32) -> u32 {
+    16 * row + 5
 }
 
-const fn field(kind: Kind) -> PointerField<'static> {
-    PointerField { kind, members: &[] }
+/// The kind word that names a test.
+const fn test(position: u32) -> u32 {
+    16 * position + 7
 }
 
-const fn member(bit: u32, number: u16) -> Member {
-    Member { bit, number }
+/// The kind word of a list with elements of this size and row.
+const fn list(size: u32, row: u32) -> u32 {
+    16 * row + 8 + size
 }
 
-/// The row of `Item` of `KINDS`.
-pub const ITEM: u16 = 1;
+/// The kind word of a list of pointers of this row, and of one of structs.
+const fn pointers(row: u32) -> u32 {
+    list(6, row)
+}
 
-/// `tests/typed/kinds.capnp`: `Kinds`, `Item`, and the elements of a list of texts and of a list of
-/// lists.
-pub static KINDS: [StructRow<'static>; 4] = [
-    StructRow {
-        pointers: &[
-            row(&[field(Kind::Text)]),
-            row(&[field(Kind::Data)]),
-            row(&[field(Kind::Struct(0))]),
-            row(&[field(Kind::Any)]),
-            row(&[field(Kind::List(ElementSize::Pointer, 2))]),
-            row(&[field(Kind::List(ElementSize::FourBytes, NO_ROW))]),
-            row(&[field(Kind::List(ElementSize::Bit, NO_ROW))]),
-            row(&[field(Kind::List(ElementSize::InlineComposite, ITEM))]),
-            row(&[field(Kind::List(ElementSize::Pointer, 3))]),
-            PointerRow {
-                fields: &[
-                    PointerField {
-                        kind: Kind::Text,
-                        members: &[member(0, 0)],
-                    },
-                    PointerField {
-                        kind: Kind::Struct(ITEM),
-                        members: &[member(0, 1)],
-                    },
-                    PointerField {
-                        kind: Kind::Data,
-                        members: &[member(0, 2), member(16, 0)],
-                    },
-                    PointerField {
-                        kind: Kind::List(ElementSize::InlineComposite, ITEM),
-                        members: &[member(0, 2), member(16, 1)],
-                    },
-                ],
-            },
-        ],
-    },
-    StructRow {
-        pointers: &[row(&[field(Kind::Text)])],
-    },
-    StructRow {
-        pointers: &[row(&[field(Kind::Text)])],
-    },
-    StructRow {
-        pointers: &[row(&[field(Kind::List(ElementSize::TwoBytes, NO_ROW))])],
-    },
+const fn records(row: u32) -> u32 {
+    list(7, row)
+}
+
+/// The rows of `KINDS`: `Kinds`, `Item`, and the elements of a list of texts and of a list of lists.
+pub const KINDS_ROW: u32 = 1;
+pub const ITEM: u32 = 12;
+pub const TEXTS: u32 = 14;
+pub const LISTS: u32 = 16;
+
+/// `tests/typed/kinds.capnp`. Its texts are of both kinds.
+#[rustfmt::skip]
+pub static KINDS: [u32; 38] = [
+    0, // 0
+    10, TEXT, DATA, record(KINDS_ROW), ANY, pointers(TEXTS), WORDS, BITS, records(ITEM), pointers(LISTS), test(18), // 1
+    1, UTF8, // 12
+    1, UTF8, // 14
+    1, SHORTS, // 16
+    0, 0, TEXT, test(22), // 18: `name`
+    0, 1, record(ITEM), test(26), // 22: `item`
+    0, 2, test(30), ANY, // 26: `inner`
+    1, 0, DATA, test(34), // 30: `inner.bytes`
+    1, 1, records(ITEM), ANY, // 34: `inner.more`
 ];
 
-/// `tests/typed/addressbook.capnp`: `AddressBook`, `Person`, `PhoneNumber`.
-pub static BOOK: [StructRow<'static>; 3] = [
-    StructRow {
-        pointers: &[row(&[field(Kind::List(ElementSize::InlineComposite, 1))])],
-    },
-    StructRow {
-        pointers: &[
-            row(&[field(Kind::Text)]),
-            row(&[field(Kind::Text)]),
-            row(&[field(Kind::List(ElementSize::InlineComposite, 2))]),
-            PointerRow {
-                fields: &[
-                    PointerField {
-                        kind: Kind::Text,
-                        members: &[member(32, 1)],
-                    },
-                    PointerField {
-                        kind: Kind::Text,
-                        members: &[member(32, 2)],
-                    },
-                ],
-            },
-        ],
-    },
-    StructRow {
-        pointers: &[row(&[field(Kind::Text)])],
-    },
+/// The rows of `BOOK`: `AddressBook`, `Person` and `PhoneNumber`.
+pub const BOOK_ROW: u32 = 1;
+pub const PERSON: u32 = 3;
+pub const PHONE: u32 = 8;
+
+/// `tests/typed/addressbook.capnp`.
+#[rustfmt::skip]
+pub static BOOK: [u32; 18] = [
+    0, // 0
+    1, records(PERSON), // 1
+    4, UTF8, UTF8, records(PHONE), test(10), // 3
+    1, UTF8, // 8
+    2, 1, UTF8, test(14), // 10: `employer`
+    2, 2, UTF8, ANY, // 14: `school`
 ];

@@ -1,10 +1,15 @@
 //! Messages that `capnp encode` made, and altered copies of them.
 
 use crate::lazy::Read;
+use crate::tables::{ITEM, KINDS, KINDS_ROW, TEXTS};
 use crate::{answers, Answers, Schema};
 use capnp_proved::capnp_arena::arena::{ReaderArenaImpl, ReaderOptions};
 use capnp_proved::capnp_framing::framing::OwnedSegments;
+use capnp_proved::capnp_objects::pointers::Pointer;
 use capnp_proved::capnp_words::error::ErrorKind;
+use capnp_proved::capnp_words::read_limiter::ReadLimiter;
+use capnp_proved::typed_conforming::conforms::conforms;
+use capnp_proved::typed_conforming::schema::{Kind, Misfit, NOT_UTF8};
 use test_support::{arena_from_hex, decode_hex, encode_hex};
 
 /// A `Kinds` with all fields but `any`, and the member `inner.more`.
@@ -55,11 +60,19 @@ fn answers_for(text: &str, schema: Schema) -> Answers {
     answers(&arena(text), schema, Some(4096))
 }
 
-/// The error with which the test refuses a `Kinds`.
-fn refusal(text: &str) -> ErrorKind {
+/// The refusal of a `Kinds` by the test.
+fn refusal(text: &str) -> Misfit {
     let found = answers_for(text, Schema::Kinds);
     assert!(found.agree(), "{found:?}");
     found.checked.expect_err("a refusal")
+}
+
+/// Tests a `Kinds` against the row of this table.
+fn test_with(table: &[u32], text: &str) -> Result<(), Misfit> {
+    let arena = arena(text);
+    let mut lim = ReadLimiter::new(None);
+    let root = Pointer::get_root_from_arena(&arena, &mut lim).expect("a root");
+    conforms(table, Kind::Struct(KINDS_ROW), &root, &mut lim)
 }
 
 /// `text` with word `at` replaced.
@@ -211,12 +224,114 @@ fn refusals_name_what_is_wrong() {
         (5, bits, FoundBitListWhereStructListWasExpected),
         (9, bits, FoundBitListWhereStructListWasExpected),
     ] {
-        assert_eq!(
-            refusal(&with_word(FULL, 2 + pointer, word)),
-            want,
-            "pointer {pointer}"
-        );
+        let want = Misfit {
+            error: want,
+            segment: 0,
+            word: 2 + pointer as u32,
+            row: KINDS_ROW,
+            index: pointer as u32,
+        };
+        assert_eq!(refusal(&with_word(FULL, 2 + pointer, word)), want);
     }
+}
+
+/// Words of `FULL` that are replaced, and the pointer that is refused.
+#[test]
+fn refusals_name_the_pointer() {
+    use ErrorKind::*;
+    let no_words = "fcffffff00000000"; // A struct without sections.
+    let outside = "fdffff7f0a000000"; // A byte past the end.
+    let as_any = [(4, "0000000000000000"), (5, "2000000001000a00")]; // `next` as `any`
+    let no_text = MessageContainsNonListPointerWhereTextWasExpected;
+    let out = MessageContainsOutOfBoundsPointer;
+    let no_struct = MessageContainsNonStructPointerWhereStructPointerWasExpected;
+    for (words, error, word, row, index) in [
+        (vec![(0, "0100000002000000")], no_struct, 0, 0, 0),
+        (vec![(30, no_words)], no_text, 30, TEXTS, 0),
+        (vec![(42, no_words)], no_text, 42, ITEM, 0),
+        (vec![(15, outside)], out, 15, KINDS_ROW, 0),
+        ([&as_any[..], &[(16, outside)]].concat(), out, 16, 0, 1),
+    ] {
+        let text = words.iter().fold(FULL.to_owned(), |text, (at, word)| {
+            with_word(&text, *at, word)
+        });
+        let want = Misfit {
+            error,
+            segment: 0,
+            word,
+            row,
+            index,
+        };
+        assert_eq!(refusal(&text), want);
+    }
+}
+
+/// The last of `texts` of `FULL`, which has to be UTF-8, and `text`, which needn't. The bytes are from
+/// the tables of the Unicode standard.
+#[test]
+fn texts_are_utf8_where_the_schema_says_so() {
+    for (bytes, is_utf8) in [
+        ("c3a9", true),
+        ("7f7f", true),
+        ("c328", false), // A lead byte without the byte that has to follow.
+        ("a9c3", false),
+        ("c1bf", false), // Two bytes for what one can say.
+        ("fffe", false),
+    ] {
+        let found = answers_for(
+            &with_word(FULL, 34, &format!("{bytes}000000000000")),
+            Schema::Kinds,
+        );
+        assert!(found.agree(), "{found:?}");
+        assert_eq!(found.checked.is_ok(), is_utf8, "{bytes}");
+        if let Err(misfit) = found.checked {
+            assert_eq!(
+                (misfit.error, misfit.word, misfit.row),
+                (NOT_UTF8, 31, TEXTS)
+            );
+        }
+        let first = with_word(FULL, 12, &format!("{bytes}630000000000"));
+        assert!(answers_for(&first, Schema::Kinds).checked.is_ok());
+    }
+}
+
+/// Any words are a table. In `KINDS`, word 11 names test 18, whose words 20 and 21 are a text and
+/// test 22.
+#[test]
+fn tests_are_followed_to_later_ones_only() {
+    let item = with_word(FULL, 1, "0100000000000000"); // Pointer 9 is a list, and not an item.
+    assert!(test_with(&KINDS, &item).is_err());
+    for (at, word) in [
+        (21, 16 * 18 + 7), // The same test again.
+        (25, 16 * 18 + 7), // Back to the first one.
+        (11, 16 * 38 + 7), // Past the end.
+        (11, 16 * 0x0fff_ffff + 7),
+        (11, 0),
+    ] {
+        let mut table = KINDS;
+        table[at] = word;
+        let text = if at == 25 {
+            with_word(FULL, 1, "0300000000000000")
+        } else {
+            item.clone()
+        };
+        assert_eq!(test_with(&table, &text), Ok(()), "word {at} as {word}");
+    }
+}
+
+/// Without a row, a row that is cut off, and more pointers than there are words.
+#[test]
+fn rows_past_the_end_have_no_pointers() {
+    let item = with_word(FULL, 1, "0100000000000000");
+    for length in 0..KINDS.len() {
+        let answer = test_with(&KINDS[..length], &item);
+        assert_eq!(answer.is_ok(), length <= 24, "{length}");
+    }
+    let mut table = KINDS;
+    table[KINDS_ROW as usize] = u32::MAX;
+    assert!(test_with(&table, FULL).is_ok());
+    table[KINDS_ROW as usize] = 9;
+    assert!(test_with(&table, &item).is_ok());
 }
 
 /// Pointer 9 of `FULL` belongs to the member that is set; the other members don't count.

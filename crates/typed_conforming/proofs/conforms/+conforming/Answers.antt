@@ -7,8 +7,8 @@ use Rattle.capnp_objects.specs.Reading.{Reading, place_past, word_of, words_from
 use Rattle.capnp_objects.specs.Pointers.{reading, reading_on}
 use Rattle.capnp_objects.proofs.Falls.{falls_in}
 use Rattle.capnp_objects.proofs.Returned.{inner_levels}
-use Rattle.typed_conforming.specs.Conforms.{wanted}
-use Rattle.typed_conforming.specs.Walk.{check_within}
+use Rattle.typed_conforming.specs.Tables.{wanted}
+use Rattle.typed_conforming.specs.Walk.{check_within, schema_pointer}
 use Rattle.typed_conforming.proofs.Steps.{held, inside, level, no_pointers, not_read, null_conforms, object_ends, object_opens, object_unfit, one_more, one_stops, row_more, row_stops}
 use Rattle.typed_conforming.proofs.conforms.+conforming.Goals as goal
 
@@ -16,27 +16,27 @@ pub check_pointer-returns-then-is_null : goal.check_pointer-returns-then-is_null
 check_pointer-returns-then-is_null g t c =
     let r : Reading = reading_on g.A.ReaderArena c.args.from.now c.args.at c.args.from.now.nesting_limit in
     let word : c.word-word.result.0 ≡ word_of r = c.word-word.ensures.value ∙ ap (λ ws. get_or ws c.args.at 0) c.args.from.now.held.0 in
-    null_conforms c.args.schema.now c.args.kind r c.args.lim.now (sym word ∙ c.if-is_null.ensures.0 refl)
+    null_conforms c.args.table.now c.args.pointer r c.args.lim.now (sym word ∙ c.if-is_null.ensures.0 refl)
 
 pub check_object-returns-in-Err : goal.check_object-returns-in-Err
 check_object-returns-in-Err g t c =
     let r : Reading = reading_on g.A.ReaderArena c.args.from.now c.args.at c.args.from.now.nesting_limit in
     let nl = to_z-of_z w32 c.args.from.now.nesting_limit (search rules) in
-    not_read c.args.schema.now c.args.kind r _ _ _ (rw nl at c.in-Err.ensures.refused)
+    rw c.misfit_of.ensures (not_read c.args.table.now c.args.pointer r _ _ _ (rw nl at c.in-Err.ensures.refused))
 
 pub check_object-returns-in-Some : goal.check_object-returns-in-Some
 check_object-returns-in-Some g t c =
     let r : Reading = reading_on g.A.ReaderArena c.args.from.now c.args.at c.args.from.now.nesting_limit in
     let nl = to_z-of_z w32 c.args.from.now.nesting_limit (search rules) in
     let object : IsObject Value r c.args.lim.now c.read_object.new.lim c.in-Ok.object = rw nl at c.in-Ok.ensures.object in
-    object_unfit c.args.schema.now c.args.kind r c.args.lim.now c.read_object.new.lim c.in-Ok.object c.in-Some.error object (sym (c.in-Some.ensures r.segments (held r _ _ c.in-Ok.object object)))
+    rw c.misfit_of-in-Some.ensures (object_unfit c.args.table.now c.args.pointer r c.args.lim.now c.read_object.new.lim c.in-Ok.object c.in-Some.error object (sym (c.in-Some.ensures r.segments (held r _ _ c.in-Ok.object object))))
 
 pub check_object-returns-in_default : goal.check_object-returns-in_default
 check_object-returns-in_default g t c =
     let r : Reading = reading_on g.A.ReaderArena c.args.from.now c.args.at c.args.from.now.nesting_limit in
     let nl = to_z-of_z w32 c.args.from.now.nesting_limit (search rules) in
     let object : IsObject Value r c.args.lim.now c.read_object.new.lim c.in-Ok.object = rw nl at c.in-Ok.ensures.object in
-    object_ends c.args.schema.now c.args.kind r c.args.lim.now c.read_object.new.lim c.in-Ok.object object (sym (c.in-None.ensures r.segments (held r _ _ c.in-Ok.object object))) c.in_default.ensures
+    object_ends c.args.table.now c.args.pointer r c.args.lim.now c.read_object.new.lim c.in-Ok.object object (sym (c.in-None.ensures r.segments (held r _ _ c.in-Ok.object object))) c.in_default.ensures
 
 pub check_object-check_elements-requires : goal.check_object-check_elements-requires
 check_object-check_elements-requires g t c κs within =
@@ -52,25 +52,25 @@ check_object-returns g t c =
     let nl = to_z-of_z w32 c.args.from.now.nesting_limit (search rules) in
     let object : IsObject Value r c.args.lim.now c.read_object.new.lim c.in-Ok.object = rw nl at c.in-Ok.ensures.object in
     let inner = inner_levels c.args.from.now.nesting_limit c.one_level_less.result (search rules) (record { sfits = c.one_level_less.type_inv }) c.one_level_less.ensures in
-    object_opens c.args.schema.now c.args.kind r c.args.lim.now c.read_object.new.lim c.in-Ok.object _ c.in-Some-elements_of.elements (level r _ _ c.in-Some-elements_of.elements c.in-Ok.object object c.in-Some-elements_of.ensures) refl object (sym (c.in-None.ensures r.segments (held r _ _ c.in-Ok.object object))) c.in-Some-elements_of.ensures
-    ∙ rw (inner, c.pointers_below.ensures) at c.check_elements.ensures
+    object_opens c.args.table.now c.args.pointer r c.args.lim.now c.read_object.new.lim c.in-Ok.object _ c.in-Some-elements_of.elements (level r _ _ c.in-Some-elements_of.elements c.in-Ok.object object c.in-Some-elements_of.ensures) refl object (sym (c.in-None.ensures r.segments (held r _ _ c.in-Ok.object object))) c.in-Some-elements_of.ensures
+    ∙ rw (inner, c.row_below-below.ensures.table, c.row_below-below.ensures.row) at c.check_elements.ensures
 
 pub check_pointers-returns-in-Err : goal.check_pointers-returns-in-Err
 check_pointers-returns-in-Err g t c =
     let r : Reading = reading_on g.A.ReaderArena c.args.from.now c.args.at c.args.from.now.nesting_limit in
     let d : ℕ = c.args.data_words in
     let i : ℕ = c.loop-i.i in
-    let kind_is : c.wanted-kind.result ≡ wanted c.args.rows.now (words_from r d) i = c.wanted-kind.ensures ∙ ap (λ ws. wanted c.args.rows.now (take d (drop c.args.at ws)) i) c.args.from.now.held.0 in
+    let kind_is : c.wanted-kind.result ≡ wanted c.args.table.now c.args.row (words_from r d) i = c.wanted-kind.ensures ∙ ap (λ ws. wanted c.args.table.now c.args.row (take d (drop c.args.at ws)) i) c.args.from.now.held.0 in
     c.loop-i.invariant (suc (c.args.pointers - i - 1)) (omega (arith, c.loop-i-test.true))
-    ∙ one_stops (check_within c.args.schema.now r.levels) c.args.rows.now (words_from r d) (place_past (place_past r d) i) i (c.args.pointers - i - 1) _ _ _ (rw kind_is at c.in-Err.ensures)
+    ∙ one_stops (check_within c.args.table.now r.levels) (schema_pointer c.args.table.now c.args.row (words_from r d)) (place_past (place_past r d) i) i (c.args.pointers - i - 1) _ _ _ (rw kind_is at c.in-Err.ensures)
 
 pub check_pointers-loop-i-preserved : goal.check_pointers-loop-i-preserved
 check_pointers-loop-i-preserved g t c =
     let r : Reading = reading_on g.A.ReaderArena c.args.from.now c.args.at c.args.from.now.nesting_limit in
     let d : ℕ = c.args.data_words in
     let i : ℕ = c.loop-i.i in
-    let kind_is : c.wanted-kind.result ≡ wanted c.args.rows.now (words_from r d) i = c.wanted-kind.ensures ∙ ap (λ ws. wanted c.args.rows.now (take d (drop c.args.at ws)) i) c.args.from.now.held.0 in
-    λ k e. c.loop-i.invariant (suc k) (omega (arith, e)) ∙ one_more (check_within c.args.schema.now r.levels) c.args.rows.now (words_from r d) (place_past r d) i k _ _ (rw kind_is at c.in-Ok.ensures)
+    let kind_is : c.wanted-kind.result ≡ wanted c.args.table.now c.args.row (words_from r d) i = c.wanted-kind.ensures ∙ ap (λ ws. wanted c.args.table.now c.args.row (take d (drop c.args.at ws)) i) c.args.from.now.held.0 in
+    λ k e. c.loop-i.invariant (suc k) (omega (arith, e)) ∙ one_more (check_within c.args.table.now r.levels) (schema_pointer c.args.table.now c.args.row (words_from r d)) (place_past r d) i k _ _ (rw kind_is at c.in-Ok.ensures)
 
 pub check_pointers-returns : goal.check_pointers-returns
 check_pointers-returns g t c =
@@ -79,7 +79,7 @@ check_pointers-returns g t c =
 pub check_elements-returns-then-pointers-eq0 : goal.check_elements-returns-then-pointers-eq0
 check_elements-returns-then-pointers-eq0 g t c =
     let r : Reading = reading g.A.ReaderArena c.args.from.now in
-    rw c.if-pointers-eq0.true (no_pointers (check_within c.args.schema.now r.levels) c.args.rows.now r c.args.data_words c.args.count c.args.lim.now)
+    rw c.if-pointers-eq0.true (no_pointers (check_within c.args.table.now r.levels) (schema_pointer c.args.table.now c.args.row) r c.args.data_words c.args.count c.args.lim.now)
 
 pub check_elements-returns-in-Err : goal.check_elements-returns-in-Err
 check_elements-returns-in-Err g t c =
@@ -90,7 +90,7 @@ check_elements-returns-in-Err g t c =
     let at : c.from-in-loop-i.result + c.from-in-loop-i-2.result * (c.from.result + c.from-2.result) ≡ r.at + i * (d + q) =
     ap₂ (λ x y. x + y) c.from-in-loop-i.ensures (ap₂ (λ x y. x * y) c.from-in-loop-i-2.ensures (ap₂ (λ x y. x + y) c.from.ensures c.from-2.ensures)) in
     c.loop-i.invariant (suc (c.args.count - i - 1)) (omega (arith, c.loop-i-test.true))
-    ∙ row_stops (check_within c.args.schema.now r.levels) c.args.rows.now (place_past r (i * (d + q))) d q (c.args.count - i - 1) _ _ _ (rw at at c.in-Err.ensures)
+    ∙ row_stops (check_within c.args.table.now r.levels) (schema_pointer c.args.table.now c.args.row) (place_past r (i * (d + q))) d q (c.args.count - i - 1) _ _ _ (rw at at c.in-Err.ensures)
 
 pub check_elements-loop-i-preserved : goal.check_elements-loop-i-preserved
 check_elements-loop-i-preserved g t c =
@@ -100,7 +100,7 @@ check_elements-loop-i-preserved g t c =
     let i : ℕ = c.loop-i.i in
     let at : c.from-in-loop-i.result + c.from-in-loop-i-2.result * (c.from.result + c.from-2.result) ≡ r.at + i * (d + q) =
     ap₂ (λ x y. x + y) c.from-in-loop-i.ensures (ap₂ (λ x y. x * y) c.from-in-loop-i-2.ensures (ap₂ (λ x y. x + y) c.from.ensures c.from-2.ensures)) in
-    λ k e. c.loop-i.invariant (suc k) (omega (arith, e)) ∙ row_more (check_within c.args.schema.now r.levels) c.args.rows.now r d q i k _ _ (rw at at c.in-Ok.ensures)
+    λ k e. c.loop-i.invariant (suc k) (omega (arith, e)) ∙ row_more (check_within c.args.table.now r.levels) (schema_pointer c.args.table.now c.args.row) r d q i k _ _ (rw at at c.in-Ok.ensures)
 
 pub check_elements-returns : goal.check_elements-returns
 check_elements-returns g t c =

@@ -2,7 +2,8 @@ use Rattle.std.proofs.Common.{◌≡◌, ℕ, ◌+◌, ◌*◌}
 use Rattle.capnp_objects.specs.Reading.{Reading, place_past, words_from}
 use Rattle.capnp_objects.specs.Source.{levels}
 use Rattle.capnp_objects.specs.Pointers.{reading, reading_on}
-use Rattle.typed_conforming.specs.Walk.{check_elements, check_pointers, check_within}
+use Rattle.typed_conforming.specs.Walk.{check_elements, check_pointers, check_within, schema_pointer}
+use Rattle.typed_conforming.specs.declared.conforms.SchemaPointer.{SchemaPointer}
 use Rattle.typed_conforming.proofs.conforms.+conforming.Given as goal
 
 abbrev pub decreases-check_object : goal.decreases-check_object
@@ -20,10 +21,11 @@ decreases-check_elements g l = 6 * levels l.from.now.nesting_limit + 3
 abbrev pub invariant-check_pointers-loop-i : goal.invariant-check_pointers-loop-i
 invariant-check_pointers-loop-i g l =
     let r : Reading = reading_on g.A.ReaderArena l.from l.at l.from.nesting_limit in
-    let d : ℕ = l.data_words in
+    let ps : ℕ → SchemaPointer = schema_pointer l.table l.row (words_from r l.data_words) in
+    let first : Reading = place_past r l.data_words in
     (k : ℕ) → l.i + k ≡ l.pointers →
-    check_pointers (check_within l.schema r.levels) l.rows (words_from r d) 0 l.pointers (place_past r d) l.fn.lim
-    ≡ check_pointers (check_within l.schema r.levels) l.rows (words_from r d) l.i k (place_past (place_past r d) l.i) l.lim
+    check_pointers (check_within l.table r.levels) ps 0 l.pointers first l.fn.lim
+    ≡ check_pointers (check_within l.table r.levels) ps l.i k (place_past first l.i) l.lim
 
 abbrev pub invariant-check_elements-loop-i : goal.invariant-check_elements-loop-i
 invariant-check_elements-loop-i g l =
@@ -31,5 +33,5 @@ invariant-check_elements-loop-i g l =
     let d : ℕ = l.data_words in
     let q : ℕ = l.pointers in
     (k : ℕ) → l.i + k ≡ l.count →
-    check_elements (check_within l.schema r.levels) l.rows d q l.count r l.fn.lim
-    ≡ check_elements (check_within l.schema r.levels) l.rows d q k (place_past r (l.i * (d + q))) l.lim
+    check_elements (check_within l.table r.levels) (schema_pointer l.table l.row) d q l.count r l.fn.lim
+    ≡ check_elements (check_within l.table r.levels) (schema_pointer l.table l.row) d q k (place_past r (l.i * (d + q))) l.lim

@@ -2,7 +2,8 @@ use Rattle.std.proofs.Common.{ap, sym, arith, inl, inr}
 use Rattle.capnp_objects.specs.Reading.{source_start}
 use Rattle.capnp_readers.specs.Values.{child_cost, list_numbers, struct_data}
 use Rattle.typed_reading.specs.Values.{child}
-use Rattle.typed_conforming.specs.Conforms.{Conforms, wanted}
+use Rattle.typed_conforming.specs.Conforms.{Conforms}
+use Rattle.typed_conforming.specs.Tables.{wanted}
 use Rattle.typed_conforming.specs.declared.schema.Kind.TheVariants.{Data}
 use Rattle.typed_conforming.proofs.Checking.{affords_all, child_conforms, child_past, kind_of, ok_from}
 use Rattle.typed_conforming.proofs.checked.CheckedStruct.get_data.Goals as goal
@@ -12,9 +13,9 @@ unwrap-requires g c =
     ok_from c.get_data.result c.args.self.now.conforms (λ x. elim x [
       | inr none ↦ absurd (omega (arith, none))
       | inl s ↦
-          let T = c.args.self.now.schema.now in
-          let ps = c.args.self.now.pointers.now in
-          let h : Conforms T (wanted ps (struct_data s.struct) c.args.index) (child c.args.index s.struct) = child_conforms T ps c.args.index s.struct s.shows.is_struct s.conforms in
+          let T = c.args.self.now.table.now in
+          let row = c.args.self.now.row in
+          let h : Conforms T (wanted T row (struct_data s.struct) c.args.index) (child c.args.index s.struct) = child_conforms T row c.args.index s.struct s.shows.is_struct s.conforms in
           c.get_data.ensures.answered s.struct s.shows (kind_of T Data (child c.args.index s.struct) (rw (c.requires s.struct s.shows) at h))
           (affords_all (source_start g.A.ReaderArena c.args.self.now.reader.source).charging _ (child_cost g.A.ReaderArena s.shows c.args.index) (ap (λ m. m.left) c.new-unlimited.ensures))
     ])

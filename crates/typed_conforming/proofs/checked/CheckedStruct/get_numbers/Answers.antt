@@ -2,7 +2,8 @@ use Rattle.std.proofs.Common.{ap, inl, inr}
 use Rattle.capnp_objects.specs.Reading.{source_start}
 use Rattle.capnp_readers.specs.Values.{child_cost, struct_data}
 use Rattle.typed_reading.specs.Values.{child}
-use Rattle.typed_conforming.specs.Conforms.{Conforms, wanted}
+use Rattle.typed_conforming.specs.Conforms.{Conforms}
+use Rattle.typed_conforming.specs.Tables.{wanted}
 use Rattle.typed_conforming.proofs.Checking.{affords_all, child_conforms, elements_fit, ok_from, read_past}
 use Rattle.typed_conforming.proofs.checked.CheckedStruct.get_numbers.Goals as goal
 
@@ -11,9 +12,9 @@ unwrap-requires g c =
     ok_from c.get_numbers.result c.args.self.now.conforms (λ x. elim x [
       | inr none ↦ read_past g.A.ReaderArena c.args.self.now.reader c.args.index _ _ _ c.get_numbers.result none c.get_numbers.ensures.exactly
       | inl s ↦
-          let T = c.args.self.now.schema.now in
-          let ps = c.args.self.now.pointers.now in
-          let h : Conforms T (wanted ps (struct_data s.struct) c.args.index) (child c.args.index s.struct) = child_conforms T ps c.args.index s.struct s.shows.is_struct s.conforms in
+          let T = c.args.self.now.table.now in
+          let row = c.args.self.now.row in
+          let h : Conforms T (wanted T row (struct_data s.struct) c.args.index) (child c.args.index s.struct) = child_conforms T row c.args.index s.struct s.shows.is_struct s.conforms in
           c.get_numbers.ensures.answered s.struct s.shows (elements_fit T _ g.T.PrimitiveElement.size (child c.args.index s.struct) (c.requires s.struct s.shows) h)
           (affords_all (source_start g.A.ReaderArena c.args.self.now.reader.source).charging _ (child_cost g.A.ReaderArena s.shows c.args.index) (ap (λ m. m.left) c.new-unlimited.ensures))
     ])

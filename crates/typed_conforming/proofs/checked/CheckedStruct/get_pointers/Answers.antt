@@ -5,7 +5,8 @@ use Rattle.capnp_objects.specs.Reading.{source_start}
 use Rattle.capnp_words.specs.declared.wire_pointer.ElementSize.TheVariants.{Pointer}
 use Rattle.capnp_readers.specs.Values.{ShowsListOf, child_cost, struct_data}
 use Rattle.typed_reading.specs.Values.{child}
-use Rattle.typed_conforming.specs.Conforms.{Conforms, wanted}
+use Rattle.typed_conforming.specs.Conforms.{Conforms}
+use Rattle.typed_conforming.specs.Tables.{wanted}
 use Rattle.typed_conforming.specs.Checked.{IsCheckedList}
 use Rattle.typed_conforming.specs.declared.schema.Kind.TheVariants.{List}
 use Rattle.typed_conforming.proofs.Checking.{affords_all, child_conforms, child_past, elements_conform, empty_list, kind_of, ok_from}
@@ -13,7 +14,7 @@ use Rattle.typed_conforming.proofs.checked.CheckedStruct.get_pointers.Goals as g
 
 pub invariant_of-result-then-index-self : goal.invariant_of-result-then-index-self
 invariant_of-result-then-index-self g c =
-    let checked : IsCheckedList g.A.ReaderArena c.args.self.now.schema.now c.row_pointers-pointers.result.now c.new_default.result = record {
+    let checked : IsCheckedList g.A.ReaderArena c.args.self.now.table.now c.args.row c.new_default.result = record {
       list = Null;
       shows = empty_list g.A.ReaderArena c.new_default.result c.new_default.ensures.elements.1;
       conforms = tt;
@@ -30,27 +31,27 @@ unwrap-list-requires g c =
     ok_from c.get_pointers.result c.args.self.now.conforms (λ x. elim x [
       | inr none ↦ absurd (omega (arith, none))
       | inl s ↦
-          let T = c.args.self.now.schema.now in
-          let ps = c.args.self.now.pointers.now in
-          let h : Conforms T (wanted ps (struct_data s.struct) c.args.index) (child c.args.index s.struct) = child_conforms T ps c.args.index s.struct s.shows.is_struct s.conforms in
+          let T = c.args.self.now.table.now in
+          let row = c.args.self.now.row in
+          let h : Conforms T (wanted T row (struct_data s.struct) c.args.index) (child c.args.index s.struct) = child_conforms T row c.args.index s.struct s.shows.is_struct s.conforms in
           c.get_pointers.ensures.answered s.struct s.shows (kind_of T (List Pointer c.args.row) (child c.args.index s.struct) (rw (c.requires s.struct s.shows) at h))
           (affords_all (source_start g.A.ReaderArena c.args.self.now.reader.source).charging _ (child_cost g.A.ReaderArena s.shows c.args.index) (ap (λ m. m.left) c.new-unlimited.ensures))
     ])
 
 pub invariant_of-result-3 : goal.invariant_of-result-3
 invariant_of-result-3 g c = record {
-  conforms = ∥∥₁_map {B = IsCheckedList g.A.ReaderArena c.args.self.now.schema.now c.row_pointers-pointers.result.now c.unwrap-list.result.reader} c.args.self.now.conforms (λ x. elim x [
+  conforms = ∥∥₁_map {B = IsCheckedList g.A.ReaderArena c.args.self.now.table.now c.args.row c.unwrap-list.result.reader} c.args.self.now.conforms (λ x. elim x [
     | inr none ↦ absurd (omega (arith, none))
     | inl s ↦
-        let T = c.args.self.now.schema.now in
-        let ps = c.args.self.now.pointers.now in
+        let T = c.args.self.now.table.now in
+        let row = c.args.self.now.row in
         let i = c.args.index in
-        let h : Conforms T (wanted ps (struct_data s.struct) i) (child i s.struct) = child_conforms T ps i s.struct s.shows.is_struct s.conforms in
+        let h : Conforms T (wanted T row (struct_data s.struct) i) (child i s.struct) = child_conforms T row i s.struct s.shows.is_struct s.conforms in
         let own : Conforms T (List Pointer c.args.row) (child i s.struct) = rw (c.requires s.struct s.shows) at h in
         record {
           list = child i s.struct;
           shows = rw c.unwrap-list.ensures at (c.get_pointers.ensures.value s.struct s.shows);
-          conforms = rw c.row_pointers-pointers.ensures (elements_conform T Pointer c.args.row (child i s.struct) own);
+          conforms = elements_conform T Pointer c.args.row (child i s.struct) own;
           words = (rw c.unwrap-list.ensures at c.get_pointers.ensures.stays).words s.words;
         }
   ]);

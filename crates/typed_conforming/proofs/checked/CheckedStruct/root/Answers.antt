@@ -1,4 +1,5 @@
-use Rattle.std.proofs.Common.{inl, refl}
+use Rattle.std.proofs.Common.{inl, inr, refl}
+use Rattle.std.proofs.lemmas.Bool.{false≢true}
 use Rattle.capnp_format.specs.Bytes.{message}
 use Rattle.capnp_format.specs.Means.{Means}
 use Rattle.capnp_objects.specs.Source.{levels}
@@ -18,10 +19,10 @@ invariant_of-result g c =
     let root = c.in-Ok.ensures in
     let found = (c.in-Ok-conforms.ensures.exactly (rw root.source c.requires.words)).0 refl in
     let means : Means (message (g.A.ReaderArena.segments c.args.arena.now)) (levels (g.A.ReaderArena.nesting c.args.arena.now)) 0 0 found.0 found.1 = rw (root.source, root.place.0, root.place.1, root.nesting) at found.3 in
-    let checked : ShowsConforming g.A.ReaderArena c.args.schema.now c.row_pointers.result.now c.unwrap-reader.result = record {
+    let checked : ShowsConforming g.A.ReaderArena c.args.table.now c.args.row c.unwrap-reader.result = record {
       struct = found.0;
       shows = rw c.unwrap-reader.ensures at (c.root.ensures.value found.0 found.1 means);
-      conforms = rw c.row_pointers.ensures (children_conform c.args.schema.now c.args.row found.0 found.2);
+      conforms = children_conform c.args.table.now c.args.row found.0 found.2;
       words = (rw c.unwrap-reader.ensures at c.root.ensures.stays).words c.requires.words;
     } in
     record { conforms = ∣ inl checked ∣₁ }
@@ -36,3 +37,11 @@ pub returns-clause-spent : goal.returns-clause-spent
 returns-clause-spent g c =
     let root = c.in-Ok.ensures in
     λ t k means. rw (root.source, root.granted) at (c.in-Ok-conforms.ensures.spent t k (rw root.source c.requires.words) (rw (root.source, root.place.0, root.place.1, root.nesting) means))
+
+pub returns-in-Err-clause-refused : goal.returns-in-Err-clause-refused
+returns-in-Err-clause-refused g c = inl ((λ both. false≢true (c.in-Err.ensures.exactly.1 both)), refl)
+
+pub returns-in-Err-conforms-clause-refused : goal.returns-in-Err-conforms-clause-refused
+returns-in-Err-conforms-clause-refused g c =
+    let root = c.in-Ok.ensures in
+    inr (rw (root.source, root.place.0, root.place.1, root.nesting) at c.in-Err-conforms.ensures.refused)
