@@ -7,7 +7,7 @@
  *   - as its segments, as MessageReader::getSegment and Rust's ReaderSegments give them: capnp_canonical_segments_*;
  *   - as its raw words, which are a message of one segment without its segment table: capnp_canonical_words_*. Calls
  *     named `flat` write raw words.
- * Unpack packed bytes ("Packing") first, with capnp_canonical_unpack.
+ * Unpack packed bytes ("Packing") first, with capnp_canonical_unpack; capnp_canonical_pack packs frames.
  *
  * Two messages have the same canonical bytes exactly if their values are equal once zeros and nulls at the ends of
  * structs are dropped (docs/THEOREM.md).
@@ -311,6 +311,12 @@ struct capnp_canonical_segment {
     size_t size;
 };
 
+/* A constant text: its bytes, with a terminating zero, and their number, which counts the zero. */
+struct capnp_canonical_text {
+    const char *bytes;
+    size_t size;
+};
+
 /* Makes the message at `frame` canonical. Writes it as a frame of one segment to the front of the `room` bytes at `to`,
  * and its size in bytes to `*written`. `frame_size` is the number of bytes at `frame`; bytes after the end of the frame
  * are ignored.
@@ -333,6 +339,20 @@ uint32_t capnp_canonical_copy_flat(const uint8_t *frame, size_t frame_size, int3
  * the 32 bytes are 0. */
 CAPNP_CANONICAL_API CAPNP_CANONICAL_CHECKED CAPNP_CANONICAL_NEEDS(5) CAPNP_CANONICAL_READS(1, 2)
 uint32_t capnp_canonical_digest(const uint8_t *frame, size_t frame_size, int32_t nesting, uint64_t words, uint8_t digest[32]);
+
+/* The same, but hashes the `prefix_size` bytes at `prefix` first, and the canonical words after them. Canonical words don't
+ * tell their type: with the 8 bytes of a type id as the prefix, the digest and a signature of it cover the type. The
+ * prefixes of all digests that are compared should have one size, or none should begin with another. The refusals are those
+ * of capnp_canonical_digest. */
+CAPNP_CANONICAL_API CAPNP_CANONICAL_CHECKED CAPNP_CANONICAL_NEEDS(7) CAPNP_CANONICAL_READS(1, 2) CAPNP_CANONICAL_READS(3, 4)
+uint32_t capnp_canonical_digest_with(const uint8_t *prefix, size_t prefix_size, const uint8_t *frame, size_t frame_size, int32_t nesting, uint64_t words, uint8_t digest[32]);
+
+/* Tests whether two messages mean equal values, and writes the answer to `*is_equal`: whether capnp_canonical_copy_flat
+ * writes the same bytes for both. Each is read within both limits. The refusals are those of capnp_canonical_digest: the
+ * one of the first message if there is one, and otherwise the other's. `*is_equal` is then false. A message of 64 words or
+ * more that is canonical already is compared in its buffer, without memory. */
+CAPNP_CANONICAL_API CAPNP_CANONICAL_CHECKED CAPNP_CANONICAL_NEEDS(7) CAPNP_CANONICAL_READS(1, 2) CAPNP_CANONICAL_READS(3, 4)
+uint32_t capnp_canonical_equal(const uint8_t *one, size_t one_size, const uint8_t *other, size_t other_size, int32_t nesting, uint64_t words, bool *is_equal);
 
 /* Tests whether the message of the frame at the front of `frame_size` bytes is canonical: one segment, which holds the
  * canonical words of a value and nothing else. Writes the answer to `*is_canonical`. If it is true, the value is also
@@ -383,7 +403,7 @@ uint32_t capnp_canonical_locate(const uint8_t *frame, size_t frame_size, int32_t
 CAPNP_CANONICAL_API CAPNP_CANONICAL_CHECKED CAPNP_CANONICAL_NEEDS(7) CAPNP_CANONICAL_READS(1, 2) CAPNP_CANONICAL_WRITES(5, 6)
 uint32_t capnp_canonical_walk(const uint8_t *frame, size_t frame_size, int32_t nesting, uint64_t words, struct capnp_canonical_object *objects, size_t room, size_t *count);
 
-/* copy_flat, digest and size for a part of the message: for the value at the end of a path. If
+/* copy_flat, digest, digest_with and size for a part of the message: for the value at the end of a path. If
  * `struct Signed { payload @0 :Payload; signature @1 :Data; }` is the root, the path {0} leads to the payload, whose words
  * can be signed. `path` is `steps` indexes; it may be null if `steps` is 0, which leads to the root pointer. An index
  * leads from a struct to its pointer with this index, which isn't the field's number: only pointers count, and a schema's
@@ -403,6 +423,9 @@ uint32_t capnp_canonical_copy_flat_at(const uint8_t *frame, size_t frame_size, c
 CAPNP_CANONICAL_API CAPNP_CANONICAL_CHECKED CAPNP_CANONICAL_NEEDS(7) CAPNP_CANONICAL_READS(1, 2) CAPNP_CANONICAL_READS(3, 4)
 uint32_t capnp_canonical_digest_at(const uint8_t *frame, size_t frame_size, const uint32_t *path, size_t steps, int32_t nesting, uint64_t words, uint8_t digest[32]);
 
+CAPNP_CANONICAL_API CAPNP_CANONICAL_CHECKED CAPNP_CANONICAL_NEEDS(9) CAPNP_CANONICAL_READS(1, 2) CAPNP_CANONICAL_READS(3, 4) CAPNP_CANONICAL_READS(5, 6)
+uint32_t capnp_canonical_digest_with_at(const uint8_t *prefix, size_t prefix_size, const uint8_t *frame, size_t frame_size, const uint32_t *path, size_t steps, int32_t nesting, uint64_t words, uint8_t digest[32]);
+
 CAPNP_CANONICAL_API CAPNP_CANONICAL_CHECKED CAPNP_CANONICAL_NEEDS(7, 8) CAPNP_CANONICAL_READS(1, 2) CAPNP_CANONICAL_READS(3, 4)
 uint32_t capnp_canonical_size_at(const uint8_t *frame, size_t frame_size, const uint32_t *path, size_t steps, int32_t nesting, uint64_t words, uint64_t *word_count, uint32_t *cap_count);
 
@@ -420,9 +443,9 @@ uint32_t capnp_canonical_frame_size(const uint8_t *frame, size_t size, uint64_t 
 CAPNP_CANONICAL_API CAPNP_CANONICAL_CHECKED CAPNP_CANONICAL_NEEDS(4) CAPNP_CANONICAL_READS(1, 2)
 uint32_t capnp_canonical_frame_size_from_prefix(const uint8_t *prefix, size_t size, uint64_t words, size_t *bytes);
 
-/* copy, copy_flat, digest, check, size, validate, locate and walk, and the three calls for a part, for a message of
- * `count` segments. There may be more segments than a frame can have. If there are none there is no root, and the call is
- * refused with CAPNP_CANONICAL_INVALID_SEGMENT_ID. */
+/* copy, copy_flat, digest, digest_with, equal, check, size, validate, locate and walk, and the four calls for a part, for a
+ * message of `count` segments. There may be more segments than a frame can have. If there are none there is no root, and
+ * the call is refused with CAPNP_CANONICAL_INVALID_SEGMENT_ID. */
 CAPNP_CANONICAL_API CAPNP_CANONICAL_CHECKED CAPNP_CANONICAL_NEEDS(7) CAPNP_CANONICAL_READS(1, 2) CAPNP_CANONICAL_WRITES(5, 6)
 uint32_t capnp_canonical_segments_copy(const struct capnp_canonical_segment *segments, size_t count, int32_t nesting, uint64_t words, uint8_t *to, size_t room, size_t *written);
 
@@ -431,6 +454,12 @@ uint32_t capnp_canonical_segments_copy_flat(const struct capnp_canonical_segment
 
 CAPNP_CANONICAL_API CAPNP_CANONICAL_CHECKED CAPNP_CANONICAL_NEEDS(5) CAPNP_CANONICAL_READS(1, 2)
 uint32_t capnp_canonical_segments_digest(const struct capnp_canonical_segment *segments, size_t count, int32_t nesting, uint64_t words, uint8_t digest[32]);
+
+CAPNP_CANONICAL_API CAPNP_CANONICAL_CHECKED CAPNP_CANONICAL_NEEDS(7) CAPNP_CANONICAL_READS(1, 2) CAPNP_CANONICAL_READS(3, 4)
+uint32_t capnp_canonical_segments_digest_with(const uint8_t *prefix, size_t prefix_size, const struct capnp_canonical_segment *segments, size_t count, int32_t nesting, uint64_t words, uint8_t digest[32]);
+
+CAPNP_CANONICAL_API CAPNP_CANONICAL_CHECKED CAPNP_CANONICAL_NEEDS(7) CAPNP_CANONICAL_READS(1, 2) CAPNP_CANONICAL_READS(3, 4)
+uint32_t capnp_canonical_segments_equal(const struct capnp_canonical_segment *one, size_t one_count, const struct capnp_canonical_segment *other, size_t other_count, int32_t nesting, uint64_t words, bool *is_equal);
 
 CAPNP_CANONICAL_API CAPNP_CANONICAL_CHECKED CAPNP_CANONICAL_NEEDS(5, 6) CAPNP_CANONICAL_READS(1, 2)
 uint32_t capnp_canonical_segments_check(const struct capnp_canonical_segment *segments, size_t count, int32_t nesting, uint64_t words, bool *is_canonical, struct capnp_canonical_fault *fault);
@@ -453,6 +482,9 @@ uint32_t capnp_canonical_segments_copy_flat_at(const struct capnp_canonical_segm
 CAPNP_CANONICAL_API CAPNP_CANONICAL_CHECKED CAPNP_CANONICAL_NEEDS(7) CAPNP_CANONICAL_READS(1, 2) CAPNP_CANONICAL_READS(3, 4)
 uint32_t capnp_canonical_segments_digest_at(const struct capnp_canonical_segment *segments, size_t count, const uint32_t *path, size_t steps, int32_t nesting, uint64_t words, uint8_t digest[32]);
 
+CAPNP_CANONICAL_API CAPNP_CANONICAL_CHECKED CAPNP_CANONICAL_NEEDS(9) CAPNP_CANONICAL_READS(1, 2) CAPNP_CANONICAL_READS(3, 4) CAPNP_CANONICAL_READS(5, 6)
+uint32_t capnp_canonical_segments_digest_with_at(const uint8_t *prefix, size_t prefix_size, const struct capnp_canonical_segment *segments, size_t count, const uint32_t *path, size_t steps, int32_t nesting, uint64_t words, uint8_t digest[32]);
+
 CAPNP_CANONICAL_API CAPNP_CANONICAL_CHECKED CAPNP_CANONICAL_NEEDS(7, 8) CAPNP_CANONICAL_READS(1, 2) CAPNP_CANONICAL_READS(3, 4)
 uint32_t capnp_canonical_segments_size_at(const struct capnp_canonical_segment *segments, size_t count, const uint32_t *path, size_t steps, int32_t nesting, uint64_t words, uint64_t *word_count, uint32_t *cap_count);
 
@@ -465,6 +497,12 @@ uint32_t capnp_canonical_words_copy(const uint8_t *message, size_t size, int32_t
 
 CAPNP_CANONICAL_API CAPNP_CANONICAL_CHECKED CAPNP_CANONICAL_NEEDS(5) CAPNP_CANONICAL_READS(1, 2)
 uint32_t capnp_canonical_words_digest(const uint8_t *message, size_t size, int32_t nesting, uint64_t words, uint8_t digest[32]);
+
+CAPNP_CANONICAL_API CAPNP_CANONICAL_CHECKED CAPNP_CANONICAL_NEEDS(7) CAPNP_CANONICAL_READS(1, 2) CAPNP_CANONICAL_READS(3, 4)
+uint32_t capnp_canonical_words_digest_with(const uint8_t *prefix, size_t prefix_size, const uint8_t *message, size_t size, int32_t nesting, uint64_t words, uint8_t digest[32]);
+
+CAPNP_CANONICAL_API CAPNP_CANONICAL_CHECKED CAPNP_CANONICAL_NEEDS(7) CAPNP_CANONICAL_READS(1, 2) CAPNP_CANONICAL_READS(3, 4)
+uint32_t capnp_canonical_words_equal(const uint8_t *one, size_t one_size, const uint8_t *other, size_t other_size, int32_t nesting, uint64_t words, bool *is_equal);
 
 CAPNP_CANONICAL_API CAPNP_CANONICAL_CHECKED CAPNP_CANONICAL_NEEDS(5, 6) CAPNP_CANONICAL_READS(1, 2)
 uint32_t capnp_canonical_words_check(const uint8_t *message, size_t size, int32_t nesting, uint64_t words, bool *is_canonical, struct capnp_canonical_fault *fault);
@@ -486,6 +524,9 @@ uint32_t capnp_canonical_words_copy_at(const uint8_t *message, size_t size, cons
 
 CAPNP_CANONICAL_API CAPNP_CANONICAL_CHECKED CAPNP_CANONICAL_NEEDS(7) CAPNP_CANONICAL_READS(1, 2) CAPNP_CANONICAL_READS(3, 4)
 uint32_t capnp_canonical_words_digest_at(const uint8_t *message, size_t size, const uint32_t *path, size_t steps, int32_t nesting, uint64_t words, uint8_t digest[32]);
+
+CAPNP_CANONICAL_API CAPNP_CANONICAL_CHECKED CAPNP_CANONICAL_NEEDS(9) CAPNP_CANONICAL_READS(1, 2) CAPNP_CANONICAL_READS(3, 4) CAPNP_CANONICAL_READS(5, 6)
+uint32_t capnp_canonical_words_digest_with_at(const uint8_t *prefix, size_t prefix_size, const uint8_t *message, size_t size, const uint32_t *path, size_t steps, int32_t nesting, uint64_t words, uint8_t digest[32]);
 
 CAPNP_CANONICAL_API CAPNP_CANONICAL_CHECKED CAPNP_CANONICAL_NEEDS(7, 8) CAPNP_CANONICAL_READS(1, 2) CAPNP_CANONICAL_READS(3, 4)
 uint32_t capnp_canonical_words_size_at(const uint8_t *message, size_t size, const uint32_t *path, size_t steps, int32_t nesting, uint64_t words, uint64_t *word_count, uint32_t *cap_count);
@@ -518,6 +559,23 @@ uint32_t capnp_canonical_unpack(const uint8_t *packed, size_t packed_size, uint8
  * The packed bytes and those at `to` may not overlap. */
 CAPNP_CANONICAL_API CAPNP_CANONICAL_CHECKED CAPNP_CANONICAL_NEEDS(1, 6) CAPNP_CANONICAL_READS(2, 3) CAPNP_CANONICAL_WRITES(4, 5)
 size_t capnp_canonical_unpack_piece(struct capnp_canonical_unpacking *unpacking, const uint8_t *packed, size_t packed_size, uint8_t *to, size_t room, size_t *taken);
+
+/* Packs the `size` bytes at `message`, which are whole words, to the front of the `room` bytes at `to`, and writes to
+ * `*written` how many packed bytes there are. This turns the frames that capnp_canonical_copy, capnp_finish of capnp_layout.h
+ * or `capnp encode` write into what `capnp encode --packed` writes. Raw words can be packed too, but no program expects that.
+ * Takes no memory.
+ *
+ * CAPNP_CANONICAL_NO_ROOM means that there are more than `room` packed bytes, and `*written` says how many; so pass null
+ * and 0 to ask for the size. capnp_canonical_pack_bound(size) bytes are always enough. If `size` isn't a multiple of 8 the
+ * answer is CAPNP_CANONICAL_SEGMENT_IS_NOT_WHOLE_WORDS, and `*written` is 0. There is no other refusal. Bytes of `to` after
+ * those written stay as they are, and after a refusal all of them do. */
+CAPNP_CANONICAL_API CAPNP_CANONICAL_CHECKED CAPNP_CANONICAL_NEEDS(5) CAPNP_CANONICAL_READS(1, 2) CAPNP_CANONICAL_WRITES(3, 4)
+uint32_t capnp_canonical_pack(const uint8_t *message, size_t size, uint8_t *to, size_t room, size_t *written);
+
+/* Writes the text of an answer to `*text`: a constant of the library, so that a refusal has its text even if it is newer than
+ * this header. capnp_canonical_strerror returns it. */
+CAPNP_CANONICAL_API CAPNP_CANONICAL_NEEDS(2)
+void capnp_canonical_answer_text(uint32_t answer, struct capnp_canonical_text *text);
 
 /* Writes the name of a refusal, such as `Truncated`, and a terminating zero to the `room` bytes at `to`, like snprintf:
  * if the room is too small the name is cut, and the zero is still written unless `room` is 0. Returns the length of the
@@ -602,6 +660,19 @@ CAPNP_CANONICAL_INLINE uint64_t capnp_canonical_bound(uint64_t words) {
     return 8 + 8 * (words < most ? words : most);
 }
 
+/* How many bytes are always enough for what capnp_canonical_pack makes of `size` bytes, at most SIZE_MAX. */
+CAPNP_CANONICAL_INLINE size_t capnp_canonical_pack_bound(size_t size) {
+    return size > SIZE_MAX - size / 4 ? SIZE_MAX : size + size / 4;
+}
+
+/* The text that the library has for an answer, such as `the bytes end inside a frame or a packed word`: a constant, for any
+ * number. It is what strerror is for errno. */
+CAPNP_CANONICAL_INLINE const char *capnp_canonical_strerror(uint32_t answer) {
+    struct capnp_canonical_text text = {"", 1};
+    capnp_canonical_answer_text(answer, &text);
+    return text.bytes;
+}
+
 /* The name of a refusal as capnp_canonical_name writes it, but as a constant. Empty if the number isn't one of enum
  * capnp_canonical_answer. */
 CAPNP_CANONICAL_INLINE const char *capnp_canonical_error_name(uint32_t answer) {
@@ -631,8 +702,8 @@ CAPNP_CANONICAL_INLINE const char *capnp_canonical_error_name(uint32_t answer) {
     }
 }
 
-/* The text of a refusal, such as `the bytes end inside a frame or a packed word`, as a constant. It is what strerror is
- * for errno, but as this header has it: a newer library may return refusals whose names only capnp_canonical_name knows. */
+/* The text that this header has for a refusal. A newer library may return refusals whose texts only
+ * capnp_canonical_strerror knows. */
 CAPNP_CANONICAL_INLINE const char *capnp_canonical_error_text(uint32_t answer) {
     switch (answer) {
     case CAPNP_CANONICAL_DONE: return "the call is done";

@@ -53,6 +53,12 @@ CAPNP_CANONICAL_INLINE uint32_t capnp_canonical_digest_within(const uint8_t *fra
     return capnp_canonical_digest(frame, frame_size, held.nesting, held.words, digest);
 }
 
+CAPNP_CANONICAL_CHECKED CAPNP_CANONICAL_NEEDS(6)
+CAPNP_CANONICAL_INLINE uint32_t capnp_canonical_digest_with_within(const uint8_t *prefix, size_t prefix_size, const uint8_t *frame, size_t frame_size, const struct capnp_canonical_limits *limits, uint8_t digest[32]) {
+    const struct capnp_canonical_limits held = capnp_canonical_private_limits(limits);
+    return capnp_canonical_digest_with(prefix, prefix_size, frame, frame_size, held.nesting, held.words, digest);
+}
+
 CAPNP_CANONICAL_CHECKED
 CAPNP_CANONICAL_INLINE uint32_t capnp_canonical_check_within(const uint8_t *frame, size_t frame_size, const struct capnp_canonical_limits *limits, bool *is_canonical, struct capnp_canonical_fault *fault) {
     const struct capnp_canonical_limits held = capnp_canonical_private_limits(limits);
@@ -103,6 +109,12 @@ CAPNP_CANONICAL_INLINE uint32_t capnp_canonical_digest_at_within(const uint8_t *
     return capnp_canonical_digest_at(frame, frame_size, path, steps, held.nesting, held.words, digest);
 }
 
+CAPNP_CANONICAL_CHECKED CAPNP_CANONICAL_NEEDS(8)
+CAPNP_CANONICAL_INLINE uint32_t capnp_canonical_digest_with_at_within(const uint8_t *prefix, size_t prefix_size, const uint8_t *frame, size_t frame_size, const uint32_t *path, size_t steps, const struct capnp_canonical_limits *limits, uint8_t digest[32]) {
+    const struct capnp_canonical_limits held = capnp_canonical_private_limits(limits);
+    return capnp_canonical_digest_with_at(prefix, prefix_size, frame, frame_size, path, steps, held.nesting, held.words, digest);
+}
+
 CAPNP_CANONICAL_CHECKED
 CAPNP_CANONICAL_INLINE uint32_t capnp_canonical_size_at_within(const uint8_t *frame, size_t frame_size, const uint32_t *path, size_t steps, const struct capnp_canonical_limits *limits, uint64_t *word_count, uint32_t *capability_count) {
     const struct capnp_canonical_limits held = capnp_canonical_private_limits(limits);
@@ -130,6 +142,18 @@ CAPNP_CANONICAL_CHECKED CAPNP_CANONICAL_NEEDS(4)
 CAPNP_CANONICAL_INLINE uint32_t capnp_canonical_segments_digest_within(const struct capnp_canonical_segment *segments, size_t count, const struct capnp_canonical_limits *limits, uint8_t digest[32]) {
     const struct capnp_canonical_limits held = capnp_canonical_private_limits(limits);
     return capnp_canonical_segments_digest(segments, count, held.nesting, held.words, digest);
+}
+
+CAPNP_CANONICAL_CHECKED CAPNP_CANONICAL_NEEDS(6)
+CAPNP_CANONICAL_INLINE uint32_t capnp_canonical_segments_digest_with_within(const uint8_t *prefix, size_t prefix_size, const struct capnp_canonical_segment *segments, size_t count, const struct capnp_canonical_limits *limits, uint8_t digest[32]) {
+    const struct capnp_canonical_limits held = capnp_canonical_private_limits(limits);
+    return capnp_canonical_segments_digest_with(prefix, prefix_size, segments, count, held.nesting, held.words, digest);
+}
+
+CAPNP_CANONICAL_CHECKED CAPNP_CANONICAL_NEEDS(6)
+CAPNP_CANONICAL_INLINE uint32_t capnp_canonical_segments_equal_within(const struct capnp_canonical_segment *one, size_t one_count, const struct capnp_canonical_segment *other, size_t other_count, const struct capnp_canonical_limits *limits, bool *is_equal) {
+    const struct capnp_canonical_limits held = capnp_canonical_private_limits(limits);
+    return capnp_canonical_segments_equal(one, one_count, other, other_count, held.nesting, held.words, is_equal);
 }
 
 CAPNP_CANONICAL_CHECKED
@@ -182,6 +206,12 @@ CAPNP_CANONICAL_INLINE uint32_t capnp_canonical_segments_digest_at_within(const 
     return capnp_canonical_segments_digest_at(segments, count, path, steps, held.nesting, held.words, digest);
 }
 
+CAPNP_CANONICAL_CHECKED CAPNP_CANONICAL_NEEDS(8)
+CAPNP_CANONICAL_INLINE uint32_t capnp_canonical_segments_digest_with_at_within(const uint8_t *prefix, size_t prefix_size, const struct capnp_canonical_segment *segments, size_t count, const uint32_t *path, size_t steps, const struct capnp_canonical_limits *limits, uint8_t digest[32]) {
+    const struct capnp_canonical_limits held = capnp_canonical_private_limits(limits);
+    return capnp_canonical_segments_digest_with_at(prefix, prefix_size, segments, count, path, steps, held.nesting, held.words, digest);
+}
+
 CAPNP_CANONICAL_CHECKED
 CAPNP_CANONICAL_INLINE uint32_t capnp_canonical_segments_size_at_within(const struct capnp_canonical_segment *segments, size_t count, const uint32_t *path, size_t steps, const struct capnp_canonical_limits *limits, uint64_t *word_count, uint32_t *capability_count) {
     const struct capnp_canonical_limits held = capnp_canonical_private_limits(limits);
@@ -202,6 +232,18 @@ CAPNP_CANONICAL_CHECKED CAPNP_CANONICAL_NEEDS(4)
 CAPNP_CANONICAL_INLINE uint32_t capnp_canonical_words_digest_within(const uint8_t *message, size_t size, const struct capnp_canonical_limits *limits, uint8_t digest[32]) {
     const struct capnp_canonical_limits held = capnp_canonical_private_limits(limits);
     return capnp_canonical_words_digest(message, size, held.nesting, held.words, digest);
+}
+
+CAPNP_CANONICAL_CHECKED CAPNP_CANONICAL_NEEDS(6)
+CAPNP_CANONICAL_INLINE uint32_t capnp_canonical_words_digest_with_within(const uint8_t *prefix, size_t prefix_size, const uint8_t *message, size_t size, const struct capnp_canonical_limits *limits, uint8_t digest[32]) {
+    const struct capnp_canonical_limits held = capnp_canonical_private_limits(limits);
+    return capnp_canonical_words_digest_with(prefix, prefix_size, message, size, held.nesting, held.words, digest);
+}
+
+CAPNP_CANONICAL_CHECKED CAPNP_CANONICAL_NEEDS(6)
+CAPNP_CANONICAL_INLINE uint32_t capnp_canonical_words_equal_within(const uint8_t *one, size_t one_size, const uint8_t *other, size_t other_size, const struct capnp_canonical_limits *limits, bool *is_equal) {
+    const struct capnp_canonical_limits held = capnp_canonical_private_limits(limits);
+    return capnp_canonical_words_equal(one, one_size, other, other_size, held.nesting, held.words, is_equal);
 }
 
 CAPNP_CANONICAL_CHECKED
@@ -254,6 +296,12 @@ CAPNP_CANONICAL_INLINE uint32_t capnp_canonical_words_digest_at_within(const uin
     return capnp_canonical_words_digest_at(message, size, path, steps, held.nesting, held.words, digest);
 }
 
+CAPNP_CANONICAL_CHECKED CAPNP_CANONICAL_NEEDS(8)
+CAPNP_CANONICAL_INLINE uint32_t capnp_canonical_words_digest_with_at_within(const uint8_t *prefix, size_t prefix_size, const uint8_t *message, size_t size, const uint32_t *path, size_t steps, const struct capnp_canonical_limits *limits, uint8_t digest[32]) {
+    const struct capnp_canonical_limits held = capnp_canonical_private_limits(limits);
+    return capnp_canonical_words_digest_with_at(prefix, prefix_size, message, size, path, steps, held.nesting, held.words, digest);
+}
+
 CAPNP_CANONICAL_CHECKED
 CAPNP_CANONICAL_INLINE uint32_t capnp_canonical_words_size_at_within(const uint8_t *message, size_t size, const uint32_t *path, size_t steps, const struct capnp_canonical_limits *limits, uint64_t *word_count, uint32_t *capability_count) {
     const struct capnp_canonical_limits held = capnp_canonical_private_limits(limits);
@@ -262,18 +310,11 @@ CAPNP_CANONICAL_INLINE uint32_t capnp_canonical_words_size_at_within(const uint8
     return capnp_canonical_words_size_at(message, size, path, steps, held.nesting, held.words, word_count ? word_count : &unwanted_words, capability_count ? capability_count : &unwanted_capabilities);
 }
 
-/* Tells whether two messages have the same value, by the SHA-256 of their canonical words; each is a frame. Writes the answer
- * to `*is_equal`. After a refusal, which is the first message's if both are refused, `*is_equal` is false. */
+/* Tells whether two messages mean equal values; each is a frame. */
 CAPNP_CANONICAL_CHECKED CAPNP_CANONICAL_NEEDS(6)
 CAPNP_CANONICAL_INLINE uint32_t capnp_canonical_equal_within(const uint8_t *one, size_t one_size, const uint8_t *other, size_t other_size, const struct capnp_canonical_limits *limits, bool *is_equal) {
-    uint8_t digests[2][32];
-    uint32_t answer = capnp_canonical_digest_within(one, one_size, limits, digests[0]);
-    *is_equal = false;
-    if (answer != CAPNP_CANONICAL_DONE) return answer;
-    answer = capnp_canonical_digest_within(other, other_size, limits, digests[1]);
-    if (answer != CAPNP_CANONICAL_DONE) return answer;
-    *is_equal = memcmp(digests[0], digests[1], sizeof digests[0]) == 0;
-    return answer;
+    const struct capnp_canonical_limits held = capnp_canonical_private_limits(limits);
+    return capnp_canonical_equal(one, one_size, other, other_size, held.nesting, held.words, is_equal);
 }
 
 /* Writes the 8 bytes that make raw words a frame, if they are in front of them: the segment table of one segment of `size`

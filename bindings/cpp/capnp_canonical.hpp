@@ -724,6 +724,14 @@ public:
     std::uint32_t digest(std::uint8_t* to) const noexcept {
         return capnp_canonical_digest(frame_.data(), frame_.size(), nesting_of(limits_), limits_.words, to);
     }
+    std::uint32_t digest_with(Bytes prefix, std::uint8_t* to) const noexcept {
+        return capnp_canonical_digest_with(prefix.data(), prefix.size(), frame_.data(), frame_.size(), nesting_of(limits_),
+                                           limits_.words, to);
+    }
+    std::uint32_t equals(const FrameSource& other, bool* same) const noexcept {
+        return capnp_canonical_equal(frame_.data(), frame_.size(), other.frame_.data(), other.frame_.size(),
+                                     nesting_of(limits_), limits_.words, same);
+    }
     std::uint32_t check(bool* is_canonical, capnp_canonical_fault* fault) const noexcept {
         return capnp_canonical_check(frame_.data(), frame_.size(), nesting_of(limits_), limits_.words, is_canonical, fault);
     }
@@ -763,6 +771,10 @@ public:
         return capnp_canonical_digest_at(frame_.data(), frame_.size(), path_.data(), path_.size(), nesting_of(limits_),
                                          limits_.words, to);
     }
+    std::uint32_t digest_with(Bytes prefix, std::uint8_t* to) const noexcept {
+        return capnp_canonical_digest_with_at(prefix.data(), prefix.size(), frame_.data(), frame_.size(), path_.data(),
+                                              path_.size(), nesting_of(limits_), limits_.words, to);
+    }
     std::uint32_t size(std::uint64_t* words, std::uint32_t* capabilities) const noexcept {
         return capnp_canonical_size_at(frame_.data(), frame_.size(), path_.data(), path_.size(), nesting_of(limits_),
                                        limits_.words, words, capabilities);
@@ -797,6 +809,14 @@ public:
     }
     std::uint32_t digest(std::uint8_t* to) const noexcept {
         return capnp_canonical_segments_digest(segments_, count_, nesting_of(limits_), limits_.words, to);
+    }
+    std::uint32_t digest_with(Bytes prefix, std::uint8_t* to) const noexcept {
+        return capnp_canonical_segments_digest_with(prefix.data(), prefix.size(), segments_, count_, nesting_of(limits_),
+                                                    limits_.words, to);
+    }
+    std::uint32_t equals(const SegmentSource& other, bool* same) const noexcept {
+        return capnp_canonical_segments_equal(segments_, count_, other.segments_, other.count_, nesting_of(limits_),
+                                              limits_.words, same);
     }
     std::uint32_t check(bool* is_canonical, capnp_canonical_fault* fault) const noexcept {
         return capnp_canonical_segments_check(segments_, count_, nesting_of(limits_), limits_.words, is_canonical, fault);
@@ -840,6 +860,10 @@ public:
     std::uint32_t digest(std::uint8_t* to) const noexcept {
         return capnp_canonical_segments_digest_at(segments_, count_, path_.data(), path_.size(),
                                                   nesting_of(limits_), limits_.words, to);
+    }
+    std::uint32_t digest_with(Bytes prefix, std::uint8_t* to) const noexcept {
+        return capnp_canonical_segments_digest_with_at(prefix.data(), prefix.size(), segments_, count_, path_.data(),
+                                                       path_.size(), nesting_of(limits_), limits_.words, to);
     }
     std::uint32_t size(std::uint64_t* words, std::uint32_t* capabilities) const noexcept {
         return capnp_canonical_segments_size_at(segments_, count_, path_.data(), path_.size(),
@@ -1001,6 +1025,26 @@ Result<Digest> digest_of(const Source& source) {
 }
 
 template <typename Source>
+Result<Digest> digest_of(Bytes prefix, const Source& source) {
+    Digest to;
+    const std::uint32_t answer = source.digest_with(prefix, to.data());
+    if (answer != CAPNP_CANONICAL_DONE) return refusal_of(source, answer, CAPNP_CANONICAL_READING_CANONICAL);
+    return to;
+}
+
+// Whether two messages have the same canonical words. A refusal is that of the first one that is refused.
+template <typename Source>
+Result<bool> compared(const Source& one, const Source& other) {
+    bool same = false;
+    const std::uint32_t answer = one.equals(other, &same);
+    if (answer == CAPNP_CANONICAL_DONE) return same;
+    const Result<Digest> first = digest_of(one), second = digest_of(other);
+    if (!first) return first.error();
+    if (!second) return second.error();
+    return Refusal(answer);
+}
+
+template <typename Source>
 Result<Checked> checked(const Source& source) {
     bool is_canonical = false;
     capnp_canonical_fault fault = {};
@@ -1134,6 +1178,38 @@ inline Result<Digest> try_digest(const Segments& segments, Limits limits = {}) {
     return try_digest(segments, limits).value();
 }
 
+// The SHA-256 of `prefix` and then the canonical words. Canonical words don't tell their type: with the 8 bytes of
+// a type id as the prefix, the digest and a signature of it cover the type.
+inline Result<Digest> try_digest_with(Bytes prefix, Bytes frame, Limits limits = {}) {
+    return detail::on_frame(frame, limits, [&](const auto& it) { return detail::digest_of(prefix, it); });
+}
+[[nodiscard]] inline Digest digest_with(Bytes prefix, Bytes frame, Limits limits = {}) {
+    return try_digest_with(prefix, frame, limits).value();
+}
+inline Result<Digest> try_digest_with(Bytes prefix, const Segments& segments, Limits limits = {}) {
+    return detail::digest_of(prefix, detail::SegmentSource(segments, limits));
+}
+[[nodiscard]] inline Digest digest_with(Bytes prefix, const Segments& segments, Limits limits = {}) {
+    return try_digest_with(prefix, segments, limits).value();
+}
+
+// Whether two messages have the same value: whether copy_flat returns the same for both. Each is read within the limits. To
+// compare one message with many, compare digests.
+inline Result<bool> try_equal(Bytes frame, Bytes other, Limits limits = {}) {
+    return detail::on_frame(frame, limits, [&](const detail::FrameSource& one) {
+        return detail::on_frame(other, limits, [&](const detail::FrameSource& two) { return detail::compared(one, two); });
+    });
+}
+[[nodiscard]] inline bool equal(Bytes frame, Bytes other, Limits limits = {}) {
+    return try_equal(frame, other, limits).value();
+}
+inline Result<bool> try_equal(const Segments& segments, const Segments& other, Limits limits = {}) {
+    return detail::compared(detail::SegmentSource(segments, limits), detail::SegmentSource(other, limits));
+}
+[[nodiscard]] inline bool equal(const Segments& segments, const Segments& other, Limits limits = {}) {
+    return try_equal(segments, other, limits).value();
+}
+
 // Tests whether the message is canonical, and if not, says why and where. Canonical means one segment, which holds the
 // canonical words of a value and nothing else.
 inline Result<Checked> try_check(Bytes frame, Limits limits = {}) {
@@ -1233,6 +1309,18 @@ inline Result<Digest> try_digest_at(const Segments& segments, Path path, Limits 
 [[nodiscard]] inline Digest digest_at(const Segments& segments, Path path, Limits limits = {}) {
     return try_digest_at(segments, path, limits).value();
 }
+inline Result<Digest> try_digest_with_at(Bytes prefix, Bytes frame, Path path, Limits limits = {}) {
+    return detail::on_frame(frame, path, limits, [&](const auto& it) { return detail::digest_of(prefix, it); });
+}
+[[nodiscard]] inline Digest digest_with_at(Bytes prefix, Bytes frame, Path path, Limits limits = {}) {
+    return try_digest_with_at(prefix, frame, path, limits).value();
+}
+inline Result<Digest> try_digest_with_at(Bytes prefix, const Segments& segments, Path path, Limits limits = {}) {
+    return detail::digest_of(prefix, detail::SegmentPart(segments, path, limits));
+}
+[[nodiscard]] inline Digest digest_with_at(Bytes prefix, const Segments& segments, Path path, Limits limits = {}) {
+    return try_digest_with_at(prefix, segments, path, limits).value();
+}
 inline Result<Size> try_size_at(Bytes frame, Path path, Limits limits = {}) {
     return detail::on_frame(frame, path, limits, [](const auto& it) { return detail::size_of(it); });
 }
@@ -1258,6 +1346,20 @@ inline Result<Digest> try_words_digest(WordsView words, Limits limits = {}) {
 }
 [[nodiscard]] inline Digest words_digest(WordsView words, Limits limits = {}) {
     return try_words_digest(words, limits).value();
+}
+inline Result<Digest> try_words_digest_with(Bytes prefix, WordsView words, Limits limits = {}) {
+    return detail::on_words(words, limits, [&](const auto& it) { return detail::digest_of(prefix, it); });
+}
+[[nodiscard]] inline Digest words_digest_with(Bytes prefix, WordsView words, Limits limits = {}) {
+    return try_words_digest_with(prefix, words, limits).value();
+}
+inline Result<bool> try_words_equal(WordsView words, WordsView other, Limits limits = {}) {
+    return detail::on_words(words, limits, [&](const detail::SegmentSource& one) {
+        return detail::on_words(other, limits, [&](const detail::SegmentSource& two) { return detail::compared(one, two); });
+    });
+}
+[[nodiscard]] inline bool words_equal(WordsView words, WordsView other, Limits limits = {}) {
+    return try_words_equal(words, other, limits).value();
 }
 inline Result<Checked> try_words_check(WordsView words, Limits limits = {}) {
     return detail::on_words(words, limits, [&](const auto& it) { return detail::checked(it); });
@@ -1295,6 +1397,12 @@ inline Result<Digest> try_words_digest_at(WordsView words, Path path, Limits lim
 }
 [[nodiscard]] inline Digest words_digest_at(WordsView words, Path path, Limits limits = {}) {
     return try_words_digest_at(words, path, limits).value();
+}
+inline Result<Digest> try_words_digest_with_at(Bytes prefix, WordsView words, Path path, Limits limits = {}) {
+    return detail::on_words(words, path, limits, [&](const auto& it) { return detail::digest_of(prefix, it); });
+}
+[[nodiscard]] inline Digest words_digest_with_at(Bytes prefix, WordsView words, Path path, Limits limits = {}) {
+    return try_words_digest_with_at(prefix, words, path, limits).value();
 }
 inline Result<Size> try_words_size_at(WordsView words, Path path, Limits limits = {}) {
     return detail::on_words(words, path, limits, [&](const auto& it) { return detail::size_of(it); });
@@ -1363,6 +1471,18 @@ inline Bytes unpack_into(std::vector<std::uint8_t>& buffer CAPNP_CANONICAL_LIFET
                          std::uint64_t words = CAPNP_CANONICAL_WORDS) {
     return try_unpack_into(buffer, packed, words).value();
 }
+
+// Packs whole words, such as the frames of one or more messages: what capnp::writePackedMessage writes. Throws Error with the
+// number CAPNP_CANONICAL_SEGMENT_IS_NOT_WHOLE_WORDS if the number of bytes isn't a multiple of 8.
+inline Result<std::vector<std::uint8_t>> try_pack(Bytes frames) {
+    std::vector<std::uint8_t> to(capnp_canonical_pack_bound(frames.size()));
+    std::size_t written = 0;
+    const std::uint32_t answer = capnp_canonical_pack(frames.data(), frames.size(), to.data(), to.size(), &written);
+    if (answer != CAPNP_CANONICAL_DONE) return Refusal(answer, frames.place());
+    to.resize(written);
+    return to;
+}
+[[nodiscard]] inline std::vector<std::uint8_t> pack(Bytes frames) { return try_pack(frames).value(); }
 
 // The frames of a stream, in order: `for (Bytes frame : Frames(stream))`. Each knows its place, and an Error about it
 // reports that. Throws Error if the remaining bytes don't start with a frame.

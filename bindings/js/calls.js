@@ -1,6 +1,6 @@
 // The calls. index.d.ts says what each takes, returns and throws.
 import { Broken, CanonicalError, Fault, Kind, Reading, Reason, Refusal } from './answers.js';
-import { MAX_NESTING, MOST, Refused, called, lend, lendFew, lendPath, lendSegments, number64, reaches, seen } from './library.js';
+import { ANSWERS, MAX_NESTING, MOST, Refused, called, lend, lendFew, lendPath, lendSegments, number64, reaches, seen } from './library.js';
 
 export { Broken, CanonicalError, Fault, Kind, MAX_NESTING, Reading, Reason, Refusal };
 
@@ -257,11 +257,11 @@ function refusedPointer(number, form, passed, within, reading) {
   }
 }
 
-/** Runs a call for a message, which it reads in this way. */
-function asked(form, reading, message, limits, run) {
+/** Runs a call for a message, which it reads in this way, and which gets into the memory by `lent`. */
+function asked(form, reading, message, limits, run, lent = form.lent) {
   const passed = form.passed(message), within = limitsOf(limits);
   try {
-    return called((lib) => run(lib, form.lent(lib, passed, within.words), within));
+    return called((lib) => run(lib, lent(lib, passed, within.words), within));
   } catch (error) {
     if (!(error instanceof Refused)) throw error;
     throw errorOf(error.number, suspected(form, passed), refusedPointer(error.number, form, passed, within, reading));
@@ -317,6 +317,10 @@ export function digestHex(frame, limits) {
   return hexOf(digest(frame, limits));
 }
 
+export function digestWith(prefix, frame, limits) {
+  return digestedAfter(FRAME, 'digest_with', prefix, frame, limits);
+}
+
 export function equals(frame, other, limits) {
   return areSame(canonicalizeFlat(frame, limits), canonicalizeFlat(other, limits));
 }
@@ -363,12 +367,44 @@ function lentAfter(before, lib, form, passed, words) {
   }
 }
 
+/** A call that hashes a prefix first, which is in the memory after a path of so many indexes. */
+function callAfter(lib, call, prefix, steps = 0) {
+  if (!call) return undefined;
+  const at = lib.base + ANSWERS + 4 * steps;
+  return (...more) => {
+    lib.bytes.set(prefix, at);
+    return call(at, prefix.length, ...more);
+  };
+}
+
+function digestedAfter(form, name, prefix, message, limits) {
+  const bytes = bytesOf(prefix, 'a prefix').slice();
+  return asked(
+    form, Reading.Canonical, message, limits,
+    (lib, given, within) => digested(lib, callAfter(lib, lib.calls[name], bytes), given, within),
+    (lib, passed, limit) => lentAfter(bytes.length, lib, form, passed, limit),
+  );
+}
+
+function digestedAfterAt(form, name, prefix, message, path, limits) {
+  const bytes = bytesOf(prefix, 'a prefix').slice(), passed = form.passed(message), indexes = pathOf(path), within = limitsOf(limits);
+  return answered((lib) => {
+    const given = lentAfter(4 * indexes.length + bytes.length, lib, form, passed, within.words);
+    const call = callAfter(lib, lib.calls[name], bytes, indexes.length);
+    return digested(lib, call && ((first, second, ...more) => call(first, second, lendPath(lib, indexes), indexes.length, ...more)), given, within);
+  }, suspected(form, passed));
+}
+
 export function canonicalizeFlatAt(frame, path, limits) {
   return askedAt(FRAME, copied, 'copy_flat_at', frame, path, limits);
 }
 
 export function digestAt(frame, path, limits) {
   return askedAt(FRAME, digested, 'digest_at', frame, path, limits);
+}
+
+export function digestWithAt(prefix, frame, path, limits) {
+  return digestedAfterAt(FRAME, 'digest_with_at', prefix, frame, path, limits);
 }
 
 export function sizeAt(frame, path, limits) {
@@ -382,6 +418,7 @@ export const segments = Object.freeze({
   canonicalizeFlat: (list, limits) => asked(SEGMENTS, Reading.Canonical, list, limits, (lib, given, within) => copied(lib, lib.calls.segments_copy_flat, given, within)),
   digest: (list, limits) => asked(SEGMENTS, Reading.Canonical, list, limits, (lib, given, within) => digested(lib, lib.calls.segments_digest, given, within)),
   digestHex: (list, limits) => hexOf(segments.digest(list, limits)),
+  digestWith: (prefix, list, limits) => digestedAfter(SEGMENTS, 'segments_digest_with', prefix, list, limits),
   equals: (list, other, limits) => areSame(segments.canonicalizeFlat(list, limits), segments.canonicalizeFlat(other, limits)),
   check: (list, limits) => asked(SEGMENTS, Reading.Value, list, limits, (lib, given, within) => checked(lib, lib.calls.segments_check, given, within)),
   isCanonical: (list, limits) => isYes(SEGMENTS, list, limits, (lib, given, within) => checked(lib, lib.calls.segments_check, given, within)),
@@ -389,6 +426,7 @@ export const segments = Object.freeze({
   validate: (list, limits) => asked(SEGMENTS, Reading.Value, list, limits, (lib, given, within) => validated(lib, lib.calls.segments_validate, given, within)),
   canonicalizeFlatAt: (list, path, limits) => askedAt(SEGMENTS, copied, 'segments_copy_flat_at', list, path, limits),
   digestAt: (list, path, limits) => askedAt(SEGMENTS, digested, 'segments_digest_at', list, path, limits),
+  digestWithAt: (prefix, list, path, limits) => digestedAfterAt(SEGMENTS, 'segments_digest_with_at', prefix, list, path, limits),
   sizeAt: (list, path, limits) => askedAt(SEGMENTS, sized, 'segments_size_at', list, path, limits),
   locate: (list, reading, limits) => locatedIn(SEGMENTS, list, reading, limits),
   walk: (list, most, limits) => walkedIn(SEGMENTS, list, most, limits),
@@ -398,6 +436,7 @@ export const words = Object.freeze({
   canonicalize: (message, limits) => asked(WORDS, Reading.Canonical, message, limits, (lib, given, within) => copied(lib, lib.calls.words_copy, given, within)),
   digest: (message, limits) => asked(WORDS, Reading.Canonical, message, limits, (lib, given, within) => digested(lib, lib.calls.words_digest, given, within)),
   digestHex: (message, limits) => hexOf(words.digest(message, limits)),
+  digestWith: (prefix, message, limits) => digestedAfter(WORDS, 'words_digest_with', prefix, message, limits),
   equals: (message, other, limits) => areSame(words.canonicalize(message, limits), words.canonicalize(other, limits)),
   check: (message, limits) => asked(WORDS, Reading.Value, message, limits, (lib, given, within) => checked(lib, lib.calls.words_check, given, within)),
   isCanonical: (message, limits) => isYes(WORDS, message, limits, (lib, given, within) => checked(lib, lib.calls.words_check, given, within)),
@@ -405,6 +444,7 @@ export const words = Object.freeze({
   validate: (message, limits) => asked(WORDS, Reading.Value, message, limits, (lib, given, within) => validated(lib, lib.calls.words_validate, given, within)),
   canonicalizeAt: (message, path, limits) => askedAt(WORDS, copied, 'words_copy_at', message, path, limits),
   digestAt: (message, path, limits) => askedAt(WORDS, digested, 'words_digest_at', message, path, limits),
+  digestWithAt: (prefix, message, path, limits) => digestedAfterAt(WORDS, 'words_digest_with_at', prefix, message, path, limits),
   sizeAt: (message, path, limits) => askedAt(WORDS, sized, 'words_size_at', message, path, limits),
   locate: (message, reading, limits) => locatedIn(WORDS, message, reading, limits),
   walk: (message, most, limits) => walkedIn(WORDS, message, most, limits),
@@ -590,6 +630,21 @@ export function unpack(packed, limits) {
       if (BigInt(written) > 8n * within.words) throw new Refused(Refusal.MessageTooLong);
       if (answer === 0) return lib.bytes.slice(given.end, given.end + written);
       if (written <= room || written >= MOST || !reaches(lib, given.end + (room = written))) throw noMemory();
+    }
+  });
+}
+
+export function pack(frames) {
+  const bytes = bytesOf(frames, 'frames');
+  return answered((lib) => {
+    const given = lend(lib, bytes);
+    if (!given) throw noMemory();
+    for (let { room } = given; ;) {
+      const answer = lib.calls.pack(given.first, given.second, given.end, room, lib.base) >>> 0;
+      const written = number64(lib, lib.base);
+      if (answer === 0) return lib.bytes.slice(given.end, given.end + written);
+      if (answer !== Refusal.NoRoom) throw new Refused(answer);
+      if (written >= MOST || !reaches(lib, given.end + (room = written))) throw noMemory();
     }
   });
 }

@@ -231,6 +231,12 @@ export function digest(frame: FrameBytes, limits?: Limits): OwnBytes;
 export function digestHex(frame: FrameBytes, limits?: Limits): string;
 
 /**
+ * Returns the SHA-256 of `prefix` and then the canonical words. Canonical words don't tell their type: with the 8 bytes of a
+ * type id as the prefix, the digest and a signature of it cover the type.
+ */
+export function digestWith(prefix: Bytes, frame: FrameBytes, limits?: Limits): OwnBytes;
+
+/**
  * Whether two messages have the same value: whether their canonical words are equal. Each is read within the limits, and throws like
  * `canonicalizeFlat` if it is refused. To compare one message with many, compare digests.
  */
@@ -281,6 +287,9 @@ export function canonicalizeFlatAt(frame: FrameBytes, path: Iterable<number>, li
 /** `digest` for the part of the message to which the path leads: the SHA-256 of what `canonicalizeFlatAt` returns. */
 export function digestAt(frame: FrameBytes, path: Iterable<number>, limits?: Limits): OwnBytes;
 
+/** `digestWith` for the part of the message to which the path leads. */
+export function digestWithAt(prefix: Bytes, frame: FrameBytes, path: Iterable<number>, limits?: Limits): OwnBytes;
+
 /** `size` for the part of the message to which the path leads. */
 export function sizeAt(frame: FrameBytes, path: Iterable<number>, limits?: Limits): Size;
 
@@ -290,6 +299,7 @@ export const segments: {
   canonicalizeFlat(list: Iterable<Bytes>, limits?: Limits): Words;
   digest(list: Iterable<Bytes>, limits?: Limits): OwnBytes;
   digestHex(list: Iterable<Bytes>, limits?: Limits): string;
+  digestWith(prefix: Bytes, list: Iterable<Bytes>, limits?: Limits): OwnBytes;
   equals(list: Iterable<Bytes>, other: Iterable<Bytes>, limits?: Limits): boolean;
   check(list: Iterable<Bytes>, limits?: Limits): Fault | null;
   isCanonical(list: Iterable<Bytes>, limits?: Limits): boolean;
@@ -297,6 +307,7 @@ export const segments: {
   validate(list: Iterable<Bytes>, limits?: Limits): Extent;
   canonicalizeFlatAt(list: Iterable<Bytes>, path: Iterable<number>, limits?: Limits): Words;
   digestAt(list: Iterable<Bytes>, path: Iterable<number>, limits?: Limits): OwnBytes;
+  digestWithAt(prefix: Bytes, list: Iterable<Bytes>, path: Iterable<number>, limits?: Limits): OwnBytes;
   sizeAt(list: Iterable<Bytes>, path: Iterable<number>, limits?: Limits): Size;
   locate(list: Iterable<Bytes>, reading: Reading, limits?: Limits): Broken | null;
   walk(list: Iterable<Bytes>, most: number, limits?: Limits): Walk;
@@ -307,6 +318,7 @@ export const words: {
   canonicalize(message: Bytes, limits?: Limits): Words;
   digest(message: Bytes, limits?: Limits): OwnBytes;
   digestHex(message: Bytes, limits?: Limits): string;
+  digestWith(prefix: Bytes, message: Bytes, limits?: Limits): OwnBytes;
   equals(message: Bytes, other: Bytes, limits?: Limits): boolean;
   check(message: Bytes, limits?: Limits): Fault | null;
   isCanonical(message: Bytes, limits?: Limits): boolean;
@@ -314,6 +326,7 @@ export const words: {
   validate(message: Bytes, limits?: Limits): Extent;
   canonicalizeAt(message: Bytes, path: Iterable<number>, limits?: Limits): Words;
   digestAt(message: Bytes, path: Iterable<number>, limits?: Limits): OwnBytes;
+  digestWithAt(prefix: Bytes, message: Bytes, path: Iterable<number>, limits?: Limits): OwnBytes;
   sizeAt(message: Bytes, path: Iterable<number>, limits?: Limits): Size;
   locate(message: Bytes, reading: Reading, limits?: Limits): Broken | null;
   walk(message: Bytes, most: number, limits?: Limits): Walk;
@@ -364,6 +377,12 @@ export function packedFrameStream(limits?: Limits): FrameStream;
 
 /** Unpacks packed bytes to the frames of one or more messages. Refuses with `MessageTooLong` if these are more than `words` words. */
 export function unpack(packed: FrameBytes, limits?: Limits): OwnBytes;
+
+/**
+ * Packs whole words, such as the frames of one or more messages: what `capnp encode --packed` and C++'s `writePackedMessage` write. Throws
+ * if the number of bytes isn't a multiple of 8.
+ */
+export function pack(frames: FrameBytes): OwnBytes;
 
 /**
  * Iterates over the frames of packed bytes. Unpacks them one by one; each has at most `words` words. An error says which message it is,

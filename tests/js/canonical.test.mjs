@@ -48,6 +48,40 @@ test('messages', () => {
   passed('messages', count);
 });
 
+test('digests of a prefix, and packed frames', () => {
+  let count = 0;
+  for (const [name, frame, path, prefix, digest, packed] of rowsOf('library/prefixes.txt')) {
+    const bytes = hex(frame), segments = segmentsOf(bytes), before = hex(prefix), indexes = path === '-' ? [] : path.split('.').slice(0, -1).map(Number);
+    const what = `${name} ${path} ${prefix}`, flat = capnp.canonicalizeFlatAt(bytes, indexes);
+    assert.equal(hexOf(capnp.digestWithAt(before, bytes, indexes)), digest, what);
+    assert.equal(hexOf(capnp.segments.digestWithAt(before, segments, indexes)), digest, what);
+    assert.equal(hexOf(capnp.words.digestWith(before, flat)), digest, what);
+    assert.equal(hexOf(capnp.words.digestWithAt(before, flat, [])), digest, what);
+    assert.equal(createHash('sha256').update(before).update(flat).digest('hex'), digest, what);
+    if (!indexes.length) {
+      assert.equal(hexOf(capnp.digestWith(before.buffer, bytes)), digest, what);
+      assert.equal(hexOf(capnp.segments.digestWith(before, segments)), digest, what);
+    }
+    if (packed !== '-') assert.equal(hexOf(capnp.pack(bytes)), packed, what);
+    assert.deepEqual(capnp.unpack(capnp.pack(bytes)), bytes, what);
+    count++;
+  }
+  assert.equal(count, 26);
+  assert.equal(hexOf(capnp.pack(new Uint8Array(8 * 300))), '00ff002b');
+  // more packed bytes than there is room for at first: words of 255 and two zero bytes in turn
+  const long = new Uint8Array(1 << 16).fill(7).map((it, at) => (at % 16 > 13 ? 0 : it));
+  assert.deepEqual(capnp.unpack(capnp.pack(long)), long);
+  assert.equal(capnp.pack(new Uint8Array(0)).length, 0);
+  assert.throws(() => capnp.pack(new Uint8Array(9)), { code: 'SegmentIsNotWholeWords' });
+  assert.throws(() => capnp.pack('text'), TypeError);
+  assert.throws(() => capnp.digestWith('prefix', new Uint8Array(16)), TypeError);
+  // a refusal has its place
+  const broken = hex('00000000010000000000000001000000');
+  assert.throws(() => capnp.digestWith(new Uint8Array(8), broken), { code: 'MessageContainsOutOfBoundsPointer', pointer: { segment: 0, word: 0 } });
+  assert.throws(() => capnp.digestWithAt(new Uint8Array(8), broken, [1]), { code: 'MessageContainsOutOfBoundsPointer' });
+  passed('digests of a prefix, and packed frames', count);
+});
+
 /** The words of the value of a row's part, as `size` counts them. */
 const wordsOfPart = (flat) => `${hex(flat).length / 8 - 1},0`;
 

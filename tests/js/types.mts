@@ -28,6 +28,8 @@ export async function all(frame: Uint8Array, buffer: ArrayBuffer, pieces: AsyncI
   for await (const it of capnp.framesFrom(pieces, limits)) text += it.byteLength;
   text += capnp.segments.canonicalize([frame, buffer]).length + capnp.segments.canonicalizeFlat(new Set([frame])).length + capnp.segments.size([]).words;
   text += `${digest.length} ${capnp.segments.digest([frame]).length} ${capnp.words.digest(flat).length}`;
+  const after: OwnBytes = capnp.digestWith(buffer, frame, limits), packed: OwnBytes = capnp.pack(frame);
+  text += `${after.length} ${packed.length} ${capnp.digestWithAt(buffer, frame, [0]).length} ${capnp.segments.digestWith(buffer, [frame]).length} ${capnp.words.digestWithAt(buffer, flat, []).length}`;
   text += `${capnp.segments.check([])} ${capnp.words.check(flat)} ${capnp.words.size(flat).words} ${capnp.words.canonicalize(flat).length}`;
   const { depth, cost }: Extent = capnp.validate(frame, limits);
   text += `${depth} ${cost} ${capnp.segments.validate([frame]).words} ${capnp.words.validate(flat).capabilities} ${capnp.frameSizeFromPrefix(frame)}`;

@@ -192,6 +192,8 @@ for which in static shared; do
     part "pieces of packed streams, $which" "$folder/pieces_$which" "$here/streams.txt"
     part "parts of messages, $which, built" build "parts_$which" tests/library/parts.c "$which"
     part "parts of messages, $which" "$folder/parts_$which" "$here/parts.txt"
+    part "prefixes, comparisons and packing, $which, built" build "prefixes_$which" tests/library/prefixes.c "$which"
+    part "prefixes, comparisons and packing, $which" "$folder/prefixes_$which" "$here/prefixes.txt"
     part "sound messages, $which, built" build "extents_$which" tests/library/extents.c "$which"
     part "sound messages, $which" "$folder/extents_$which" "$here/extents.txt"
     part "places of broken pointers, $which, built" build "places_$which" tests/library/places.c "$which"
@@ -212,6 +214,8 @@ part "pieces of packed streams with the address sanitizer, built" build pieces_s
 part "pieces of packed streams with the address sanitizer" "$folder/pieces_sanitized" "$here/streams.txt"
 part "parts of messages with the address sanitizer, built" build parts_sanitized tests/library/parts.c static -fsanitize=address,undefined -fno-sanitize-recover
 part "parts of messages with the address sanitizer" "$folder/parts_sanitized" "$here/parts.txt"
+part "prefixes, comparisons and packing with the address sanitizer, built" build prefixes_sanitized tests/library/prefixes.c static -fsanitize=address,undefined -fno-sanitize-recover
+part "prefixes, comparisons and packing with the address sanitizer" "$folder/prefixes_sanitized" "$here/prefixes.txt"
 part "sound messages with the address sanitizer, built" build extents_sanitized tests/library/extents.c static -fsanitize=address,undefined -fno-sanitize-recover
 part "sound messages with the address sanitizer" "$folder/extents_sanitized" "$here/extents.txt"
 part "places of broken pointers with the address sanitizer, built" build places_sanitized tests/library/places.c static -fsanitize=address,undefined -fno-sanitize-recover
@@ -220,6 +224,8 @@ part "objects of messages with the address sanitizer, built" build walks_sanitiz
 part "objects of messages with the address sanitizer" "$folder/walks_sanitized" "$here/walks.txt"
 part "packed bytes where malloc is counted, built" build unpack_counting tests/library/unpack.c static -DWRAP -Wl,--wrap=malloc -Wl,--wrap=realloc
 part "packed bytes where malloc is counted" "$folder/unpack_counting" "$here/packed.txt"
+part "packing with malloc counted, built" build prefixes_counting tests/library/prefixes.c static -DWRAP -Wl,--wrap=malloc -Wl,--wrap=realloc
+part "packing with malloc counted" "$folder/prefixes_counting" "$here/prefixes.txt"
 part "pieces of packed streams where malloc is counted, built" build pieces_counting tests/library/pieces.c static -DWRAP -Wl,--wrap=malloc -Wl,--wrap=realloc
 part "pieces of packed streams where malloc is counted" "$folder/pieces_counting" "$here/streams.txt"
 part "test where malloc refuses, built" build refusing tests/library/test.c static -DWRAP -Wl,--wrap=malloc -Wl,--wrap=realloc

@@ -1,6 +1,6 @@
 // Tests of capnp_canonical.hpp, without Cap'n Proto's own headers.
 //
-//     messages FILE PACKED PARTS STREAMS PLACES    the messages of messages.txt, what packed.txt has, and the rows of parts.txt, of
+//     messages FILE PACKED PARTS STREAMS PLACES PREFIXES    the messages of messages.txt, what packed.txt has, and the rows of parts.txt, of
 //                                                  streams.txt and of places.txt; a line `ok: NAME` or `FAILED: NAME: WHAT` for
 //                                                  each test
 #include "capnp_canonical.hpp"
@@ -629,11 +629,45 @@ void test_walk() {
     require_same("no frame", what([&] { unused(capnp_canonical::walk(frame, 100)); }).substr(0, 9), "Truncated");
 }
 
+// The rows of prefixes.txt.
+void test_prefixes(const char* path) {
+    std::ifstream file(path);
+    const Vector empty = bytes_of("0000000001000000fcffffff00000000");
+    int count = 0;
+    for (std::string line; std::getline(file, line);) {
+        if (line.empty() || line[0] == '#') continue;
+        std::string name, digits, steps, before, digest, packed;
+        std::istringstream(line) >> name >> digits >> steps >> before >> digest >> packed;
+        const Vector frame = bytes_of(digits), prefix = bytes_of(before == "-" ? "" : before);
+        std::vector<std::uint32_t> path_of;
+        if (steps != "-") {
+            std::istringstream numbers(steps);
+            for (std::string number; std::getline(numbers, number, '.');) path_of.push_back(static_cast<std::uint32_t>(std::stoul(number)));
+        }
+        const capnp_canonical::Path it(path_of);
+        require_same(name, digits_of(capnp_canonical::digest_with_at(prefix, frame, it)), digest);
+        const Vector words = capnp_canonical::copy_flat_at(frame, it);
+        require_same(name, digits_of(capnp_canonical::words_digest_with(prefix, words)), digest);
+        require_same(name, digits_of(capnp_canonical::words_digest_with_at(prefix, words, {})), digest);
+        if (path_of.empty()) require_same(name, digits_of(capnp_canonical::digest_with(prefix, frame)), digest);
+        if (packed != "-") require_same(name, digits_of(capnp_canonical::pack(frame)), packed);
+        require(capnp_canonical::unpack(capnp_canonical::pack(frame)) == frame, "another frame");
+        require(capnp_canonical::equal(frame, capnp_canonical::copy(frame)), "a copy isn't equal");
+        require(capnp_canonical::words_equal(words, words), "words aren't equal");
+        require(capnp_canonical::equal(frame, empty) == (capnp_canonical::copy(frame) == empty), "another message is equal");
+        require_same("the first that is refused", answer([&] { return capnp_canonical::equal(Bytes(frame.data(), 4), frame) ? "yes" : "no"; }), "Truncated");
+        count++;
+    }
+    require(count == 26, std::to_string(count) + " rows");
+    require_same("a part of a word", answer([&] { return digits_of(capnp_canonical::pack(Bytes(empty.data(), 7))); }), "SegmentIsNotWholeWords");
+}
+
 int main(int count, char** words) {
-    if (count != 6) return 2;
+    if (count != 7) return 2;
     test_messages(words[1]);
     test("packed bytes", [&] { test_packed(words[2]); });
     test("packed messages", test_unpacked);
+    test("prefixes, and packed and equal frames", [&] { test_prefixes(words[6]); });
     test("ranges of bytes", test_ranges);
     test("segments", test_segments);
     test("copies that are longer than their message", test_longer_copies);

@@ -60,7 +60,7 @@ cxx_messages() {
     shift
     "$cxx" -std="$standard" -Wall -Wextra -Wpedantic -Wshadow -Werror -O1 "$@" -I"$prefix/include" \
         -o "$work/messages" "$here/messages.cpp" "$prefix/lib/libcapnp_canonical.a" &&
-        "$work/messages" "$here/messages.txt" "$here/packed.txt" "$here/parts.txt" "$here/streams.txt" "$here/places.txt"
+        "$work/messages" "$here/messages.txt" "$here/packed.txt" "$here/parts.txt" "$here/streams.txt" "$here/places.txt" "$here/prefixes.txt"
 }
 
 # Makes random messages, flat ones and nested ones, and their canonical words with C++ Cap'n Proto.

@@ -1,6 +1,7 @@
 """Tests the module capnp_canonical with the messages of messages.txt, and in cases that this file can't express."""
 import array
 import concurrent.futures
+import hashlib
 import importlib.util
 import io
 import mmap
@@ -22,6 +23,7 @@ MESSAGES = pathlib.Path(__file__).with_name('messages.txt')
 PLACES = pathlib.Path(__file__).with_name('places.txt')
 PACKED = pathlib.Path(__file__).with_name('packed.txt')
 PARTS = pathlib.Path(__file__).with_name('parts.txt')
+PREFIXES = pathlib.Path(__file__).with_name('prefixes.txt')
 STREAMS = pathlib.Path(__file__).with_name('streams.txt')
 LIBRARY = 'CAPNP_CANONICAL_LIBRARY'
 # A struct of three words that ends in a zero word.
@@ -147,6 +149,79 @@ class Parts(unittest.TestCase):
         for path in 0, ['0'], [None]:
             with self.assertRaises(TypeError):
                 capnp_canonical.copy_flat_at(SHARED, path)
+
+
+class Prefixes(unittest.TestCase):
+    """The rows of prefixes.txt: digests of a prefix and words, and packed frames; and messages that are compared."""
+
+    def rows(self):
+        for line in PREFIXES.read_text().splitlines():
+            if not line.startswith('#'):
+                name, frame, path, prefix, digest, packed = line.split()
+                indexes = [int(it) for it in path.strip('-').split('.') if it]
+                given = bytes.fromhex(frame), bytes.fromhex(prefix.strip('-')), bytes.fromhex(packed.strip('-'))
+                with self.subTest(name, path=path, prefix=prefix):
+                    yield (*given, indexes, digest)
+
+    def test_digests(self):
+        module, count = capnp_canonical, 0
+        for frame, prefix, _, path, digest in self.rows():
+            segments, words = list(segments_in(frame)), module.copy_flat_at(frame, path)
+            for before in prefix, bytearray(prefix), memoryview(b'.' + prefix)[1:]:
+                self.assertEqual(module.digest_at(frame, path, prefix=before).hex(), digest)
+                self.assertEqual(module.segments_digest_at(segments, path, prefix=before).hex(), digest)
+                self.assertEqual(module.words_digest(words, prefix=before).hex(), digest)
+            self.assertEqual(module.hexdigest_at(frame, path, prefix=prefix), digest)
+            self.assertEqual(module.segments_hexdigest_at(segments, path, prefix=prefix), digest)
+            self.assertEqual(module.words_hexdigest_at(words, (), prefix=prefix), digest)
+            self.assertEqual(hashlib.sha256(prefix + words).hexdigest(), digest)
+            if not path:
+                self.assertEqual(module.hexdigest(frame, prefix=prefix), digest)
+                self.assertEqual(module.segments_hexdigest(segments, prefix=prefix), digest)
+            count += 1
+        self.assertEqual(count, 26)
+        for prefix in 8, 'text', None:
+            with self.assertRaises(TypeError):
+                module.digest(SHARED, prefix=prefix)
+        with self.assertRaises(Error) as refused:
+            module.digest(ZERO_WORD, prefix=b'.', words=0)
+        self.assertIs(refused.exception.number, Refusal.MESSAGE_TOO_LONG)
+
+    def test_packed(self):
+        known = 0
+        for frame, _, packed, _, _ in self.rows():
+            ours = capnp_canonical.pack(frame)
+            for given in bytearray(frame), memoryview(b'.' + frame)[1:]:
+                self.assertEqual(capnp_canonical.pack(given), ours)
+            if packed:
+                self.assertEqual(ours.hex(), packed.hex())
+                known += 1
+            self.assertEqual(capnp_canonical.unpack(ours), frame)
+        self.assertEqual(known, 18)
+        self.assertEqual(capnp_canonical.pack(b''), b'')
+        self.assertEqual(capnp_canonical.pack(bytes(8 * 300)), bytes.fromhex('00ff002b'))
+        for size in 1, 7, 9, 4095:
+            with self.assertRaises(Error) as refused:
+                capnp_canonical.pack(bytes(size))
+            self.assertIs(refused.exception.number, Refusal.SEGMENT_IS_NOT_WHOLE_WORDS)
+
+    def test_equal(self):
+        module = capnp_canonical
+        self.assertTrue(module.equal(SHARED, module.copy(SHARED)))
+        self.assertFalse(module.equal(SHARED, ZERO_WORD))
+        self.assertTrue(module.segments_equal([ZERO_WORD[8:]], [ZERO_WORD_FLAT]))
+        self.assertTrue(module.words_equal(ZERO_WORD[8:], ZERO_WORD_FLAT))
+        self.assertFalse(module.words_equal(ZERO_WORD_FLAT, SHARED_FLAT))
+        # the error is that of the first message that is refused
+        broken = bytes.fromhex('0000000001000000 0000000001000000')
+        for one, other in (broken, SHARED), (SHARED, broken), (broken, b''):
+            with self.assertRaises(Error) as refused:
+                module.equal(one, other)
+            self.assertIs(refused.exception.number, Refusal.MESSAGE_CONTAINS_OUT_OF_BOUNDS_POINTER)
+            self.assertEqual(refused.exception.pointer, (0, 0))
+        with self.assertRaises(Error) as refused:
+            module.equal(SHARED, SHARED[:-1])
+        self.assertIs(refused.exception.number, Refusal.TRUNCATED)
 
 
 class Calls(unittest.TestCase):

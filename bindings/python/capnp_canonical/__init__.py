@@ -37,7 +37,7 @@ from capnp_canonical._answers import (
 from capnp_canonical._asyncio import async_frames, async_packed_frames
 from capnp_canonical._calls import (
     check, copy, copy_flat, copy_flat_at, copy_flat_into, copy_into, digest, digest_at, equal, frame_size,
-    hexdigest, hexdigest_at, is_canonical, segments_check, segments_copy, segments_copy_flat, segments_copy_flat_at,
+    hexdigest, hexdigest_at, is_canonical, pack, segments_check, segments_copy, segments_copy_flat, segments_copy_flat_at,
     segments_digest, segments_digest_at, segments_equal, segments_hexdigest, segments_hexdigest_at,
     segments_is_canonical, segments_size, segments_size_at, segments_validate, segments_walk, size, size_at, unpack,
     unpack_into, validate, walk, words_check, words_copy, words_copy_at, words_digest, words_digest_at, words_equal,
@@ -53,7 +53,7 @@ __all__ = [
     'MAX_NESTING', 'NoRoomError', 'NoSuchPlaceError', 'Object', 'OutOfMemoryError', 'OverLimitError', 'Reason',
     'Refusal', 'Size', 'TooLargeError', 'Walk', 'Words', 'async_frames', 'async_packed_frames', 'check', 'copy',
     'copy_flat', 'copy_flat_at', 'copy_flat_into', 'copy_into', 'digest', 'digest_at', 'equal', 'frame_size',
-    'frames', 'hexdigest', 'hexdigest_at', 'is_canonical', 'packed_frames', 'segments_check', 'segments_copy',
+    'frames', 'hexdigest', 'hexdigest_at', 'is_canonical', 'pack', 'packed_frames', 'segments_check', 'segments_copy',
     'segments_copy_flat', 'segments_copy_flat_at', 'segments_digest', 'segments_digest_at', 'segments_equal',
     'segments_hexdigest', 'segments_hexdigest_at', 'segments_is_canonical', 'segments_size', 'segments_size_at',
     'segments_validate', 'segments_walk', 'size', 'size_at', 'unpack', 'unpack_into', 'validate', 'version', 'walk',

@@ -262,6 +262,34 @@ def _digest(call: _Call, given: _Given, limits: Limits, reading: _Reading = _CAN
     return to.raw
 
 
+def _digesting(message: str, prefix: ReadableBuffer, path: Optional[Iterable[int]] = None) -> _Call:
+    """The call for the digest of a prefix and a message, or a part of one. `message` is a part of the call's name."""
+    before = bytes(memoryview(prefix))
+    name = f'capnp_canonical_{message}digest' + '_with' * bool(before) + '_at' * (path is not None)
+    call: _Call = getattr(library, name)
+    if before:
+        call = functools.partial(call, before, len(before))
+    return call if path is None else _at(call, path)
+
+
+def _same(message: str, one: _Given, other: _Given, limits: Limits) -> bool:
+    """Whether two messages have the same canonical words. `message` is a part of the call's name."""
+    same = ctypes.c_bool()
+    with one, other:
+        nesting, words = _limits(limits)
+        call = getattr(library, f'capnp_canonical_{message}equal')
+        answer = call(one.first, one.second, other.first, other.second, nesting, words, same)
+        if answer == DONE:
+            return same.value
+        # the answer doesn't say which message is refused
+        for given in one, other:
+            to = ctypes.create_string_buffer(_DIGEST)
+            its = getattr(library, f'capnp_canonical_{message}digest')(given.first, given.second, nesting, words, to)
+            if its != DONE:
+                raise _error_of(its, given, limits, _CANONICAL)
+        raise Error(answer)
+
+
 def _checked(call: _Call, given: _Given, limits: Limits) -> Optional[Fault]:
     is_canonical, fault = ctypes.c_bool(), RawFault()
     with given:
@@ -359,23 +387,30 @@ def copy_flat_into(
     return _written_into(library.capnp_canonical_copy_flat, to, frame, limits)
 
 
-def digest(frame: Message, limits: Limits = LIMITS, *, nesting: Bound = None, words: Bound = None) -> bytes:
+def digest(
+    frame: Message, limits: Limits = LIMITS, *, prefix: ReadableBuffer = b'', nesting: Bound = None, words: Bound = None
+) -> bytes:
     """The SHA-256 of the canonical words of the message, which are the bytes that `copy_flat` gives. It names the value:
-    messages with equal values have the same."""
+    messages with equal values have the same.
+
+    The bytes of `prefix` are hashed first. Canonical words don't tell their type: with the 8 bytes of a type id
+    as the prefix, the digest and a signature of it cover the type."""
     limits = within(limits, nesting, words)
-    return _digest(library.capnp_canonical_digest, _message(frame, limits), limits)
+    return _digest(_digesting('', prefix), _message(frame, limits), limits)
 
 
-def hexdigest(frame: Message, limits: Limits = LIMITS, *, nesting: Bound = None, words: Bound = None) -> str:
+def hexdigest(
+    frame: Message, limits: Limits = LIMITS, *, prefix: ReadableBuffer = b'', nesting: Bound = None, words: Bound = None
+) -> str:
     """Like `digest`, in 64 hexadecimal digits of lower case."""
-    return digest(frame, within(limits, nesting, words)).hex()
+    return digest(frame, within(limits, nesting, words), prefix=prefix).hex()
 
 
 def equal(frame: Message, other: Message, limits: Limits = LIMITS, *, nesting: Bound = None, words: Bound = None) -> bool:
     """Test whether two messages have the same value: whether their canonical words are equal. Each is read within the limits.
     To compare one message with many, compare digests."""
     limits = within(limits, nesting, words)
-    return copy_flat(frame, limits) == copy_flat(other, limits)
+    return _same('', _message(frame, limits), _message(other, limits), limits)
 
 
 def copy_flat_at(
@@ -389,18 +424,18 @@ def copy_flat_at(
 
 
 def digest_at(
-    frame: Message, path: Iterable[int], limits: Limits = LIMITS, *, nesting: Bound = None, words: Bound = None
+    frame: Message, path: Iterable[int], limits: Limits = LIMITS, *, prefix: ReadableBuffer = b'', nesting: Bound = None, words: Bound = None
 ) -> bytes:
-    """The SHA-256 of the bytes that `copy_flat_at` gives."""
+    """The SHA-256 of the bytes that `copy_flat_at` gives, after those of `prefix`."""
     limits = within(limits, nesting, words)
-    return _digest(_at(library.capnp_canonical_digest_at, path), _message(frame, limits), limits, None)
+    return _digest(_digesting('', prefix, path), _message(frame, limits), limits, None)
 
 
 def hexdigest_at(
-    frame: Message, path: Iterable[int], limits: Limits = LIMITS, *, nesting: Bound = None, words: Bound = None
+    frame: Message, path: Iterable[int], limits: Limits = LIMITS, *, prefix: ReadableBuffer = b'', nesting: Bound = None, words: Bound = None
 ) -> str:
     """Like `digest_at`, in 64 hexadecimal digits."""
-    return digest_at(frame, path, within(limits, nesting, words)).hex()
+    return digest_at(frame, path, within(limits, nesting, words), prefix=prefix).hex()
 
 
 def check(
@@ -470,18 +505,18 @@ def segments_copy_flat(
 
 
 def segments_digest(
-    segments: Iterable[ReadableBuffer], limits: Limits = LIMITS, *, nesting: Bound = None, words: Bound = None
+    segments: Iterable[ReadableBuffer], limits: Limits = LIMITS, *, prefix: ReadableBuffer = b'', nesting: Bound = None, words: Bound = None
 ) -> bytes:
     """Like `digest`, for a message of these segments."""
     limits = within(limits, nesting, words)
-    return _digest(library.capnp_canonical_segments_digest, _segments(segments), limits)
+    return _digest(_digesting('segments_', prefix), _segments(segments), limits)
 
 
 def segments_hexdigest(
-    segments: Iterable[ReadableBuffer], limits: Limits = LIMITS, *, nesting: Bound = None, words: Bound = None
+    segments: Iterable[ReadableBuffer], limits: Limits = LIMITS, *, prefix: ReadableBuffer = b'', nesting: Bound = None, words: Bound = None
 ) -> str:
     """Like `hexdigest`, for a message of these segments."""
-    return segments_digest(segments, within(limits, nesting, words)).hex()
+    return segments_digest(segments, within(limits, nesting, words), prefix=prefix).hex()
 
 
 def segments_equal(
@@ -489,7 +524,7 @@ def segments_equal(
 ) -> bool:
     """Like `equal`, for two messages of segments."""
     limits = within(limits, nesting, words)
-    return segments_copy_flat(segments, limits) == segments_copy_flat(other, limits)
+    return _same('segments_', _segments(segments), _segments(other), limits)
 
 
 def segments_copy_flat_at(
@@ -501,18 +536,18 @@ def segments_copy_flat_at(
 
 
 def segments_digest_at(
-    segments: Iterable[ReadableBuffer], path: Iterable[int], limits: Limits = LIMITS, *, nesting: Bound = None, words: Bound = None
+    segments: Iterable[ReadableBuffer], path: Iterable[int], limits: Limits = LIMITS, *, prefix: ReadableBuffer = b'', nesting: Bound = None, words: Bound = None
 ) -> bytes:
     """Like `digest_at`, for a message of these segments."""
     limits = within(limits, nesting, words)
-    return _digest(_at(library.capnp_canonical_segments_digest_at, path), _segments(segments), limits, None)
+    return _digest(_digesting('segments_', prefix, path), _segments(segments), limits, None)
 
 
 def segments_hexdigest_at(
-    segments: Iterable[ReadableBuffer], path: Iterable[int], limits: Limits = LIMITS, *, nesting: Bound = None, words: Bound = None
+    segments: Iterable[ReadableBuffer], path: Iterable[int], limits: Limits = LIMITS, *, prefix: ReadableBuffer = b'', nesting: Bound = None, words: Bound = None
 ) -> str:
     """Like `hexdigest_at`, for a message of these segments."""
-    return segments_digest_at(segments, path, within(limits, nesting, words)).hex()
+    return segments_digest_at(segments, path, within(limits, nesting, words), prefix=prefix).hex()
 
 
 def segments_size_at(
@@ -584,17 +619,17 @@ def words_copy(
 
 @_also_by_name
 def words_digest(
-    message: ReadableBuffer, limits: Limits = LIMITS, *, nesting: Bound = None, words: Bound = None
+    message: ReadableBuffer, limits: Limits = LIMITS, *, prefix: ReadableBuffer = b'', nesting: Bound = None, words: Bound = None
 ) -> bytes:
     """Like `digest`, for a message passed as raw words."""
-    return segments_digest([message], within(limits, nesting, words))
+    return segments_digest([message], within(limits, nesting, words), prefix=prefix)
 
 
 def words_hexdigest(
-    message: ReadableBuffer, limits: Limits = LIMITS, *, nesting: Bound = None, words: Bound = None
+    message: ReadableBuffer, limits: Limits = LIMITS, *, prefix: ReadableBuffer = b'', nesting: Bound = None, words: Bound = None
 ) -> str:
     """Like `hexdigest`, for a message passed as raw words."""
-    return words_digest(message, within(limits, nesting, words)).hex()
+    return words_digest(message, within(limits, nesting, words), prefix=prefix).hex()
 
 
 def words_equal(
@@ -602,7 +637,7 @@ def words_equal(
 ) -> bool:
     """Like `equal`, for two messages passed as raw words."""
     limits = within(limits, nesting, words)
-    return words_copy(message, limits) == words_copy(other, limits)
+    return segments_equal([message], [other], limits)
 
 
 @_also_by_name
@@ -615,17 +650,17 @@ def words_copy_at(
 
 @_also_by_name
 def words_digest_at(
-    message: ReadableBuffer, path: Iterable[int], limits: Limits = LIMITS, *, nesting: Bound = None, words: Bound = None
+    message: ReadableBuffer, path: Iterable[int], limits: Limits = LIMITS, *, prefix: ReadableBuffer = b'', nesting: Bound = None, words: Bound = None
 ) -> bytes:
     """Like `digest_at`, for a message passed as raw words."""
-    return segments_digest_at([message], path, within(limits, nesting, words))
+    return segments_digest_at([message], path, within(limits, nesting, words), prefix=prefix)
 
 
 def words_hexdigest_at(
-    message: ReadableBuffer, path: Iterable[int], limits: Limits = LIMITS, *, nesting: Bound = None, words: Bound = None
+    message: ReadableBuffer, path: Iterable[int], limits: Limits = LIMITS, *, prefix: ReadableBuffer = b'', nesting: Bound = None, words: Bound = None
 ) -> str:
     """Like `hexdigest_at`, for a message passed as raw words."""
-    return words_digest_at(message, path, within(limits, nesting, words)).hex()
+    return words_digest_at(message, path, within(limits, nesting, words), prefix=prefix).hex()
 
 
 @_also_by_name
@@ -723,6 +758,21 @@ def unpack(packed: ReadableBuffer, words: int = LIMITS.words) -> bytes:
         room = _room(size)
         _unpacked(given, room.address, size)
     return room.take(size)
+
+
+def pack(frames: ReadableBuffer) -> bytes:
+    """Pack whole words, such as the frames of one or more messages: what `capnp encode --packed` and pycapnp's
+    `to_bytes_packed` write. Raises `Error` if the number of bytes isn't a multiple of 8."""
+    with _packed(frames) as given:
+        size: int = given.second
+        if not size:
+            return b''
+        # a word is packed to ten bytes at most
+        room, written = _room(size + size // 4), ctypes.c_size_t()
+        answer = library.capnp_canonical_pack(given.first, size, room.address, room.size, written)
+        if answer != DONE:
+            raise Error(answer)
+    return room.take(written.value)
 
 
 def unpack_into(to: WriteableBuffer, packed: ReadableBuffer) -> int:

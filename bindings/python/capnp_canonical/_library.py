@@ -181,11 +181,18 @@ def _load() -> ctypes.CDLL:
             if call in parts:
                 function = getattr(library, f'capnp_canonical_{message}{call}_at')
                 function.argtypes, function.restype = [first, size, pointer(u32), size, *limits, *outputs], u32
+        function = getattr(library, f'capnp_canonical_{message}digest_with')
+        function.argtypes, function.restype = [at, size, first, size, *limits, ctypes.c_char_p], u32
+        function = getattr(library, f'capnp_canonical_{message}digest_with_at')
+        function.argtypes, function.restype = [at, size, first, size, pointer(u32), size, *limits, ctypes.c_char_p], u32
+        function = getattr(library, f'capnp_canonical_{message}equal')
+        function.argtypes, function.restype = [first, size, first, size, *limits, pointer(ctypes.c_bool)], u32
     others: Any = (
         ('frame_size', [at, size, u64, pointer(size)], u32),
         ('frame_size_from_prefix', [ctypes.c_char_p, size, u64, pointer(size)], u32),
         ('name', [u32, ctypes.c_char_p, size], size),
         ('reason_text', [u32, ctypes.c_char_p, size], size),
+        ('pack', [at, size, at, size, pointer(size)], u32),
         ('unpack', [at, size, at, size, pointer(size)], u32),
         ('unpack_piece', [pointer(RawUnpacking), at, size, at, size, pointer(size)], size),
         ('version', [], u32),

@@ -81,7 +81,7 @@ pub use error::{Broken, Error, ErrorKind, Pointer};
 pub use limits::Limits;
 pub use looks::looks_like;
 use message::{first_frame, framed, Message};
-pub use packed::{unpack, unpack_into};
+pub use packed::{pack, pack_into, unpack, unpack_into};
 #[cfg(feature = "std")]
 pub use packed_reader::PackedFrameReader;
 pub use raw_words::Words;
@@ -150,6 +150,35 @@ pub fn digest(frame: impl AsRef<[u8]>, limits: Limits) -> Result<[u8; 32], Error
     framed(frame.as_ref(), limits)?.digest()
 }
 
+/// The SHA-256 of `prefix` and then the canonical words. Canonical words don't tell their type: with the 8 bytes
+/// of a type id as the prefix, the digest and a signature of it cover the type.
+///
+/// # Errors
+///
+/// Those of [`canonical_copy`].
+pub fn digest_with(
+    prefix: impl AsRef<[u8]>,
+    frame: impl AsRef<[u8]>,
+    limits: Limits,
+) -> Result<[u8; 32], Error> {
+    framed(frame.as_ref(), limits)?.digest_after(prefix.as_ref())
+}
+
+/// Whether two messages have the same value: whether [`canonical_words`] returns the same for both. To compare one message
+/// with many, compare digests.
+///
+/// # Errors
+///
+/// Those of [`canonical_copy`], for the first of the messages that is refused. Each is read within the limits.
+pub fn equal(
+    frame: impl AsRef<[u8]>,
+    other: impl AsRef<[u8]>,
+    limits: Limits,
+) -> Result<bool, Error> {
+    let message = framed(frame.as_ref(), limits)?;
+    message.equals(framed(other.as_ref(), limits)?)
+}
+
 /// Makes a part of the message canonical, and returns its raw words: the value at the end of a path. The path is the
 /// indexes of pointers, from the root pointer on; `&[0]` is the first pointer of the root struct. In a list, an index is
 /// that of an element. The rest of the message isn't read.
@@ -174,6 +203,20 @@ pub fn canonical_words_at(
 /// Those of [`canonical_words_at`].
 pub fn digest_at(frame: impl AsRef<[u8]>, path: &[u32], limits: Limits) -> Result<[u8; 32], Error> {
     framed(frame.as_ref(), limits)?.digest_part(path)
+}
+
+/// The SHA-256 of `prefix` and then the bytes that [`canonical_words_at`] returns.
+///
+/// # Errors
+///
+/// Those of [`canonical_words_at`].
+pub fn digest_with_at(
+    prefix: impl AsRef<[u8]>,
+    frame: impl AsRef<[u8]>,
+    path: &[u32],
+    limits: Limits,
+) -> Result<[u8; 32], Error> {
+    framed(frame.as_ref(), limits)?.digest_part_after(prefix.as_ref(), path)
 }
 
 /// Says why and where the message of the frame at the front of a slice isn't canonical; `None` if it is: one segment

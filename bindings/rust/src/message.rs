@@ -17,6 +17,7 @@ use capnp_layout::proved::capnp_refusals::refusals::{pointer_of_refusal, refused
 use capnp_layout::proved::capnp_walks::walks::walk_message;
 use capnp_layout::proved::capnp_words::error::ErrorKind;
 use capnp_layout::proved::support::alloc::Global;
+use capnp_layout::proved::support::sha2::{Digest, Sha256};
 
 /// The words of the stack memory in which the copy of a small message is made, and the words that a message has that isn't
 /// small: testing whether it is canonical already costs less than a copy.
@@ -89,41 +90,77 @@ impl<S: ReaderSegments + Copy + Send + Sync> Message<S> {
         }))
     }
 
-    /// Appends the canonical copy in this form. Returns the number of bytes appended. A refusal leaves the vector as it was.
-    pub(crate) fn copy_into(self, form: Form, to: &mut Vec<u8>) -> Result<usize, Error> {
+    /// Uses the canonical words: those of the message itself if it is canonical already, or of a copy. The error of a refusal
+    /// is that of this command.
+    fn with_words<T: Send>(
+        self,
+        command: Command,
+        way: impl FnOnce(&[u8]) -> Result<T, Error> + Send,
+    ) -> Result<T, Error> {
         self.read(|source, limit| {
-            let refused = |kind| self.refused(kind, Command::Canon(form));
+            let refused = |kind| self.refused(kind, command);
             if source.size_in_words() >= SMALL {
                 if let Some(words) = canonical_segment(source, limit) {
-                    return append(form, words, to);
+                    return way(words);
                 }
             } else {
                 let mut memory = [0; 8 * SMALL];
                 let mut made = BuilderArenaImpl::new(Global, LentMemory::new(&mut memory));
                 if canonicalize_into(&mut made, SMALL as u32, source, limit).map_err(refused)? {
-                    return append(form, canonical_bytes(&made), to);
+                    return way(canonical_bytes(&made));
                 }
             }
             match canonicalize(Global, CopyMemory::new(Global), source, limit) {
-                Ok(made) => append(form, canonical_bytes(&made), to),
+                Ok(made) => way(canonical_bytes(&made)),
                 Err((kind, _)) => Err(refused(kind)),
             }
         })
     }
 
-    /// Appends the canonical words of the part to which a path leads.
-    pub(crate) fn part_into(self, path: &[u32], to: &mut Vec<u8>) -> Result<usize, Error> {
+    /// Uses the canonical words of the part to which a path leads.
+    fn with_part<T: Send>(
+        self,
+        path: &[u32],
+        way: impl FnOnce(&[u8]) -> Result<T, Error> + Send,
+    ) -> Result<T, Error> {
         self.read(|source, limit| {
             let mut memory = [0; 8 * SMALL];
             let mut made = BuilderArenaImpl::new(Global, LentMemory::new(&mut memory));
             let fits = canonicalize_part_into(&mut made, SMALL as u32, source, path, limit);
             if fits.map_err(Error::of_layout)? {
-                return append(Form::Flat, canonical_bytes(&made), to);
+                return way(canonical_bytes(&made));
             }
             match canonicalize_part(Global, CopyMemory::new(Global), source, path, limit) {
-                Ok(made) => append(Form::Flat, canonical_bytes(&made), to),
+                Ok(made) => way(canonical_bytes(&made)),
                 Err((kind, _)) => Err(Error::of_layout(kind)),
             }
+        })
+    }
+
+    /// Appends the canonical copy in this form. Returns the number of bytes appended. A refusal leaves the vector as it was.
+    pub(crate) fn copy_into(self, form: Form, to: &mut Vec<u8>) -> Result<usize, Error> {
+        self.with_words(Command::Canon(form), |words| append(form, words, to))
+    }
+
+    /// Appends the canonical words of the part to which a path leads.
+    pub(crate) fn part_into(self, path: &[u32], to: &mut Vec<u8>) -> Result<usize, Error> {
+        self.with_part(path, |words| append(Form::Flat, words, to))
+    }
+
+    /// The SHA-256 of a prefix and then the canonical words.
+    pub(crate) fn digest_after(self, prefix: &[u8]) -> Result<[u8; 32], Error> {
+        self.with_words(Command::Digest, |words| Ok(hash(prefix, words)))
+    }
+
+    pub(crate) fn digest_part_after(self, prefix: &[u8], path: &[u32]) -> Result<[u8; 32], Error> {
+        self.with_part(path, |words| Ok(hash(prefix, words)))
+    }
+
+    /// Whether the canonical words are those of another message.
+    pub(crate) fn equals(self, other: Self) -> Result<bool, Error> {
+        let command = Command::Canon(Form::Flat);
+        self.with_words(command, |words| {
+            other.with_words(command, |others| Ok(words == others))
         })
     }
 
@@ -226,4 +263,12 @@ fn append(form: Form, words: &[u8], to: &mut Vec<u8>) -> Result<usize, Error> {
 /// Makes room for so many more items, or says that there is no memory for them.
 pub(crate) fn reserve<T>(to: &mut Vec<T>, more: usize) -> Result<(), Error> {
     to.try_reserve(more).map_err(|_| Error::ALLOCATION_FAILED)
+}
+
+/// The SHA-256 of a prefix and then these words.
+fn hash(prefix: &[u8], words: &[u8]) -> [u8; 32] {
+    let mut hasher = Sha256::new();
+    hasher.update(prefix);
+    hasher.update(words);
+    hasher.finalize()
 }

@@ -118,6 +118,15 @@ impl<B: AsRef<[u8]>> Words<B> {
         words::digest(self.as_bytes(), limits)
     }
 
+    /// The SHA-256 of `prefix` and then the canonical words of the value.
+    ///
+    /// # Errors
+    ///
+    /// Those of [`canonical_copy`](crate::canonical_copy).
+    pub fn digest_with(&self, prefix: impl AsRef<[u8]>, limits: Limits) -> Result<[u8; 32], Error> {
+        words::digest_with(prefix, self.as_bytes(), limits)
+    }
+
     /// The SHA-256 of the canonical words of the part of the value at the end of a path.
     ///
     /// # Errors

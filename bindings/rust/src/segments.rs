@@ -95,6 +95,25 @@ pub fn digest<S: Segments + ?Sized>(segments: &S, limits: Limits) -> Result<[u8;
     segmented(&gathered(segments)?, limits)?.digest()
 }
 
+/// The SHA-256 of `prefix` and then the canonical words.
+pub fn digest_with<S: Segments + ?Sized>(
+    prefix: impl AsRef<[u8]>,
+    segments: &S,
+    limits: Limits,
+) -> Result<[u8; 32], Error> {
+    segmented(&gathered(segments)?, limits)?.digest_after(prefix.as_ref())
+}
+
+/// Whether two messages have the same value, like `equal` of the crate.
+pub fn equal<S: Segments + ?Sized, T: Segments + ?Sized>(
+    segments: &S,
+    other: &T,
+    limits: Limits,
+) -> Result<bool, Error> {
+    let (ours, others) = (gathered(segments)?, gathered(other)?);
+    segmented(&ours, limits)?.equals(segmented(&others, limits)?)
+}
+
 /// Makes a part of the message canonical, and returns its raw words, like `canonical_words_at` of the crate.
 pub fn canonical_words_at<S: Segments + ?Sized>(
     segments: &S,
@@ -113,6 +132,16 @@ pub fn digest_at<S: Segments + ?Sized>(
     limits: Limits,
 ) -> Result<[u8; 32], Error> {
     segmented(&gathered(segments)?, limits)?.digest_part(path)
+}
+
+/// The SHA-256 of `prefix` and then the bytes that [`canonical_words_at`] returns.
+pub fn digest_with_at<S: Segments + ?Sized>(
+    prefix: impl AsRef<[u8]>,
+    segments: &S,
+    path: &[u32],
+    limits: Limits,
+) -> Result<[u8; 32], Error> {
+    segmented(&gathered(segments)?, limits)?.digest_part_after(prefix.as_ref(), path)
 }
 
 /// The size of the part of the message that [`canonical_words_at`] copies.

@@ -35,6 +35,25 @@ pub fn digest(words: impl AsRef<[u8]>, limits: Limits) -> Result<[u8; 32], Error
     segmented(&[words.as_ref()], limits)?.digest()
 }
 
+/// The SHA-256 of `prefix` and then the canonical words.
+pub fn digest_with(
+    prefix: impl AsRef<[u8]>,
+    words: impl AsRef<[u8]>,
+    limits: Limits,
+) -> Result<[u8; 32], Error> {
+    segmented(&[words.as_ref()], limits)?.digest_after(prefix.as_ref())
+}
+
+/// Whether the words hold the same value as others, like `equal` of the crate.
+pub fn equal(
+    words: impl AsRef<[u8]>,
+    other: impl AsRef<[u8]>,
+    limits: Limits,
+) -> Result<bool, Error> {
+    let (ours, others) = ([words.as_ref()], [other.as_ref()]);
+    segmented(&ours, limits)?.equals(segmented(&others, limits)?)
+}
+
 /// Makes a part of the value canonical, and returns its raw words, like `canonical_words_at` of the crate.
 pub fn canonical_words_at(
     words: impl AsRef<[u8]>,
@@ -49,6 +68,16 @@ pub fn canonical_words_at(
 /// The SHA-256 of the bytes that [`canonical_words_at`] returns.
 pub fn digest_at(words: impl AsRef<[u8]>, path: &[u32], limits: Limits) -> Result<[u8; 32], Error> {
     segmented(&[words.as_ref()], limits)?.digest_part(path)
+}
+
+/// The SHA-256 of `prefix` and then the bytes that [`canonical_words_at`] returns.
+pub fn digest_with_at(
+    prefix: impl AsRef<[u8]>,
+    words: impl AsRef<[u8]>,
+    path: &[u32],
+    limits: Limits,
+) -> Result<[u8; 32], Error> {
+    segmented(&[words.as_ref()], limits)?.digest_part_after(prefix.as_ref(), path)
 }
 
 /// The size of the part of the value that [`canonical_words_at`] copies.

@@ -4,3 +4,4 @@ pub mod CallLemmas
 pub mod PartSizeLemmas
 pub mod PartLemmas
 pub mod ExtentLemmas
+pub mod PackedLemmas

@@ -26,7 +26,9 @@ use Rattle.capnp_messages.specs.declared.messages.command.Form.{Form}
 use Rattle.capnp_messages.specs.declared.messages.command.Form.TheVariants.{Framed, Flat}
 use Rattle.capnp_packing.specs.Packing.{IsWhole, unpacked_bytes}
 use Rattle.capnp_packing.specs.declared.packing.place.Place.TheVariants.{Tag}
+use Rattle.capnp_objects.specs.Extents.{capped}
 use Rattle.capnp_canonical.specs.Numbers.{reason_number, answer_number}
+use Rattle.capnp_canonical.specs.PackedWords.{packed_words}
 use Rattle.capnp_canonical.specs.declared.fault.Fault.{Fault}
 use Rattle.capnp_canonical.specs.declared.refusal.Refusal.{Refusal}
 use Rattle.capnp_canonical.specs.declared.refusal.Refusal.TheVariants.{NoRoom, NoMessage}
@@ -94,6 +96,13 @@ RefusesPacked packed room r =
     ((r ≡ Frame Truncated) × (IsWhole Tag packed → ⊥))
     ⊎ ((r ≡ NoRoom size) × IsWhole Tag packed × (room < size))
     ⊎ ((r ≡ NoRoom (2 ^ 64 - 1)) × (2 ^ 64 ≤ size))
+
+-- Bytes aren't packed: they aren't whole words; or they are packed to more bytes than there is room for.
+abbrev pub RefusesPacking : List ℕ → ℕ → Refusal → Type 0
+RefusesPacking bytes room r =
+    let size = length (packed_words bytes) in
+    ((r ≡ SegmentIsNotWholeWords) × (length bytes % 8 ≢ 0))
+    ⊎ ((r ≡ NoRoom (capped size)) × (length bytes % 8 ≡ 0) × (room < size))
 
 -- The canonical bytes of a message, in this form: of at most as many words as a segment of a copy can have.
 abbrev pub IsCopyOf : Form → ReaderOptions → Segments → List ℕ → Type 0

@@ -1,7 +1,9 @@
 pub mod Numbers
 pub mod Texts
+pub mod PackedWords
 pub mod Calls
 pub mod Parts
+pub mod Taking
 pub mod Validation
 pub mod Pieces
 pub mod Locating

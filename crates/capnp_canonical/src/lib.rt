@@ -8,7 +8,7 @@
 //! never refused; they return a length or the version.
 #![tactic(auto)]
 
-ghost use Rattle.std.specs.Prelude.{◌≡◌, ◌≢◌, ◌⊎◌, ◌≤◌, ⊤, ◌+◌, ◌*◌, ◌++◌, ℕ, List, Ok, codes, false, length, replicate, take, drop};
+ghost use Rattle.std.specs.Prelude.{◌≡◌, ◌≢◌, ◌⊎◌, ◌≤◌, ⊤, ◌+◌, ◌*◌, ◌%◌, ◌++◌, ℕ, List, IsTrue, Ok, codes, false, length, replicate, take, drop};
 ghost use Rattle.capnp_format.specs.Segments.{Segments};
 ghost use Rattle.capnp_framing.specs.Frames.{IsFrameOf};
 ghost use Rattle.capnp_framing.specs.Prefix.{size_from_prefix};
@@ -21,26 +21,32 @@ ghost use Rattle.capnp_messages.specs.declared.messages.command.Form.{Form};
 ghost use Rattle.capnp_packing.specs.Packing.{IsWhole, Packs, unpacked_bytes};
 ghost use Rattle.capnp_packing.specs.Pieces.{unpacked_piece};
 ghost use Rattle.capnp_messages.specs.SmallCopies.{NeedsNoHeap};
-ghost use Rattle.capnp_canonical.specs.Calls.{FillsByNumber, InFrame, IsCopyOf, IsGranted, IsNumberWhere, RefusesBytes, RefusesMeaning, RefusesPacked, RefusesPrefix, RefusesRoom, TestIs, limits_of, no_fault};
+ghost use Rattle.capnp_canonical.specs.Calls.{FillsByNumber, InFrame, IsCopyOf, IsGranted, IsNumberWhere, RefusesBytes, RefusesMeaning, RefusesPacked, RefusesPrefix, RefusesRoom, RefusesPacking, TestIs, limits_of, no_fault};
 ghost use Rattle.capnp_canonical.specs.Validation.{ExtentIs, RefusesExtent, no_extent};
 ghost use Rattle.capnp_canonical.specs.Pieces.{next_place, unpacking_at, written_piece};
 ghost use Rattle.capnp_canonical.specs.Locating.{PointerIs, no_pointer};
 ghost use Rattle.capnp_objects.specs.CanonicalFaults.{fault_reason_text};
+ghost use Rattle.capnp_canonical.specs.PackedWords.{packed_words};
 ghost use Rattle.capnp_canonical.specs.Numbers.{answer_name, answer_number, reason_number, wanted_room};
-ghost use Rattle.capnp_canonical.specs.Texts.{PutsText, IsTextOf};
+ghost use Rattle.capnp_canonical.specs.Texts.{PutsText, IsTextOf, is_c_string};
 
 mod calls;
 mod digest;
+mod equal_exports;
 mod fault;
 mod frames;
 mod locating;
 mod names;
 mod packed;
+mod packing;
 mod part_exports;
 mod parts;
+mod prefix_exports;
 mod refusal;
 mod segment_exports;
 mod segments;
+mod taking;
+mod texts;
 mod validation;
 mod walk_exports;
 mod word_exports;
@@ -56,7 +62,9 @@ use frames::{
 use locating::{BrokenPointer, NO_POINTER, locate_in_frame};
 use names::{name_of_number, put_text, text_of_reason};
 use packed::{Unpacking, unpack, unpack_further};
+use packing::pack;
 use std::alloc::Global;
+use texts::text_of_answer;
 use validation::{NOT_SOUND, SoundMessage, validate_frame};
 
 /// Makes a canonical copy of the message whose frame is at the front of `frame`, writes the copy to
@@ -390,6 +398,36 @@ pub extern "C" fn capnp_canonical_unpack(packed: &[u8], to: &mut [u8], written: 
     }
 }
 
+/// Packs `words` (encoding specification, "Packing") to the front of `to`, and stores the number of
+/// packed bytes in `written`. `words` is whole words, such as the frames of messages. Takes no
+/// memory.
+///
+/// The packed bytes are those that C++ and Rust make of the words, each run as long as it can be.
+/// There are at most 10 for each word. If `to` is too small, stores the number of bytes needed in
+/// `written`; for any other refusal, 0. The bytes of `to` after the packed bytes are unchanged. If
+/// the call is refused, all bytes of `to` are unchanged.
+#[unsafe(no_mangle)]
+pub extern "C" fn capnp_canonical_pack(words: &[u8], to: &mut [u8], written: &mut usize) -> u32
+    ensures done { FillsByNumber result written.new to.old to.new
+        (λ bytes. (bytes ≡ packed_words words.now) × Packs bytes words.now) }
+    ensures refused { result ≢ 0 → IsNumberWhere result (λ r. (written.new ≡ wanted_room r)
+        × RefusesPacking words.now (length to.old) r) }
+    ensures granted { length words.now % 8 ≡ 0
+        → (length (packed_words words.now) ≤ length to.old)
+        ⊎ (10 * length words.now ≤ 8 * length to.old) → result ≡ 0 }
+{
+    match pack(words, to) {
+        Ok(size) => {
+            *written = size;
+            0
+        }
+        Err(refusal) => {
+            *written = refusal.wanted_room();
+            refusal.number()
+        }
+    }
+}
+
 /// Unpacks the next bytes of a packed stream to the front of `to`, and goes on from where the last
 /// call with this `unpacking` stopped; at the start of a stream its numbers are 0. Stops when `to`
 /// is full or no packed bytes are left. Stores how many it took in `taken`, and returns the number
@@ -411,6 +449,16 @@ pub extern "C" fn capnp_canonical_unpack_piece(
     ensures within { result ≤ length to.new }
 {
     unpack_further(unpacking, packed, to, taken)
+}
+
+/// Stores the text of the answer with the number `answer` in `text`: a constant, one or more bytes
+/// that aren't zero, and a terminating zero byte. So it is the text of a refusal as this library
+/// knows it, even if the header that the caller was compiled with is older.
+#[unsafe(no_mangle)]
+pub extern "C" fn capnp_canonical_answer_text(answer: u32, text: &mut &'static [u8])
+    ensures { IsTrue (is_c_string text.new.now) }
+{
+    *text = text_of_answer(answer);
 }
 
 /// Writes the name of the refusal with the number `answer` to the front of `to`, followed by a

@@ -126,6 +126,24 @@ pub fn digest<S: ReaderSegments + ?Sized>(message: &S, limits: Limits) -> Result
     segments::digest(&Of(message), limits)
 }
 
+/// The SHA-256 of `prefix` and then the canonical words, like `digest_with` of `capnp_canonical`.
+pub fn digest_with<S: ReaderSegments + ?Sized>(
+    prefix: impl AsRef<[u8]>,
+    message: &S,
+    limits: Limits,
+) -> Result<[u8; 32], Error> {
+    segments::digest_with(prefix, &Of(message), limits)
+}
+
+/// Whether two messages have the same value, like `equal` of `capnp_canonical`.
+pub fn equal<S: ReaderSegments + ?Sized, T: ReaderSegments + ?Sized>(
+    message: &S,
+    other: &T,
+    limits: Limits,
+) -> Result<bool, Error> {
+    segments::equal(&Of(message), &Of(other), limits)
+}
+
 /// Makes a part of the message canonical, and returns its raw words: the value at the end of a path of indexes, from the
 /// root pointer on.
 pub fn canonical_words_at<S: ReaderSegments + ?Sized>(
@@ -143,6 +161,16 @@ pub fn digest_at<S: ReaderSegments + ?Sized>(
     limits: Limits,
 ) -> Result<[u8; 32], Error> {
     segments::digest_at(&Of(message), path, limits)
+}
+
+/// The SHA-256 of `prefix` and then the bytes that [`canonical_words_at`] returns.
+pub fn digest_with_at<S: ReaderSegments + ?Sized>(
+    prefix: impl AsRef<[u8]>,
+    message: &S,
+    path: &[u32],
+    limits: Limits,
+) -> Result<[u8; 32], Error> {
+    segments::digest_with_at(prefix, &Of(message), path, limits)
 }
 
 /// The size of the part of the message that [`canonical_words_at`] copies.

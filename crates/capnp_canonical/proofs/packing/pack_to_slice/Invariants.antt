@@ -1,0 +1,14 @@
+use Rattle.std.proofs.Common.{◌≡◌, ◌+◌, ◌-◌, ◌≤◌, ◌%◌, ◌++◌, length, take, drop}
+use Rattle.capnp_canonical.specs.PackedWords.{packed_words}
+use Rattle.capnp_canonical.proofs.packing.pack_to_slice.Given as goal
+
+abbrev pub invariant-loop-taken : goal.invariant-loop-taken
+invariant-loop-taken l = record {
+  packed : take l.given l.to ++ packed_words (drop l.taken l.words) ≡ packed_words l.words;
+  whole : l.taken % 8 ≡ 0;
+  within : l.taken ≤ length l.words;
+  room : l.given + length (packed_words (drop l.taken l.words)) ≡ length (packed_words l.words);
+}
+
+abbrev pub decreases-loop-taken : goal.decreases-loop-taken
+decreases-loop-taken l = length l.words - l.taken
