@@ -61,5 +61,5 @@ def generate(generator, folder):
     asked = request(folder)
     for it in 'later.capnp', 'schema.capnp':
         (folder / it).unlink()
-    ran = subprocess.run([generator], cwd=folder, input=asked, stderr=subprocess.PIPE)
+    ran = subprocess.run([pathlib.Path(generator).resolve()], cwd=folder, input=asked, stderr=subprocess.PIPE)
     return ran.returncode, ran.stderr.decode()
