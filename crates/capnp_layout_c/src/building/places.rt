@@ -158,7 +158,7 @@ pub(crate) fn has_null(bytes: &[u8], used: u32, at: u64) -> bool
     ensures { IsTrue result
         ↔ (IsWordIn bytes.now used at × (slice_index (words_of bytes.now) at ≡ 0)) }
 {
-    has_word(bytes, used, at) && words::word_at(bytes, at as usize) == 0
+    has_word(bytes, used, at) && words::word_at(bytes, at as u32 as usize) == 0
 }
 
 /// Whether word `at` of the first `used` words of `bytes` is zero, and `words` more words have room
