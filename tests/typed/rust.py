@@ -25,8 +25,8 @@ The parts, by default all of them:
   something else, or its readers disagree.
 - `build`: the package `bindings/rust/capnpc_layout_rust/example`, whose build script generates its code, is built and runs; the crate
   for build scripts passes clippy; and it says which program is missing, or what `capnp` refuses.
-- `odd`: schemas with odd names and declarations, and a request of a later schema compiler, are compiled without a warning, and
-  standard error names what isn't written.
+- `odd`: schemas with odd names and declarations, and a request of a later schema compiler, are compiled without a warning, also with
+  plain values, and standard error names what isn't written.
 
 The generator is by default `capnpc-layout-rust` at the top. The last line is `N passed, M failed`."""
 import argparse
@@ -303,21 +303,28 @@ def build(options, room, counts):
 
 
 def odd(options, room, counts):
-    folder = room / 'odd/src'
-    folder.mkdir(parents=True)
-    said = ''
-    for path in sorted((HERE / 'odd').glob('*.capnp')):
-        said += generate(options.generator, str(path), folder)[1]
-    status, unknown_said = unknown.generate(options.generator, folder)
+    schemas = sorted((HERE / 'odd').glob('*.capnp'))
+    (room / 'unknown').mkdir()
+    status, unknown_said = unknown.generate(options.generator, room / 'unknown')
     counts.say(status == 0, 'odd: what a later schema compiler asks for')
-    said += unknown_said
-    modules = sorted(it.stem for it in folder.glob('*_capnp.rs'))
-    (folder / 'main.rs').write_text(''.join(f'mod {it};\n' for it in modules) + '\nfn main() {}\n', encoding='utf-8')
-    (folder.parent / 'Cargo.toml').write_text(MANIFEST, encoding='utf-8')
-    passed, text = cargo(['clippy'], folder.parent, room / 'target')
-    counts.say(passed, f'odd: the code for {len(modules)} schemas is compiled without a warning of rustc or clippy' if passed else text[-3000:])
+    said = compiled(options.generator, schemas, room / 'odd', room / 'target', counts, room / 'unknown') + unknown_said
     wanted = (HERE / 'odd/skipped.txt').read_text(encoding='utf-8')
     counts.say(said == wanted, 'odd: standard error names what is not written' if said == wanted else f'odd: standard error is {said}')
+    compiled(with_values(options.generator, room), [*schemas, HERE / 'rust/values.capnp'], room / 'odd_values', room / 'target', counts)
+
+
+def compiled(generator, schemas, folder, target, counts, made=None):
+    """Compiles the code for schemas, with that of a folder `made`, and returns what the generator says."""
+    (folder / 'src').mkdir(parents=True)
+    for path in made.glob('*_capnp.rs') if made else ():
+        shutil.copy(path, folder / 'src')
+    said = ''.join(generate(generator, str(path), folder / 'src')[1] for path in schemas)
+    modules = sorted(it.stem for it in (folder / 'src').glob('*_capnp.rs'))
+    (folder / 'src/main.rs').write_text(''.join(f'mod {it};\n' for it in modules) + '\nfn main() {}\n', encoding='utf-8')
+    (folder / 'Cargo.toml').write_text(MANIFEST.replace('"made"', f'"{folder.name}"'), encoding='utf-8')
+    passed, text = cargo(['clippy'], folder, target)
+    counts.say(passed, f'odd: the code for {len(modules)} schemas is compiled without a warning of rustc or clippy' if passed else text[-3000:])
+    return said
 
 
 def main():

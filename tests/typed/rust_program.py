@@ -124,7 +124,8 @@ class Code:
         self.schema, self.is_checked, taken = schema, False, {}
         for node in schema.nodes.values():
             node['last'] = unquoted(node['displayName']).decode().split(':')[-1].split('.')[-1]
-            scope = taken.setdefault(node['scopeId'], WORDS | {'Self', 'Builder', 'Which', 'Option', 'Result', 'g'})
+            values = {'Value', 'WhichValue'} if 'struct' in schema.nodes.get(node['scopeId'], ()) else set()
+            scope = taken.setdefault(node['scopeId'], WORDS | values | {'Self', 'Builder', 'Which', 'Option', 'Result', 'g'})
             node['own'] = take(scope, snake(node['last']))
             node['rust'] = take(scope, capital(node['last']))
         for node in schema.written:

@@ -10,9 +10,8 @@ pub struct Value {
 
 impl From<super::~type~<'_>> for Value {
     fn from(it: super::~type~<'_>) -> Self {
-        Value {
-~owned~~own_which~        }
-    }
+        let it = &it;
+~literal~    }
 }
 
 impl Value {
@@ -20,6 +19,11 @@ impl Value {
     pub fn write_to(&self, ~mut~to: Builder<'_>) {
 ~puts~~put_which~    }
 }
+";
+
+/// The value that is read, unless it fits one line.
+pub const LITERAL: &str = "        Value {
+~owned~~own_which~        }
 ";
 
 /// A value without fields.

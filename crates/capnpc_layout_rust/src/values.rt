@@ -21,6 +21,7 @@ pub fn write_value(schema: &Schema<'_>, piece: &mut Piece, node: &Node, it: &Str
         values.put("put_which", value_templates::PUT_WHICH);
     }
     let has_fields = !values.get("owned").is_empty();
+    put_literal(schema, has_union, &mut values);
     values.put("mut", if has_fields { "mut " } else { "" });
     piece.push(
         if has_fields || has_union {
@@ -37,6 +38,24 @@ pub fn write_value(schema: &Schema<'_>, piece: &mut Piece, node: &Node, it: &Str
     if has_union {
         write_members(schema, piece, node, it);
     }
+}
+
+// The most characters of the fields of a value in one line.
+const LITERAL_WIDTH: usize = 18;
+
+// Puts the value that is read: in one line if that has one field, and is short.
+fn put_literal(schema: &Schema<'_>, has_union: bool, to: &mut Values) {
+    let mut literal = Text::new(schema.alloc);
+    let body = to.get("owned").trim().trim_end_matches(',');
+    let is_short = body.len() <= LITERAL_WIDTH && !body.contains('\n') && !has_union;
+    if is_short {
+        literal.push("        Value { ");
+        literal.push(body);
+        literal.push(" }\n");
+    } else {
+        literal.push_filled(value_templates::LITERAL, to);
+    }
+    to.put_text("literal", literal);
 }
 
 // Puts the fields of a value, how they are read, and how they are written.

@@ -94,7 +94,7 @@ fn a_default_value_has_those_of_the_schema() -> Result<(), Error> {
     assert_eq!((filled.match_, filled.where_.as_str()), (5, "there"));
     assert_eq!((value.inner.is_none(), value.service), (true, None));
     assert_eq!(value.shape.which, root::shape::WhichValue::None);
-    // what is written is read as the same, also where nothing is the default value
+    // what is written is read as the same, also if no field has its default value
     let other = root::Value {
         greeting: "".into(),
         counted: vec![],

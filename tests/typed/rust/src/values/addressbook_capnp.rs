@@ -214,6 +214,7 @@ pub mod person {
 
     impl From<super::Person<'_>> for Value {
         fn from(it: super::Person<'_>) -> Self {
+            let it = &it;
             Value {
                 id: it.id(),
                 name: it.name().into(),
@@ -386,6 +387,7 @@ pub mod person {
 
         impl From<super::Employment<'_>> for Value {
             fn from(it: super::Employment<'_>) -> Self {
+                let it = &it;
                 Value {
                     which: it.which().into(),
                 }
@@ -588,6 +590,7 @@ pub mod person {
 
         impl From<super::PhoneNumber<'_>> for Value {
             fn from(it: super::PhoneNumber<'_>) -> Self {
+                let it = &it;
                 Value {
                     number: it.number().into(),
                     type_: it.type_(),
@@ -798,6 +801,7 @@ pub mod address_book {
 
     impl From<super::AddressBook<'_>> for Value {
         fn from(it: super::AddressBook<'_>) -> Self {
+            let it = &it;
             Value {
                 people: g::own_list(it.people()),
             }

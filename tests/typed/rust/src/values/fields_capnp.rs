@@ -213,6 +213,7 @@ pub mod inner {
 
     impl From<super::Inner<'_>> for Value {
         fn from(it: super::Inner<'_>) -> Self {
+            let it = &it;
             Value {
                 match_: it.match_(),
                 where_: it.where_().into(),
@@ -1720,6 +1721,7 @@ pub mod root {
 
     impl From<super::Root<'_>> for Value {
         fn from(it: super::Root<'_>) -> Self {
+            let it = &it;
             Value {
                 flag: it.flag(),
                 flag_set: it.flag_set(),
@@ -2215,6 +2217,7 @@ pub mod root {
 
         impl From<super::Shape<'_>> for Value {
             fn from(it: super::Shape<'_>) -> Self {
+                let it = &it;
                 Value {
                     which: it.which().into(),
                 }
@@ -2427,6 +2430,7 @@ pub mod root {
 
             impl From<super::Side<'_>> for Value {
                 fn from(it: super::Side<'_>) -> Self {
+                    let it = &it;
                     Value {
                         width: it.width(),
                         height: it.height(),
@@ -2544,6 +2548,7 @@ pub mod root {
 
                 impl From<super::Unit<'_>> for Value {
                     fn from(it: super::Unit<'_>) -> Self {
+                        let it = &it;
                         Value {
                             which: it.which().into(),
                         }
@@ -2705,6 +2710,7 @@ pub mod root {
 
         impl From<super::Spot<'_>> for Value {
             fn from(it: super::Spot<'_>) -> Self {
+                let it = &it;
                 Value {
                     x: it.x(),
                     on: it.on(),
