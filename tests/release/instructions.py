@@ -270,6 +270,39 @@ other:
 ret i64 3'''
     cases.add(switch, lambda a, b: 70 if a in (0, 5) else b if a == MOST else 3, [(0, 9), (5, 9), (MOST, 9), (7, 9)])
     cases.add('%x = trunc i64 %a to i8\nswitch i8 %x, label %other [\n    i8 -1, label %one\n  ]\none:\nret i64 1\nother:\nret i64 2', lambda a, b: 1 if a & 255 == 255 else 2, [(255, 0), (0x1ff, 0), (1, 0)])
+    # several jumps from one block to another one, where a value is chosen that nothing else uses: one that is computed, one that
+    # is read, and one that is read twice
+    before = '%at = alloca i64, align 8\nstore i64 %b, ptr %at, align 8\n%old = load i64, ptr %at, align 8\n'
+    arms = 'switch i64 %a, label %same [\n    i64 0, label %same\n    i64 5, label %two\n    i64 7, label %same\n  ]\nsame:\n%v = phi i64 [ X, %start ], [ X, %start ], [ X, %start ]\nret i64 %v\ntwo:\nret i64 3'
+    both = '%c = icmp ult i64 %a, 9\nbr i1 %c, label %same, label %same\nsame:\n%v = phi i64 [ X, %start ], [ X, %start ]\nret i64 %v'
+    for value, body, count in (
+        ('%x', '%x = add i64 %b, 1\n', lambda b: b + 1), ('%old', before, lambda b: b),
+        ('%y', before + '%x = mul i64 %old, 3\n%new = load i64, ptr %at, align 8\n%y = xor i64 %x, %new\n', lambda b: 3 * b ^ b),
+    ):
+        pairs = [(0, 4), (5, 4), (7, 4), (8, MOST), (MOST, 6)]
+        cases.add(body + arms.replace('X', value), lambda a, b, count=count: 3 if a == 5 else count(b), pairs)
+        cases.add(body + both.replace('X', value), lambda a, b, count=count: count(b), pairs)
+    # the same in a loop, where an old value would be seen
+    cases.add('''br label %loop
+loop:
+%i = phi i64 [ 0, %start ], [ %next, %on ]
+%sum = phi i64 [ 0, %start ], [ %more, %on ]
+%x = mul i64 %i, 10
+switch i64 %i, label %on [
+    i64 1, label %on
+    i64 2, label %skip
+    i64 3, label %on
+  ]
+skip:
+br label %on
+on:
+%v = phi i64 [ %x, %loop ], [ %x, %loop ], [ %x, %loop ], [ 7, %skip ]
+%more = add i64 %sum, %v
+%next = add i64 %i, 1
+%again = icmp ult i64 %next, %a
+br i1 %again, label %loop, label %end
+end:
+ret i64 %more''', lambda a, b: sum(7 if i == 2 else 10 * i for i in range(max(a, 1))), [(0, 0), (1, 0), (2, 0), (3, 0), (4, 0), (9, 0)])
     cases.add('%c = icmp ult i64 %a, %b\nbr i1 %c, label %never, label %on\non:\nret i64 4\nnever:\ncall void @llvm.trap()\nunreachable', lambda a, b: 4, [(5, 4)])
     cases.add('%both = call fastcc { i64, i8 } @pair(i64 %a, i64 %b)\n%x = extractvalue { i64, i8 } %both, 0\n%y = extractvalue { i64, i8 } %both, 1\n%z = zext i8 %y to i64\n%r = mul i64 %x, %z\nret i64 %r',
               lambda a, b: a * (b & 255), [(6, 7), (6, 263)],
@@ -353,9 +386,17 @@ def counting(cases):
         cases.add(f'{cut}%r = call i{width} @llvm.{word}.i{width}(i{width} {a}, i{width} {b}, i{width} {by})\n{widened(width, "%r")}',
                   lambda x, y, count=count, width=width, by=by: count(x % 2**width, y % 2**width, by, width) % 2**width, edges(width)[::7])
     # a product, and whether it needs more bits
-    cases.add('%x = trunc i64 %a to i32\n%y = trunc i64 %b to i32\n%p = call { i32, i1 } @llvm.umul.with.overflow.i32(i32 %x, i32 %y)\n%m = extractvalue { i32, i1 } %p, 0\n'
-              '%o = extractvalue { i32, i1 } %p, 1\n%s = select i1 %o, i32 7, i32 %m\n%r = zext i32 %s to i64\nret i64 %r',
-              lambda a, b: (a % 2**32) * (b % 2**32) if (a % 2**32) * (b % 2**32) < 2**32 else 7, edges(32) + edges(64)[:40])
+    for width in 32, 64:
+        cut, (a, b) = narrowed(width, 'a', 'b')
+        kind = f'{{ i{width}, i1 }}'
+        product = f'{cut}%p = call {kind} @llvm.umul.with.overflow.i{width}(i{width} {a}, i{width} {b})\n'
+        pairs = edges(32) + edges(64)
+        for over in 7, '%m':
+            # the bits that are left, too
+            cases.add(f'{product}%m = extractvalue {kind} %p, 0\n%o = extractvalue {kind} %p, 1\n%s = select i1 %o, i{width} {over}, i{width} %m\n{widened(width, "%s")}',
+                      lambda a, b, w=width, over=over: min((a % 2**w) * (b % 2**w) >> w, 1) * 7 or (a % 2**w) * (b % 2**w) if over == 7 else (a % 2**w) * (b % 2**w) % 2**w, pairs)
+        cases.add(f'{product}%o = extractvalue {kind} %p, 1\n{widened(1, "%o")}', lambda a, b, w=width: (a % 2**w) * (b % 2**w) >> w > 0, pairs)
+        cases.add(f'{product}ret i64 9', lambda a, b: 9)
 
 
 def long_names(cases):
@@ -416,11 +457,13 @@ REFUSED = [BODY.format(it) for it in (
     '%x = landingpad { ptr, i32 } cleanup', '%x = bitcast i64 %a to double', '%x = bitcast <16 x i1> zeroinitializer to <2 x i8>', '%x = add i1 true, true', '%x = icmp slt i1 true, false', '%x = add i64 %a, 1.5', '%x = alloca i64, i64 %a, align 8',
     'br label %on\non:\n  %x = alloca i64, align 8', '%x = select <16 x i1> zeroinitializer, <16 x i8> zeroinitializer, <16 x i8> zeroinitializer', '%x = addrspacecast ptr null to ptr addrspace(1)',
     '%x = fcmp oeq double 0.0, 0.0', '%x = frem double 1.0, 2.0', 'call void @llvm.lifetime.start.p0(ptr null)', '%x = unknown i64 %a', '%x = add i64 %a, 1 $',
+    # a value that no instruction has
+    '%x = add i64 %a, %nowhere\n  ret i64 %x',
 )] + [
     'define i64 @not_declared(i64 %a, i64 %b) #0 {\nstart:\n  ret i64 %a\n}\n', 'define i64 @test_0(i64 %a) #0 {\nstart:\n  ret i64 %a\n}\n', 'define i64 @test_0(i64 %a, i64 %b) #9 {\nstart:\n  ret i64 %a\n}\nattributes #9 = { returns_twice }\n',
     'define i64 @test_0(i64 %a, ...) #0 {\nstart:\n  ret i64 %a\n}\n', 'define i64 @test_0(ptr byval(i64) %a, i64 %b) #0 {\nstart:\n  ret i64 1\n}\n', 'define i64 @test_0(i64 %a, i64 %b) gc "statepoint" {\nstart:\n  ret i64 %a\n}\n',
     '@x = global i64 7, align 8\n', '@x = thread_local constant [1 x i8] zeroinitializer\n', '@x = private constant { i64 } { i64 1 }\n', '@x = external constant [2 x i8]\n', '@x = alias i64, ptr @y\n', '@x = private constant [3 x i8] c"ab"\n',
-    'declare i64 @printf(ptr)\n', '$x = comdat any\n', 'module asm "nop"\n',
+    'define i32 @main(i32 %count, ptr %words) #1 {\nstart:\n  ret i32 %count\n}\n', 'declare i64 @printf(ptr)\n', '$x = comdat any\n', 'module asm "nop"\n',
 ]
 # Changes of the written C that no compiler can tell.
 WRONG_CONSTANTS = (('say \\"hi', 'say \\"ho'), ('4294967295u, 7u', '4294967295u, 6u'), ('{ PLACE(g_row), PLACE(g_zeros) }', '{ PLACE(g_zeros), PLACE(g_row) }'), ('plain[9]', 'plain[10]'),
@@ -550,6 +593,61 @@ def by_llvm(room, counts):
     counts.told(holds, 'the module itself by the toolchain', said)
 
 
+# A program that makes a folder, and asks whether there is one. Its status has a bit for each answer that is right.
+FOLDERS = '''@made = private unnamed_addr constant [5 x i8] c"made\\00", align 1
+@none = private unnamed_addr constant [5 x i8] c"none\\00", align 1
+@file = private unnamed_addr constant [7 x i8] c"main.c\\00", align 1
+declare i32 @mkdir(ptr, i32)
+declare i32 @statx(i32, ptr, i32, i32, ptr)
+declare i32 @rattle_errno()
+declare void @llvm.memset.p0.i64(ptr, i8, i64, i1)
+define i32 @main(i32 %count, ptr %words) #1 {
+start:
+  %at = alloca [256 x i8], align 8
+  call void @llvm.memset.p0.i64(ptr %at, i8 0, i64 256, i1 false)
+  %place = getelementptr inbounds i8, ptr %at, i64 28
+  %once = call i32 @mkdir(ptr @made, i32 511)
+  %a = icmp eq i32 %once, 0
+  %twice = call i32 @mkdir(ptr @made, i32 511)
+  %is_there = call i32 @rattle_errno()
+  %b = icmp eq i32 %is_there, 17
+  %there = call i32 @statx(i32 -100, ptr @made, i32 0, i32 4095, ptr %at)
+  %folder = load i16, ptr %place, align 2
+  %kind = and i16 %folder, -4096
+  %c = icmp eq i16 %kind, 16384
+  %read = call i32 @statx(i32 -100, ptr @file, i32 0, i32 4095, ptr %at)
+  %plain = load i16, ptr %place, align 2
+  %other = and i16 %plain, -4096
+  %d = icmp eq i16 %other, -32768
+  %missing = call i32 @statx(i32 -100, ptr @none, i32 0, i32 4095, ptr %at)
+  %is_none = call i32 @rattle_errno()
+  %e = icmp eq i32 %is_none, 2
+  %unknown = call i32 @statx(i32 3, ptr @made, i32 4096, i32 4095, ptr %at)
+  %f = icmp eq i32 %unknown, -1
+  %told = add i32 %there, %read
+  %g = icmp eq i32 %told, 0
+''' + ''.join(f'  %{it}.0 = zext i1 %{it} to i32\n  %{it}.1 = shl i32 %{it}.0, {at}\n  %{it}.2 = or i32 %{it}.1, {f"%{chr(ord(it) - 1)}.2" if at else 0}\n' for at, it in enumerate('abcdefg')) + '''  ret i32 %g.2
+}
+'''
+
+
+def programs(room, compilers, counts):
+    """What a program asks the system for."""
+    made, said = written(room, FOLDERS + ATTRIBUTES, [])
+    counts.told(made is not None, 'a program that makes folders is written', said)
+    for compiler in [*compilers, 'musl-gcc'] if made else []:
+        runner = RUNNERS.get(compiler, [])
+        lacks = next((it for it in (compiler, *runner[:1]) if not shutil.which(it)), None)
+        if lacks:
+            print(f'{compiler}: skipped, no {lacks}')
+            continue
+        with tempfile.TemporaryDirectory(dir=room) as folder:
+            (pathlib.Path(folder) / 'main.c').write_text(made, encoding='utf-8')
+            run = subprocess.run([compiler, *FLAGS, '-O2', '-o', f'{folder}/main', f'{folder}/main.c'], stdout=subprocess.PIPE, stderr=subprocess.STDOUT, encoding='utf-8', errors='replace')
+            status = subprocess.run([*runner, f'{folder}/main'], cwd=folder).returncode if run.returncode == 0 else run.stdout
+            counts.told(status == 127, f'a program that makes folders by {compiler}', f': {status}')
+
+
 def refusals(room, counts):
     counts.told(written(room, KNOWN + ATTRIBUTES, ['test_0'])[0] is not None, 'what is known is written')
     for text in REFUSED:
@@ -590,6 +688,7 @@ def main(compilers):
             for old, new in WRONG_CONSTANTS:
                 counts.told(made.count(old) == 1 and constants.differing(text, made.replace(old, new))[0], f'a wrong constant is found: {new}')
         counts.told(renumbered(room), 'the same C after other numbers of inlined values')
+        programs(room, compilers, counts)
         refusals(room, counts)
     print(f'{counts.passed} passed, {counts.failed} failed')
     return 1 if counts.failed else 0

@@ -133,7 +133,13 @@ class Module:
         yield from [f'#define {SLOTS}', NARROWED] * self.has_slots
         has_vectors = re.search(r'\b(ldv|stv|any|mask)', written)
         has_runtime = re.search(r'\b(rattle|c)_', written)
-        for part in 'module', *['vectors'] * bool(has_vectors), *['runtime'] * bool(has_runtime), *['program'] * self.is_program:
+        has_products = re.search(r'\boverflows\b', written)
+        has_folders = re.search(r'\bc_(mkdir|statx)\b', written)
+        parts = {
+            'module': True, 'vectors': has_vectors, 'products': has_products, 'runtime': has_runtime, 'program': self.is_program,
+            'folders': has_folders,
+        }
+        for part in (name for name, is_needed in parts.items() if is_needed):
             yield '\n' + (pathlib.Path(__file__).parent / f'{part}.h').read_text(encoding='utf-8').rstrip('\n')
         yield from ['', f'#include "{self.header_name}"'] * is_library
         yield ''

@@ -13,7 +13,7 @@ SILENT = {'alwaysinline', 'inlinehint', 'memory', 'mustprogress', 'nobuiltin', '
 OUTSIDE = {
     **{name: name for name in ('rattle_alloc', 'rattle_realloc', 'rattle_dealloc', 'rattle_arg', 'rattle_arg_count', 'rattle_env',
                                'rattle_env_at', 'rattle_errno', 'rattle_set_errno')},
-    **{name: f'c_{name}' for name in ('read', 'write', 'lseek', 'chdir', 'getcwd', 'open', 'close')},
+    **{name: f'c_{name}' for name in ('read', 'write', 'lseek', 'chdir', 'getcwd', 'open', 'close', 'mkdir', 'statx')},
     '__sysv_signal': 'c_signal', '__xpg_strerror_r': 'c_strerror',
 }
 
@@ -87,6 +87,8 @@ class Function:
                 lines[-1] += text
             elif text:
                 lines.append(text.strip())
+        # the blocks to which a block jumps, each as often as it does
+        self.jumps = {label: [it.strip('"') for it in re.findall(r'label %("[^"]*"|[-\w.$]+)', lines[-1])] for label, lines in self.blocks.items()}
         self.choices = {label: [self.choice(line) for line in lines if ' = phi ' in line] for label, lines in self.blocks.items()}
         self.leave_unused_casts()
         self.names = Names(self.tags())
@@ -146,7 +148,9 @@ class Function:
         for label, lines in self.blocks.items():
             for _, _, values in self.choices[label]:
                 for before, value in values.items():
-                    self.used(value, before)
+                    # once for each jump: several arms of a switch may lead to the same block
+                    for _ in range(self.jumps[before].count(label)):
+                        self.used(value, before)
             for line in lines:
                 if ' = phi ' not in line:
                     for name in re.findall(r'%(?:"[^"]*"|[-\w.$]+)', re.sub(r'^%("[^"]*"|\S+) = |label %("[^"]*"|[-\w.$]+)', '', line)):
@@ -186,7 +190,7 @@ class Function:
                     clashes[name].add(other)
                     clashes[other].add(name)
                 now.add(name)
-            for further in {it.strip('"') for it in re.findall(r'label %("[^"]*"|[-\w.$]+)', self.blocks[label][-1])}:
+            for further in {*self.jumps[label]}:
                 if not now <= used[further]:
                     used[further] |= now
                     ahead.append(further)

@@ -28,12 +28,15 @@ def offset(pointer, by):
 
 
 class Writer:
-    """Writes a function. `waiting` has the C of values that are written where they are used, and whether they read memory."""
+    """Writes a function. `waiting` has the C of values that are written where they are used, and whether they read memory. Such a value
+    is used once: whatever takes it removes it."""
 
     def __init__(self, function):
         self.function, self.module, self.names = function, function.module, function.names
         self.out, self.top, self.targets, self.waiting = [], [], set(), {}
         self.slot, self.labels = {}, Names(function.label_tags())
+        # the values that have a variable, and those whose variable is read
+        self.having, self.asked = {name for _, name in function.signature.parameters}, set()
         self.label = self.following = None
 
     def text(self):
@@ -50,6 +53,8 @@ class Writer:
                     raise Unknown(f'{error}: {line}') from None
             if self.waiting:
                 raise Unknown(f'{[*self.waiting]} wait after the end of their block')
+        if self.asked - self.having:
+            raise Unknown(f'{[*self.asked - self.having]} are read, and have no variable')
         body = [f'    {line}' if line else f'{self.label_name(label)}:;' for label, line in self.out if line or label in self.targets]
         return '\n'.join([*head, *(f'    {it}' for it in self.top), *body, '}'])
 
@@ -60,6 +65,8 @@ class Writer:
         it = self.function.signature
         if it.name == 'main':
             self.module.is_program = True
+            # which aren't passed
+            self.having.clear()
             self.top.append('keep_arguments(count, words);')
             return ['int main(int count, char **words)', '{']
         if it.is_internal:
@@ -96,9 +103,15 @@ class Writer:
 
     def assign(self, name, kind, text):
         if self.function.places[name] == {self.label}:
+            self.having.add(name)
             return self.emit(f'{declared(kind, self.names(name))} = {text};')
-        self.top.append(f'{declared(kind, self.names(name))};')
+        self.variable(name, kind)
         return self.emit(f'{self.names(name)} = {text};')
+
+    def variable(self, name, kind):
+        """Declares the variable of a value at the top of the function."""
+        self.having.add(name)
+        self.top.append(f'{declared(kind, self.names(name))};')
 
     def define(self, name, kind, text, reads=False):
         self.module.needs(kind)
@@ -123,8 +136,10 @@ class Writer:
         if value in self.slot:
             return self.slot[value], False
         if value[0] == '%':
-            _, text, reads = self.waiting.pop(value, (None, self.names(value), False))
-            return text, reads
+            if value in self.waiting:
+                return self.waiting.pop(value)[1:]
+            self.asked.add(value)
+            return self.names(value), False
         if value[0] == '@':
             return f'((u8 *){self.module.names(value)})', False
         return constant(kind, value), False
@@ -420,6 +435,8 @@ class Writer:
             product = f'(u64){given[0]} * {given[1]}'
             self.module.needs(result)
             return self.define(name, result, f'({c_type(result)}){{ (u32)({product}), (u8)({product} >> 32 != 0) }}', reads)
+        if which == 'umul.with.overflow.i64':
+            return self.define(name, result, f'({c_type(result)}){{ {given[0]} * {given[1]}, overflows({given[0]}, {given[1]}) }}', reads)
         joined = re.fullmatch(r'vector\.reduce\.or\.v(8|16|32|64)i8', which)
         if joined:
             return self.define(name, result, f'any{joined[1]}({given[0]})', reads)
@@ -444,7 +461,7 @@ class Writer:
         for it, kind, _ in self.function.choices[self.label]:
             if it == name and self.function.uses[name]:
                 self.module.needs(kind)
-                self.top.append(f'{declared(kind, self.names(name))};')
+                self.variable(name, kind)
 
     def on_the_way(self, label):
         """The lines that set the variables of a block's `phi`s, before a jump to it from this block."""
