@@ -12,7 +12,7 @@ _capnp_canon() {
         --) ended=yes ;;
         esac
     done
-    local options='--packed --from-flat --nesting --words --help --version'
+    local options='--packed --from-flat --nesting --words --progress --no-progress --help --version'
     case $command in
     canon) options="--flat --pack --hex --at $options" ;;
     check | validate | diff) options="--quiet --flat $options" ;;

@@ -40,7 +40,7 @@ edition = "2021"
 [workspace]
 '''
 # What the support and the runtime have in place of `std` and of libraries of the toolchain.
-RUNTIME = 'env', 'fs', 'io', 'process', 'rt'
+RUNTIME = 'env', 'fs', 'io', 'process', 'rt', 'time'
 ALLOWED = '#![allow(dead_code, unused_imports, unused_labels, unused_variables)]\n#![forbid(unsafe_code)]\n'
 COUNTS = re.compile(r'(\d+) passed, (\d+) failed')
 

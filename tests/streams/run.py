@@ -16,6 +16,7 @@
   that is written from docs/PROGRAM.md and docs/FORMAT.md.
 - differences.py compares what `diff` writes about two messages with a model that is written from docs/PROGRAM.md.
 - coprocess.py waits for each answer before it writes the next message.
+- progress.py runs the program on a pseudo-terminal, and looks at what the screen shows.
 - hostile.py uses STREAM_RUNS, a program of tests/crates with the same engine. Its devices fail at each call in turn, and its
   streams are cut short after each byte and have each bit flipped. Without STREAM_RUNS, only these altered streams are run,
   with CAPNP_CANON."""
@@ -31,6 +32,7 @@ import devices
 import differences
 import hostile
 import parts
+import progress
 import shown
 import vectors
 from program import Counts
@@ -56,6 +58,7 @@ def main():
         ('altered messages, shown', lambda: shown.runs(program, counts)),
         ('pairs of messages, compared', lambda: differences.runs(program, counts)),
         ('coprocesses', lambda: coprocess.answered(program, counts)),
+        ('progress', lambda: progress.runs(program, counts)),
         ('hostile runs', lambda: hostile.runs(options.runs, counts)) if options.runs else ('altered streams', lambda: hostile.altered(program, counts)),
     ):
         before = counts.passed + counts.failed

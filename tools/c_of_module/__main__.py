@@ -135,9 +135,10 @@ class Module:
         has_runtime = re.search(r'\b(rattle|c)_', written)
         has_products = re.search(r'\boverflows\b', written)
         has_folders = re.search(r'\bc_(mkdir|statx)\b', written)
+        has_clocks = re.search(r'\bc_(isatty|clock_gettime)\b', written)
         parts = {
             'module': True, 'vectors': has_vectors, 'products': has_products, 'runtime': has_runtime, 'program': self.is_program,
-            'folders': has_folders,
+            'folders': has_folders, 'clocks': has_clocks,
         }
         for part in (name for name, is_needed in parts.items() if is_needed):
             yield '\n' + (pathlib.Path(__file__).parent / f'{part}.h').read_text(encoding='utf-8').rstrip('\n')

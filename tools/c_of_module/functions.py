@@ -14,6 +14,7 @@ OUTSIDE = {
     **{name: name for name in ('rattle_alloc', 'rattle_realloc', 'rattle_dealloc', 'rattle_arg', 'rattle_arg_count', 'rattle_env',
                                'rattle_env_at', 'rattle_errno', 'rattle_set_errno')},
     **{name: f'c_{name}' for name in ('read', 'write', 'lseek', 'chdir', 'getcwd', 'open', 'close', 'mkdir', 'statx')},
+    **{name: f'c_{name}' for name in ('isatty', 'clock_gettime')},
     '__sysv_signal': 'c_signal', '__xpg_strerror_r': 'c_strerror',
 }
 

@@ -5,7 +5,8 @@ ghost use Rattle.capnp_streams.specs.Diffs.{diff_stage};
 ghost use Rattle.capnp_streams.specs.Forms.{IsComparedAs, form_of_options};
 
 use crate::BUFFER;
-use crate::inputs::{Unanswered, flush, report_refusal, report_unopened};
+use crate::inputs::{Unanswered, flush_to_report, report_refusal, report_unopened};
+use crate::progress::{CountedInput, Session, Watched};
 use crate::texts::NO_MEMORY;
 use capnp_packing::buffered::{BufReaderInput, BufferedInput, BufferedOutput};
 use capnp_streams::device_log::{DeviceLog, Logged};
@@ -24,7 +25,7 @@ struct Names<'a> {
 /// they are the same. Ends with an error if a file can't be opened, or at the first message that
 /// can't be compared.
 pub fn compare_files<W: BufferedOutput>(
-    rt: &HostRuntime,
+    session: &Session<'_>,
     task: DiffTask,
     left: &str,
     right: &str,
@@ -34,17 +35,17 @@ pub fn compare_files<W: BufferedOutput>(
 {
     let names = Names { left, right };
     if left == "-" {
-        return open_second_and_compare(rt, task, names, rt.reader(), output);
+        return open_second_and_compare(session, task, names, session.rt.reader(), output);
     }
-    match File::open(rt, left) {
-        Ok(file) => open_second_and_compare(rt, task, names, file, output),
-        Err(error) => report_unopened(rt, left, &error, output),
+    match File::open(session.rt, left) {
+        Ok(file) => open_second_and_compare(session, task, names, file, output),
+        Err(error) => report_unopened(session, left, &error, output),
     }
 }
 
 /// Opens the second input, and compares its messages with those of `left`.
 fn open_second_and_compare<L: Read + Drop, W: BufferedOutput>(
-    rt: &HostRuntime,
+    session: &Session<'_>,
     task: DiffTask,
     names: Names,
     left: L,
@@ -53,17 +54,17 @@ fn open_second_and_compare<L: Read + Drop, W: BufferedOutput>(
     requires { W.has_failed output.old ≡ false }
 {
     if names.right == "-" {
-        return compare_readers(rt, task, names, left, rt.reader(), output);
+        return compare_readers(session, task, names, left, session.rt.reader(), output);
     }
-    match File::open(rt, names.right) {
-        Ok(file) => compare_readers(rt, task, names, left, file, output),
-        Err(error) => report_unopened(rt, names.right, &error, output),
+    match File::open(session.rt, names.right) {
+        Ok(file) => compare_readers(session, task, names, left, file, output),
+        Err(error) => report_unopened(session, names.right, &error, output),
     }
 }
 
 /// Compares the messages of two readers, and reports a fault.
 fn compare_readers<L: Read + Drop, R: Read + Drop, W: BufferedOutput>(
-    rt: &HostRuntime,
+    session: &Session<'_>,
     task: DiffTask,
     names: Names,
     left: L,
@@ -73,19 +74,22 @@ fn compare_readers<L: Read + Drop, R: Read + Drop, W: BufferedOutput>(
     requires { W.has_failed output.old ≡ false }
 {
     let (left_seen, right_seen) = (DeviceLog::new(), DeviceLog::new());
-    let left = BufReader::with_capacity(rt.alloc(), BUFFER, Logged::new(left, &left_seen));
-    let right = BufReader::with_capacity(rt.alloc(), BUFFER, Logged::new(right, &right_seen));
+    let left = Logged::new(Watched::new(left, session), &left_seen);
+    let right = Logged::new(Watched::new(right, session), &right_seen);
+    let rt = session.rt;
+    let left = BufReader::with_capacity(rt.alloc(), BUFFER, left);
+    let right = BufReader::with_capacity(rt.alloc(), BUFFER, right);
     let (Ok(left), Ok(right)) = (left, right) else {
         let _ = rt.eprintln(NO_MEMORY);
         return Err(Unanswered::Said);
     };
     let (left, right) = (BufReaderInput::new(left), BufReaderInput::new(right));
-    let fault = match compare_inputs(rt, task, left, right, output) {
+    let fault = match compare_inputs(session, task, left, right, output) {
         Ok(is_same) => return Ok(is_same),
         Err(DiffFault::WriteFailed) => return Err(Unanswered::WriteFailed),
         Err(fault) => fault,
     };
-    flush(output)?;
+    flush_to_report(session, output)?;
     let form = task.input_form();
     match fault {
         DiffFault::Refused(Side::Left, stop) => {
@@ -106,9 +110,9 @@ fn compare_readers<L: Read + Drop, R: Read + Drop, W: BufferedOutput>(
 
 /// Compares the messages of two inputs. Precondition: neither they nor the output have failed.
 fn compare_inputs<L: BufferedInput + Drop, R: BufferedInput + Drop, W: BufferedOutput>(
-    rt: &HostRuntime,
+    session: &Session<'_>,
     task: DiffTask,
-    mut left: L,
+    left: L,
     mut right: R,
     output: &mut W,
 ) -> Result<bool, DiffFault>
@@ -119,7 +123,8 @@ fn compare_inputs<L: BufferedInput + Drop, R: BufferedInput + Drop, W: BufferedO
         task.limits (diff_stage L.Input R.Input W.Output left right output.old)
         (W.contents output.new)) }
 {
-    let alloc = rt.alloc();
+    let alloc = session.rt.alloc();
+    let mut left = CountedInput::new(left, session);
     match task.input_form() {
         InputForm::Frames => match streams::run_diff(alloc, task, &mut left, &mut right, output) {
             Ok(compared) => Ok(compared.is_same),

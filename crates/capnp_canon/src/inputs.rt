@@ -8,6 +8,7 @@ ghost use Rattle.capnp_streams.specs.Streams.{stage_of};
 
 use crate::BUFFER;
 use crate::lists::verify_all;
+use crate::progress::{CountedInput, Session, Watched};
 use crate::texts::{NO_MEMORY, error_text};
 use capnp_framing::devices::Output;
 use capnp_framing::framing::FrameError;
@@ -62,19 +63,19 @@ impl Job {
 /// the message. If the files are lists of such lines, verifies them, and returns whether all
 /// messages are as listed.
 pub fn answer_all<W: BufferedOutput>(
-    rt: &HostRuntime,
+    session: &Session<'_>,
     task: Task,
     files: &[String],
     output: &mut W,
 ) -> Result<bool, Unanswered> {
     if task.lists {
-        return verify_all(rt, task, files, output);
+        return verify_all(session, task, files, output);
     }
     if matches!(task.command, Command::Digest) {
-        return digest_all(rt, task, files, output);
+        return digest_all(session, task, files, output);
     }
     let are_named = !matches!(task.command, Command::Canon(_));
-    for_each_file(rt, Job::Answer(task), are_named, files, output)
+    for_each_file(session, Job::Answer(task), are_named, files, output)
 }
 
 /// Shows each message of each file in turn, or of standard input if there are no files. Returns
@@ -82,33 +83,33 @@ pub fn answer_all<W: BufferedOutput>(
 /// can't be opened or isn't shown to its end. If there are several files, each line of text begins
 /// with the file's name.
 pub fn show_all<W: BufferedOutput>(
-    rt: &HostRuntime,
+    session: &Session<'_>,
     task: ShowTask,
     files: &[String],
     output: &mut W,
 ) -> Result<bool, Unanswered> {
-    for_each_file(rt, Job::Show(task), !task.json, files, output)
+    for_each_file(session, Job::Show(task), !task.json, files, output)
 }
 
 /// Does `job` with each message of each file in turn, or of standard input if there are no files.
 /// If `are_named` is set and there are several files, each line begins with the file's name.
 fn for_each_file<W: BufferedOutput>(
-    rt: &HostRuntime,
+    session: &Session<'_>,
     job: Job,
     are_named: bool,
     files: &[String],
     output: &mut W,
 ) -> Result<bool, Unanswered> {
     if files.is_empty() {
-        return answer_reader(rt, job, None, rt.reader(), output);
+        return answer_reader(session, job, None, session.rt.reader(), output);
     }
     let mut holds = true;
     for file in files {
         let name = file.as_str();
         let here = if are_named && files.len() > 1 {
-            answer_file(rt, job, name, &mut NamedLines::new(name, output))
+            answer_file(session, job, name, &mut NamedLines::new(name, output))
         } else {
-            answer_file(rt, job, name, output)
+            answer_file(session, job, name, output)
         };
         holds = here? && holds;
     }
@@ -117,24 +118,24 @@ fn for_each_file<W: BufferedOutput>(
 
 /// Does the task of `digest`, like `answer_all`.
 fn digest_all<W: BufferedOutput>(
-    rt: &HostRuntime,
+    session: &Session<'_>,
     task: Task,
     files: &[String],
     output: &mut W,
 ) -> Result<bool, Unanswered> {
     if files.is_empty() {
         return answer_reader(
-            rt,
+            session,
             Job::Answer(task),
             None,
-            rt.reader(),
+            session.rt.reader(),
             &mut NumberedLines::new("-", output),
         );
     }
     for file in files {
         let name = file.as_str();
         answer_file(
-            rt,
+            session,
             Job::Answer(task),
             name,
             &mut NumberedLines::new(name, output),
@@ -146,33 +147,43 @@ fn digest_all<W: BufferedOutput>(
 /// Does `job` with the file `name`, or with standard input if `name` is `-`. Returns what
 /// `answer_all` returns.
 pub fn answer_file<W: BufferedOutput>(
-    rt: &HostRuntime,
+    session: &Session<'_>,
     job: Job,
     name: &str,
     output: &mut W,
 ) -> Result<bool, Unanswered> {
     if name == "-" {
-        return answer_reader(rt, job, Some(name), rt.reader(), output);
+        return answer_reader(session, job, Some(name), session.rt.reader(), output);
     }
-    match File::open(rt, name) {
-        Ok(file) => answer_reader(rt, job, Some(name), file, output),
-        Err(error) => report_unopened(rt, name, &error, output),
+    match File::open(session.rt, name) {
+        Ok(file) => answer_reader(session, job, Some(name), file, output),
+        Err(error) => report_unopened(session, name, &error, output),
     }
 }
 
 /// Reports that the file `name` can't be opened, and why, after the answers so far.
 pub fn report_unopened<W: BufferedOutput>(
-    rt: &HostRuntime,
+    session: &Session<'_>,
     name: &str,
     error: &io::Error,
     output: &mut W,
 ) -> Result<bool, Unanswered> {
-    flush(output)?;
+    flush_to_report(session, output)?;
+    let rt = session.rt;
     let _ = match error_text(rt.alloc(), error) {
         Ok(why) => eprintln!(rt; "capnp_canon: {name}: {why}"),
         Err(AllocError) => eprintln!(rt; "capnp_canon: {name}: {error}"),
     };
     Err(Unanswered::Said)
+}
+
+/// Flushes the output, and makes room on the screen for a report.
+pub fn flush_to_report<W: BufferedOutput>(
+    session: &Session<'_>,
+    output: &mut W,
+) -> Result<(), Unanswered> {
+    session.erase_line();
+    flush(output)
 }
 
 /// Flushes the output.
@@ -186,7 +197,7 @@ pub fn flush<W: BufferedOutput>(output: &mut W) -> Result<(), Unanswered> {
 /// Does `job` with the bytes of `reader`. Reports a fault with `name`, the name of the input, if
 /// there is one. Returns what `answer_all` returns.
 fn answer_reader<R: Read + Drop, W: BufferedOutput>(
-    rt: &HostRuntime,
+    session: &Session<'_>,
     job: Job,
     name: Option<&str>,
     reader: R,
@@ -199,20 +210,20 @@ fn answer_reader<R: Read + Drop, W: BufferedOutput>(
     if output.failed() {
         return Err(Unanswered::WriteFailed);
     }
-    let seen = DeviceLog::new();
-    let reader = Logged::new(reader, &seen);
+    let (rt, seen) = (session.rt, DeviceLog::new());
+    let reader = Logged::new(Watched::new(reader, session), &seen);
     let Ok(reader) = BufReader::with_capacity(rt.alloc(), BUFFER, reader) else {
-        flush(output)?;
+        flush_to_report(session, output)?;
         let _ = rt.eprintln(NO_MEMORY);
         return Err(Unanswered::Said);
     };
-    match run_job(rt, job, BufReaderInput::new(reader), output) {
+    match run_job(session, job, BufReaderInput::new(reader), output) {
         Ok(summary) => Ok(summary.holds),
         Err(stop) => {
             if matches!(stop.fault, StreamError::Frame(FrameError::WriteFailed)) {
                 return Err(Unanswered::WriteFailed);
             }
-            flush(output)?;
+            flush_to_report(session, output)?;
             report_refusal(rt, job.input_form(), name, stop, &seen);
             Err(Unanswered::Said)
         }
@@ -222,9 +233,9 @@ fn answer_reader<R: Read + Drop, W: BufferedOutput>(
 /// Does `job` with the messages of `input`, and writes the answers to `output`. Precondition:
 /// neither `input` nor `output` has failed.
 fn run_job<R: BufferedInput + Drop, W: BufferedOutput>(
-    rt: &HostRuntime,
+    session: &Session<'_>,
     job: Job,
-    mut input: R,
+    input: R,
     output: &mut W,
 ) -> Result<Summary, Stop>
     requires reads { R.has_failed input ≡ false }
@@ -232,7 +243,8 @@ fn run_job<R: BufferedInput + Drop, W: BufferedOutput>(
     ensures answered { IfOk result (IsAnsweredAs (form_of_job job) (asked_by job)
         (stage_of R.Input W.Output input output.old) (W.contents output.new)) }
 {
-    let alloc = rt.alloc();
+    let alloc = session.rt.alloc();
+    let mut input = CountedInput::new(input, session);
     match job {
         Job::Answer(task) => match task.input_form() {
             InputForm::Frames => streams::run(alloc, task, &mut input, output),

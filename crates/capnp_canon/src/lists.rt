@@ -1,7 +1,8 @@
 //! Verifies lists that `digest` has written: whether the messages that they name still have the
 //! digests that they state.
 
-use crate::inputs::{Job, Unanswered, answer_file, flush};
+use crate::inputs::{Job, Unanswered, answer_file, flush, flush_to_report};
+use crate::progress::Session;
 use crate::texts::{NO_MEMORY, NO_UTF8, error_text};
 use capnp_framing::devices::{DeviceFault, MemoryOutput, Output, write_all};
 use capnp_packing::buffered::BufferedOutput;
@@ -63,7 +64,7 @@ struct Verified {
 /// line of a list whether the message has the digest; if the task is quiet, only if it hasn't.
 /// Returns whether all have. Ends with an error after the last list if something couldn't be read.
 pub fn verify_all<W: BufferedOutput>(
-    rt: &HostRuntime,
+    session: &Session<'_>,
     task: Task,
     lists: &[String],
     output: &mut W,
@@ -74,13 +75,14 @@ pub fn verify_all<W: BufferedOutput>(
         is_unread: false,
     };
     if lists.is_empty() {
-        verify_list(rt, task, "-", output, &mut found)?;
+        verify_list(session, task, "-", output, &mut found)?;
     }
     for list in lists {
-        verify_list(rt, task, list.as_str(), output, &mut found)?;
+        verify_list(session, task, list.as_str(), output, &mut found)?;
     }
     if 0 < found.failed {
-        flush(output)?;
+        flush_to_report(session, output)?;
+        let rt = session.rt;
         let _ = match found.failed {
             1 => rt.eprintln("capnp_canon: 1 listed message is missing or differs"),
             n => eprintln!(rt; "capnp_canon: {n} listed messages are missing or differ"),
@@ -94,15 +96,16 @@ pub fn verify_all<W: BufferedOutput>(
 
 /// Verifies the list in the file `name`, or in standard input if `name` is `-`.
 fn verify_list<W: BufferedOutput>(
-    rt: &HostRuntime,
+    session: &Session<'_>,
     task: Task,
     name: &str,
     output: &mut W,
     found: &mut Verified,
 ) -> Result<(), Unanswered> {
+    let rt = session.rt;
     let mut bytes = Vec::new(rt.alloc());
     if let Err(error) = read_list(rt, name, &mut bytes) {
-        flush(output)?;
+        flush_to_report(session, output)?;
         let _ = match error_text(rt.alloc(), &error) {
             Ok(why) => eprintln!(rt; "capnp_canon: {name}: {why}"),
             Err(AllocError) => eprintln!(rt; "capnp_canon: {name}: {error}"),
@@ -111,16 +114,16 @@ fn verify_list<W: BufferedOutput>(
         return Ok(());
     }
     let Ok(text) = str::from_utf8(bytes.as_slice()) else {
-        flush(output)?;
+        flush_to_report(session, output)?;
         let _ = eprintln!(rt; "capnp_canon: {name}: {NO_UTF8}");
         found.is_unread = true;
         return Ok(());
     };
-    match verify_lines(rt, task, text, output, found) {
-        Ok(Ok(lines)) => count_and_report_lines(rt, name, lines, output, found),
+    match verify_lines(session, task, text, output, found) {
+        Ok(Ok(lines)) => count_and_report_lines(session, name, lines, output, found),
         Ok(Err(unanswered)) => Err(unanswered),
         Err(AllocError) => {
-            flush(output)?;
+            flush_to_report(session, output)?;
             let _ = rt.eprintln(NO_MEMORY);
             Err(Unanswered::Said)
         }
@@ -139,7 +142,7 @@ fn read_list(rt: &HostRuntime, name: &str, bytes: &mut Vec<u8>) -> io::Result<()
 
 /// Verifies the lines of a list. Fails if there is no memory for what a line says.
 fn verify_lines<W: BufferedOutput>(
-    rt: &HostRuntime,
+    session: &Session<'_>,
     task: Task,
     text: &str,
     output: &mut W,
@@ -153,10 +156,10 @@ fn verify_lines<W: BufferedOutput>(
     };
     let mut known = None;
     for line in text.split('\n') {
-        let entry = parse_entry(rt.alloc(), line)?;
+        let entry = parse_entry(session.rt.alloc(), line)?;
         lines.count(line.is_empty(), entry.is_some());
         if let Some(entry) = entry {
-            match verify_entry(rt, task, &entry, &mut known, output, found)? {
+            match verify_entry(session, task, &entry, &mut known, output, found)? {
                 Ok(()) => {}
                 Err(unanswered) => return Ok(Err(unanswered)),
             }
@@ -183,7 +186,7 @@ impl LineCounts {
 /// Verifies an entry, and writes the line about it. `known` has the digests of the file that was read
 /// last; if that is another one, reads the entry's file. Fails if there is no memory for its name.
 fn verify_entry<W: BufferedOutput>(
-    rt: &HostRuntime,
+    session: &Session<'_>,
     task: Task,
     entry: &Entry<'_>,
     known: &mut Option<Digests>,
@@ -191,8 +194,8 @@ fn verify_entry<W: BufferedOutput>(
     found: &mut Verified,
 ) -> Result<Result<(), Unanswered>, AllocError> {
     if !is_of_file(known, entry.name.as_str()) {
-        let file = String::from_str(rt.alloc(), entry.name.as_str())?;
-        match compute_digests(rt, task, file.as_str(), output, found) {
+        let file = String::from_str(session.rt.alloc(), entry.name.as_str())?;
+        match compute_digests(session, task, file.as_str(), output, found) {
             Ok(bytes) => *known = Some(Digests { file, bytes }),
             Err(unanswered) => return Ok(Err(unanswered)),
         }
@@ -217,15 +220,15 @@ fn is_of_file(known: &Option<Digests>, name: &str) -> bool {
 
 /// Counts a list without entries, and one with other lines, and reports these.
 fn count_and_report_lines<W: BufferedOutput>(
-    rt: &HostRuntime,
+    session: &Session<'_>,
     list: &str,
     lines: LineCounts,
     output: &mut W,
     found: &mut Verified,
 ) -> Result<(), Unanswered> {
     if 0 < lines.others || lines.entries == 0 {
-        flush(output)?;
-        report_unparsed_lines(rt, list, lines.first_other, lines.others);
+        flush_to_report(session, output)?;
+        report_unparsed_lines(session.rt, list, lines.first_other, lines.others);
         found.is_unread |= 0 < lines.others;
         found.is_empty |= lines.others == 0;
     }
@@ -249,19 +252,20 @@ fn report_unparsed_lines(rt: &HostRuntime, list: &str, first: u64, others: u64) 
 /// Returns the digests of the messages of a file, up to the first refused one: `LINE` bytes for
 /// each.
 fn compute_digests<W: BufferedOutput>(
-    rt: &HostRuntime,
+    session: &Session<'_>,
     task: Task,
     name: &str,
     output: &mut W,
     found: &mut Verified,
 ) -> Result<MemoryOutput, Unanswered> {
     flush(output)?;
-    let mut digests = MemoryOutput::new(rt.alloc());
-    match answer_file(rt, Job::Answer(task), name, &mut digests) {
+    let mut digests = MemoryOutput::new(session.rt.alloc());
+    match answer_file(session, Job::Answer(task), name, &mut digests) {
         Ok(_) => {}
         Err(Unanswered::Said) => found.is_unread = true,
         Err(Unanswered::WriteFailed) => {
-            let _ = rt.eprintln(NO_MEMORY);
+            session.erase_line();
+            let _ = session.rt.eprintln(NO_MEMORY);
             found.is_unread = true;
         }
     }

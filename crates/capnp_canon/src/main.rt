@@ -7,6 +7,8 @@
 mod diffs;
 mod inputs;
 mod lists;
+mod own_options;
+mod progress;
 mod texts;
 
 use capnp_packing::buffered::{BufWriterOutput, BufferedOutput};
@@ -18,6 +20,8 @@ use capnp_streams::streams::{
 };
 use diffs::compare_files;
 use inputs::{Unanswered, answer_all, show_all};
+use own_options::{SplitArguments, split_arguments};
+use progress::{Session, Watched};
 use std::alloc::AllocError;
 use std::env;
 use std::io::{self, BufWriter};
@@ -41,22 +45,23 @@ fn run_program(rt: &HostRuntime) -> Result<ExitCode, AllocError> {
         let _ = rt.eprintln(NO_TEXT);
         return Ok(print_error(rt, HINT));
     };
-    let args = args.as_slice();
+    let SplitArguments { others, progress } = split_arguments(rt.alloc(), args.as_slice())?;
+    let args = others.as_slice();
     match streams::parse_args(args) {
         Err(wrong) => Ok(report_usage_error(rt, args, wrong)),
         Ok(Request::Help) => Ok(print_text(rt, HELP)),
         Ok(Request::Version) => Ok(print_text(rt, VERSION)),
         Ok(Request::Run(task)) => {
             let files = streams::named_files(rt.alloc(), args)?;
-            Ok(run(rt, task, files.as_slice()))
+            Ok(run(&Session::new(rt, progress), task, files.as_slice()))
         }
         Ok(Request::Show(task)) => {
             let files = streams::named_files(rt.alloc(), args)?;
-            Ok(show(rt, task, files.as_slice()))
+            Ok(show(&Session::new(rt, progress), task, files.as_slice()))
         }
         Ok(Request::Diff(task)) => {
             let files = streams::named_files(rt.alloc(), args)?;
-            Ok(diff(rt, task, files.as_slice()))
+            Ok(diff(&Session::new(rt, progress), task, files.as_slice()))
         }
     }
 }
@@ -144,40 +149,42 @@ fn print_pieces(rt: &HostRuntime, start: &str, first: &str, middle: &str, second
 
 /// Does `task` with the messages of `files`, or of standard input if there are no files, and writes
 /// the answers to standard output. Returns the program's exit status.
-fn run(rt: &HostRuntime, task: Task, files: &[String]) -> ExitCode {
+fn run(session: &Session<'_>, task: Task, files: &[String]) -> ExitCode {
+    let rt = session.rt;
     let seen = DeviceLog::new();
-    let writer = Logged::new(io::writer(rt), &seen);
+    let writer = Logged::new(Watched::new(io::writer(rt), session), &seen);
     let Ok(writer) = BufWriter::with_capacity(rt.alloc(), BUFFER, writer) else {
         return print_error(rt, NO_MEMORY);
     };
     let mut output = BufWriterOutput::new(writer);
     if task.quiet && !task.lists {
-        return run_to(rt, task, files, &mut NoOutput, &seen);
+        return run_to(session, task, files, &mut NoOutput, &seen);
     }
     if !task.pack {
-        return run_to(rt, task, files, &mut output, &seen);
+        return run_to(session, task, files, &mut output, &seen);
     }
     let mut packing = PackingOutput::new(output);
-    run_to(rt, task, files, &mut packing, &seen)
+    run_to(session, task, files, &mut packing, &seen)
 }
 
 /// Does `task`, flushes `output`, and returns the program's exit status.
 fn run_to<W: BufferedOutput>(
-    rt: &HostRuntime,
+    session: &Session<'_>,
     task: Task,
     files: &[String],
     output: &mut W,
     seen: &DeviceLog,
 ) -> ExitCode {
-    let ended = answer_all(rt, task, files, output);
-    flush_and_choose_exit_code(rt, ended, output, seen)
+    let ended = answer_all(session, task, files, output);
+    flush_and_choose_exit_code(session, ended, output, seen)
 }
 
 /// Shows the messages of `files`, or of standard input if there are no files, on standard output,
 /// in at most as many bytes as `task` says. Returns the program's exit status.
-fn show(rt: &HostRuntime, task: ShowTask, files: &[String]) -> ExitCode {
+fn show(session: &Session<'_>, task: ShowTask, files: &[String]) -> ExitCode {
+    let rt = session.rt;
     let seen = DeviceLog::new();
-    let writer = Logged::new(io::writer(rt), &seen);
+    let writer = Logged::new(Watched::new(io::writer(rt), session), &seen);
     let Ok(writer) = BufWriter::with_capacity(rt.alloc(), BUFFER, writer) else {
         return print_error(rt, NO_MEMORY);
     };
@@ -186,52 +193,55 @@ fn show(rt: &HostRuntime, task: ShowTask, files: &[String]) -> ExitCode {
         None => u64::MAX,
     };
     let mut output = BoundedOutput::new(BufWriterOutput::new(writer), most);
-    let ended = show_all(rt, task, files, &mut output);
+    let ended = show_all(session, task, files, &mut output);
     if output.is_full() && output.flush().is_ok() {
+        session.erase_line();
         let _ = eprintln!(rt; "capnp_canon: the output is cut at {most} bytes");
         return ExitCode::from(2);
     }
-    flush_and_choose_exit_code(rt, ended, &mut output, &seen)
+    flush_and_choose_exit_code(session, ended, &mut output, &seen)
 }
 
 /// Compares the messages of two files, and writes to standard output in what they differ. Returns
 /// the program's exit status.
-fn diff(rt: &HostRuntime, task: DiffTask, files: &[String]) -> ExitCode {
+fn diff(session: &Session<'_>, task: DiffTask, files: &[String]) -> ExitCode {
+    let rt = session.rt;
     if files.len() != 2 {
         let _ = rt.eprintln(TWO_FILES);
         return print_error(rt, HINT);
     }
     let (left, right) = (files[0].as_str(), files[1].as_str());
     let seen = DeviceLog::new();
-    let writer = Logged::new(io::writer(rt), &seen);
+    let writer = Logged::new(Watched::new(io::writer(rt), session), &seen);
     let Ok(writer) = BufWriter::with_capacity(rt.alloc(), BUFFER, writer) else {
         return print_error(rt, NO_MEMORY);
     };
     if task.quiet {
-        let ended = compare_files(rt, task, left, right, &mut NoOutput);
-        return flush_and_choose_exit_code(rt, ended, &mut NoOutput, &seen);
+        let ended = compare_files(session, task, left, right, &mut NoOutput);
+        return flush_and_choose_exit_code(session, ended, &mut NoOutput, &seen);
     }
     let mut output = BufWriterOutput::new(writer);
-    let ended = compare_files(rt, task, left, right, &mut output);
-    flush_and_choose_exit_code(rt, ended, &mut output, &seen)
+    let ended = compare_files(session, task, left, right, &mut output);
+    flush_and_choose_exit_code(session, ended, &mut output, &seen)
 }
 
-/// Flushes `output`, and returns the exit status of a program that has `ended` so. If `output`
+/// Erases what shows the progress, flushes `output`, and returns the exit status of a program that has `ended` so. If `output`
 /// fails, reports this failure.
 fn flush_and_choose_exit_code<W: BufferedOutput>(
-    rt: &HostRuntime,
+    session: &Session<'_>,
     ended: Result<bool, Unanswered>,
     output: &mut W,
     seen: &DeviceLog,
 ) -> ExitCode {
+    session.erase_line();
     if output.flush().is_err() {
-        return report_write_failure(rt, seen.fault());
+        return report_write_failure(session.rt, seen.fault());
     }
     match ended {
         Ok(true) => ExitCode::SUCCESS,
         Ok(false) => ExitCode::from(1),
         Err(Unanswered::Said) => ExitCode::from(2),
-        Err(Unanswered::WriteFailed) => report_write_failure(rt, seen.fault()),
+        Err(Unanswered::WriteFailed) => report_write_failure(session.rt, seen.fault()),
     }
 }
 

@@ -72,6 +72,9 @@ diff         writes where the values of two files' messages differ first, and bo
   --nesting N   the nesting limit: at most N structs and lists inside one another (default 64)
   --words N     the traversal limit of each message, and the most words of 8 bytes that its frame
                 may have (default 8388608, which is 64 MiB); none for no limit
+  --progress    shows on standard error how many bytes are read and how many messages are done, if
+                that is a terminal; without this option, only if the command takes two seconds
+  --no-progress  never shows this
 -h, --help      prints this text
 -V, --version   prints the program's name and version
 

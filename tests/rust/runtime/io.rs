@@ -5,6 +5,7 @@ use capnp_proved::support::vec::Vec;
 use std::io;
 
 pub use capnp_proved::support::io::*;
+pub use std::io::IsTerminal;
 
 /// Appends the rest of what `reader` reads to `to`.
 pub fn read_to_end<R: Read>(reader: &mut R, to: &mut Vec<u8>) -> Result<usize> {

@@ -6,3 +6,4 @@ pub mod fs;
 pub mod io;
 pub mod process;
 pub mod rt;
+pub mod time;

@@ -21,6 +21,14 @@ impl HostRuntime {
         Reader
     }
 
+    pub fn stdout(&self) -> std::io::Stdout {
+        std::io::stdout()
+    }
+
+    pub fn stderr(&self) -> std::io::Stderr {
+        std::io::stderr()
+    }
+
     pub fn println(&self, text: &str) -> Result<()> {
         self.print_line(format_args!("{text}"))
     }
@@ -34,6 +42,7 @@ impl HostRuntime {
 pub trait Print {
     fn print_line(&self, line: fmt::Arguments<'_>) -> Result<()>;
     fn eprint_line(&self, line: fmt::Arguments<'_>) -> Result<()>;
+    fn eprint_text(&self, text: fmt::Arguments<'_>) -> Result<()>;
 }
 
 impl Print for HostRuntime {
@@ -43,6 +52,10 @@ impl Print for HostRuntime {
 
     fn eprint_line(&self, line: fmt::Arguments<'_>) -> Result<()> {
         writeln!(std::io::stderr(), "{line}")
+    }
+
+    fn eprint_text(&self, text: fmt::Arguments<'_>) -> Result<()> {
+        write!(std::io::stderr(), "{text}")
     }
 }
 
@@ -61,6 +74,15 @@ macro_rules! eprintln {
     ($rt:expr; $($parts:tt)*) => {{
         use $crate::runtime::rt::Print as _;
         $rt.eprint_line(core::format_args!($($parts)*))
+    }};
+}
+
+/// Prints to standard error.
+#[macro_export]
+macro_rules! eprint {
+    ($rt:expr; $($parts:tt)*) => {{
+        use $crate::runtime::rt::Print as _;
+        $rt.eprint_text(core::format_args!($($parts)*))
     }};
 }
 
