@@ -1,12 +1,15 @@
 pub mod BuildingCalls
 pub mod BuildingCopies
 pub mod BuildingLists
+pub mod Checked
+pub mod CheckedRoots
 pub mod Children
 pub mod Cuts
 pub mod ElementsFound
 pub mod FrameCases
 pub mod Insides
 pub mod LentWords
+pub mod NoLimit
 pub mod OwnPlace
 pub mod Shown
 pub mod Unlimited
