@@ -166,6 +166,21 @@ def frames(schema, roots, count, seed):
     return every(encoded, range(count))
 
 
+def altered(rng, frame):
+    """The frame with one to three changes of its words: a bit, a byte, or a word that is zeroed or copied over another."""
+    changed, words = bytearray(frame), len(frame) // 8 - 1
+    for _ in range(rng.randint(1, 3)):
+        at, other = (8 + 8 * rng.randrange(words) for _ in range(2))
+        what = rng.randrange(4)
+        if what == 0:
+            changed[at + rng.randrange(8)] ^= 1 << rng.randrange(8)
+        elif what == 1:
+            changed[at + rng.randrange(8)] = rng.randrange(256)
+        else:
+            changed[at:at + 8] = bytes(8) if what == 2 else changed[other:other + 8]
+    return bytes(changed)
+
+
 def every(of, them):
     """What a function returns for each of them, which calls other programs."""
     with multiprocessing.pool.ThreadPool() as pool:
