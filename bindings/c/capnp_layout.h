@@ -15,7 +15,8 @@
  * Limits. Reading an object takes its words from `left`, each time that it is read, so a short message can't make a caller
  * read for long. `nesting` limits how deep structs and lists are nested. Or call capnp_validate first: it checks the whole
  * message once, and then reading takes nothing, and is refused only if the message has another kind of object than you
- * ask for.
+ * ask for. Or call capnp_check with the table of a schema, which capnpc-layout-c writes: then nothing is refused that the
+ * schema has.
  *
  * What you have to keep. `bytes` and `size` of each segment are true, nothing changes the bytes while you read, and what a
  * function writes to overlaps nothing else that you pass to it. Use only structs and lists that these functions returned,
@@ -81,7 +82,7 @@ enum capnp_refusal {
     CAPNP_TRUNCATED = 19,
     /* The value has a capability, which a canonical copy can't have. */
     CAPNP_CANNOT_CREATE_A_CANONICAL_MESSAGE_WITH_A_CAPABILITY = 33,
-    /* The elements of the list that is opened are narrower than expected. */
+    /* The elements of the list that is opened are narrower than expected. From capnp_check: a text isn't UTF-8. */
     CAPNP_EXISTING_LIST_VALUE_IS_INCOMPATIBLE_WITH_EXPECTED_TYPE = 36,
     /* A list is opened, and the pointer leads to something else. */
     CAPNP_EXISTING_POINTER_IS_NOT_A_LIST = 37,
@@ -195,11 +196,22 @@ struct capnp_found_bytes {
     uint64_t size;
 };
 
+/* A pointer that isn't as a schema says: its place, the row of the struct that it is in, in the schema's table, and its index
+ * there. Row and index are 0 for the root, and the row is 0 in a struct that the schema doesn't know. */
+struct capnp_misfit {
+    uint64_t segment;
+    uint32_t word;
+    uint32_t row;
+    uint32_t index;
+    unsigned int : 32;
+};
+
 CAPNP_LAYOUT_SIZE(capnp_segment, 16);
 CAPNP_LAYOUT_SIZE(capnp_segments, 16);
 CAPNP_LAYOUT_SIZE(capnp_found_struct, 40);
 CAPNP_LAYOUT_SIZE(capnp_found_list, 48);
 CAPNP_LAYOUT_SIZE(capnp_found_bytes, 16);
+CAPNP_LAYOUT_SIZE(capnp_misfit, 24);
 
 /* The element size that a list is expected to have: its elements have at least that data, and a pointer if it is
  * CAPNP_POINTER. CAPNP_VOID and CAPNP_STRUCT take elements of any size but bits. */
@@ -241,6 +253,22 @@ uint32_t capnp_layout_open_frame(const uint8_t *frame, size_t size, uint64_t wor
 uint32_t capnp_layout_validate(const struct capnp_segments *segments, uint64_t *left, int32_t nesting, uint64_t *segment,
                                uint32_t *word);
 
+/* Checks a whole message against a schema, from its root on, within `left` words and `nesting` levels: the root has to be a
+ * struct of row `row` of the table, or null. Returns 0 if all of it can be read, and is what the schema says; otherwise the number of the
+ * first refusal, and stores the place of its pointer in `misfit`, whose numbers are all 0 otherwise. Charges like capnp_layout_validate. Calls
+ * itself for each level.
+ *
+ * A table has `words` words. Any array is one, and words after its end are read as 0. A row is named by the position of its first
+ * word, the number p of pointers that the schema knows; p words follow, one for each. Such a word has in its low 4 bits what the pointer may
+ * lead to, unless it is null, and an argument in the others: 0 for anything, 1 a capability, 2 a text, 3 a text of UTF-8, 4 data, 5 a
+ * struct (its row), 6 a list of any elements, 7 for what a test says (its position), 8 + a number of enum capnp_size for a list of at
+ * least these elements (the row of each element as a struct). A test is four words: the offset of a union's tag in the struct's
+ * data, counted in 16 bits; a number; the word that holds if the tag is that number; the word that holds otherwise. If one of these is again a
+ * test, it has a larger position; if not, it is 0. A text of kind 3 that isn't UTF-8 is refused with
+ * CAPNP_EXISTING_LIST_VALUE_IS_INCOMPATIBLE_WITH_EXPECTED_TYPE, which no other call that reads returns. */
+uint32_t capnp_layout_check(const struct capnp_segments *segments, const uint32_t *table, size_t words, uint32_t row, uint64_t *left,
+                            int32_t nesting, struct capnp_misfit *misfit);
+
 /* The calls that read: 0, or the number of a refusal. They charge `left`, which isn't written if it is
  * CAPNP_NO_LIMIT. `to` is always written: for a null pointer, and if the call is refused, it is an empty struct, an empty
  * list, or no bytes. */
@@ -265,13 +293,16 @@ uint32_t capnp_layout_type(const struct capnp_segments *segments, uint64_t *left
 /* A message that is read. Doesn't move while readers of it are used. */
 struct capnp_message {
     struct capnp_segments segments;
-    /* The words that may still be read; CAPNP_NO_LIMIT after capnp_validate. */
+    /* The words that may still be read; CAPNP_NO_LIMIT after capnp_validate and capnp_check. */
     uint64_t left;
     /* The levels of structs and lists, from the root on. */
     int32_t nesting;
     /* The first refusal, a number of enum capnp_refusal, and the place of its pointer; 0 if there is none. */
     uint32_t refusal;
     uint32_t refused_word;
+    /* Of a refusal of capnp_check: the row of the pointer's struct, and its index there. */
+    uint32_t refused_row;
+    uint32_t refused_index;
     uint64_t refused_segment;
 };
 
@@ -327,6 +358,45 @@ CAPNP_INLINE uint32_t capnp_validate(struct capnp_message *message) {
         message->refused_word = word;
     }
     return message->refusal;
+}
+
+/* Checks the whole message, from its root on, within `left` words and `nesting` levels, against the schema of a table of `words` words; the
+ * root has to be a struct of row `row`. Headers that capnpc-layout-c writes have tables, and functions that call this. Returns 0 if
+ * all of the message can be read, and is what the schema says; then nothing that the schema has is refused, and `left` is
+ * CAPNP_NO_LIMIT: reading takes nothing. Otherwise the message keeps the first refusal, with its place, its row and its index, and is
+ * otherwise unchanged. Returns the refusal that it keeps already, if there is one. */
+CAPNP_INLINE uint32_t capnp_check(struct capnp_message *message, const uint32_t *table, size_t words, uint32_t row) {
+    uint64_t left = message->left;
+    struct capnp_misfit misfit;
+    if (message->refusal != 0) return message->refusal;
+    message->refusal = capnp_layout_check(&message->segments, table, words, row, &left, message->nesting, &misfit);
+    if (message->refusal == 0) {
+        message->left = CAPNP_NO_LIMIT;
+    } else {
+        message->refused_segment = misfit.segment;
+        message->refused_word = misfit.word;
+        message->refused_row = misfit.row;
+        message->refused_index = misfit.index;
+    }
+    return message->refusal;
+}
+
+/* The name of the field that is pointer `index` of row `row` of a table. */
+struct capnp_field_name {
+    uint32_t row;
+    uint32_t index;
+    const char *name;
+};
+
+/* The name of the field that capnp_check has refused, from a list that ends with a null: functions that capnpc-layout-c writes have
+ * such lists. `root` if the root is refused, or the frame is; "an unknown field" if the schema doesn't have the field; "" if nothing is refused. If
+ * members of a union share the pointer, the name has all of them. */
+CAPNP_SELDOM const char *capnp_refused_name(const struct capnp_message *message, const char *root, const struct capnp_field_name *names) {
+    if (message->refusal == 0) return "";
+    for (; names->name; names++) {
+        if (names->row == message->refused_row && names->index == message->refused_index) return names->name;
+    }
+    return message->refused_segment == 0 && message->refused_word == 0 ? root : "an unknown field";
 }
 
 /* Structs. */
@@ -459,7 +529,7 @@ CAPNP_INLINE enum capnp_type capnp_get_type(const struct capnp_struct *from, uin
  * get an empty value, and the refusal isn't kept. */
 #define CAPNP_DEFAULT(NAME, BYTES)                                                                                    \
     static const struct capnp_segment NAME##_segment = {BYTES, sizeof BYTES};                                        \
-    static const struct capnp_message NAME = {{&NAME##_segment, 1}, CAPNP_NO_LIMIT, CAPNP_NESTING, CAPNP_OF_DEFAULT, 0, 0}
+    static const struct capnp_message NAME = {{&NAME##_segment, 1}, CAPNP_NO_LIMIT, CAPNP_NESTING, CAPNP_OF_DEFAULT, 0, 0, 0, 0}
 
 /* A struct of one pointer, that of a default value. */
 CAPNP_INLINE struct capnp_struct capnp_missing(const struct capnp_struct *from, const struct capnp_message *missing) {

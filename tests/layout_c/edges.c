@@ -194,10 +194,53 @@ static void pointers(void) {
     }
 }
 
+static bool is_text(const char *one, const char *other) { return strcmp(one, other) == 0; }
+
+/* capnp_check by tables at its edges, and the name of what it refuses. The message is a struct with two pointers: to a struct
+ * without sections, and a capability. */
+static void checks(void) {
+    static const struct capnp_field_name names[] = {{1, 0, "Root.inner"}, {1, 1, "Root.service or Root.other"}, {0, 0, 0}};
+    static const struct capnp_field_name none[] = {{0, 0, 0}};
+    static const uint64_t words[] = {UINT64_C(2) << 48, UINT64_C(0xfffffffc), 3};
+    static const uint32_t right[] = {0, 2, 5, 1}, texts[] = {0, 2, 2, 1}, structs[] = {0, 2, 5, 5}, cut[] = {0, 2, 5}, any_row[] = {7, 7, 7, 7, 7, 7, 7, 7};
+    struct capnp_segment segment = {(const uint8_t *)words, sizeof words};
+    struct capnp_message message;
+    capnp_open(&message, &segment, 1);
+    expect(capnp_check(&message, right, 4, 1) == 0 && message.left == CAPNP_NO_LIMIT && is_text(capnp_refused_name(&message, "Root", names), ""), "a yes", 4, 1);
+    expect(capnp_check(&message, texts, 4, 1) == CAPNP_MESSAGE_CONTAINS_NON_LIST_POINTER_WHERE_TEXT_WAS_EXPECTED && message.refused_word == 1 &&
+               message.refused_row == 1 && message.refused_index == 0 && is_text(capnp_refused_name(&message, "Root", names), "Root.inner"),
+           "a text", 4, 1);
+    expect(capnp_check(&message, right, 4, 1) == CAPNP_MESSAGE_CONTAINS_NON_LIST_POINTER_WHERE_TEXT_WAS_EXPECTED, "the refusal is kept", 4, 1);
+    expect(message.left == CAPNP_NO_LIMIT, "and the limit", 4, 1);
+    capnp_open(&message, &segment, 1);
+    expect(capnp_check(&message, structs, 4, 1) == CAPNP_MESSAGE_CONTAINS_NON_STRUCT_POINTER_WHERE_STRUCT_POINTER_WAS_EXPECTED &&
+               message.left == CAPNP_WORDS && is_text(capnp_refused_name(&message, "Root", names), "Root.service or Root.other") &&
+               is_text(capnp_refused_name(&message, "Root", none), "an unknown field"),
+           "a struct", 4, 1);
+    capnp_open(&message, &segment, 1);
+    expect(capnp_check(&message, cut, 3, 1) == 0, "a table that is cut", 3, 1);
+    capnp_open(&message, &segment, 1);
+    expect(capnp_check(&message, right, 4, 4) == 0 && capnp_check(&message, right, 4, UINT32_MAX) == 0, "a row after the end", 4, 4);
+    expect(capnp_check(&message, NULL, 0, 0) == 0 && capnp_check(&message, NULL, 0, 1) == 0, "no table", 0, 0);
+    expect(capnp_check(&message, any_row, 8, 0) == 0, "tests of tests", 8, 0);
+    message.nesting = 0;
+    expect(capnp_check(&message, right, 4, 1) == CAPNP_MESSAGE_IS_TOO_DEEPLY_NESTED_OR_CONTAINS_CYCLES && is_text(capnp_refused_name(&message, "Root", names), "Root"),
+           "no level", 4, 1);
+    capnp_open(&message, &segment, 1);
+    message.left = 3;
+    expect(capnp_check(&message, right, 4, 1) == 0, "as many words as it takes", 4, 1);
+    capnp_open(&message, &segment, 1);
+    message.left = 2;
+    expect(capnp_check(&message, right, 4, 1) == CAPNP_READ_LIMIT_EXCEEDED && message.left == 2, "one word less", 4, 1);
+    capnp_open(&message, NULL, 0);
+    expect(capnp_check(&message, right, 4, 1) == CAPNP_INVALID_SEGMENT_ID && is_text(capnp_refused_name(&message, "Root", names), "Root"), "no segment", 4, 1);
+}
+
 int main(void) {
     fields();
     elements();
     pointers();
+    checks();
     printf("%lu passed, %lu failed\n", passed, failed);
     return failed != 0;
 }

@@ -71,7 +71,7 @@ runs() {
 # The header, a program over it and the generated C, without a warning.
 header_c() {
     for standard in c99 c11; do
-        for program in edges.c calls.c sound.c defaults.c lists.c print_addressbook.c build_edges.c build_calls.c rebuild_addressbook.c; do
+        for program in edges.c calls.c sound.c check.c defaults.c lists.c print_addressbook.c build_edges.c build_calls.c rebuild_addressbook.c; do
             # shellcheck disable=SC2086
             "$1" $2 -std=$standard -O1 $warnings $include -c -o "$work/it.o" "$here/$program" || return 1
         done
@@ -221,6 +221,7 @@ parts_with() {
     summed "$called, edges" sanitized "$compiler" "$flags" edges
     summed "$called, calls" sanitized "$compiler" "$flags" calls "$rounds" "${SEED:-1}"
     summed "$called, validation" sound "$compiler" "$flags"
+    summed "$called, checks" sanitized "$compiler" "$flags" check "$rounds" "${SEED:-1}"
     summed "$called, building, edges" sanitized "$compiler" "$flags" build_edges
     summed "$called, building, calls" sanitized "$compiler" "$flags" build_calls "$rounds" "${SEED:-1}"
     if ! has capnp; then

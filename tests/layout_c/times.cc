@@ -1,8 +1,8 @@
-// How long it takes to read all fields of an address book of 1,000 people, to validate it, and to build it in a buffer that is
+// How long it takes to read all fields of an address book of 1,000 people, to validate it, to check it, and to build it in a buffer that is
 // large enough, in C and with C++ Cap'n Proto, in one process, in turn. What both build are the same bytes. times.sh compiles it.
 //
 //     times                  prints the times
-//     times PART COUNT       runs a part COUNT times, for a profiler: read, unlimited, validate, build, cpp_read,
+//     times PART COUNT       runs a part COUNT times, for a profiler: read, unlimited, validate, check, build, cpp_read,
 //                            cpp_walk or cpp_build
 #include <capnp/any.h>
 #include <capnp/message.h>
@@ -25,6 +25,7 @@
 extern "C" {
 uint64_t c_read(const uint8_t *bytes, size_t size, bool limited);
 bool c_validate(const uint8_t *bytes, size_t size);
+bool c_check(const uint8_t *frame, size_t size);
 const uint8_t *c_build(const struct times_person *people, uint8_t *buffer, size_t size, size_t *built);
 }
 
@@ -164,7 +165,7 @@ static void measure(const std::map<std::string, Part> &parts) {
     }
     for (auto &[name, all] : times) std::sort(all.begin(), all.end());
     for (auto &[name, all] : times) {
-        auto &of = times[name == "validate" ? "cpp_walk" : name == "build" ? "cpp_build" : name.compare(0, 4, "cpp_") == 0 ? name : "cpp_read"];
+        auto &of = times[name == "validate" || name == "check" ? "cpp_walk" : name == "build" ? "cpp_build" : name.compare(0, 4, "cpp_") == 0 ? name : "cpp_read"];
         std::printf("%-10s least %7.2f, median %7.2f microseconds; over C++ %.3f, %.3f\n", name.c_str(), all[0], all[rounds / 2], all[0] / of[0],
                     all[rounds / 2] / of[rounds / 2]);
     }
@@ -181,6 +182,7 @@ int main(int given, char **words) {
         {"read", [&] { return c_read(bytes, size, true); }},
         {"unlimited", [&] { return c_read(bytes, size, false); }},
         {"validate", [&] { return (uint64_t)c_validate(bytes, size); }},
+        {"check", [&] { return (uint64_t)c_check(bytes, size); }},
         {"cpp_read", [&] { return cpp_read(frame); }},
         {"cpp_walk", [&] { return cpp_walk(frame); }},
         {"build", [&] { return c_build(people.all.data(), buffer.data(), buffer.size(), &built) ? built : 0; }},

@@ -22,8 +22,14 @@ The parts, by default all of them:
   print messages of each other.
 - `altered`: the program over the code for `fields.capnp` prints altered messages as `capnp decode` does, or refuses them, and
   refuses what that refuses.
+- `checks`: random messages of `fields.capnp` and `kinds.capnp`, and copies of them with random changes, are checked against the schema. Each
+  message of `capnp encode` conforms. After a yes no getter is refused, and `capnp decode` decodes the message, except for two faults of
+  landing pads that this library doesn't test. After a no, a getter of a reader without a check is refused, or `capnp_validate`, or `capnp
+  decode` fails. A planted bug in a table, one for each kind of a pointer and for each test of a union, changes an answer.
+- `names`: pointers of an address book that lead to something else are refused with the names of their fields.
 - `bugs`: a program over the code of `fields.capnp` with a planted bug, one of each kind, isn't compiled, or prints or copies
   something else.
+- `annotated`: names that annotations give are those of the code, and standard error names those that can't be used.
 - `odd`: the code for schemas with odd names and declarations, and for a request of a later schema compiler, is compiled like
   `headers`, and standard error names what isn't written.
 
@@ -31,6 +37,7 @@ The generator is by default `capnpc-layout-c` at the top, and the library `gener
 M failed`."""
 import argparse
 import pathlib
+import random as random_numbers
 import re
 import subprocess
 import sys
@@ -45,7 +52,7 @@ from schema import Schema
 HERE = pathlib.Path(__file__).resolve().parent
 BINDINGS = run.TOP / 'bindings/c'
 SCHEMAS = 'addressbook', 'fields'
-PARTS = 'ours', 'headers', 'book', 'fields', 'random', 'large', 'versions', 'altered', 'bugs', 'odd'
+PARTS = 'ours', 'headers', 'book', 'fields', 'random', 'large', 'versions', 'altered', 'checks', 'names', 'bugs', 'annotated', 'odd'
 STRICT = '-Wall -Wextra -Wpedantic -Wconversion -Wshadow -Werror'.split()
 COMPILERS = ('gcc', '-std=c99'), ('clang', '-std=c99'), ('g++', '-std=c++11', '-x', 'c++'), ('clang++', '-std=c++11', '-x', 'c++')
 # The planted bugs: what is wrong, what is before it, a part of the code, and what takes the place of that.
@@ -80,7 +87,7 @@ BUGS = (
 
 def generate(generator, path, folder):
     """Writes the header for a schema into a folder, and returns its name and what the generator says."""
-    ran = subprocess.run(['capnp', 'compile', f'--src-prefix={pathlib.Path(path).parent}', f'-o{generator}:{folder}', path], stderr=subprocess.PIPE, encoding='utf-8')
+    ran = subprocess.run(['capnp', 'compile', f'-I{BINDINGS}', f'--src-prefix={pathlib.Path(path).parent}', f'-o{generator}:{folder}', path], stderr=subprocess.PIPE, encoding='utf-8')
     if ran.returncode:
         sys.exit(f'c.py: {path}: {ran.stderr}')
     return f'{pathlib.Path(path).name}.h', ran.stderr
@@ -115,7 +122,7 @@ class Generated(run.Programs):
         self.schema = Schema(str(path))
         self.roots = roots or self.schema.structs()
         self.header, _ = generate(options.generator, str(path), folder)
-        (folder / 'main.c').write_text(c_program.program(self.schema, self.header, self.roots), encoding='utf-8')
+        (folder / 'main.c').write_text(c_program.program(self.schema, self.header, (folder / self.header).read_text(encoding='utf-8'), self.roots), encoding='utf-8')
 
     def build(self, counts):
         words = ['gcc', '-std=c99', '-g', '-fsanitize=address,undefined', '-fno-sanitize-recover', *STRICT, f'-I{BINDINGS}', f'-I{self.folder}']
@@ -215,6 +222,113 @@ def altered(options, room, counts):
         made.read_altered(messages.frames(made.schema, made.roots, options.messages, 11), 11, counts)
 
 
+# Faults of two-word landing pads that C++ refuses, and this library doesn't.
+OF_PADS = b'Second word of double-far pad must be far pointer', b'double-far pointer to unknown segment'
+
+
+class Checked(Generated):
+    """A program that checks messages of a schema, all of one root."""
+
+    def answers(self, frames, *words):
+        """What it answers to each message, in words; None if it fails."""
+        ran = subprocess.run([self.folder / 'program', 'check', *map(str, words)], input=b''.join(frames), stdout=subprocess.DEVNULL, stderr=subprocess.PIPE)
+        found = [line.split(maxsplit=8) for line in ran.stderr.decode(errors='replace').splitlines()]
+        if ran.returncode or len(found) != len(frames):
+            print(ran.stderr.decode(errors='replace')[-2000:])
+            return None
+        return found
+
+    def decode(self, frames):
+        return subprocess.run(['capnp', 'decode', self.schema.path, self.roots[0]], input=b''.join(frames), stdout=subprocess.PIPE, stderr=subprocess.PIPE)
+
+    def undecoded(self, frames):
+        """The errors of `capnp decode` for those of the messages that it refuses."""
+        ran = self.decode(frames)
+        if ran.returncode == 0:
+            return []
+        half = len(frames) // 2
+        return self.undecoded(frames[:half]) + self.undecoded(frames[half:]) if half else [ran.stderr]
+
+    def table(self):
+        """The words of the table."""
+        text = (self.folder / self.header).read_text(encoding='utf-8')
+        return [int(it) for it in re.search(r'capnp_table_\w+\[\] = \{([^}]*)\}', text)[1].split(',')]
+
+    def compare(self, frames, changed, counts):
+        found = self.answers(frames + changed)
+        counts.say(found is not None, f'{self.file}: {len(frames)} messages and {len(changed)} altered ones are checked, and read')
+        if found is None:
+            return
+        yes = [it for it, answer in zip(changed, found[len(frames):]) if answer[0] == 'yes']
+        counts.say(all(answer[0] == 'yes' for answer in found[:len(frames)]), f'{self.file}: the messages of capnp encode conform')
+        said = self.undecoded(yes)
+        counts.say(len(yes) > 100 and all(any(it in one for it in OF_PADS) for one in said), f'{self.file}: {len(yes)} altered messages that conform are decoded')
+        # neither a getter nor capnp_validate refuses these
+        alone = [it for it, answer in zip(changed, found[len(frames):]) if answer[0] == 'no' and answer[6] == '0' and answer[7] == '0']
+        of_kind = sum(answer[0] == 'no' and answer[7] == '0' for answer in found)
+        counts.say(of_kind > 20 and all(self.decode([it]).returncode for it in alone[:100]), f'{self.file}: {len(found) - len(frames) - len(yes)} that do not are refused by others; {of_kind} are sound')
+
+    def bugs(self, frames, counts):
+        """Plants a bug in each word of the table that says something."""
+        right, table = [answer[:6] for answer in self.answers(frames)], self.table()
+        planted = found = 0
+        for at, other in table_bugs(table):
+            planted += 1
+            wrong = self.answers(frames, at, other)
+            hit = wrong is None or [answer[:6] for answer in wrong] != right
+            found += hit
+            if not hit:
+                print(f'  {self.file}: word {at} of the table may be {other} in place of {table[at]}')
+        counts.say(planted > 10 and found == planted, f'{self.file}: {found} of {planted} planted bugs in the table are found')
+
+
+def table_bugs(table):
+    """Bugs in a table, as the position of a word and what is there: each kind of a pointer is another one, or anything; each row lacks its
+    last pointer; and each test looks at another place, or at another number."""
+    at, tests, bugs = 1, set(), []
+    while at < len(table):
+        if at in tests:
+            bugs += [(at, table[at] + 1), (at + 1, table[at + 1] + 1)]
+            kinds = range(at + 2, at + 4)
+        else:
+            bugs += [(at, table[at] - 1)] * (table[at] > 0)
+            kinds = range(at + 1, at + 1 + table[at])
+        bugs += [(it, other) for it in kinds if table[it] & 15 not in (0, 7) for other in (0, 4 if table[it] & 15 == 1 else 1)]
+        tests |= {table[it] >> 4 for it in kinds if table[it] & 15 == 7}
+        at = kinds.stop
+    return bugs
+
+
+def checks(options, room, counts):
+    for stem, root in ('fields', 'Root'), ('kinds', 'Kinds'):
+        made = Checked(options, room, f'checks_{stem}', (HERE / f'{stem}.capnp').read_text(encoding='utf-8'), [root])
+        if made.build(counts):
+            rng = random_numbers.Random(f'{stem} {options.messages}')
+            frames = messages.frames(made.schema, [root], min(options.messages, 100), 5)
+            changed = [messages.altered(rng, it) for it in frames for _ in range(40)]
+            made.compare(frames, changed, counts)
+            made.bugs(frames + changed[:1500], counts)
+
+
+# An address book of one person, and the words of its message that are pointers, with their fields.
+NAMED_BOOK = '(people = [(id = 1, name = "A", email = "a@b", phones = [(number = "5", type = home)], employment = (employer = "E"))])'
+NAMED = ((0, 'AddressBook'), (1, 'AddressBook.people'), (4, 'Person.name'), (5, 'Person.email'), (6, 'Person.phones'),
+         (7, 'Person.employment.employer or employment.school'), (12, 'Person.PhoneNumber.number'))
+
+
+def names(options, room, counts):
+    schema = HERE / 'addressbook.capnp'
+    made = Checked(options, room, 'names', schema.read_text(encoding='utf-8'), ['AddressBook'])
+    if not made.build(counts):
+        return
+    frame = subprocess.run(['capnp', 'encode', schema, 'AddressBook'], input=NAMED_BOOK.encode(), stdout=subprocess.PIPE, check=True).stdout
+    # a capability in place of each pointer
+    wrong = [frame[:8 + 8 * at] + (3).to_bytes(8, 'little') + frame[16 + 8 * at:] for at, _ in NAMED]
+    found = made.answers(wrong)
+    said = [' '.join(it[8:]) for it in found or []]
+    counts.say(said == [name for _, name in NAMED], f'names: {len(said)} fields are named' if said == [name for _, name in NAMED] else f'names: {said}')
+
+
 class Silent(run.Counts):
     """Counts, and says nothing."""
 
@@ -258,6 +372,30 @@ def odd(options, room, counts):
     strictly(folder, sorted(it.name for it in folder.glob('*.h')), room, counts, 'odd')
     wanted = (HERE / 'odd/skipped_c.txt').read_text(encoding='utf-8')
     counts.say(said == wanted, 'odd: standard error names what is not written' if said == wanted else f'odd: standard error is {said}')
+
+
+# What annotated/named.c prints of these.
+ORDERS = (
+    ('(id = 7, class = "c", colour = green, buyer = (name = "B"), job = (none = void))', '7 c 1 B 12 nothing 0 1 2'),
+    ('(id = 8, job = (payment = (amount = 5)))', '8  0  12 5 0 1 2'),
+    ('(job = (parts = [(name = "n", size = 1, weight = 2)]))', '0  0  12 n 1 2 0 1 2'),
+)
+
+
+def annotated(options, room, counts):
+    folder = room / 'annotated'
+    folder.mkdir()
+    said = ''.join(generate(options.generator, str(path), folder)[1] for path in sorted((HERE / 'annotated').glob('*.capnp')))
+    wanted = (HERE / 'annotated/skipped.txt').read_text(encoding='utf-8')
+    counts.say(said == wanted, 'annotated: standard error names what has no effect' if said == wanted else f'annotated: standard error is {said}')
+    strictly(folder, sorted(it.name for it in folder.glob('*.h')), room, counts, 'annotated')
+    words = ['gcc', '-std=c99', '-g', '-fsanitize=address,undefined', *STRICT, f'-I{BINDINGS}', f'-I{folder}']
+    built, errors = compiled([*words, '-o', folder / 'named', HERE / 'annotated/named.c', library(options, room)])
+    counts.say(built, 'annotated: named.c is compiled without a warning' if built else errors)
+    for order, line in ORDERS if built else ():
+        frame = subprocess.run(['capnp', 'encode', f'-I{BINDINGS}', HERE / 'annotated/named.capnp', 'Order'], input=order.encode(), stdout=subprocess.PIPE, check=True).stdout
+        printed = subprocess.run([folder / 'named'], input=frame, stdout=subprocess.PIPE, encoding='utf-8').stdout
+        counts.say(printed == line + '\n', f'annotated: {line}' if printed == line + '\n' else f'annotated: {printed}')
 
 
 def main():

@@ -1,5 +1,7 @@
-"""Writes a program in C over generated code: it prints messages, or copies each field of them, by the words `print` and `copy`.
-It prints in the notation of `capnp decode`, except that enums are numbers, and floats their bits, and that bytes are lists."""
+"""Writes a program in C over generated code: it prints messages, or copies each field of them, by the words `print` and `copy`; or by
+the word `check`, it checks each against the schema, and reads all fields. It prints in the notation of `capnp decode`, except that enums are numbers, and floats their bits, and that bytes are lists."""
+import re
+
 from schema import BITS, always, has_default, kind, members, name_of
 
 HEAD = '''/* Prints or copies each message of standard input, by generated code. */
@@ -67,15 +69,86 @@ static void copy_message(struct capnp_message *message, unsigned which) {{
     free(built.bytes - 8);
 }}
 
+static uint32_t check_root(struct capnp_message *message, unsigned which) {{
+    switch (which) {{
+{checked}    default: return UINT32_MAX;
+    }}
+}}
+
+static uint32_t open_root(struct capnp_message *message, const uint8_t *frame, size_t size, struct capnp_segment *room, size_t rooms,
+                          size_t *used, unsigned which) {{
+    switch (which) {{
+{opened}    default: return UINT32_MAX;
+    }}
+}}
+
+static const char *refused_by(const struct capnp_message *message, unsigned which) {{
+    switch (which) {{
+{refused}    default: return "";
+    }}
+}}
+
+/* Checks a message by the table, in which a word may be another one, and writes the answer to standard error: `yes`; or `no`, the refusal, its place,
+ * its row and index, and the name of its field; then the refusals of a reader without a check, and of capnp_validate. */
+static int check_message(const uint8_t *frame, size_t size, struct capnp_segment *room, unsigned which, const uint32_t *table, size_t words) {{
+    static const uint32_t rows[] = {{{rows}}};
+    struct capnp_message message, again;
+    size_t used;
+    uint32_t refusal;
+    if (capnp_open_frame(&message, frame, size, room, 512, &used) != 0) return 1;
+    message.left = 100000;
+    refusal = capnp_check(&message, table, words, rows[which]);
+    if (refusal == 0) {{
+        fputs("yes 0\n", stderr);
+        print_message(&message, which);
+        if (message.refusal != 0 || message.left != CAPNP_NO_LIMIT) {{
+            fprintf(stderr, "message: refusal %u after a check\n", (unsigned)message.refusal);
+            return 1;
+        }}
+        return 0;
+    }}
+    capnp_open_frame(&again, frame, size, room, 512, &used);
+    again.left = 100000;
+    print_message(&again, which);
+    fprintf(stderr, "no %u %u %u %u %u %u", (unsigned)refusal, (unsigned)message.refused_segment, (unsigned)message.refused_word,
+            (unsigned)message.refused_row, (unsigned)message.refused_index, (unsigned)again.refusal);
+    capnp_open_frame(&again, frame, size, room, 512, &used);
+    again.left = 100000;
+    fprintf(stderr, " %u %s\n", (unsigned)capnp_validate(&again), refused_by(&message, which));
+    return 0;
+}}
+
+/* Checks all messages. Two further words are the position of a word of the table, and what it is instead. */
+static int check_all(const uint8_t *bytes, size_t size, struct capnp_segment *room, int argc, char **argv) {{
+    static uint32_t table[sizeof {table} / 4];
+    size_t at = 0, used;
+    unsigned i;
+    memcpy(table, {table}, sizeof table);
+    if (argc > 3) table[atoi(argv[2])] = (uint32_t)strtoul(argv[3], NULL, 10);
+    for (i = 0; at < size; i++) {{
+        struct capnp_message message;
+        if (capnp_open_frame(&message, bytes + at, size - at, room, 512, &used) != 0) return 1;
+        if (check_message(bytes + at, used, room, i % {count}, table, sizeof table / 4) != 0) return 1;
+        at += used;
+    }}
+    return 0;
+}}
+
 int main(int argc, char **argv) {{
     static uint8_t bytes[1 << 26];
     static struct capnp_segment room[512];
     size_t size = fread(bytes, 1, sizeof bytes, stdin), at = 0, used;
     unsigned i;
+    if (argc > 1 && argv[1][0] == 'c' && argv[1][1] == 'h') return check_all(bytes, size, room, argc, argv);
     for (i = 0; at < size; i++) {{
         struct capnp_message message;
-        if (capnp_open_frame(&message, bytes + at, size - at, room, 512, &used) != 0) return 1;
-        if (i % 2 != 0) capnp_validate(&message);
+        if (i % 4 == 3) {{
+            if (open_root(&message, bytes + at, size - at, room, 512, &used, i % {count}) != 0) return 1;
+        }} else if (capnp_open_frame(&message, bytes + at, size - at, room, 512, &used) != 0) {{
+            return 1;
+        }}
+        if (i % 4 == 1) capnp_validate(&message);
+        if (i % 4 == 2) check_root(&message, i % {count});
         if (argc > 1 && argv[1][0] == 'c') copy_message(&message, i % {count});
         else print_message(&message, i % {count});
         if (message.refusal != 0 && argc > 1 && argv[1][0] == 'a') {{
@@ -91,7 +164,7 @@ int main(int argc, char **argv) {{
 '''
 POINTERS = 'text', 'data', 'struct', 'list', 'interface', 'anyPointer'
 # The words that get a `_` as the names of fields and groups.
-WORDS = set('get has set init open build copy which list builder root default'.split())
+WORDS = set('get has set init open build copy which list builder root default check refused'.split())
 SIZES = {1: 'BIT', 8: 'BYTE', 16: 'TWO_BYTES', 32: 'FOUR_BYTES', 64: 'EIGHT_BYTES'}
 
 
@@ -298,8 +371,13 @@ class Code:
                 f'{"".join(body)}}}\n')
 
 
-def program(schema, header, roots):
-    """The text of the program for messages whose roots are these structs in turn. `header` is the generated header."""
+def row_of(text, name):
+    """The row of a struct, by the text of the generated header."""
+    return re.search(rf'\b{name}_check\(struct capnp_message \*message\) {{\s*return capnp_check\(message, \w+, [^,]*, (\d+)\);', text)[1]
+
+
+def program(schema, header, text, roots):
+    """The text of the program for messages whose roots are these structs in turn. `text` is that of the generated header."""
     code = Code(schema)
     structs = [node for node in schema.written if 'struct' in node]
     names = [type_name(node) for node in structs]
@@ -309,4 +387,7 @@ def program(schema, header, roots):
     shown = ''.join(f'    case {i}: {{\n        {it} root = {it}_root(message);\n        show_{it}(&root, 64);\n        break;\n    }}\n' for i, it in enumerate(found))
     copied = ''.join(f'    case {i}: {{\n        {it} root = {it}_root(message);\n        {it}_builder to = {it}_init_root(&built);\n        copy_{it}(&root, &to, 64);\n        break;\n    }}\n'
                      for i, it in enumerate(found))
-    return HEAD.format(header=header) + '\n' + declared + functions + MAIN.format(count=len(roots), shown=shown, copied=copied)
+    checks = {what: ''.join(f'    case {i}: return {it}_{call};\n' for i, it in enumerate(found)) for what, call in (
+        ('checked', 'check(message)'), ('opened', 'open(message, frame, size, room, rooms, used)'), ('refused', 'refused(message)'))}
+    return HEAD.format(header=header) + '\n' + declared + functions + MAIN.format(
+        count=len(roots), shown=shown, copied=copied, rows=', '.join(row_of(text, it) for it in found), table=re.search(r'\b(capnp_table_\w+)\[\]', text)[1], **checks)

@@ -1,6 +1,8 @@
 pub mod BuildingCalls
 pub mod BuildingCopies
 pub mod BuildingLists
+pub mod Checked
+pub mod CheckedRoots
 pub mod Children
 pub mod Cuts
 pub mod ElementsFound
@@ -8,6 +10,7 @@ pub mod FrameCases
 pub mod Insides
 pub mod LentWords
 pub mod NearLists
+pub mod NoLimit
 pub mod OwnPlace
 pub mod Shown
 pub mod Unlimited

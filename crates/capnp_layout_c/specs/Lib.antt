@@ -1,6 +1,7 @@
 pub mod Buffers
 pub mod BuildingNumbers
 pub mod Builds
+pub mod Checking
 pub mod Copies
 pub mod Found
 pub mod Lent

@@ -28,6 +28,7 @@ ghost use Rattle.capnp_layout_c.specs.Found.{IsFoundStruct, IsFoundList, IsFound
 ghost use Rattle.capnp_layout_c.specs.Opened.{IsOpened, RefusesOpening};
 
 mod building;
+mod checking;
 mod found;
 mod frames;
 mod laws;

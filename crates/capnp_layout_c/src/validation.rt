@@ -24,7 +24,7 @@ use capnp_words::error::ErrorKind;
 use capnp_words::read_limiter::ReadLimiter;
 
 /// Returns the root pointer of a message, and charges the pointer's word.
-fn read_root<'a, 'b>(
+pub fn read_root<'a, 'b>(
     segments: &'a Segments<'b>,
     nesting: i32,
     lim: &mut ReadLimiter,

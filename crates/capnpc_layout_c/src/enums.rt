@@ -1,5 +1,6 @@
 //! Writes enums: those of the schema, and the numbers of members of unions.
 
+use crate::annotated::member_name;
 use crate::comments::push_comment;
 use crate::members::is_member;
 use crate::readers::{Schema, comment_of};
@@ -8,7 +9,7 @@ use capnpc_schema::text::Text;
 
 impl<'m> Schema<'m> {
     /// Writes an enum with these names.
-    pub fn write_enum(&mut self, node: &Node, names: &[String]) {
+    pub fn write_enum<'n>(&mut self, node: &'n Node, names: &'n [String]) {
         let values = self.node_values(node);
         self.text.push("\n");
         push_comment(&mut self.text, node.comment.as_str(), node.full.as_str());
@@ -17,7 +18,8 @@ impl<'m> Schema<'m> {
         }
         self.push("enum ~type~ {", &values);
         for (i, name) in names.iter().enumerate() {
-            self.push_enumerant(i > 0, node, "_", name.as_str(), i as u64);
+            let name = member_name(self.nodes, node, i, name.as_str());
+            self.push_enumerant(i > 0, node, "_", name, i as u64);
         }
         self.text.push("\n};\n");
     }
@@ -34,7 +36,7 @@ impl<'m> Schema<'m> {
         for field in it.fields.iter() {
             if is_member(field) {
                 let number = u64::from(field.discriminant);
-                self.push_enumerant(is_next, node, "_which_", field.name.as_str(), number);
+                self.push_enumerant(is_next, node, "_which_", field.variant.as_str(), number);
                 is_next = true;
             }
         }

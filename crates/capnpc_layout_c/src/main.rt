@@ -3,8 +3,10 @@
 //! the working directory. What it doesn't write, it names on standard error.
 #![tactic(auto)]
 
+mod annotated;
 mod builders;
 mod bytes;
+mod checks;
 mod comments;
 mod constants;
 mod enums;

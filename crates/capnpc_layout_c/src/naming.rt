@@ -1,37 +1,75 @@
 //! Names the declarations of a request and the fields of structs in generated C.
 
+use crate::annotated::{member_name, name_in_scope, prefix_of};
 use crate::words::{CALL_WORDS, INNER_WORDS, OUTER_WORDS, is_word};
-use capnpc_schema::model::{Field, Node, NodeKind};
+use capnpc_schema::model::{Node, NodeKind, find_node};
 use capnpc_schema::noted::Noted;
 use capnpc_schema::text::Text;
 use std::alloc::Global;
 
+// The names of a declaration: its own, and those of its fields, with and without what they have in calls.
+#[derive(Drop)]
+struct NodeNames {
+    item: String,
+    fields: Vec<String>,
+    in_calls: Vec<String>,
+}
+
 /// Names each declaration, and the fields of structs. A file's name is that of its header.
 pub fn name_nodes(nodes: &mut Vec<Node>, noted: &mut Noted) {
-    for node in nodes.iter_mut() {
-        name_node(node, noted);
+    for i in 0..nodes.len() {
+        let names = names_of(nodes.as_slice(), i, noted);
+        if let Some(node) = nodes.get_mut(i) {
+            set_names(node, names);
+        }
     }
 }
 
-// Names a declaration.
-fn name_node(node: &mut Node, noted: &mut Noted) {
-    let full = node.full.as_str();
-    let name = match &node.kind {
-        NodeKind::File => header_name(noted.alloc, full),
-        NodeKind::Const(_) if !full.contains(".") => outer_constant(noted.alloc, full),
-        _ => scoped_name(noted.alloc, full),
+// The names of declaration `index`.
+fn names_of(nodes: &[Node], index: usize, noted: &mut Noted) -> NodeNames {
+    let mut names = NodeNames {
+        item: String::new(noted.alloc),
+        fields: Vec::new(noted.alloc),
+        in_calls: Vec::new(noted.alloc),
     };
-    node.item = noted.string_or_note(name);
-    if let NodeKind::Struct(it) = &mut node.kind {
-        name_fields(&mut it.fields, noted);
+    let Some(node) = nodes.get(index) else {
+        return names;
+    };
+    let item = match &node.kind {
+        NodeKind::File => header_name(noted.alloc, node.full.as_str()),
+        _ => scoped_name(noted.alloc, nodes, node),
+    };
+    names.item = noted.string_or_note(item);
+    if let NodeKind::Struct(it) = &node.kind {
+        for (i, field) in it.fields.iter().enumerate() {
+            let name = member_name(nodes, node, i, field.name.as_str());
+            let in_call = escaped(noted.alloc, name, CALL_WORDS);
+            let in_call = noted.string_or_note(in_call);
+            let name = noted.copy_text(name);
+            noted.push(&mut names.fields, name);
+            noted.push(&mut names.in_calls, in_call);
+        }
     }
+    names
 }
 
-// Names the fields of a struct.
-fn name_fields(fields: &mut Vec<Field>, noted: &mut Noted) {
-    for field in fields.iter_mut() {
-        let name = escaped(noted.alloc, field.name.as_str(), CALL_WORDS);
-        field.snake = noted.string_or_note(name);
+// Sets the names of a declaration.
+fn set_names(node: &mut Node, names: NodeNames) {
+    let NodeNames {
+        item,
+        mut fields,
+        mut in_calls,
+    } = names;
+    node.item = item;
+    if let NodeKind::Struct(it) = &mut node.kind {
+        for field in it.fields.iter_mut().rev() {
+            if let Some(name) = fields.pop() {
+                field.variant = name;
+            }
+            if let Some(name) = in_calls.pop() {
+                field.snake = name;
+            }
+        }
     }
 }
 
@@ -47,28 +85,57 @@ fn header_name(alloc: Global, path: &str) -> Text {
     header
 }
 
-// The name of a constant that is in no struct.
-fn outer_constant(alloc: Global, name: &str) -> Text {
-    let mut constant = Text::new(alloc);
-    constant.push_all(&["const_", name]);
-    constant
-}
-
-// The name of a declaration: its scopes and its own name, with `_` between them.
-fn scoped_name(alloc: Global, full: &str) -> Text {
+// The name of a declaration: the prefix of its file, its scopes and its own name, with `_` between them.
+// That of a constant that is in no struct has `const_` before it.
+fn scoped_name<'m>(alloc: Global, nodes: &'m [Node], node: &'m Node) -> Text {
     let mut name = Text::new(alloc);
-    let mut words = OUTER_WORDS;
-    for part in full.split('.') {
-        if part.starts_with(is_small) {
-            words = CALL_WORDS;
+    let mut at = node;
+    for _ in 0..nodes.len().saturating_add(1) {
+        let outer = find_node(nodes, at.scope);
+        let is_outermost = match outer {
+            Some(scope) => matches!(&scope.kind, NodeKind::File),
+            None => true,
+        };
+        let part = name_in_scope(nodes, at);
+        let mut longer = Text::new(alloc);
+        if is_outermost {
+            let prefix = outer.map_or("", prefix_of);
+            push_outermost(alloc, &mut longer, prefix, part);
+        } else {
+            longer.append(&escaped(alloc, part, words_for(part, INNER_WORDS)));
         }
         if !name.as_str().is_empty() {
-            name.push_char('_');
+            longer.push_char('_');
         }
-        name.append(&escaped(alloc, part, words));
-        words = INNER_WORDS;
+        longer.append(&name);
+        name = longer;
+        match outer {
+            Some(scope) if !is_outermost => at = scope,
+            _ => break,
+        }
     }
     name
+}
+
+// Appends the name of a declaration that is in no other one.
+fn push_outermost(alloc: Global, to: &mut Text, prefix: &str, part: &str) {
+    to.push(prefix);
+    if part.starts_with(is_small) {
+        to.push_all(&["const_", part]);
+    } else if prefix.is_empty() {
+        to.append(&escaped(alloc, part, OUTER_WORDS));
+    } else {
+        to.push(part);
+    }
+}
+
+// The words that a name with this part can't have: those of calls, for fields, groups and constants.
+fn words_for(part: &str, of_types: &'static [&'static str]) -> &'static [&'static str] {
+    if part.starts_with(is_small) {
+        CALL_WORDS
+    } else {
+        of_types
+    }
 }
 
 // Whether a name that starts with this is that of a field, a group or a constant.

@@ -5,6 +5,7 @@ use crate::forms::put_slot;
 use crate::members::{is_member, is_pointer};
 use crate::templates;
 use capnpc_schema::model::{Field, FieldKind, Node, Slot, Struct, find_node, lacking, type_name};
+use capnpc_schema::table::Table;
 use capnpc_schema::text::{Lines, Text, Values};
 use capnpc_schema::types::BaseKind;
 use std::alloc::Global;
@@ -20,6 +21,10 @@ pub struct Schema<'m> {
     pub text: Text,
     /// What isn't written, and why: a line for each.
     pub skipped: Text,
+    /// The digits of the file's id.
+    pub file_id: Text,
+    /// The table of the file's structs.
+    pub table: Table,
 }
 
 impl<'m> Schema<'m> {

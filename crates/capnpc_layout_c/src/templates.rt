@@ -74,6 +74,34 @@ CAPNP_INLINE ~type~_builder ~type~_list_builder_at(const ~type~_list_builder *of
 }
 ";
 
+/// The table of a file, and the names of its fields.
+pub const TABLE: &str = "
+/* What each pointer of these structs, and of those that they lead to, may lead to; and the names of the fields. */
+static const uint32_t capnp_table_~id~[] = {~words~
+};
+static const struct capnp_field_name capnp_names_~id~[] = {~names~
+    {0, 0, 0}
+};
+";
+
+/// The calls that check a message with a struct as its root.
+pub const CHECKS: &str = "
+/* Checks the whole message, with ~full~ as its root: capnp_check says what holds then. */
+CAPNP_INLINE uint32_t ~type~_check(struct capnp_message *message) {
+    return capnp_check(message, capnp_table_~id~, sizeof capnp_table_~id~ / 4, ~row~);
+}
+/* capnp_open_frame, and then ~type~_check. */
+CAPNP_INLINE uint32_t ~type~_open(struct capnp_message *message, const uint8_t *frame, size_t size, struct capnp_segment *room,
+                                  size_t rooms, size_t *used) {
+    capnp_open_frame(message, frame, size, room, rooms, used);
+    return ~type~_check(message);
+}
+/* The name of the field that ~type~_check has refused: capnp_refused_name. */
+CAPNP_INLINE const char *~type~_refused(const struct capnp_message *message) {
+    return capnp_refused_name(message, \"~full~\", capnp_names_~id~);
+}
+";
+
 /// The call that says which member of a union is set.
 pub const WHICH: &str = "
 /* The member of the union of ~full~ that is set: a number of enum ~type~_which, or another of a newer schema. */

@@ -4,7 +4,7 @@
 /// in the names of calls.
 pub const CALL_WORDS: &[&str] = &[
     "get", "has", "set", "init", "open", "build", "copy", "which", "list", "builder", "root",
-    "default",
+    "default", "check", "refused",
 ];
 
 /// Names of types inside of others that get a `_`.

@@ -2,6 +2,7 @@
 //! readers into a model that programs which generate code share, with texts and names to write them.
 #![tactic(auto)]
 
+pub mod annotations;
 pub mod defaults;
 pub mod files;
 pub mod groups;

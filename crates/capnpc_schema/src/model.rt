@@ -1,5 +1,6 @@
 //! What a schema declares.
 
+use crate::annotations::Annotation;
 use crate::text::Text;
 use crate::types::{ANY_POINTER, Base, BaseKind};
 use std::alloc::Global;
@@ -169,6 +170,8 @@ pub struct Node {
     pub comment: String,
     /// The comments of its fields or enumerants, in their order; may be empty.
     pub comments: Vec<String>,
+    /// The annotations of the declaration, and of its fields or enumerants, whose values are texts.
+    pub annotations: Vec<Annotation>,
     /// What it is.
     pub kind: NodeKind,
 }

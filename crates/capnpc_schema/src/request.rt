@@ -1,5 +1,6 @@
 //! Reads the schema compiler's request, a `CodeGeneratorRequest`, by generated readers.
 
+use crate::annotations::read_node_annotations;
 use crate::defaults::canonical_words;
 use crate::model::{Constant, Default, Field, FieldKind, Node, NodeKind, Slot, Struct, Type};
 use crate::noted::Noted;
@@ -156,6 +157,7 @@ fn read_node<A: ReaderArena>(
 ) -> Node {
     let full = strip_file_name(noted.text_or_note(from.get_display_name(lim)));
     let kind = read_node_kind(from, lim, noted);
+    let annotations = read_node_annotations(from, lim, noted);
     Node {
         id: from.get_id(),
         scope: from.get_scope_id(),
@@ -165,6 +167,7 @@ fn read_node<A: ReaderArena>(
         item: String::new(noted.alloc),
         comment: String::new(noted.alloc),
         comments: Vec::new(noted.alloc),
+        annotations,
         kind,
     }
 }

@@ -52,6 +52,21 @@ typedef struct { struct capnp_struct_builder it; } AddressBook_builder;
 typedef struct { struct capnp_list_builder it; } AddressBook_list_builder;
 #define AddressBook_TYPE_ID UINT64_C(0xf934d9b354a8a134)
 
+/* What each pointer of these structs, and of those that they lead to, may lead to; and the names of the fields. */
+static const uint32_t capnp_table_9eb32e19f86ee174[] = {
+    0, 1, 63, 4, 2, 2, 271, 135, 2, 1, 2, 199,
+    2, 2, 2, 0, 1, 2
+};
+static const struct capnp_field_name capnp_names_9eb32e19f86ee174[] = {
+    {1, 0, "AddressBook.people"},
+    {3, 0, "Person.name"},
+    {3, 1, "Person.email"},
+    {3, 2, "Person.phones"},
+    {3, 3, "Person.employment.employer or employment.school"},
+    {16, 0, "Person.PhoneNumber.number"},
+    {0, 0, 0}
+};
+
 /* Person as the root of a message, and in lists. Words of data: 1; pointers: 4. */
 CAPNP_INLINE Person Person_root(struct capnp_message *message) {
     Person to;
@@ -83,6 +98,21 @@ CAPNP_INLINE Person_builder Person_list_builder_at(const Person_list_builder *of
     Person_builder to;
     to.it = capnp_builder_element(&of->it, index);
     return to;
+}
+
+/* Checks the whole message, with Person as its root: capnp_check says what holds then. */
+CAPNP_INLINE uint32_t Person_check(struct capnp_message *message) {
+    return capnp_check(message, capnp_table_9eb32e19f86ee174, sizeof capnp_table_9eb32e19f86ee174 / 4, 3);
+}
+/* capnp_open_frame, and then Person_check. */
+CAPNP_INLINE uint32_t Person_open(struct capnp_message *message, const uint8_t *frame, size_t size, struct capnp_segment *room,
+                                  size_t rooms, size_t *used) {
+    capnp_open_frame(message, frame, size, room, rooms, used);
+    return Person_check(message);
+}
+/* The name of the field that Person_check has refused: capnp_refused_name. */
+CAPNP_INLINE const char *Person_refused(const struct capnp_message *message) {
+    return capnp_refused_name(message, "Person", capnp_names_9eb32e19f86ee174);
 }
 
 /* id @0 :UInt32 */
@@ -235,6 +265,21 @@ CAPNP_INLINE Person_PhoneNumber_builder Person_PhoneNumber_list_builder_at(const
     return to;
 }
 
+/* Checks the whole message, with Person.PhoneNumber as its root: capnp_check says what holds then. */
+CAPNP_INLINE uint32_t Person_PhoneNumber_check(struct capnp_message *message) {
+    return capnp_check(message, capnp_table_9eb32e19f86ee174, sizeof capnp_table_9eb32e19f86ee174 / 4, 16);
+}
+/* capnp_open_frame, and then Person_PhoneNumber_check. */
+CAPNP_INLINE uint32_t Person_PhoneNumber_open(struct capnp_message *message, const uint8_t *frame, size_t size, struct capnp_segment *room,
+                                  size_t rooms, size_t *used) {
+    capnp_open_frame(message, frame, size, room, rooms, used);
+    return Person_PhoneNumber_check(message);
+}
+/* The name of the field that Person_PhoneNumber_check has refused: capnp_refused_name. */
+CAPNP_INLINE const char *Person_PhoneNumber_refused(const struct capnp_message *message) {
+    return capnp_refused_name(message, "Person.PhoneNumber", capnp_names_9eb32e19f86ee174);
+}
+
 /* number @0 :Text */
 CAPNP_INLINE struct capnp_text Person_PhoneNumber_number(const Person_PhoneNumber *of) {
     return capnp_get_text(&of->reader, 0);
@@ -288,6 +333,21 @@ CAPNP_INLINE AddressBook_builder AddressBook_list_builder_at(const AddressBook_l
     AddressBook_builder to;
     to.it = capnp_builder_element(&of->it, index);
     return to;
+}
+
+/* Checks the whole message, with AddressBook as its root: capnp_check says what holds then. */
+CAPNP_INLINE uint32_t AddressBook_check(struct capnp_message *message) {
+    return capnp_check(message, capnp_table_9eb32e19f86ee174, sizeof capnp_table_9eb32e19f86ee174 / 4, 1);
+}
+/* capnp_open_frame, and then AddressBook_check. */
+CAPNP_INLINE uint32_t AddressBook_open(struct capnp_message *message, const uint8_t *frame, size_t size, struct capnp_segment *room,
+                                  size_t rooms, size_t *used) {
+    capnp_open_frame(message, frame, size, room, rooms, used);
+    return AddressBook_check(message);
+}
+/* The name of the field that AddressBook_check has refused: capnp_refused_name. */
+CAPNP_INLINE const char *AddressBook_refused(const struct capnp_message *message) {
+    return capnp_refused_name(message, "AddressBook", capnp_names_9eb32e19f86ee174);
 }
 
 /* people @0 :List(Person) */

@@ -79,6 +79,67 @@ enum Root_shape_side_unit_which {
 typedef struct { struct capnp_struct reader; } Root_spot;
 typedef struct { struct capnp_struct_builder it; } Root_spot_builder;
 
+/* What each pointer of these structs, and of those that they lead to, may lead to; and the names of the fields. */
+static const uint32_t capnp_table_b6f5f0d4d9a3c1e7[] = {
+    0, 2, 2, 71, 2, 1, 2, 0, 36, 2, 2, 4,
+    4, 21, 133, 0, 8, 9, 10, 11, 12, 13, 13, 11,
+    734, 766, 31, 798, 830, 21, 11, 31, 862, 887, 1, 1406,
+    10, 11, 12, 13, 12, 9, 1438, 1470, 2, 1, 2, 1,
+    4, 1, 11, 1, 31, 1, 2, 27, 3, 31, 951, 27,
+    4, 21, 1015, 27, 8, 4, 1079, 27, 9, 12, 1143, 27,
+    10, 1, 1207, 27, 11, 0, 1271, 27, 2, 1335, 0, 32,
+    1, 2, 0, 1, 1, 1, 4, 1, 10
+};
+static const struct capnp_field_name capnp_names_b6f5f0d4d9a3c1e7[] = {
+    {1, 0, "Inner.where"},
+    {1, 1, "Inner.type"},
+    {8, 0, "Root.name"},
+    {8, 1, "Root.greeting"},
+    {8, 2, "Root.blob"},
+    {8, 3, "Root.magic"},
+    {8, 4, "Root.inner"},
+    {8, 5, "Root.next"},
+    {8, 6, "Root.any"},
+    {8, 7, "Root.voids"},
+    {8, 8, "Root.flags"},
+    {8, 9, "Root.bytes"},
+    {8, 10, "Root.shorts"},
+    {8, 11, "Root.words"},
+    {8, 12, "Root.longs"},
+    {8, 13, "Root.ratios"},
+    {8, 14, "Root.colours"},
+    {8, 15, "Root.names"},
+    {8, 16, "Root.blobs"},
+    {8, 17, "Root.inners"},
+    {8, 18, "Root.rows"},
+    {8, 19, "Root.grid"},
+    {8, 20, "Root.filled"},
+    {8, 21, "Root.counted"},
+    {8, 22, "Root.listed"},
+    {8, 23, "Root.named"},
+    {8, 24, "Root.shape.corners or shape.other or shape.photo or shape.sizes or shape.agent or shape.extra or shape.side.unit.foot"},
+    {8, 25, "Root.service"},
+    {8, 26, "Root.services"},
+    {8, 27, "Root.tinies"},
+    {8, 28, "Root.ports"},
+    {8, 29, "Root.deltas"},
+    {8, 30, "Root.keys"},
+    {8, 31, "Root.scales"},
+    {8, 32, "Root.checked"},
+    {8, 33, "Root.sealed"},
+    {8, 34, "Root.tabled"},
+    {8, 35, "Root.spot.note"},
+    {45, 0, "an element of Root.names"},
+    {47, 0, "an element of Root.blobs"},
+    {49, 0, "an element of Root.rows"},
+    {51, 0, "an element of Root.grid"},
+    {53, 0, "an element of Root.named"},
+    {87, 0, "an element of Root.services"},
+    {89, 0, "an element of Root.sealed"},
+    {91, 0, "an element of Root.tabled"},
+    {0, 0, 0}
+};
+
 /* Inner as the root of a message, and in lists. Words of data: 1; pointers: 2. */
 CAPNP_INLINE Inner Inner_root(struct capnp_message *message) {
     Inner to;
@@ -110,6 +171,21 @@ CAPNP_INLINE Inner_builder Inner_list_builder_at(const Inner_list_builder *of, u
     Inner_builder to;
     to.it = capnp_builder_element(&of->it, index);
     return to;
+}
+
+/* Checks the whole message, with Inner as its root: capnp_check says what holds then. */
+CAPNP_INLINE uint32_t Inner_check(struct capnp_message *message) {
+    return capnp_check(message, capnp_table_b6f5f0d4d9a3c1e7, sizeof capnp_table_b6f5f0d4d9a3c1e7 / 4, 1);
+}
+/* capnp_open_frame, and then Inner_check. */
+CAPNP_INLINE uint32_t Inner_open(struct capnp_message *message, const uint8_t *frame, size_t size, struct capnp_segment *room,
+                                  size_t rooms, size_t *used) {
+    capnp_open_frame(message, frame, size, room, rooms, used);
+    return Inner_check(message);
+}
+/* The name of the field that Inner_check has refused: capnp_refused_name. */
+CAPNP_INLINE const char *Inner_refused(const struct capnp_message *message) {
+    return capnp_refused_name(message, "Inner", capnp_names_b6f5f0d4d9a3c1e7);
 }
 
 /* The member of the union of Inner that is set: a number of enum Inner_which, or another of a newer schema. */
@@ -312,6 +388,21 @@ CAPNP_INLINE Root_builder Root_list_builder_at(const Root_list_builder *of, uint
     Root_builder to;
     to.it = capnp_builder_element(&of->it, index);
     return to;
+}
+
+/* Checks the whole message, with Root as its root: capnp_check says what holds then. */
+CAPNP_INLINE uint32_t Root_check(struct capnp_message *message) {
+    return capnp_check(message, capnp_table_b6f5f0d4d9a3c1e7, sizeof capnp_table_b6f5f0d4d9a3c1e7 / 4, 8);
+}
+/* capnp_open_frame, and then Root_check. */
+CAPNP_INLINE uint32_t Root_open(struct capnp_message *message, const uint8_t *frame, size_t size, struct capnp_segment *room,
+                                  size_t rooms, size_t *used) {
+    capnp_open_frame(message, frame, size, room, rooms, used);
+    return Root_check(message);
+}
+/* The name of the field that Root_check has refused: capnp_refused_name. */
+CAPNP_INLINE const char *Root_refused(const struct capnp_message *message) {
+    return capnp_refused_name(message, "Root", capnp_names_b6f5f0d4d9a3c1e7);
 }
 
 /* flag @0 :Bool */
