@@ -88,8 +88,8 @@ impl<'a, 's, A: ReaderArena> CheckedStruct<'a, 's, A> {
         ensures spent { let charging = A.charging arena.now in (t : Tree) (c : ℕ)
             → Means (message (A.segments arena.now)) (levels (A.nesting arena.now)) 0 0 t c
             → OnOk result (Paid charging (charged charging lim.old 1) lim.new c (pointers_in t)) }
-        ensures refused { let S = message (A.segments arena.now) in
-            let root = arena_root A.ReaderArena arena.entry in IfErr result (λ x.
+        ensures refused { let S = message (A.segments arena.now) in let root =
+            arena_root A.ReaderArena arena.entry in IfErr result (λ x.
             ((Holds S 0 0 1 × Affords root.charging lim.old 1 → ⊥)
             × (x ≡ misfit_at (rowless_pointer (Kind.Struct row)) root x.error))
             ⊎ IsTrueFrom (first_visit table.now (Kind.Struct row) root) lim.new x) }
