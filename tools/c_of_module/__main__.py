@@ -97,7 +97,7 @@ class Module:
             return f'static const u8 {name}[{max(count, 1)}] = {text_of(value, count)};'
         values = it.value()
         it.end()
-        shown = [f'{int(value) % (1 << bits(of))}u' if bits(of) else f'PLACE({self.names(value)})' for value in values]
+        shown = [f'{0 if value in ZERO else int(value) % (1 << bits(of))}u' if bits(of) else f'PLACE({self.names(value)})' for value in values]
         kind = 'const struct place' if of == 'ptr' else f'const {c_type(of)}'
         return f'static {kind} {name}[{count}] = {{ {", ".join(shown)} }};'
 
