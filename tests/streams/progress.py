@@ -136,6 +136,12 @@ def one_screen(program, counts):
     run.feed(many, lambda number: run.screened.count('\n') == 2 * (1899 + number))
     ends(counts, 'one screen, filled', run, (b'', 0), wanted.split('\n'))
     counts.told(run.shown()[-1:] == [1901], 'progress: one screen, filled', run.shown())
+    # after bytes that don't end a line, nothing is shown
+    frames = program.run(['canon'], MESSAGES[3] * 3)[0].decode()
+    run = Run(program, ['canon', '--progress'], True)
+    run.feed([MESSAGES[3]] * 3, lambda number: run.screened.count('hello') == number)
+    ends(counts, 'one screen, no lines', run, (b'', 0), frames.split('\n'))
+    counts.told(run.shown() == [0], 'progress: one screen, no lines', run.shown())
     run = Run(program, ['check', '--progress'], True)
     run.feed([MESSAGES[1], b'\x00'], lambda number: len(run.shown()) == number)
     ends(counts, 'one screen, refused', run, (b'', 2), ['canonical', 'capnp_canon: message 2 at byte 16: refused Truncated', ''])
