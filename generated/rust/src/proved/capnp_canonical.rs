@@ -9,16 +9,21 @@
 
 mod calls;
 mod digest;
+mod equal_exports;
 mod fault;
 mod frames;
 mod locating;
 mod names;
 mod packed;
+mod packing;
 mod part_exports;
 mod parts;
+mod prefix_exports;
 mod refusal;
 mod segment_exports;
 mod segments;
+mod taking;
+mod texts;
 mod validation;
 mod walk_exports;
 mod word_exports;
@@ -35,6 +40,8 @@ use frames::{
 use locating::{locate_in_frame, BrokenPointer, NO_POINTER};
 use names::{name_of_number, put_text, text_of_reason};
 use packed::{unpack, unpack_further, Unpacking};
+use packing::pack;
+use texts::text_of_answer;
 use validation::{validate_frame, SoundMessage, NOT_SOUND};
 
 /// Makes a canonical copy of the message whose frame is at the front of `frame`, writes the copy to
@@ -265,6 +272,27 @@ pub fn capnp_canonical_unpack(packed: &[u8], to: &mut [u8], written: &mut usize)
     }
 }
 
+/// Packs `words` (encoding specification, "Packing") to the front of `to`, and stores the number of
+/// packed bytes in `written`. `words` is whole words, such as the frames of messages. Takes no
+/// memory.
+///
+/// The packed bytes are those that C++ and Rust make of the words, each run as long as it can be.
+/// There are at most 10 for each word. If `to` is too small, stores the number of bytes needed in
+/// `written`; for any other refusal, 0. The bytes of `to` after the packed bytes are unchanged. If
+/// the call is refused, all bytes of `to` are unchanged.
+pub fn capnp_canonical_pack(words: &[u8], to: &mut [u8], written: &mut usize) -> u32 {
+    match pack(words, to) {
+        Ok(size) => {
+            *written = size;
+            0
+        }
+        Err(refusal) => {
+            *written = refusal.wanted_room();
+            refusal.number()
+        }
+    }
+}
+
 /// Unpacks the next bytes of a packed stream to the front of `to`, and goes on from where the last
 /// call with this `unpacking` stopped; at the start of a stream its numbers are 0. Stops when `to`
 /// is full or no packed bytes are left. Stores how many it took in `taken`, and returns the number
@@ -279,6 +307,13 @@ pub fn capnp_canonical_unpack_piece(
     taken: &mut usize,
 ) -> usize {
     unpack_further(unpacking, packed, to, taken)
+}
+
+/// Stores the text of the answer with the number `answer` in `text`: a constant, one or more bytes
+/// that aren't zero, and a terminating zero byte. So it is the text of a refusal as this library
+/// knows it, even if the header that the caller was compiled with is older.
+pub fn capnp_canonical_answer_text(answer: u32, text: &mut &'static [u8]) {
+    *text = text_of_answer(answer);
 }
 
 /// Writes the name of the refusal with the number `answer` to the front of `to`, followed by a

@@ -4,3 +4,4 @@
 pub mod checked;
 pub mod conforms;
 pub mod schema;
+mod table;

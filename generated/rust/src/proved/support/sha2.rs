@@ -1,13 +1,31 @@
 //! SHA-256 (FIPS 180-4), for what the sources call the crate `sha2`.
 
 /// Digests of bytes.
-pub trait Digest {
+pub trait Digest: Sized {
+    /// Begins with no bytes.
+    fn new() -> Self;
+    /// Adds `bytes` after those that were added before.
+    fn update(&mut self, bytes: &[u8]);
+    /// The digest of all bytes that were added.
+    fn finalize(self) -> [u8; 32];
+
     /// The digest of `bytes`.
-    fn digest(bytes: &[u8]) -> [u8; 32];
+    fn digest(bytes: &[u8]) -> [u8; 32] {
+        let mut hasher = Self::new();
+        hasher.update(bytes);
+        hasher.finalize()
+    }
 }
 
-/// SHA-256.
-pub struct Sha256;
+/// SHA-256, of bytes that come in pieces.
+pub struct Sha256 {
+    state: [u32; 8],
+    // the bytes that don't fill a block yet, and how many these are
+    last: [u8; 64],
+    held: usize,
+    // the number of all bytes
+    size: u64,
+}
 
 const K: [u32; 64] = [
     0x428a2f98, 0x71374491, 0xb5c0fbcf, 0xe9b5dba5, 0x3956c25b, 0x59f111f1, 0x923f82a4, 0xab1c5ed5,
@@ -56,23 +74,47 @@ fn mix(state: &mut [u32; 8], block: &[u8]) {
 }
 
 impl Digest for Sha256 {
-    fn digest(bytes: &[u8]) -> [u8; 32] {
-        let mut state = START;
+    fn new() -> Self {
+        Sha256 {
+            state: START,
+            last: [0; 64],
+            held: 0,
+            size: 0,
+        }
+    }
+
+    fn update(&mut self, mut bytes: &[u8]) {
+        self.size = self.size.wrapping_add(bytes.len() as u64);
+        if self.held > 0 {
+            let few = bytes.len().min(64 - self.held);
+            self.last[self.held..self.held + few].copy_from_slice(&bytes[..few]);
+            self.held += few;
+            bytes = &bytes[few..];
+            if self.held < 64 {
+                return;
+            }
+            mix(&mut self.state, &self.last);
+        }
         let blocks = bytes.chunks_exact(64);
         let rest = blocks.remainder();
         for block in blocks {
-            mix(&mut state, block);
+            mix(&mut self.state, block);
         }
+        self.last[..rest.len()].copy_from_slice(rest);
+        self.held = rest.len();
+    }
+
+    fn finalize(mut self) -> [u8; 32] {
         let mut last = [0u8; 128];
-        last[..rest.len()].copy_from_slice(rest);
-        last[rest.len()] = 0x80;
-        let end = if rest.len() < 56 { 64 } else { 128 };
-        last[end - 8..end].copy_from_slice(&(8 * bytes.len() as u64).to_be_bytes());
+        last[..self.held].copy_from_slice(&self.last[..self.held]);
+        last[self.held] = 0x80;
+        let end = if self.held < 56 { 64 } else { 128 };
+        last[end - 8..end].copy_from_slice(&self.size.wrapping_mul(8).to_be_bytes());
         for block in last[..end].chunks_exact(64) {
-            mix(&mut state, block);
+            mix(&mut self.state, block);
         }
         let mut out = [0u8; 32];
-        for (to, word) in out.chunks_exact_mut(4).zip(state) {
+        for (to, word) in out.chunks_exact_mut(4).zip(self.state) {
             to.copy_from_slice(&word.to_be_bytes());
         }
         out
@@ -87,5 +129,29 @@ mod tests {
     fn of_abc() {
         let wanted = b"\xba\x78\x16\xbf\x8f\x01\xcf\xea\x41\x41\x40\xde\x5d\xae\x22\x23\xb0\x03\x61\xa3\x96\x17\x7a\x9c\xb4\x10\xff\x61\xf2\x00\x15\xad";
         assert_eq!(&Sha256::digest(b"abc"), wanted);
+    }
+
+    // the example of two blocks in FIPS 180-2, and a million times `a`, in pieces of some sizes up to three blocks
+    #[test]
+    fn of_pieces() {
+        let text = b"abcdbcdecdefdefgefghfghighijhijkijkljklmklmnlmnomnopnopq";
+        let wanted = b"\x24\x8d\x6a\x61\xd2\x06\x38\xb8\xe5\xc0\x26\x93\x0c\x3e\x60\x39\xa3\x3c\xe4\x59\x64\xff\x21\x67\xf6\xec\xed\xd4\x19\xdb\x06\xc1";
+        let all = [b'a'; 192];
+        let most = b"\xcd\xc7\x6e\x5c\x99\x14\xfb\x92\x81\xa1\xc7\xe2\x84\xd7\x3e\x67\xf1\x80\x9a\x48\xa4\x97\x20\x0e\x04\x6d\x39\xcc\xc7\x11\x2c\xd0";
+        for size in 1..=192 {
+            let mut hasher = Sha256::new();
+            text.chunks(size).for_each(|piece| hasher.update(piece));
+            assert_eq!(&hasher.finalize(), wanted, "{size}");
+        }
+        for size in [1, 63, 64, 65, 192] {
+            let mut hasher = Sha256::new();
+            let mut left = 1_000_000;
+            while left > 0 {
+                let piece = size.min(left);
+                hasher.update(&all[..piece]);
+                left -= piece;
+            }
+            assert_eq!(&hasher.finalize(), most, "{size}");
+        }
     }
 }

@@ -7,8 +7,8 @@ use crate::proved::capnp_readers::readers::{ListReader, PrimitiveElement, Struct
 use crate::proved::capnp_words::error::ErrorKind;
 use crate::proved::capnp_words::read_limiter::ReadLimiter;
 use crate::proved::capnp_words::wire_pointer::ElementSize;
-use crate::proved::typed_conforming::conforms::{conforms, row_pointers};
-use crate::proved::typed_conforming::schema::{Kind, PointerRow, StructRow};
+use crate::proved::typed_conforming::conforms::conforms;
+use crate::proved::typed_conforming::schema::{Kind, Misfit};
 use crate::proved::typed_reading::list::{self, NumbersReader, StructsReader};
 use crate::proved::typed_reading::value;
 
@@ -19,10 +19,10 @@ use crate::proved::typed_reading::value;
 pub struct CheckedStruct<'a, 's, A: ReaderArena> {
     /// The struct. Its numbers are read by `typed_reading::value`, which refuses nothing.
     pub reader: StructReader<'a, A>,
-    /// The schema.
-    pub schema: &'s [StructRow<'s>],
-    /// The pointers of the struct's row.
-    pub pointers: &'s [PointerRow<'s>],
+    /// The schema's table.
+    pub table: &'s [u32],
+    /// The position of the struct's row.
+    pub row: u32,
 }
 
 impl<'a, 's, A: ReaderArena> Clone for CheckedStruct<'a, 's, A> {
@@ -36,15 +36,14 @@ impl<'a, 's, A: ReaderArena> Copy for CheckedStruct<'a, 's, A> {}
 
 impl<'a, 's, A: ReaderArena> CheckedStruct<'a, 's, A> {
     /// Tests a message, and returns its root. The whole message has to be readable within both
-    /// limits, and its root has to be a struct that conforms to row `row` of `schema`, or null,
-    /// which reads as a struct without sections. If there is no such row, its pointers may lead to
-    /// anything. Precondition: each word of the message has 64 bits, as in each arena of bytes.
+    /// limits, and its root has to be a struct that conforms to the row at `row` of
+    /// `table`, or null, which reads as a struct without sections. Precondition: each word of the message has 64 bits, as in each arena of bytes.
     ///
     /// Charges one word for the root pointer, and what reading the whole message once costs. After
     /// that, nothing that the root leads to is charged.
     ///
-    /// Refuses like `Pointer::get_root_from_arena` and `conforms`. What was charged before stays
-    /// charged.
+    /// Refuses like `Pointer::get_root_from_arena`, then at word 0 of segment 0, and like `conforms`.
+    /// What was charged before stays charged.
     ///
     /// # Preconditions
     ///
@@ -54,36 +53,41 @@ impl<'a, 's, A: ReaderArena> CheckedStruct<'a, 's, A> {
     #[inline]
     pub fn root(
         arena: &'a A,
-        schema: &'s [StructRow<'s>],
-        row: u16,
+        table: &'s [u32],
+        row: u32,
         lim: &mut ReadLimiter,
-    ) -> Result<Self, ErrorKind> {
+    ) -> Result<Self, Misfit> {
         let pointer = match Pointer::get_root_from_arena(arena, lim) {
             Ok(pointer) => pointer,
-            Err(kind) => return Err(kind),
+            Err(error) => {
+                return Err(Misfit {
+                    error,
+                    segment: 0,
+                    word: 0,
+                    row: 0,
+                    index: 0,
+                });
+            }
         };
-        match conforms(schema, Kind::Struct(row), &pointer, lim) {
+        match conforms(table, Kind::Struct(row), &pointer, lim) {
             Ok(()) => {}
-            Err(kind) => return Err(kind),
+            Err(misfit) => return Err(misfit),
         }
         let mut unlimited = ReadLimiter::new(None);
         let reader = value::root(arena, &mut unlimited).unwrap();
-        Ok(CheckedStruct {
-            reader,
-            schema,
-            pointers: row_pointers(schema, row),
-        })
+        Ok(CheckedStruct { reader, table, row })
     }
 
     /// Returns the bytes of the text that pointer `index` leads to, without the zero byte at its
     /// end; no bytes if the pointer is null. Precondition: the schema says that pointer `index` is
-    /// a text, for the members of unions that are set.
+    /// a text, of kind `Text` or `Utf8`, for the members of unions that are set.
     ///
     /// # Preconditions
     ///
     /// ```text
     /// requires { (t : Tree) → ShowsStructOf A.ReaderArena self.now.reader t
-    ///     → wanted self.now.pointers.now (struct_data t) index ≡ Kind.Text }
+    ///     → is_text_kind (wanted self.now.table.now self.now.row (struct_data t) index)
+    ///     ≡ true }
     /// ```
     #[inline]
     pub fn get_text(&self, index: u16) -> &'a [u8] {
@@ -94,6 +98,26 @@ impl<'a, 's, A: ReaderArena> CheckedStruct<'a, 's, A> {
         value::get_text(&self.reader, index as usize, &mut unlimited).unwrap()
     }
 
+    /// Returns the text that pointer `index` leads to, without the zero byte at its end; an empty
+    /// text if the pointer is null. Reads each byte once more. Precondition: the schema says that
+    /// pointer `index` is a text in UTF-8, for the members of unions that are set.
+    ///
+    /// # Preconditions
+    ///
+    /// ```text
+    /// requires { (t : Tree) → ShowsStructOf A.ReaderArena self.now.reader t
+    ///     → wanted self.now.table.now self.now.row (struct_data t) index ≡ Kind.Utf8 }
+    /// ```
+    #[inline]
+    pub fn get_str(&self, index: u16) -> &'a str {
+        if index >= self.reader.pointer_count {
+            return "";
+        }
+        let mut unlimited = ReadLimiter::new(None);
+        let bytes = value::get_text(&self.reader, index as usize, &mut unlimited).unwrap();
+        str::from_utf8(bytes).unwrap()
+    }
+
     /// Returns the bytes of the data that pointer `index` leads to; no bytes if the pointer is
     /// null. Precondition: the schema says that pointer `index` is data, for the members of unions
     /// that are set.
@@ -102,7 +126,7 @@ impl<'a, 's, A: ReaderArena> CheckedStruct<'a, 's, A> {
     ///
     /// ```text
     /// requires { (t : Tree) → ShowsStructOf A.ReaderArena self.now.reader t
-    ///     → wanted self.now.pointers.now (struct_data t) index ≡ Kind.Data }
+    ///     → wanted self.now.table.now self.now.row (struct_data t) index ≡ Kind.Data }
     /// ```
     #[inline]
     pub fn get_data(&self, index: u16) -> &'a [u8] {
@@ -121,24 +145,23 @@ impl<'a, 's, A: ReaderArena> CheckedStruct<'a, 's, A> {
     ///
     /// ```text
     /// requires { (t : Tree) → ShowsStructOf A.ReaderArena self.now.reader t
-    ///     → wanted self.now.pointers.now (struct_data t) index ≡ Kind.Struct row }
+    ///     → wanted self.now.table.now self.now.row (struct_data t) index ≡ Kind.Struct row }
     /// ```
     #[inline]
-    pub fn get_struct(&self, index: u16, row: u16) -> CheckedStruct<'a, 's, A> {
-        let pointers = row_pointers(self.schema, row);
+    pub fn get_struct(&self, index: u16, row: u32) -> CheckedStruct<'a, 's, A> {
         if index >= self.reader.pointer_count {
             return CheckedStruct {
                 reader: StructReader::new_default(),
-                schema: self.schema,
-                pointers,
+                table: self.table,
+                row,
             };
         }
         let mut unlimited = ReadLimiter::new(None);
         let reader = value::get_struct(&self.reader, index as usize, &mut unlimited).unwrap();
         CheckedStruct {
             reader,
-            schema: self.schema,
-            pointers,
+            table: self.table,
+            row,
         }
     }
 
@@ -150,27 +173,26 @@ impl<'a, 's, A: ReaderArena> CheckedStruct<'a, 's, A> {
     ///
     /// ```text
     /// requires { (t : Tree) → ShowsStructOf A.ReaderArena self.now.reader t
-    ///     → wanted self.now.pointers.now (struct_data t) index
+    ///     → wanted self.now.table.now self.now.row (struct_data t) index
     ///     ≡ Kind.List ElementSize.InlineComposite row }
     /// ```
     #[inline]
-    pub fn get_structs(&self, index: u16, row: u16) -> CheckedStructs<'a, 's, A> {
-        let pointers = row_pointers(self.schema, row);
+    pub fn get_structs(&self, index: u16, row: u32) -> CheckedStructs<'a, 's, A> {
         if index >= self.reader.pointer_count {
             return CheckedStructs {
                 reader: StructsReader {
                     reader: ListReader::new_default(),
                 },
-                schema: self.schema,
-                pointers,
+                table: self.table,
+                row,
             };
         }
         let mut unlimited = ReadLimiter::new(None);
         let reader = list::get_structs(&self.reader, index as usize, &mut unlimited).unwrap();
         CheckedStructs {
             reader,
-            schema: self.schema,
-            pointers,
+            table: self.table,
+            row,
         }
     }
 
@@ -184,19 +206,18 @@ impl<'a, 's, A: ReaderArena> CheckedStruct<'a, 's, A> {
     ///
     /// ```text
     /// requires { (t : Tree) → ShowsStructOf A.ReaderArena self.now.reader t
-    ///     → wanted self.now.pointers.now (struct_data t) index
+    ///     → wanted self.now.table.now self.now.row (struct_data t) index
     ///     ≡ Kind.List ElementSize.Pointer row }
     /// ```
     #[inline]
-    pub fn get_pointers(&self, index: u16, row: u16) -> CheckedStructs<'a, 's, A> {
-        let pointers = row_pointers(self.schema, row);
+    pub fn get_pointers(&self, index: u16, row: u32) -> CheckedStructs<'a, 's, A> {
         if index >= self.reader.pointer_count {
             return CheckedStructs {
                 reader: StructsReader {
                     reader: ListReader::new_default(),
                 },
-                schema: self.schema,
-                pointers,
+                table: self.table,
+                row,
             };
         }
         let mut unlimited = ReadLimiter::new(None);
@@ -205,8 +226,8 @@ impl<'a, 's, A: ReaderArena> CheckedStruct<'a, 's, A> {
             reader: StructsReader {
                 reader: list.reader,
             },
-            schema: self.schema,
-            pointers,
+            table: self.table,
+            row,
         }
     }
 
@@ -218,7 +239,7 @@ impl<'a, 's, A: ReaderArena> CheckedStruct<'a, 's, A> {
     ///
     /// ```text
     /// requires { (t : Tree) → ShowsStructOf A.ReaderArena self.now.reader t
-    ///     → elements_wanted (wanted self.now.pointers.now (struct_data t) index)
+    ///     → elements_wanted (wanted self.now.table.now self.now.row (struct_data t) index)
     ///     ≡ Some T.size }
     /// ```
     #[inline]
@@ -234,10 +255,10 @@ impl<'a, 's, A: ReaderArena> CheckedStruct<'a, 's, A> {
 pub struct CheckedStructs<'a, 's, A: ReaderArena> {
     /// The list.
     pub reader: StructsReader<'a, A>,
-    /// The schema.
-    pub schema: &'s [StructRow<'s>],
-    /// The pointers of the elements' row.
-    pub pointers: &'s [PointerRow<'s>],
+    /// The schema's table.
+    pub table: &'s [u32],
+    /// The position of the elements' row.
+    pub row: u32,
 }
 
 impl<'a, 's, A: ReaderArena> Clone for CheckedStructs<'a, 's, A> {
@@ -267,8 +288,8 @@ impl<'a, 's, A: ReaderArena> CheckedStructs<'a, 's, A> {
     pub fn get(&self, index: u32) -> CheckedStruct<'a, 's, A> {
         CheckedStruct {
             reader: self.reader.get(index),
-            schema: self.schema,
-            pointers: self.pointers,
+            table: self.table,
+            row: self.row,
         }
     }
 }

@@ -11,89 +11,8 @@ use crate::proved::capnp_words::wire_pointer::{
     WirePointer, WirePointerKind,
 };
 use crate::proved::capnp_words::words::word_at;
-use crate::proved::typed_conforming::schema::{Kind, Member, PointerField, PointerRow, StructRow};
-
-/// # Preconditions
-///
-/// ```text
-/// requires inside { data.at + count ≤ length (words_of data.bytes.now) }
-/// ```
-// The 16 bits from `bit` on of the `count` data words at `data`; zero if they are outside.
-#[inline]
-fn tag_at(data: Place, count: u32, bit: u32) -> u16 {
-    let word = bit / 64;
-    if word >= count {
-        return 0;
-    }
-    (word_at(data.bytes, data.at as usize + word as usize) >> (bit % 64) & 0xffff) as u16
-}
-
-/// # Preconditions
-///
-/// ```text
-/// requires inside { data.at + count ≤ length (words_of data.bytes.now) }
-/// ```
-// Whether all of these members are set in a struct with `count` data words at `data`.
-#[inline]
-fn are_set(members: &[Member], data: Place, count: u32) -> bool {
-    for member in members {
-        if tag_at(data, count, member.bit) != member.number {
-            return false;
-        }
-    }
-    true
-}
-
-/// # Preconditions
-///
-/// ```text
-/// requires inside { data.at + count ≤ length (words_of data.bytes.now) }
-/// ```
-// What the pointer of these fields may lead to, in a struct with `count` data words at `data`.
-#[inline]
-fn wanted_field(fields: &[PointerField], data: Place, count: u32) -> Kind {
-    for field in fields {
-        if are_set(field.members, data, count) {
-            return field.kind;
-        }
-    }
-    Kind::Any
-}
-
-/// # Preconditions
-///
-/// ```text
-/// requires inside { data.at + count ≤ length (words_of data.bytes.now) }
-/// ```
-// What pointer `index` may lead to, in a struct with `count` data words at `data`.
-#[inline]
-fn wanted(rows: &[PointerRow], data: Place, count: u32, index: u32) -> Kind {
-    if index as usize >= rows.len() {
-        return Kind::Any;
-    }
-    wanted_field(rows[index as usize].fields, data, count)
-}
-
-// The pointers of row `row` of a schema; none if there is no such row.
-#[inline]
-pub(in crate::proved::typed_conforming) fn row_pointers<'s>(
-    schema: &'s [StructRow<'s>],
-    row: u16,
-) -> &'s [PointerRow<'s>] {
-    if row as usize >= schema.len() {
-        return &[];
-    }
-    schema[row as usize].pointers
-}
-
-// The pointers of the structs that a pointer of this kind leads to.
-#[inline]
-fn pointers_below<'s>(schema: &'s [StructRow<'s>], kind: Kind) -> &'s [PointerRow<'s>] {
-    match kind {
-        Kind::Struct(row) | Kind::List(_, row) => row_pointers(schema, row),
-        _ => &[],
-    }
-}
+use crate::proved::typed_conforming::schema::{Kind, Misfit, NOT_UTF8};
+use crate::proved::typed_conforming::table::{row_below, wanted};
 
 /// # Preconditions
 ///
@@ -150,6 +69,35 @@ fn ends_in_zero(start: Place, count: u32) -> bool {
 /// # Preconditions
 ///
 /// ```text
+/// requires { 8 * start.at + count ≤ length start.bytes.now }
+/// ```
+// The `count` bytes from a place on.
+#[inline]
+fn bytes_at<'a>(start: Place<'a>, count: u32) -> &'a [u8] {
+    let first = 8 * start.at as usize;
+    &start.bytes[first..first + count as usize]
+}
+
+// Whether bytes are UTF-8. Each of them is below 256.
+#[inline]
+fn are_utf8(bytes: &[u8]) -> bool {
+    str::from_utf8(bytes).is_ok()
+}
+
+/// # Preconditions
+///
+/// ```text
+/// requires { 8 * (start.at + words_for 2 count) ≤ length start.bytes.now }
+/// ```
+// Whether the `count` bytes from a place on are UTF-8, without the last one.
+#[inline]
+fn is_utf8_text(start: Place, count: u32) -> bool {
+    are_utf8(bytes_at(start, count.saturating_sub(1)))
+}
+
+/// # Preconditions
+///
+/// ```text
 /// requires { IsAtHand object }
 /// ```
 // The refusal for an object that isn't a text, if it isn't.
@@ -172,6 +120,30 @@ fn text_error(object: Object) -> Option<ErrorKind> {
             Some(ErrorKind::MessageContainsListPointerOfNonBytesWhereTextWasExpected)
         }
         _ => Some(ErrorKind::MessageContainsNonListPointerWhereTextWasExpected),
+    }
+}
+
+/// # Preconditions
+///
+/// ```text
+/// requires { IsAtHand object }
+/// ```
+// The refusal for a text that isn't UTF-8, if it isn't.
+#[inline]
+fn utf8_error(object: Object) -> Option<ErrorKind> {
+    match object {
+        Object::Flat {
+            start,
+            size: ElementSize::Byte,
+            count,
+        } => {
+            if is_utf8_text(start, count) {
+                None
+            } else {
+                Some(NOT_UTF8)
+            }
+        }
+        _ => None,
     }
 }
 
@@ -219,6 +191,10 @@ fn misfit_error(kind: Kind, object: Object) -> Option<ErrorKind> {
     match kind {
         Kind::Any => None,
         Kind::Text => text_error(object),
+        Kind::Utf8 => match text_error(object) {
+            Some(error) => Some(error),
+            None => utf8_error(object),
+        },
         Kind::Data => data_error(object),
         Kind::List(size, _) => list_error(size, object),
         Kind::Capability => match object {
@@ -279,6 +255,31 @@ fn elements_of(object: Object) -> Option<ObjectElements> {
     }
 }
 
+// A pointer as the schema has it: what it may lead to, its row, and its index there.
+#[derive(Clone, Copy)]
+struct SchemaPointer {
+    kind: Kind,
+    row: u32,
+    index: u32,
+}
+
+// The refusal of the pointer at `at`.
+#[inline(always)]
+fn misfit_of<A: ReaderArena>(
+    pointer: SchemaPointer,
+    from: &Pointer<'_, A>,
+    at: u32,
+    error: ErrorKind,
+) -> Misfit {
+    Misfit {
+        error,
+        segment: from.place.segment,
+        word: at,
+        row: pointer.row,
+        index: pointer.index,
+    }
+}
+
 /// # Preconditions
 ///
 /// ```text
@@ -290,13 +291,13 @@ fn elements_of(object: Object) -> Option<ObjectElements> {
 // Tests the list of bits or numbers that the word at `at` describes.
 #[inline(always)]
 fn check_primitive_list<A: ReaderArena>(
-    wanted: Kind,
+    pointer: SchemaPointer,
     from: &Pointer<'_, A>,
     at: u32,
     word: WirePointer,
     lim: &mut ReadLimiter,
-) -> Result<(), ErrorKind> {
-    let pointer = PointerWord {
+) -> Result<(), Misfit> {
+    let place = PointerWord {
         place: Place { at, ..from.place },
         word,
         nesting_limit: from.nesting_limit,
@@ -304,13 +305,16 @@ fn check_primitive_list<A: ReaderArena>(
     let size = word.list_element_size();
     let count = word.list_element_count();
     let words = words_for_elements(size, count);
-    let at = match from.source.read_near_primitive_list(pointer, words, lim) {
-        Ok(at) => at,
-        Err(error) => return Err(error),
+    let first = match from.source.read_near_primitive_list(place, words, lim) {
+        Ok(first) => first,
+        Err(error) => return Err(misfit_of(pointer, from, at, error)),
     };
-    let start = Place { at, ..from.place };
-    match misfit_error(wanted, Object::Flat { start, size, count }) {
-        Some(error) => Err(error),
+    let start = Place {
+        at: first,
+        ..from.place
+    };
+    match misfit_error(pointer.kind, Object::Flat { start, size, count }) {
+        Some(error) => Err(misfit_of(pointer, from, at, error)),
         None => Ok(()),
     }
 }
@@ -318,42 +322,42 @@ fn check_primitive_list<A: ReaderArena>(
 // Tests what the pointer at `at` leads to. A list of bits or numbers in the same segment, such as a
 // text, is tested in place.
 #[inline(always)]
-fn check_pointer<'s, A: ReaderArena>(
-    schema: &'s [StructRow<'s>],
-    kind: Kind,
+fn check_pointer<A: ReaderArena>(
+    table: &[u32],
+    pointer: SchemaPointer,
     from: &Pointer<'_, A>,
     at: u32,
     lim: &mut ReadLimiter,
-) -> Result<(), ErrorKind> {
+) -> Result<(), Misfit> {
     let word = Place { at, ..from.place }.word();
     if word.is_null() {
         return Ok(());
     }
     match word.kind() {
         WirePointerKind::List if is_primitive_list(word) => {
-            check_primitive_list(kind, from, at, word, lim)
+            check_primitive_list(pointer, from, at, word, lim)
         }
-        _ => check_object(schema, kind, from, at, lim),
+        _ => check_object(table, pointer, from, at, lim),
     }
 }
 
 // Tests what the pointer at `at` leads to, near or far, and of any kind. Apart from the loop over
 // pointers, so that most pointers need no call.
 #[inline(never)]
-fn check_object<'s, A: ReaderArena>(
-    schema: &'s [StructRow<'s>],
-    kind: Kind,
+fn check_object<A: ReaderArena>(
+    table: &[u32],
+    pointer: SchemaPointer,
     from: &Pointer<'_, A>,
     at: u32,
     lim: &mut ReadLimiter,
-) -> Result<(), ErrorKind> {
+) -> Result<(), Misfit> {
     let place = Place { at, ..from.place };
     let object = match from.source.read_object(place, from.nesting_limit, lim) {
         Ok(object) => object,
-        Err(kind) => return Err(kind),
+        Err(error) => return Err(misfit_of(pointer, from, at, error)),
     };
-    match misfit_error(kind, object) {
-        Some(error) => return Err(error),
+    match misfit_error(pointer.kind, object) {
+        Some(error) => return Err(misfit_of(pointer, from, at, error)),
         None => {}
     }
     let Some(elements) = elements_of(object) else {
@@ -364,9 +368,10 @@ fn check_object<'s, A: ReaderArena>(
         place: elements.start,
         nesting_limit: one_level_less(from.nesting_limit),
     };
+    let below = row_below(table, pointer.kind);
     check_elements(
-        schema,
-        pointers_below(schema, kind),
+        below.table,
+        below.row,
         &first,
         elements.data_words,
         elements.pointers,
@@ -383,24 +388,24 @@ fn check_object<'s, A: ReaderArena>(
 /// ```
 // Tests the pointers of `count` elements, of `data_words` and `pointers` words, from `from` on.
 #[inline]
-fn check_elements<'s, A: ReaderArena>(
-    schema: &'s [StructRow<'s>],
-    rows: &'s [PointerRow<'s>],
+fn check_elements<A: ReaderArena>(
+    table: &[u32],
+    row: u32,
     from: &Pointer<'_, A>,
     data_words: u32,
     pointers: u32,
     count: u32,
     lim: &mut ReadLimiter,
-) -> Result<(), ErrorKind> {
+) -> Result<(), Misfit> {
     if pointers == 0 {
         return Ok(());
     }
     let width = u64::from(data_words) + u64::from(pointers);
     for i in 0..count {
         let at = u64::from(from.place.at) + u64::from(i) * width;
-        match check_pointers(schema, rows, from, at as u32, data_words, pointers, lim) {
+        match check_pointers(table, row, from, at as u32, data_words, pointers, lim) {
             Ok(()) => {}
-            Err(kind) => return Err(kind),
+            Err(misfit) => return Err(misfit),
         }
     }
     Ok(())
@@ -414,29 +419,34 @@ fn check_elements<'s, A: ReaderArena>(
 /// ```
 // Tests the pointers of the element at `at`.
 #[inline]
-fn check_pointers<'s, A: ReaderArena>(
-    schema: &'s [StructRow<'s>],
-    rows: &'s [PointerRow<'s>],
+fn check_pointers<A: ReaderArena>(
+    table: &[u32],
+    row: u32,
     from: &Pointer<'_, A>,
     at: u32,
     data_words: u32,
     pointers: u32,
     lim: &mut ReadLimiter,
-) -> Result<(), ErrorKind> {
+) -> Result<(), Misfit> {
     let element = Place { at, ..from.place };
     for i in 0..pointers {
-        let kind = wanted(rows, element, data_words, i);
-        match check_pointer(schema, kind, from, at + data_words + i, lim) {
+        let kind = wanted(table, row, element, data_words, i);
+        let pointer = SchemaPointer {
+            kind,
+            row,
+            index: i,
+        };
+        match check_pointer(table, pointer, from, at + data_words + i, lim) {
             Ok(()) => {}
-            Err(kind) => return Err(kind),
+            Err(misfit) => return Err(misfit),
         }
     }
     Ok(())
 }
 
-/// Tests whether a whole value can be read within both limits, and conforms to a schema. `kind`
-/// says what `pointer` itself may lead to; `Kind::Struct(row)` for the root of a message. Reads
-/// each object once and allocates nothing.
+/// Tests whether a whole value can be read within both limits, and conforms to a schema, which is a
+/// table ([`schema`](crate::schema)). `kind` says what `pointer` itself may lead to;
+/// `Kind::Struct(row)` for the root of a message. Reads each object once and allocates nothing.
 ///
 /// Counts and charges what `Pointer::validate` does: what reading the value once costs. A pointer
 /// that the schema doesn't have, or whose members aren't set, has to be readable too, but may lead
@@ -444,14 +454,19 @@ fn check_pointers<'s, A: ReaderArena>(
 ///
 /// Refuses with the first fault found, in the order of the walk: like `Pointer::validate` if an
 /// object can't be read; like the getter for the kind if an object is readable but isn't what the
-/// kind allows, such as `MessageContainsTextThatIsNotNULTerminated`. What was charged before stays
-/// charged.
+/// kind allows, such as `MessageContainsTextThatIsNotNULTerminated`; with `NOT_UTF8` if a text isn't
+/// UTF-8. Names the pointer at fault. What was charged before stays charged.
 #[inline]
-pub fn conforms<'s, A: ReaderArena>(
-    schema: &'s [StructRow<'s>],
+pub fn conforms<A: ReaderArena>(
+    table: &[u32],
     kind: Kind,
     pointer: &Pointer<'_, A>,
     lim: &mut ReadLimiter,
-) -> Result<(), ErrorKind> {
-    check_pointer(schema, kind, pointer, pointer.place.at, lim)
+) -> Result<(), Misfit> {
+    let first = SchemaPointer {
+        kind,
+        row: 0,
+        index: 0,
+    };
+    check_pointer(table, first, pointer, pointer.place.at, lim)
 }

@@ -1,5 +1,28 @@
-//! A schema as data: the pointers of each struct, and what each of them may lead to.
+//! A schema as data: a table, which is an array of 32-bit words. Words past its end are 0, so any
+//! array is a table.
+//!
+//! The word at the position of a *row* is the number of pointers that a struct has in the schema.
+//! After it comes a *kind word* for each of them. The low four bits of a kind word are its tag, and
+//! the others its argument:
+//!
+//! | Tag | What the pointer may lead to | Argument |
+//! |---|---|---|
+//! | 0 | anything (`Kind::Any`) | |
+//! | 1 | a capability | |
+//! | 2 | a text | |
+//! | 3 | a text that is UTF-8 | |
+//! | 4 | data | |
+//! | 5 | a struct | the position of its row |
+//! | 6 | a list of any elements | |
+//! | 7 | what a test says, which reads the tag of a union | the position of the test |
+//! | 8 and a list's element size, from 0 to 7 | a list of such elements | the position of their row |
+//!
+//! A *test* has four words: where the tag of the union is in the struct's data, counted in 16 bits;
+//! a number; the kind word if the tag is that number; the kind word if it isn't. Data that the
+//! struct doesn't have reads as 0. A kind word of a test may name a test that is further back in the
+//! table; one that names a test further in front, or the same one, counts as 0.
 
+use crate::proved::capnp_words::error::ErrorKind;
 use crate::proved::capnp_words::wire_pointer::ElementSize;
 
 /// What a pointer may lead to. A null pointer is always allowed.
@@ -15,50 +38,37 @@ pub enum Kind {
     Capability,
     /// A text: a list of bytes that ends in 0. Whether it is UTF-8 isn't tested.
     Text,
+    /// A text whose bytes before the 0 are UTF-8.
+    Utf8,
     /// Data: a list of bytes.
     Data,
-    /// A struct, by the number of its row. If there is no such row, a struct with any pointers.
-    Struct(u16),
+    /// A struct, by the position of its row.
+    Struct(u32),
     /// A list of any elements.
     AnyList,
-    /// A list whose elements have at least this size. Each element, read as a struct, has this row;
-    /// if there is no such row, the elements may have any pointers. So a list of texts has elements
-    /// of size `Pointer`, and a row whose pointer 0 is a text.
-    List(ElementSize, u16),
+    /// A list whose elements have at least this size. Each element, read as a struct, has the row
+    /// at this position. So a list of texts has elements of size `Pointer`, and a row whose pointer
+    /// 0 is a text.
+    List(ElementSize, u32),
 }
 
-/// A member of a union. It is set if the 16 bits of the struct's data from `bit` on are `number`,
-/// where data that the struct doesn't have counts as 0.
-#[derive(Clone, Copy)]
-pub struct Member {
-    /// The bit at which the union's number starts, a multiple of 16.
-    pub bit: u32,
-    /// The number of the member.
-    pub number: u16,
+/// Why a message doesn't conform to a schema, and which of its pointers is at fault: one that can't
+/// be read, or that leads to something that it may not lead to.
+#[derive(Clone, Copy, Debug, PartialEq, Eq)]
+pub struct Misfit {
+    /// What `Pointer::validate` says if the pointer can't be read; otherwise what the getter for
+    /// its kind says, or `NOT_UTF8`.
+    pub error: ErrorKind,
+    /// The number of the pointer's segment.
+    pub segment: u64,
+    /// The position of the pointer in its segment, in words.
+    pub word: u32,
+    /// The position of the row of the struct that has the pointer, or of the list's elements; 0 for
+    /// the first pointer that was tested, and in what a pointer of no row leads to.
+    pub row: u32,
+    /// The index of the pointer in that struct; 0 for the first pointer, and in a list of pointers.
+    pub index: u32,
 }
 
-/// A field that has a pointer.
-#[derive(Clone, Copy)]
-pub struct PointerField<'a> {
-    /// What the pointer may lead to.
-    pub kind: Kind,
-    /// The members of unions that the field is in. The pointer is the field's if all of them are
-    /// set.
-    pub members: &'a [Member],
-}
-
-/// A pointer of a struct.
-#[derive(Clone, Copy)]
-pub struct PointerRow<'a> {
-    /// The fields that share the pointer: several, if they are members of a union. The first whose
-    /// members are set counts. If there is none, the pointer may lead to anything.
-    pub fields: &'a [PointerField<'a>],
-}
-
-/// A struct.
-#[derive(Clone, Copy)]
-pub struct StructRow<'a> {
-    /// The rows of its pointers, in the order of the pointer section. A pointer without a row may
-    /// lead to anything.
-    pub pointers: &'a [PointerRow<'a>],
-}
+/// The refusal of a text that isn't UTF-8. No other refusal of a test has this name.
+pub const NOT_UTF8: ErrorKind = ErrorKind::ExistingListValueIsIncompatibleWithExpectedType;

@@ -7,9 +7,9 @@ pub mod sealed {
     pub trait Closed {}
 }
 
-/// An arena that can be written. In this repository only `BuilderArenaImpl` of `capnp_arena`
-/// implements this trait. `sealed::Closed` is public, so another crate can implement both traits,
-/// if it proves the contracts of all calls and the laws below.
+/// An arena that can be written. In this repository `BuilderArenaImpl` of `capnp_arena` and
+/// `LentArena` of `capnp_lent_arena` implement this trait. `sealed::Closed` is public, so another
+/// crate can implement both traits, if it proves the contracts of all calls and the laws below.
 pub trait BuilderArena: ReaderArena + sealed::Closed {
     /// Lends the bytes of the allocated words of segment `id` for writing. The segment's words that
     /// aren't allocated stay zero. Precondition: segment `id` exists.
