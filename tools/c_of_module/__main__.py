@@ -97,7 +97,9 @@ class Module:
             return f'static const u8 {name}[{max(count, 1)}] = {text_of(value, count)};'
         values = it.value()
         it.end()
-        shown = [f'{0 if value in ZERO else int(value) % (1 << bits(of))}u' if bits(of) else f'PLACE({self.names(value)})' for value in values]
+        # nothing reads a value that is poison
+        zero = '0u' if bits(of) else '{ 0 }'
+        shown = [zero if it in ZERO else f'{int(it) % (1 << bits(of))}u' if bits(of) else f'PLACE((const u8 *){self.names(it)})' for it in values]
         kind = 'const struct place' if of == 'ptr' else f'const {c_type(of)}'
         return f'static {kind} {name}[{count}] = {{ {", ".join(shown)} }};'
 

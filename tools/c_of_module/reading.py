@@ -157,7 +157,8 @@ class Line:
                 pass
 
     def value(self):
-        """A value: a token, a list of constants, or the address of a constant, as ('address', NAME, OFFSET) or ('number', NAME)."""
+        """A value: a token, a list of constants, the address of a constant, as ('address', NAME, OFFSET) or ('number', NAME),
+        or a number in place of an address, as ('pointer', NUMBER)."""
         for opening, closing in ('{', '}'), ('[', ']'), ('<', '>'):
             if self.takes(opening):
                 found = [self.typed()[1]]
@@ -179,6 +180,11 @@ class Line:
             (_, base), _, _ = self.typed(), self.next('to'), self.next('i64')
             self.next(')')
             return 'number', base
+        if it == 'inttoptr':
+            self.next('(')
+            (_, number), _, _ = self.typed(), self.next('to'), self.next('ptr')
+            self.next(')')
+            return 'pointer', number
         if it[0] in '%@' or re.fullmatch(r'-?\d+', it) or it in ('true', 'false', 'null', *ZERO):
             return it
         raise Unknown(f'value {it}')

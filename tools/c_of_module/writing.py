@@ -127,6 +127,8 @@ class Writer:
     def get(self, kind, value):
         """The C of a value, and whether it reads memory."""
         self.module.needs(kind)
+        if isinstance(value, tuple) and value[0] == 'pointer':
+            return f'((u8 *)(uptr){constant("i64", value[1])})', False
         if isinstance(value, tuple):
             address, _ = self.get('ptr', value[1])
             return (offset(address, value[2]) if value[0] == 'address' else f'(u64)(uptr){address}'), False
