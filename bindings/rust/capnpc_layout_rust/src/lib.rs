@@ -27,7 +27,7 @@ use std::io::{self, Write};
 use std::path::{Path, PathBuf};
 use std::process::{Command, Output, Stdio};
 
-/// Generates the code for one schema into `OUT_DIR`, as `NAME_capnp.rs`. See [`Generator::run`].
+/// Generates the code for one schema into `NAME_capnp.rs` of `OUT_DIR`. See [`Generator::run`].
 pub fn compile(schema: impl AsRef<Path>) -> Result<(), Error> {
     Generator::new().run([schema])
 }
