@@ -10,7 +10,7 @@ COMPARED = {'eq': '==', 'ne': '!=', 'lt': '<', 'le': '<=', 'gt': '>', 'ge': '>='
 # Intrinsics: those that move or set blocks of memory, and functions of numbers, each with its number of arguments.
 BLOCKS = 'memset.p0.i64', 'memmove.p0.p0.i64', 'memcpy.p0.p0.i64'
 NUMBERS = {'abs': 1, 'ctpop': 1, 'cttz': 1, 'ctlz': 1, 'bswap': 1, 'umin': 2, 'umax': 2, 'smin': 2, 'smax': 2, 'uadd.sat': 2, 'usub.sat': 2, 'fshl': 3, 'fshr': 3}
-# One of two constant numbers, as `do_select` writes it.
+# One of two constant numbers: what `do_select` writes.
 EITHER = re.compile(r'\((\(.*\)) \? (\d+ull) : (\d+ull)\)')
 # The size of the largest block that is moved by reading all of it before writing any.
 MOVED = 64

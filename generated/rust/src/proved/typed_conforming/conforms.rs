@@ -445,7 +445,7 @@ fn check_pointers<A: ReaderArena>(
 }
 
 /// Tests whether a whole value can be read within both limits, and conforms to a schema, which is a
-/// table ([`schema`](crate::schema)). `kind` says what `pointer` itself may lead to;
+/// table (module `schema`). `kind` says what `pointer` itself may lead to;
 /// `Kind::Struct(row)` for the root of a message. Reads each object once and allocates nothing.
 ///
 /// Counts and charges what `Pointer::validate` does: what reading the value once costs. A pointer
