@@ -1,6 +1,6 @@
 #!/usr/bin/env python3
 """Prints what a call of the library costs in C++, Rust, Python and JavaScript, on a small message and on one of 1 MB: the time of the
-canonical words and of their digest, and that of hashing the same words by a library of the language's users, as ratios to the
+canonical words and of their digest, and that of hashing the same words by a library of the language's users, and ratios to the
 latter.
 
     figures.py [TREE]
