@@ -32,6 +32,7 @@ The parts, by default all of them:
 The generator is by default `capnpc-layout-c` at the top, and the library `generated/capnp_layout.c`. The last line is `N passed,
 M failed`."""
 import argparse
+import itertools
 import pathlib
 import random as random_numbers
 import re
@@ -249,6 +250,21 @@ class Checked(Generated):
         of_kind = sum(answer[0] == 'no' and answer[7] == '0' for answer in found)
         counts.say(of_kind > 20 and all(self.decode([it]).returncode for it in alone[:100]), f'{self.file}: {len(found) - len(frames) - len(yes)} that do not are refused by others; {of_kind} are sound')
 
+    def crafted(self):
+        """Messages of a root with each pointer in turn a capability, or a struct without sections, for each of some numbers of unions."""
+        frame = subprocess.run(['capnp', 'encode', self.schema.path, self.roots[0]], input=b'()', stdout=subprocess.PIPE, check=True).stdout
+        root = int.from_bytes(frame[8:16], 'little')
+        data, pointers = root >> 32 & 0xffff, root >> 48
+        tags = [it for it in tags_of(self.table()) if it < 4 * data]
+        for numbers in itertools.product(*(range(17) for _ in tags[:1]), *(range(4) for _ in tags[1:])):
+            for at in range(pointers):
+                for word in 3, 0xfffffffc:
+                    made = bytearray(frame)
+                    for tag, number in zip(tags, numbers):
+                        made[16 + 2 * tag:18 + 2 * tag] = number.to_bytes(2, 'little')
+                    made[16 + 8 * (data + at):24 + 8 * (data + at)] = word.to_bytes(8, 'little')
+                    yield bytes(made)
+
     def bugs(self, frames, counts):
         """Plants a bug in each word of the table that says something."""
         right, table = [answer[:6] for answer in self.answers(frames)], self.table()
@@ -280,6 +296,12 @@ def table_bugs(table):
     return bugs
 
 
+def tags_of(table):
+    """The offsets of the unions' numbers, in the order of their tests."""
+    bugs = table_bugs(table)
+    return list(dict.fromkeys(table[at] for (at, _), (after, _) in zip(bugs, bugs[1:]) if after == at + 1 and (at, table[at] + 1) in bugs and (after, table[after] + 1) in bugs))
+
+
 def checks(options, room, counts):
     for stem, root in ('fields', 'Root'), ('kinds', 'Kinds'):
         made = Checked(options, room, f'checks_{stem}', (HERE / f'{stem}.capnp').read_text(encoding='utf-8'), [root])
@@ -288,7 +310,7 @@ def checks(options, room, counts):
             frames = messages.frames(made.schema, [root], min(options.messages, 100), 5)
             changed = [messages.altered(rng, it) for it in frames for _ in range(40)]
             made.compare(frames, changed, counts)
-            made.bugs(frames + changed[:1500], counts)
+            made.bugs(frames + changed[:1000] + list(made.crafted()), counts)
 
 
 # An address book of one person, and the words of its message that are pointers, with their fields.
@@ -372,7 +394,7 @@ def annotated(options, room, counts):
     counts.say(built, 'annotated: named.c is compiled without a warning' if built else errors)
     for order, line in ORDERS if built else ():
         frame = subprocess.run(['capnp', 'encode', f'-I{BINDINGS}', HERE / 'annotated/named.capnp', 'Order'], input=order.encode(), stdout=subprocess.PIPE, check=True).stdout
-        printed = subprocess.run([folder / 'named'], input=frame, stdout=subprocess.PIPE, encoding='utf-8').stdout
+        printed = subprocess.run([folder / 'named'], input=frame, stdout=subprocess.PIPE).stdout.decode()
         counts.say(printed == line + '\n', f'annotated: {line}' if printed == line + '\n' else f'annotated: {printed}')
 
 
