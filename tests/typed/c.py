@@ -251,19 +251,23 @@ class Checked(Generated):
         counts.say(of_kind > 20 and all(self.decode([it]).returncode for it in alone[:100]), f'{self.file}: {len(found) - len(frames) - len(yes)} that do not are refused by others; {of_kind} are sound')
 
     def crafted(self):
-        """Messages of a root with each pointer in turn a capability, or a struct without sections, for each of some numbers of unions."""
+        """Messages of a root with each pointer in turn a capability, or a struct without sections, or a list of one of these, for each
+        number of its unions."""
         frame = subprocess.run(['capnp', 'encode', self.schema.path, self.roots[0]], input=b'()', stdout=subprocess.PIPE, check=True).stdout
-        root = int.from_bytes(frame[8:16], 'little')
+        root, end = int.from_bytes(frame[8:16], 'little'), len(frame) // 8 - 1
         data, pointers = root >> 32 & 0xffff, root >> 48
-        tags = [it for it in tags_of(self.table()) if it < 4 * data]
-        for numbers in itertools.product(*(range(17) for _ in tags[:1]), *(range(4) for _ in tags[1:])):
-            for at in range(pointers):
-                for word in 3, 0xfffffffc:
-                    made = bytearray(frame)
-                    for tag, number in zip(tags, numbers):
-                        made[16 + 2 * tag:18 + 2 * tag] = number.to_bytes(2, 'little')
-                    made[16 + 8 * (data + at):24 + 8 * (data + at)] = word.to_bytes(8, 'little')
-                    yield bytes(made)
+        tags = {at: most for at, most in tags_of(self.table()).items() if at < 4 * data}
+        for numbers in itertools.product(*(range(most + 2) for most in tags.values())):
+            for at, word, is_list in itertools.product(range(1 + data, 1 + data + pointers), (3, 0xfffffffc), (False, True)):
+                made = bytearray(frame)
+                for tag, number in zip(tags, numbers):
+                    made[16 + 2 * tag:18 + 2 * tag] = number.to_bytes(2, 'little')
+                if is_list:
+                    made[4:8] = (end + 1).to_bytes(4, 'little')
+                    made += word.to_bytes(8, 'little')
+                    word = 1 | end - at - 1 << 2 | 6 << 32 | 1 << 35
+                made[8 + 8 * at:16 + 8 * at] = word.to_bytes(8, 'little')
+                yield bytes(made)
 
     def bugs(self, frames, counts):
         """Plants a bug in each word of the table that says something."""
@@ -297,9 +301,12 @@ def table_bugs(table):
 
 
 def tags_of(table):
-    """The offsets of the unions' numbers, in the order of their tests."""
-    bugs = table_bugs(table)
-    return list(dict.fromkeys(table[at] for (at, _), (after, _) in zip(bugs, bugs[1:]) if after == at + 1 and (at, table[at] + 1) in bugs and (after, table[after] + 1) in bugs))
+    """The offsets of unions' numbers that the table tests, each with the largest number that is tested."""
+    bugs, found = table_bugs(table), {}
+    for at, other in bugs:
+        if (at, table[at] + 1) == (at, other) and (at + 1, table[at + 1] + 1) in bugs:
+            found[table[at]] = max(found.get(table[at], 0), table[at + 1])
+    return found
 
 
 def checks(options, room, counts):
