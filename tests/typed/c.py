@@ -289,7 +289,8 @@ def table_bugs(table):
     at, tests, bugs = 1, set(), []
     while at < len(table):
         if at in tests:
-            bugs += [(at, table[at] + 1), (at + 1, table[at + 1] + 1)]
+            # a member that may be anything needs no test
+            bugs += [(at, table[at] + 1), (at + 1, table[at + 1] + 1)] * (table[at + 2] > 0)
             kinds = range(at + 2, at + 4)
         else:
             bugs += [(at, table[at] - 1)] * (table[at] > 0)
