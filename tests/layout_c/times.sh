@@ -13,7 +13,7 @@ cp "$top/tests/typed/addressbook.capnp" .
 capnp compile -oc++:cpp addressbook.capnp
 "${CC:-gcc}" -std=gnu11 -O2 -DNDEBUG -I"$top/bindings/c" -I"$here" -c -o layout.o "$folder/capnp_layout.c"
 "${CC:-gcc}" -std=gnu11 -O2 -DNDEBUG -I"$top/bindings/c" -I"$here" -c -o times_c.o "$here/times.c"
-"${CC:-gcc}" -std=gnu11 -O2 -DNDEBUG -I"$top/bindings/c" -I"$top/tests/typed/c" -c -o times_check.o "$here/times_check.c"
+"${CC:-gcc}" -std=gnu11 -O2 -DNDEBUG -I"$top/bindings/c" -c -o times_check.o "$here/times_check.c"
 g++ -std=c++17 -O2 -DNDEBUG -I. -I"$here" -o times "$here/times.cc" cpp/addressbook.capnp.c++ times_c.o times_check.o layout.o -Wl,-Bstatic -lcapnp -lkj -Wl,-Bdynamic -pthread
 ./times
 if [ -n "${COUNT:-}" ]; then

@@ -1,5 +1,5 @@
 /* The part of times.cc that is compiled as C, over generated code: opens an address book, and checks it against its schema. */
-#include "addressbook.capnp.h"
+#include "../typed/c/addressbook.capnp.h"
 
 bool c_check(const uint8_t *frame, size_t size);
 

@@ -36,6 +36,7 @@ The parts, by default all of them:
 The generator is by default `capnpc-layout-c` at the top, and the library `generated/capnp_layout.c`. The last line is `N passed,
 M failed`."""
 import argparse
+import itertools
 import pathlib
 import random as random_numbers
 import re
@@ -268,6 +269,25 @@ class Checked(Generated):
         of_kind = sum(answer[0] == 'no' and answer[7] == '0' for answer in found)
         counts.say(of_kind > 20 and all(self.decode([it]).returncode for it in alone[:100]), f'{self.file}: {len(found) - len(frames) - len(yes)} that do not are refused by others; {of_kind} are sound')
 
+    def crafted(self):
+        """Messages of a root with each pointer in turn a capability, or a struct without sections, or a list of one of these, for each
+        number of its unions."""
+        frame = subprocess.run(['capnp', 'encode', self.schema.path, self.roots[0]], input=b'()', stdout=subprocess.PIPE, check=True).stdout
+        root, end = int.from_bytes(frame[8:16], 'little'), len(frame) // 8 - 1
+        data, pointers = root >> 32 & 0xffff, root >> 48
+        tags = {at: most for at, most in tags_of(self.table()).items() if at < 4 * data}
+        for numbers in itertools.product(*(range(most + 2) for most in tags.values())):
+            for at, word, is_list in itertools.product(range(1 + data, 1 + data + pointers), (3, 0xfffffffc), (False, True)):
+                made = bytearray(frame)
+                for tag, number in zip(tags, numbers):
+                    made[16 + 2 * tag:18 + 2 * tag] = number.to_bytes(2, 'little')
+                if is_list:
+                    made[4:8] = (end + 1).to_bytes(4, 'little')
+                    made += word.to_bytes(8, 'little')
+                    word = 1 | end - at - 1 << 2 | 6 << 32 | 1 << 35
+                made[8 + 8 * at:16 + 8 * at] = word.to_bytes(8, 'little')
+                yield bytes(made)
+
     def bugs(self, frames, counts):
         """Plants a bug in each word of the table that says something."""
         right, table = [answer[:6] for answer in self.answers(frames)], self.table()
@@ -288,7 +308,8 @@ def table_bugs(table):
     at, tests, bugs = 1, set(), []
     while at < len(table):
         if at in tests:
-            bugs += [(at, table[at] + 1), (at + 1, table[at + 1] + 1)]
+            # a member that may be anything needs no test
+            bugs += [(at, table[at] + 1), (at + 1, table[at + 1] + 1)] * (table[at + 2] > 0)
             kinds = range(at + 2, at + 4)
         else:
             bugs += [(at, table[at] - 1)] * (table[at] > 0)
@@ -299,6 +320,15 @@ def table_bugs(table):
     return bugs
 
 
+def tags_of(table):
+    """The offsets of unions' numbers that the table tests, each with the largest number that is tested."""
+    bugs, found = table_bugs(table), {}
+    for at, other in bugs:
+        if (at, table[at] + 1) == (at, other) and (at + 1, table[at + 1] + 1) in bugs:
+            found[table[at]] = max(found.get(table[at], 0), table[at + 1])
+    return found
+
+
 def checks(options, room, counts):
     for stem, root in ('fields', 'Root'), ('kinds', 'Kinds'):
         made = Checked(options, room, f'checks_{stem}', (HERE / f'{stem}.capnp').read_text(encoding='utf-8'), [root])
@@ -307,7 +337,7 @@ def checks(options, room, counts):
             frames = messages.frames(made.schema, [root], min(options.messages, 100), 5)
             changed = [messages.altered(rng, it) for it in frames for _ in range(40)]
             made.compare(frames, changed, counts)
-            made.bugs(frames + changed[:1500], counts)
+            made.bugs(frames + changed[:1000] + list(made.crafted()), counts)
 
 
 # An address book of one person, and the words of its message that are pointers, with their fields.
@@ -394,7 +424,7 @@ def annotated(options, room, counts):
     counts.say(built, 'annotated: named.c is compiled without a warning' if built else errors)
     for order, line in ORDERS if built else ():
         frame = subprocess.run(['capnp', 'encode', f'-I{BINDINGS}', HERE / 'annotated/named.capnp', 'Order'], input=order.encode(), stdout=subprocess.PIPE, check=True).stdout
-        printed = subprocess.run([folder / 'named'], input=frame, stdout=subprocess.PIPE, encoding='utf-8').stdout
+        printed = subprocess.run([folder / 'named'], input=frame, stdout=subprocess.PIPE).stdout.decode()
         counts.say(printed == line + '\n', f'annotated: {line}' if printed == line + '\n' else f'annotated: {printed}')
 
 

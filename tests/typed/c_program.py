@@ -99,10 +99,10 @@ static int check_message(const uint8_t *frame, size_t size, struct capnp_segment
     message.left = 100000;
     refusal = capnp_check(&message, table, words, rows[which]);
     if (refusal == 0) {{
-        fputs("yes 0\n", stderr);
+        fputs("yes 0\\n", stderr);
         print_message(&message, which);
         if (message.refusal != 0 || message.left != CAPNP_NO_LIMIT) {{
-            fprintf(stderr, "message: refusal %u after a check\n", (unsigned)message.refusal);
+            fprintf(stderr, "message: refusal %u after a check\\n", (unsigned)message.refusal);
             return 1;
         }}
         return 0;
@@ -114,7 +114,7 @@ static int check_message(const uint8_t *frame, size_t size, struct capnp_segment
             (unsigned)message.refused_row, (unsigned)message.refused_index, (unsigned)again.refusal);
     capnp_open_frame(&again, frame, size, room, 512, &used);
     again.left = 100000;
-    fprintf(stderr, " %u %s\n", (unsigned)capnp_validate(&again), refused_by(&message, which));
+    fprintf(stderr, " %u %s\\n", (unsigned)capnp_validate(&again), refused_by(&message, which));
     return 0;
 }}
 
@@ -139,7 +139,7 @@ int main(int argc, char **argv) {{
     static struct capnp_segment room[512];
     size_t size = fread(bytes, 1, sizeof bytes, stdin), at = 0, used;
     unsigned i;
-    if (argc > 1 && argv[1][0] == 'c' && argv[1][1] == 'h') return check_all(bytes, size, room, argc, argv);
+{used}    if (argc > 1 && argv[1][0] == 'c' && argv[1][1] == 'h') return check_all(bytes, size, room, argc, argv);
     for (i = 0; at < size; i++) {{
         struct capnp_message message;
         if (i % 4 == 3) {{
@@ -387,7 +387,8 @@ def program(schema, header, text, roots):
     shown = ''.join(f'    case {i}: {{\n        {it} root = {it}_root(message);\n        show_{it}(&root, 64);\n        break;\n    }}\n' for i, it in enumerate(found))
     copied = ''.join(f'    case {i}: {{\n        {it} root = {it}_root(message);\n        {it}_builder to = {it}_init_root(&built);\n        copy_{it}(&root, &to, 64);\n        break;\n    }}\n'
                      for i, it in enumerate(found))
+    used = ['show_f32', 'show_f64', *(f'{verb}_{it}' for it in names for verb in ('show', 'copy'))]
     checks = {what: ''.join(f'    case {i}: return {it}_{call};\n' for i, it in enumerate(found)) for what, call in (
         ('checked', 'check(message)'), ('opened', 'open(message, frame, size, room, rooms, used)'), ('refused', 'refused(message)'))}
     return HEAD.format(header=header) + '\n' + declared + functions + MAIN.format(
-        count=len(roots), shown=shown, copied=copied, rows=', '.join(row_of(text, it) for it in found), table=re.search(r'\b(capnp_table_\w+)\[\]', text)[1], **checks)
+        count=len(roots), shown=shown, copied=copied, used=''.join(f'    (void){it};\n' for it in used), rows=', '.join(row_of(text, it) for it in found), table=re.search(r'\b(capnp_table_\w+)\[\]', text)[1], **checks)

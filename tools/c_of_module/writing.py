@@ -338,6 +338,8 @@ class Writer:
             bytes_ = step * int(index)
             is_inside |= 0 <= bytes_ <= self.function.locals.get(base, (-1,))[0]
             return self.define(name, 'ptr', offset(text, bytes_) if is_inside else away(text, constant(by, str(bytes_))), reads)
+        # a place that another block reads may be computed before the test of its index
+        is_inside &= self.function.places[name] <= {self.label}
         more, further = self.get(by, index)
         more = f'{step} * {more}' if step > 1 else more
         # one of two pointers, which compilers choose in fewer instructions than one of two distances
