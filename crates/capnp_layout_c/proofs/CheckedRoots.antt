@@ -4,7 +4,7 @@ use Rattle.std.proofs.lemmas.Bool.{false≢true}
 use Rattle.capnp_words.specs.declared.error.ErrorKind.{ErrorKind}
 use Rattle.capnp_words.specs.Meter.{Affords, FitsIn, Meter, less, spent}
 use Rattle.capnp_format.specs.Means.{Means}
-use Rattle.capnp_format.specs.Segments.{AreWords, Segments}
+use Rattle.capnp_format.specs.Segments.{Segments}
 use Rattle.capnp_format.specs.Tree.{Tree}
 use Rattle.capnp_format.proofs.Levels.{one_value}
 use Rattle.capnp_objects.specs.Outcomes.{MeansThere}
@@ -41,12 +41,12 @@ module _ (T : List ℕ) (row : ℕ) (S : Segments) (nesting : ℤ) (m : Meter) w
   walk_read result m' place charged covers is = ap (check_from T row) (root_read S (levels nesting) m covers) ∙ (rw (place, charged) at is)
 
   pub accepted : {r : Reading} {n : Meter} {B : Type 0} → r ≡ message_root S (levels nesting) → n ≡ spent m 1 → CoversRoot S m.left →
-      (AreWords r.segments → B ↔ ((t : Tree) × (c : ℕ) × Conforms T (Struct row) t × MeansThere r t c × Affords r.charging n c)) →
-      AreWords S → B ↔ ConformsWithin T row S (arena_limits nesting m.left)
-  accepted {B = B} place charged covers h words =
-      let both : AreWords S → B ↔ ((t : Tree) × (c : ℕ) × Conforms T (Struct row) t × MeansThere (message_root S (levels nesting)) t c × Affords true (spent m 1) c) = (rw (place, charged) at h) in (
-        (λ b. let (t, c, is, means, rest) = (both words).0 b in record { root = covers; value = t; cost = c; means = means; conforms = is; covered = affords_both true m c covers.covered rest }),
-        (λ w. (both words).1 (w.value, w.cost, w.conforms, w.means, covers_rest m.left w.cost w.covered)),
+      (B ↔ ((t : Tree) × (c : ℕ) × Conforms T (Struct row) t × MeansThere r t c × Affords r.charging n c)) →
+      B ↔ ConformsWithin T row S (arena_limits nesting m.left)
+  accepted {B = B} place charged covers h =
+      let both : B ↔ ((t : Tree) × (c : ℕ) × Conforms T (Struct row) t × MeansThere (message_root S (levels nesting)) t c × Affords true (spent m 1) c) = (rw (place, charged) at h) in (
+        (λ b. let (t, c, is, means, rest) = both.0 b in record { root = covers; value = t; cost = c; means = means; conforms = is; covered = affords_both true m c covers.covered rest }),
+        (λ w. both.1 (w.value, w.cost, w.conforms, w.means, covers_rest m.left w.cost w.covered)),
       )
 
   on_ok : (result : Result (Unit {0}) Misfit) (m' : Meter) (c k : ℕ) → OnOk result (Paid true (spent m 1) m' c k) → OnOk result (m'.left ≡ less m.left (1 + c))
@@ -54,9 +54,9 @@ module _ (T : List ℕ) (row : ℕ) (S : Segments) (nesting : ℤ) (m : Meter) w
   on_ok (Err e) m' c k h = tt
 
   pub paid : {r : Reading} {n : Meter} (result : Result (Unit {0}) Misfit) (m' : Meter) → r ≡ message_root S (levels nesting) → n ≡ spent m 1 →
-      ((t : Tree) (c : ℕ) → AreWords r.segments → MeansThere r t c → OnOk result (Paid r.charging n m' c (pointers_in t))) →
-      (t : Tree) (c : ℕ) → AreWords S → MeansThere (message_root S (levels nesting)) t c → OnOk result (m'.left ≡ less m.left (1 + c))
-  paid result m' place charged h t c words means = on_ok result m' c (pointers_in t) ((rw (place, charged) at h) t c words means)
+      ((t : Tree) (c : ℕ) → MeansThere r t c → OnOk result (Paid r.charging n m' c (pointers_in t))) →
+      (t : Tree) (c : ℕ) → MeansThere (message_root S (levels nesting)) t c → OnOk result (m'.left ≡ less m.left (1 + c))
+  paid result m' place charged h t c means = on_ok result m' c (pointers_in t) ((rw (place, charged) at h) t c means)
 
   -- The root pointer is refused.
   pub walk_unread : (k : ErrorKind) → RefusesRoot S m.left k → check_message T row S (levels nesting) m ≡ (Err (record { error = k; segment = 0; word = 0; row = 0; index = 0 }), m)

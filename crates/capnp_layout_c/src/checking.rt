@@ -65,10 +65,9 @@ fn check_root(
 ) -> Result<(), Misfit>
     ensures walk { check_message table.now row (lent segments.now.list.now) (levels nesting) lim.old
         ≡ (result, lim.new) }
-    ensures exactly { AreWords (lent segments.now.list.now)
-        → (IsOk result ↔ ConformsWithin table.now row (lent segments.now.list.now)
-        (arena_limits nesting lim.old.left)) }
-    ensures spent { (t : Tree) (c : ℕ) → AreWords (lent segments.now.list.now)
+    ensures exactly { IsOk result ↔ ConformsWithin table.now row (lent segments.now.list.now)
+        (arena_limits nesting lim.old.left) }
+    ensures spent { (t : Tree) (c : ℕ)
         → MeansThere (lent_pointer segments.now.list.now 0 0 nesting) t c
         → OnOk result (lim.new.left ≡ less lim.old.left (1 + c)) }
 {
@@ -100,10 +99,9 @@ pub extern "C" fn capnp_layout_check(
     nesting: i32,
     misfit: &mut FoundMisfit,
 ) -> u32
-    ensures exactly { AreWords (lent segments.now.list.now)
-        → ((result ≡ 0) ↔ ConformsWithin table.now row (lent segments.now.list.now)
-        (arena_limits nesting (Some left.old))) }
-    ensures takes { (t : Tree) (c : ℕ) → AreWords (lent segments.now.list.now)
+    ensures exactly { (result ≡ 0) ↔ ConformsWithin table.now row (lent segments.now.list.now)
+        (arena_limits nesting (Some left.old)) }
+    ensures takes { (t : Tree) (c : ℕ)
         → MeansThere (lent_pointer segments.now.list.now 0 0 nesting) t c
         → result ≡ 0 → Leaves left.old left.new (1 + c) }
     ensures refused { result ≢ 0 → IsMessageMisfit table.now row segments.now.list.now nesting

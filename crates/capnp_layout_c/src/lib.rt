@@ -12,7 +12,7 @@ ghost use Rattle.capnp_words.specs.Sizes.{size_number, pointers_per_element};
 ghost use Rattle.capnp_words.specs.declared.error.ErrorKind.TheVariants.{MessageContainsNonCapabilityPointerWhereCapabilityPointerWasExpected, MessageContainsNullCapabilityPointer};
 ghost use Rattle.capnp_words.specs.declared.wire_pointer.ElementSize.{ElementSize};
 ghost use Rattle.capnp_words.specs.declared.wire_pointer.PointerType.{PointerType};
-ghost use Rattle.capnp_format.specs.Segments.{AreWords, word_at};
+ghost use Rattle.capnp_format.specs.Segments.{word_at};
 ghost use Rattle.capnp_format.specs.Tree.{Tree, Null};
 ghost use Rattle.capnp_format.specs.Word.{lower_half, upper_half};
 ghost use Rattle.capnp_arena_traits.specs.Limits.{AreSmall};
@@ -307,7 +307,7 @@ pub extern "C" fn capnp_layout_text<'m>(
         → result ≡ 0 → (to.new.bytes.now ≡ text_bytes t) × Leaves left.old left.new c }
     ensures refused { result ≢ 0 → RefusesNumber text_expected
         (lent_pointer segments.now.list.now segment word nesting) left.old left.new result }
-    ensures answered { (t : Tree) (c : ℕ) → AreWords (lent segments.now.list.now) → IsText t
+    ensures answered { (t : Tree) (c : ℕ) → IsText t
         → MeansThere (lent_pointer segments.now.list.now segment word nesting) t c
         → c ≤ left.old → result ≡ 0 }
     ensures none { result ≢ 0 → to.new.bytes.now ≡ [] }

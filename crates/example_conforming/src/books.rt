@@ -2,7 +2,6 @@
 ghost use Rattle.std.specs.Prelude.{◌≡◌, ℕ, IfOk, IfSome};
 ghost use Rattle.capnp_format.specs.Bytes.{message};
 ghost use Rattle.capnp_format.specs.Means.{Means};
-ghost use Rattle.capnp_format.specs.Segments.{AreWords};
 ghost use Rattle.capnp_format.specs.Tree.{Tree};
 ghost use Rattle.capnp_objects.specs.Source.{levels};
 ghost use Rattle.capnp_readers.specs.Values.{HasStructs, struct_element, text_bytes};
@@ -20,7 +19,6 @@ pub fn first_name<'a, A: ReaderArena>(
     arena: &'a A,
     lim: &mut ReadLimiter,
 ) -> Result<Option<&'a str>, Misfit>
-    requires { AreWords (message (A.segments arena.now)) }
     ensures { (t : Tree) (c : ℕ)
         → Means (message (A.segments arena.now)) (levels (A.nesting arena.now)) 0 0 t c
         → HasStructs (child 0 t) → IfOk result (λ first. IfSome first
@@ -41,9 +39,7 @@ pub fn first_name<'a, A: ReaderArena>(
 pub fn first_employer<'a, A: ReaderArena>(
     arena: &'a A,
     lim: &mut ReadLimiter,
-) -> Result<Option<&'a str>, Misfit>
-    requires { AreWords (message (A.segments arena.now)) }
-{
+) -> Result<Option<&'a str>, Misfit> {
     let book = match CheckedStruct::root(arena, &SCHEMA, ADDRESS_BOOK, lim) {
         Ok(book) => book,
         Err(misfit) => return Err(misfit),

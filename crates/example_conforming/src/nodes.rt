@@ -2,7 +2,6 @@
 ghost use Rattle.std.specs.Prelude.{◌≡◌, ℕ, IfOk};
 ghost use Rattle.capnp_format.specs.Bytes.{message};
 ghost use Rattle.capnp_format.specs.Means.{Means};
-ghost use Rattle.capnp_format.specs.Segments.{AreWords};
 ghost use Rattle.capnp_format.specs.Tree.{Tree};
 ghost use Rattle.capnp_objects.specs.Source.{levels};
 ghost use Rattle.capnp_readers.specs.Values.{text_bytes};
@@ -24,7 +23,6 @@ pub fn second_name<'a, A: ReaderArena>(
     arena: &'a A,
     lim: &mut ReadLimiter,
 ) -> Result<&'a [u8], Misfit>
-    requires { AreWords (message (A.segments arena.now)) }
     ensures { (t : Tree) (c : ℕ)
         → Means (message (A.segments arena.now)) (levels (A.nesting arena.now)) 0 0 t c
         → IfOk result (λ name. name.now ≡ text_bytes (child 0 (child 1 t))) }

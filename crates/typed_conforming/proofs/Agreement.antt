@@ -1,12 +1,11 @@
 -- The walk succeeds exactly if the value can be read and conforms; then it leaves what reading the
 -- value leaves.
-use Rattle.std.proofs.Common.{◌≡◌, ◌⊎◌, inl, inr, ℕ, zero, suc, pred, ◌+◌, ◌<◌, ◌≤◌, Option, Some, None, Result, Ok, Err, true, false, nat_eq, List, [], length, refl, sym, ap, ◌∙◌, subst, arith, add-zero, eq-eqb}
+use Rattle.std.proofs.Common.{◌≡◌, ◌⊎◌, inl, inr, ℕ, zero, suc, pred, ◌+◌, ◌<◌, Option, Some, None, Result, Ok, Err, true, false, nat_eq, List, [], refl, sym, ap, ◌∙◌, subst, arith, add-zero, eq-eqb}
 use Rattle.std.proofs.lemmas.Bool.{ne_eqb}
 use Rattle.capnp_words.specs.declared.error.ErrorKind.{ErrorKind}
 use Rattle.capnp_words.specs.Meter.{Meter}
 use Rattle.capnp_format.specs.Word.{kind, data_words, pointer_count, element_size, list_count, offset_bits, upper_half}
-use Rattle.capnp_format.specs.Numbers.{words_for}
-use Rattle.capnp_format.specs.Segments.{segment, Target, AreWords}
+use Rattle.capnp_format.specs.Segments.{Target}
 use Rattle.capnp_format.specs.Tree.{Tree, Null, Capability, Struct, Pointers, Structs, tree, element}
 use Rattle.capnp_objects.specs.declared.object.Purpose.TheVariants.{Value}
 use Rattle.capnp_objects.specs.Demands.{tag}
@@ -20,7 +19,6 @@ use Rattle.capnp_objects.specs.Wanted.{plain}
 use Rattle.capnp_objects.proofs.Computed.{null_is, capability_is, entering_is, stopped_is}
 use Rattle.capnp_objects.proofs.Decided.{same_or_not}
 use Rattle.capnp_objects.proofs.Inverted.{Ends, at_capability, at_object, refused, ends}
-use Rattle.capnp_objects.proofs.Parts.{claim_list, claim_flat}
 use Rattle.capnp_objects.proofs.Valued.{leaf_is, refusal_is, value_is}
 use Rattle.typed_conforming.specs.declared.conforms.SchemaPointer.{SchemaPointer}
 use Rattle.typed_conforming.specs.declared.schema.Misfit.{Misfit}
@@ -160,14 +158,14 @@ structs_agree T k r m m' s p d q n h on = elim (decide (kind_misfit k.kind r.seg
   | inr e ↦ never (Conforms T k.kind) (λ es. Structs d q es) (λ es x. not_both e (fits_structs k.kind r.segments s p d q n es x.0)) _ _ (on.1 e.0 e.1)
 ]
 
-flat_agrees : (T : List ℕ) (k : SchemaPointer) (r : Reading) (m m' : Meter) (s p size n : ℕ) → AreWords r.segments → p + words_for size n ≤ length (segment r.segments s) → GoesOn T k r m m' (flat s p size n) → Agrees (Conforms T k.kind) (contents r (flat s p size n) m') (check_place T k r m)
-flat_agrees T k r m m' s p size n words claims on = elim (decide (kind_misfit k.kind r.segments (flat s p size n))) [
-  | inl e ↦ inl (on.0 e, flat_fits k.kind r.segments s p size n words claims e)
-  | inr e ↦ inr (on.1 e.0 e.1, λ x. not_both e (fits_flat k.kind r.segments s p size n words claims x))
+flat_agrees : (T : List ℕ) (k : SchemaPointer) (r : Reading) (m m' : Meter) (s p size n : ℕ) → GoesOn T k r m m' (flat s p size n) → Agrees (Conforms T k.kind) (contents r (flat s p size n) m') (check_place T k r m)
+flat_agrees T k r m m' s p size n on = elim (decide (kind_misfit k.kind r.segments (flat s p size n))) [
+  | inl e ↦ inl (on.0 e, flat_fits k.kind r.segments s p size n e)
+  | inr e ↦ inr (on.1 e.0 e.1, λ x. not_both e (fits_flat k.kind r.segments s p size n x))
 ]
 
-object_agrees : (T : List ℕ) (k : SchemaPointer) (r : Reading) (m m' : Meter) (a : Target) → AreWords r.segments → Entered Value r m m' a → Below (table_below T k.kind) r → GoesOn T k r m m' (shape r.segments a) → Agrees (Conforms T k.kind) (contents r (shape r.segments a) m') (check_place T k r m)
-object_agrees T k r m m' a words o h on = elim (same_or_not (kind a.word) 0) [
+object_agrees : (T : List ℕ) (k : SchemaPointer) (r : Reading) (m m' : Meter) (a : Target) → Entered Value r m m' a → Below (table_below T k.kind) r → GoesOn T k r m m' (shape r.segments a) → Agrees (Conforms T k.kind) (contents r (shape r.segments a) m') (check_place T k r m)
+object_agrees T k r m m' a o h on = elim (same_or_not (kind a.word) 0) [
   | inl z ↦
       let is_struct : nat_eq (kind a.word) 0 ≡ true = eq-eqb _ _ z in
       rw is_struct (struct_agrees T k r m m' a.segment a.start (data_words a.word) (pointer_count a.word) h (rw is_struct at on))
@@ -182,16 +180,13 @@ object_agrees T k r m m' a words o h on = elim (same_or_not (kind a.word) 0) [
               | inl six ↦ let is_six : nat_eq (element_size a.word) 6 ≡ true = eq-eqb _ _ six in rw (list, not_seven, is_six) (pointers_agree T k r m m' a.segment a.start (list_count a.word) h (rw (list, not_seven, is_six) at on))
               | inr no_pointers ↦
                   let not_six : nat_eq (element_size a.word) 6 ≡ false = ne_eqb _ _ no_pointers in
-                  let small : element_size a.word ≤ 5 = omega (arith, no_structs, no_pointers) in
-                  let claims = o.meets.claims in
-                  let room : a.start + words_for (element_size a.word) (list_count a.word) ≤ length (segment r.segments a.segment) = omega (arith, claims, claim_list a.word (element_size a.word) one refl, claim_flat (element_size a.word) (list_count a.word) small) in
-                  rw (list, not_seven, not_six) (flat_agrees T k r m m' a.segment a.start (element_size a.word) (list_count a.word) words room (rw (list, not_seven, not_six) at on))
+                  rw (list, not_seven, not_six) (flat_agrees T k r m m' a.segment a.start (element_size a.word) (list_count a.word) (rw (list, not_seven, not_six) at on))
             ]
       ]
 ]
 
-place_agrees : (T : List ℕ) (k : SchemaPointer) (r : Reading) (m : Meter) → AreWords r.segments → (0 < r.levels → Below (table_below T k.kind) r) → Agrees (Conforms T k.kind) (value plain r m) (check_place T k r m)
-place_agrees T k r m words h = elim (same_or_not (word_of r) 0) [
+place_agrees : (T : List ℕ) (k : SchemaPointer) (r : Reading) (m : Meter) → (0 < r.levels → Below (table_below T k.kind) r) → Agrees (Conforms T k.kind) (value plain r m) (check_place T k r m)
+place_agrees T k r m h = elim (same_or_not (word_of r) 0) [
   | inl none ↦ rw (leaf_is plain r.levels r m m nothing (Ok Null, m) (null_is Value r m none) (λ f at. refl), null_conforms T k r m none) (inl (refl, null_conforms_to k.kind))
   | inr some ↦ go (ends Value r m some)
 ]
@@ -208,15 +203,15 @@ place_agrees T k r m words h = elim (same_or_not (word_of r) 0) [
     go (at_object a m' o) =
         let e = entering_is Value r m m' a o in
         rw (value_is plain r.levels r m m' (shape r.segments a) e o.meets.levels)
-        (object_agrees T k r m m' a words o (h o.meets.levels) (opened T k r m m' (shape r.segments a) o.meets.levels e, λ x e1. (_, _, unfit T k r m m' (shape r.segments a) x e e1)))
+        (object_agrees T k r m m' a o (h o.meets.levels) (opened T k r m m' (shape r.segments a) o.meets.levels e, λ x e1. (_, _, unfit T k r m m' (shape r.segments a) x e e1)))
     go (refused x m' stopped) =
         let e = stopped_is Value r m m' x (λ e. absurd (cc e)) stopped in
         rw (refusal_is plain r.levels r m m' x e) (misfit_at k r x, m', unread T k r m m' x e)
 
-agrees : (T : List ℕ) (n : ℕ) (k : SchemaPointer) (r : Reading) (m : Meter) → AreWords r.segments → r.levels ≡ n → Agrees (Conforms T k.kind) (value plain r m) (check_place T k r m)
-agrees T zero k r m words e = place_agrees T k r m words (λ some. absurd (omega (arith, some, e)))
-agrees T (suc n) k r m words e = place_agrees T k r m words (λ some u s p m1. agrees (table_below T k.kind) n u (record r { levels = pred r.levels; segment = s; at = p }) m1 words (omega (arith, e)))
+agrees : (T : List ℕ) (n : ℕ) (k : SchemaPointer) (r : Reading) (m : Meter) → r.levels ≡ n → Agrees (Conforms T k.kind) (value plain r m) (check_place T k r m)
+agrees T zero k r m e = place_agrees T k r m (λ some. absurd (omega (arith, some, e)))
+agrees T (suc n) k r m e = place_agrees T k r m (λ some u s p m1. agrees (table_below T k.kind) n u (record r { levels = pred r.levels; segment = s; at = p }) m1 (omega (arith, e)))
 
 -- at every place
-pub place_conforms : (T : List ℕ) (k : SchemaPointer) (r : Reading) (m : Meter) → AreWords r.segments → Agrees (Conforms T k.kind) (value plain r m) (check_place T k r m)
-place_conforms T k r m words = agrees T r.levels k r m words refl
+pub place_conforms : (T : List ℕ) (k : SchemaPointer) (r : Reading) (m : Meter) → Agrees (Conforms T k.kind) (value plain r m) (check_place T k r m)
+place_conforms T k r m = agrees T r.levels k r m refl

@@ -11,11 +11,10 @@ use Rattle.std.specs.Result.{result_err}
 use Rattle.capnp_arena_traits.specs.declared.arena.reader_arena.ReaderArena.{Ghosts}
 use Rattle.capnp_format.specs.Bytes.{words_of}
 use Rattle.capnp_format.specs.Numbers.{element_bits}
-use Rattle.capnp_format.specs.Segments.{AreWords}
 use Rattle.capnp_words.specs.declared.wire_pointer.ElementSize.{ElementSize}
 use Rattle.capnp_words.specs.declared.error.ErrorKind.{ErrorKind}
 use Rattle.capnp_objects.specs.Expected.{Expectation}
-use Rattle.capnp_objects.specs.Reading.{source_start, word_of}
+use Rattle.capnp_objects.specs.Reading.{word_of}
 use Rattle.capnp_readers.specs.Sections.{bytes_for}
 use Rattle.capnp_readers.specs.declared.readers.list_reader.ListReader.{ListReader}
 use Rattle.capnp_readers.specs.declared.readers.struct_reader.StructReader.{StructReader}
@@ -177,19 +176,16 @@ module _ {A : Type 0} (g : Ghosts A) where
   empty_list r none = record { cost = 0; shown = (none, refl) }
 
   -- An element of a list whose elements conform.
-  pub element_checked : (T : List ℕ) (row : ℕ) (l : ListReader A g) (i : ℕ) (x : StructReader A g) → x.source ≡ l.source → i < l.count →
+  pub element_checked : (T : List ℕ) (row : ℕ) (l : ListReader A g) (i : ℕ) (x : StructReader A g) → i < l.count →
       ((t : Tree) → ShowsListOf g l t → HasStructs t → ShowsStructOf g x (struct_element t i)) →
       ((size : ℕ) (ns : List ℕ) → ShowsListOf g l (Flat size ns) → ShowsNumber g x (element_bits size) (slice_index ns i)) →
       IsCheckedList g T row l → IsChecked g T row x
-  element_checked T row l i x same inside structs number s = go s.list s.shows s.conforms
+  element_checked T row l i x inside structs number s = go s.list s.shows s.conforms
     where
-      words : AreWords (source_start g x.source).segments
-      words = rw same s.words
-
       go : (t : Tree) → ShowsListOf g l t → ElementsConform T row t → IsChecked g T row x
       go Null shows h = absurd (let none : l.count ≡ 0 = shows.shown.0 in omega (arith, none, inside))
       go (Flat size ns) shows h = inr (number size ns shows).no_pointers
-      go (Pointers ts) shows h = inl (record { struct = Struct [] (tree (tree_at ts i) no_trees); shows = structs (Pointers ts) shows tt; conforms = (each_of T row i ts h, tt); words = words })
-      go (Structs d q es) shows h = inl (record { struct = struct_at es i; shows = structs (Structs d q es) shows tt; conforms = element_of T row i es h; words = words })
+      go (Pointers ts) shows h = inl (record { struct = Struct [] (tree (tree_at ts i) no_trees); shows = structs (Pointers ts) shows tt; conforms = (each_of T row i ts h, tt) })
+      go (Structs d q es) shows h = inl (record { struct = struct_at es i; shows = structs (Structs d q es) shows tt; conforms = element_of T row i es h })
       go (Capability n) shows h = absurd shows.shown
       go (Struct ws ts) shows h = absurd shows.shown

@@ -1,63 +1,20 @@
 -- An object is what a pointer of some kind may lead to exactly if the value that is read of it is.
-use Rattle.std.proofs.Common.{◌≡◌, ℕ, zero, suc, ◌+◌, ◌-◌, ◌*◌, ◌/◌, ◌%◌, ◌^◌, ◌<◌, ◌≤◌, Bool, true, false, ◌&&◌, if◌then◌else◌, nat_eq, nat_lt, List, length, take, [], drop, get_or, Option, Some, None, refl, sym, ap, ◌∙◌, subst, arith, eq-eqb, eqb-true, lt-ltb, ltb-true, drop-cons}
+use Rattle.std.proofs.Common.{◌≡◌, ℕ, ◌-◌, ◌<◌, Bool, true, false, ◌&&◌, if◌then◌else◌, nat_eq, nat_lt, List, [], length, take, get_or, Option, Some, None, refl, sym, ap, ◌∙◌, arith, eq-eqb, eqb-true, lt-ltb, ltb-true}
 use Rattle.std.proofs.lemmas.Bool.{false≢true}
-use Rattle.std.proofs.lemmas.List.{get_or-take, get_or-drop}
-use Rattle.std.proofs.lemmas.Nat.{shr-shr}
 use Rattle.std.proofs.lemmas.Str.{is_utf8-from_IsUtf8}
 use Rattle.std.specs.Option.{option_or}
 use Rattle.std.specs.Str.{is_utf8}
 use Rattle.capnp_words.specs.declared.error.ErrorKind.{ErrorKind}
-use Rattle.capnp_format.specs.Numbers.{from_digits, unpacked, words_for}
-use Rattle.capnp_format.specs.Segments.{Segments, segment, word_at, words_at, AreWords}
+use Rattle.capnp_format.specs.Numbers.{unpacked, words_for}
+use Rattle.capnp_format.specs.Segments.{Segments, words_at}
 use Rattle.capnp_format.specs.Tree.{Tree, Null, Flat, Capability, Struct, Pointers, Structs, Trees, Elements}
-use Rattle.capnp_format.specs.Value.{AreBelow}
-use Rattle.capnp_format.proofs.Bounds.{words_below}
 use Rattle.capnp_format.proofs.Digits.{length-digits}
-use Rattle.capnp_format.proofs.LawLemmas.{element_is_bits}
-use Rattle.capnp_format.proofs.Lies.{pow_pow}
-use Rattle.capnp_format.proofs.Slices.{length_words}
-use Rattle.capnp_format.proofs.FieldBytes.{cut}
 use Rattle.capnp_readers.specs.Values.{IsText, text_bytes}
 use Rattle.capnp_objects.specs.Enter.{capability, struct, flat, pointers, structs}
 use Rattle.typed_conforming.specs.declared.schema.Kind.{Kind}
 use Rattle.typed_conforming.specs.declared.schema.Kind.TheVariants.{Any, AnyList, Capability as CapabilityKind, Text, Utf8, Data, Struct as StructKind, List as ListKind}
 use Rattle.typed_conforming.specs.Conforms.{IsOfKind}
-use Rattle.typed_conforming.specs.Misfits.{bytes_are_utf8, bytes_end_in_zero, data_misfit, kind_misfit, list_bytes, not_utf8, object_byte, text_misfit, utf8_misfit}
-
--- byte j of a word, with other words after it
-first_word : (w y j : ℕ) → j < 8 → (w + 2 ^ 64 * y) / 2 ^ (8 * j) % 2 ^ 8 ≡ w / 2 ^ (8 * j) % 2 ^ 8
-first_word w y zero l = omega arith
-first_word w y (suc zero) l = omega arith
-first_word w y (suc (suc zero)) l = omega arith
-first_word w y (suc (suc (suc zero))) l = omega arith
-first_word w y (suc (suc (suc (suc zero)))) l = omega arith
-first_word w y (suc (suc (suc (suc (suc zero))))) l = omega arith
-first_word w y (suc (suc (suc (suc (suc (suc zero)))))) l = omega arith
-first_word w y (suc (suc (suc (suc (suc (suc (suc zero))))))) l = omega arith
-first_word w y _ l = absurd (omega arith)
-
--- byte i of words that are read as one number
-byte_of_words : (ws : List ℕ) (i : ℕ) → AreBelow (2 ^ 64) ws → i / 8 < length ws → from_digits (2 ^ 64) ws / 2 ^ (8 * i) % 2 ^ 8 ≡ get_or ws (i / 8) 0 / 2 ^ (8 * (i % 8)) % 2 ^ 8
-byte_of_words ws i small there =
-    let k : ℕ = i / 8 in
-    let o : ℕ = 8 * (i % 8) in
-    let y : ℕ = from_digits (2 ^ 64) (drop (suc k) ws) in
-    let above : from_digits (2 ^ 64) ws / 2 ^ (64 * k) ≡ from_digits (2 ^ 64) (drop k ws) = ap (λ p. from_digits (2 ^ 64) ws / p) (sym (pow_pow 64 k)) ∙ (cut (2 ^ 64) k ws small (omega arith)).others in
-    let first : from_digits (2 ^ 64) (drop k ws) ≡ get_or ws k 0 + 2 ^ 64 * y = ap (from_digits (2 ^ 64)) (drop-cons ws k 0 there) in
-    ap (λ e. from_digits (2 ^ 64) ws / 2 ^ e % 2 ^ 8) (let e : 8 * i ≡ 64 * k + o = omega arith in e)
-    ∙ ap (λ x. x % 2 ^ 8) (sym (shr-shr (from_digits (2 ^ 64) ws) (64 * k) o) ∙ ap (λ x. x / 2 ^ o) (above ∙ first))
-    ∙ first_word (get_or ws k 0) y (i % 8) (omega arith)
-
--- byte i of a list of bytes in a message
-byte_of_list : (S : Segments) (s p n i : ℕ) → AreWords S → p + words_for 2 n ≤ length (segment S s) → i < n →
-    get_or (unpacked 2 n (words_at S s p (words_for 2 n))) i 0 ≡ word_at S s (p + i / 8) / 2 ^ (8 * (i % 8)) % 2 ^ 8
-byte_of_list S s p n i words claims inside =
-    let ws : List ℕ = words_at S s p (words_for 2 n) in
-    let long : length ws ≡ words_for 2 n = length_words S s p (words_for 2 n) claims in
-    let word : get_or ws (i / 8) 0 ≡ word_at S s (p + i / 8) = get_or-take (words_for 2 n) (drop p (segment S s)) (i / 8) 0 (omega arith) ∙ get_or-drop p (segment S s) (i / 8) 0 in
-    element_is_bits 2 n i ws inside
-    ∙ byte_of_words ws i (words_below S s p (words_for 2 n) (words s)) (omega (arith, long))
-    ∙ ap (λ x. x / 2 ^ (8 * (i % 8)) % 2 ^ 8) word
+use Rattle.typed_conforming.specs.Misfits.{bytes_are_utf8, bytes_end_in_zero, data_misfit, kind_misfit, list_bytes, not_utf8, text_misfit, utf8_misfit}
 
 -- Tests.
 both : (a b : Bool) → (a && b) ≡ true → (a ≡ true) × (b ≡ true)
@@ -68,14 +25,12 @@ both false b e = absurd (false≢true e)
 abbrev pub numbers : Segments → ℕ → ℕ → ℕ → ℕ → Tree
 numbers S s p size n = Flat size (unpacked size n (words_at S s p (words_for size n)))
 
-text_bytes_end : (S : Segments) (s p size n : ℕ) → AreWords S → p + words_for size n ≤ length (segment S s) → size ≡ 2 → 0 < n →
-    get_or (unpacked size n (words_at S s p (words_for size n))) (length (unpacked size n (words_at S s p (words_for size n))) - 1) 0 ≡ object_byte S s p (n - 1)
-text_bytes_end S s p size n words claims two some =
+text_bytes_end : (S : Segments) (s p size n : ℕ) → size ≡ 2 →
+    get_or (unpacked size n (words_at S s p (words_for size n))) (length (unpacked size n (words_at S s p (words_for size n))) - 1) 0 ≡ get_or (list_bytes S s p n) (n - 1) 0
+text_bytes_end S s p size n two =
     let long : length (unpacked size n (words_at S s p (words_for size n))) ≡ n = length-digits _ n _ in
-    let room : p + words_for 2 n ≤ length (segment S s) = subst (λ z. p + words_for z n ≤ length (segment S s)) two claims in
     ap (λ k. get_or (unpacked size n (words_at S s p (words_for size n))) (k - 1) 0) long
     ∙ ap (λ z. get_or (unpacked z n (words_at S s p (words_for z n))) (n - 1) 0) two
-    ∙ byte_of_list S s p n (n - 1) words room (omega (arith, some))
 
 -- A text.
 bytes_only : (size : ℕ) (x : Option ErrorKind) (e : ErrorKind) → (if nat_eq size 2 then x else Some e) ≡ None → (size ≡ 2) × (x ≡ None)
@@ -89,30 +44,30 @@ chosen : (b : Bool) (x : Option ErrorKind) (e : ErrorKind) → (if b then x else
 chosen true x e h = (refl, h)
 chosen false x e h = absurd (cc h)
 
-text_if : (S : Segments) (s p size n : ℕ) → AreWords S → p + words_for size n ≤ length (segment S s) → size ≡ 2 → bytes_end_in_zero S s p n ≡ true → IsText (numbers S s p size n)
-text_if S s p size n words claims two h =
+text_if : (S : Segments) (s p size n : ℕ) → size ≡ 2 → bytes_end_in_zero S s p n ≡ true → IsText (numbers S s p size n)
+text_if S s p size n two h =
     let ends = both _ _ h in
     let some : 0 < n = ltb-true _ _ ends.0 in
     let long : length (unpacked size n (words_at S s p (words_for size n))) ≡ n = length-digits _ n _ in
-    (two, omega (arith, some, long), text_bytes_end S s p size n words claims two some ∙ eqb-true _ _ ends.1)
+    (two, omega (arith, some, long), text_bytes_end S s p size n two ∙ eqb-true _ _ ends.1)
 
-if_text : (S : Segments) (s p size n : ℕ) → AreWords S → p + words_for size n ≤ length (segment S s) → IsText (numbers S s p size n) → bytes_end_in_zero S s p n ≡ true
-if_text S s p size n words claims (two, some, last) =
+if_text : (S : Segments) (s p size n : ℕ) → IsText (numbers S s p size n) → bytes_end_in_zero S s p n ≡ true
+if_text S s p size n (two, some, last) =
     let long : length (unpacked size n (words_at S s p (words_for size n))) ≡ n = length-digits _ n _ in
     let more : 0 < n = omega (arith, some, long) in
     let a : nat_lt 0 n ≡ true = lt-ltb _ _ more in
-    let b : nat_eq (object_byte S s p (n - 1)) 0 ≡ true = eq-eqb _ _ (sym (text_bytes_end S s p size n words claims two more) ∙ last) in
+    let b : nat_eq (get_or (list_bytes S s p n) (n - 1) 0) 0 ≡ true = eq-eqb _ _ (sym (text_bytes_end S s p size n two) ∙ last) in
     rw (a, b) refl
 
-text_flat : (S : Segments) (s p size n : ℕ) → AreWords S → p + words_for size n ≤ length (segment S s) → text_misfit S (flat s p size n) ≡ None → IsOfKind Text (numbers S s p size n)
-text_flat S s p size n words claims h =
+text_flat : (S : Segments) (s p size n : ℕ) → text_misfit S (flat s p size n) ≡ None → IsOfKind Text (numbers S s p size n)
+text_flat S s p size n h =
     let bytes = bytes_only size _ _ h in
-    text_if S s p size n words claims bytes.0 (chosen (bytes_end_in_zero S s p n) None _ bytes.1).0
+    text_if S s p size n bytes.0 (chosen (bytes_end_in_zero S s p n) None _ bytes.1).0
 
-flat_text : (S : Segments) (s p size n : ℕ) → AreWords S → p + words_for size n ≤ length (segment S s) → IsOfKind Text (numbers S s p size n) → text_misfit S (flat s p size n) ≡ None
-flat_text S s p size n words claims h =
+flat_text : (S : Segments) (s p size n : ℕ) → IsOfKind Text (numbers S s p size n) → text_misfit S (flat s p size n) ≡ None
+flat_text S s p size n h =
     let a : nat_eq size 2 ≡ true = eq-eqb _ _ h.0 in
-    let b = if_text S s p size n words claims h in
+    let b = if_text S s p size n h in
     rw (a, b) refl
 
 -- A text in UTF-8.
@@ -126,18 +81,18 @@ neither : (x y : Option ErrorKind) → option_or x y ≡ None → (x ≡ None) �
 neither None y h = (refl, h)
 neither (Some e) y h = absurd (cc h)
 
-utf8_flat : (S : Segments) (s p size n : ℕ) → AreWords S → p + words_for size n ≤ length (segment S s) → kind_misfit Utf8 S (flat s p size n) ≡ None → IsOfKind Utf8 (numbers S s p size n)
-utf8_flat S s p size n words claims h =
+utf8_flat : (S : Segments) (s p size n : ℕ) → kind_misfit Utf8 S (flat s p size n) ≡ None → IsOfKind Utf8 (numbers S s p size n)
+utf8_flat S s p size n h =
     let (text, valid) = neither (text_misfit S (flat s p size n)) (utf8_misfit S (flat s p size n)) h in
-    let is = text_flat S s p size n words claims text in
+    let is = text_flat S s p size n text in
     let two : nat_eq size 2 ≡ true = eq-eqb _ _ is.0 in
     let passed = chosen (bytes_are_utf8 S s p n) None not_utf8 (rw two at valid) in
     (is, ap is_utf8 (own_bytes S s p size n is.0) ∙ passed.0)
 
-flat_utf8 : (S : Segments) (s p size n : ℕ) → AreWords S → p + words_for size n ≤ length (segment S s) → IsOfKind Utf8 (numbers S s p size n) → kind_misfit Utf8 S (flat s p size n) ≡ None
-flat_utf8 S s p size n words claims (h, valid) =
+flat_utf8 : (S : Segments) (s p size n : ℕ) → IsOfKind Utf8 (numbers S s p size n) → kind_misfit Utf8 S (flat s p size n) ≡ None
+flat_utf8 S s p size n (h, valid) =
     let a : nat_eq size 2 ≡ true = eq-eqb _ _ h.0 in
-    let b = if_text S s p size n words claims h in
+    let b = if_text S s p size n h in
     let c : bytes_are_utf8 S s p n ≡ true = sym (ap is_utf8 (own_bytes S s p size n h.0)) ∙ valid in
     rw (a, b, c) refl
 
@@ -145,25 +100,25 @@ flat_utf8 S s p size n words claims (h, valid) =
 data_flat : (S : Segments) (s p size n : ℕ) → IsOfKind Data (numbers S s p size n) → data_misfit (flat s p size n) ≡ None
 data_flat S s p size n two = let a : nat_eq size 2 ≡ true = eq-eqb _ _ two in rw a refl
 
-pub flat_fits : (k : Kind) (S : Segments) (s p size n : ℕ) → AreWords S → p + words_for size n ≤ length (segment S s) → kind_misfit k S (flat s p size n) ≡ None → IsOfKind k (numbers S s p size n)
-flat_fits Any S s p size n words claims e = tt
-flat_fits CapabilityKind S s p size n words claims e = absurd (cc e)
-flat_fits Text S s p size n words claims e = text_flat S s p size n words claims e
-flat_fits Utf8 S s p size n words claims e = utf8_flat S s p size n words claims e
-flat_fits Data S s p size n words claims e = (bytes_only size None _ e).0
-flat_fits (StructKind row) S s p size n words claims e = absurd (cc e)
-flat_fits AnyList S s p size n words claims e = tt
-flat_fits (ListKind wanted row) S s p size n words claims e = e
+pub flat_fits : (k : Kind) (S : Segments) (s p size n : ℕ) → kind_misfit k S (flat s p size n) ≡ None → IsOfKind k (numbers S s p size n)
+flat_fits Any S s p size n e = tt
+flat_fits CapabilityKind S s p size n e = absurd (cc e)
+flat_fits Text S s p size n e = text_flat S s p size n e
+flat_fits Utf8 S s p size n e = utf8_flat S s p size n e
+flat_fits Data S s p size n e = (bytes_only size None _ e).0
+flat_fits (StructKind row) S s p size n e = absurd (cc e)
+flat_fits AnyList S s p size n e = tt
+flat_fits (ListKind wanted row) S s p size n e = e
 
-pub fits_flat : (k : Kind) (S : Segments) (s p size n : ℕ) → AreWords S → p + words_for size n ≤ length (segment S s) → IsOfKind k (numbers S s p size n) → kind_misfit k S (flat s p size n) ≡ None
-fits_flat Any S s p size n words claims h = refl
-fits_flat CapabilityKind S s p size n words claims h = absurd h
-fits_flat Text S s p size n words claims h = flat_text S s p size n words claims h
-fits_flat Utf8 S s p size n words claims h = flat_utf8 S s p size n words claims h
-fits_flat Data S s p size n words claims h = data_flat S s p size n h
-fits_flat (StructKind row) S s p size n words claims h = absurd h
-fits_flat AnyList S s p size n words claims h = refl
-fits_flat (ListKind wanted row) S s p size n words claims h = h
+pub fits_flat : (k : Kind) (S : Segments) (s p size n : ℕ) → IsOfKind k (numbers S s p size n) → kind_misfit k S (flat s p size n) ≡ None
+fits_flat Any S s p size n h = refl
+fits_flat CapabilityKind S s p size n h = absurd h
+fits_flat Text S s p size n h = flat_text S s p size n h
+fits_flat Utf8 S s p size n h = flat_utf8 S s p size n h
+fits_flat Data S s p size n h = data_flat S s p size n h
+fits_flat (StructKind row) S s p size n h = absurd h
+fits_flat AnyList S s p size n h = refl
+fits_flat (ListKind wanted row) S s p size n h = h
 
 pub struct_fits : (k : Kind) (S : Segments) (s p d q : ℕ) (ws : List ℕ) (ts : Trees) → kind_misfit k S (struct s p d q) ≡ None → IsOfKind k (Struct ws ts)
 struct_fits Any S s p d q ws ts e = tt

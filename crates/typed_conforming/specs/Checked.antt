@@ -1,9 +1,7 @@
 -- Readers of structs and lists that conform to a schema: their getters can't be refused.
 use Rattle.std.specs.Prelude.{◌≡◌, ◌⊎◌, ℕ, List, ⊤}
 use Rattle.capnp_arena_traits.specs.declared.arena.reader_arena.ReaderArena.{Ghosts}
-use Rattle.capnp_format.specs.Segments.{AreWords}
 use Rattle.capnp_format.specs.Tree.{Tree, Pointers, Structs}
-use Rattle.capnp_objects.specs.Reading.{source_start}
 use Rattle.capnp_readers.specs.Values.{ShowsListOf, ShowsStructOf, struct_children, struct_data}
 use Rattle.capnp_readers.specs.declared.readers.list_reader.ListReader.{ListReader}
 use Rattle.capnp_readers.specs.declared.readers.struct_reader.StructReader.{StructReader}
@@ -21,7 +19,6 @@ module _ {A : Type 0} (g : Ghosts A) where
     pub struct : Tree
     pub shows : ShowsStructOf g r struct
     pub conforms : ConformAll T row (struct_data struct) 0 (struct_children struct)
-    pub words : AreWords (source_start g r.source).segments
 
   -- The same; or r has no pointers, like a number of a list that is read as a struct.
   abbrev pub IsChecked : List ℕ → ℕ → StructReader A g → Type 0
@@ -32,4 +29,3 @@ module _ {A : Type 0} (g : Ghosts A) where
     pub list : Tree
     pub shows : ShowsListOf g r list
     pub conforms : ElementsConform T row list
-    pub words : AreWords (source_start g r.source).segments

@@ -1,7 +1,7 @@
 -- Which objects a pointer of some kind may not lead to, and with which error they are refused: that
 -- of the getter for the kind.
-use Rattle.std.specs.Prelude.{ℕ, ◌+◌, ◌-◌, ◌*◌, ◌/◌, ◌%◌, ◌^◌, Bool, ◌&&◌, nat_eq, nat_lt}
-use Rattle.std.specs.Prelude.{if◌then◌else◌, List, take, Option, Some, None}
+use Rattle.std.specs.Prelude.{ℕ, ◌-◌, Bool, ◌&&◌, nat_eq, nat_lt, if◌then◌else◌, List, get_or, take}
+use Rattle.std.specs.Prelude.{Option, Some, None}
 use Rattle.std.specs.Option.{option_or}
 use Rattle.std.specs.Str.{is_utf8}
 use Rattle.capnp_words.specs.declared.error.ErrorKind.{ErrorKind}
@@ -17,24 +17,20 @@ use Rattle.capnp_words.specs.declared.error.ErrorKind.TheVariants.{MessageContai
 use Rattle.capnp_words.specs.declared.wire_pointer.ElementSize.{ElementSize}
 use Rattle.capnp_words.specs.Sizes.{sized}
 use Rattle.capnp_format.specs.Numbers.{unpacked, words_for}
-use Rattle.capnp_format.specs.Segments.{Segments, word_at, words_at}
+use Rattle.capnp_format.specs.Segments.{Segments, words_at}
 use Rattle.capnp_objects.specs.Enter.{Shape, nothing, capability, struct, flat, pointers, structs}
 use Rattle.capnp_objects.specs.Expected.{narrow_elements, narrow_structs}
 use Rattle.typed_conforming.specs.declared.schema.Kind.{Kind}
 use Rattle.typed_conforming.specs.declared.schema.Kind.TheVariants.{Any, Capability, Text, Utf8, Data, Struct}
 use Rattle.typed_conforming.specs.declared.schema.Kind.TheVariants.{AnyList, List as ListKind}
 
--- Byte i of the object at position p of segment s.
-abbrev pub object_byte : Segments → ℕ → ℕ → ℕ → ℕ
-object_byte S s p i = word_at S s (p + i / 8) / 2 ^ (8 * (i % 8)) % 256
-
--- Whether the n bytes at position p of segment s end in a zero byte.
-abbrev pub bytes_end_in_zero : Segments → ℕ → ℕ → ℕ → Bool
-bytes_end_in_zero S s p n = nat_lt 0 n && nat_eq (object_byte S s p (n - 1)) 0
-
 -- The n bytes at position p of segment s.
 abbrev pub list_bytes : Segments → ℕ → ℕ → ℕ → List ℕ
 list_bytes S s p n = unpacked 2 n (words_at S s p (words_for 2 n))
+
+-- Whether the n bytes at position p of segment s end in a zero byte.
+abbrev pub bytes_end_in_zero : Segments → ℕ → ℕ → ℕ → Bool
+bytes_end_in_zero S s p n = nat_lt 0 n && nat_eq (get_or (list_bytes S s p n) (n - 1) 0) 0
 
 -- Whether the n bytes at position p of segment s, without the last one, are UTF-8.
 abbrev pub bytes_are_utf8 : Segments → ℕ → ℕ → ℕ → Bool

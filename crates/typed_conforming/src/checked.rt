@@ -2,7 +2,6 @@
 //! charge nothing.
 ghost use Rattle.std.specs.Prelude.{◌≡◌, ◌⊎◌, ◌<◌, ◌+◌, ℕ, true, IfErr, IfOk, IsOk, OnOk, Some, ⊤};
 ghost use Rattle.capnp_format.specs.Bytes.{message};
-ghost use Rattle.capnp_format.specs.Segments.{AreWords};
 ghost use Rattle.capnp_format.specs.Means.{Means};
 ghost use Rattle.capnp_format.specs.Tree.{Tree};
 ghost use Rattle.capnp_words.specs.Meter.{Affords, charged};
@@ -57,8 +56,8 @@ impl<'a, 's, A: ReaderArena> Copy for CheckedStruct<'a, 's, A> {}
 
 impl<'a, 's, A: ReaderArena> CheckedStruct<'a, 's, A> {
     /// Tests a message, and returns its root. The whole message has to be readable within both
-    /// limits, and its root has to be a struct that conforms to the row at `row` of
-    /// `table`, or null, which reads as a struct without sections. Precondition: each word of the message has 64 bits, as in each arena of bytes.
+    /// limits, and its root has to be a struct that conforms to the row at `row` of `table`, or null,
+    /// which reads as a struct without sections.
     ///
     /// Charges one word for the root pointer, and what reading the whole message once costs. After
     /// that, nothing that the root leads to is charged.
@@ -71,7 +70,6 @@ impl<'a, 's, A: ReaderArena> CheckedStruct<'a, 's, A> {
         row: u32,
         lim: &mut ReadLimiter,
     ) -> Result<Self, Misfit>
-        requires words { AreWords (message (A.segments arena.now)) }
         ensures value { (t : Tree) (c : ℕ)
             → Means (message (A.segments arena.now)) (levels (A.nesting arena.now)) 0 0 t c
             → IfOk result (λ r. ShowsStructOf A.ReaderArena r.reader t) }

@@ -1,6 +1,7 @@
 //! The walk that tests whether a value conforms to a schema.
 ghost use Rattle.std.specs.Prelude.{◌≡◌, ◌↔◌, ◌<◌, ◌≤◌, ◌+◌, ◌*◌, length, take, drop, slice_index, List, ℕ, IfErr, IsOk, OnOk, MatchOption};
 ghost use Rattle.std.specs.Str.{is_utf8};
+ghost use Rattle.capnp_format.specs.Bytes.{words_of};
 ghost use Rattle.capnp_format.specs.Numbers.{words_for};
 ghost use Rattle.capnp_words.specs.Sizes.{size_number};
 ghost use Rattle.capnp_objects.specs.Expected.{narrow_elements, narrow_structs};
@@ -15,7 +16,7 @@ ghost use Rattle.capnp_objects.specs.Spending.{Paid, pointers_in};
 ghost use Rattle.capnp_objects.specs.Reading.{segment_read};
 ghost use Rattle.capnp_objects.specs.Pointers.{reading, reading_on};
 ghost use Rattle.typed_conforming.specs.Conforms.{Conforms};
-ghost use Rattle.capnp_format.specs.Segments.{AreWords, Segments};
+ghost use Rattle.capnp_format.specs.Segments.{Segments, segment};
 ghost use Rattle.capnp_objects.specs.Enter.{object_shape};
 ghost use Rattle.capnp_objects.specs.Entering.{IsAtHand, IsObjectHeld};
 ghost use Rattle.capnp_objects.specs.Reading.{place_past, words_from};
@@ -72,17 +73,17 @@ fn narrow_structs_error(expected: ElementSize, sections: StructSize) -> Option<E
     }
 }
 
-// Whether the `count` bytes from a place on end in a zero byte.
-fn ends_in_zero(start: Place, count: u32) -> bool
-    requires { 8 * (start.at + words_for 2 count) ≤ length start.bytes.now }
-    ensures { (S : Segments) → IsHeld S start.entry
-        → result ≡ bytes_end_in_zero S start.entry.segment start.entry.at count }
+// Whether the `count` bytes from word `start` of a segment on end in a zero byte.
+fn ends_in_zero(bytes: &[u8], start: u32, count: u32) -> bool
+    requires { 8 * (start + words_for 2 count) ≤ length bytes.now }
+    ensures { (S : Segments) (s : ℕ) → words_of bytes.now ≡ segment S s
+        → result ≡ bytes_end_in_zero S s start count }
 {
     if count == 0 {
         return false;
     }
     let last = (count - 1) as usize;
-    let word = word_at(start.bytes, start.at as usize + last / 8);
+    let word = word_at(bytes, start as usize + last / 8);
     word >> (8 * (last % 8)) & 0xff == 0
 }
 
@@ -126,7 +127,7 @@ fn text_error(object: Object) -> Option<ErrorKind>
             size: ElementSize::Byte,
             count,
         } => {
-            if ends_in_zero(start, count) {
+            if ends_in_zero(start.bytes, start.at, count) {
                 None
             } else {
                 Some(ErrorKind::MessageContainsTextThatIsNotNULTerminated)
@@ -493,12 +494,11 @@ pub fn conforms<A: ReaderArena>(
     pointer: &Pointer<'_, A>,
     lim: &mut ReadLimiter,
 ) -> Result<(), Misfit>
-    ensures exactly { let r = reading A.ReaderArena pointer.now in AreWords r.segments
-        → (IsOk result ↔ ((t : Tree) × (c : ℕ) × Conforms table.now kind t × MeansThere r t c
-        × Affords r.charging lim.old c)) }
+    ensures exactly { let r = reading A.ReaderArena pointer.now in
+        IsOk result ↔ ((t : Tree) × (c : ℕ) × Conforms table.now kind t × MeansThere r t c
+        × Affords r.charging lim.old c) }
     ensures spent { let r = reading A.ReaderArena pointer.now in (t : Tree) (c : ℕ)
-        → AreWords r.segments → MeansThere r t c
-        → OnOk result (Paid r.charging lim.old lim.new c (pointers_in t)) }
+        → MeansThere r t c → OnOk result (Paid r.charging lim.old lim.new c (pointers_in t)) }
     ensures walk { check_place table.now (rowless_pointer kind) (reading A.ReaderArena pointer.now)
         lim.old ≡ (result, lim.new) }
     ensures refused { IfErr result (IsTrueFrom

@@ -20,4 +20,4 @@ pub returns-in-Err-clause-walk : goal.returns-in-Err-clause-walk
 returns-in-Err-clause-walk c = rw c.in-Err.ensures.unread (walk_unread c.args.table.now c.args.row (lent c.args.segments.now.list.now) c.args.nesting c.args.lim.now c.in-Err.error c.in-Err.ensures.refused)
 
 pub returns-in-Err-clause-exactly : goal.returns-in-Err-clause-exactly
-returns-in-Err-clause-exactly c = λ words. unaccepted c.args.table.now c.args.row (lent c.args.segments.now.list.now) c.args.nesting c.args.lim.now c.in-Err.error (record { error = c.in-Err.error; segment = 0; word = 0; row = 0; index = 0 }) c.in-Err.ensures.refused
+returns-in-Err-clause-exactly c = unaccepted c.args.table.now c.args.row (lent c.args.segments.now.list.now) c.args.nesting c.args.lim.now c.in-Err.error (record { error = c.in-Err.error; segment = 0; word = 0; row = 0; index = 0 }) c.in-Err.ensures.refused

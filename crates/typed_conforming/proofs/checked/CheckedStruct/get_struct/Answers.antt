@@ -40,7 +40,6 @@ invariant_of-result-2 g c = record {
           struct = child i s.struct;
           shows = rw c.unwrap-reader.ensures at (c.get_struct.ensures.value s.struct s.shows);
           conforms = children_conform T c.args.row (child i s.struct) own;
-          words = (rw c.unwrap-reader.ensures at c.get_struct.ensures.stays).words s.words;
         })
   ]);
 }

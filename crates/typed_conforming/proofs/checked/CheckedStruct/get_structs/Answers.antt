@@ -18,7 +18,6 @@ invariant_of-result-then-index-self g c =
       list = Null;
       shows = empty_list g.A.ReaderArena c.new_default.result c.new_default.ensures.elements.1;
       conforms = tt;
-      words = rw c.new_default.ensures.source (λ s p. omega arith);
     } in
     record { conforms = ∣ checked ∣₁ }
 
@@ -52,7 +51,6 @@ invariant_of-result-2 g c = record {
           list = child i s.struct;
           shows = rw c.unwrap-reader.ensures at (c.get_structs.ensures.value s.struct s.shows);
           conforms = elements_conform T InlineComposite c.args.row (child i s.struct) own;
-          words = (rw c.unwrap-reader.ensures at c.get_structs.ensures.stays).words s.words;
         }
   ]);
 }
