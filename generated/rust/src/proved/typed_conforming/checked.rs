@@ -36,20 +36,14 @@ impl<'a, 's, A: ReaderArena> Copy for CheckedStruct<'a, 's, A> {}
 
 impl<'a, 's, A: ReaderArena> CheckedStruct<'a, 's, A> {
     /// Tests a message, and returns its root. The whole message has to be readable within both
-    /// limits, and its root has to be a struct that conforms to the row at `row` of
-    /// `table`, or null, which reads as a struct without sections. Precondition: each word of the message has 64 bits, as in each arena of bytes.
+    /// limits, and its root has to be a struct that conforms to the row at `row` of `table`, or null,
+    /// which reads as a struct without sections.
     ///
     /// Charges one word for the root pointer, and what reading the whole message once costs. After
     /// that, nothing that the root leads to is charged.
     ///
     /// Refuses like `Pointer::get_root_from_arena`, then at word 0 of segment 0, and like `conforms`.
     /// What was charged before stays charged.
-    ///
-    /// # Preconditions
-    ///
-    /// ```text
-    /// requires words { AreWords (message (A.segments arena.now)) }
-    /// ```
     #[inline]
     pub fn root(
         arena: &'a A,

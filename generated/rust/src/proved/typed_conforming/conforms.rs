@@ -53,16 +53,16 @@ fn narrow_structs_error(expected: ElementSize, sections: StructSize) -> Option<E
 /// # Preconditions
 ///
 /// ```text
-/// requires { 8 * (start.at + words_for 2 count) ≤ length start.bytes.now }
+/// requires { 8 * (start + words_for 2 count) ≤ length bytes.now }
 /// ```
-// Whether the `count` bytes from a place on end in a zero byte.
+// Whether the `count` bytes from word `start` of a segment on end in a zero byte.
 #[inline]
-fn ends_in_zero(start: Place, count: u32) -> bool {
+fn ends_in_zero(bytes: &[u8], start: u32, count: u32) -> bool {
     if count == 0 {
         return false;
     }
     let last = (count - 1) as usize;
-    let word = word_at(start.bytes, start.at as usize + last / 8);
+    let word = word_at(bytes, start as usize + last / 8);
     word >> (8 * (last % 8)) & 0xff == 0
 }
 
@@ -110,7 +110,7 @@ fn text_error(object: Object) -> Option<ErrorKind> {
             size: ElementSize::Byte,
             count,
         } => {
-            if ends_in_zero(start, count) {
+            if ends_in_zero(start.bytes, start.at, count) {
                 None
             } else {
                 Some(ErrorKind::MessageContainsTextThatIsNotNULTerminated)
