@@ -98,7 +98,7 @@ def of_c(text):
         if value.startswith('"'):
             yield name, int(count), bytes_of_c(value)
             continue
-        elements = re.findall(r'\w+', re.sub(r'\bPLACE\((\w+)\)', r'\1', value))
+        elements = re.findall(r'\w+', re.sub(r'\bPLACE\((?:\(const\s+u8\s+\*\))?(\w+)\)', r'\1', value))
         yield name, int(count), [int(it.rstrip('u')) if it[0].isdigit() else it for it in elements]
 
 
