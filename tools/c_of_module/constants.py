@@ -81,9 +81,10 @@ def of_module(text):
         if value.startswith('c"'):
             yield name, count, bytes_of_module(value[2:])
         elif value.startswith('['):
-            elements = re.findall(r'(?:i\d+|ptr) (-?\d+|@(?:"[^"]*"|[-\w.$]+))', value[1:value.index(']')])
+            elements = re.findall(r'(?:i\d+|ptr) (-?\d+|poison|@(?:"[^"]*"|[-\w.$]+))', value[1:value.index(']')])
             size = 0 if kind == 'ptr' else int(kind[1:])
-            yield name, count, [it if it[0] == '@' else int(it) % (1 << size) for it in elements]
+            # what nothing reads is zero in C
+            yield name, count, [it if it[0] == '@' else 0 if it == 'poison' else int(it) % (1 << size) for it in elements]
         else:
             yield name, count, [0] * count
 
