@@ -466,7 +466,7 @@ REFUSED = [BODY.format(it) for it in (
     'define i32 @main(i32 %count, ptr %words) #1 {\nstart:\n  ret i32 %count\n}\n', 'declare i64 @printf(ptr)\n', '$x = comdat any\n', 'module asm "nop"\n',
 ]
 # Changes of the written C that no compiler can tell.
-WRONG_CONSTANTS = (('say \\"hi', 'say \\"ho'), ('4294967295u, 7u', '4294967295u, 6u'), ('{ PLACE(g_row), PLACE(g_zeros) }', '{ PLACE(g_zeros), PLACE(g_row) }'), ('plain[9]', 'plain[10]'),
+WRONG_CONSTANTS = (('say \\"hi', 'say \\"ho'), ('4294967295u, 7u', '4294967295u, 6u'), ('{ PLACE((const u8 *)g_row), PLACE((const u8 *)g_zeros) }', '{ PLACE((const u8 *)g_zeros), PLACE((const u8 *)g_row) }'), ('plain[9]', 'plain[10]'),
                    ('PLACE((const u8 *)g_record + 17)', 'PLACE((const u8 *)g_record + 16)'))
 KNOWN = 'define i64 @test_0(i64 %a, i64 %b) #0 {\nstart:\n  %x = add i64 %a, %b\n  ret i64 %x\n}\n'
 
