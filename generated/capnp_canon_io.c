@@ -74,8 +74,8 @@ l_arm_td:;
     r_47 = ld8(r_w9);
     if (!(r_pv > 1023ull)) { r_km = r_pv; goto l_std_41; }
     u8 r_m5 = std_io_io_buffer_Buffer_flush(slot_4);
-    u64 r_38_1 = ld64(r_e1);
-    if (r_m5 ? (r_38_1 < 1024ull) : 0u) { r_km = r_38_1; goto l_std_41; }
+    u64 r_38 = ld64(r_e1);
+    if (r_m5 ? (r_38 < 1024ull) : 0u) { r_km = r_38; goto l_std_41; }
     goto l_core_pf;
 l_std_41:;
     st8((r_ix + (i64)(r_km)), r_47);
@@ -96,8 +96,8 @@ l_core_pf:;
 l_arm_ku:;
     if (!(r_km > 1022ull)) { r_4x = r_c4; goto l_std_vs; }
     u8 r_m5_1 = std_io_io_buffer_Buffer_flush(slot_4);
-    u64 r_38_3 = ld64(r_e1);
-    if (r_m5_1 ? (r_38_3 < 1024ull) : 0u) { r_4x = r_38_3; goto l_std_vs; }
+    u64 r_38_1 = ld64(r_e1);
+    if (r_m5_1 ? (r_38_1 < 1024ull) : 0u) { r_4x = r_38_1; goto l_std_vs; }
     r_bu = 0u;
     goto l_core_pf_1;
 l_std_vs:;
@@ -133,16 +133,16 @@ l_join_to:;
     u8 r_sw = ld8((slot_1 + 1050));
     u8 r_dd_1 = ld8((slot_1 + 1051));
     u32 r_uq = ld32((slot_1 + 1052));
-    u64 r_38_4 = ld64((slot_1 + 1056));
-    u64 r_38_5 = ld64((slot_1 + 1064));
+    u64 r_38_2 = ld64((slot_1 + 1056));
+    u64 r_38_3 = ld64((slot_1 + 1064));
     mv64(slot_2, (slot_1 + 1072));
     r_jt = r_r5;
     r_qc = r_dd;
     r_yd = r_sw;
     r_x1 = r_dd_1;
     r_g6 = r_uq;
-    r_qc_1 = r_38_4;
-    r_bi = r_38_5;
+    r_qc_1 = r_38_2;
+    r_bi = r_38_3;
     goto l_join_qx;
 l_arm_or:;
     memset(slot_2, 46u, 64);
@@ -288,7 +288,7 @@ void std_io_io_error_Error_from_bytes(u8 *a_1, u8 a_2, u8 a_3, u8 *a_4, u64 a_5,
     u64 t_pq;
     u64 t_bt;
     u64 t_1w;
-    u8 r_47_7;
+    u8 r_47;
     u64 t_6o_1;
     u64 t_pt_1;
     u64 t_ed_1;
@@ -296,7 +296,7 @@ void std_io_io_error_Error_from_bytes(u8 *a_1, u8 a_2, u8 a_3, u8 *a_4, u64 a_5,
     u64 t_pq_1;
     u64 t_bt_1;
     u64 t_1w_1;
-    u8 r_47_15;
+    u8 r_47_1;
     u64 t_6o_2;
     u64 t_pt_2;
     u64 t_ed_2;
@@ -304,7 +304,7 @@ void std_io_io_error_Error_from_bytes(u8 *a_1, u8 a_2, u8 a_3, u8 *a_4, u64 a_5,
     u64 t_pq_2;
     u64 t_bt_2;
     u64 t_1w_2;
-    u8 r_47_23;
+    u8 r_47_2;
     u64 t_6o_3;
     u64 t_pt_3;
     u64 t_ed_3;
@@ -312,7 +312,7 @@ void std_io_io_error_Error_from_bytes(u8 *a_1, u8 a_2, u8 a_3, u8 *a_4, u64 a_5,
     u64 t_pq_3;
     u64 t_bt_3;
     u64 t_1w_3;
-    u8 r_47_31;
+    u8 r_47_3;
     u64 t_6o_4;
     u64 t_pt_4;
     u64 t_ed_4;
@@ -320,7 +320,7 @@ void std_io_io_error_Error_from_bytes(u8 *a_1, u8 a_2, u8 a_3, u8 *a_4, u64 a_5,
     u64 t_pq_4;
     u64 t_bt_4;
     u64 t_1w_4;
-    u8 r_47_39;
+    u8 r_47_4;
     u64 t_6o_5;
     u64 t_pt_5;
     u64 t_ed_5;
@@ -328,7 +328,7 @@ void std_io_io_error_Error_from_bytes(u8 *a_1, u8 a_2, u8 a_3, u8 *a_4, u64 a_5,
     u64 t_pq_5;
     u64 t_bt_5;
     u64 t_1w_5;
-    u8 r_47_47;
+    u8 r_47_5;
     u64 t_6o_6;
     u64 t_pt_6;
     u64 t_ed_6;
@@ -336,7 +336,7 @@ void std_io_io_error_Error_from_bytes(u8 *a_1, u8 a_2, u8 a_3, u8 *a_4, u64 a_5,
     u64 t_pq_6;
     u64 t_bt_6;
     u64 t_1w_6;
-    u8 r_47_55;
+    u8 r_47_6;
     u64 t_6o_7;
     u64 t_pt_7;
     u64 t_ed_7;
@@ -344,7 +344,7 @@ void std_io_io_error_Error_from_bytes(u8 *a_1, u8 a_2, u8 a_3, u8 *a_4, u64 a_5,
     u64 t_pq_7;
     u64 t_bt_7;
     u64 t_1w_7;
-    u8 r_47_63;
+    u8 r_47_7;
     u64 t_6o_8;
     u64 t_pt_8;
     u64 t_ed_8;
@@ -352,7 +352,7 @@ void std_io_io_error_Error_from_bytes(u8 *a_1, u8 a_2, u8 a_3, u8 *a_4, u64 a_5,
     u64 t_pq_8;
     u64 t_bt_8;
     u64 t_1w_8;
-    u8 r_47_71;
+    u8 r_47_8;
     u64 t_6o_9;
     u64 t_pt_9;
     u64 t_ed_9;
@@ -437,7 +437,7 @@ void std_io_io_error_Error_from_bytes(u8 *a_1, u8 a_2, u8 a_3, u8 *a_4, u64 a_5,
     u64 t_bt_9;
     u64 r_zo_1;
     u64 r_jg;
-    u64 r_a3_1;
+    u64 r_a3;
     if (a_5 == 0ull) { r_zo = 0x2e000000ull; r_lj = 11776ull; r_42 = 0x2e00000000000000ull; r_5r = 0x2e0000000000ull; r_pa = 0x2e000000ull; r_7p = 11776ull; r_o8 = 0x2e00000000000000ull; r_bf = 0x2e0000000000ull; r_bp = 0x2e000000ull; r_m3 = 11776ull; r_1s = 0x2e00000000000000ull; r_2r = 0x2e0000000000ull; r_pk = 0x2e000000ull; r_wb = 11776ull; r_3n = 0x2e00000000000000ull; r_bo = 0x2e0000000000ull; r_zs = 0x2e000000ull; r_v3 = 11776ull; r_ua = 0x2e00000000000000ull; r_v9 = 0x2e0000000000ull; r_ps = 0x2e000000ull; r_gi = 11776ull; r_3f = 0x2e00000000000000ull; r_pn = 0x2e0000000000ull; r_je = 0x2e000000ull; r_jk = 11776ull; r_l0 = 0x2e00000000000000ull; r_qi = 0x2e0000000000ull; r_vv = 0x2e000000ull; r_sr = 11776ull; r_qg = 0x2e00000000000000ull; r_q7 = 0x2e0000000000ull; r_58 = 0x2e000000ull; r_6f = 11776ull; r_w2 = 0x2e00000000000000ull; r_mm = 0x2e0000000000ull; r_0r = 0x2e000000ull; r_75 = 11776ull; r_fn = 46u; r_i4 = 0x2e0000ull; r_1t = 0x2e00000000ull; r_a1 = 0x2e000000000000ull; r_cc = 46u; r_5r_1 = 0x2e0000ull; r_og = 0x2e00000000ull; r_7z = 0x2e000000000000ull; r_m1 = 46u; r_nq = 0x2e0000ull; r_7w = 0x2e00000000ull; r_w5 = 0x2e000000000000ull; r_0i = 46u; r_x9 = 0x2e0000ull; r_vm = 0x2e00000000ull; r_4a = 0x2e000000000000ull; r_75_1 = 46u; r_9s = 0x2e0000ull; r_co = 0x2e00000000ull; r_0c = 0x2e000000000000ull; r_9q = 46u; r_zy = 0x2e0000ull; r_ph = 0x2e00000000ull; r_hk = 0x2e000000000000ull; r_tw = 46u; r_hl = 0x2e0000ull; r_7a = 0x2e00000000ull; r_1y = 0x2e000000000000ull; r_if = 46u; r_uk = 0x2e0000ull; r_3d = 0x2e00000000ull; r_6w = 0x2e000000000000ull; r_93 = 46u; r_gg = 0x2e0000ull; r_zt = 0x2e00000000ull; r_m6 = 0x2e000000000000ull; r_jc = 46u; r_vw = 0x2e0000ull; r_xz = 0x2e00000000ull; goto l_std_tz; }
     r_pe = ld8(a_4);
     if (a_5 == 1ull) { r_zo = 0x2e000000ull; r_lj = 11776ull; r_42 = 0x2e00000000000000ull; r_5r = 0x2e0000000000ull; r_pa = 0x2e000000ull; r_7p = 11776ull; r_o8 = 0x2e00000000000000ull; r_bf = 0x2e0000000000ull; r_bp = 0x2e000000ull; r_m3 = 11776ull; r_1s = 0x2e00000000000000ull; r_2r = 0x2e0000000000ull; r_pk = 0x2e000000ull; r_wb = 11776ull; r_3n = 0x2e00000000000000ull; r_bo = 0x2e0000000000ull; r_zs = 0x2e000000ull; r_v3 = 11776ull; r_ua = 0x2e00000000000000ull; r_v9 = 0x2e0000000000ull; r_ps = 0x2e000000ull; r_gi = 11776ull; r_3f = 0x2e00000000000000ull; r_pn = 0x2e0000000000ull; r_je = 0x2e000000ull; r_jk = 11776ull; r_l0 = 0x2e00000000000000ull; r_qi = 0x2e0000000000ull; r_vv = 0x2e000000ull; r_sr = 11776ull; r_qg = 0x2e00000000000000ull; r_q7 = 0x2e0000000000ull; r_58 = 0x2e000000ull; r_6f = 11776ull; r_w2 = 0x2e00000000000000ull; r_mm = 0x2e0000000000ull; r_0r = 0x2e000000ull; r_75 = 11776ull; r_fn = r_pe; r_i4 = 0x2e0000ull; r_1t = 0x2e00000000ull; r_a1 = 0x2e000000000000ull; r_cc = 46u; r_5r_1 = 0x2e0000ull; r_og = 0x2e00000000ull; r_7z = 0x2e000000000000ull; r_m1 = 46u; r_nq = 0x2e0000ull; r_7w = 0x2e00000000ull; r_w5 = 0x2e000000000000ull; r_0i = 46u; r_x9 = 0x2e0000ull; r_vm = 0x2e00000000ull; r_4a = 0x2e000000000000ull; r_75_1 = 46u; r_9s = 0x2e0000ull; r_co = 0x2e00000000ull; r_0c = 0x2e000000000000ull; r_9q = 46u; r_zy = 0x2e0000ull; r_ph = 0x2e00000000ull; r_hk = 0x2e000000000000ull; r_tw = 46u; r_hl = 0x2e0000ull; r_7a = 0x2e00000000ull; r_1y = 0x2e000000000000ull; r_if = 46u; r_uk = 0x2e0000ull; r_3d = 0x2e00000000ull; r_6w = 0x2e000000000000ull; r_93 = 46u; r_gg = 0x2e0000ull; r_zt = 0x2e00000000ull; r_m6 = 0x2e000000000000ull; r_jc = 46u; r_vw = 0x2e0000ull; r_xz = 0x2e00000000ull; goto l_std_tz; }
@@ -455,142 +455,142 @@ void std_io_io_error_Error_from_bytes(u8 *a_1, u8 a_2, u8 a_3, u8 *a_4, u64 a_5,
     if (a_5 == 7ull) { r_zo = 0x2e000000ull; r_lj = 11776ull; r_42 = 0x2e00000000000000ull; r_5r = 0x2e0000000000ull; r_pa = 0x2e000000ull; r_7p = 11776ull; r_o8 = 0x2e00000000000000ull; r_bf = 0x2e0000000000ull; r_bp = 0x2e000000ull; r_m3 = 11776ull; r_1s = 0x2e00000000000000ull; r_2r = 0x2e0000000000ull; r_pk = 0x2e000000ull; r_wb = 11776ull; r_3n = 0x2e00000000000000ull; r_bo = 0x2e0000000000ull; r_zs = 0x2e000000ull; r_v3 = 11776ull; r_ua = 0x2e00000000000000ull; r_v9 = 0x2e0000000000ull; r_ps = 0x2e000000ull; r_gi = 11776ull; r_3f = 0x2e00000000000000ull; r_pn = 0x2e0000000000ull; r_je = 0x2e000000ull; r_jk = 11776ull; r_l0 = 0x2e00000000000000ull; r_qi = 0x2e0000000000ull; r_vv = 0x2e000000ull; r_sr = 11776ull; r_qg = 0x2e00000000000000ull; r_q7 = 0x2e0000000000ull; r_58 = 0x2e000000ull; r_6f = 11776ull; r_w2 = 0x2e00000000000000ull; r_mm = t_pq; r_0r = t_ed; r_75 = t_6o; r_fn = r_pe; r_i4 = t_pt; r_1t = t_ni; r_a1 = t_bt; r_cc = 46u; r_5r_1 = 0x2e0000ull; r_og = 0x2e00000000ull; r_7z = 0x2e000000000000ull; r_m1 = 46u; r_nq = 0x2e0000ull; r_7w = 0x2e00000000ull; r_w5 = 0x2e000000000000ull; r_0i = 46u; r_x9 = 0x2e0000ull; r_vm = 0x2e00000000ull; r_4a = 0x2e000000000000ull; r_75_1 = 46u; r_9s = 0x2e0000ull; r_co = 0x2e00000000ull; r_0c = 0x2e000000000000ull; r_9q = 46u; r_zy = 0x2e0000ull; r_ph = 0x2e00000000ull; r_hk = 0x2e000000000000ull; r_tw = 46u; r_hl = 0x2e0000ull; r_7a = 0x2e00000000ull; r_1y = 0x2e000000000000ull; r_if = 46u; r_uk = 0x2e0000ull; r_3d = 0x2e00000000ull; r_6w = 0x2e000000000000ull; r_93 = 46u; r_gg = 0x2e0000ull; r_zt = 0x2e00000000ull; r_m6 = 0x2e000000000000ull; r_jc = 46u; r_vw = 0x2e0000ull; r_xz = 0x2e00000000ull; goto l_std_tz; }
     t_1w = (u64)((u64)ld8((a_4 + 7)) << 56ull);
     if (!(a_5 > 8ull)) { r_zo = 0x2e000000ull; r_lj = 11776ull; r_42 = 0x2e00000000000000ull; r_5r = 0x2e0000000000ull; r_pa = 0x2e000000ull; r_7p = 11776ull; r_o8 = 0x2e00000000000000ull; r_bf = 0x2e0000000000ull; r_bp = 0x2e000000ull; r_m3 = 11776ull; r_1s = 0x2e00000000000000ull; r_2r = 0x2e0000000000ull; r_pk = 0x2e000000ull; r_wb = 11776ull; r_3n = 0x2e00000000000000ull; r_bo = 0x2e0000000000ull; r_zs = 0x2e000000ull; r_v3 = 11776ull; r_ua = 0x2e00000000000000ull; r_v9 = 0x2e0000000000ull; r_ps = 0x2e000000ull; r_gi = 11776ull; r_3f = 0x2e00000000000000ull; r_pn = 0x2e0000000000ull; r_je = 0x2e000000ull; r_jk = 11776ull; r_l0 = 0x2e00000000000000ull; r_qi = 0x2e0000000000ull; r_vv = 0x2e000000ull; r_sr = 11776ull; r_qg = 0x2e00000000000000ull; r_q7 = 0x2e0000000000ull; r_58 = 0x2e000000ull; r_6f = 11776ull; r_w2 = t_1w; r_mm = t_pq; r_0r = t_ed; r_75 = t_6o; r_fn = r_pe; r_i4 = t_pt; r_1t = t_ni; r_a1 = t_bt; r_cc = 46u; r_5r_1 = 0x2e0000ull; r_og = 0x2e00000000ull; r_7z = 0x2e000000000000ull; r_m1 = 46u; r_nq = 0x2e0000ull; r_7w = 0x2e00000000ull; r_w5 = 0x2e000000000000ull; r_0i = 46u; r_x9 = 0x2e0000ull; r_vm = 0x2e00000000ull; r_4a = 0x2e000000000000ull; r_75_1 = 46u; r_9s = 0x2e0000ull; r_co = 0x2e00000000ull; r_0c = 0x2e000000000000ull; r_9q = 46u; r_zy = 0x2e0000ull; r_ph = 0x2e00000000ull; r_hk = 0x2e000000000000ull; r_tw = 46u; r_hl = 0x2e0000ull; r_7a = 0x2e00000000ull; r_1y = 0x2e000000000000ull; r_if = 46u; r_uk = 0x2e0000ull; r_3d = 0x2e00000000ull; r_6w = 0x2e000000000000ull; r_93 = 46u; r_gg = 0x2e0000ull; r_zt = 0x2e00000000ull; r_m6 = 0x2e000000000000ull; r_jc = 46u; r_vw = 0x2e0000ull; r_xz = 0x2e00000000ull; goto l_std_tz; }
-    r_47_7 = ld8((a_4 + 8));
-    if (a_5 == 9ull) { r_zo = 0x2e000000ull; r_lj = 11776ull; r_42 = 0x2e00000000000000ull; r_5r = 0x2e0000000000ull; r_pa = 0x2e000000ull; r_7p = 11776ull; r_o8 = 0x2e00000000000000ull; r_bf = 0x2e0000000000ull; r_bp = 0x2e000000ull; r_m3 = 11776ull; r_1s = 0x2e00000000000000ull; r_2r = 0x2e0000000000ull; r_pk = 0x2e000000ull; r_wb = 11776ull; r_3n = 0x2e00000000000000ull; r_bo = 0x2e0000000000ull; r_zs = 0x2e000000ull; r_v3 = 11776ull; r_ua = 0x2e00000000000000ull; r_v9 = 0x2e0000000000ull; r_ps = 0x2e000000ull; r_gi = 11776ull; r_3f = 0x2e00000000000000ull; r_pn = 0x2e0000000000ull; r_je = 0x2e000000ull; r_jk = 11776ull; r_l0 = 0x2e00000000000000ull; r_qi = 0x2e0000000000ull; r_vv = 0x2e000000ull; r_sr = 11776ull; r_qg = 0x2e00000000000000ull; r_q7 = 0x2e0000000000ull; r_58 = 0x2e000000ull; r_6f = 11776ull; r_w2 = t_1w; r_mm = t_pq; r_0r = t_ed; r_75 = t_6o; r_fn = r_pe; r_i4 = t_pt; r_1t = t_ni; r_a1 = t_bt; r_cc = r_47_7; r_5r_1 = 0x2e0000ull; r_og = 0x2e00000000ull; r_7z = 0x2e000000000000ull; r_m1 = 46u; r_nq = 0x2e0000ull; r_7w = 0x2e00000000ull; r_w5 = 0x2e000000000000ull; r_0i = 46u; r_x9 = 0x2e0000ull; r_vm = 0x2e00000000ull; r_4a = 0x2e000000000000ull; r_75_1 = 46u; r_9s = 0x2e0000ull; r_co = 0x2e00000000ull; r_0c = 0x2e000000000000ull; r_9q = 46u; r_zy = 0x2e0000ull; r_ph = 0x2e00000000ull; r_hk = 0x2e000000000000ull; r_tw = 46u; r_hl = 0x2e0000ull; r_7a = 0x2e00000000ull; r_1y = 0x2e000000000000ull; r_if = 46u; r_uk = 0x2e0000ull; r_3d = 0x2e00000000ull; r_6w = 0x2e000000000000ull; r_93 = 46u; r_gg = 0x2e0000ull; r_zt = 0x2e00000000ull; r_m6 = 0x2e000000000000ull; r_jc = 46u; r_vw = 0x2e0000ull; r_xz = 0x2e00000000ull; goto l_std_tz; }
+    r_47 = ld8((a_4 + 8));
+    if (a_5 == 9ull) { r_zo = 0x2e000000ull; r_lj = 11776ull; r_42 = 0x2e00000000000000ull; r_5r = 0x2e0000000000ull; r_pa = 0x2e000000ull; r_7p = 11776ull; r_o8 = 0x2e00000000000000ull; r_bf = 0x2e0000000000ull; r_bp = 0x2e000000ull; r_m3 = 11776ull; r_1s = 0x2e00000000000000ull; r_2r = 0x2e0000000000ull; r_pk = 0x2e000000ull; r_wb = 11776ull; r_3n = 0x2e00000000000000ull; r_bo = 0x2e0000000000ull; r_zs = 0x2e000000ull; r_v3 = 11776ull; r_ua = 0x2e00000000000000ull; r_v9 = 0x2e0000000000ull; r_ps = 0x2e000000ull; r_gi = 11776ull; r_3f = 0x2e00000000000000ull; r_pn = 0x2e0000000000ull; r_je = 0x2e000000ull; r_jk = 11776ull; r_l0 = 0x2e00000000000000ull; r_qi = 0x2e0000000000ull; r_vv = 0x2e000000ull; r_sr = 11776ull; r_qg = 0x2e00000000000000ull; r_q7 = 0x2e0000000000ull; r_58 = 0x2e000000ull; r_6f = 11776ull; r_w2 = t_1w; r_mm = t_pq; r_0r = t_ed; r_75 = t_6o; r_fn = r_pe; r_i4 = t_pt; r_1t = t_ni; r_a1 = t_bt; r_cc = r_47; r_5r_1 = 0x2e0000ull; r_og = 0x2e00000000ull; r_7z = 0x2e000000000000ull; r_m1 = 46u; r_nq = 0x2e0000ull; r_7w = 0x2e00000000ull; r_w5 = 0x2e000000000000ull; r_0i = 46u; r_x9 = 0x2e0000ull; r_vm = 0x2e00000000ull; r_4a = 0x2e000000000000ull; r_75_1 = 46u; r_9s = 0x2e0000ull; r_co = 0x2e00000000ull; r_0c = 0x2e000000000000ull; r_9q = 46u; r_zy = 0x2e0000ull; r_ph = 0x2e00000000ull; r_hk = 0x2e000000000000ull; r_tw = 46u; r_hl = 0x2e0000ull; r_7a = 0x2e00000000ull; r_1y = 0x2e000000000000ull; r_if = 46u; r_uk = 0x2e0000ull; r_3d = 0x2e00000000ull; r_6w = 0x2e000000000000ull; r_93 = 46u; r_gg = 0x2e0000ull; r_zt = 0x2e00000000ull; r_m6 = 0x2e000000000000ull; r_jc = 46u; r_vw = 0x2e0000ull; r_xz = 0x2e00000000ull; goto l_std_tz; }
     t_6o_1 = (u64)((u64)ld8((a_4 + 9)) << 8ull);
-    if (!(a_5 > 10ull)) { r_zo = 0x2e000000ull; r_lj = 11776ull; r_42 = 0x2e00000000000000ull; r_5r = 0x2e0000000000ull; r_pa = 0x2e000000ull; r_7p = 11776ull; r_o8 = 0x2e00000000000000ull; r_bf = 0x2e0000000000ull; r_bp = 0x2e000000ull; r_m3 = 11776ull; r_1s = 0x2e00000000000000ull; r_2r = 0x2e0000000000ull; r_pk = 0x2e000000ull; r_wb = 11776ull; r_3n = 0x2e00000000000000ull; r_bo = 0x2e0000000000ull; r_zs = 0x2e000000ull; r_v3 = 11776ull; r_ua = 0x2e00000000000000ull; r_v9 = 0x2e0000000000ull; r_ps = 0x2e000000ull; r_gi = 11776ull; r_3f = 0x2e00000000000000ull; r_pn = 0x2e0000000000ull; r_je = 0x2e000000ull; r_jk = 11776ull; r_l0 = 0x2e00000000000000ull; r_qi = 0x2e0000000000ull; r_vv = 0x2e000000ull; r_sr = 11776ull; r_qg = 0x2e00000000000000ull; r_q7 = 0x2e0000000000ull; r_58 = 0x2e000000ull; r_6f = t_6o_1; r_w2 = t_1w; r_mm = t_pq; r_0r = t_ed; r_75 = t_6o; r_fn = r_pe; r_i4 = t_pt; r_1t = t_ni; r_a1 = t_bt; r_cc = r_47_7; r_5r_1 = 0x2e0000ull; r_og = 0x2e00000000ull; r_7z = 0x2e000000000000ull; r_m1 = 46u; r_nq = 0x2e0000ull; r_7w = 0x2e00000000ull; r_w5 = 0x2e000000000000ull; r_0i = 46u; r_x9 = 0x2e0000ull; r_vm = 0x2e00000000ull; r_4a = 0x2e000000000000ull; r_75_1 = 46u; r_9s = 0x2e0000ull; r_co = 0x2e00000000ull; r_0c = 0x2e000000000000ull; r_9q = 46u; r_zy = 0x2e0000ull; r_ph = 0x2e00000000ull; r_hk = 0x2e000000000000ull; r_tw = 46u; r_hl = 0x2e0000ull; r_7a = 0x2e00000000ull; r_1y = 0x2e000000000000ull; r_if = 46u; r_uk = 0x2e0000ull; r_3d = 0x2e00000000ull; r_6w = 0x2e000000000000ull; r_93 = 46u; r_gg = 0x2e0000ull; r_zt = 0x2e00000000ull; r_m6 = 0x2e000000000000ull; r_jc = 46u; r_vw = 0x2e0000ull; r_xz = 0x2e00000000ull; goto l_std_tz; }
+    if (!(a_5 > 10ull)) { r_zo = 0x2e000000ull; r_lj = 11776ull; r_42 = 0x2e00000000000000ull; r_5r = 0x2e0000000000ull; r_pa = 0x2e000000ull; r_7p = 11776ull; r_o8 = 0x2e00000000000000ull; r_bf = 0x2e0000000000ull; r_bp = 0x2e000000ull; r_m3 = 11776ull; r_1s = 0x2e00000000000000ull; r_2r = 0x2e0000000000ull; r_pk = 0x2e000000ull; r_wb = 11776ull; r_3n = 0x2e00000000000000ull; r_bo = 0x2e0000000000ull; r_zs = 0x2e000000ull; r_v3 = 11776ull; r_ua = 0x2e00000000000000ull; r_v9 = 0x2e0000000000ull; r_ps = 0x2e000000ull; r_gi = 11776ull; r_3f = 0x2e00000000000000ull; r_pn = 0x2e0000000000ull; r_je = 0x2e000000ull; r_jk = 11776ull; r_l0 = 0x2e00000000000000ull; r_qi = 0x2e0000000000ull; r_vv = 0x2e000000ull; r_sr = 11776ull; r_qg = 0x2e00000000000000ull; r_q7 = 0x2e0000000000ull; r_58 = 0x2e000000ull; r_6f = t_6o_1; r_w2 = t_1w; r_mm = t_pq; r_0r = t_ed; r_75 = t_6o; r_fn = r_pe; r_i4 = t_pt; r_1t = t_ni; r_a1 = t_bt; r_cc = r_47; r_5r_1 = 0x2e0000ull; r_og = 0x2e00000000ull; r_7z = 0x2e000000000000ull; r_m1 = 46u; r_nq = 0x2e0000ull; r_7w = 0x2e00000000ull; r_w5 = 0x2e000000000000ull; r_0i = 46u; r_x9 = 0x2e0000ull; r_vm = 0x2e00000000ull; r_4a = 0x2e000000000000ull; r_75_1 = 46u; r_9s = 0x2e0000ull; r_co = 0x2e00000000ull; r_0c = 0x2e000000000000ull; r_9q = 46u; r_zy = 0x2e0000ull; r_ph = 0x2e00000000ull; r_hk = 0x2e000000000000ull; r_tw = 46u; r_hl = 0x2e0000ull; r_7a = 0x2e00000000ull; r_1y = 0x2e000000000000ull; r_if = 46u; r_uk = 0x2e0000ull; r_3d = 0x2e00000000ull; r_6w = 0x2e000000000000ull; r_93 = 46u; r_gg = 0x2e0000ull; r_zt = 0x2e00000000ull; r_m6 = 0x2e000000000000ull; r_jc = 46u; r_vw = 0x2e0000ull; r_xz = 0x2e00000000ull; goto l_std_tz; }
     t_pt_1 = (u64)((u64)ld8((a_4 + 10)) << 16ull);
-    if (a_5 == 11ull) { r_zo = 0x2e000000ull; r_lj = 11776ull; r_42 = 0x2e00000000000000ull; r_5r = 0x2e0000000000ull; r_pa = 0x2e000000ull; r_7p = 11776ull; r_o8 = 0x2e00000000000000ull; r_bf = 0x2e0000000000ull; r_bp = 0x2e000000ull; r_m3 = 11776ull; r_1s = 0x2e00000000000000ull; r_2r = 0x2e0000000000ull; r_pk = 0x2e000000ull; r_wb = 11776ull; r_3n = 0x2e00000000000000ull; r_bo = 0x2e0000000000ull; r_zs = 0x2e000000ull; r_v3 = 11776ull; r_ua = 0x2e00000000000000ull; r_v9 = 0x2e0000000000ull; r_ps = 0x2e000000ull; r_gi = 11776ull; r_3f = 0x2e00000000000000ull; r_pn = 0x2e0000000000ull; r_je = 0x2e000000ull; r_jk = 11776ull; r_l0 = 0x2e00000000000000ull; r_qi = 0x2e0000000000ull; r_vv = 0x2e000000ull; r_sr = 11776ull; r_qg = 0x2e00000000000000ull; r_q7 = 0x2e0000000000ull; r_58 = 0x2e000000ull; r_6f = t_6o_1; r_w2 = t_1w; r_mm = t_pq; r_0r = t_ed; r_75 = t_6o; r_fn = r_pe; r_i4 = t_pt; r_1t = t_ni; r_a1 = t_bt; r_cc = r_47_7; r_5r_1 = t_pt_1; r_og = 0x2e00000000ull; r_7z = 0x2e000000000000ull; r_m1 = 46u; r_nq = 0x2e0000ull; r_7w = 0x2e00000000ull; r_w5 = 0x2e000000000000ull; r_0i = 46u; r_x9 = 0x2e0000ull; r_vm = 0x2e00000000ull; r_4a = 0x2e000000000000ull; r_75_1 = 46u; r_9s = 0x2e0000ull; r_co = 0x2e00000000ull; r_0c = 0x2e000000000000ull; r_9q = 46u; r_zy = 0x2e0000ull; r_ph = 0x2e00000000ull; r_hk = 0x2e000000000000ull; r_tw = 46u; r_hl = 0x2e0000ull; r_7a = 0x2e00000000ull; r_1y = 0x2e000000000000ull; r_if = 46u; r_uk = 0x2e0000ull; r_3d = 0x2e00000000ull; r_6w = 0x2e000000000000ull; r_93 = 46u; r_gg = 0x2e0000ull; r_zt = 0x2e00000000ull; r_m6 = 0x2e000000000000ull; r_jc = 46u; r_vw = 0x2e0000ull; r_xz = 0x2e00000000ull; goto l_std_tz; }
+    if (a_5 == 11ull) { r_zo = 0x2e000000ull; r_lj = 11776ull; r_42 = 0x2e00000000000000ull; r_5r = 0x2e0000000000ull; r_pa = 0x2e000000ull; r_7p = 11776ull; r_o8 = 0x2e00000000000000ull; r_bf = 0x2e0000000000ull; r_bp = 0x2e000000ull; r_m3 = 11776ull; r_1s = 0x2e00000000000000ull; r_2r = 0x2e0000000000ull; r_pk = 0x2e000000ull; r_wb = 11776ull; r_3n = 0x2e00000000000000ull; r_bo = 0x2e0000000000ull; r_zs = 0x2e000000ull; r_v3 = 11776ull; r_ua = 0x2e00000000000000ull; r_v9 = 0x2e0000000000ull; r_ps = 0x2e000000ull; r_gi = 11776ull; r_3f = 0x2e00000000000000ull; r_pn = 0x2e0000000000ull; r_je = 0x2e000000ull; r_jk = 11776ull; r_l0 = 0x2e00000000000000ull; r_qi = 0x2e0000000000ull; r_vv = 0x2e000000ull; r_sr = 11776ull; r_qg = 0x2e00000000000000ull; r_q7 = 0x2e0000000000ull; r_58 = 0x2e000000ull; r_6f = t_6o_1; r_w2 = t_1w; r_mm = t_pq; r_0r = t_ed; r_75 = t_6o; r_fn = r_pe; r_i4 = t_pt; r_1t = t_ni; r_a1 = t_bt; r_cc = r_47; r_5r_1 = t_pt_1; r_og = 0x2e00000000ull; r_7z = 0x2e000000000000ull; r_m1 = 46u; r_nq = 0x2e0000ull; r_7w = 0x2e00000000ull; r_w5 = 0x2e000000000000ull; r_0i = 46u; r_x9 = 0x2e0000ull; r_vm = 0x2e00000000ull; r_4a = 0x2e000000000000ull; r_75_1 = 46u; r_9s = 0x2e0000ull; r_co = 0x2e00000000ull; r_0c = 0x2e000000000000ull; r_9q = 46u; r_zy = 0x2e0000ull; r_ph = 0x2e00000000ull; r_hk = 0x2e000000000000ull; r_tw = 46u; r_hl = 0x2e0000ull; r_7a = 0x2e00000000ull; r_1y = 0x2e000000000000ull; r_if = 46u; r_uk = 0x2e0000ull; r_3d = 0x2e00000000ull; r_6w = 0x2e000000000000ull; r_93 = 46u; r_gg = 0x2e0000ull; r_zt = 0x2e00000000ull; r_m6 = 0x2e000000000000ull; r_jc = 46u; r_vw = 0x2e0000ull; r_xz = 0x2e00000000ull; goto l_std_tz; }
     t_ed_1 = (u64)((u64)ld8((a_4 + 11)) << 24ull);
-    if (!(a_5 > 12ull)) { r_zo = 0x2e000000ull; r_lj = 11776ull; r_42 = 0x2e00000000000000ull; r_5r = 0x2e0000000000ull; r_pa = 0x2e000000ull; r_7p = 11776ull; r_o8 = 0x2e00000000000000ull; r_bf = 0x2e0000000000ull; r_bp = 0x2e000000ull; r_m3 = 11776ull; r_1s = 0x2e00000000000000ull; r_2r = 0x2e0000000000ull; r_pk = 0x2e000000ull; r_wb = 11776ull; r_3n = 0x2e00000000000000ull; r_bo = 0x2e0000000000ull; r_zs = 0x2e000000ull; r_v3 = 11776ull; r_ua = 0x2e00000000000000ull; r_v9 = 0x2e0000000000ull; r_ps = 0x2e000000ull; r_gi = 11776ull; r_3f = 0x2e00000000000000ull; r_pn = 0x2e0000000000ull; r_je = 0x2e000000ull; r_jk = 11776ull; r_l0 = 0x2e00000000000000ull; r_qi = 0x2e0000000000ull; r_vv = 0x2e000000ull; r_sr = 11776ull; r_qg = 0x2e00000000000000ull; r_q7 = 0x2e0000000000ull; r_58 = t_ed_1; r_6f = t_6o_1; r_w2 = t_1w; r_mm = t_pq; r_0r = t_ed; r_75 = t_6o; r_fn = r_pe; r_i4 = t_pt; r_1t = t_ni; r_a1 = t_bt; r_cc = r_47_7; r_5r_1 = t_pt_1; r_og = 0x2e00000000ull; r_7z = 0x2e000000000000ull; r_m1 = 46u; r_nq = 0x2e0000ull; r_7w = 0x2e00000000ull; r_w5 = 0x2e000000000000ull; r_0i = 46u; r_x9 = 0x2e0000ull; r_vm = 0x2e00000000ull; r_4a = 0x2e000000000000ull; r_75_1 = 46u; r_9s = 0x2e0000ull; r_co = 0x2e00000000ull; r_0c = 0x2e000000000000ull; r_9q = 46u; r_zy = 0x2e0000ull; r_ph = 0x2e00000000ull; r_hk = 0x2e000000000000ull; r_tw = 46u; r_hl = 0x2e0000ull; r_7a = 0x2e00000000ull; r_1y = 0x2e000000000000ull; r_if = 46u; r_uk = 0x2e0000ull; r_3d = 0x2e00000000ull; r_6w = 0x2e000000000000ull; r_93 = 46u; r_gg = 0x2e0000ull; r_zt = 0x2e00000000ull; r_m6 = 0x2e000000000000ull; r_jc = 46u; r_vw = 0x2e0000ull; r_xz = 0x2e00000000ull; goto l_std_tz; }
+    if (!(a_5 > 12ull)) { r_zo = 0x2e000000ull; r_lj = 11776ull; r_42 = 0x2e00000000000000ull; r_5r = 0x2e0000000000ull; r_pa = 0x2e000000ull; r_7p = 11776ull; r_o8 = 0x2e00000000000000ull; r_bf = 0x2e0000000000ull; r_bp = 0x2e000000ull; r_m3 = 11776ull; r_1s = 0x2e00000000000000ull; r_2r = 0x2e0000000000ull; r_pk = 0x2e000000ull; r_wb = 11776ull; r_3n = 0x2e00000000000000ull; r_bo = 0x2e0000000000ull; r_zs = 0x2e000000ull; r_v3 = 11776ull; r_ua = 0x2e00000000000000ull; r_v9 = 0x2e0000000000ull; r_ps = 0x2e000000ull; r_gi = 11776ull; r_3f = 0x2e00000000000000ull; r_pn = 0x2e0000000000ull; r_je = 0x2e000000ull; r_jk = 11776ull; r_l0 = 0x2e00000000000000ull; r_qi = 0x2e0000000000ull; r_vv = 0x2e000000ull; r_sr = 11776ull; r_qg = 0x2e00000000000000ull; r_q7 = 0x2e0000000000ull; r_58 = t_ed_1; r_6f = t_6o_1; r_w2 = t_1w; r_mm = t_pq; r_0r = t_ed; r_75 = t_6o; r_fn = r_pe; r_i4 = t_pt; r_1t = t_ni; r_a1 = t_bt; r_cc = r_47; r_5r_1 = t_pt_1; r_og = 0x2e00000000ull; r_7z = 0x2e000000000000ull; r_m1 = 46u; r_nq = 0x2e0000ull; r_7w = 0x2e00000000ull; r_w5 = 0x2e000000000000ull; r_0i = 46u; r_x9 = 0x2e0000ull; r_vm = 0x2e00000000ull; r_4a = 0x2e000000000000ull; r_75_1 = 46u; r_9s = 0x2e0000ull; r_co = 0x2e00000000ull; r_0c = 0x2e000000000000ull; r_9q = 46u; r_zy = 0x2e0000ull; r_ph = 0x2e00000000ull; r_hk = 0x2e000000000000ull; r_tw = 46u; r_hl = 0x2e0000ull; r_7a = 0x2e00000000ull; r_1y = 0x2e000000000000ull; r_if = 46u; r_uk = 0x2e0000ull; r_3d = 0x2e00000000ull; r_6w = 0x2e000000000000ull; r_93 = 46u; r_gg = 0x2e0000ull; r_zt = 0x2e00000000ull; r_m6 = 0x2e000000000000ull; r_jc = 46u; r_vw = 0x2e0000ull; r_xz = 0x2e00000000ull; goto l_std_tz; }
     t_ni_1 = (u64)((u64)ld8((a_4 + 12)) << 32ull);
-    if (a_5 == 13ull) { r_zo = 0x2e000000ull; r_lj = 11776ull; r_42 = 0x2e00000000000000ull; r_5r = 0x2e0000000000ull; r_pa = 0x2e000000ull; r_7p = 11776ull; r_o8 = 0x2e00000000000000ull; r_bf = 0x2e0000000000ull; r_bp = 0x2e000000ull; r_m3 = 11776ull; r_1s = 0x2e00000000000000ull; r_2r = 0x2e0000000000ull; r_pk = 0x2e000000ull; r_wb = 11776ull; r_3n = 0x2e00000000000000ull; r_bo = 0x2e0000000000ull; r_zs = 0x2e000000ull; r_v3 = 11776ull; r_ua = 0x2e00000000000000ull; r_v9 = 0x2e0000000000ull; r_ps = 0x2e000000ull; r_gi = 11776ull; r_3f = 0x2e00000000000000ull; r_pn = 0x2e0000000000ull; r_je = 0x2e000000ull; r_jk = 11776ull; r_l0 = 0x2e00000000000000ull; r_qi = 0x2e0000000000ull; r_vv = 0x2e000000ull; r_sr = 11776ull; r_qg = 0x2e00000000000000ull; r_q7 = 0x2e0000000000ull; r_58 = t_ed_1; r_6f = t_6o_1; r_w2 = t_1w; r_mm = t_pq; r_0r = t_ed; r_75 = t_6o; r_fn = r_pe; r_i4 = t_pt; r_1t = t_ni; r_a1 = t_bt; r_cc = r_47_7; r_5r_1 = t_pt_1; r_og = t_ni_1; r_7z = 0x2e000000000000ull; r_m1 = 46u; r_nq = 0x2e0000ull; r_7w = 0x2e00000000ull; r_w5 = 0x2e000000000000ull; r_0i = 46u; r_x9 = 0x2e0000ull; r_vm = 0x2e00000000ull; r_4a = 0x2e000000000000ull; r_75_1 = 46u; r_9s = 0x2e0000ull; r_co = 0x2e00000000ull; r_0c = 0x2e000000000000ull; r_9q = 46u; r_zy = 0x2e0000ull; r_ph = 0x2e00000000ull; r_hk = 0x2e000000000000ull; r_tw = 46u; r_hl = 0x2e0000ull; r_7a = 0x2e00000000ull; r_1y = 0x2e000000000000ull; r_if = 46u; r_uk = 0x2e0000ull; r_3d = 0x2e00000000ull; r_6w = 0x2e000000000000ull; r_93 = 46u; r_gg = 0x2e0000ull; r_zt = 0x2e00000000ull; r_m6 = 0x2e000000000000ull; r_jc = 46u; r_vw = 0x2e0000ull; r_xz = 0x2e00000000ull; goto l_std_tz; }
+    if (a_5 == 13ull) { r_zo = 0x2e000000ull; r_lj = 11776ull; r_42 = 0x2e00000000000000ull; r_5r = 0x2e0000000000ull; r_pa = 0x2e000000ull; r_7p = 11776ull; r_o8 = 0x2e00000000000000ull; r_bf = 0x2e0000000000ull; r_bp = 0x2e000000ull; r_m3 = 11776ull; r_1s = 0x2e00000000000000ull; r_2r = 0x2e0000000000ull; r_pk = 0x2e000000ull; r_wb = 11776ull; r_3n = 0x2e00000000000000ull; r_bo = 0x2e0000000000ull; r_zs = 0x2e000000ull; r_v3 = 11776ull; r_ua = 0x2e00000000000000ull; r_v9 = 0x2e0000000000ull; r_ps = 0x2e000000ull; r_gi = 11776ull; r_3f = 0x2e00000000000000ull; r_pn = 0x2e0000000000ull; r_je = 0x2e000000ull; r_jk = 11776ull; r_l0 = 0x2e00000000000000ull; r_qi = 0x2e0000000000ull; r_vv = 0x2e000000ull; r_sr = 11776ull; r_qg = 0x2e00000000000000ull; r_q7 = 0x2e0000000000ull; r_58 = t_ed_1; r_6f = t_6o_1; r_w2 = t_1w; r_mm = t_pq; r_0r = t_ed; r_75 = t_6o; r_fn = r_pe; r_i4 = t_pt; r_1t = t_ni; r_a1 = t_bt; r_cc = r_47; r_5r_1 = t_pt_1; r_og = t_ni_1; r_7z = 0x2e000000000000ull; r_m1 = 46u; r_nq = 0x2e0000ull; r_7w = 0x2e00000000ull; r_w5 = 0x2e000000000000ull; r_0i = 46u; r_x9 = 0x2e0000ull; r_vm = 0x2e00000000ull; r_4a = 0x2e000000000000ull; r_75_1 = 46u; r_9s = 0x2e0000ull; r_co = 0x2e00000000ull; r_0c = 0x2e000000000000ull; r_9q = 46u; r_zy = 0x2e0000ull; r_ph = 0x2e00000000ull; r_hk = 0x2e000000000000ull; r_tw = 46u; r_hl = 0x2e0000ull; r_7a = 0x2e00000000ull; r_1y = 0x2e000000000000ull; r_if = 46u; r_uk = 0x2e0000ull; r_3d = 0x2e00000000ull; r_6w = 0x2e000000000000ull; r_93 = 46u; r_gg = 0x2e0000ull; r_zt = 0x2e00000000ull; r_m6 = 0x2e000000000000ull; r_jc = 46u; r_vw = 0x2e0000ull; r_xz = 0x2e00000000ull; goto l_std_tz; }
     t_pq_1 = (u64)((u64)ld8((a_4 + 13)) << 40ull);
-    if (!(a_5 > 14ull)) { r_zo = 0x2e000000ull; r_lj = 11776ull; r_42 = 0x2e00000000000000ull; r_5r = 0x2e0000000000ull; r_pa = 0x2e000000ull; r_7p = 11776ull; r_o8 = 0x2e00000000000000ull; r_bf = 0x2e0000000000ull; r_bp = 0x2e000000ull; r_m3 = 11776ull; r_1s = 0x2e00000000000000ull; r_2r = 0x2e0000000000ull; r_pk = 0x2e000000ull; r_wb = 11776ull; r_3n = 0x2e00000000000000ull; r_bo = 0x2e0000000000ull; r_zs = 0x2e000000ull; r_v3 = 11776ull; r_ua = 0x2e00000000000000ull; r_v9 = 0x2e0000000000ull; r_ps = 0x2e000000ull; r_gi = 11776ull; r_3f = 0x2e00000000000000ull; r_pn = 0x2e0000000000ull; r_je = 0x2e000000ull; r_jk = 11776ull; r_l0 = 0x2e00000000000000ull; r_qi = 0x2e0000000000ull; r_vv = 0x2e000000ull; r_sr = 11776ull; r_qg = 0x2e00000000000000ull; r_q7 = t_pq_1; r_58 = t_ed_1; r_6f = t_6o_1; r_w2 = t_1w; r_mm = t_pq; r_0r = t_ed; r_75 = t_6o; r_fn = r_pe; r_i4 = t_pt; r_1t = t_ni; r_a1 = t_bt; r_cc = r_47_7; r_5r_1 = t_pt_1; r_og = t_ni_1; r_7z = 0x2e000000000000ull; r_m1 = 46u; r_nq = 0x2e0000ull; r_7w = 0x2e00000000ull; r_w5 = 0x2e000000000000ull; r_0i = 46u; r_x9 = 0x2e0000ull; r_vm = 0x2e00000000ull; r_4a = 0x2e000000000000ull; r_75_1 = 46u; r_9s = 0x2e0000ull; r_co = 0x2e00000000ull; r_0c = 0x2e000000000000ull; r_9q = 46u; r_zy = 0x2e0000ull; r_ph = 0x2e00000000ull; r_hk = 0x2e000000000000ull; r_tw = 46u; r_hl = 0x2e0000ull; r_7a = 0x2e00000000ull; r_1y = 0x2e000000000000ull; r_if = 46u; r_uk = 0x2e0000ull; r_3d = 0x2e00000000ull; r_6w = 0x2e000000000000ull; r_93 = 46u; r_gg = 0x2e0000ull; r_zt = 0x2e00000000ull; r_m6 = 0x2e000000000000ull; r_jc = 46u; r_vw = 0x2e0000ull; r_xz = 0x2e00000000ull; goto l_std_tz; }
+    if (!(a_5 > 14ull)) { r_zo = 0x2e000000ull; r_lj = 11776ull; r_42 = 0x2e00000000000000ull; r_5r = 0x2e0000000000ull; r_pa = 0x2e000000ull; r_7p = 11776ull; r_o8 = 0x2e00000000000000ull; r_bf = 0x2e0000000000ull; r_bp = 0x2e000000ull; r_m3 = 11776ull; r_1s = 0x2e00000000000000ull; r_2r = 0x2e0000000000ull; r_pk = 0x2e000000ull; r_wb = 11776ull; r_3n = 0x2e00000000000000ull; r_bo = 0x2e0000000000ull; r_zs = 0x2e000000ull; r_v3 = 11776ull; r_ua = 0x2e00000000000000ull; r_v9 = 0x2e0000000000ull; r_ps = 0x2e000000ull; r_gi = 11776ull; r_3f = 0x2e00000000000000ull; r_pn = 0x2e0000000000ull; r_je = 0x2e000000ull; r_jk = 11776ull; r_l0 = 0x2e00000000000000ull; r_qi = 0x2e0000000000ull; r_vv = 0x2e000000ull; r_sr = 11776ull; r_qg = 0x2e00000000000000ull; r_q7 = t_pq_1; r_58 = t_ed_1; r_6f = t_6o_1; r_w2 = t_1w; r_mm = t_pq; r_0r = t_ed; r_75 = t_6o; r_fn = r_pe; r_i4 = t_pt; r_1t = t_ni; r_a1 = t_bt; r_cc = r_47; r_5r_1 = t_pt_1; r_og = t_ni_1; r_7z = 0x2e000000000000ull; r_m1 = 46u; r_nq = 0x2e0000ull; r_7w = 0x2e00000000ull; r_w5 = 0x2e000000000000ull; r_0i = 46u; r_x9 = 0x2e0000ull; r_vm = 0x2e00000000ull; r_4a = 0x2e000000000000ull; r_75_1 = 46u; r_9s = 0x2e0000ull; r_co = 0x2e00000000ull; r_0c = 0x2e000000000000ull; r_9q = 46u; r_zy = 0x2e0000ull; r_ph = 0x2e00000000ull; r_hk = 0x2e000000000000ull; r_tw = 46u; r_hl = 0x2e0000ull; r_7a = 0x2e00000000ull; r_1y = 0x2e000000000000ull; r_if = 46u; r_uk = 0x2e0000ull; r_3d = 0x2e00000000ull; r_6w = 0x2e000000000000ull; r_93 = 46u; r_gg = 0x2e0000ull; r_zt = 0x2e00000000ull; r_m6 = 0x2e000000000000ull; r_jc = 46u; r_vw = 0x2e0000ull; r_xz = 0x2e00000000ull; goto l_std_tz; }
     t_bt_1 = (u64)((u64)ld8((a_4 + 14)) << 48ull);
-    if (a_5 == 15ull) { r_zo = 0x2e000000ull; r_lj = 11776ull; r_42 = 0x2e00000000000000ull; r_5r = 0x2e0000000000ull; r_pa = 0x2e000000ull; r_7p = 11776ull; r_o8 = 0x2e00000000000000ull; r_bf = 0x2e0000000000ull; r_bp = 0x2e000000ull; r_m3 = 11776ull; r_1s = 0x2e00000000000000ull; r_2r = 0x2e0000000000ull; r_pk = 0x2e000000ull; r_wb = 11776ull; r_3n = 0x2e00000000000000ull; r_bo = 0x2e0000000000ull; r_zs = 0x2e000000ull; r_v3 = 11776ull; r_ua = 0x2e00000000000000ull; r_v9 = 0x2e0000000000ull; r_ps = 0x2e000000ull; r_gi = 11776ull; r_3f = 0x2e00000000000000ull; r_pn = 0x2e0000000000ull; r_je = 0x2e000000ull; r_jk = 11776ull; r_l0 = 0x2e00000000000000ull; r_qi = 0x2e0000000000ull; r_vv = 0x2e000000ull; r_sr = 11776ull; r_qg = 0x2e00000000000000ull; r_q7 = t_pq_1; r_58 = t_ed_1; r_6f = t_6o_1; r_w2 = t_1w; r_mm = t_pq; r_0r = t_ed; r_75 = t_6o; r_fn = r_pe; r_i4 = t_pt; r_1t = t_ni; r_a1 = t_bt; r_cc = r_47_7; r_5r_1 = t_pt_1; r_og = t_ni_1; r_7z = t_bt_1; r_m1 = 46u; r_nq = 0x2e0000ull; r_7w = 0x2e00000000ull; r_w5 = 0x2e000000000000ull; r_0i = 46u; r_x9 = 0x2e0000ull; r_vm = 0x2e00000000ull; r_4a = 0x2e000000000000ull; r_75_1 = 46u; r_9s = 0x2e0000ull; r_co = 0x2e00000000ull; r_0c = 0x2e000000000000ull; r_9q = 46u; r_zy = 0x2e0000ull; r_ph = 0x2e00000000ull; r_hk = 0x2e000000000000ull; r_tw = 46u; r_hl = 0x2e0000ull; r_7a = 0x2e00000000ull; r_1y = 0x2e000000000000ull; r_if = 46u; r_uk = 0x2e0000ull; r_3d = 0x2e00000000ull; r_6w = 0x2e000000000000ull; r_93 = 46u; r_gg = 0x2e0000ull; r_zt = 0x2e00000000ull; r_m6 = 0x2e000000000000ull; r_jc = 46u; r_vw = 0x2e0000ull; r_xz = 0x2e00000000ull; goto l_std_tz; }
+    if (a_5 == 15ull) { r_zo = 0x2e000000ull; r_lj = 11776ull; r_42 = 0x2e00000000000000ull; r_5r = 0x2e0000000000ull; r_pa = 0x2e000000ull; r_7p = 11776ull; r_o8 = 0x2e00000000000000ull; r_bf = 0x2e0000000000ull; r_bp = 0x2e000000ull; r_m3 = 11776ull; r_1s = 0x2e00000000000000ull; r_2r = 0x2e0000000000ull; r_pk = 0x2e000000ull; r_wb = 11776ull; r_3n = 0x2e00000000000000ull; r_bo = 0x2e0000000000ull; r_zs = 0x2e000000ull; r_v3 = 11776ull; r_ua = 0x2e00000000000000ull; r_v9 = 0x2e0000000000ull; r_ps = 0x2e000000ull; r_gi = 11776ull; r_3f = 0x2e00000000000000ull; r_pn = 0x2e0000000000ull; r_je = 0x2e000000ull; r_jk = 11776ull; r_l0 = 0x2e00000000000000ull; r_qi = 0x2e0000000000ull; r_vv = 0x2e000000ull; r_sr = 11776ull; r_qg = 0x2e00000000000000ull; r_q7 = t_pq_1; r_58 = t_ed_1; r_6f = t_6o_1; r_w2 = t_1w; r_mm = t_pq; r_0r = t_ed; r_75 = t_6o; r_fn = r_pe; r_i4 = t_pt; r_1t = t_ni; r_a1 = t_bt; r_cc = r_47; r_5r_1 = t_pt_1; r_og = t_ni_1; r_7z = t_bt_1; r_m1 = 46u; r_nq = 0x2e0000ull; r_7w = 0x2e00000000ull; r_w5 = 0x2e000000000000ull; r_0i = 46u; r_x9 = 0x2e0000ull; r_vm = 0x2e00000000ull; r_4a = 0x2e000000000000ull; r_75_1 = 46u; r_9s = 0x2e0000ull; r_co = 0x2e00000000ull; r_0c = 0x2e000000000000ull; r_9q = 46u; r_zy = 0x2e0000ull; r_ph = 0x2e00000000ull; r_hk = 0x2e000000000000ull; r_tw = 46u; r_hl = 0x2e0000ull; r_7a = 0x2e00000000ull; r_1y = 0x2e000000000000ull; r_if = 46u; r_uk = 0x2e0000ull; r_3d = 0x2e00000000ull; r_6w = 0x2e000000000000ull; r_93 = 46u; r_gg = 0x2e0000ull; r_zt = 0x2e00000000ull; r_m6 = 0x2e000000000000ull; r_jc = 46u; r_vw = 0x2e0000ull; r_xz = 0x2e00000000ull; goto l_std_tz; }
     t_1w_1 = (u64)((u64)ld8((a_4 + 15)) << 56ull);
-    if (!(a_5 > 16ull)) { r_zo = 0x2e000000ull; r_lj = 11776ull; r_42 = 0x2e00000000000000ull; r_5r = 0x2e0000000000ull; r_pa = 0x2e000000ull; r_7p = 11776ull; r_o8 = 0x2e00000000000000ull; r_bf = 0x2e0000000000ull; r_bp = 0x2e000000ull; r_m3 = 11776ull; r_1s = 0x2e00000000000000ull; r_2r = 0x2e0000000000ull; r_pk = 0x2e000000ull; r_wb = 11776ull; r_3n = 0x2e00000000000000ull; r_bo = 0x2e0000000000ull; r_zs = 0x2e000000ull; r_v3 = 11776ull; r_ua = 0x2e00000000000000ull; r_v9 = 0x2e0000000000ull; r_ps = 0x2e000000ull; r_gi = 11776ull; r_3f = 0x2e00000000000000ull; r_pn = 0x2e0000000000ull; r_je = 0x2e000000ull; r_jk = 11776ull; r_l0 = 0x2e00000000000000ull; r_qi = 0x2e0000000000ull; r_vv = 0x2e000000ull; r_sr = 11776ull; r_qg = t_1w_1; r_q7 = t_pq_1; r_58 = t_ed_1; r_6f = t_6o_1; r_w2 = t_1w; r_mm = t_pq; r_0r = t_ed; r_75 = t_6o; r_fn = r_pe; r_i4 = t_pt; r_1t = t_ni; r_a1 = t_bt; r_cc = r_47_7; r_5r_1 = t_pt_1; r_og = t_ni_1; r_7z = t_bt_1; r_m1 = 46u; r_nq = 0x2e0000ull; r_7w = 0x2e00000000ull; r_w5 = 0x2e000000000000ull; r_0i = 46u; r_x9 = 0x2e0000ull; r_vm = 0x2e00000000ull; r_4a = 0x2e000000000000ull; r_75_1 = 46u; r_9s = 0x2e0000ull; r_co = 0x2e00000000ull; r_0c = 0x2e000000000000ull; r_9q = 46u; r_zy = 0x2e0000ull; r_ph = 0x2e00000000ull; r_hk = 0x2e000000000000ull; r_tw = 46u; r_hl = 0x2e0000ull; r_7a = 0x2e00000000ull; r_1y = 0x2e000000000000ull; r_if = 46u; r_uk = 0x2e0000ull; r_3d = 0x2e00000000ull; r_6w = 0x2e000000000000ull; r_93 = 46u; r_gg = 0x2e0000ull; r_zt = 0x2e00000000ull; r_m6 = 0x2e000000000000ull; r_jc = 46u; r_vw = 0x2e0000ull; r_xz = 0x2e00000000ull; goto l_std_tz; }
-    r_47_15 = ld8((a_4 + 16));
-    if (a_5 == 17ull) { r_zo = 0x2e000000ull; r_lj = 11776ull; r_42 = 0x2e00000000000000ull; r_5r = 0x2e0000000000ull; r_pa = 0x2e000000ull; r_7p = 11776ull; r_o8 = 0x2e00000000000000ull; r_bf = 0x2e0000000000ull; r_bp = 0x2e000000ull; r_m3 = 11776ull; r_1s = 0x2e00000000000000ull; r_2r = 0x2e0000000000ull; r_pk = 0x2e000000ull; r_wb = 11776ull; r_3n = 0x2e00000000000000ull; r_bo = 0x2e0000000000ull; r_zs = 0x2e000000ull; r_v3 = 11776ull; r_ua = 0x2e00000000000000ull; r_v9 = 0x2e0000000000ull; r_ps = 0x2e000000ull; r_gi = 11776ull; r_3f = 0x2e00000000000000ull; r_pn = 0x2e0000000000ull; r_je = 0x2e000000ull; r_jk = 11776ull; r_l0 = 0x2e00000000000000ull; r_qi = 0x2e0000000000ull; r_vv = 0x2e000000ull; r_sr = 11776ull; r_qg = t_1w_1; r_q7 = t_pq_1; r_58 = t_ed_1; r_6f = t_6o_1; r_w2 = t_1w; r_mm = t_pq; r_0r = t_ed; r_75 = t_6o; r_fn = r_pe; r_i4 = t_pt; r_1t = t_ni; r_a1 = t_bt; r_cc = r_47_7; r_5r_1 = t_pt_1; r_og = t_ni_1; r_7z = t_bt_1; r_m1 = r_47_15; r_nq = 0x2e0000ull; r_7w = 0x2e00000000ull; r_w5 = 0x2e000000000000ull; r_0i = 46u; r_x9 = 0x2e0000ull; r_vm = 0x2e00000000ull; r_4a = 0x2e000000000000ull; r_75_1 = 46u; r_9s = 0x2e0000ull; r_co = 0x2e00000000ull; r_0c = 0x2e000000000000ull; r_9q = 46u; r_zy = 0x2e0000ull; r_ph = 0x2e00000000ull; r_hk = 0x2e000000000000ull; r_tw = 46u; r_hl = 0x2e0000ull; r_7a = 0x2e00000000ull; r_1y = 0x2e000000000000ull; r_if = 46u; r_uk = 0x2e0000ull; r_3d = 0x2e00000000ull; r_6w = 0x2e000000000000ull; r_93 = 46u; r_gg = 0x2e0000ull; r_zt = 0x2e00000000ull; r_m6 = 0x2e000000000000ull; r_jc = 46u; r_vw = 0x2e0000ull; r_xz = 0x2e00000000ull; goto l_std_tz; }
+    if (!(a_5 > 16ull)) { r_zo = 0x2e000000ull; r_lj = 11776ull; r_42 = 0x2e00000000000000ull; r_5r = 0x2e0000000000ull; r_pa = 0x2e000000ull; r_7p = 11776ull; r_o8 = 0x2e00000000000000ull; r_bf = 0x2e0000000000ull; r_bp = 0x2e000000ull; r_m3 = 11776ull; r_1s = 0x2e00000000000000ull; r_2r = 0x2e0000000000ull; r_pk = 0x2e000000ull; r_wb = 11776ull; r_3n = 0x2e00000000000000ull; r_bo = 0x2e0000000000ull; r_zs = 0x2e000000ull; r_v3 = 11776ull; r_ua = 0x2e00000000000000ull; r_v9 = 0x2e0000000000ull; r_ps = 0x2e000000ull; r_gi = 11776ull; r_3f = 0x2e00000000000000ull; r_pn = 0x2e0000000000ull; r_je = 0x2e000000ull; r_jk = 11776ull; r_l0 = 0x2e00000000000000ull; r_qi = 0x2e0000000000ull; r_vv = 0x2e000000ull; r_sr = 11776ull; r_qg = t_1w_1; r_q7 = t_pq_1; r_58 = t_ed_1; r_6f = t_6o_1; r_w2 = t_1w; r_mm = t_pq; r_0r = t_ed; r_75 = t_6o; r_fn = r_pe; r_i4 = t_pt; r_1t = t_ni; r_a1 = t_bt; r_cc = r_47; r_5r_1 = t_pt_1; r_og = t_ni_1; r_7z = t_bt_1; r_m1 = 46u; r_nq = 0x2e0000ull; r_7w = 0x2e00000000ull; r_w5 = 0x2e000000000000ull; r_0i = 46u; r_x9 = 0x2e0000ull; r_vm = 0x2e00000000ull; r_4a = 0x2e000000000000ull; r_75_1 = 46u; r_9s = 0x2e0000ull; r_co = 0x2e00000000ull; r_0c = 0x2e000000000000ull; r_9q = 46u; r_zy = 0x2e0000ull; r_ph = 0x2e00000000ull; r_hk = 0x2e000000000000ull; r_tw = 46u; r_hl = 0x2e0000ull; r_7a = 0x2e00000000ull; r_1y = 0x2e000000000000ull; r_if = 46u; r_uk = 0x2e0000ull; r_3d = 0x2e00000000ull; r_6w = 0x2e000000000000ull; r_93 = 46u; r_gg = 0x2e0000ull; r_zt = 0x2e00000000ull; r_m6 = 0x2e000000000000ull; r_jc = 46u; r_vw = 0x2e0000ull; r_xz = 0x2e00000000ull; goto l_std_tz; }
+    r_47_1 = ld8((a_4 + 16));
+    if (a_5 == 17ull) { r_zo = 0x2e000000ull; r_lj = 11776ull; r_42 = 0x2e00000000000000ull; r_5r = 0x2e0000000000ull; r_pa = 0x2e000000ull; r_7p = 11776ull; r_o8 = 0x2e00000000000000ull; r_bf = 0x2e0000000000ull; r_bp = 0x2e000000ull; r_m3 = 11776ull; r_1s = 0x2e00000000000000ull; r_2r = 0x2e0000000000ull; r_pk = 0x2e000000ull; r_wb = 11776ull; r_3n = 0x2e00000000000000ull; r_bo = 0x2e0000000000ull; r_zs = 0x2e000000ull; r_v3 = 11776ull; r_ua = 0x2e00000000000000ull; r_v9 = 0x2e0000000000ull; r_ps = 0x2e000000ull; r_gi = 11776ull; r_3f = 0x2e00000000000000ull; r_pn = 0x2e0000000000ull; r_je = 0x2e000000ull; r_jk = 11776ull; r_l0 = 0x2e00000000000000ull; r_qi = 0x2e0000000000ull; r_vv = 0x2e000000ull; r_sr = 11776ull; r_qg = t_1w_1; r_q7 = t_pq_1; r_58 = t_ed_1; r_6f = t_6o_1; r_w2 = t_1w; r_mm = t_pq; r_0r = t_ed; r_75 = t_6o; r_fn = r_pe; r_i4 = t_pt; r_1t = t_ni; r_a1 = t_bt; r_cc = r_47; r_5r_1 = t_pt_1; r_og = t_ni_1; r_7z = t_bt_1; r_m1 = r_47_1; r_nq = 0x2e0000ull; r_7w = 0x2e00000000ull; r_w5 = 0x2e000000000000ull; r_0i = 46u; r_x9 = 0x2e0000ull; r_vm = 0x2e00000000ull; r_4a = 0x2e000000000000ull; r_75_1 = 46u; r_9s = 0x2e0000ull; r_co = 0x2e00000000ull; r_0c = 0x2e000000000000ull; r_9q = 46u; r_zy = 0x2e0000ull; r_ph = 0x2e00000000ull; r_hk = 0x2e000000000000ull; r_tw = 46u; r_hl = 0x2e0000ull; r_7a = 0x2e00000000ull; r_1y = 0x2e000000000000ull; r_if = 46u; r_uk = 0x2e0000ull; r_3d = 0x2e00000000ull; r_6w = 0x2e000000000000ull; r_93 = 46u; r_gg = 0x2e0000ull; r_zt = 0x2e00000000ull; r_m6 = 0x2e000000000000ull; r_jc = 46u; r_vw = 0x2e0000ull; r_xz = 0x2e00000000ull; goto l_std_tz; }
     t_6o_2 = (u64)((u64)ld8((a_4 + 17)) << 8ull);
-    if (!(a_5 > 18ull)) { r_zo = 0x2e000000ull; r_lj = 11776ull; r_42 = 0x2e00000000000000ull; r_5r = 0x2e0000000000ull; r_pa = 0x2e000000ull; r_7p = 11776ull; r_o8 = 0x2e00000000000000ull; r_bf = 0x2e0000000000ull; r_bp = 0x2e000000ull; r_m3 = 11776ull; r_1s = 0x2e00000000000000ull; r_2r = 0x2e0000000000ull; r_pk = 0x2e000000ull; r_wb = 11776ull; r_3n = 0x2e00000000000000ull; r_bo = 0x2e0000000000ull; r_zs = 0x2e000000ull; r_v3 = 11776ull; r_ua = 0x2e00000000000000ull; r_v9 = 0x2e0000000000ull; r_ps = 0x2e000000ull; r_gi = 11776ull; r_3f = 0x2e00000000000000ull; r_pn = 0x2e0000000000ull; r_je = 0x2e000000ull; r_jk = 11776ull; r_l0 = 0x2e00000000000000ull; r_qi = 0x2e0000000000ull; r_vv = 0x2e000000ull; r_sr = t_6o_2; r_qg = t_1w_1; r_q7 = t_pq_1; r_58 = t_ed_1; r_6f = t_6o_1; r_w2 = t_1w; r_mm = t_pq; r_0r = t_ed; r_75 = t_6o; r_fn = r_pe; r_i4 = t_pt; r_1t = t_ni; r_a1 = t_bt; r_cc = r_47_7; r_5r_1 = t_pt_1; r_og = t_ni_1; r_7z = t_bt_1; r_m1 = r_47_15; r_nq = 0x2e0000ull; r_7w = 0x2e00000000ull; r_w5 = 0x2e000000000000ull; r_0i = 46u; r_x9 = 0x2e0000ull; r_vm = 0x2e00000000ull; r_4a = 0x2e000000000000ull; r_75_1 = 46u; r_9s = 0x2e0000ull; r_co = 0x2e00000000ull; r_0c = 0x2e000000000000ull; r_9q = 46u; r_zy = 0x2e0000ull; r_ph = 0x2e00000000ull; r_hk = 0x2e000000000000ull; r_tw = 46u; r_hl = 0x2e0000ull; r_7a = 0x2e00000000ull; r_1y = 0x2e000000000000ull; r_if = 46u; r_uk = 0x2e0000ull; r_3d = 0x2e00000000ull; r_6w = 0x2e000000000000ull; r_93 = 46u; r_gg = 0x2e0000ull; r_zt = 0x2e00000000ull; r_m6 = 0x2e000000000000ull; r_jc = 46u; r_vw = 0x2e0000ull; r_xz = 0x2e00000000ull; goto l_std_tz; }
+    if (!(a_5 > 18ull)) { r_zo = 0x2e000000ull; r_lj = 11776ull; r_42 = 0x2e00000000000000ull; r_5r = 0x2e0000000000ull; r_pa = 0x2e000000ull; r_7p = 11776ull; r_o8 = 0x2e00000000000000ull; r_bf = 0x2e0000000000ull; r_bp = 0x2e000000ull; r_m3 = 11776ull; r_1s = 0x2e00000000000000ull; r_2r = 0x2e0000000000ull; r_pk = 0x2e000000ull; r_wb = 11776ull; r_3n = 0x2e00000000000000ull; r_bo = 0x2e0000000000ull; r_zs = 0x2e000000ull; r_v3 = 11776ull; r_ua = 0x2e00000000000000ull; r_v9 = 0x2e0000000000ull; r_ps = 0x2e000000ull; r_gi = 11776ull; r_3f = 0x2e00000000000000ull; r_pn = 0x2e0000000000ull; r_je = 0x2e000000ull; r_jk = 11776ull; r_l0 = 0x2e00000000000000ull; r_qi = 0x2e0000000000ull; r_vv = 0x2e000000ull; r_sr = t_6o_2; r_qg = t_1w_1; r_q7 = t_pq_1; r_58 = t_ed_1; r_6f = t_6o_1; r_w2 = t_1w; r_mm = t_pq; r_0r = t_ed; r_75 = t_6o; r_fn = r_pe; r_i4 = t_pt; r_1t = t_ni; r_a1 = t_bt; r_cc = r_47; r_5r_1 = t_pt_1; r_og = t_ni_1; r_7z = t_bt_1; r_m1 = r_47_1; r_nq = 0x2e0000ull; r_7w = 0x2e00000000ull; r_w5 = 0x2e000000000000ull; r_0i = 46u; r_x9 = 0x2e0000ull; r_vm = 0x2e00000000ull; r_4a = 0x2e000000000000ull; r_75_1 = 46u; r_9s = 0x2e0000ull; r_co = 0x2e00000000ull; r_0c = 0x2e000000000000ull; r_9q = 46u; r_zy = 0x2e0000ull; r_ph = 0x2e00000000ull; r_hk = 0x2e000000000000ull; r_tw = 46u; r_hl = 0x2e0000ull; r_7a = 0x2e00000000ull; r_1y = 0x2e000000000000ull; r_if = 46u; r_uk = 0x2e0000ull; r_3d = 0x2e00000000ull; r_6w = 0x2e000000000000ull; r_93 = 46u; r_gg = 0x2e0000ull; r_zt = 0x2e00000000ull; r_m6 = 0x2e000000000000ull; r_jc = 46u; r_vw = 0x2e0000ull; r_xz = 0x2e00000000ull; goto l_std_tz; }
     t_pt_2 = (u64)((u64)ld8((a_4 + 18)) << 16ull);
-    if (a_5 == 19ull) { r_zo = 0x2e000000ull; r_lj = 11776ull; r_42 = 0x2e00000000000000ull; r_5r = 0x2e0000000000ull; r_pa = 0x2e000000ull; r_7p = 11776ull; r_o8 = 0x2e00000000000000ull; r_bf = 0x2e0000000000ull; r_bp = 0x2e000000ull; r_m3 = 11776ull; r_1s = 0x2e00000000000000ull; r_2r = 0x2e0000000000ull; r_pk = 0x2e000000ull; r_wb = 11776ull; r_3n = 0x2e00000000000000ull; r_bo = 0x2e0000000000ull; r_zs = 0x2e000000ull; r_v3 = 11776ull; r_ua = 0x2e00000000000000ull; r_v9 = 0x2e0000000000ull; r_ps = 0x2e000000ull; r_gi = 11776ull; r_3f = 0x2e00000000000000ull; r_pn = 0x2e0000000000ull; r_je = 0x2e000000ull; r_jk = 11776ull; r_l0 = 0x2e00000000000000ull; r_qi = 0x2e0000000000ull; r_vv = 0x2e000000ull; r_sr = t_6o_2; r_qg = t_1w_1; r_q7 = t_pq_1; r_58 = t_ed_1; r_6f = t_6o_1; r_w2 = t_1w; r_mm = t_pq; r_0r = t_ed; r_75 = t_6o; r_fn = r_pe; r_i4 = t_pt; r_1t = t_ni; r_a1 = t_bt; r_cc = r_47_7; r_5r_1 = t_pt_1; r_og = t_ni_1; r_7z = t_bt_1; r_m1 = r_47_15; r_nq = t_pt_2; r_7w = 0x2e00000000ull; r_w5 = 0x2e000000000000ull; r_0i = 46u; r_x9 = 0x2e0000ull; r_vm = 0x2e00000000ull; r_4a = 0x2e000000000000ull; r_75_1 = 46u; r_9s = 0x2e0000ull; r_co = 0x2e00000000ull; r_0c = 0x2e000000000000ull; r_9q = 46u; r_zy = 0x2e0000ull; r_ph = 0x2e00000000ull; r_hk = 0x2e000000000000ull; r_tw = 46u; r_hl = 0x2e0000ull; r_7a = 0x2e00000000ull; r_1y = 0x2e000000000000ull; r_if = 46u; r_uk = 0x2e0000ull; r_3d = 0x2e00000000ull; r_6w = 0x2e000000000000ull; r_93 = 46u; r_gg = 0x2e0000ull; r_zt = 0x2e00000000ull; r_m6 = 0x2e000000000000ull; r_jc = 46u; r_vw = 0x2e0000ull; r_xz = 0x2e00000000ull; goto l_std_tz; }
+    if (a_5 == 19ull) { r_zo = 0x2e000000ull; r_lj = 11776ull; r_42 = 0x2e00000000000000ull; r_5r = 0x2e0000000000ull; r_pa = 0x2e000000ull; r_7p = 11776ull; r_o8 = 0x2e00000000000000ull; r_bf = 0x2e0000000000ull; r_bp = 0x2e000000ull; r_m3 = 11776ull; r_1s = 0x2e00000000000000ull; r_2r = 0x2e0000000000ull; r_pk = 0x2e000000ull; r_wb = 11776ull; r_3n = 0x2e00000000000000ull; r_bo = 0x2e0000000000ull; r_zs = 0x2e000000ull; r_v3 = 11776ull; r_ua = 0x2e00000000000000ull; r_v9 = 0x2e0000000000ull; r_ps = 0x2e000000ull; r_gi = 11776ull; r_3f = 0x2e00000000000000ull; r_pn = 0x2e0000000000ull; r_je = 0x2e000000ull; r_jk = 11776ull; r_l0 = 0x2e00000000000000ull; r_qi = 0x2e0000000000ull; r_vv = 0x2e000000ull; r_sr = t_6o_2; r_qg = t_1w_1; r_q7 = t_pq_1; r_58 = t_ed_1; r_6f = t_6o_1; r_w2 = t_1w; r_mm = t_pq; r_0r = t_ed; r_75 = t_6o; r_fn = r_pe; r_i4 = t_pt; r_1t = t_ni; r_a1 = t_bt; r_cc = r_47; r_5r_1 = t_pt_1; r_og = t_ni_1; r_7z = t_bt_1; r_m1 = r_47_1; r_nq = t_pt_2; r_7w = 0x2e00000000ull; r_w5 = 0x2e000000000000ull; r_0i = 46u; r_x9 = 0x2e0000ull; r_vm = 0x2e00000000ull; r_4a = 0x2e000000000000ull; r_75_1 = 46u; r_9s = 0x2e0000ull; r_co = 0x2e00000000ull; r_0c = 0x2e000000000000ull; r_9q = 46u; r_zy = 0x2e0000ull; r_ph = 0x2e00000000ull; r_hk = 0x2e000000000000ull; r_tw = 46u; r_hl = 0x2e0000ull; r_7a = 0x2e00000000ull; r_1y = 0x2e000000000000ull; r_if = 46u; r_uk = 0x2e0000ull; r_3d = 0x2e00000000ull; r_6w = 0x2e000000000000ull; r_93 = 46u; r_gg = 0x2e0000ull; r_zt = 0x2e00000000ull; r_m6 = 0x2e000000000000ull; r_jc = 46u; r_vw = 0x2e0000ull; r_xz = 0x2e00000000ull; goto l_std_tz; }
     t_ed_2 = (u64)((u64)ld8((a_4 + 19)) << 24ull);
-    if (!(a_5 > 20ull)) { r_zo = 0x2e000000ull; r_lj = 11776ull; r_42 = 0x2e00000000000000ull; r_5r = 0x2e0000000000ull; r_pa = 0x2e000000ull; r_7p = 11776ull; r_o8 = 0x2e00000000000000ull; r_bf = 0x2e0000000000ull; r_bp = 0x2e000000ull; r_m3 = 11776ull; r_1s = 0x2e00000000000000ull; r_2r = 0x2e0000000000ull; r_pk = 0x2e000000ull; r_wb = 11776ull; r_3n = 0x2e00000000000000ull; r_bo = 0x2e0000000000ull; r_zs = 0x2e000000ull; r_v3 = 11776ull; r_ua = 0x2e00000000000000ull; r_v9 = 0x2e0000000000ull; r_ps = 0x2e000000ull; r_gi = 11776ull; r_3f = 0x2e00000000000000ull; r_pn = 0x2e0000000000ull; r_je = 0x2e000000ull; r_jk = 11776ull; r_l0 = 0x2e00000000000000ull; r_qi = 0x2e0000000000ull; r_vv = t_ed_2; r_sr = t_6o_2; r_qg = t_1w_1; r_q7 = t_pq_1; r_58 = t_ed_1; r_6f = t_6o_1; r_w2 = t_1w; r_mm = t_pq; r_0r = t_ed; r_75 = t_6o; r_fn = r_pe; r_i4 = t_pt; r_1t = t_ni; r_a1 = t_bt; r_cc = r_47_7; r_5r_1 = t_pt_1; r_og = t_ni_1; r_7z = t_bt_1; r_m1 = r_47_15; r_nq = t_pt_2; r_7w = 0x2e00000000ull; r_w5 = 0x2e000000000000ull; r_0i = 46u; r_x9 = 0x2e0000ull; r_vm = 0x2e00000000ull; r_4a = 0x2e000000000000ull; r_75_1 = 46u; r_9s = 0x2e0000ull; r_co = 0x2e00000000ull; r_0c = 0x2e000000000000ull; r_9q = 46u; r_zy = 0x2e0000ull; r_ph = 0x2e00000000ull; r_hk = 0x2e000000000000ull; r_tw = 46u; r_hl = 0x2e0000ull; r_7a = 0x2e00000000ull; r_1y = 0x2e000000000000ull; r_if = 46u; r_uk = 0x2e0000ull; r_3d = 0x2e00000000ull; r_6w = 0x2e000000000000ull; r_93 = 46u; r_gg = 0x2e0000ull; r_zt = 0x2e00000000ull; r_m6 = 0x2e000000000000ull; r_jc = 46u; r_vw = 0x2e0000ull; r_xz = 0x2e00000000ull; goto l_std_tz; }
+    if (!(a_5 > 20ull)) { r_zo = 0x2e000000ull; r_lj = 11776ull; r_42 = 0x2e00000000000000ull; r_5r = 0x2e0000000000ull; r_pa = 0x2e000000ull; r_7p = 11776ull; r_o8 = 0x2e00000000000000ull; r_bf = 0x2e0000000000ull; r_bp = 0x2e000000ull; r_m3 = 11776ull; r_1s = 0x2e00000000000000ull; r_2r = 0x2e0000000000ull; r_pk = 0x2e000000ull; r_wb = 11776ull; r_3n = 0x2e00000000000000ull; r_bo = 0x2e0000000000ull; r_zs = 0x2e000000ull; r_v3 = 11776ull; r_ua = 0x2e00000000000000ull; r_v9 = 0x2e0000000000ull; r_ps = 0x2e000000ull; r_gi = 11776ull; r_3f = 0x2e00000000000000ull; r_pn = 0x2e0000000000ull; r_je = 0x2e000000ull; r_jk = 11776ull; r_l0 = 0x2e00000000000000ull; r_qi = 0x2e0000000000ull; r_vv = t_ed_2; r_sr = t_6o_2; r_qg = t_1w_1; r_q7 = t_pq_1; r_58 = t_ed_1; r_6f = t_6o_1; r_w2 = t_1w; r_mm = t_pq; r_0r = t_ed; r_75 = t_6o; r_fn = r_pe; r_i4 = t_pt; r_1t = t_ni; r_a1 = t_bt; r_cc = r_47; r_5r_1 = t_pt_1; r_og = t_ni_1; r_7z = t_bt_1; r_m1 = r_47_1; r_nq = t_pt_2; r_7w = 0x2e00000000ull; r_w5 = 0x2e000000000000ull; r_0i = 46u; r_x9 = 0x2e0000ull; r_vm = 0x2e00000000ull; r_4a = 0x2e000000000000ull; r_75_1 = 46u; r_9s = 0x2e0000ull; r_co = 0x2e00000000ull; r_0c = 0x2e000000000000ull; r_9q = 46u; r_zy = 0x2e0000ull; r_ph = 0x2e00000000ull; r_hk = 0x2e000000000000ull; r_tw = 46u; r_hl = 0x2e0000ull; r_7a = 0x2e00000000ull; r_1y = 0x2e000000000000ull; r_if = 46u; r_uk = 0x2e0000ull; r_3d = 0x2e00000000ull; r_6w = 0x2e000000000000ull; r_93 = 46u; r_gg = 0x2e0000ull; r_zt = 0x2e00000000ull; r_m6 = 0x2e000000000000ull; r_jc = 46u; r_vw = 0x2e0000ull; r_xz = 0x2e00000000ull; goto l_std_tz; }
     t_ni_2 = (u64)((u64)ld8((a_4 + 20)) << 32ull);
-    if (a_5 == 21ull) { r_zo = 0x2e000000ull; r_lj = 11776ull; r_42 = 0x2e00000000000000ull; r_5r = 0x2e0000000000ull; r_pa = 0x2e000000ull; r_7p = 11776ull; r_o8 = 0x2e00000000000000ull; r_bf = 0x2e0000000000ull; r_bp = 0x2e000000ull; r_m3 = 11776ull; r_1s = 0x2e00000000000000ull; r_2r = 0x2e0000000000ull; r_pk = 0x2e000000ull; r_wb = 11776ull; r_3n = 0x2e00000000000000ull; r_bo = 0x2e0000000000ull; r_zs = 0x2e000000ull; r_v3 = 11776ull; r_ua = 0x2e00000000000000ull; r_v9 = 0x2e0000000000ull; r_ps = 0x2e000000ull; r_gi = 11776ull; r_3f = 0x2e00000000000000ull; r_pn = 0x2e0000000000ull; r_je = 0x2e000000ull; r_jk = 11776ull; r_l0 = 0x2e00000000000000ull; r_qi = 0x2e0000000000ull; r_vv = t_ed_2; r_sr = t_6o_2; r_qg = t_1w_1; r_q7 = t_pq_1; r_58 = t_ed_1; r_6f = t_6o_1; r_w2 = t_1w; r_mm = t_pq; r_0r = t_ed; r_75 = t_6o; r_fn = r_pe; r_i4 = t_pt; r_1t = t_ni; r_a1 = t_bt; r_cc = r_47_7; r_5r_1 = t_pt_1; r_og = t_ni_1; r_7z = t_bt_1; r_m1 = r_47_15; r_nq = t_pt_2; r_7w = t_ni_2; r_w5 = 0x2e000000000000ull; r_0i = 46u; r_x9 = 0x2e0000ull; r_vm = 0x2e00000000ull; r_4a = 0x2e000000000000ull; r_75_1 = 46u; r_9s = 0x2e0000ull; r_co = 0x2e00000000ull; r_0c = 0x2e000000000000ull; r_9q = 46u; r_zy = 0x2e0000ull; r_ph = 0x2e00000000ull; r_hk = 0x2e000000000000ull; r_tw = 46u; r_hl = 0x2e0000ull; r_7a = 0x2e00000000ull; r_1y = 0x2e000000000000ull; r_if = 46u; r_uk = 0x2e0000ull; r_3d = 0x2e00000000ull; r_6w = 0x2e000000000000ull; r_93 = 46u; r_gg = 0x2e0000ull; r_zt = 0x2e00000000ull; r_m6 = 0x2e000000000000ull; r_jc = 46u; r_vw = 0x2e0000ull; r_xz = 0x2e00000000ull; goto l_std_tz; }
+    if (a_5 == 21ull) { r_zo = 0x2e000000ull; r_lj = 11776ull; r_42 = 0x2e00000000000000ull; r_5r = 0x2e0000000000ull; r_pa = 0x2e000000ull; r_7p = 11776ull; r_o8 = 0x2e00000000000000ull; r_bf = 0x2e0000000000ull; r_bp = 0x2e000000ull; r_m3 = 11776ull; r_1s = 0x2e00000000000000ull; r_2r = 0x2e0000000000ull; r_pk = 0x2e000000ull; r_wb = 11776ull; r_3n = 0x2e00000000000000ull; r_bo = 0x2e0000000000ull; r_zs = 0x2e000000ull; r_v3 = 11776ull; r_ua = 0x2e00000000000000ull; r_v9 = 0x2e0000000000ull; r_ps = 0x2e000000ull; r_gi = 11776ull; r_3f = 0x2e00000000000000ull; r_pn = 0x2e0000000000ull; r_je = 0x2e000000ull; r_jk = 11776ull; r_l0 = 0x2e00000000000000ull; r_qi = 0x2e0000000000ull; r_vv = t_ed_2; r_sr = t_6o_2; r_qg = t_1w_1; r_q7 = t_pq_1; r_58 = t_ed_1; r_6f = t_6o_1; r_w2 = t_1w; r_mm = t_pq; r_0r = t_ed; r_75 = t_6o; r_fn = r_pe; r_i4 = t_pt; r_1t = t_ni; r_a1 = t_bt; r_cc = r_47; r_5r_1 = t_pt_1; r_og = t_ni_1; r_7z = t_bt_1; r_m1 = r_47_1; r_nq = t_pt_2; r_7w = t_ni_2; r_w5 = 0x2e000000000000ull; r_0i = 46u; r_x9 = 0x2e0000ull; r_vm = 0x2e00000000ull; r_4a = 0x2e000000000000ull; r_75_1 = 46u; r_9s = 0x2e0000ull; r_co = 0x2e00000000ull; r_0c = 0x2e000000000000ull; r_9q = 46u; r_zy = 0x2e0000ull; r_ph = 0x2e00000000ull; r_hk = 0x2e000000000000ull; r_tw = 46u; r_hl = 0x2e0000ull; r_7a = 0x2e00000000ull; r_1y = 0x2e000000000000ull; r_if = 46u; r_uk = 0x2e0000ull; r_3d = 0x2e00000000ull; r_6w = 0x2e000000000000ull; r_93 = 46u; r_gg = 0x2e0000ull; r_zt = 0x2e00000000ull; r_m6 = 0x2e000000000000ull; r_jc = 46u; r_vw = 0x2e0000ull; r_xz = 0x2e00000000ull; goto l_std_tz; }
     t_pq_2 = (u64)((u64)ld8((a_4 + 21)) << 40ull);
-    if (!(a_5 > 22ull)) { r_zo = 0x2e000000ull; r_lj = 11776ull; r_42 = 0x2e00000000000000ull; r_5r = 0x2e0000000000ull; r_pa = 0x2e000000ull; r_7p = 11776ull; r_o8 = 0x2e00000000000000ull; r_bf = 0x2e0000000000ull; r_bp = 0x2e000000ull; r_m3 = 11776ull; r_1s = 0x2e00000000000000ull; r_2r = 0x2e0000000000ull; r_pk = 0x2e000000ull; r_wb = 11776ull; r_3n = 0x2e00000000000000ull; r_bo = 0x2e0000000000ull; r_zs = 0x2e000000ull; r_v3 = 11776ull; r_ua = 0x2e00000000000000ull; r_v9 = 0x2e0000000000ull; r_ps = 0x2e000000ull; r_gi = 11776ull; r_3f = 0x2e00000000000000ull; r_pn = 0x2e0000000000ull; r_je = 0x2e000000ull; r_jk = 11776ull; r_l0 = 0x2e00000000000000ull; r_qi = t_pq_2; r_vv = t_ed_2; r_sr = t_6o_2; r_qg = t_1w_1; r_q7 = t_pq_1; r_58 = t_ed_1; r_6f = t_6o_1; r_w2 = t_1w; r_mm = t_pq; r_0r = t_ed; r_75 = t_6o; r_fn = r_pe; r_i4 = t_pt; r_1t = t_ni; r_a1 = t_bt; r_cc = r_47_7; r_5r_1 = t_pt_1; r_og = t_ni_1; r_7z = t_bt_1; r_m1 = r_47_15; r_nq = t_pt_2; r_7w = t_ni_2; r_w5 = 0x2e000000000000ull; r_0i = 46u; r_x9 = 0x2e0000ull; r_vm = 0x2e00000000ull; r_4a = 0x2e000000000000ull; r_75_1 = 46u; r_9s = 0x2e0000ull; r_co = 0x2e00000000ull; r_0c = 0x2e000000000000ull; r_9q = 46u; r_zy = 0x2e0000ull; r_ph = 0x2e00000000ull; r_hk = 0x2e000000000000ull; r_tw = 46u; r_hl = 0x2e0000ull; r_7a = 0x2e00000000ull; r_1y = 0x2e000000000000ull; r_if = 46u; r_uk = 0x2e0000ull; r_3d = 0x2e00000000ull; r_6w = 0x2e000000000000ull; r_93 = 46u; r_gg = 0x2e0000ull; r_zt = 0x2e00000000ull; r_m6 = 0x2e000000000000ull; r_jc = 46u; r_vw = 0x2e0000ull; r_xz = 0x2e00000000ull; goto l_std_tz; }
+    if (!(a_5 > 22ull)) { r_zo = 0x2e000000ull; r_lj = 11776ull; r_42 = 0x2e00000000000000ull; r_5r = 0x2e0000000000ull; r_pa = 0x2e000000ull; r_7p = 11776ull; r_o8 = 0x2e00000000000000ull; r_bf = 0x2e0000000000ull; r_bp = 0x2e000000ull; r_m3 = 11776ull; r_1s = 0x2e00000000000000ull; r_2r = 0x2e0000000000ull; r_pk = 0x2e000000ull; r_wb = 11776ull; r_3n = 0x2e00000000000000ull; r_bo = 0x2e0000000000ull; r_zs = 0x2e000000ull; r_v3 = 11776ull; r_ua = 0x2e00000000000000ull; r_v9 = 0x2e0000000000ull; r_ps = 0x2e000000ull; r_gi = 11776ull; r_3f = 0x2e00000000000000ull; r_pn = 0x2e0000000000ull; r_je = 0x2e000000ull; r_jk = 11776ull; r_l0 = 0x2e00000000000000ull; r_qi = t_pq_2; r_vv = t_ed_2; r_sr = t_6o_2; r_qg = t_1w_1; r_q7 = t_pq_1; r_58 = t_ed_1; r_6f = t_6o_1; r_w2 = t_1w; r_mm = t_pq; r_0r = t_ed; r_75 = t_6o; r_fn = r_pe; r_i4 = t_pt; r_1t = t_ni; r_a1 = t_bt; r_cc = r_47; r_5r_1 = t_pt_1; r_og = t_ni_1; r_7z = t_bt_1; r_m1 = r_47_1; r_nq = t_pt_2; r_7w = t_ni_2; r_w5 = 0x2e000000000000ull; r_0i = 46u; r_x9 = 0x2e0000ull; r_vm = 0x2e00000000ull; r_4a = 0x2e000000000000ull; r_75_1 = 46u; r_9s = 0x2e0000ull; r_co = 0x2e00000000ull; r_0c = 0x2e000000000000ull; r_9q = 46u; r_zy = 0x2e0000ull; r_ph = 0x2e00000000ull; r_hk = 0x2e000000000000ull; r_tw = 46u; r_hl = 0x2e0000ull; r_7a = 0x2e00000000ull; r_1y = 0x2e000000000000ull; r_if = 46u; r_uk = 0x2e0000ull; r_3d = 0x2e00000000ull; r_6w = 0x2e000000000000ull; r_93 = 46u; r_gg = 0x2e0000ull; r_zt = 0x2e00000000ull; r_m6 = 0x2e000000000000ull; r_jc = 46u; r_vw = 0x2e0000ull; r_xz = 0x2e00000000ull; goto l_std_tz; }
     t_bt_2 = (u64)((u64)ld8((a_4 + 22)) << 48ull);
-    if (a_5 == 23ull) { r_zo = 0x2e000000ull; r_lj = 11776ull; r_42 = 0x2e00000000000000ull; r_5r = 0x2e0000000000ull; r_pa = 0x2e000000ull; r_7p = 11776ull; r_o8 = 0x2e00000000000000ull; r_bf = 0x2e0000000000ull; r_bp = 0x2e000000ull; r_m3 = 11776ull; r_1s = 0x2e00000000000000ull; r_2r = 0x2e0000000000ull; r_pk = 0x2e000000ull; r_wb = 11776ull; r_3n = 0x2e00000000000000ull; r_bo = 0x2e0000000000ull; r_zs = 0x2e000000ull; r_v3 = 11776ull; r_ua = 0x2e00000000000000ull; r_v9 = 0x2e0000000000ull; r_ps = 0x2e000000ull; r_gi = 11776ull; r_3f = 0x2e00000000000000ull; r_pn = 0x2e0000000000ull; r_je = 0x2e000000ull; r_jk = 11776ull; r_l0 = 0x2e00000000000000ull; r_qi = t_pq_2; r_vv = t_ed_2; r_sr = t_6o_2; r_qg = t_1w_1; r_q7 = t_pq_1; r_58 = t_ed_1; r_6f = t_6o_1; r_w2 = t_1w; r_mm = t_pq; r_0r = t_ed; r_75 = t_6o; r_fn = r_pe; r_i4 = t_pt; r_1t = t_ni; r_a1 = t_bt; r_cc = r_47_7; r_5r_1 = t_pt_1; r_og = t_ni_1; r_7z = t_bt_1; r_m1 = r_47_15; r_nq = t_pt_2; r_7w = t_ni_2; r_w5 = t_bt_2; r_0i = 46u; r_x9 = 0x2e0000ull; r_vm = 0x2e00000000ull; r_4a = 0x2e000000000000ull; r_75_1 = 46u; r_9s = 0x2e0000ull; r_co = 0x2e00000000ull; r_0c = 0x2e000000000000ull; r_9q = 46u; r_zy = 0x2e0000ull; r_ph = 0x2e00000000ull; r_hk = 0x2e000000000000ull; r_tw = 46u; r_hl = 0x2e0000ull; r_7a = 0x2e00000000ull; r_1y = 0x2e000000000000ull; r_if = 46u; r_uk = 0x2e0000ull; r_3d = 0x2e00000000ull; r_6w = 0x2e000000000000ull; r_93 = 46u; r_gg = 0x2e0000ull; r_zt = 0x2e00000000ull; r_m6 = 0x2e000000000000ull; r_jc = 46u; r_vw = 0x2e0000ull; r_xz = 0x2e00000000ull; goto l_std_tz; }
+    if (a_5 == 23ull) { r_zo = 0x2e000000ull; r_lj = 11776ull; r_42 = 0x2e00000000000000ull; r_5r = 0x2e0000000000ull; r_pa = 0x2e000000ull; r_7p = 11776ull; r_o8 = 0x2e00000000000000ull; r_bf = 0x2e0000000000ull; r_bp = 0x2e000000ull; r_m3 = 11776ull; r_1s = 0x2e00000000000000ull; r_2r = 0x2e0000000000ull; r_pk = 0x2e000000ull; r_wb = 11776ull; r_3n = 0x2e00000000000000ull; r_bo = 0x2e0000000000ull; r_zs = 0x2e000000ull; r_v3 = 11776ull; r_ua = 0x2e00000000000000ull; r_v9 = 0x2e0000000000ull; r_ps = 0x2e000000ull; r_gi = 11776ull; r_3f = 0x2e00000000000000ull; r_pn = 0x2e0000000000ull; r_je = 0x2e000000ull; r_jk = 11776ull; r_l0 = 0x2e00000000000000ull; r_qi = t_pq_2; r_vv = t_ed_2; r_sr = t_6o_2; r_qg = t_1w_1; r_q7 = t_pq_1; r_58 = t_ed_1; r_6f = t_6o_1; r_w2 = t_1w; r_mm = t_pq; r_0r = t_ed; r_75 = t_6o; r_fn = r_pe; r_i4 = t_pt; r_1t = t_ni; r_a1 = t_bt; r_cc = r_47; r_5r_1 = t_pt_1; r_og = t_ni_1; r_7z = t_bt_1; r_m1 = r_47_1; r_nq = t_pt_2; r_7w = t_ni_2; r_w5 = t_bt_2; r_0i = 46u; r_x9 = 0x2e0000ull; r_vm = 0x2e00000000ull; r_4a = 0x2e000000000000ull; r_75_1 = 46u; r_9s = 0x2e0000ull; r_co = 0x2e00000000ull; r_0c = 0x2e000000000000ull; r_9q = 46u; r_zy = 0x2e0000ull; r_ph = 0x2e00000000ull; r_hk = 0x2e000000000000ull; r_tw = 46u; r_hl = 0x2e0000ull; r_7a = 0x2e00000000ull; r_1y = 0x2e000000000000ull; r_if = 46u; r_uk = 0x2e0000ull; r_3d = 0x2e00000000ull; r_6w = 0x2e000000000000ull; r_93 = 46u; r_gg = 0x2e0000ull; r_zt = 0x2e00000000ull; r_m6 = 0x2e000000000000ull; r_jc = 46u; r_vw = 0x2e0000ull; r_xz = 0x2e00000000ull; goto l_std_tz; }
     t_1w_2 = (u64)((u64)ld8((a_4 + 23)) << 56ull);
-    if (!(a_5 > 24ull)) { r_zo = 0x2e000000ull; r_lj = 11776ull; r_42 = 0x2e00000000000000ull; r_5r = 0x2e0000000000ull; r_pa = 0x2e000000ull; r_7p = 11776ull; r_o8 = 0x2e00000000000000ull; r_bf = 0x2e0000000000ull; r_bp = 0x2e000000ull; r_m3 = 11776ull; r_1s = 0x2e00000000000000ull; r_2r = 0x2e0000000000ull; r_pk = 0x2e000000ull; r_wb = 11776ull; r_3n = 0x2e00000000000000ull; r_bo = 0x2e0000000000ull; r_zs = 0x2e000000ull; r_v3 = 11776ull; r_ua = 0x2e00000000000000ull; r_v9 = 0x2e0000000000ull; r_ps = 0x2e000000ull; r_gi = 11776ull; r_3f = 0x2e00000000000000ull; r_pn = 0x2e0000000000ull; r_je = 0x2e000000ull; r_jk = 11776ull; r_l0 = t_1w_2; r_qi = t_pq_2; r_vv = t_ed_2; r_sr = t_6o_2; r_qg = t_1w_1; r_q7 = t_pq_1; r_58 = t_ed_1; r_6f = t_6o_1; r_w2 = t_1w; r_mm = t_pq; r_0r = t_ed; r_75 = t_6o; r_fn = r_pe; r_i4 = t_pt; r_1t = t_ni; r_a1 = t_bt; r_cc = r_47_7; r_5r_1 = t_pt_1; r_og = t_ni_1; r_7z = t_bt_1; r_m1 = r_47_15; r_nq = t_pt_2; r_7w = t_ni_2; r_w5 = t_bt_2; r_0i = 46u; r_x9 = 0x2e0000ull; r_vm = 0x2e00000000ull; r_4a = 0x2e000000000000ull; r_75_1 = 46u; r_9s = 0x2e0000ull; r_co = 0x2e00000000ull; r_0c = 0x2e000000000000ull; r_9q = 46u; r_zy = 0x2e0000ull; r_ph = 0x2e00000000ull; r_hk = 0x2e000000000000ull; r_tw = 46u; r_hl = 0x2e0000ull; r_7a = 0x2e00000000ull; r_1y = 0x2e000000000000ull; r_if = 46u; r_uk = 0x2e0000ull; r_3d = 0x2e00000000ull; r_6w = 0x2e000000000000ull; r_93 = 46u; r_gg = 0x2e0000ull; r_zt = 0x2e00000000ull; r_m6 = 0x2e000000000000ull; r_jc = 46u; r_vw = 0x2e0000ull; r_xz = 0x2e00000000ull; goto l_std_tz; }
-    r_47_23 = ld8((a_4 + 24));
-    if (a_5 == 25ull) { r_zo = 0x2e000000ull; r_lj = 11776ull; r_42 = 0x2e00000000000000ull; r_5r = 0x2e0000000000ull; r_pa = 0x2e000000ull; r_7p = 11776ull; r_o8 = 0x2e00000000000000ull; r_bf = 0x2e0000000000ull; r_bp = 0x2e000000ull; r_m3 = 11776ull; r_1s = 0x2e00000000000000ull; r_2r = 0x2e0000000000ull; r_pk = 0x2e000000ull; r_wb = 11776ull; r_3n = 0x2e00000000000000ull; r_bo = 0x2e0000000000ull; r_zs = 0x2e000000ull; r_v3 = 11776ull; r_ua = 0x2e00000000000000ull; r_v9 = 0x2e0000000000ull; r_ps = 0x2e000000ull; r_gi = 11776ull; r_3f = 0x2e00000000000000ull; r_pn = 0x2e0000000000ull; r_je = 0x2e000000ull; r_jk = 11776ull; r_l0 = t_1w_2; r_qi = t_pq_2; r_vv = t_ed_2; r_sr = t_6o_2; r_qg = t_1w_1; r_q7 = t_pq_1; r_58 = t_ed_1; r_6f = t_6o_1; r_w2 = t_1w; r_mm = t_pq; r_0r = t_ed; r_75 = t_6o; r_fn = r_pe; r_i4 = t_pt; r_1t = t_ni; r_a1 = t_bt; r_cc = r_47_7; r_5r_1 = t_pt_1; r_og = t_ni_1; r_7z = t_bt_1; r_m1 = r_47_15; r_nq = t_pt_2; r_7w = t_ni_2; r_w5 = t_bt_2; r_0i = r_47_23; r_x9 = 0x2e0000ull; r_vm = 0x2e00000000ull; r_4a = 0x2e000000000000ull; r_75_1 = 46u; r_9s = 0x2e0000ull; r_co = 0x2e00000000ull; r_0c = 0x2e000000000000ull; r_9q = 46u; r_zy = 0x2e0000ull; r_ph = 0x2e00000000ull; r_hk = 0x2e000000000000ull; r_tw = 46u; r_hl = 0x2e0000ull; r_7a = 0x2e00000000ull; r_1y = 0x2e000000000000ull; r_if = 46u; r_uk = 0x2e0000ull; r_3d = 0x2e00000000ull; r_6w = 0x2e000000000000ull; r_93 = 46u; r_gg = 0x2e0000ull; r_zt = 0x2e00000000ull; r_m6 = 0x2e000000000000ull; r_jc = 46u; r_vw = 0x2e0000ull; r_xz = 0x2e00000000ull; goto l_std_tz; }
+    if (!(a_5 > 24ull)) { r_zo = 0x2e000000ull; r_lj = 11776ull; r_42 = 0x2e00000000000000ull; r_5r = 0x2e0000000000ull; r_pa = 0x2e000000ull; r_7p = 11776ull; r_o8 = 0x2e00000000000000ull; r_bf = 0x2e0000000000ull; r_bp = 0x2e000000ull; r_m3 = 11776ull; r_1s = 0x2e00000000000000ull; r_2r = 0x2e0000000000ull; r_pk = 0x2e000000ull; r_wb = 11776ull; r_3n = 0x2e00000000000000ull; r_bo = 0x2e0000000000ull; r_zs = 0x2e000000ull; r_v3 = 11776ull; r_ua = 0x2e00000000000000ull; r_v9 = 0x2e0000000000ull; r_ps = 0x2e000000ull; r_gi = 11776ull; r_3f = 0x2e00000000000000ull; r_pn = 0x2e0000000000ull; r_je = 0x2e000000ull; r_jk = 11776ull; r_l0 = t_1w_2; r_qi = t_pq_2; r_vv = t_ed_2; r_sr = t_6o_2; r_qg = t_1w_1; r_q7 = t_pq_1; r_58 = t_ed_1; r_6f = t_6o_1; r_w2 = t_1w; r_mm = t_pq; r_0r = t_ed; r_75 = t_6o; r_fn = r_pe; r_i4 = t_pt; r_1t = t_ni; r_a1 = t_bt; r_cc = r_47; r_5r_1 = t_pt_1; r_og = t_ni_1; r_7z = t_bt_1; r_m1 = r_47_1; r_nq = t_pt_2; r_7w = t_ni_2; r_w5 = t_bt_2; r_0i = 46u; r_x9 = 0x2e0000ull; r_vm = 0x2e00000000ull; r_4a = 0x2e000000000000ull; r_75_1 = 46u; r_9s = 0x2e0000ull; r_co = 0x2e00000000ull; r_0c = 0x2e000000000000ull; r_9q = 46u; r_zy = 0x2e0000ull; r_ph = 0x2e00000000ull; r_hk = 0x2e000000000000ull; r_tw = 46u; r_hl = 0x2e0000ull; r_7a = 0x2e00000000ull; r_1y = 0x2e000000000000ull; r_if = 46u; r_uk = 0x2e0000ull; r_3d = 0x2e00000000ull; r_6w = 0x2e000000000000ull; r_93 = 46u; r_gg = 0x2e0000ull; r_zt = 0x2e00000000ull; r_m6 = 0x2e000000000000ull; r_jc = 46u; r_vw = 0x2e0000ull; r_xz = 0x2e00000000ull; goto l_std_tz; }
+    r_47_2 = ld8((a_4 + 24));
+    if (a_5 == 25ull) { r_zo = 0x2e000000ull; r_lj = 11776ull; r_42 = 0x2e00000000000000ull; r_5r = 0x2e0000000000ull; r_pa = 0x2e000000ull; r_7p = 11776ull; r_o8 = 0x2e00000000000000ull; r_bf = 0x2e0000000000ull; r_bp = 0x2e000000ull; r_m3 = 11776ull; r_1s = 0x2e00000000000000ull; r_2r = 0x2e0000000000ull; r_pk = 0x2e000000ull; r_wb = 11776ull; r_3n = 0x2e00000000000000ull; r_bo = 0x2e0000000000ull; r_zs = 0x2e000000ull; r_v3 = 11776ull; r_ua = 0x2e00000000000000ull; r_v9 = 0x2e0000000000ull; r_ps = 0x2e000000ull; r_gi = 11776ull; r_3f = 0x2e00000000000000ull; r_pn = 0x2e0000000000ull; r_je = 0x2e000000ull; r_jk = 11776ull; r_l0 = t_1w_2; r_qi = t_pq_2; r_vv = t_ed_2; r_sr = t_6o_2; r_qg = t_1w_1; r_q7 = t_pq_1; r_58 = t_ed_1; r_6f = t_6o_1; r_w2 = t_1w; r_mm = t_pq; r_0r = t_ed; r_75 = t_6o; r_fn = r_pe; r_i4 = t_pt; r_1t = t_ni; r_a1 = t_bt; r_cc = r_47; r_5r_1 = t_pt_1; r_og = t_ni_1; r_7z = t_bt_1; r_m1 = r_47_1; r_nq = t_pt_2; r_7w = t_ni_2; r_w5 = t_bt_2; r_0i = r_47_2; r_x9 = 0x2e0000ull; r_vm = 0x2e00000000ull; r_4a = 0x2e000000000000ull; r_75_1 = 46u; r_9s = 0x2e0000ull; r_co = 0x2e00000000ull; r_0c = 0x2e000000000000ull; r_9q = 46u; r_zy = 0x2e0000ull; r_ph = 0x2e00000000ull; r_hk = 0x2e000000000000ull; r_tw = 46u; r_hl = 0x2e0000ull; r_7a = 0x2e00000000ull; r_1y = 0x2e000000000000ull; r_if = 46u; r_uk = 0x2e0000ull; r_3d = 0x2e00000000ull; r_6w = 0x2e000000000000ull; r_93 = 46u; r_gg = 0x2e0000ull; r_zt = 0x2e00000000ull; r_m6 = 0x2e000000000000ull; r_jc = 46u; r_vw = 0x2e0000ull; r_xz = 0x2e00000000ull; goto l_std_tz; }
     t_6o_3 = (u64)((u64)ld8((a_4 + 25)) << 8ull);
-    if (!(a_5 > 26ull)) { r_zo = 0x2e000000ull; r_lj = 11776ull; r_42 = 0x2e00000000000000ull; r_5r = 0x2e0000000000ull; r_pa = 0x2e000000ull; r_7p = 11776ull; r_o8 = 0x2e00000000000000ull; r_bf = 0x2e0000000000ull; r_bp = 0x2e000000ull; r_m3 = 11776ull; r_1s = 0x2e00000000000000ull; r_2r = 0x2e0000000000ull; r_pk = 0x2e000000ull; r_wb = 11776ull; r_3n = 0x2e00000000000000ull; r_bo = 0x2e0000000000ull; r_zs = 0x2e000000ull; r_v3 = 11776ull; r_ua = 0x2e00000000000000ull; r_v9 = 0x2e0000000000ull; r_ps = 0x2e000000ull; r_gi = 11776ull; r_3f = 0x2e00000000000000ull; r_pn = 0x2e0000000000ull; r_je = 0x2e000000ull; r_jk = t_6o_3; r_l0 = t_1w_2; r_qi = t_pq_2; r_vv = t_ed_2; r_sr = t_6o_2; r_qg = t_1w_1; r_q7 = t_pq_1; r_58 = t_ed_1; r_6f = t_6o_1; r_w2 = t_1w; r_mm = t_pq; r_0r = t_ed; r_75 = t_6o; r_fn = r_pe; r_i4 = t_pt; r_1t = t_ni; r_a1 = t_bt; r_cc = r_47_7; r_5r_1 = t_pt_1; r_og = t_ni_1; r_7z = t_bt_1; r_m1 = r_47_15; r_nq = t_pt_2; r_7w = t_ni_2; r_w5 = t_bt_2; r_0i = r_47_23; r_x9 = 0x2e0000ull; r_vm = 0x2e00000000ull; r_4a = 0x2e000000000000ull; r_75_1 = 46u; r_9s = 0x2e0000ull; r_co = 0x2e00000000ull; r_0c = 0x2e000000000000ull; r_9q = 46u; r_zy = 0x2e0000ull; r_ph = 0x2e00000000ull; r_hk = 0x2e000000000000ull; r_tw = 46u; r_hl = 0x2e0000ull; r_7a = 0x2e00000000ull; r_1y = 0x2e000000000000ull; r_if = 46u; r_uk = 0x2e0000ull; r_3d = 0x2e00000000ull; r_6w = 0x2e000000000000ull; r_93 = 46u; r_gg = 0x2e0000ull; r_zt = 0x2e00000000ull; r_m6 = 0x2e000000000000ull; r_jc = 46u; r_vw = 0x2e0000ull; r_xz = 0x2e00000000ull; goto l_std_tz; }
+    if (!(a_5 > 26ull)) { r_zo = 0x2e000000ull; r_lj = 11776ull; r_42 = 0x2e00000000000000ull; r_5r = 0x2e0000000000ull; r_pa = 0x2e000000ull; r_7p = 11776ull; r_o8 = 0x2e00000000000000ull; r_bf = 0x2e0000000000ull; r_bp = 0x2e000000ull; r_m3 = 11776ull; r_1s = 0x2e00000000000000ull; r_2r = 0x2e0000000000ull; r_pk = 0x2e000000ull; r_wb = 11776ull; r_3n = 0x2e00000000000000ull; r_bo = 0x2e0000000000ull; r_zs = 0x2e000000ull; r_v3 = 11776ull; r_ua = 0x2e00000000000000ull; r_v9 = 0x2e0000000000ull; r_ps = 0x2e000000ull; r_gi = 11776ull; r_3f = 0x2e00000000000000ull; r_pn = 0x2e0000000000ull; r_je = 0x2e000000ull; r_jk = t_6o_3; r_l0 = t_1w_2; r_qi = t_pq_2; r_vv = t_ed_2; r_sr = t_6o_2; r_qg = t_1w_1; r_q7 = t_pq_1; r_58 = t_ed_1; r_6f = t_6o_1; r_w2 = t_1w; r_mm = t_pq; r_0r = t_ed; r_75 = t_6o; r_fn = r_pe; r_i4 = t_pt; r_1t = t_ni; r_a1 = t_bt; r_cc = r_47; r_5r_1 = t_pt_1; r_og = t_ni_1; r_7z = t_bt_1; r_m1 = r_47_1; r_nq = t_pt_2; r_7w = t_ni_2; r_w5 = t_bt_2; r_0i = r_47_2; r_x9 = 0x2e0000ull; r_vm = 0x2e00000000ull; r_4a = 0x2e000000000000ull; r_75_1 = 46u; r_9s = 0x2e0000ull; r_co = 0x2e00000000ull; r_0c = 0x2e000000000000ull; r_9q = 46u; r_zy = 0x2e0000ull; r_ph = 0x2e00000000ull; r_hk = 0x2e000000000000ull; r_tw = 46u; r_hl = 0x2e0000ull; r_7a = 0x2e00000000ull; r_1y = 0x2e000000000000ull; r_if = 46u; r_uk = 0x2e0000ull; r_3d = 0x2e00000000ull; r_6w = 0x2e000000000000ull; r_93 = 46u; r_gg = 0x2e0000ull; r_zt = 0x2e00000000ull; r_m6 = 0x2e000000000000ull; r_jc = 46u; r_vw = 0x2e0000ull; r_xz = 0x2e00000000ull; goto l_std_tz; }
     t_pt_3 = (u64)((u64)ld8((a_4 + 26)) << 16ull);
-    if (a_5 == 27ull) { r_zo = 0x2e000000ull; r_lj = 11776ull; r_42 = 0x2e00000000000000ull; r_5r = 0x2e0000000000ull; r_pa = 0x2e000000ull; r_7p = 11776ull; r_o8 = 0x2e00000000000000ull; r_bf = 0x2e0000000000ull; r_bp = 0x2e000000ull; r_m3 = 11776ull; r_1s = 0x2e00000000000000ull; r_2r = 0x2e0000000000ull; r_pk = 0x2e000000ull; r_wb = 11776ull; r_3n = 0x2e00000000000000ull; r_bo = 0x2e0000000000ull; r_zs = 0x2e000000ull; r_v3 = 11776ull; r_ua = 0x2e00000000000000ull; r_v9 = 0x2e0000000000ull; r_ps = 0x2e000000ull; r_gi = 11776ull; r_3f = 0x2e00000000000000ull; r_pn = 0x2e0000000000ull; r_je = 0x2e000000ull; r_jk = t_6o_3; r_l0 = t_1w_2; r_qi = t_pq_2; r_vv = t_ed_2; r_sr = t_6o_2; r_qg = t_1w_1; r_q7 = t_pq_1; r_58 = t_ed_1; r_6f = t_6o_1; r_w2 = t_1w; r_mm = t_pq; r_0r = t_ed; r_75 = t_6o; r_fn = r_pe; r_i4 = t_pt; r_1t = t_ni; r_a1 = t_bt; r_cc = r_47_7; r_5r_1 = t_pt_1; r_og = t_ni_1; r_7z = t_bt_1; r_m1 = r_47_15; r_nq = t_pt_2; r_7w = t_ni_2; r_w5 = t_bt_2; r_0i = r_47_23; r_x9 = t_pt_3; r_vm = 0x2e00000000ull; r_4a = 0x2e000000000000ull; r_75_1 = 46u; r_9s = 0x2e0000ull; r_co = 0x2e00000000ull; r_0c = 0x2e000000000000ull; r_9q = 46u; r_zy = 0x2e0000ull; r_ph = 0x2e00000000ull; r_hk = 0x2e000000000000ull; r_tw = 46u; r_hl = 0x2e0000ull; r_7a = 0x2e00000000ull; r_1y = 0x2e000000000000ull; r_if = 46u; r_uk = 0x2e0000ull; r_3d = 0x2e00000000ull; r_6w = 0x2e000000000000ull; r_93 = 46u; r_gg = 0x2e0000ull; r_zt = 0x2e00000000ull; r_m6 = 0x2e000000000000ull; r_jc = 46u; r_vw = 0x2e0000ull; r_xz = 0x2e00000000ull; goto l_std_tz; }
+    if (a_5 == 27ull) { r_zo = 0x2e000000ull; r_lj = 11776ull; r_42 = 0x2e00000000000000ull; r_5r = 0x2e0000000000ull; r_pa = 0x2e000000ull; r_7p = 11776ull; r_o8 = 0x2e00000000000000ull; r_bf = 0x2e0000000000ull; r_bp = 0x2e000000ull; r_m3 = 11776ull; r_1s = 0x2e00000000000000ull; r_2r = 0x2e0000000000ull; r_pk = 0x2e000000ull; r_wb = 11776ull; r_3n = 0x2e00000000000000ull; r_bo = 0x2e0000000000ull; r_zs = 0x2e000000ull; r_v3 = 11776ull; r_ua = 0x2e00000000000000ull; r_v9 = 0x2e0000000000ull; r_ps = 0x2e000000ull; r_gi = 11776ull; r_3f = 0x2e00000000000000ull; r_pn = 0x2e0000000000ull; r_je = 0x2e000000ull; r_jk = t_6o_3; r_l0 = t_1w_2; r_qi = t_pq_2; r_vv = t_ed_2; r_sr = t_6o_2; r_qg = t_1w_1; r_q7 = t_pq_1; r_58 = t_ed_1; r_6f = t_6o_1; r_w2 = t_1w; r_mm = t_pq; r_0r = t_ed; r_75 = t_6o; r_fn = r_pe; r_i4 = t_pt; r_1t = t_ni; r_a1 = t_bt; r_cc = r_47; r_5r_1 = t_pt_1; r_og = t_ni_1; r_7z = t_bt_1; r_m1 = r_47_1; r_nq = t_pt_2; r_7w = t_ni_2; r_w5 = t_bt_2; r_0i = r_47_2; r_x9 = t_pt_3; r_vm = 0x2e00000000ull; r_4a = 0x2e000000000000ull; r_75_1 = 46u; r_9s = 0x2e0000ull; r_co = 0x2e00000000ull; r_0c = 0x2e000000000000ull; r_9q = 46u; r_zy = 0x2e0000ull; r_ph = 0x2e00000000ull; r_hk = 0x2e000000000000ull; r_tw = 46u; r_hl = 0x2e0000ull; r_7a = 0x2e00000000ull; r_1y = 0x2e000000000000ull; r_if = 46u; r_uk = 0x2e0000ull; r_3d = 0x2e00000000ull; r_6w = 0x2e000000000000ull; r_93 = 46u; r_gg = 0x2e0000ull; r_zt = 0x2e00000000ull; r_m6 = 0x2e000000000000ull; r_jc = 46u; r_vw = 0x2e0000ull; r_xz = 0x2e00000000ull; goto l_std_tz; }
     t_ed_3 = (u64)((u64)ld8((a_4 + 27)) << 24ull);
-    if (!(a_5 > 28ull)) { r_zo = 0x2e000000ull; r_lj = 11776ull; r_42 = 0x2e00000000000000ull; r_5r = 0x2e0000000000ull; r_pa = 0x2e000000ull; r_7p = 11776ull; r_o8 = 0x2e00000000000000ull; r_bf = 0x2e0000000000ull; r_bp = 0x2e000000ull; r_m3 = 11776ull; r_1s = 0x2e00000000000000ull; r_2r = 0x2e0000000000ull; r_pk = 0x2e000000ull; r_wb = 11776ull; r_3n = 0x2e00000000000000ull; r_bo = 0x2e0000000000ull; r_zs = 0x2e000000ull; r_v3 = 11776ull; r_ua = 0x2e00000000000000ull; r_v9 = 0x2e0000000000ull; r_ps = 0x2e000000ull; r_gi = 11776ull; r_3f = 0x2e00000000000000ull; r_pn = 0x2e0000000000ull; r_je = t_ed_3; r_jk = t_6o_3; r_l0 = t_1w_2; r_qi = t_pq_2; r_vv = t_ed_2; r_sr = t_6o_2; r_qg = t_1w_1; r_q7 = t_pq_1; r_58 = t_ed_1; r_6f = t_6o_1; r_w2 = t_1w; r_mm = t_pq; r_0r = t_ed; r_75 = t_6o; r_fn = r_pe; r_i4 = t_pt; r_1t = t_ni; r_a1 = t_bt; r_cc = r_47_7; r_5r_1 = t_pt_1; r_og = t_ni_1; r_7z = t_bt_1; r_m1 = r_47_15; r_nq = t_pt_2; r_7w = t_ni_2; r_w5 = t_bt_2; r_0i = r_47_23; r_x9 = t_pt_3; r_vm = 0x2e00000000ull; r_4a = 0x2e000000000000ull; r_75_1 = 46u; r_9s = 0x2e0000ull; r_co = 0x2e00000000ull; r_0c = 0x2e000000000000ull; r_9q = 46u; r_zy = 0x2e0000ull; r_ph = 0x2e00000000ull; r_hk = 0x2e000000000000ull; r_tw = 46u; r_hl = 0x2e0000ull; r_7a = 0x2e00000000ull; r_1y = 0x2e000000000000ull; r_if = 46u; r_uk = 0x2e0000ull; r_3d = 0x2e00000000ull; r_6w = 0x2e000000000000ull; r_93 = 46u; r_gg = 0x2e0000ull; r_zt = 0x2e00000000ull; r_m6 = 0x2e000000000000ull; r_jc = 46u; r_vw = 0x2e0000ull; r_xz = 0x2e00000000ull; goto l_std_tz; }
+    if (!(a_5 > 28ull)) { r_zo = 0x2e000000ull; r_lj = 11776ull; r_42 = 0x2e00000000000000ull; r_5r = 0x2e0000000000ull; r_pa = 0x2e000000ull; r_7p = 11776ull; r_o8 = 0x2e00000000000000ull; r_bf = 0x2e0000000000ull; r_bp = 0x2e000000ull; r_m3 = 11776ull; r_1s = 0x2e00000000000000ull; r_2r = 0x2e0000000000ull; r_pk = 0x2e000000ull; r_wb = 11776ull; r_3n = 0x2e00000000000000ull; r_bo = 0x2e0000000000ull; r_zs = 0x2e000000ull; r_v3 = 11776ull; r_ua = 0x2e00000000000000ull; r_v9 = 0x2e0000000000ull; r_ps = 0x2e000000ull; r_gi = 11776ull; r_3f = 0x2e00000000000000ull; r_pn = 0x2e0000000000ull; r_je = t_ed_3; r_jk = t_6o_3; r_l0 = t_1w_2; r_qi = t_pq_2; r_vv = t_ed_2; r_sr = t_6o_2; r_qg = t_1w_1; r_q7 = t_pq_1; r_58 = t_ed_1; r_6f = t_6o_1; r_w2 = t_1w; r_mm = t_pq; r_0r = t_ed; r_75 = t_6o; r_fn = r_pe; r_i4 = t_pt; r_1t = t_ni; r_a1 = t_bt; r_cc = r_47; r_5r_1 = t_pt_1; r_og = t_ni_1; r_7z = t_bt_1; r_m1 = r_47_1; r_nq = t_pt_2; r_7w = t_ni_2; r_w5 = t_bt_2; r_0i = r_47_2; r_x9 = t_pt_3; r_vm = 0x2e00000000ull; r_4a = 0x2e000000000000ull; r_75_1 = 46u; r_9s = 0x2e0000ull; r_co = 0x2e00000000ull; r_0c = 0x2e000000000000ull; r_9q = 46u; r_zy = 0x2e0000ull; r_ph = 0x2e00000000ull; r_hk = 0x2e000000000000ull; r_tw = 46u; r_hl = 0x2e0000ull; r_7a = 0x2e00000000ull; r_1y = 0x2e000000000000ull; r_if = 46u; r_uk = 0x2e0000ull; r_3d = 0x2e00000000ull; r_6w = 0x2e000000000000ull; r_93 = 46u; r_gg = 0x2e0000ull; r_zt = 0x2e00000000ull; r_m6 = 0x2e000000000000ull; r_jc = 46u; r_vw = 0x2e0000ull; r_xz = 0x2e00000000ull; goto l_std_tz; }
     t_ni_3 = (u64)((u64)ld8((a_4 + 28)) << 32ull);
-    if (a_5 == 29ull) { r_zo = 0x2e000000ull; r_lj = 11776ull; r_42 = 0x2e00000000000000ull; r_5r = 0x2e0000000000ull; r_pa = 0x2e000000ull; r_7p = 11776ull; r_o8 = 0x2e00000000000000ull; r_bf = 0x2e0000000000ull; r_bp = 0x2e000000ull; r_m3 = 11776ull; r_1s = 0x2e00000000000000ull; r_2r = 0x2e0000000000ull; r_pk = 0x2e000000ull; r_wb = 11776ull; r_3n = 0x2e00000000000000ull; r_bo = 0x2e0000000000ull; r_zs = 0x2e000000ull; r_v3 = 11776ull; r_ua = 0x2e00000000000000ull; r_v9 = 0x2e0000000000ull; r_ps = 0x2e000000ull; r_gi = 11776ull; r_3f = 0x2e00000000000000ull; r_pn = 0x2e0000000000ull; r_je = t_ed_3; r_jk = t_6o_3; r_l0 = t_1w_2; r_qi = t_pq_2; r_vv = t_ed_2; r_sr = t_6o_2; r_qg = t_1w_1; r_q7 = t_pq_1; r_58 = t_ed_1; r_6f = t_6o_1; r_w2 = t_1w; r_mm = t_pq; r_0r = t_ed; r_75 = t_6o; r_fn = r_pe; r_i4 = t_pt; r_1t = t_ni; r_a1 = t_bt; r_cc = r_47_7; r_5r_1 = t_pt_1; r_og = t_ni_1; r_7z = t_bt_1; r_m1 = r_47_15; r_nq = t_pt_2; r_7w = t_ni_2; r_w5 = t_bt_2; r_0i = r_47_23; r_x9 = t_pt_3; r_vm = t_ni_3; r_4a = 0x2e000000000000ull; r_75_1 = 46u; r_9s = 0x2e0000ull; r_co = 0x2e00000000ull; r_0c = 0x2e000000000000ull; r_9q = 46u; r_zy = 0x2e0000ull; r_ph = 0x2e00000000ull; r_hk = 0x2e000000000000ull; r_tw = 46u; r_hl = 0x2e0000ull; r_7a = 0x2e00000000ull; r_1y = 0x2e000000000000ull; r_if = 46u; r_uk = 0x2e0000ull; r_3d = 0x2e00000000ull; r_6w = 0x2e000000000000ull; r_93 = 46u; r_gg = 0x2e0000ull; r_zt = 0x2e00000000ull; r_m6 = 0x2e000000000000ull; r_jc = 46u; r_vw = 0x2e0000ull; r_xz = 0x2e00000000ull; goto l_std_tz; }
+    if (a_5 == 29ull) { r_zo = 0x2e000000ull; r_lj = 11776ull; r_42 = 0x2e00000000000000ull; r_5r = 0x2e0000000000ull; r_pa = 0x2e000000ull; r_7p = 11776ull; r_o8 = 0x2e00000000000000ull; r_bf = 0x2e0000000000ull; r_bp = 0x2e000000ull; r_m3 = 11776ull; r_1s = 0x2e00000000000000ull; r_2r = 0x2e0000000000ull; r_pk = 0x2e000000ull; r_wb = 11776ull; r_3n = 0x2e00000000000000ull; r_bo = 0x2e0000000000ull; r_zs = 0x2e000000ull; r_v3 = 11776ull; r_ua = 0x2e00000000000000ull; r_v9 = 0x2e0000000000ull; r_ps = 0x2e000000ull; r_gi = 11776ull; r_3f = 0x2e00000000000000ull; r_pn = 0x2e0000000000ull; r_je = t_ed_3; r_jk = t_6o_3; r_l0 = t_1w_2; r_qi = t_pq_2; r_vv = t_ed_2; r_sr = t_6o_2; r_qg = t_1w_1; r_q7 = t_pq_1; r_58 = t_ed_1; r_6f = t_6o_1; r_w2 = t_1w; r_mm = t_pq; r_0r = t_ed; r_75 = t_6o; r_fn = r_pe; r_i4 = t_pt; r_1t = t_ni; r_a1 = t_bt; r_cc = r_47; r_5r_1 = t_pt_1; r_og = t_ni_1; r_7z = t_bt_1; r_m1 = r_47_1; r_nq = t_pt_2; r_7w = t_ni_2; r_w5 = t_bt_2; r_0i = r_47_2; r_x9 = t_pt_3; r_vm = t_ni_3; r_4a = 0x2e000000000000ull; r_75_1 = 46u; r_9s = 0x2e0000ull; r_co = 0x2e00000000ull; r_0c = 0x2e000000000000ull; r_9q = 46u; r_zy = 0x2e0000ull; r_ph = 0x2e00000000ull; r_hk = 0x2e000000000000ull; r_tw = 46u; r_hl = 0x2e0000ull; r_7a = 0x2e00000000ull; r_1y = 0x2e000000000000ull; r_if = 46u; r_uk = 0x2e0000ull; r_3d = 0x2e00000000ull; r_6w = 0x2e000000000000ull; r_93 = 46u; r_gg = 0x2e0000ull; r_zt = 0x2e00000000ull; r_m6 = 0x2e000000000000ull; r_jc = 46u; r_vw = 0x2e0000ull; r_xz = 0x2e00000000ull; goto l_std_tz; }
     t_pq_3 = (u64)((u64)ld8((a_4 + 29)) << 40ull);
-    if (!(a_5 > 30ull)) { r_zo = 0x2e000000ull; r_lj = 11776ull; r_42 = 0x2e00000000000000ull; r_5r = 0x2e0000000000ull; r_pa = 0x2e000000ull; r_7p = 11776ull; r_o8 = 0x2e00000000000000ull; r_bf = 0x2e0000000000ull; r_bp = 0x2e000000ull; r_m3 = 11776ull; r_1s = 0x2e00000000000000ull; r_2r = 0x2e0000000000ull; r_pk = 0x2e000000ull; r_wb = 11776ull; r_3n = 0x2e00000000000000ull; r_bo = 0x2e0000000000ull; r_zs = 0x2e000000ull; r_v3 = 11776ull; r_ua = 0x2e00000000000000ull; r_v9 = 0x2e0000000000ull; r_ps = 0x2e000000ull; r_gi = 11776ull; r_3f = 0x2e00000000000000ull; r_pn = t_pq_3; r_je = t_ed_3; r_jk = t_6o_3; r_l0 = t_1w_2; r_qi = t_pq_2; r_vv = t_ed_2; r_sr = t_6o_2; r_qg = t_1w_1; r_q7 = t_pq_1; r_58 = t_ed_1; r_6f = t_6o_1; r_w2 = t_1w; r_mm = t_pq; r_0r = t_ed; r_75 = t_6o; r_fn = r_pe; r_i4 = t_pt; r_1t = t_ni; r_a1 = t_bt; r_cc = r_47_7; r_5r_1 = t_pt_1; r_og = t_ni_1; r_7z = t_bt_1; r_m1 = r_47_15; r_nq = t_pt_2; r_7w = t_ni_2; r_w5 = t_bt_2; r_0i = r_47_23; r_x9 = t_pt_3; r_vm = t_ni_3; r_4a = 0x2e000000000000ull; r_75_1 = 46u; r_9s = 0x2e0000ull; r_co = 0x2e00000000ull; r_0c = 0x2e000000000000ull; r_9q = 46u; r_zy = 0x2e0000ull; r_ph = 0x2e00000000ull; r_hk = 0x2e000000000000ull; r_tw = 46u; r_hl = 0x2e0000ull; r_7a = 0x2e00000000ull; r_1y = 0x2e000000000000ull; r_if = 46u; r_uk = 0x2e0000ull; r_3d = 0x2e00000000ull; r_6w = 0x2e000000000000ull; r_93 = 46u; r_gg = 0x2e0000ull; r_zt = 0x2e00000000ull; r_m6 = 0x2e000000000000ull; r_jc = 46u; r_vw = 0x2e0000ull; r_xz = 0x2e00000000ull; goto l_std_tz; }
+    if (!(a_5 > 30ull)) { r_zo = 0x2e000000ull; r_lj = 11776ull; r_42 = 0x2e00000000000000ull; r_5r = 0x2e0000000000ull; r_pa = 0x2e000000ull; r_7p = 11776ull; r_o8 = 0x2e00000000000000ull; r_bf = 0x2e0000000000ull; r_bp = 0x2e000000ull; r_m3 = 11776ull; r_1s = 0x2e00000000000000ull; r_2r = 0x2e0000000000ull; r_pk = 0x2e000000ull; r_wb = 11776ull; r_3n = 0x2e00000000000000ull; r_bo = 0x2e0000000000ull; r_zs = 0x2e000000ull; r_v3 = 11776ull; r_ua = 0x2e00000000000000ull; r_v9 = 0x2e0000000000ull; r_ps = 0x2e000000ull; r_gi = 11776ull; r_3f = 0x2e00000000000000ull; r_pn = t_pq_3; r_je = t_ed_3; r_jk = t_6o_3; r_l0 = t_1w_2; r_qi = t_pq_2; r_vv = t_ed_2; r_sr = t_6o_2; r_qg = t_1w_1; r_q7 = t_pq_1; r_58 = t_ed_1; r_6f = t_6o_1; r_w2 = t_1w; r_mm = t_pq; r_0r = t_ed; r_75 = t_6o; r_fn = r_pe; r_i4 = t_pt; r_1t = t_ni; r_a1 = t_bt; r_cc = r_47; r_5r_1 = t_pt_1; r_og = t_ni_1; r_7z = t_bt_1; r_m1 = r_47_1; r_nq = t_pt_2; r_7w = t_ni_2; r_w5 = t_bt_2; r_0i = r_47_2; r_x9 = t_pt_3; r_vm = t_ni_3; r_4a = 0x2e000000000000ull; r_75_1 = 46u; r_9s = 0x2e0000ull; r_co = 0x2e00000000ull; r_0c = 0x2e000000000000ull; r_9q = 46u; r_zy = 0x2e0000ull; r_ph = 0x2e00000000ull; r_hk = 0x2e000000000000ull; r_tw = 46u; r_hl = 0x2e0000ull; r_7a = 0x2e00000000ull; r_1y = 0x2e000000000000ull; r_if = 46u; r_uk = 0x2e0000ull; r_3d = 0x2e00000000ull; r_6w = 0x2e000000000000ull; r_93 = 46u; r_gg = 0x2e0000ull; r_zt = 0x2e00000000ull; r_m6 = 0x2e000000000000ull; r_jc = 46u; r_vw = 0x2e0000ull; r_xz = 0x2e00000000ull; goto l_std_tz; }
     t_bt_3 = (u64)((u64)ld8((a_4 + 30)) << 48ull);
-    if (a_5 == 31ull) { r_zo = 0x2e000000ull; r_lj = 11776ull; r_42 = 0x2e00000000000000ull; r_5r = 0x2e0000000000ull; r_pa = 0x2e000000ull; r_7p = 11776ull; r_o8 = 0x2e00000000000000ull; r_bf = 0x2e0000000000ull; r_bp = 0x2e000000ull; r_m3 = 11776ull; r_1s = 0x2e00000000000000ull; r_2r = 0x2e0000000000ull; r_pk = 0x2e000000ull; r_wb = 11776ull; r_3n = 0x2e00000000000000ull; r_bo = 0x2e0000000000ull; r_zs = 0x2e000000ull; r_v3 = 11776ull; r_ua = 0x2e00000000000000ull; r_v9 = 0x2e0000000000ull; r_ps = 0x2e000000ull; r_gi = 11776ull; r_3f = 0x2e00000000000000ull; r_pn = t_pq_3; r_je = t_ed_3; r_jk = t_6o_3; r_l0 = t_1w_2; r_qi = t_pq_2; r_vv = t_ed_2; r_sr = t_6o_2; r_qg = t_1w_1; r_q7 = t_pq_1; r_58 = t_ed_1; r_6f = t_6o_1; r_w2 = t_1w; r_mm = t_pq; r_0r = t_ed; r_75 = t_6o; r_fn = r_pe; r_i4 = t_pt; r_1t = t_ni; r_a1 = t_bt; r_cc = r_47_7; r_5r_1 = t_pt_1; r_og = t_ni_1; r_7z = t_bt_1; r_m1 = r_47_15; r_nq = t_pt_2; r_7w = t_ni_2; r_w5 = t_bt_2; r_0i = r_47_23; r_x9 = t_pt_3; r_vm = t_ni_3; r_4a = t_bt_3; r_75_1 = 46u; r_9s = 0x2e0000ull; r_co = 0x2e00000000ull; r_0c = 0x2e000000000000ull; r_9q = 46u; r_zy = 0x2e0000ull; r_ph = 0x2e00000000ull; r_hk = 0x2e000000000000ull; r_tw = 46u; r_hl = 0x2e0000ull; r_7a = 0x2e00000000ull; r_1y = 0x2e000000000000ull; r_if = 46u; r_uk = 0x2e0000ull; r_3d = 0x2e00000000ull; r_6w = 0x2e000000000000ull; r_93 = 46u; r_gg = 0x2e0000ull; r_zt = 0x2e00000000ull; r_m6 = 0x2e000000000000ull; r_jc = 46u; r_vw = 0x2e0000ull; r_xz = 0x2e00000000ull; goto l_std_tz; }
+    if (a_5 == 31ull) { r_zo = 0x2e000000ull; r_lj = 11776ull; r_42 = 0x2e00000000000000ull; r_5r = 0x2e0000000000ull; r_pa = 0x2e000000ull; r_7p = 11776ull; r_o8 = 0x2e00000000000000ull; r_bf = 0x2e0000000000ull; r_bp = 0x2e000000ull; r_m3 = 11776ull; r_1s = 0x2e00000000000000ull; r_2r = 0x2e0000000000ull; r_pk = 0x2e000000ull; r_wb = 11776ull; r_3n = 0x2e00000000000000ull; r_bo = 0x2e0000000000ull; r_zs = 0x2e000000ull; r_v3 = 11776ull; r_ua = 0x2e00000000000000ull; r_v9 = 0x2e0000000000ull; r_ps = 0x2e000000ull; r_gi = 11776ull; r_3f = 0x2e00000000000000ull; r_pn = t_pq_3; r_je = t_ed_3; r_jk = t_6o_3; r_l0 = t_1w_2; r_qi = t_pq_2; r_vv = t_ed_2; r_sr = t_6o_2; r_qg = t_1w_1; r_q7 = t_pq_1; r_58 = t_ed_1; r_6f = t_6o_1; r_w2 = t_1w; r_mm = t_pq; r_0r = t_ed; r_75 = t_6o; r_fn = r_pe; r_i4 = t_pt; r_1t = t_ni; r_a1 = t_bt; r_cc = r_47; r_5r_1 = t_pt_1; r_og = t_ni_1; r_7z = t_bt_1; r_m1 = r_47_1; r_nq = t_pt_2; r_7w = t_ni_2; r_w5 = t_bt_2; r_0i = r_47_2; r_x9 = t_pt_3; r_vm = t_ni_3; r_4a = t_bt_3; r_75_1 = 46u; r_9s = 0x2e0000ull; r_co = 0x2e00000000ull; r_0c = 0x2e000000000000ull; r_9q = 46u; r_zy = 0x2e0000ull; r_ph = 0x2e00000000ull; r_hk = 0x2e000000000000ull; r_tw = 46u; r_hl = 0x2e0000ull; r_7a = 0x2e00000000ull; r_1y = 0x2e000000000000ull; r_if = 46u; r_uk = 0x2e0000ull; r_3d = 0x2e00000000ull; r_6w = 0x2e000000000000ull; r_93 = 46u; r_gg = 0x2e0000ull; r_zt = 0x2e00000000ull; r_m6 = 0x2e000000000000ull; r_jc = 46u; r_vw = 0x2e0000ull; r_xz = 0x2e00000000ull; goto l_std_tz; }
     t_1w_3 = (u64)((u64)ld8((a_4 + 31)) << 56ull);
-    if (!(a_5 > 32ull)) { r_zo = 0x2e000000ull; r_lj = 11776ull; r_42 = 0x2e00000000000000ull; r_5r = 0x2e0000000000ull; r_pa = 0x2e000000ull; r_7p = 11776ull; r_o8 = 0x2e00000000000000ull; r_bf = 0x2e0000000000ull; r_bp = 0x2e000000ull; r_m3 = 11776ull; r_1s = 0x2e00000000000000ull; r_2r = 0x2e0000000000ull; r_pk = 0x2e000000ull; r_wb = 11776ull; r_3n = 0x2e00000000000000ull; r_bo = 0x2e0000000000ull; r_zs = 0x2e000000ull; r_v3 = 11776ull; r_ua = 0x2e00000000000000ull; r_v9 = 0x2e0000000000ull; r_ps = 0x2e000000ull; r_gi = 11776ull; r_3f = t_1w_3; r_pn = t_pq_3; r_je = t_ed_3; r_jk = t_6o_3; r_l0 = t_1w_2; r_qi = t_pq_2; r_vv = t_ed_2; r_sr = t_6o_2; r_qg = t_1w_1; r_q7 = t_pq_1; r_58 = t_ed_1; r_6f = t_6o_1; r_w2 = t_1w; r_mm = t_pq; r_0r = t_ed; r_75 = t_6o; r_fn = r_pe; r_i4 = t_pt; r_1t = t_ni; r_a1 = t_bt; r_cc = r_47_7; r_5r_1 = t_pt_1; r_og = t_ni_1; r_7z = t_bt_1; r_m1 = r_47_15; r_nq = t_pt_2; r_7w = t_ni_2; r_w5 = t_bt_2; r_0i = r_47_23; r_x9 = t_pt_3; r_vm = t_ni_3; r_4a = t_bt_3; r_75_1 = 46u; r_9s = 0x2e0000ull; r_co = 0x2e00000000ull; r_0c = 0x2e000000000000ull; r_9q = 46u; r_zy = 0x2e0000ull; r_ph = 0x2e00000000ull; r_hk = 0x2e000000000000ull; r_tw = 46u; r_hl = 0x2e0000ull; r_7a = 0x2e00000000ull; r_1y = 0x2e000000000000ull; r_if = 46u; r_uk = 0x2e0000ull; r_3d = 0x2e00000000ull; r_6w = 0x2e000000000000ull; r_93 = 46u; r_gg = 0x2e0000ull; r_zt = 0x2e00000000ull; r_m6 = 0x2e000000000000ull; r_jc = 46u; r_vw = 0x2e0000ull; r_xz = 0x2e00000000ull; goto l_std_tz; }
-    r_47_31 = ld8((a_4 + 32));
-    if (a_5 == 33ull) { r_zo = 0x2e000000ull; r_lj = 11776ull; r_42 = 0x2e00000000000000ull; r_5r = 0x2e0000000000ull; r_pa = 0x2e000000ull; r_7p = 11776ull; r_o8 = 0x2e00000000000000ull; r_bf = 0x2e0000000000ull; r_bp = 0x2e000000ull; r_m3 = 11776ull; r_1s = 0x2e00000000000000ull; r_2r = 0x2e0000000000ull; r_pk = 0x2e000000ull; r_wb = 11776ull; r_3n = 0x2e00000000000000ull; r_bo = 0x2e0000000000ull; r_zs = 0x2e000000ull; r_v3 = 11776ull; r_ua = 0x2e00000000000000ull; r_v9 = 0x2e0000000000ull; r_ps = 0x2e000000ull; r_gi = 11776ull; r_3f = t_1w_3; r_pn = t_pq_3; r_je = t_ed_3; r_jk = t_6o_3; r_l0 = t_1w_2; r_qi = t_pq_2; r_vv = t_ed_2; r_sr = t_6o_2; r_qg = t_1w_1; r_q7 = t_pq_1; r_58 = t_ed_1; r_6f = t_6o_1; r_w2 = t_1w; r_mm = t_pq; r_0r = t_ed; r_75 = t_6o; r_fn = r_pe; r_i4 = t_pt; r_1t = t_ni; r_a1 = t_bt; r_cc = r_47_7; r_5r_1 = t_pt_1; r_og = t_ni_1; r_7z = t_bt_1; r_m1 = r_47_15; r_nq = t_pt_2; r_7w = t_ni_2; r_w5 = t_bt_2; r_0i = r_47_23; r_x9 = t_pt_3; r_vm = t_ni_3; r_4a = t_bt_3; r_75_1 = r_47_31; r_9s = 0x2e0000ull; r_co = 0x2e00000000ull; r_0c = 0x2e000000000000ull; r_9q = 46u; r_zy = 0x2e0000ull; r_ph = 0x2e00000000ull; r_hk = 0x2e000000000000ull; r_tw = 46u; r_hl = 0x2e0000ull; r_7a = 0x2e00000000ull; r_1y = 0x2e000000000000ull; r_if = 46u; r_uk = 0x2e0000ull; r_3d = 0x2e00000000ull; r_6w = 0x2e000000000000ull; r_93 = 46u; r_gg = 0x2e0000ull; r_zt = 0x2e00000000ull; r_m6 = 0x2e000000000000ull; r_jc = 46u; r_vw = 0x2e0000ull; r_xz = 0x2e00000000ull; goto l_std_tz; }
+    if (!(a_5 > 32ull)) { r_zo = 0x2e000000ull; r_lj = 11776ull; r_42 = 0x2e00000000000000ull; r_5r = 0x2e0000000000ull; r_pa = 0x2e000000ull; r_7p = 11776ull; r_o8 = 0x2e00000000000000ull; r_bf = 0x2e0000000000ull; r_bp = 0x2e000000ull; r_m3 = 11776ull; r_1s = 0x2e00000000000000ull; r_2r = 0x2e0000000000ull; r_pk = 0x2e000000ull; r_wb = 11776ull; r_3n = 0x2e00000000000000ull; r_bo = 0x2e0000000000ull; r_zs = 0x2e000000ull; r_v3 = 11776ull; r_ua = 0x2e00000000000000ull; r_v9 = 0x2e0000000000ull; r_ps = 0x2e000000ull; r_gi = 11776ull; r_3f = t_1w_3; r_pn = t_pq_3; r_je = t_ed_3; r_jk = t_6o_3; r_l0 = t_1w_2; r_qi = t_pq_2; r_vv = t_ed_2; r_sr = t_6o_2; r_qg = t_1w_1; r_q7 = t_pq_1; r_58 = t_ed_1; r_6f = t_6o_1; r_w2 = t_1w; r_mm = t_pq; r_0r = t_ed; r_75 = t_6o; r_fn = r_pe; r_i4 = t_pt; r_1t = t_ni; r_a1 = t_bt; r_cc = r_47; r_5r_1 = t_pt_1; r_og = t_ni_1; r_7z = t_bt_1; r_m1 = r_47_1; r_nq = t_pt_2; r_7w = t_ni_2; r_w5 = t_bt_2; r_0i = r_47_2; r_x9 = t_pt_3; r_vm = t_ni_3; r_4a = t_bt_3; r_75_1 = 46u; r_9s = 0x2e0000ull; r_co = 0x2e00000000ull; r_0c = 0x2e000000000000ull; r_9q = 46u; r_zy = 0x2e0000ull; r_ph = 0x2e00000000ull; r_hk = 0x2e000000000000ull; r_tw = 46u; r_hl = 0x2e0000ull; r_7a = 0x2e00000000ull; r_1y = 0x2e000000000000ull; r_if = 46u; r_uk = 0x2e0000ull; r_3d = 0x2e00000000ull; r_6w = 0x2e000000000000ull; r_93 = 46u; r_gg = 0x2e0000ull; r_zt = 0x2e00000000ull; r_m6 = 0x2e000000000000ull; r_jc = 46u; r_vw = 0x2e0000ull; r_xz = 0x2e00000000ull; goto l_std_tz; }
+    r_47_3 = ld8((a_4 + 32));
+    if (a_5 == 33ull) { r_zo = 0x2e000000ull; r_lj = 11776ull; r_42 = 0x2e00000000000000ull; r_5r = 0x2e0000000000ull; r_pa = 0x2e000000ull; r_7p = 11776ull; r_o8 = 0x2e00000000000000ull; r_bf = 0x2e0000000000ull; r_bp = 0x2e000000ull; r_m3 = 11776ull; r_1s = 0x2e00000000000000ull; r_2r = 0x2e0000000000ull; r_pk = 0x2e000000ull; r_wb = 11776ull; r_3n = 0x2e00000000000000ull; r_bo = 0x2e0000000000ull; r_zs = 0x2e000000ull; r_v3 = 11776ull; r_ua = 0x2e00000000000000ull; r_v9 = 0x2e0000000000ull; r_ps = 0x2e000000ull; r_gi = 11776ull; r_3f = t_1w_3; r_pn = t_pq_3; r_je = t_ed_3; r_jk = t_6o_3; r_l0 = t_1w_2; r_qi = t_pq_2; r_vv = t_ed_2; r_sr = t_6o_2; r_qg = t_1w_1; r_q7 = t_pq_1; r_58 = t_ed_1; r_6f = t_6o_1; r_w2 = t_1w; r_mm = t_pq; r_0r = t_ed; r_75 = t_6o; r_fn = r_pe; r_i4 = t_pt; r_1t = t_ni; r_a1 = t_bt; r_cc = r_47; r_5r_1 = t_pt_1; r_og = t_ni_1; r_7z = t_bt_1; r_m1 = r_47_1; r_nq = t_pt_2; r_7w = t_ni_2; r_w5 = t_bt_2; r_0i = r_47_2; r_x9 = t_pt_3; r_vm = t_ni_3; r_4a = t_bt_3; r_75_1 = r_47_3; r_9s = 0x2e0000ull; r_co = 0x2e00000000ull; r_0c = 0x2e000000000000ull; r_9q = 46u; r_zy = 0x2e0000ull; r_ph = 0x2e00000000ull; r_hk = 0x2e000000000000ull; r_tw = 46u; r_hl = 0x2e0000ull; r_7a = 0x2e00000000ull; r_1y = 0x2e000000000000ull; r_if = 46u; r_uk = 0x2e0000ull; r_3d = 0x2e00000000ull; r_6w = 0x2e000000000000ull; r_93 = 46u; r_gg = 0x2e0000ull; r_zt = 0x2e00000000ull; r_m6 = 0x2e000000000000ull; r_jc = 46u; r_vw = 0x2e0000ull; r_xz = 0x2e00000000ull; goto l_std_tz; }
     t_6o_4 = (u64)((u64)ld8((a_4 + 33)) << 8ull);
-    if (!(a_5 > 34ull)) { r_zo = 0x2e000000ull; r_lj = 11776ull; r_42 = 0x2e00000000000000ull; r_5r = 0x2e0000000000ull; r_pa = 0x2e000000ull; r_7p = 11776ull; r_o8 = 0x2e00000000000000ull; r_bf = 0x2e0000000000ull; r_bp = 0x2e000000ull; r_m3 = 11776ull; r_1s = 0x2e00000000000000ull; r_2r = 0x2e0000000000ull; r_pk = 0x2e000000ull; r_wb = 11776ull; r_3n = 0x2e00000000000000ull; r_bo = 0x2e0000000000ull; r_zs = 0x2e000000ull; r_v3 = 11776ull; r_ua = 0x2e00000000000000ull; r_v9 = 0x2e0000000000ull; r_ps = 0x2e000000ull; r_gi = t_6o_4; r_3f = t_1w_3; r_pn = t_pq_3; r_je = t_ed_3; r_jk = t_6o_3; r_l0 = t_1w_2; r_qi = t_pq_2; r_vv = t_ed_2; r_sr = t_6o_2; r_qg = t_1w_1; r_q7 = t_pq_1; r_58 = t_ed_1; r_6f = t_6o_1; r_w2 = t_1w; r_mm = t_pq; r_0r = t_ed; r_75 = t_6o; r_fn = r_pe; r_i4 = t_pt; r_1t = t_ni; r_a1 = t_bt; r_cc = r_47_7; r_5r_1 = t_pt_1; r_og = t_ni_1; r_7z = t_bt_1; r_m1 = r_47_15; r_nq = t_pt_2; r_7w = t_ni_2; r_w5 = t_bt_2; r_0i = r_47_23; r_x9 = t_pt_3; r_vm = t_ni_3; r_4a = t_bt_3; r_75_1 = r_47_31; r_9s = 0x2e0000ull; r_co = 0x2e00000000ull; r_0c = 0x2e000000000000ull; r_9q = 46u; r_zy = 0x2e0000ull; r_ph = 0x2e00000000ull; r_hk = 0x2e000000000000ull; r_tw = 46u; r_hl = 0x2e0000ull; r_7a = 0x2e00000000ull; r_1y = 0x2e000000000000ull; r_if = 46u; r_uk = 0x2e0000ull; r_3d = 0x2e00000000ull; r_6w = 0x2e000000000000ull; r_93 = 46u; r_gg = 0x2e0000ull; r_zt = 0x2e00000000ull; r_m6 = 0x2e000000000000ull; r_jc = 46u; r_vw = 0x2e0000ull; r_xz = 0x2e00000000ull; goto l_std_tz; }
+    if (!(a_5 > 34ull)) { r_zo = 0x2e000000ull; r_lj = 11776ull; r_42 = 0x2e00000000000000ull; r_5r = 0x2e0000000000ull; r_pa = 0x2e000000ull; r_7p = 11776ull; r_o8 = 0x2e00000000000000ull; r_bf = 0x2e0000000000ull; r_bp = 0x2e000000ull; r_m3 = 11776ull; r_1s = 0x2e00000000000000ull; r_2r = 0x2e0000000000ull; r_pk = 0x2e000000ull; r_wb = 11776ull; r_3n = 0x2e00000000000000ull; r_bo = 0x2e0000000000ull; r_zs = 0x2e000000ull; r_v3 = 11776ull; r_ua = 0x2e00000000000000ull; r_v9 = 0x2e0000000000ull; r_ps = 0x2e000000ull; r_gi = t_6o_4; r_3f = t_1w_3; r_pn = t_pq_3; r_je = t_ed_3; r_jk = t_6o_3; r_l0 = t_1w_2; r_qi = t_pq_2; r_vv = t_ed_2; r_sr = t_6o_2; r_qg = t_1w_1; r_q7 = t_pq_1; r_58 = t_ed_1; r_6f = t_6o_1; r_w2 = t_1w; r_mm = t_pq; r_0r = t_ed; r_75 = t_6o; r_fn = r_pe; r_i4 = t_pt; r_1t = t_ni; r_a1 = t_bt; r_cc = r_47; r_5r_1 = t_pt_1; r_og = t_ni_1; r_7z = t_bt_1; r_m1 = r_47_1; r_nq = t_pt_2; r_7w = t_ni_2; r_w5 = t_bt_2; r_0i = r_47_2; r_x9 = t_pt_3; r_vm = t_ni_3; r_4a = t_bt_3; r_75_1 = r_47_3; r_9s = 0x2e0000ull; r_co = 0x2e00000000ull; r_0c = 0x2e000000000000ull; r_9q = 46u; r_zy = 0x2e0000ull; r_ph = 0x2e00000000ull; r_hk = 0x2e000000000000ull; r_tw = 46u; r_hl = 0x2e0000ull; r_7a = 0x2e00000000ull; r_1y = 0x2e000000000000ull; r_if = 46u; r_uk = 0x2e0000ull; r_3d = 0x2e00000000ull; r_6w = 0x2e000000000000ull; r_93 = 46u; r_gg = 0x2e0000ull; r_zt = 0x2e00000000ull; r_m6 = 0x2e000000000000ull; r_jc = 46u; r_vw = 0x2e0000ull; r_xz = 0x2e00000000ull; goto l_std_tz; }
     t_pt_4 = (u64)((u64)ld8((a_4 + 34)) << 16ull);
-    if (a_5 == 35ull) { r_zo = 0x2e000000ull; r_lj = 11776ull; r_42 = 0x2e00000000000000ull; r_5r = 0x2e0000000000ull; r_pa = 0x2e000000ull; r_7p = 11776ull; r_o8 = 0x2e00000000000000ull; r_bf = 0x2e0000000000ull; r_bp = 0x2e000000ull; r_m3 = 11776ull; r_1s = 0x2e00000000000000ull; r_2r = 0x2e0000000000ull; r_pk = 0x2e000000ull; r_wb = 11776ull; r_3n = 0x2e00000000000000ull; r_bo = 0x2e0000000000ull; r_zs = 0x2e000000ull; r_v3 = 11776ull; r_ua = 0x2e00000000000000ull; r_v9 = 0x2e0000000000ull; r_ps = 0x2e000000ull; r_gi = t_6o_4; r_3f = t_1w_3; r_pn = t_pq_3; r_je = t_ed_3; r_jk = t_6o_3; r_l0 = t_1w_2; r_qi = t_pq_2; r_vv = t_ed_2; r_sr = t_6o_2; r_qg = t_1w_1; r_q7 = t_pq_1; r_58 = t_ed_1; r_6f = t_6o_1; r_w2 = t_1w; r_mm = t_pq; r_0r = t_ed; r_75 = t_6o; r_fn = r_pe; r_i4 = t_pt; r_1t = t_ni; r_a1 = t_bt; r_cc = r_47_7; r_5r_1 = t_pt_1; r_og = t_ni_1; r_7z = t_bt_1; r_m1 = r_47_15; r_nq = t_pt_2; r_7w = t_ni_2; r_w5 = t_bt_2; r_0i = r_47_23; r_x9 = t_pt_3; r_vm = t_ni_3; r_4a = t_bt_3; r_75_1 = r_47_31; r_9s = t_pt_4; r_co = 0x2e00000000ull; r_0c = 0x2e000000000000ull; r_9q = 46u; r_zy = 0x2e0000ull; r_ph = 0x2e00000000ull; r_hk = 0x2e000000000000ull; r_tw = 46u; r_hl = 0x2e0000ull; r_7a = 0x2e00000000ull; r_1y = 0x2e000000000000ull; r_if = 46u; r_uk = 0x2e0000ull; r_3d = 0x2e00000000ull; r_6w = 0x2e000000000000ull; r_93 = 46u; r_gg = 0x2e0000ull; r_zt = 0x2e00000000ull; r_m6 = 0x2e000000000000ull; r_jc = 46u; r_vw = 0x2e0000ull; r_xz = 0x2e00000000ull; goto l_std_tz; }
+    if (a_5 == 35ull) { r_zo = 0x2e000000ull; r_lj = 11776ull; r_42 = 0x2e00000000000000ull; r_5r = 0x2e0000000000ull; r_pa = 0x2e000000ull; r_7p = 11776ull; r_o8 = 0x2e00000000000000ull; r_bf = 0x2e0000000000ull; r_bp = 0x2e000000ull; r_m3 = 11776ull; r_1s = 0x2e00000000000000ull; r_2r = 0x2e0000000000ull; r_pk = 0x2e000000ull; r_wb = 11776ull; r_3n = 0x2e00000000000000ull; r_bo = 0x2e0000000000ull; r_zs = 0x2e000000ull; r_v3 = 11776ull; r_ua = 0x2e00000000000000ull; r_v9 = 0x2e0000000000ull; r_ps = 0x2e000000ull; r_gi = t_6o_4; r_3f = t_1w_3; r_pn = t_pq_3; r_je = t_ed_3; r_jk = t_6o_3; r_l0 = t_1w_2; r_qi = t_pq_2; r_vv = t_ed_2; r_sr = t_6o_2; r_qg = t_1w_1; r_q7 = t_pq_1; r_58 = t_ed_1; r_6f = t_6o_1; r_w2 = t_1w; r_mm = t_pq; r_0r = t_ed; r_75 = t_6o; r_fn = r_pe; r_i4 = t_pt; r_1t = t_ni; r_a1 = t_bt; r_cc = r_47; r_5r_1 = t_pt_1; r_og = t_ni_1; r_7z = t_bt_1; r_m1 = r_47_1; r_nq = t_pt_2; r_7w = t_ni_2; r_w5 = t_bt_2; r_0i = r_47_2; r_x9 = t_pt_3; r_vm = t_ni_3; r_4a = t_bt_3; r_75_1 = r_47_3; r_9s = t_pt_4; r_co = 0x2e00000000ull; r_0c = 0x2e000000000000ull; r_9q = 46u; r_zy = 0x2e0000ull; r_ph = 0x2e00000000ull; r_hk = 0x2e000000000000ull; r_tw = 46u; r_hl = 0x2e0000ull; r_7a = 0x2e00000000ull; r_1y = 0x2e000000000000ull; r_if = 46u; r_uk = 0x2e0000ull; r_3d = 0x2e00000000ull; r_6w = 0x2e000000000000ull; r_93 = 46u; r_gg = 0x2e0000ull; r_zt = 0x2e00000000ull; r_m6 = 0x2e000000000000ull; r_jc = 46u; r_vw = 0x2e0000ull; r_xz = 0x2e00000000ull; goto l_std_tz; }
     t_ed_4 = (u64)((u64)ld8((a_4 + 35)) << 24ull);
-    if (!(a_5 > 36ull)) { r_zo = 0x2e000000ull; r_lj = 11776ull; r_42 = 0x2e00000000000000ull; r_5r = 0x2e0000000000ull; r_pa = 0x2e000000ull; r_7p = 11776ull; r_o8 = 0x2e00000000000000ull; r_bf = 0x2e0000000000ull; r_bp = 0x2e000000ull; r_m3 = 11776ull; r_1s = 0x2e00000000000000ull; r_2r = 0x2e0000000000ull; r_pk = 0x2e000000ull; r_wb = 11776ull; r_3n = 0x2e00000000000000ull; r_bo = 0x2e0000000000ull; r_zs = 0x2e000000ull; r_v3 = 11776ull; r_ua = 0x2e00000000000000ull; r_v9 = 0x2e0000000000ull; r_ps = t_ed_4; r_gi = t_6o_4; r_3f = t_1w_3; r_pn = t_pq_3; r_je = t_ed_3; r_jk = t_6o_3; r_l0 = t_1w_2; r_qi = t_pq_2; r_vv = t_ed_2; r_sr = t_6o_2; r_qg = t_1w_1; r_q7 = t_pq_1; r_58 = t_ed_1; r_6f = t_6o_1; r_w2 = t_1w; r_mm = t_pq; r_0r = t_ed; r_75 = t_6o; r_fn = r_pe; r_i4 = t_pt; r_1t = t_ni; r_a1 = t_bt; r_cc = r_47_7; r_5r_1 = t_pt_1; r_og = t_ni_1; r_7z = t_bt_1; r_m1 = r_47_15; r_nq = t_pt_2; r_7w = t_ni_2; r_w5 = t_bt_2; r_0i = r_47_23; r_x9 = t_pt_3; r_vm = t_ni_3; r_4a = t_bt_3; r_75_1 = r_47_31; r_9s = t_pt_4; r_co = 0x2e00000000ull; r_0c = 0x2e000000000000ull; r_9q = 46u; r_zy = 0x2e0000ull; r_ph = 0x2e00000000ull; r_hk = 0x2e000000000000ull; r_tw = 46u; r_hl = 0x2e0000ull; r_7a = 0x2e00000000ull; r_1y = 0x2e000000000000ull; r_if = 46u; r_uk = 0x2e0000ull; r_3d = 0x2e00000000ull; r_6w = 0x2e000000000000ull; r_93 = 46u; r_gg = 0x2e0000ull; r_zt = 0x2e00000000ull; r_m6 = 0x2e000000000000ull; r_jc = 46u; r_vw = 0x2e0000ull; r_xz = 0x2e00000000ull; goto l_std_tz; }
+    if (!(a_5 > 36ull)) { r_zo = 0x2e000000ull; r_lj = 11776ull; r_42 = 0x2e00000000000000ull; r_5r = 0x2e0000000000ull; r_pa = 0x2e000000ull; r_7p = 11776ull; r_o8 = 0x2e00000000000000ull; r_bf = 0x2e0000000000ull; r_bp = 0x2e000000ull; r_m3 = 11776ull; r_1s = 0x2e00000000000000ull; r_2r = 0x2e0000000000ull; r_pk = 0x2e000000ull; r_wb = 11776ull; r_3n = 0x2e00000000000000ull; r_bo = 0x2e0000000000ull; r_zs = 0x2e000000ull; r_v3 = 11776ull; r_ua = 0x2e00000000000000ull; r_v9 = 0x2e0000000000ull; r_ps = t_ed_4; r_gi = t_6o_4; r_3f = t_1w_3; r_pn = t_pq_3; r_je = t_ed_3; r_jk = t_6o_3; r_l0 = t_1w_2; r_qi = t_pq_2; r_vv = t_ed_2; r_sr = t_6o_2; r_qg = t_1w_1; r_q7 = t_pq_1; r_58 = t_ed_1; r_6f = t_6o_1; r_w2 = t_1w; r_mm = t_pq; r_0r = t_ed; r_75 = t_6o; r_fn = r_pe; r_i4 = t_pt; r_1t = t_ni; r_a1 = t_bt; r_cc = r_47; r_5r_1 = t_pt_1; r_og = t_ni_1; r_7z = t_bt_1; r_m1 = r_47_1; r_nq = t_pt_2; r_7w = t_ni_2; r_w5 = t_bt_2; r_0i = r_47_2; r_x9 = t_pt_3; r_vm = t_ni_3; r_4a = t_bt_3; r_75_1 = r_47_3; r_9s = t_pt_4; r_co = 0x2e00000000ull; r_0c = 0x2e000000000000ull; r_9q = 46u; r_zy = 0x2e0000ull; r_ph = 0x2e00000000ull; r_hk = 0x2e000000000000ull; r_tw = 46u; r_hl = 0x2e0000ull; r_7a = 0x2e00000000ull; r_1y = 0x2e000000000000ull; r_if = 46u; r_uk = 0x2e0000ull; r_3d = 0x2e00000000ull; r_6w = 0x2e000000000000ull; r_93 = 46u; r_gg = 0x2e0000ull; r_zt = 0x2e00000000ull; r_m6 = 0x2e000000000000ull; r_jc = 46u; r_vw = 0x2e0000ull; r_xz = 0x2e00000000ull; goto l_std_tz; }
     t_ni_4 = (u64)((u64)ld8((a_4 + 36)) << 32ull);
-    if (a_5 == 37ull) { r_zo = 0x2e000000ull; r_lj = 11776ull; r_42 = 0x2e00000000000000ull; r_5r = 0x2e0000000000ull; r_pa = 0x2e000000ull; r_7p = 11776ull; r_o8 = 0x2e00000000000000ull; r_bf = 0x2e0000000000ull; r_bp = 0x2e000000ull; r_m3 = 11776ull; r_1s = 0x2e00000000000000ull; r_2r = 0x2e0000000000ull; r_pk = 0x2e000000ull; r_wb = 11776ull; r_3n = 0x2e00000000000000ull; r_bo = 0x2e0000000000ull; r_zs = 0x2e000000ull; r_v3 = 11776ull; r_ua = 0x2e00000000000000ull; r_v9 = 0x2e0000000000ull; r_ps = t_ed_4; r_gi = t_6o_4; r_3f = t_1w_3; r_pn = t_pq_3; r_je = t_ed_3; r_jk = t_6o_3; r_l0 = t_1w_2; r_qi = t_pq_2; r_vv = t_ed_2; r_sr = t_6o_2; r_qg = t_1w_1; r_q7 = t_pq_1; r_58 = t_ed_1; r_6f = t_6o_1; r_w2 = t_1w; r_mm = t_pq; r_0r = t_ed; r_75 = t_6o; r_fn = r_pe; r_i4 = t_pt; r_1t = t_ni; r_a1 = t_bt; r_cc = r_47_7; r_5r_1 = t_pt_1; r_og = t_ni_1; r_7z = t_bt_1; r_m1 = r_47_15; r_nq = t_pt_2; r_7w = t_ni_2; r_w5 = t_bt_2; r_0i = r_47_23; r_x9 = t_pt_3; r_vm = t_ni_3; r_4a = t_bt_3; r_75_1 = r_47_31; r_9s = t_pt_4; r_co = t_ni_4; r_0c = 0x2e000000000000ull; r_9q = 46u; r_zy = 0x2e0000ull; r_ph = 0x2e00000000ull; r_hk = 0x2e000000000000ull; r_tw = 46u; r_hl = 0x2e0000ull; r_7a = 0x2e00000000ull; r_1y = 0x2e000000000000ull; r_if = 46u; r_uk = 0x2e0000ull; r_3d = 0x2e00000000ull; r_6w = 0x2e000000000000ull; r_93 = 46u; r_gg = 0x2e0000ull; r_zt = 0x2e00000000ull; r_m6 = 0x2e000000000000ull; r_jc = 46u; r_vw = 0x2e0000ull; r_xz = 0x2e00000000ull; goto l_std_tz; }
+    if (a_5 == 37ull) { r_zo = 0x2e000000ull; r_lj = 11776ull; r_42 = 0x2e00000000000000ull; r_5r = 0x2e0000000000ull; r_pa = 0x2e000000ull; r_7p = 11776ull; r_o8 = 0x2e00000000000000ull; r_bf = 0x2e0000000000ull; r_bp = 0x2e000000ull; r_m3 = 11776ull; r_1s = 0x2e00000000000000ull; r_2r = 0x2e0000000000ull; r_pk = 0x2e000000ull; r_wb = 11776ull; r_3n = 0x2e00000000000000ull; r_bo = 0x2e0000000000ull; r_zs = 0x2e000000ull; r_v3 = 11776ull; r_ua = 0x2e00000000000000ull; r_v9 = 0x2e0000000000ull; r_ps = t_ed_4; r_gi = t_6o_4; r_3f = t_1w_3; r_pn = t_pq_3; r_je = t_ed_3; r_jk = t_6o_3; r_l0 = t_1w_2; r_qi = t_pq_2; r_vv = t_ed_2; r_sr = t_6o_2; r_qg = t_1w_1; r_q7 = t_pq_1; r_58 = t_ed_1; r_6f = t_6o_1; r_w2 = t_1w; r_mm = t_pq; r_0r = t_ed; r_75 = t_6o; r_fn = r_pe; r_i4 = t_pt; r_1t = t_ni; r_a1 = t_bt; r_cc = r_47; r_5r_1 = t_pt_1; r_og = t_ni_1; r_7z = t_bt_1; r_m1 = r_47_1; r_nq = t_pt_2; r_7w = t_ni_2; r_w5 = t_bt_2; r_0i = r_47_2; r_x9 = t_pt_3; r_vm = t_ni_3; r_4a = t_bt_3; r_75_1 = r_47_3; r_9s = t_pt_4; r_co = t_ni_4; r_0c = 0x2e000000000000ull; r_9q = 46u; r_zy = 0x2e0000ull; r_ph = 0x2e00000000ull; r_hk = 0x2e000000000000ull; r_tw = 46u; r_hl = 0x2e0000ull; r_7a = 0x2e00000000ull; r_1y = 0x2e000000000000ull; r_if = 46u; r_uk = 0x2e0000ull; r_3d = 0x2e00000000ull; r_6w = 0x2e000000000000ull; r_93 = 46u; r_gg = 0x2e0000ull; r_zt = 0x2e00000000ull; r_m6 = 0x2e000000000000ull; r_jc = 46u; r_vw = 0x2e0000ull; r_xz = 0x2e00000000ull; goto l_std_tz; }
     t_pq_4 = (u64)((u64)ld8((a_4 + 37)) << 40ull);
-    if (!(a_5 > 38ull)) { r_zo = 0x2e000000ull; r_lj = 11776ull; r_42 = 0x2e00000000000000ull; r_5r = 0x2e0000000000ull; r_pa = 0x2e000000ull; r_7p = 11776ull; r_o8 = 0x2e00000000000000ull; r_bf = 0x2e0000000000ull; r_bp = 0x2e000000ull; r_m3 = 11776ull; r_1s = 0x2e00000000000000ull; r_2r = 0x2e0000000000ull; r_pk = 0x2e000000ull; r_wb = 11776ull; r_3n = 0x2e00000000000000ull; r_bo = 0x2e0000000000ull; r_zs = 0x2e000000ull; r_v3 = 11776ull; r_ua = 0x2e00000000000000ull; r_v9 = t_pq_4; r_ps = t_ed_4; r_gi = t_6o_4; r_3f = t_1w_3; r_pn = t_pq_3; r_je = t_ed_3; r_jk = t_6o_3; r_l0 = t_1w_2; r_qi = t_pq_2; r_vv = t_ed_2; r_sr = t_6o_2; r_qg = t_1w_1; r_q7 = t_pq_1; r_58 = t_ed_1; r_6f = t_6o_1; r_w2 = t_1w; r_mm = t_pq; r_0r = t_ed; r_75 = t_6o; r_fn = r_pe; r_i4 = t_pt; r_1t = t_ni; r_a1 = t_bt; r_cc = r_47_7; r_5r_1 = t_pt_1; r_og = t_ni_1; r_7z = t_bt_1; r_m1 = r_47_15; r_nq = t_pt_2; r_7w = t_ni_2; r_w5 = t_bt_2; r_0i = r_47_23; r_x9 = t_pt_3; r_vm = t_ni_3; r_4a = t_bt_3; r_75_1 = r_47_31; r_9s = t_pt_4; r_co = t_ni_4; r_0c = 0x2e000000000000ull; r_9q = 46u; r_zy = 0x2e0000ull; r_ph = 0x2e00000000ull; r_hk = 0x2e000000000000ull; r_tw = 46u; r_hl = 0x2e0000ull; r_7a = 0x2e00000000ull; r_1y = 0x2e000000000000ull; r_if = 46u; r_uk = 0x2e0000ull; r_3d = 0x2e00000000ull; r_6w = 0x2e000000000000ull; r_93 = 46u; r_gg = 0x2e0000ull; r_zt = 0x2e00000000ull; r_m6 = 0x2e000000000000ull; r_jc = 46u; r_vw = 0x2e0000ull; r_xz = 0x2e00000000ull; goto l_std_tz; }
+    if (!(a_5 > 38ull)) { r_zo = 0x2e000000ull; r_lj = 11776ull; r_42 = 0x2e00000000000000ull; r_5r = 0x2e0000000000ull; r_pa = 0x2e000000ull; r_7p = 11776ull; r_o8 = 0x2e00000000000000ull; r_bf = 0x2e0000000000ull; r_bp = 0x2e000000ull; r_m3 = 11776ull; r_1s = 0x2e00000000000000ull; r_2r = 0x2e0000000000ull; r_pk = 0x2e000000ull; r_wb = 11776ull; r_3n = 0x2e00000000000000ull; r_bo = 0x2e0000000000ull; r_zs = 0x2e000000ull; r_v3 = 11776ull; r_ua = 0x2e00000000000000ull; r_v9 = t_pq_4; r_ps = t_ed_4; r_gi = t_6o_4; r_3f = t_1w_3; r_pn = t_pq_3; r_je = t_ed_3; r_jk = t_6o_3; r_l0 = t_1w_2; r_qi = t_pq_2; r_vv = t_ed_2; r_sr = t_6o_2; r_qg = t_1w_1; r_q7 = t_pq_1; r_58 = t_ed_1; r_6f = t_6o_1; r_w2 = t_1w; r_mm = t_pq; r_0r = t_ed; r_75 = t_6o; r_fn = r_pe; r_i4 = t_pt; r_1t = t_ni; r_a1 = t_bt; r_cc = r_47; r_5r_1 = t_pt_1; r_og = t_ni_1; r_7z = t_bt_1; r_m1 = r_47_1; r_nq = t_pt_2; r_7w = t_ni_2; r_w5 = t_bt_2; r_0i = r_47_2; r_x9 = t_pt_3; r_vm = t_ni_3; r_4a = t_bt_3; r_75_1 = r_47_3; r_9s = t_pt_4; r_co = t_ni_4; r_0c = 0x2e000000000000ull; r_9q = 46u; r_zy = 0x2e0000ull; r_ph = 0x2e00000000ull; r_hk = 0x2e000000000000ull; r_tw = 46u; r_hl = 0x2e0000ull; r_7a = 0x2e00000000ull; r_1y = 0x2e000000000000ull; r_if = 46u; r_uk = 0x2e0000ull; r_3d = 0x2e00000000ull; r_6w = 0x2e000000000000ull; r_93 = 46u; r_gg = 0x2e0000ull; r_zt = 0x2e00000000ull; r_m6 = 0x2e000000000000ull; r_jc = 46u; r_vw = 0x2e0000ull; r_xz = 0x2e00000000ull; goto l_std_tz; }
     t_bt_4 = (u64)((u64)ld8((a_4 + 38)) << 48ull);
-    if (a_5 == 39ull) { r_zo = 0x2e000000ull; r_lj = 11776ull; r_42 = 0x2e00000000000000ull; r_5r = 0x2e0000000000ull; r_pa = 0x2e000000ull; r_7p = 11776ull; r_o8 = 0x2e00000000000000ull; r_bf = 0x2e0000000000ull; r_bp = 0x2e000000ull; r_m3 = 11776ull; r_1s = 0x2e00000000000000ull; r_2r = 0x2e0000000000ull; r_pk = 0x2e000000ull; r_wb = 11776ull; r_3n = 0x2e00000000000000ull; r_bo = 0x2e0000000000ull; r_zs = 0x2e000000ull; r_v3 = 11776ull; r_ua = 0x2e00000000000000ull; r_v9 = t_pq_4; r_ps = t_ed_4; r_gi = t_6o_4; r_3f = t_1w_3; r_pn = t_pq_3; r_je = t_ed_3; r_jk = t_6o_3; r_l0 = t_1w_2; r_qi = t_pq_2; r_vv = t_ed_2; r_sr = t_6o_2; r_qg = t_1w_1; r_q7 = t_pq_1; r_58 = t_ed_1; r_6f = t_6o_1; r_w2 = t_1w; r_mm = t_pq; r_0r = t_ed; r_75 = t_6o; r_fn = r_pe; r_i4 = t_pt; r_1t = t_ni; r_a1 = t_bt; r_cc = r_47_7; r_5r_1 = t_pt_1; r_og = t_ni_1; r_7z = t_bt_1; r_m1 = r_47_15; r_nq = t_pt_2; r_7w = t_ni_2; r_w5 = t_bt_2; r_0i = r_47_23; r_x9 = t_pt_3; r_vm = t_ni_3; r_4a = t_bt_3; r_75_1 = r_47_31; r_9s = t_pt_4; r_co = t_ni_4; r_0c = t_bt_4; r_9q = 46u; r_zy = 0x2e0000ull; r_ph = 0x2e00000000ull; r_hk = 0x2e000000000000ull; r_tw = 46u; r_hl = 0x2e0000ull; r_7a = 0x2e00000000ull; r_1y = 0x2e000000000000ull; r_if = 46u; r_uk = 0x2e0000ull; r_3d = 0x2e00000000ull; r_6w = 0x2e000000000000ull; r_93 = 46u; r_gg = 0x2e0000ull; r_zt = 0x2e00000000ull; r_m6 = 0x2e000000000000ull; r_jc = 46u; r_vw = 0x2e0000ull; r_xz = 0x2e00000000ull; goto l_std_tz; }
+    if (a_5 == 39ull) { r_zo = 0x2e000000ull; r_lj = 11776ull; r_42 = 0x2e00000000000000ull; r_5r = 0x2e0000000000ull; r_pa = 0x2e000000ull; r_7p = 11776ull; r_o8 = 0x2e00000000000000ull; r_bf = 0x2e0000000000ull; r_bp = 0x2e000000ull; r_m3 = 11776ull; r_1s = 0x2e00000000000000ull; r_2r = 0x2e0000000000ull; r_pk = 0x2e000000ull; r_wb = 11776ull; r_3n = 0x2e00000000000000ull; r_bo = 0x2e0000000000ull; r_zs = 0x2e000000ull; r_v3 = 11776ull; r_ua = 0x2e00000000000000ull; r_v9 = t_pq_4; r_ps = t_ed_4; r_gi = t_6o_4; r_3f = t_1w_3; r_pn = t_pq_3; r_je = t_ed_3; r_jk = t_6o_3; r_l0 = t_1w_2; r_qi = t_pq_2; r_vv = t_ed_2; r_sr = t_6o_2; r_qg = t_1w_1; r_q7 = t_pq_1; r_58 = t_ed_1; r_6f = t_6o_1; r_w2 = t_1w; r_mm = t_pq; r_0r = t_ed; r_75 = t_6o; r_fn = r_pe; r_i4 = t_pt; r_1t = t_ni; r_a1 = t_bt; r_cc = r_47; r_5r_1 = t_pt_1; r_og = t_ni_1; r_7z = t_bt_1; r_m1 = r_47_1; r_nq = t_pt_2; r_7w = t_ni_2; r_w5 = t_bt_2; r_0i = r_47_2; r_x9 = t_pt_3; r_vm = t_ni_3; r_4a = t_bt_3; r_75_1 = r_47_3; r_9s = t_pt_4; r_co = t_ni_4; r_0c = t_bt_4; r_9q = 46u; r_zy = 0x2e0000ull; r_ph = 0x2e00000000ull; r_hk = 0x2e000000000000ull; r_tw = 46u; r_hl = 0x2e0000ull; r_7a = 0x2e00000000ull; r_1y = 0x2e000000000000ull; r_if = 46u; r_uk = 0x2e0000ull; r_3d = 0x2e00000000ull; r_6w = 0x2e000000000000ull; r_93 = 46u; r_gg = 0x2e0000ull; r_zt = 0x2e00000000ull; r_m6 = 0x2e000000000000ull; r_jc = 46u; r_vw = 0x2e0000ull; r_xz = 0x2e00000000ull; goto l_std_tz; }
     t_1w_4 = (u64)((u64)ld8((a_4 + 39)) << 56ull);
-    if (!(a_5 > 40ull)) { r_zo = 0x2e000000ull; r_lj = 11776ull; r_42 = 0x2e00000000000000ull; r_5r = 0x2e0000000000ull; r_pa = 0x2e000000ull; r_7p = 11776ull; r_o8 = 0x2e00000000000000ull; r_bf = 0x2e0000000000ull; r_bp = 0x2e000000ull; r_m3 = 11776ull; r_1s = 0x2e00000000000000ull; r_2r = 0x2e0000000000ull; r_pk = 0x2e000000ull; r_wb = 11776ull; r_3n = 0x2e00000000000000ull; r_bo = 0x2e0000000000ull; r_zs = 0x2e000000ull; r_v3 = 11776ull; r_ua = t_1w_4; r_v9 = t_pq_4; r_ps = t_ed_4; r_gi = t_6o_4; r_3f = t_1w_3; r_pn = t_pq_3; r_je = t_ed_3; r_jk = t_6o_3; r_l0 = t_1w_2; r_qi = t_pq_2; r_vv = t_ed_2; r_sr = t_6o_2; r_qg = t_1w_1; r_q7 = t_pq_1; r_58 = t_ed_1; r_6f = t_6o_1; r_w2 = t_1w; r_mm = t_pq; r_0r = t_ed; r_75 = t_6o; r_fn = r_pe; r_i4 = t_pt; r_1t = t_ni; r_a1 = t_bt; r_cc = r_47_7; r_5r_1 = t_pt_1; r_og = t_ni_1; r_7z = t_bt_1; r_m1 = r_47_15; r_nq = t_pt_2; r_7w = t_ni_2; r_w5 = t_bt_2; r_0i = r_47_23; r_x9 = t_pt_3; r_vm = t_ni_3; r_4a = t_bt_3; r_75_1 = r_47_31; r_9s = t_pt_4; r_co = t_ni_4; r_0c = t_bt_4; r_9q = 46u; r_zy = 0x2e0000ull; r_ph = 0x2e00000000ull; r_hk = 0x2e000000000000ull; r_tw = 46u; r_hl = 0x2e0000ull; r_7a = 0x2e00000000ull; r_1y = 0x2e000000000000ull; r_if = 46u; r_uk = 0x2e0000ull; r_3d = 0x2e00000000ull; r_6w = 0x2e000000000000ull; r_93 = 46u; r_gg = 0x2e0000ull; r_zt = 0x2e00000000ull; r_m6 = 0x2e000000000000ull; r_jc = 46u; r_vw = 0x2e0000ull; r_xz = 0x2e00000000ull; goto l_std_tz; }
-    r_47_39 = ld8((a_4 + 40));
-    if (a_5 == 41ull) { r_zo = 0x2e000000ull; r_lj = 11776ull; r_42 = 0x2e00000000000000ull; r_5r = 0x2e0000000000ull; r_pa = 0x2e000000ull; r_7p = 11776ull; r_o8 = 0x2e00000000000000ull; r_bf = 0x2e0000000000ull; r_bp = 0x2e000000ull; r_m3 = 11776ull; r_1s = 0x2e00000000000000ull; r_2r = 0x2e0000000000ull; r_pk = 0x2e000000ull; r_wb = 11776ull; r_3n = 0x2e00000000000000ull; r_bo = 0x2e0000000000ull; r_zs = 0x2e000000ull; r_v3 = 11776ull; r_ua = t_1w_4; r_v9 = t_pq_4; r_ps = t_ed_4; r_gi = t_6o_4; r_3f = t_1w_3; r_pn = t_pq_3; r_je = t_ed_3; r_jk = t_6o_3; r_l0 = t_1w_2; r_qi = t_pq_2; r_vv = t_ed_2; r_sr = t_6o_2; r_qg = t_1w_1; r_q7 = t_pq_1; r_58 = t_ed_1; r_6f = t_6o_1; r_w2 = t_1w; r_mm = t_pq; r_0r = t_ed; r_75 = t_6o; r_fn = r_pe; r_i4 = t_pt; r_1t = t_ni; r_a1 = t_bt; r_cc = r_47_7; r_5r_1 = t_pt_1; r_og = t_ni_1; r_7z = t_bt_1; r_m1 = r_47_15; r_nq = t_pt_2; r_7w = t_ni_2; r_w5 = t_bt_2; r_0i = r_47_23; r_x9 = t_pt_3; r_vm = t_ni_3; r_4a = t_bt_3; r_75_1 = r_47_31; r_9s = t_pt_4; r_co = t_ni_4; r_0c = t_bt_4; r_9q = r_47_39; r_zy = 0x2e0000ull; r_ph = 0x2e00000000ull; r_hk = 0x2e000000000000ull; r_tw = 46u; r_hl = 0x2e0000ull; r_7a = 0x2e00000000ull; r_1y = 0x2e000000000000ull; r_if = 46u; r_uk = 0x2e0000ull; r_3d = 0x2e00000000ull; r_6w = 0x2e000000000000ull; r_93 = 46u; r_gg = 0x2e0000ull; r_zt = 0x2e00000000ull; r_m6 = 0x2e000000000000ull; r_jc = 46u; r_vw = 0x2e0000ull; r_xz = 0x2e00000000ull; goto l_std_tz; }
+    if (!(a_5 > 40ull)) { r_zo = 0x2e000000ull; r_lj = 11776ull; r_42 = 0x2e00000000000000ull; r_5r = 0x2e0000000000ull; r_pa = 0x2e000000ull; r_7p = 11776ull; r_o8 = 0x2e00000000000000ull; r_bf = 0x2e0000000000ull; r_bp = 0x2e000000ull; r_m3 = 11776ull; r_1s = 0x2e00000000000000ull; r_2r = 0x2e0000000000ull; r_pk = 0x2e000000ull; r_wb = 11776ull; r_3n = 0x2e00000000000000ull; r_bo = 0x2e0000000000ull; r_zs = 0x2e000000ull; r_v3 = 11776ull; r_ua = t_1w_4; r_v9 = t_pq_4; r_ps = t_ed_4; r_gi = t_6o_4; r_3f = t_1w_3; r_pn = t_pq_3; r_je = t_ed_3; r_jk = t_6o_3; r_l0 = t_1w_2; r_qi = t_pq_2; r_vv = t_ed_2; r_sr = t_6o_2; r_qg = t_1w_1; r_q7 = t_pq_1; r_58 = t_ed_1; r_6f = t_6o_1; r_w2 = t_1w; r_mm = t_pq; r_0r = t_ed; r_75 = t_6o; r_fn = r_pe; r_i4 = t_pt; r_1t = t_ni; r_a1 = t_bt; r_cc = r_47; r_5r_1 = t_pt_1; r_og = t_ni_1; r_7z = t_bt_1; r_m1 = r_47_1; r_nq = t_pt_2; r_7w = t_ni_2; r_w5 = t_bt_2; r_0i = r_47_2; r_x9 = t_pt_3; r_vm = t_ni_3; r_4a = t_bt_3; r_75_1 = r_47_3; r_9s = t_pt_4; r_co = t_ni_4; r_0c = t_bt_4; r_9q = 46u; r_zy = 0x2e0000ull; r_ph = 0x2e00000000ull; r_hk = 0x2e000000000000ull; r_tw = 46u; r_hl = 0x2e0000ull; r_7a = 0x2e00000000ull; r_1y = 0x2e000000000000ull; r_if = 46u; r_uk = 0x2e0000ull; r_3d = 0x2e00000000ull; r_6w = 0x2e000000000000ull; r_93 = 46u; r_gg = 0x2e0000ull; r_zt = 0x2e00000000ull; r_m6 = 0x2e000000000000ull; r_jc = 46u; r_vw = 0x2e0000ull; r_xz = 0x2e00000000ull; goto l_std_tz; }
+    r_47_4 = ld8((a_4 + 40));
+    if (a_5 == 41ull) { r_zo = 0x2e000000ull; r_lj = 11776ull; r_42 = 0x2e00000000000000ull; r_5r = 0x2e0000000000ull; r_pa = 0x2e000000ull; r_7p = 11776ull; r_o8 = 0x2e00000000000000ull; r_bf = 0x2e0000000000ull; r_bp = 0x2e000000ull; r_m3 = 11776ull; r_1s = 0x2e00000000000000ull; r_2r = 0x2e0000000000ull; r_pk = 0x2e000000ull; r_wb = 11776ull; r_3n = 0x2e00000000000000ull; r_bo = 0x2e0000000000ull; r_zs = 0x2e000000ull; r_v3 = 11776ull; r_ua = t_1w_4; r_v9 = t_pq_4; r_ps = t_ed_4; r_gi = t_6o_4; r_3f = t_1w_3; r_pn = t_pq_3; r_je = t_ed_3; r_jk = t_6o_3; r_l0 = t_1w_2; r_qi = t_pq_2; r_vv = t_ed_2; r_sr = t_6o_2; r_qg = t_1w_1; r_q7 = t_pq_1; r_58 = t_ed_1; r_6f = t_6o_1; r_w2 = t_1w; r_mm = t_pq; r_0r = t_ed; r_75 = t_6o; r_fn = r_pe; r_i4 = t_pt; r_1t = t_ni; r_a1 = t_bt; r_cc = r_47; r_5r_1 = t_pt_1; r_og = t_ni_1; r_7z = t_bt_1; r_m1 = r_47_1; r_nq = t_pt_2; r_7w = t_ni_2; r_w5 = t_bt_2; r_0i = r_47_2; r_x9 = t_pt_3; r_vm = t_ni_3; r_4a = t_bt_3; r_75_1 = r_47_3; r_9s = t_pt_4; r_co = t_ni_4; r_0c = t_bt_4; r_9q = r_47_4; r_zy = 0x2e0000ull; r_ph = 0x2e00000000ull; r_hk = 0x2e000000000000ull; r_tw = 46u; r_hl = 0x2e0000ull; r_7a = 0x2e00000000ull; r_1y = 0x2e000000000000ull; r_if = 46u; r_uk = 0x2e0000ull; r_3d = 0x2e00000000ull; r_6w = 0x2e000000000000ull; r_93 = 46u; r_gg = 0x2e0000ull; r_zt = 0x2e00000000ull; r_m6 = 0x2e000000000000ull; r_jc = 46u; r_vw = 0x2e0000ull; r_xz = 0x2e00000000ull; goto l_std_tz; }
     t_6o_5 = (u64)((u64)ld8((a_4 + 41)) << 8ull);
-    if (!(a_5 > 42ull)) { r_zo = 0x2e000000ull; r_lj = 11776ull; r_42 = 0x2e00000000000000ull; r_5r = 0x2e0000000000ull; r_pa = 0x2e000000ull; r_7p = 11776ull; r_o8 = 0x2e00000000000000ull; r_bf = 0x2e0000000000ull; r_bp = 0x2e000000ull; r_m3 = 11776ull; r_1s = 0x2e00000000000000ull; r_2r = 0x2e0000000000ull; r_pk = 0x2e000000ull; r_wb = 11776ull; r_3n = 0x2e00000000000000ull; r_bo = 0x2e0000000000ull; r_zs = 0x2e000000ull; r_v3 = t_6o_5; r_ua = t_1w_4; r_v9 = t_pq_4; r_ps = t_ed_4; r_gi = t_6o_4; r_3f = t_1w_3; r_pn = t_pq_3; r_je = t_ed_3; r_jk = t_6o_3; r_l0 = t_1w_2; r_qi = t_pq_2; r_vv = t_ed_2; r_sr = t_6o_2; r_qg = t_1w_1; r_q7 = t_pq_1; r_58 = t_ed_1; r_6f = t_6o_1; r_w2 = t_1w; r_mm = t_pq; r_0r = t_ed; r_75 = t_6o; r_fn = r_pe; r_i4 = t_pt; r_1t = t_ni; r_a1 = t_bt; r_cc = r_47_7; r_5r_1 = t_pt_1; r_og = t_ni_1; r_7z = t_bt_1; r_m1 = r_47_15; r_nq = t_pt_2; r_7w = t_ni_2; r_w5 = t_bt_2; r_0i = r_47_23; r_x9 = t_pt_3; r_vm = t_ni_3; r_4a = t_bt_3; r_75_1 = r_47_31; r_9s = t_pt_4; r_co = t_ni_4; r_0c = t_bt_4; r_9q = r_47_39; r_zy = 0x2e0000ull; r_ph = 0x2e00000000ull; r_hk = 0x2e000000000000ull; r_tw = 46u; r_hl = 0x2e0000ull; r_7a = 0x2e00000000ull; r_1y = 0x2e000000000000ull; r_if = 46u; r_uk = 0x2e0000ull; r_3d = 0x2e00000000ull; r_6w = 0x2e000000000000ull; r_93 = 46u; r_gg = 0x2e0000ull; r_zt = 0x2e00000000ull; r_m6 = 0x2e000000000000ull; r_jc = 46u; r_vw = 0x2e0000ull; r_xz = 0x2e00000000ull; goto l_std_tz; }
+    if (!(a_5 > 42ull)) { r_zo = 0x2e000000ull; r_lj = 11776ull; r_42 = 0x2e00000000000000ull; r_5r = 0x2e0000000000ull; r_pa = 0x2e000000ull; r_7p = 11776ull; r_o8 = 0x2e00000000000000ull; r_bf = 0x2e0000000000ull; r_bp = 0x2e000000ull; r_m3 = 11776ull; r_1s = 0x2e00000000000000ull; r_2r = 0x2e0000000000ull; r_pk = 0x2e000000ull; r_wb = 11776ull; r_3n = 0x2e00000000000000ull; r_bo = 0x2e0000000000ull; r_zs = 0x2e000000ull; r_v3 = t_6o_5; r_ua = t_1w_4; r_v9 = t_pq_4; r_ps = t_ed_4; r_gi = t_6o_4; r_3f = t_1w_3; r_pn = t_pq_3; r_je = t_ed_3; r_jk = t_6o_3; r_l0 = t_1w_2; r_qi = t_pq_2; r_vv = t_ed_2; r_sr = t_6o_2; r_qg = t_1w_1; r_q7 = t_pq_1; r_58 = t_ed_1; r_6f = t_6o_1; r_w2 = t_1w; r_mm = t_pq; r_0r = t_ed; r_75 = t_6o; r_fn = r_pe; r_i4 = t_pt; r_1t = t_ni; r_a1 = t_bt; r_cc = r_47; r_5r_1 = t_pt_1; r_og = t_ni_1; r_7z = t_bt_1; r_m1 = r_47_1; r_nq = t_pt_2; r_7w = t_ni_2; r_w5 = t_bt_2; r_0i = r_47_2; r_x9 = t_pt_3; r_vm = t_ni_3; r_4a = t_bt_3; r_75_1 = r_47_3; r_9s = t_pt_4; r_co = t_ni_4; r_0c = t_bt_4; r_9q = r_47_4; r_zy = 0x2e0000ull; r_ph = 0x2e00000000ull; r_hk = 0x2e000000000000ull; r_tw = 46u; r_hl = 0x2e0000ull; r_7a = 0x2e00000000ull; r_1y = 0x2e000000000000ull; r_if = 46u; r_uk = 0x2e0000ull; r_3d = 0x2e00000000ull; r_6w = 0x2e000000000000ull; r_93 = 46u; r_gg = 0x2e0000ull; r_zt = 0x2e00000000ull; r_m6 = 0x2e000000000000ull; r_jc = 46u; r_vw = 0x2e0000ull; r_xz = 0x2e00000000ull; goto l_std_tz; }
     t_pt_5 = (u64)((u64)ld8((a_4 + 42)) << 16ull);
-    if (a_5 == 43ull) { r_zo = 0x2e000000ull; r_lj = 11776ull; r_42 = 0x2e00000000000000ull; r_5r = 0x2e0000000000ull; r_pa = 0x2e000000ull; r_7p = 11776ull; r_o8 = 0x2e00000000000000ull; r_bf = 0x2e0000000000ull; r_bp = 0x2e000000ull; r_m3 = 11776ull; r_1s = 0x2e00000000000000ull; r_2r = 0x2e0000000000ull; r_pk = 0x2e000000ull; r_wb = 11776ull; r_3n = 0x2e00000000000000ull; r_bo = 0x2e0000000000ull; r_zs = 0x2e000000ull; r_v3 = t_6o_5; r_ua = t_1w_4; r_v9 = t_pq_4; r_ps = t_ed_4; r_gi = t_6o_4; r_3f = t_1w_3; r_pn = t_pq_3; r_je = t_ed_3; r_jk = t_6o_3; r_l0 = t_1w_2; r_qi = t_pq_2; r_vv = t_ed_2; r_sr = t_6o_2; r_qg = t_1w_1; r_q7 = t_pq_1; r_58 = t_ed_1; r_6f = t_6o_1; r_w2 = t_1w; r_mm = t_pq; r_0r = t_ed; r_75 = t_6o; r_fn = r_pe; r_i4 = t_pt; r_1t = t_ni; r_a1 = t_bt; r_cc = r_47_7; r_5r_1 = t_pt_1; r_og = t_ni_1; r_7z = t_bt_1; r_m1 = r_47_15; r_nq = t_pt_2; r_7w = t_ni_2; r_w5 = t_bt_2; r_0i = r_47_23; r_x9 = t_pt_3; r_vm = t_ni_3; r_4a = t_bt_3; r_75_1 = r_47_31; r_9s = t_pt_4; r_co = t_ni_4; r_0c = t_bt_4; r_9q = r_47_39; r_zy = t_pt_5; r_ph = 0x2e00000000ull; r_hk = 0x2e000000000000ull; r_tw = 46u; r_hl = 0x2e0000ull; r_7a = 0x2e00000000ull; r_1y = 0x2e000000000000ull; r_if = 46u; r_uk = 0x2e0000ull; r_3d = 0x2e00000000ull; r_6w = 0x2e000000000000ull; r_93 = 46u; r_gg = 0x2e0000ull; r_zt = 0x2e00000000ull; r_m6 = 0x2e000000000000ull; r_jc = 46u; r_vw = 0x2e0000ull; r_xz = 0x2e00000000ull; goto l_std_tz; }
+    if (a_5 == 43ull) { r_zo = 0x2e000000ull; r_lj = 11776ull; r_42 = 0x2e00000000000000ull; r_5r = 0x2e0000000000ull; r_pa = 0x2e000000ull; r_7p = 11776ull; r_o8 = 0x2e00000000000000ull; r_bf = 0x2e0000000000ull; r_bp = 0x2e000000ull; r_m3 = 11776ull; r_1s = 0x2e00000000000000ull; r_2r = 0x2e0000000000ull; r_pk = 0x2e000000ull; r_wb = 11776ull; r_3n = 0x2e00000000000000ull; r_bo = 0x2e0000000000ull; r_zs = 0x2e000000ull; r_v3 = t_6o_5; r_ua = t_1w_4; r_v9 = t_pq_4; r_ps = t_ed_4; r_gi = t_6o_4; r_3f = t_1w_3; r_pn = t_pq_3; r_je = t_ed_3; r_jk = t_6o_3; r_l0 = t_1w_2; r_qi = t_pq_2; r_vv = t_ed_2; r_sr = t_6o_2; r_qg = t_1w_1; r_q7 = t_pq_1; r_58 = t_ed_1; r_6f = t_6o_1; r_w2 = t_1w; r_mm = t_pq; r_0r = t_ed; r_75 = t_6o; r_fn = r_pe; r_i4 = t_pt; r_1t = t_ni; r_a1 = t_bt; r_cc = r_47; r_5r_1 = t_pt_1; r_og = t_ni_1; r_7z = t_bt_1; r_m1 = r_47_1; r_nq = t_pt_2; r_7w = t_ni_2; r_w5 = t_bt_2; r_0i = r_47_2; r_x9 = t_pt_3; r_vm = t_ni_3; r_4a = t_bt_3; r_75_1 = r_47_3; r_9s = t_pt_4; r_co = t_ni_4; r_0c = t_bt_4; r_9q = r_47_4; r_zy = t_pt_5; r_ph = 0x2e00000000ull; r_hk = 0x2e000000000000ull; r_tw = 46u; r_hl = 0x2e0000ull; r_7a = 0x2e00000000ull; r_1y = 0x2e000000000000ull; r_if = 46u; r_uk = 0x2e0000ull; r_3d = 0x2e00000000ull; r_6w = 0x2e000000000000ull; r_93 = 46u; r_gg = 0x2e0000ull; r_zt = 0x2e00000000ull; r_m6 = 0x2e000000000000ull; r_jc = 46u; r_vw = 0x2e0000ull; r_xz = 0x2e00000000ull; goto l_std_tz; }
     t_ed_5 = (u64)((u64)ld8((a_4 + 43)) << 24ull);
-    if (!(a_5 > 44ull)) { r_zo = 0x2e000000ull; r_lj = 11776ull; r_42 = 0x2e00000000000000ull; r_5r = 0x2e0000000000ull; r_pa = 0x2e000000ull; r_7p = 11776ull; r_o8 = 0x2e00000000000000ull; r_bf = 0x2e0000000000ull; r_bp = 0x2e000000ull; r_m3 = 11776ull; r_1s = 0x2e00000000000000ull; r_2r = 0x2e0000000000ull; r_pk = 0x2e000000ull; r_wb = 11776ull; r_3n = 0x2e00000000000000ull; r_bo = 0x2e0000000000ull; r_zs = t_ed_5; r_v3 = t_6o_5; r_ua = t_1w_4; r_v9 = t_pq_4; r_ps = t_ed_4; r_gi = t_6o_4; r_3f = t_1w_3; r_pn = t_pq_3; r_je = t_ed_3; r_jk = t_6o_3; r_l0 = t_1w_2; r_qi = t_pq_2; r_vv = t_ed_2; r_sr = t_6o_2; r_qg = t_1w_1; r_q7 = t_pq_1; r_58 = t_ed_1; r_6f = t_6o_1; r_w2 = t_1w; r_mm = t_pq; r_0r = t_ed; r_75 = t_6o; r_fn = r_pe; r_i4 = t_pt; r_1t = t_ni; r_a1 = t_bt; r_cc = r_47_7; r_5r_1 = t_pt_1; r_og = t_ni_1; r_7z = t_bt_1; r_m1 = r_47_15; r_nq = t_pt_2; r_7w = t_ni_2; r_w5 = t_bt_2; r_0i = r_47_23; r_x9 = t_pt_3; r_vm = t_ni_3; r_4a = t_bt_3; r_75_1 = r_47_31; r_9s = t_pt_4; r_co = t_ni_4; r_0c = t_bt_4; r_9q = r_47_39; r_zy = t_pt_5; r_ph = 0x2e00000000ull; r_hk = 0x2e000000000000ull; r_tw = 46u; r_hl = 0x2e0000ull; r_7a = 0x2e00000000ull; r_1y = 0x2e000000000000ull; r_if = 46u; r_uk = 0x2e0000ull; r_3d = 0x2e00000000ull; r_6w = 0x2e000000000000ull; r_93 = 46u; r_gg = 0x2e0000ull; r_zt = 0x2e00000000ull; r_m6 = 0x2e000000000000ull; r_jc = 46u; r_vw = 0x2e0000ull; r_xz = 0x2e00000000ull; goto l_std_tz; }
+    if (!(a_5 > 44ull)) { r_zo = 0x2e000000ull; r_lj = 11776ull; r_42 = 0x2e00000000000000ull; r_5r = 0x2e0000000000ull; r_pa = 0x2e000000ull; r_7p = 11776ull; r_o8 = 0x2e00000000000000ull; r_bf = 0x2e0000000000ull; r_bp = 0x2e000000ull; r_m3 = 11776ull; r_1s = 0x2e00000000000000ull; r_2r = 0x2e0000000000ull; r_pk = 0x2e000000ull; r_wb = 11776ull; r_3n = 0x2e00000000000000ull; r_bo = 0x2e0000000000ull; r_zs = t_ed_5; r_v3 = t_6o_5; r_ua = t_1w_4; r_v9 = t_pq_4; r_ps = t_ed_4; r_gi = t_6o_4; r_3f = t_1w_3; r_pn = t_pq_3; r_je = t_ed_3; r_jk = t_6o_3; r_l0 = t_1w_2; r_qi = t_pq_2; r_vv = t_ed_2; r_sr = t_6o_2; r_qg = t_1w_1; r_q7 = t_pq_1; r_58 = t_ed_1; r_6f = t_6o_1; r_w2 = t_1w; r_mm = t_pq; r_0r = t_ed; r_75 = t_6o; r_fn = r_pe; r_i4 = t_pt; r_1t = t_ni; r_a1 = t_bt; r_cc = r_47; r_5r_1 = t_pt_1; r_og = t_ni_1; r_7z = t_bt_1; r_m1 = r_47_1; r_nq = t_pt_2; r_7w = t_ni_2; r_w5 = t_bt_2; r_0i = r_47_2; r_x9 = t_pt_3; r_vm = t_ni_3; r_4a = t_bt_3; r_75_1 = r_47_3; r_9s = t_pt_4; r_co = t_ni_4; r_0c = t_bt_4; r_9q = r_47_4; r_zy = t_pt_5; r_ph = 0x2e00000000ull; r_hk = 0x2e000000000000ull; r_tw = 46u; r_hl = 0x2e0000ull; r_7a = 0x2e00000000ull; r_1y = 0x2e000000000000ull; r_if = 46u; r_uk = 0x2e0000ull; r_3d = 0x2e00000000ull; r_6w = 0x2e000000000000ull; r_93 = 46u; r_gg = 0x2e0000ull; r_zt = 0x2e00000000ull; r_m6 = 0x2e000000000000ull; r_jc = 46u; r_vw = 0x2e0000ull; r_xz = 0x2e00000000ull; goto l_std_tz; }
     t_ni_5 = (u64)((u64)ld8((a_4 + 44)) << 32ull);
-    if (a_5 == 45ull) { r_zo = 0x2e000000ull; r_lj = 11776ull; r_42 = 0x2e00000000000000ull; r_5r = 0x2e0000000000ull; r_pa = 0x2e000000ull; r_7p = 11776ull; r_o8 = 0x2e00000000000000ull; r_bf = 0x2e0000000000ull; r_bp = 0x2e000000ull; r_m3 = 11776ull; r_1s = 0x2e00000000000000ull; r_2r = 0x2e0000000000ull; r_pk = 0x2e000000ull; r_wb = 11776ull; r_3n = 0x2e00000000000000ull; r_bo = 0x2e0000000000ull; r_zs = t_ed_5; r_v3 = t_6o_5; r_ua = t_1w_4; r_v9 = t_pq_4; r_ps = t_ed_4; r_gi = t_6o_4; r_3f = t_1w_3; r_pn = t_pq_3; r_je = t_ed_3; r_jk = t_6o_3; r_l0 = t_1w_2; r_qi = t_pq_2; r_vv = t_ed_2; r_sr = t_6o_2; r_qg = t_1w_1; r_q7 = t_pq_1; r_58 = t_ed_1; r_6f = t_6o_1; r_w2 = t_1w; r_mm = t_pq; r_0r = t_ed; r_75 = t_6o; r_fn = r_pe; r_i4 = t_pt; r_1t = t_ni; r_a1 = t_bt; r_cc = r_47_7; r_5r_1 = t_pt_1; r_og = t_ni_1; r_7z = t_bt_1; r_m1 = r_47_15; r_nq = t_pt_2; r_7w = t_ni_2; r_w5 = t_bt_2; r_0i = r_47_23; r_x9 = t_pt_3; r_vm = t_ni_3; r_4a = t_bt_3; r_75_1 = r_47_31; r_9s = t_pt_4; r_co = t_ni_4; r_0c = t_bt_4; r_9q = r_47_39; r_zy = t_pt_5; r_ph = t_ni_5; r_hk = 0x2e000000000000ull; r_tw = 46u; r_hl = 0x2e0000ull; r_7a = 0x2e00000000ull; r_1y = 0x2e000000000000ull; r_if = 46u; r_uk = 0x2e0000ull; r_3d = 0x2e00000000ull; r_6w = 0x2e000000000000ull; r_93 = 46u; r_gg = 0x2e0000ull; r_zt = 0x2e00000000ull; r_m6 = 0x2e000000000000ull; r_jc = 46u; r_vw = 0x2e0000ull; r_xz = 0x2e00000000ull; goto l_std_tz; }
+    if (a_5 == 45ull) { r_zo = 0x2e000000ull; r_lj = 11776ull; r_42 = 0x2e00000000000000ull; r_5r = 0x2e0000000000ull; r_pa = 0x2e000000ull; r_7p = 11776ull; r_o8 = 0x2e00000000000000ull; r_bf = 0x2e0000000000ull; r_bp = 0x2e000000ull; r_m3 = 11776ull; r_1s = 0x2e00000000000000ull; r_2r = 0x2e0000000000ull; r_pk = 0x2e000000ull; r_wb = 11776ull; r_3n = 0x2e00000000000000ull; r_bo = 0x2e0000000000ull; r_zs = t_ed_5; r_v3 = t_6o_5; r_ua = t_1w_4; r_v9 = t_pq_4; r_ps = t_ed_4; r_gi = t_6o_4; r_3f = t_1w_3; r_pn = t_pq_3; r_je = t_ed_3; r_jk = t_6o_3; r_l0 = t_1w_2; r_qi = t_pq_2; r_vv = t_ed_2; r_sr = t_6o_2; r_qg = t_1w_1; r_q7 = t_pq_1; r_58 = t_ed_1; r_6f = t_6o_1; r_w2 = t_1w; r_mm = t_pq; r_0r = t_ed; r_75 = t_6o; r_fn = r_pe; r_i4 = t_pt; r_1t = t_ni; r_a1 = t_bt; r_cc = r_47; r_5r_1 = t_pt_1; r_og = t_ni_1; r_7z = t_bt_1; r_m1 = r_47_1; r_nq = t_pt_2; r_7w = t_ni_2; r_w5 = t_bt_2; r_0i = r_47_2; r_x9 = t_pt_3; r_vm = t_ni_3; r_4a = t_bt_3; r_75_1 = r_47_3; r_9s = t_pt_4; r_co = t_ni_4; r_0c = t_bt_4; r_9q = r_47_4; r_zy = t_pt_5; r_ph = t_ni_5; r_hk = 0x2e000000000000ull; r_tw = 46u; r_hl = 0x2e0000ull; r_7a = 0x2e00000000ull; r_1y = 0x2e000000000000ull; r_if = 46u; r_uk = 0x2e0000ull; r_3d = 0x2e00000000ull; r_6w = 0x2e000000000000ull; r_93 = 46u; r_gg = 0x2e0000ull; r_zt = 0x2e00000000ull; r_m6 = 0x2e000000000000ull; r_jc = 46u; r_vw = 0x2e0000ull; r_xz = 0x2e00000000ull; goto l_std_tz; }
     t_pq_5 = (u64)((u64)ld8((a_4 + 45)) << 40ull);
-    if (!(a_5 > 46ull)) { r_zo = 0x2e000000ull; r_lj = 11776ull; r_42 = 0x2e00000000000000ull; r_5r = 0x2e0000000000ull; r_pa = 0x2e000000ull; r_7p = 11776ull; r_o8 = 0x2e00000000000000ull; r_bf = 0x2e0000000000ull; r_bp = 0x2e000000ull; r_m3 = 11776ull; r_1s = 0x2e00000000000000ull; r_2r = 0x2e0000000000ull; r_pk = 0x2e000000ull; r_wb = 11776ull; r_3n = 0x2e00000000000000ull; r_bo = t_pq_5; r_zs = t_ed_5; r_v3 = t_6o_5; r_ua = t_1w_4; r_v9 = t_pq_4; r_ps = t_ed_4; r_gi = t_6o_4; r_3f = t_1w_3; r_pn = t_pq_3; r_je = t_ed_3; r_jk = t_6o_3; r_l0 = t_1w_2; r_qi = t_pq_2; r_vv = t_ed_2; r_sr = t_6o_2; r_qg = t_1w_1; r_q7 = t_pq_1; r_58 = t_ed_1; r_6f = t_6o_1; r_w2 = t_1w; r_mm = t_pq; r_0r = t_ed; r_75 = t_6o; r_fn = r_pe; r_i4 = t_pt; r_1t = t_ni; r_a1 = t_bt; r_cc = r_47_7; r_5r_1 = t_pt_1; r_og = t_ni_1; r_7z = t_bt_1; r_m1 = r_47_15; r_nq = t_pt_2; r_7w = t_ni_2; r_w5 = t_bt_2; r_0i = r_47_23; r_x9 = t_pt_3; r_vm = t_ni_3; r_4a = t_bt_3; r_75_1 = r_47_31; r_9s = t_pt_4; r_co = t_ni_4; r_0c = t_bt_4; r_9q = r_47_39; r_zy = t_pt_5; r_ph = t_ni_5; r_hk = 0x2e000000000000ull; r_tw = 46u; r_hl = 0x2e0000ull; r_7a = 0x2e00000000ull; r_1y = 0x2e000000000000ull; r_if = 46u; r_uk = 0x2e0000ull; r_3d = 0x2e00000000ull; r_6w = 0x2e000000000000ull; r_93 = 46u; r_gg = 0x2e0000ull; r_zt = 0x2e00000000ull; r_m6 = 0x2e000000000000ull; r_jc = 46u; r_vw = 0x2e0000ull; r_xz = 0x2e00000000ull; goto l_std_tz; }
+    if (!(a_5 > 46ull)) { r_zo = 0x2e000000ull; r_lj = 11776ull; r_42 = 0x2e00000000000000ull; r_5r = 0x2e0000000000ull; r_pa = 0x2e000000ull; r_7p = 11776ull; r_o8 = 0x2e00000000000000ull; r_bf = 0x2e0000000000ull; r_bp = 0x2e000000ull; r_m3 = 11776ull; r_1s = 0x2e00000000000000ull; r_2r = 0x2e0000000000ull; r_pk = 0x2e000000ull; r_wb = 11776ull; r_3n = 0x2e00000000000000ull; r_bo = t_pq_5; r_zs = t_ed_5; r_v3 = t_6o_5; r_ua = t_1w_4; r_v9 = t_pq_4; r_ps = t_ed_4; r_gi = t_6o_4; r_3f = t_1w_3; r_pn = t_pq_3; r_je = t_ed_3; r_jk = t_6o_3; r_l0 = t_1w_2; r_qi = t_pq_2; r_vv = t_ed_2; r_sr = t_6o_2; r_qg = t_1w_1; r_q7 = t_pq_1; r_58 = t_ed_1; r_6f = t_6o_1; r_w2 = t_1w; r_mm = t_pq; r_0r = t_ed; r_75 = t_6o; r_fn = r_pe; r_i4 = t_pt; r_1t = t_ni; r_a1 = t_bt; r_cc = r_47; r_5r_1 = t_pt_1; r_og = t_ni_1; r_7z = t_bt_1; r_m1 = r_47_1; r_nq = t_pt_2; r_7w = t_ni_2; r_w5 = t_bt_2; r_0i = r_47_2; r_x9 = t_pt_3; r_vm = t_ni_3; r_4a = t_bt_3; r_75_1 = r_47_3; r_9s = t_pt_4; r_co = t_ni_4; r_0c = t_bt_4; r_9q = r_47_4; r_zy = t_pt_5; r_ph = t_ni_5; r_hk = 0x2e000000000000ull; r_tw = 46u; r_hl = 0x2e0000ull; r_7a = 0x2e00000000ull; r_1y = 0x2e000000000000ull; r_if = 46u; r_uk = 0x2e0000ull; r_3d = 0x2e00000000ull; r_6w = 0x2e000000000000ull; r_93 = 46u; r_gg = 0x2e0000ull; r_zt = 0x2e00000000ull; r_m6 = 0x2e000000000000ull; r_jc = 46u; r_vw = 0x2e0000ull; r_xz = 0x2e00000000ull; goto l_std_tz; }
     t_bt_5 = (u64)((u64)ld8((a_4 + 46)) << 48ull);
-    if (a_5 == 47ull) { r_zo = 0x2e000000ull; r_lj = 11776ull; r_42 = 0x2e00000000000000ull; r_5r = 0x2e0000000000ull; r_pa = 0x2e000000ull; r_7p = 11776ull; r_o8 = 0x2e00000000000000ull; r_bf = 0x2e0000000000ull; r_bp = 0x2e000000ull; r_m3 = 11776ull; r_1s = 0x2e00000000000000ull; r_2r = 0x2e0000000000ull; r_pk = 0x2e000000ull; r_wb = 11776ull; r_3n = 0x2e00000000000000ull; r_bo = t_pq_5; r_zs = t_ed_5; r_v3 = t_6o_5; r_ua = t_1w_4; r_v9 = t_pq_4; r_ps = t_ed_4; r_gi = t_6o_4; r_3f = t_1w_3; r_pn = t_pq_3; r_je = t_ed_3; r_jk = t_6o_3; r_l0 = t_1w_2; r_qi = t_pq_2; r_vv = t_ed_2; r_sr = t_6o_2; r_qg = t_1w_1; r_q7 = t_pq_1; r_58 = t_ed_1; r_6f = t_6o_1; r_w2 = t_1w; r_mm = t_pq; r_0r = t_ed; r_75 = t_6o; r_fn = r_pe; r_i4 = t_pt; r_1t = t_ni; r_a1 = t_bt; r_cc = r_47_7; r_5r_1 = t_pt_1; r_og = t_ni_1; r_7z = t_bt_1; r_m1 = r_47_15; r_nq = t_pt_2; r_7w = t_ni_2; r_w5 = t_bt_2; r_0i = r_47_23; r_x9 = t_pt_3; r_vm = t_ni_3; r_4a = t_bt_3; r_75_1 = r_47_31; r_9s = t_pt_4; r_co = t_ni_4; r_0c = t_bt_4; r_9q = r_47_39; r_zy = t_pt_5; r_ph = t_ni_5; r_hk = t_bt_5; r_tw = 46u; r_hl = 0x2e0000ull; r_7a = 0x2e00000000ull; r_1y = 0x2e000000000000ull; r_if = 46u; r_uk = 0x2e0000ull; r_3d = 0x2e00000000ull; r_6w = 0x2e000000000000ull; r_93 = 46u; r_gg = 0x2e0000ull; r_zt = 0x2e00000000ull; r_m6 = 0x2e000000000000ull; r_jc = 46u; r_vw = 0x2e0000ull; r_xz = 0x2e00000000ull; goto l_std_tz; }
+    if (a_5 == 47ull) { r_zo = 0x2e000000ull; r_lj = 11776ull; r_42 = 0x2e00000000000000ull; r_5r = 0x2e0000000000ull; r_pa = 0x2e000000ull; r_7p = 11776ull; r_o8 = 0x2e00000000000000ull; r_bf = 0x2e0000000000ull; r_bp = 0x2e000000ull; r_m3 = 11776ull; r_1s = 0x2e00000000000000ull; r_2r = 0x2e0000000000ull; r_pk = 0x2e000000ull; r_wb = 11776ull; r_3n = 0x2e00000000000000ull; r_bo = t_pq_5; r_zs = t_ed_5; r_v3 = t_6o_5; r_ua = t_1w_4; r_v9 = t_pq_4; r_ps = t_ed_4; r_gi = t_6o_4; r_3f = t_1w_3; r_pn = t_pq_3; r_je = t_ed_3; r_jk = t_6o_3; r_l0 = t_1w_2; r_qi = t_pq_2; r_vv = t_ed_2; r_sr = t_6o_2; r_qg = t_1w_1; r_q7 = t_pq_1; r_58 = t_ed_1; r_6f = t_6o_1; r_w2 = t_1w; r_mm = t_pq; r_0r = t_ed; r_75 = t_6o; r_fn = r_pe; r_i4 = t_pt; r_1t = t_ni; r_a1 = t_bt; r_cc = r_47; r_5r_1 = t_pt_1; r_og = t_ni_1; r_7z = t_bt_1; r_m1 = r_47_1; r_nq = t_pt_2; r_7w = t_ni_2; r_w5 = t_bt_2; r_0i = r_47_2; r_x9 = t_pt_3; r_vm = t_ni_3; r_4a = t_bt_3; r_75_1 = r_47_3; r_9s = t_pt_4; r_co = t_ni_4; r_0c = t_bt_4; r_9q = r_47_4; r_zy = t_pt_5; r_ph = t_ni_5; r_hk = t_bt_5; r_tw = 46u; r_hl = 0x2e0000ull; r_7a = 0x2e00000000ull; r_1y = 0x2e000000000000ull; r_if = 46u; r_uk = 0x2e0000ull; r_3d = 0x2e00000000ull; r_6w = 0x2e000000000000ull; r_93 = 46u; r_gg = 0x2e0000ull; r_zt = 0x2e00000000ull; r_m6 = 0x2e000000000000ull; r_jc = 46u; r_vw = 0x2e0000ull; r_xz = 0x2e00000000ull; goto l_std_tz; }
     t_1w_5 = (u64)((u64)ld8((a_4 + 47)) << 56ull);
-    if (!(a_5 > 48ull)) { r_zo = 0x2e000000ull; r_lj = 11776ull; r_42 = 0x2e00000000000000ull; r_5r = 0x2e0000000000ull; r_pa = 0x2e000000ull; r_7p = 11776ull; r_o8 = 0x2e00000000000000ull; r_bf = 0x2e0000000000ull; r_bp = 0x2e000000ull; r_m3 = 11776ull; r_1s = 0x2e00000000000000ull; r_2r = 0x2e0000000000ull; r_pk = 0x2e000000ull; r_wb = 11776ull; r_3n = t_1w_5; r_bo = t_pq_5; r_zs = t_ed_5; r_v3 = t_6o_5; r_ua = t_1w_4; r_v9 = t_pq_4; r_ps = t_ed_4; r_gi = t_6o_4; r_3f = t_1w_3; r_pn = t_pq_3; r_je = t_ed_3; r_jk = t_6o_3; r_l0 = t_1w_2; r_qi = t_pq_2; r_vv = t_ed_2; r_sr = t_6o_2; r_qg = t_1w_1; r_q7 = t_pq_1; r_58 = t_ed_1; r_6f = t_6o_1; r_w2 = t_1w; r_mm = t_pq; r_0r = t_ed; r_75 = t_6o; r_fn = r_pe; r_i4 = t_pt; r_1t = t_ni; r_a1 = t_bt; r_cc = r_47_7; r_5r_1 = t_pt_1; r_og = t_ni_1; r_7z = t_bt_1; r_m1 = r_47_15; r_nq = t_pt_2; r_7w = t_ni_2; r_w5 = t_bt_2; r_0i = r_47_23; r_x9 = t_pt_3; r_vm = t_ni_3; r_4a = t_bt_3; r_75_1 = r_47_31; r_9s = t_pt_4; r_co = t_ni_4; r_0c = t_bt_4; r_9q = r_47_39; r_zy = t_pt_5; r_ph = t_ni_5; r_hk = t_bt_5; r_tw = 46u; r_hl = 0x2e0000ull; r_7a = 0x2e00000000ull; r_1y = 0x2e000000000000ull; r_if = 46u; r_uk = 0x2e0000ull; r_3d = 0x2e00000000ull; r_6w = 0x2e000000000000ull; r_93 = 46u; r_gg = 0x2e0000ull; r_zt = 0x2e00000000ull; r_m6 = 0x2e000000000000ull; r_jc = 46u; r_vw = 0x2e0000ull; r_xz = 0x2e00000000ull; goto l_std_tz; }
-    r_47_47 = ld8((a_4 + 48));
-    if (a_5 == 49ull) { r_zo = 0x2e000000ull; r_lj = 11776ull; r_42 = 0x2e00000000000000ull; r_5r = 0x2e0000000000ull; r_pa = 0x2e000000ull; r_7p = 11776ull; r_o8 = 0x2e00000000000000ull; r_bf = 0x2e0000000000ull; r_bp = 0x2e000000ull; r_m3 = 11776ull; r_1s = 0x2e00000000000000ull; r_2r = 0x2e0000000000ull; r_pk = 0x2e000000ull; r_wb = 11776ull; r_3n = t_1w_5; r_bo = t_pq_5; r_zs = t_ed_5; r_v3 = t_6o_5; r_ua = t_1w_4; r_v9 = t_pq_4; r_ps = t_ed_4; r_gi = t_6o_4; r_3f = t_1w_3; r_pn = t_pq_3; r_je = t_ed_3; r_jk = t_6o_3; r_l0 = t_1w_2; r_qi = t_pq_2; r_vv = t_ed_2; r_sr = t_6o_2; r_qg = t_1w_1; r_q7 = t_pq_1; r_58 = t_ed_1; r_6f = t_6o_1; r_w2 = t_1w; r_mm = t_pq; r_0r = t_ed; r_75 = t_6o; r_fn = r_pe; r_i4 = t_pt; r_1t = t_ni; r_a1 = t_bt; r_cc = r_47_7; r_5r_1 = t_pt_1; r_og = t_ni_1; r_7z = t_bt_1; r_m1 = r_47_15; r_nq = t_pt_2; r_7w = t_ni_2; r_w5 = t_bt_2; r_0i = r_47_23; r_x9 = t_pt_3; r_vm = t_ni_3; r_4a = t_bt_3; r_75_1 = r_47_31; r_9s = t_pt_4; r_co = t_ni_4; r_0c = t_bt_4; r_9q = r_47_39; r_zy = t_pt_5; r_ph = t_ni_5; r_hk = t_bt_5; r_tw = r_47_47; r_hl = 0x2e0000ull; r_7a = 0x2e00000000ull; r_1y = 0x2e000000000000ull; r_if = 46u; r_uk = 0x2e0000ull; r_3d = 0x2e00000000ull; r_6w = 0x2e000000000000ull; r_93 = 46u; r_gg = 0x2e0000ull; r_zt = 0x2e00000000ull; r_m6 = 0x2e000000000000ull; r_jc = 46u; r_vw = 0x2e0000ull; r_xz = 0x2e00000000ull; goto l_std_tz; }
+    if (!(a_5 > 48ull)) { r_zo = 0x2e000000ull; r_lj = 11776ull; r_42 = 0x2e00000000000000ull; r_5r = 0x2e0000000000ull; r_pa = 0x2e000000ull; r_7p = 11776ull; r_o8 = 0x2e00000000000000ull; r_bf = 0x2e0000000000ull; r_bp = 0x2e000000ull; r_m3 = 11776ull; r_1s = 0x2e00000000000000ull; r_2r = 0x2e0000000000ull; r_pk = 0x2e000000ull; r_wb = 11776ull; r_3n = t_1w_5; r_bo = t_pq_5; r_zs = t_ed_5; r_v3 = t_6o_5; r_ua = t_1w_4; r_v9 = t_pq_4; r_ps = t_ed_4; r_gi = t_6o_4; r_3f = t_1w_3; r_pn = t_pq_3; r_je = t_ed_3; r_jk = t_6o_3; r_l0 = t_1w_2; r_qi = t_pq_2; r_vv = t_ed_2; r_sr = t_6o_2; r_qg = t_1w_1; r_q7 = t_pq_1; r_58 = t_ed_1; r_6f = t_6o_1; r_w2 = t_1w; r_mm = t_pq; r_0r = t_ed; r_75 = t_6o; r_fn = r_pe; r_i4 = t_pt; r_1t = t_ni; r_a1 = t_bt; r_cc = r_47; r_5r_1 = t_pt_1; r_og = t_ni_1; r_7z = t_bt_1; r_m1 = r_47_1; r_nq = t_pt_2; r_7w = t_ni_2; r_w5 = t_bt_2; r_0i = r_47_2; r_x9 = t_pt_3; r_vm = t_ni_3; r_4a = t_bt_3; r_75_1 = r_47_3; r_9s = t_pt_4; r_co = t_ni_4; r_0c = t_bt_4; r_9q = r_47_4; r_zy = t_pt_5; r_ph = t_ni_5; r_hk = t_bt_5; r_tw = 46u; r_hl = 0x2e0000ull; r_7a = 0x2e00000000ull; r_1y = 0x2e000000000000ull; r_if = 46u; r_uk = 0x2e0000ull; r_3d = 0x2e00000000ull; r_6w = 0x2e000000000000ull; r_93 = 46u; r_gg = 0x2e0000ull; r_zt = 0x2e00000000ull; r_m6 = 0x2e000000000000ull; r_jc = 46u; r_vw = 0x2e0000ull; r_xz = 0x2e00000000ull; goto l_std_tz; }
+    r_47_5 = ld8((a_4 + 48));
+    if (a_5 == 49ull) { r_zo = 0x2e000000ull; r_lj = 11776ull; r_42 = 0x2e00000000000000ull; r_5r = 0x2e0000000000ull; r_pa = 0x2e000000ull; r_7p = 11776ull; r_o8 = 0x2e00000000000000ull; r_bf = 0x2e0000000000ull; r_bp = 0x2e000000ull; r_m3 = 11776ull; r_1s = 0x2e00000000000000ull; r_2r = 0x2e0000000000ull; r_pk = 0x2e000000ull; r_wb = 11776ull; r_3n = t_1w_5; r_bo = t_pq_5; r_zs = t_ed_5; r_v3 = t_6o_5; r_ua = t_1w_4; r_v9 = t_pq_4; r_ps = t_ed_4; r_gi = t_6o_4; r_3f = t_1w_3; r_pn = t_pq_3; r_je = t_ed_3; r_jk = t_6o_3; r_l0 = t_1w_2; r_qi = t_pq_2; r_vv = t_ed_2; r_sr = t_6o_2; r_qg = t_1w_1; r_q7 = t_pq_1; r_58 = t_ed_1; r_6f = t_6o_1; r_w2 = t_1w; r_mm = t_pq; r_0r = t_ed; r_75 = t_6o; r_fn = r_pe; r_i4 = t_pt; r_1t = t_ni; r_a1 = t_bt; r_cc = r_47; r_5r_1 = t_pt_1; r_og = t_ni_1; r_7z = t_bt_1; r_m1 = r_47_1; r_nq = t_pt_2; r_7w = t_ni_2; r_w5 = t_bt_2; r_0i = r_47_2; r_x9 = t_pt_3; r_vm = t_ni_3; r_4a = t_bt_3; r_75_1 = r_47_3; r_9s = t_pt_4; r_co = t_ni_4; r_0c = t_bt_4; r_9q = r_47_4; r_zy = t_pt_5; r_ph = t_ni_5; r_hk = t_bt_5; r_tw = r_47_5; r_hl = 0x2e0000ull; r_7a = 0x2e00000000ull; r_1y = 0x2e000000000000ull; r_if = 46u; r_uk = 0x2e0000ull; r_3d = 0x2e00000000ull; r_6w = 0x2e000000000000ull; r_93 = 46u; r_gg = 0x2e0000ull; r_zt = 0x2e00000000ull; r_m6 = 0x2e000000000000ull; r_jc = 46u; r_vw = 0x2e0000ull; r_xz = 0x2e00000000ull; goto l_std_tz; }
     t_6o_6 = (u64)((u64)ld8((a_4 + 49)) << 8ull);
-    if (!(a_5 > 50ull)) { r_zo = 0x2e000000ull; r_lj = 11776ull; r_42 = 0x2e00000000000000ull; r_5r = 0x2e0000000000ull; r_pa = 0x2e000000ull; r_7p = 11776ull; r_o8 = 0x2e00000000000000ull; r_bf = 0x2e0000000000ull; r_bp = 0x2e000000ull; r_m3 = 11776ull; r_1s = 0x2e00000000000000ull; r_2r = 0x2e0000000000ull; r_pk = 0x2e000000ull; r_wb = t_6o_6; r_3n = t_1w_5; r_bo = t_pq_5; r_zs = t_ed_5; r_v3 = t_6o_5; r_ua = t_1w_4; r_v9 = t_pq_4; r_ps = t_ed_4; r_gi = t_6o_4; r_3f = t_1w_3; r_pn = t_pq_3; r_je = t_ed_3; r_jk = t_6o_3; r_l0 = t_1w_2; r_qi = t_pq_2; r_vv = t_ed_2; r_sr = t_6o_2; r_qg = t_1w_1; r_q7 = t_pq_1; r_58 = t_ed_1; r_6f = t_6o_1; r_w2 = t_1w; r_mm = t_pq; r_0r = t_ed; r_75 = t_6o; r_fn = r_pe; r_i4 = t_pt; r_1t = t_ni; r_a1 = t_bt; r_cc = r_47_7; r_5r_1 = t_pt_1; r_og = t_ni_1; r_7z = t_bt_1; r_m1 = r_47_15; r_nq = t_pt_2; r_7w = t_ni_2; r_w5 = t_bt_2; r_0i = r_47_23; r_x9 = t_pt_3; r_vm = t_ni_3; r_4a = t_bt_3; r_75_1 = r_47_31; r_9s = t_pt_4; r_co = t_ni_4; r_0c = t_bt_4; r_9q = r_47_39; r_zy = t_pt_5; r_ph = t_ni_5; r_hk = t_bt_5; r_tw = r_47_47; r_hl = 0x2e0000ull; r_7a = 0x2e00000000ull; r_1y = 0x2e000000000000ull; r_if = 46u; r_uk = 0x2e0000ull; r_3d = 0x2e00000000ull; r_6w = 0x2e000000000000ull; r_93 = 46u; r_gg = 0x2e0000ull; r_zt = 0x2e00000000ull; r_m6 = 0x2e000000000000ull; r_jc = 46u; r_vw = 0x2e0000ull; r_xz = 0x2e00000000ull; goto l_std_tz; }
+    if (!(a_5 > 50ull)) { r_zo = 0x2e000000ull; r_lj = 11776ull; r_42 = 0x2e00000000000000ull; r_5r = 0x2e0000000000ull; r_pa = 0x2e000000ull; r_7p = 11776ull; r_o8 = 0x2e00000000000000ull; r_bf = 0x2e0000000000ull; r_bp = 0x2e000000ull; r_m3 = 11776ull; r_1s = 0x2e00000000000000ull; r_2r = 0x2e0000000000ull; r_pk = 0x2e000000ull; r_wb = t_6o_6; r_3n = t_1w_5; r_bo = t_pq_5; r_zs = t_ed_5; r_v3 = t_6o_5; r_ua = t_1w_4; r_v9 = t_pq_4; r_ps = t_ed_4; r_gi = t_6o_4; r_3f = t_1w_3; r_pn = t_pq_3; r_je = t_ed_3; r_jk = t_6o_3; r_l0 = t_1w_2; r_qi = t_pq_2; r_vv = t_ed_2; r_sr = t_6o_2; r_qg = t_1w_1; r_q7 = t_pq_1; r_58 = t_ed_1; r_6f = t_6o_1; r_w2 = t_1w; r_mm = t_pq; r_0r = t_ed; r_75 = t_6o; r_fn = r_pe; r_i4 = t_pt; r_1t = t_ni; r_a1 = t_bt; r_cc = r_47; r_5r_1 = t_pt_1; r_og = t_ni_1; r_7z = t_bt_1; r_m1 = r_47_1; r_nq = t_pt_2; r_7w = t_ni_2; r_w5 = t_bt_2; r_0i = r_47_2; r_x9 = t_pt_3; r_vm = t_ni_3; r_4a = t_bt_3; r_75_1 = r_47_3; r_9s = t_pt_4; r_co = t_ni_4; r_0c = t_bt_4; r_9q = r_47_4; r_zy = t_pt_5; r_ph = t_ni_5; r_hk = t_bt_5; r_tw = r_47_5; r_hl = 0x2e0000ull; r_7a = 0x2e00000000ull; r_1y = 0x2e000000000000ull; r_if = 46u; r_uk = 0x2e0000ull; r_3d = 0x2e00000000ull; r_6w = 0x2e000000000000ull; r_93 = 46u; r_gg = 0x2e0000ull; r_zt = 0x2e00000000ull; r_m6 = 0x2e000000000000ull; r_jc = 46u; r_vw = 0x2e0000ull; r_xz = 0x2e00000000ull; goto l_std_tz; }
     t_pt_6 = (u64)((u64)ld8((a_4 + 50)) << 16ull);
-    if (a_5 == 51ull) { r_zo = 0x2e000000ull; r_lj = 11776ull; r_42 = 0x2e00000000000000ull; r_5r = 0x2e0000000000ull; r_pa = 0x2e000000ull; r_7p = 11776ull; r_o8 = 0x2e00000000000000ull; r_bf = 0x2e0000000000ull; r_bp = 0x2e000000ull; r_m3 = 11776ull; r_1s = 0x2e00000000000000ull; r_2r = 0x2e0000000000ull; r_pk = 0x2e000000ull; r_wb = t_6o_6; r_3n = t_1w_5; r_bo = t_pq_5; r_zs = t_ed_5; r_v3 = t_6o_5; r_ua = t_1w_4; r_v9 = t_pq_4; r_ps = t_ed_4; r_gi = t_6o_4; r_3f = t_1w_3; r_pn = t_pq_3; r_je = t_ed_3; r_jk = t_6o_3; r_l0 = t_1w_2; r_qi = t_pq_2; r_vv = t_ed_2; r_sr = t_6o_2; r_qg = t_1w_1; r_q7 = t_pq_1; r_58 = t_ed_1; r_6f = t_6o_1; r_w2 = t_1w; r_mm = t_pq; r_0r = t_ed; r_75 = t_6o; r_fn = r_pe; r_i4 = t_pt; r_1t = t_ni; r_a1 = t_bt; r_cc = r_47_7; r_5r_1 = t_pt_1; r_og = t_ni_1; r_7z = t_bt_1; r_m1 = r_47_15; r_nq = t_pt_2; r_7w = t_ni_2; r_w5 = t_bt_2; r_0i = r_47_23; r_x9 = t_pt_3; r_vm = t_ni_3; r_4a = t_bt_3; r_75_1 = r_47_31; r_9s = t_pt_4; r_co = t_ni_4; r_0c = t_bt_4; r_9q = r_47_39; r_zy = t_pt_5; r_ph = t_ni_5; r_hk = t_bt_5; r_tw = r_47_47; r_hl = t_pt_6; r_7a = 0x2e00000000ull; r_1y = 0x2e000000000000ull; r_if = 46u; r_uk = 0x2e0000ull; r_3d = 0x2e00000000ull; r_6w = 0x2e000000000000ull; r_93 = 46u; r_gg = 0x2e0000ull; r_zt = 0x2e00000000ull; r_m6 = 0x2e000000000000ull; r_jc = 46u; r_vw = 0x2e0000ull; r_xz = 0x2e00000000ull; goto l_std_tz; }
+    if (a_5 == 51ull) { r_zo = 0x2e000000ull; r_lj = 11776ull; r_42 = 0x2e00000000000000ull; r_5r = 0x2e0000000000ull; r_pa = 0x2e000000ull; r_7p = 11776ull; r_o8 = 0x2e00000000000000ull; r_bf = 0x2e0000000000ull; r_bp = 0x2e000000ull; r_m3 = 11776ull; r_1s = 0x2e00000000000000ull; r_2r = 0x2e0000000000ull; r_pk = 0x2e000000ull; r_wb = t_6o_6; r_3n = t_1w_5; r_bo = t_pq_5; r_zs = t_ed_5; r_v3 = t_6o_5; r_ua = t_1w_4; r_v9 = t_pq_4; r_ps = t_ed_4; r_gi = t_6o_4; r_3f = t_1w_3; r_pn = t_pq_3; r_je = t_ed_3; r_jk = t_6o_3; r_l0 = t_1w_2; r_qi = t_pq_2; r_vv = t_ed_2; r_sr = t_6o_2; r_qg = t_1w_1; r_q7 = t_pq_1; r_58 = t_ed_1; r_6f = t_6o_1; r_w2 = t_1w; r_mm = t_pq; r_0r = t_ed; r_75 = t_6o; r_fn = r_pe; r_i4 = t_pt; r_1t = t_ni; r_a1 = t_bt; r_cc = r_47; r_5r_1 = t_pt_1; r_og = t_ni_1; r_7z = t_bt_1; r_m1 = r_47_1; r_nq = t_pt_2; r_7w = t_ni_2; r_w5 = t_bt_2; r_0i = r_47_2; r_x9 = t_pt_3; r_vm = t_ni_3; r_4a = t_bt_3; r_75_1 = r_47_3; r_9s = t_pt_4; r_co = t_ni_4; r_0c = t_bt_4; r_9q = r_47_4; r_zy = t_pt_5; r_ph = t_ni_5; r_hk = t_bt_5; r_tw = r_47_5; r_hl = t_pt_6; r_7a = 0x2e00000000ull; r_1y = 0x2e000000000000ull; r_if = 46u; r_uk = 0x2e0000ull; r_3d = 0x2e00000000ull; r_6w = 0x2e000000000000ull; r_93 = 46u; r_gg = 0x2e0000ull; r_zt = 0x2e00000000ull; r_m6 = 0x2e000000000000ull; r_jc = 46u; r_vw = 0x2e0000ull; r_xz = 0x2e00000000ull; goto l_std_tz; }
     t_ed_6 = (u64)((u64)ld8((a_4 + 51)) << 24ull);
-    if (!(a_5 > 52ull)) { r_zo = 0x2e000000ull; r_lj = 11776ull; r_42 = 0x2e00000000000000ull; r_5r = 0x2e0000000000ull; r_pa = 0x2e000000ull; r_7p = 11776ull; r_o8 = 0x2e00000000000000ull; r_bf = 0x2e0000000000ull; r_bp = 0x2e000000ull; r_m3 = 11776ull; r_1s = 0x2e00000000000000ull; r_2r = 0x2e0000000000ull; r_pk = t_ed_6; r_wb = t_6o_6; r_3n = t_1w_5; r_bo = t_pq_5; r_zs = t_ed_5; r_v3 = t_6o_5; r_ua = t_1w_4; r_v9 = t_pq_4; r_ps = t_ed_4; r_gi = t_6o_4; r_3f = t_1w_3; r_pn = t_pq_3; r_je = t_ed_3; r_jk = t_6o_3; r_l0 = t_1w_2; r_qi = t_pq_2; r_vv = t_ed_2; r_sr = t_6o_2; r_qg = t_1w_1; r_q7 = t_pq_1; r_58 = t_ed_1; r_6f = t_6o_1; r_w2 = t_1w; r_mm = t_pq; r_0r = t_ed; r_75 = t_6o; r_fn = r_pe; r_i4 = t_pt; r_1t = t_ni; r_a1 = t_bt; r_cc = r_47_7; r_5r_1 = t_pt_1; r_og = t_ni_1; r_7z = t_bt_1; r_m1 = r_47_15; r_nq = t_pt_2; r_7w = t_ni_2; r_w5 = t_bt_2; r_0i = r_47_23; r_x9 = t_pt_3; r_vm = t_ni_3; r_4a = t_bt_3; r_75_1 = r_47_31; r_9s = t_pt_4; r_co = t_ni_4; r_0c = t_bt_4; r_9q = r_47_39; r_zy = t_pt_5; r_ph = t_ni_5; r_hk = t_bt_5; r_tw = r_47_47; r_hl = t_pt_6; r_7a = 0x2e00000000ull; r_1y = 0x2e000000000000ull; r_if = 46u; r_uk = 0x2e0000ull; r_3d = 0x2e00000000ull; r_6w = 0x2e000000000000ull; r_93 = 46u; r_gg = 0x2e0000ull; r_zt = 0x2e00000000ull; r_m6 = 0x2e000000000000ull; r_jc = 46u; r_vw = 0x2e0000ull; r_xz = 0x2e00000000ull; goto l_std_tz; }
+    if (!(a_5 > 52ull)) { r_zo = 0x2e000000ull; r_lj = 11776ull; r_42 = 0x2e00000000000000ull; r_5r = 0x2e0000000000ull; r_pa = 0x2e000000ull; r_7p = 11776ull; r_o8 = 0x2e00000000000000ull; r_bf = 0x2e0000000000ull; r_bp = 0x2e000000ull; r_m3 = 11776ull; r_1s = 0x2e00000000000000ull; r_2r = 0x2e0000000000ull; r_pk = t_ed_6; r_wb = t_6o_6; r_3n = t_1w_5; r_bo = t_pq_5; r_zs = t_ed_5; r_v3 = t_6o_5; r_ua = t_1w_4; r_v9 = t_pq_4; r_ps = t_ed_4; r_gi = t_6o_4; r_3f = t_1w_3; r_pn = t_pq_3; r_je = t_ed_3; r_jk = t_6o_3; r_l0 = t_1w_2; r_qi = t_pq_2; r_vv = t_ed_2; r_sr = t_6o_2; r_qg = t_1w_1; r_q7 = t_pq_1; r_58 = t_ed_1; r_6f = t_6o_1; r_w2 = t_1w; r_mm = t_pq; r_0r = t_ed; r_75 = t_6o; r_fn = r_pe; r_i4 = t_pt; r_1t = t_ni; r_a1 = t_bt; r_cc = r_47; r_5r_1 = t_pt_1; r_og = t_ni_1; r_7z = t_bt_1; r_m1 = r_47_1; r_nq = t_pt_2; r_7w = t_ni_2; r_w5 = t_bt_2; r_0i = r_47_2; r_x9 = t_pt_3; r_vm = t_ni_3; r_4a = t_bt_3; r_75_1 = r_47_3; r_9s = t_pt_4; r_co = t_ni_4; r_0c = t_bt_4; r_9q = r_47_4; r_zy = t_pt_5; r_ph = t_ni_5; r_hk = t_bt_5; r_tw = r_47_5; r_hl = t_pt_6; r_7a = 0x2e00000000ull; r_1y = 0x2e000000000000ull; r_if = 46u; r_uk = 0x2e0000ull; r_3d = 0x2e00000000ull; r_6w = 0x2e000000000000ull; r_93 = 46u; r_gg = 0x2e0000ull; r_zt = 0x2e00000000ull; r_m6 = 0x2e000000000000ull; r_jc = 46u; r_vw = 0x2e0000ull; r_xz = 0x2e00000000ull; goto l_std_tz; }
     t_ni_6 = (u64)((u64)ld8((a_4 + 52)) << 32ull);
-    if (a_5 == 53ull) { r_zo = 0x2e000000ull; r_lj = 11776ull; r_42 = 0x2e00000000000000ull; r_5r = 0x2e0000000000ull; r_pa = 0x2e000000ull; r_7p = 11776ull; r_o8 = 0x2e00000000000000ull; r_bf = 0x2e0000000000ull; r_bp = 0x2e000000ull; r_m3 = 11776ull; r_1s = 0x2e00000000000000ull; r_2r = 0x2e0000000000ull; r_pk = t_ed_6; r_wb = t_6o_6; r_3n = t_1w_5; r_bo = t_pq_5; r_zs = t_ed_5; r_v3 = t_6o_5; r_ua = t_1w_4; r_v9 = t_pq_4; r_ps = t_ed_4; r_gi = t_6o_4; r_3f = t_1w_3; r_pn = t_pq_3; r_je = t_ed_3; r_jk = t_6o_3; r_l0 = t_1w_2; r_qi = t_pq_2; r_vv = t_ed_2; r_sr = t_6o_2; r_qg = t_1w_1; r_q7 = t_pq_1; r_58 = t_ed_1; r_6f = t_6o_1; r_w2 = t_1w; r_mm = t_pq; r_0r = t_ed; r_75 = t_6o; r_fn = r_pe; r_i4 = t_pt; r_1t = t_ni; r_a1 = t_bt; r_cc = r_47_7; r_5r_1 = t_pt_1; r_og = t_ni_1; r_7z = t_bt_1; r_m1 = r_47_15; r_nq = t_pt_2; r_7w = t_ni_2; r_w5 = t_bt_2; r_0i = r_47_23; r_x9 = t_pt_3; r_vm = t_ni_3; r_4a = t_bt_3; r_75_1 = r_47_31; r_9s = t_pt_4; r_co = t_ni_4; r_0c = t_bt_4; r_9q = r_47_39; r_zy = t_pt_5; r_ph = t_ni_5; r_hk = t_bt_5; r_tw = r_47_47; r_hl = t_pt_6; r_7a = t_ni_6; r_1y = 0x2e000000000000ull; r_if = 46u; r_uk = 0x2e0000ull; r_3d = 0x2e00000000ull; r_6w = 0x2e000000000000ull; r_93 = 46u; r_gg = 0x2e0000ull; r_zt = 0x2e00000000ull; r_m6 = 0x2e000000000000ull; r_jc = 46u; r_vw = 0x2e0000ull; r_xz = 0x2e00000000ull; goto l_std_tz; }
+    if (a_5 == 53ull) { r_zo = 0x2e000000ull; r_lj = 11776ull; r_42 = 0x2e00000000000000ull; r_5r = 0x2e0000000000ull; r_pa = 0x2e000000ull; r_7p = 11776ull; r_o8 = 0x2e00000000000000ull; r_bf = 0x2e0000000000ull; r_bp = 0x2e000000ull; r_m3 = 11776ull; r_1s = 0x2e00000000000000ull; r_2r = 0x2e0000000000ull; r_pk = t_ed_6; r_wb = t_6o_6; r_3n = t_1w_5; r_bo = t_pq_5; r_zs = t_ed_5; r_v3 = t_6o_5; r_ua = t_1w_4; r_v9 = t_pq_4; r_ps = t_ed_4; r_gi = t_6o_4; r_3f = t_1w_3; r_pn = t_pq_3; r_je = t_ed_3; r_jk = t_6o_3; r_l0 = t_1w_2; r_qi = t_pq_2; r_vv = t_ed_2; r_sr = t_6o_2; r_qg = t_1w_1; r_q7 = t_pq_1; r_58 = t_ed_1; r_6f = t_6o_1; r_w2 = t_1w; r_mm = t_pq; r_0r = t_ed; r_75 = t_6o; r_fn = r_pe; r_i4 = t_pt; r_1t = t_ni; r_a1 = t_bt; r_cc = r_47; r_5r_1 = t_pt_1; r_og = t_ni_1; r_7z = t_bt_1; r_m1 = r_47_1; r_nq = t_pt_2; r_7w = t_ni_2; r_w5 = t_bt_2; r_0i = r_47_2; r_x9 = t_pt_3; r_vm = t_ni_3; r_4a = t_bt_3; r_75_1 = r_47_3; r_9s = t_pt_4; r_co = t_ni_4; r_0c = t_bt_4; r_9q = r_47_4; r_zy = t_pt_5; r_ph = t_ni_5; r_hk = t_bt_5; r_tw = r_47_5; r_hl = t_pt_6; r_7a = t_ni_6; r_1y = 0x2e000000000000ull; r_if = 46u; r_uk = 0x2e0000ull; r_3d = 0x2e00000000ull; r_6w = 0x2e000000000000ull; r_93 = 46u; r_gg = 0x2e0000ull; r_zt = 0x2e00000000ull; r_m6 = 0x2e000000000000ull; r_jc = 46u; r_vw = 0x2e0000ull; r_xz = 0x2e00000000ull; goto l_std_tz; }
     t_pq_6 = (u64)((u64)ld8((a_4 + 53)) << 40ull);
-    if (!(a_5 > 54ull)) { r_zo = 0x2e000000ull; r_lj = 11776ull; r_42 = 0x2e00000000000000ull; r_5r = 0x2e0000000000ull; r_pa = 0x2e000000ull; r_7p = 11776ull; r_o8 = 0x2e00000000000000ull; r_bf = 0x2e0000000000ull; r_bp = 0x2e000000ull; r_m3 = 11776ull; r_1s = 0x2e00000000000000ull; r_2r = t_pq_6; r_pk = t_ed_6; r_wb = t_6o_6; r_3n = t_1w_5; r_bo = t_pq_5; r_zs = t_ed_5; r_v3 = t_6o_5; r_ua = t_1w_4; r_v9 = t_pq_4; r_ps = t_ed_4; r_gi = t_6o_4; r_3f = t_1w_3; r_pn = t_pq_3; r_je = t_ed_3; r_jk = t_6o_3; r_l0 = t_1w_2; r_qi = t_pq_2; r_vv = t_ed_2; r_sr = t_6o_2; r_qg = t_1w_1; r_q7 = t_pq_1; r_58 = t_ed_1; r_6f = t_6o_1; r_w2 = t_1w; r_mm = t_pq; r_0r = t_ed; r_75 = t_6o; r_fn = r_pe; r_i4 = t_pt; r_1t = t_ni; r_a1 = t_bt; r_cc = r_47_7; r_5r_1 = t_pt_1; r_og = t_ni_1; r_7z = t_bt_1; r_m1 = r_47_15; r_nq = t_pt_2; r_7w = t_ni_2; r_w5 = t_bt_2; r_0i = r_47_23; r_x9 = t_pt_3; r_vm = t_ni_3; r_4a = t_bt_3; r_75_1 = r_47_31; r_9s = t_pt_4; r_co = t_ni_4; r_0c = t_bt_4; r_9q = r_47_39; r_zy = t_pt_5; r_ph = t_ni_5; r_hk = t_bt_5; r_tw = r_47_47; r_hl = t_pt_6; r_7a = t_ni_6; r_1y = 0x2e000000000000ull; r_if = 46u; r_uk = 0x2e0000ull; r_3d = 0x2e00000000ull; r_6w = 0x2e000000000000ull; r_93 = 46u; r_gg = 0x2e0000ull; r_zt = 0x2e00000000ull; r_m6 = 0x2e000000000000ull; r_jc = 46u; r_vw = 0x2e0000ull; r_xz = 0x2e00000000ull; goto l_std_tz; }
+    if (!(a_5 > 54ull)) { r_zo = 0x2e000000ull; r_lj = 11776ull; r_42 = 0x2e00000000000000ull; r_5r = 0x2e0000000000ull; r_pa = 0x2e000000ull; r_7p = 11776ull; r_o8 = 0x2e00000000000000ull; r_bf = 0x2e0000000000ull; r_bp = 0x2e000000ull; r_m3 = 11776ull; r_1s = 0x2e00000000000000ull; r_2r = t_pq_6; r_pk = t_ed_6; r_wb = t_6o_6; r_3n = t_1w_5; r_bo = t_pq_5; r_zs = t_ed_5; r_v3 = t_6o_5; r_ua = t_1w_4; r_v9 = t_pq_4; r_ps = t_ed_4; r_gi = t_6o_4; r_3f = t_1w_3; r_pn = t_pq_3; r_je = t_ed_3; r_jk = t_6o_3; r_l0 = t_1w_2; r_qi = t_pq_2; r_vv = t_ed_2; r_sr = t_6o_2; r_qg = t_1w_1; r_q7 = t_pq_1; r_58 = t_ed_1; r_6f = t_6o_1; r_w2 = t_1w; r_mm = t_pq; r_0r = t_ed; r_75 = t_6o; r_fn = r_pe; r_i4 = t_pt; r_1t = t_ni; r_a1 = t_bt; r_cc = r_47; r_5r_1 = t_pt_1; r_og = t_ni_1; r_7z = t_bt_1; r_m1 = r_47_1; r_nq = t_pt_2; r_7w = t_ni_2; r_w5 = t_bt_2; r_0i = r_47_2; r_x9 = t_pt_3; r_vm = t_ni_3; r_4a = t_bt_3; r_75_1 = r_47_3; r_9s = t_pt_4; r_co = t_ni_4; r_0c = t_bt_4; r_9q = r_47_4; r_zy = t_pt_5; r_ph = t_ni_5; r_hk = t_bt_5; r_tw = r_47_5; r_hl = t_pt_6; r_7a = t_ni_6; r_1y = 0x2e000000000000ull; r_if = 46u; r_uk = 0x2e0000ull; r_3d = 0x2e00000000ull; r_6w = 0x2e000000000000ull; r_93 = 46u; r_gg = 0x2e0000ull; r_zt = 0x2e00000000ull; r_m6 = 0x2e000000000000ull; r_jc = 46u; r_vw = 0x2e0000ull; r_xz = 0x2e00000000ull; goto l_std_tz; }
     t_bt_6 = (u64)((u64)ld8((a_4 + 54)) << 48ull);
-    if (a_5 == 55ull) { r_zo = 0x2e000000ull; r_lj = 11776ull; r_42 = 0x2e00000000000000ull; r_5r = 0x2e0000000000ull; r_pa = 0x2e000000ull; r_7p = 11776ull; r_o8 = 0x2e00000000000000ull; r_bf = 0x2e0000000000ull; r_bp = 0x2e000000ull; r_m3 = 11776ull; r_1s = 0x2e00000000000000ull; r_2r = t_pq_6; r_pk = t_ed_6; r_wb = t_6o_6; r_3n = t_1w_5; r_bo = t_pq_5; r_zs = t_ed_5; r_v3 = t_6o_5; r_ua = t_1w_4; r_v9 = t_pq_4; r_ps = t_ed_4; r_gi = t_6o_4; r_3f = t_1w_3; r_pn = t_pq_3; r_je = t_ed_3; r_jk = t_6o_3; r_l0 = t_1w_2; r_qi = t_pq_2; r_vv = t_ed_2; r_sr = t_6o_2; r_qg = t_1w_1; r_q7 = t_pq_1; r_58 = t_ed_1; r_6f = t_6o_1; r_w2 = t_1w; r_mm = t_pq; r_0r = t_ed; r_75 = t_6o; r_fn = r_pe; r_i4 = t_pt; r_1t = t_ni; r_a1 = t_bt; r_cc = r_47_7; r_5r_1 = t_pt_1; r_og = t_ni_1; r_7z = t_bt_1; r_m1 = r_47_15; r_nq = t_pt_2; r_7w = t_ni_2; r_w5 = t_bt_2; r_0i = r_47_23; r_x9 = t_pt_3; r_vm = t_ni_3; r_4a = t_bt_3; r_75_1 = r_47_31; r_9s = t_pt_4; r_co = t_ni_4; r_0c = t_bt_4; r_9q = r_47_39; r_zy = t_pt_5; r_ph = t_ni_5; r_hk = t_bt_5; r_tw = r_47_47; r_hl = t_pt_6; r_7a = t_ni_6; r_1y = t_bt_6; r_if = 46u; r_uk = 0x2e0000ull; r_3d = 0x2e00000000ull; r_6w = 0x2e000000000000ull; r_93 = 46u; r_gg = 0x2e0000ull; r_zt = 0x2e00000000ull; r_m6 = 0x2e000000000000ull; r_jc = 46u; r_vw = 0x2e0000ull; r_xz = 0x2e00000000ull; goto l_std_tz; }
+    if (a_5 == 55ull) { r_zo = 0x2e000000ull; r_lj = 11776ull; r_42 = 0x2e00000000000000ull; r_5r = 0x2e0000000000ull; r_pa = 0x2e000000ull; r_7p = 11776ull; r_o8 = 0x2e00000000000000ull; r_bf = 0x2e0000000000ull; r_bp = 0x2e000000ull; r_m3 = 11776ull; r_1s = 0x2e00000000000000ull; r_2r = t_pq_6; r_pk = t_ed_6; r_wb = t_6o_6; r_3n = t_1w_5; r_bo = t_pq_5; r_zs = t_ed_5; r_v3 = t_6o_5; r_ua = t_1w_4; r_v9 = t_pq_4; r_ps = t_ed_4; r_gi = t_6o_4; r_3f = t_1w_3; r_pn = t_pq_3; r_je = t_ed_3; r_jk = t_6o_3; r_l0 = t_1w_2; r_qi = t_pq_2; r_vv = t_ed_2; r_sr = t_6o_2; r_qg = t_1w_1; r_q7 = t_pq_1; r_58 = t_ed_1; r_6f = t_6o_1; r_w2 = t_1w; r_mm = t_pq; r_0r = t_ed; r_75 = t_6o; r_fn = r_pe; r_i4 = t_pt; r_1t = t_ni; r_a1 = t_bt; r_cc = r_47; r_5r_1 = t_pt_1; r_og = t_ni_1; r_7z = t_bt_1; r_m1 = r_47_1; r_nq = t_pt_2; r_7w = t_ni_2; r_w5 = t_bt_2; r_0i = r_47_2; r_x9 = t_pt_3; r_vm = t_ni_3; r_4a = t_bt_3; r_75_1 = r_47_3; r_9s = t_pt_4; r_co = t_ni_4; r_0c = t_bt_4; r_9q = r_47_4; r_zy = t_pt_5; r_ph = t_ni_5; r_hk = t_bt_5; r_tw = r_47_5; r_hl = t_pt_6; r_7a = t_ni_6; r_1y = t_bt_6; r_if = 46u; r_uk = 0x2e0000ull; r_3d = 0x2e00000000ull; r_6w = 0x2e000000000000ull; r_93 = 46u; r_gg = 0x2e0000ull; r_zt = 0x2e00000000ull; r_m6 = 0x2e000000000000ull; r_jc = 46u; r_vw = 0x2e0000ull; r_xz = 0x2e00000000ull; goto l_std_tz; }
     t_1w_6 = (u64)((u64)ld8((a_4 + 55)) << 56ull);
-    if (!(a_5 > 56ull)) { r_zo = 0x2e000000ull; r_lj = 11776ull; r_42 = 0x2e00000000000000ull; r_5r = 0x2e0000000000ull; r_pa = 0x2e000000ull; r_7p = 11776ull; r_o8 = 0x2e00000000000000ull; r_bf = 0x2e0000000000ull; r_bp = 0x2e000000ull; r_m3 = 11776ull; r_1s = t_1w_6; r_2r = t_pq_6; r_pk = t_ed_6; r_wb = t_6o_6; r_3n = t_1w_5; r_bo = t_pq_5; r_zs = t_ed_5; r_v3 = t_6o_5; r_ua = t_1w_4; r_v9 = t_pq_4; r_ps = t_ed_4; r_gi = t_6o_4; r_3f = t_1w_3; r_pn = t_pq_3; r_je = t_ed_3; r_jk = t_6o_3; r_l0 = t_1w_2; r_qi = t_pq_2; r_vv = t_ed_2; r_sr = t_6o_2; r_qg = t_1w_1; r_q7 = t_pq_1; r_58 = t_ed_1; r_6f = t_6o_1; r_w2 = t_1w; r_mm = t_pq; r_0r = t_ed; r_75 = t_6o; r_fn = r_pe; r_i4 = t_pt; r_1t = t_ni; r_a1 = t_bt; r_cc = r_47_7; r_5r_1 = t_pt_1; r_og = t_ni_1; r_7z = t_bt_1; r_m1 = r_47_15; r_nq = t_pt_2; r_7w = t_ni_2; r_w5 = t_bt_2; r_0i = r_47_23; r_x9 = t_pt_3; r_vm = t_ni_3; r_4a = t_bt_3; r_75_1 = r_47_31; r_9s = t_pt_4; r_co = t_ni_4; r_0c = t_bt_4; r_9q = r_47_39; r_zy = t_pt_5; r_ph = t_ni_5; r_hk = t_bt_5; r_tw = r_47_47; r_hl = t_pt_6; r_7a = t_ni_6; r_1y = t_bt_6; r_if = 46u; r_uk = 0x2e0000ull; r_3d = 0x2e00000000ull; r_6w = 0x2e000000000000ull; r_93 = 46u; r_gg = 0x2e0000ull; r_zt = 0x2e00000000ull; r_m6 = 0x2e000000000000ull; r_jc = 46u; r_vw = 0x2e0000ull; r_xz = 0x2e00000000ull; goto l_std_tz; }
-    r_47_55 = ld8((a_4 + 56));
-    if (a_5 == 57ull) { r_zo = 0x2e000000ull; r_lj = 11776ull; r_42 = 0x2e00000000000000ull; r_5r = 0x2e0000000000ull; r_pa = 0x2e000000ull; r_7p = 11776ull; r_o8 = 0x2e00000000000000ull; r_bf = 0x2e0000000000ull; r_bp = 0x2e000000ull; r_m3 = 11776ull; r_1s = t_1w_6; r_2r = t_pq_6; r_pk = t_ed_6; r_wb = t_6o_6; r_3n = t_1w_5; r_bo = t_pq_5; r_zs = t_ed_5; r_v3 = t_6o_5; r_ua = t_1w_4; r_v9 = t_pq_4; r_ps = t_ed_4; r_gi = t_6o_4; r_3f = t_1w_3; r_pn = t_pq_3; r_je = t_ed_3; r_jk = t_6o_3; r_l0 = t_1w_2; r_qi = t_pq_2; r_vv = t_ed_2; r_sr = t_6o_2; r_qg = t_1w_1; r_q7 = t_pq_1; r_58 = t_ed_1; r_6f = t_6o_1; r_w2 = t_1w; r_mm = t_pq; r_0r = t_ed; r_75 = t_6o; r_fn = r_pe; r_i4 = t_pt; r_1t = t_ni; r_a1 = t_bt; r_cc = r_47_7; r_5r_1 = t_pt_1; r_og = t_ni_1; r_7z = t_bt_1; r_m1 = r_47_15; r_nq = t_pt_2; r_7w = t_ni_2; r_w5 = t_bt_2; r_0i = r_47_23; r_x9 = t_pt_3; r_vm = t_ni_3; r_4a = t_bt_3; r_75_1 = r_47_31; r_9s = t_pt_4; r_co = t_ni_4; r_0c = t_bt_4; r_9q = r_47_39; r_zy = t_pt_5; r_ph = t_ni_5; r_hk = t_bt_5; r_tw = r_47_47; r_hl = t_pt_6; r_7a = t_ni_6; r_1y = t_bt_6; r_if = r_47_55; r_uk = 0x2e0000ull; r_3d = 0x2e00000000ull; r_6w = 0x2e000000000000ull; r_93 = 46u; r_gg = 0x2e0000ull; r_zt = 0x2e00000000ull; r_m6 = 0x2e000000000000ull; r_jc = 46u; r_vw = 0x2e0000ull; r_xz = 0x2e00000000ull; goto l_std_tz; }
+    if (!(a_5 > 56ull)) { r_zo = 0x2e000000ull; r_lj = 11776ull; r_42 = 0x2e00000000000000ull; r_5r = 0x2e0000000000ull; r_pa = 0x2e000000ull; r_7p = 11776ull; r_o8 = 0x2e00000000000000ull; r_bf = 0x2e0000000000ull; r_bp = 0x2e000000ull; r_m3 = 11776ull; r_1s = t_1w_6; r_2r = t_pq_6; r_pk = t_ed_6; r_wb = t_6o_6; r_3n = t_1w_5; r_bo = t_pq_5; r_zs = t_ed_5; r_v3 = t_6o_5; r_ua = t_1w_4; r_v9 = t_pq_4; r_ps = t_ed_4; r_gi = t_6o_4; r_3f = t_1w_3; r_pn = t_pq_3; r_je = t_ed_3; r_jk = t_6o_3; r_l0 = t_1w_2; r_qi = t_pq_2; r_vv = t_ed_2; r_sr = t_6o_2; r_qg = t_1w_1; r_q7 = t_pq_1; r_58 = t_ed_1; r_6f = t_6o_1; r_w2 = t_1w; r_mm = t_pq; r_0r = t_ed; r_75 = t_6o; r_fn = r_pe; r_i4 = t_pt; r_1t = t_ni; r_a1 = t_bt; r_cc = r_47; r_5r_1 = t_pt_1; r_og = t_ni_1; r_7z = t_bt_1; r_m1 = r_47_1; r_nq = t_pt_2; r_7w = t_ni_2; r_w5 = t_bt_2; r_0i = r_47_2; r_x9 = t_pt_3; r_vm = t_ni_3; r_4a = t_bt_3; r_75_1 = r_47_3; r_9s = t_pt_4; r_co = t_ni_4; r_0c = t_bt_4; r_9q = r_47_4; r_zy = t_pt_5; r_ph = t_ni_5; r_hk = t_bt_5; r_tw = r_47_5; r_hl = t_pt_6; r_7a = t_ni_6; r_1y = t_bt_6; r_if = 46u; r_uk = 0x2e0000ull; r_3d = 0x2e00000000ull; r_6w = 0x2e000000000000ull; r_93 = 46u; r_gg = 0x2e0000ull; r_zt = 0x2e00000000ull; r_m6 = 0x2e000000000000ull; r_jc = 46u; r_vw = 0x2e0000ull; r_xz = 0x2e00000000ull; goto l_std_tz; }
+    r_47_6 = ld8((a_4 + 56));
+    if (a_5 == 57ull) { r_zo = 0x2e000000ull; r_lj = 11776ull; r_42 = 0x2e00000000000000ull; r_5r = 0x2e0000000000ull; r_pa = 0x2e000000ull; r_7p = 11776ull; r_o8 = 0x2e00000000000000ull; r_bf = 0x2e0000000000ull; r_bp = 0x2e000000ull; r_m3 = 11776ull; r_1s = t_1w_6; r_2r = t_pq_6; r_pk = t_ed_6; r_wb = t_6o_6; r_3n = t_1w_5; r_bo = t_pq_5; r_zs = t_ed_5; r_v3 = t_6o_5; r_ua = t_1w_4; r_v9 = t_pq_4; r_ps = t_ed_4; r_gi = t_6o_4; r_3f = t_1w_3; r_pn = t_pq_3; r_je = t_ed_3; r_jk = t_6o_3; r_l0 = t_1w_2; r_qi = t_pq_2; r_vv = t_ed_2; r_sr = t_6o_2; r_qg = t_1w_1; r_q7 = t_pq_1; r_58 = t_ed_1; r_6f = t_6o_1; r_w2 = t_1w; r_mm = t_pq; r_0r = t_ed; r_75 = t_6o; r_fn = r_pe; r_i4 = t_pt; r_1t = t_ni; r_a1 = t_bt; r_cc = r_47; r_5r_1 = t_pt_1; r_og = t_ni_1; r_7z = t_bt_1; r_m1 = r_47_1; r_nq = t_pt_2; r_7w = t_ni_2; r_w5 = t_bt_2; r_0i = r_47_2; r_x9 = t_pt_3; r_vm = t_ni_3; r_4a = t_bt_3; r_75_1 = r_47_3; r_9s = t_pt_4; r_co = t_ni_4; r_0c = t_bt_4; r_9q = r_47_4; r_zy = t_pt_5; r_ph = t_ni_5; r_hk = t_bt_5; r_tw = r_47_5; r_hl = t_pt_6; r_7a = t_ni_6; r_1y = t_bt_6; r_if = r_47_6; r_uk = 0x2e0000ull; r_3d = 0x2e00000000ull; r_6w = 0x2e000000000000ull; r_93 = 46u; r_gg = 0x2e0000ull; r_zt = 0x2e00000000ull; r_m6 = 0x2e000000000000ull; r_jc = 46u; r_vw = 0x2e0000ull; r_xz = 0x2e00000000ull; goto l_std_tz; }
     t_6o_7 = (u64)((u64)ld8((a_4 + 57)) << 8ull);
-    if (!(a_5 > 58ull)) { r_zo = 0x2e000000ull; r_lj = 11776ull; r_42 = 0x2e00000000000000ull; r_5r = 0x2e0000000000ull; r_pa = 0x2e000000ull; r_7p = 11776ull; r_o8 = 0x2e00000000000000ull; r_bf = 0x2e0000000000ull; r_bp = 0x2e000000ull; r_m3 = t_6o_7; r_1s = t_1w_6; r_2r = t_pq_6; r_pk = t_ed_6; r_wb = t_6o_6; r_3n = t_1w_5; r_bo = t_pq_5; r_zs = t_ed_5; r_v3 = t_6o_5; r_ua = t_1w_4; r_v9 = t_pq_4; r_ps = t_ed_4; r_gi = t_6o_4; r_3f = t_1w_3; r_pn = t_pq_3; r_je = t_ed_3; r_jk = t_6o_3; r_l0 = t_1w_2; r_qi = t_pq_2; r_vv = t_ed_2; r_sr = t_6o_2; r_qg = t_1w_1; r_q7 = t_pq_1; r_58 = t_ed_1; r_6f = t_6o_1; r_w2 = t_1w; r_mm = t_pq; r_0r = t_ed; r_75 = t_6o; r_fn = r_pe; r_i4 = t_pt; r_1t = t_ni; r_a1 = t_bt; r_cc = r_47_7; r_5r_1 = t_pt_1; r_og = t_ni_1; r_7z = t_bt_1; r_m1 = r_47_15; r_nq = t_pt_2; r_7w = t_ni_2; r_w5 = t_bt_2; r_0i = r_47_23; r_x9 = t_pt_3; r_vm = t_ni_3; r_4a = t_bt_3; r_75_1 = r_47_31; r_9s = t_pt_4; r_co = t_ni_4; r_0c = t_bt_4; r_9q = r_47_39; r_zy = t_pt_5; r_ph = t_ni_5; r_hk = t_bt_5; r_tw = r_47_47; r_hl = t_pt_6; r_7a = t_ni_6; r_1y = t_bt_6; r_if = r_47_55; r_uk = 0x2e0000ull; r_3d = 0x2e00000000ull; r_6w = 0x2e000000000000ull; r_93 = 46u; r_gg = 0x2e0000ull; r_zt = 0x2e00000000ull; r_m6 = 0x2e000000000000ull; r_jc = 46u; r_vw = 0x2e0000ull; r_xz = 0x2e00000000ull; goto l_std_tz; }
+    if (!(a_5 > 58ull)) { r_zo = 0x2e000000ull; r_lj = 11776ull; r_42 = 0x2e00000000000000ull; r_5r = 0x2e0000000000ull; r_pa = 0x2e000000ull; r_7p = 11776ull; r_o8 = 0x2e00000000000000ull; r_bf = 0x2e0000000000ull; r_bp = 0x2e000000ull; r_m3 = t_6o_7; r_1s = t_1w_6; r_2r = t_pq_6; r_pk = t_ed_6; r_wb = t_6o_6; r_3n = t_1w_5; r_bo = t_pq_5; r_zs = t_ed_5; r_v3 = t_6o_5; r_ua = t_1w_4; r_v9 = t_pq_4; r_ps = t_ed_4; r_gi = t_6o_4; r_3f = t_1w_3; r_pn = t_pq_3; r_je = t_ed_3; r_jk = t_6o_3; r_l0 = t_1w_2; r_qi = t_pq_2; r_vv = t_ed_2; r_sr = t_6o_2; r_qg = t_1w_1; r_q7 = t_pq_1; r_58 = t_ed_1; r_6f = t_6o_1; r_w2 = t_1w; r_mm = t_pq; r_0r = t_ed; r_75 = t_6o; r_fn = r_pe; r_i4 = t_pt; r_1t = t_ni; r_a1 = t_bt; r_cc = r_47; r_5r_1 = t_pt_1; r_og = t_ni_1; r_7z = t_bt_1; r_m1 = r_47_1; r_nq = t_pt_2; r_7w = t_ni_2; r_w5 = t_bt_2; r_0i = r_47_2; r_x9 = t_pt_3; r_vm = t_ni_3; r_4a = t_bt_3; r_75_1 = r_47_3; r_9s = t_pt_4; r_co = t_ni_4; r_0c = t_bt_4; r_9q = r_47_4; r_zy = t_pt_5; r_ph = t_ni_5; r_hk = t_bt_5; r_tw = r_47_5; r_hl = t_pt_6; r_7a = t_ni_6; r_1y = t_bt_6; r_if = r_47_6; r_uk = 0x2e0000ull; r_3d = 0x2e00000000ull; r_6w = 0x2e000000000000ull; r_93 = 46u; r_gg = 0x2e0000ull; r_zt = 0x2e00000000ull; r_m6 = 0x2e000000000000ull; r_jc = 46u; r_vw = 0x2e0000ull; r_xz = 0x2e00000000ull; goto l_std_tz; }
     t_pt_7 = (u64)((u64)ld8((a_4 + 58)) << 16ull);
-    if (a_5 == 59ull) { r_zo = 0x2e000000ull; r_lj = 11776ull; r_42 = 0x2e00000000000000ull; r_5r = 0x2e0000000000ull; r_pa = 0x2e000000ull; r_7p = 11776ull; r_o8 = 0x2e00000000000000ull; r_bf = 0x2e0000000000ull; r_bp = 0x2e000000ull; r_m3 = t_6o_7; r_1s = t_1w_6; r_2r = t_pq_6; r_pk = t_ed_6; r_wb = t_6o_6; r_3n = t_1w_5; r_bo = t_pq_5; r_zs = t_ed_5; r_v3 = t_6o_5; r_ua = t_1w_4; r_v9 = t_pq_4; r_ps = t_ed_4; r_gi = t_6o_4; r_3f = t_1w_3; r_pn = t_pq_3; r_je = t_ed_3; r_jk = t_6o_3; r_l0 = t_1w_2; r_qi = t_pq_2; r_vv = t_ed_2; r_sr = t_6o_2; r_qg = t_1w_1; r_q7 = t_pq_1; r_58 = t_ed_1; r_6f = t_6o_1; r_w2 = t_1w; r_mm = t_pq; r_0r = t_ed; r_75 = t_6o; r_fn = r_pe; r_i4 = t_pt; r_1t = t_ni; r_a1 = t_bt; r_cc = r_47_7; r_5r_1 = t_pt_1; r_og = t_ni_1; r_7z = t_bt_1; r_m1 = r_47_15; r_nq = t_pt_2; r_7w = t_ni_2; r_w5 = t_bt_2; r_0i = r_47_23; r_x9 = t_pt_3; r_vm = t_ni_3; r_4a = t_bt_3; r_75_1 = r_47_31; r_9s = t_pt_4; r_co = t_ni_4; r_0c = t_bt_4; r_9q = r_47_39; r_zy = t_pt_5; r_ph = t_ni_5; r_hk = t_bt_5; r_tw = r_47_47; r_hl = t_pt_6; r_7a = t_ni_6; r_1y = t_bt_6; r_if = r_47_55; r_uk = t_pt_7; r_3d = 0x2e00000000ull; r_6w = 0x2e000000000000ull; r_93 = 46u; r_gg = 0x2e0000ull; r_zt = 0x2e00000000ull; r_m6 = 0x2e000000000000ull; r_jc = 46u; r_vw = 0x2e0000ull; r_xz = 0x2e00000000ull; goto l_std_tz; }
+    if (a_5 == 59ull) { r_zo = 0x2e000000ull; r_lj = 11776ull; r_42 = 0x2e00000000000000ull; r_5r = 0x2e0000000000ull; r_pa = 0x2e000000ull; r_7p = 11776ull; r_o8 = 0x2e00000000000000ull; r_bf = 0x2e0000000000ull; r_bp = 0x2e000000ull; r_m3 = t_6o_7; r_1s = t_1w_6; r_2r = t_pq_6; r_pk = t_ed_6; r_wb = t_6o_6; r_3n = t_1w_5; r_bo = t_pq_5; r_zs = t_ed_5; r_v3 = t_6o_5; r_ua = t_1w_4; r_v9 = t_pq_4; r_ps = t_ed_4; r_gi = t_6o_4; r_3f = t_1w_3; r_pn = t_pq_3; r_je = t_ed_3; r_jk = t_6o_3; r_l0 = t_1w_2; r_qi = t_pq_2; r_vv = t_ed_2; r_sr = t_6o_2; r_qg = t_1w_1; r_q7 = t_pq_1; r_58 = t_ed_1; r_6f = t_6o_1; r_w2 = t_1w; r_mm = t_pq; r_0r = t_ed; r_75 = t_6o; r_fn = r_pe; r_i4 = t_pt; r_1t = t_ni; r_a1 = t_bt; r_cc = r_47; r_5r_1 = t_pt_1; r_og = t_ni_1; r_7z = t_bt_1; r_m1 = r_47_1; r_nq = t_pt_2; r_7w = t_ni_2; r_w5 = t_bt_2; r_0i = r_47_2; r_x9 = t_pt_3; r_vm = t_ni_3; r_4a = t_bt_3; r_75_1 = r_47_3; r_9s = t_pt_4; r_co = t_ni_4; r_0c = t_bt_4; r_9q = r_47_4; r_zy = t_pt_5; r_ph = t_ni_5; r_hk = t_bt_5; r_tw = r_47_5; r_hl = t_pt_6; r_7a = t_ni_6; r_1y = t_bt_6; r_if = r_47_6; r_uk = t_pt_7; r_3d = 0x2e00000000ull; r_6w = 0x2e000000000000ull; r_93 = 46u; r_gg = 0x2e0000ull; r_zt = 0x2e00000000ull; r_m6 = 0x2e000000000000ull; r_jc = 46u; r_vw = 0x2e0000ull; r_xz = 0x2e00000000ull; goto l_std_tz; }
     t_ed_7 = (u64)((u64)ld8((a_4 + 59)) << 24ull);
-    if (!(a_5 > 60ull)) { r_zo = 0x2e000000ull; r_lj = 11776ull; r_42 = 0x2e00000000000000ull; r_5r = 0x2e0000000000ull; r_pa = 0x2e000000ull; r_7p = 11776ull; r_o8 = 0x2e00000000000000ull; r_bf = 0x2e0000000000ull; r_bp = t_ed_7; r_m3 = t_6o_7; r_1s = t_1w_6; r_2r = t_pq_6; r_pk = t_ed_6; r_wb = t_6o_6; r_3n = t_1w_5; r_bo = t_pq_5; r_zs = t_ed_5; r_v3 = t_6o_5; r_ua = t_1w_4; r_v9 = t_pq_4; r_ps = t_ed_4; r_gi = t_6o_4; r_3f = t_1w_3; r_pn = t_pq_3; r_je = t_ed_3; r_jk = t_6o_3; r_l0 = t_1w_2; r_qi = t_pq_2; r_vv = t_ed_2; r_sr = t_6o_2; r_qg = t_1w_1; r_q7 = t_pq_1; r_58 = t_ed_1; r_6f = t_6o_1; r_w2 = t_1w; r_mm = t_pq; r_0r = t_ed; r_75 = t_6o; r_fn = r_pe; r_i4 = t_pt; r_1t = t_ni; r_a1 = t_bt; r_cc = r_47_7; r_5r_1 = t_pt_1; r_og = t_ni_1; r_7z = t_bt_1; r_m1 = r_47_15; r_nq = t_pt_2; r_7w = t_ni_2; r_w5 = t_bt_2; r_0i = r_47_23; r_x9 = t_pt_3; r_vm = t_ni_3; r_4a = t_bt_3; r_75_1 = r_47_31; r_9s = t_pt_4; r_co = t_ni_4; r_0c = t_bt_4; r_9q = r_47_39; r_zy = t_pt_5; r_ph = t_ni_5; r_hk = t_bt_5; r_tw = r_47_47; r_hl = t_pt_6; r_7a = t_ni_6; r_1y = t_bt_6; r_if = r_47_55; r_uk = t_pt_7; r_3d = 0x2e00000000ull; r_6w = 0x2e000000000000ull; r_93 = 46u; r_gg = 0x2e0000ull; r_zt = 0x2e00000000ull; r_m6 = 0x2e000000000000ull; r_jc = 46u; r_vw = 0x2e0000ull; r_xz = 0x2e00000000ull; goto l_std_tz; }
+    if (!(a_5 > 60ull)) { r_zo = 0x2e000000ull; r_lj = 11776ull; r_42 = 0x2e00000000000000ull; r_5r = 0x2e0000000000ull; r_pa = 0x2e000000ull; r_7p = 11776ull; r_o8 = 0x2e00000000000000ull; r_bf = 0x2e0000000000ull; r_bp = t_ed_7; r_m3 = t_6o_7; r_1s = t_1w_6; r_2r = t_pq_6; r_pk = t_ed_6; r_wb = t_6o_6; r_3n = t_1w_5; r_bo = t_pq_5; r_zs = t_ed_5; r_v3 = t_6o_5; r_ua = t_1w_4; r_v9 = t_pq_4; r_ps = t_ed_4; r_gi = t_6o_4; r_3f = t_1w_3; r_pn = t_pq_3; r_je = t_ed_3; r_jk = t_6o_3; r_l0 = t_1w_2; r_qi = t_pq_2; r_vv = t_ed_2; r_sr = t_6o_2; r_qg = t_1w_1; r_q7 = t_pq_1; r_58 = t_ed_1; r_6f = t_6o_1; r_w2 = t_1w; r_mm = t_pq; r_0r = t_ed; r_75 = t_6o; r_fn = r_pe; r_i4 = t_pt; r_1t = t_ni; r_a1 = t_bt; r_cc = r_47; r_5r_1 = t_pt_1; r_og = t_ni_1; r_7z = t_bt_1; r_m1 = r_47_1; r_nq = t_pt_2; r_7w = t_ni_2; r_w5 = t_bt_2; r_0i = r_47_2; r_x9 = t_pt_3; r_vm = t_ni_3; r_4a = t_bt_3; r_75_1 = r_47_3; r_9s = t_pt_4; r_co = t_ni_4; r_0c = t_bt_4; r_9q = r_47_4; r_zy = t_pt_5; r_ph = t_ni_5; r_hk = t_bt_5; r_tw = r_47_5; r_hl = t_pt_6; r_7a = t_ni_6; r_1y = t_bt_6; r_if = r_47_6; r_uk = t_pt_7; r_3d = 0x2e00000000ull; r_6w = 0x2e000000000000ull; r_93 = 46u; r_gg = 0x2e0000ull; r_zt = 0x2e00000000ull; r_m6 = 0x2e000000000000ull; r_jc = 46u; r_vw = 0x2e0000ull; r_xz = 0x2e00000000ull; goto l_std_tz; }
     t_ni_7 = (u64)((u64)ld8((a_4 + 60)) << 32ull);
-    if (a_5 == 61ull) { r_zo = 0x2e000000ull; r_lj = 11776ull; r_42 = 0x2e00000000000000ull; r_5r = 0x2e0000000000ull; r_pa = 0x2e000000ull; r_7p = 11776ull; r_o8 = 0x2e00000000000000ull; r_bf = 0x2e0000000000ull; r_bp = t_ed_7; r_m3 = t_6o_7; r_1s = t_1w_6; r_2r = t_pq_6; r_pk = t_ed_6; r_wb = t_6o_6; r_3n = t_1w_5; r_bo = t_pq_5; r_zs = t_ed_5; r_v3 = t_6o_5; r_ua = t_1w_4; r_v9 = t_pq_4; r_ps = t_ed_4; r_gi = t_6o_4; r_3f = t_1w_3; r_pn = t_pq_3; r_je = t_ed_3; r_jk = t_6o_3; r_l0 = t_1w_2; r_qi = t_pq_2; r_vv = t_ed_2; r_sr = t_6o_2; r_qg = t_1w_1; r_q7 = t_pq_1; r_58 = t_ed_1; r_6f = t_6o_1; r_w2 = t_1w; r_mm = t_pq; r_0r = t_ed; r_75 = t_6o; r_fn = r_pe; r_i4 = t_pt; r_1t = t_ni; r_a1 = t_bt; r_cc = r_47_7; r_5r_1 = t_pt_1; r_og = t_ni_1; r_7z = t_bt_1; r_m1 = r_47_15; r_nq = t_pt_2; r_7w = t_ni_2; r_w5 = t_bt_2; r_0i = r_47_23; r_x9 = t_pt_3; r_vm = t_ni_3; r_4a = t_bt_3; r_75_1 = r_47_31; r_9s = t_pt_4; r_co = t_ni_4; r_0c = t_bt_4; r_9q = r_47_39; r_zy = t_pt_5; r_ph = t_ni_5; r_hk = t_bt_5; r_tw = r_47_47; r_hl = t_pt_6; r_7a = t_ni_6; r_1y = t_bt_6; r_if = r_47_55; r_uk = t_pt_7; r_3d = t_ni_7; r_6w = 0x2e000000000000ull; r_93 = 46u; r_gg = 0x2e0000ull; r_zt = 0x2e00000000ull; r_m6 = 0x2e000000000000ull; r_jc = 46u; r_vw = 0x2e0000ull; r_xz = 0x2e00000000ull; goto l_std_tz; }
+    if (a_5 == 61ull) { r_zo = 0x2e000000ull; r_lj = 11776ull; r_42 = 0x2e00000000000000ull; r_5r = 0x2e0000000000ull; r_pa = 0x2e000000ull; r_7p = 11776ull; r_o8 = 0x2e00000000000000ull; r_bf = 0x2e0000000000ull; r_bp = t_ed_7; r_m3 = t_6o_7; r_1s = t_1w_6; r_2r = t_pq_6; r_pk = t_ed_6; r_wb = t_6o_6; r_3n = t_1w_5; r_bo = t_pq_5; r_zs = t_ed_5; r_v3 = t_6o_5; r_ua = t_1w_4; r_v9 = t_pq_4; r_ps = t_ed_4; r_gi = t_6o_4; r_3f = t_1w_3; r_pn = t_pq_3; r_je = t_ed_3; r_jk = t_6o_3; r_l0 = t_1w_2; r_qi = t_pq_2; r_vv = t_ed_2; r_sr = t_6o_2; r_qg = t_1w_1; r_q7 = t_pq_1; r_58 = t_ed_1; r_6f = t_6o_1; r_w2 = t_1w; r_mm = t_pq; r_0r = t_ed; r_75 = t_6o; r_fn = r_pe; r_i4 = t_pt; r_1t = t_ni; r_a1 = t_bt; r_cc = r_47; r_5r_1 = t_pt_1; r_og = t_ni_1; r_7z = t_bt_1; r_m1 = r_47_1; r_nq = t_pt_2; r_7w = t_ni_2; r_w5 = t_bt_2; r_0i = r_47_2; r_x9 = t_pt_3; r_vm = t_ni_3; r_4a = t_bt_3; r_75_1 = r_47_3; r_9s = t_pt_4; r_co = t_ni_4; r_0c = t_bt_4; r_9q = r_47_4; r_zy = t_pt_5; r_ph = t_ni_5; r_hk = t_bt_5; r_tw = r_47_5; r_hl = t_pt_6; r_7a = t_ni_6; r_1y = t_bt_6; r_if = r_47_6; r_uk = t_pt_7; r_3d = t_ni_7; r_6w = 0x2e000000000000ull; r_93 = 46u; r_gg = 0x2e0000ull; r_zt = 0x2e00000000ull; r_m6 = 0x2e000000000000ull; r_jc = 46u; r_vw = 0x2e0000ull; r_xz = 0x2e00000000ull; goto l_std_tz; }
     t_pq_7 = (u64)((u64)ld8((a_4 + 61)) << 40ull);
-    if (!(a_5 > 62ull)) { r_zo = 0x2e000000ull; r_lj = 11776ull; r_42 = 0x2e00000000000000ull; r_5r = 0x2e0000000000ull; r_pa = 0x2e000000ull; r_7p = 11776ull; r_o8 = 0x2e00000000000000ull; r_bf = t_pq_7; r_bp = t_ed_7; r_m3 = t_6o_7; r_1s = t_1w_6; r_2r = t_pq_6; r_pk = t_ed_6; r_wb = t_6o_6; r_3n = t_1w_5; r_bo = t_pq_5; r_zs = t_ed_5; r_v3 = t_6o_5; r_ua = t_1w_4; r_v9 = t_pq_4; r_ps = t_ed_4; r_gi = t_6o_4; r_3f = t_1w_3; r_pn = t_pq_3; r_je = t_ed_3; r_jk = t_6o_3; r_l0 = t_1w_2; r_qi = t_pq_2; r_vv = t_ed_2; r_sr = t_6o_2; r_qg = t_1w_1; r_q7 = t_pq_1; r_58 = t_ed_1; r_6f = t_6o_1; r_w2 = t_1w; r_mm = t_pq; r_0r = t_ed; r_75 = t_6o; r_fn = r_pe; r_i4 = t_pt; r_1t = t_ni; r_a1 = t_bt; r_cc = r_47_7; r_5r_1 = t_pt_1; r_og = t_ni_1; r_7z = t_bt_1; r_m1 = r_47_15; r_nq = t_pt_2; r_7w = t_ni_2; r_w5 = t_bt_2; r_0i = r_47_23; r_x9 = t_pt_3; r_vm = t_ni_3; r_4a = t_bt_3; r_75_1 = r_47_31; r_9s = t_pt_4; r_co = t_ni_4; r_0c = t_bt_4; r_9q = r_47_39; r_zy = t_pt_5; r_ph = t_ni_5; r_hk = t_bt_5; r_tw = r_47_47; r_hl = t_pt_6; r_7a = t_ni_6; r_1y = t_bt_6; r_if = r_47_55; r_uk = t_pt_7; r_3d = t_ni_7; r_6w = 0x2e000000000000ull; r_93 = 46u; r_gg = 0x2e0000ull; r_zt = 0x2e00000000ull; r_m6 = 0x2e000000000000ull; r_jc = 46u; r_vw = 0x2e0000ull; r_xz = 0x2e00000000ull; goto l_std_tz; }
+    if (!(a_5 > 62ull)) { r_zo = 0x2e000000ull; r_lj = 11776ull; r_42 = 0x2e00000000000000ull; r_5r = 0x2e0000000000ull; r_pa = 0x2e000000ull; r_7p = 11776ull; r_o8 = 0x2e00000000000000ull; r_bf = t_pq_7; r_bp = t_ed_7; r_m3 = t_6o_7; r_1s = t_1w_6; r_2r = t_pq_6; r_pk = t_ed_6; r_wb = t_6o_6; r_3n = t_1w_5; r_bo = t_pq_5; r_zs = t_ed_5; r_v3 = t_6o_5; r_ua = t_1w_4; r_v9 = t_pq_4; r_ps = t_ed_4; r_gi = t_6o_4; r_3f = t_1w_3; r_pn = t_pq_3; r_je = t_ed_3; r_jk = t_6o_3; r_l0 = t_1w_2; r_qi = t_pq_2; r_vv = t_ed_2; r_sr = t_6o_2; r_qg = t_1w_1; r_q7 = t_pq_1; r_58 = t_ed_1; r_6f = t_6o_1; r_w2 = t_1w; r_mm = t_pq; r_0r = t_ed; r_75 = t_6o; r_fn = r_pe; r_i4 = t_pt; r_1t = t_ni; r_a1 = t_bt; r_cc = r_47; r_5r_1 = t_pt_1; r_og = t_ni_1; r_7z = t_bt_1; r_m1 = r_47_1; r_nq = t_pt_2; r_7w = t_ni_2; r_w5 = t_bt_2; r_0i = r_47_2; r_x9 = t_pt_3; r_vm = t_ni_3; r_4a = t_bt_3; r_75_1 = r_47_3; r_9s = t_pt_4; r_co = t_ni_4; r_0c = t_bt_4; r_9q = r_47_4; r_zy = t_pt_5; r_ph = t_ni_5; r_hk = t_bt_5; r_tw = r_47_5; r_hl = t_pt_6; r_7a = t_ni_6; r_1y = t_bt_6; r_if = r_47_6; r_uk = t_pt_7; r_3d = t_ni_7; r_6w = 0x2e000000000000ull; r_93 = 46u; r_gg = 0x2e0000ull; r_zt = 0x2e00000000ull; r_m6 = 0x2e000000000000ull; r_jc = 46u; r_vw = 0x2e0000ull; r_xz = 0x2e00000000ull; goto l_std_tz; }
     t_bt_7 = (u64)((u64)ld8((a_4 + 62)) << 48ull);
-    if (a_5 == 63ull) { r_zo = 0x2e000000ull; r_lj = 11776ull; r_42 = 0x2e00000000000000ull; r_5r = 0x2e0000000000ull; r_pa = 0x2e000000ull; r_7p = 11776ull; r_o8 = 0x2e00000000000000ull; r_bf = t_pq_7; r_bp = t_ed_7; r_m3 = t_6o_7; r_1s = t_1w_6; r_2r = t_pq_6; r_pk = t_ed_6; r_wb = t_6o_6; r_3n = t_1w_5; r_bo = t_pq_5; r_zs = t_ed_5; r_v3 = t_6o_5; r_ua = t_1w_4; r_v9 = t_pq_4; r_ps = t_ed_4; r_gi = t_6o_4; r_3f = t_1w_3; r_pn = t_pq_3; r_je = t_ed_3; r_jk = t_6o_3; r_l0 = t_1w_2; r_qi = t_pq_2; r_vv = t_ed_2; r_sr = t_6o_2; r_qg = t_1w_1; r_q7 = t_pq_1; r_58 = t_ed_1; r_6f = t_6o_1; r_w2 = t_1w; r_mm = t_pq; r_0r = t_ed; r_75 = t_6o; r_fn = r_pe; r_i4 = t_pt; r_1t = t_ni; r_a1 = t_bt; r_cc = r_47_7; r_5r_1 = t_pt_1; r_og = t_ni_1; r_7z = t_bt_1; r_m1 = r_47_15; r_nq = t_pt_2; r_7w = t_ni_2; r_w5 = t_bt_2; r_0i = r_47_23; r_x9 = t_pt_3; r_vm = t_ni_3; r_4a = t_bt_3; r_75_1 = r_47_31; r_9s = t_pt_4; r_co = t_ni_4; r_0c = t_bt_4; r_9q = r_47_39; r_zy = t_pt_5; r_ph = t_ni_5; r_hk = t_bt_5; r_tw = r_47_47; r_hl = t_pt_6; r_7a = t_ni_6; r_1y = t_bt_6; r_if = r_47_55; r_uk = t_pt_7; r_3d = t_ni_7; r_6w = t_bt_7; r_93 = 46u; r_gg = 0x2e0000ull; r_zt = 0x2e00000000ull; r_m6 = 0x2e000000000000ull; r_jc = 46u; r_vw = 0x2e0000ull; r_xz = 0x2e00000000ull; goto l_std_tz; }
+    if (a_5 == 63ull) { r_zo = 0x2e000000ull; r_lj = 11776ull; r_42 = 0x2e00000000000000ull; r_5r = 0x2e0000000000ull; r_pa = 0x2e000000ull; r_7p = 11776ull; r_o8 = 0x2e00000000000000ull; r_bf = t_pq_7; r_bp = t_ed_7; r_m3 = t_6o_7; r_1s = t_1w_6; r_2r = t_pq_6; r_pk = t_ed_6; r_wb = t_6o_6; r_3n = t_1w_5; r_bo = t_pq_5; r_zs = t_ed_5; r_v3 = t_6o_5; r_ua = t_1w_4; r_v9 = t_pq_4; r_ps = t_ed_4; r_gi = t_6o_4; r_3f = t_1w_3; r_pn = t_pq_3; r_je = t_ed_3; r_jk = t_6o_3; r_l0 = t_1w_2; r_qi = t_pq_2; r_vv = t_ed_2; r_sr = t_6o_2; r_qg = t_1w_1; r_q7 = t_pq_1; r_58 = t_ed_1; r_6f = t_6o_1; r_w2 = t_1w; r_mm = t_pq; r_0r = t_ed; r_75 = t_6o; r_fn = r_pe; r_i4 = t_pt; r_1t = t_ni; r_a1 = t_bt; r_cc = r_47; r_5r_1 = t_pt_1; r_og = t_ni_1; r_7z = t_bt_1; r_m1 = r_47_1; r_nq = t_pt_2; r_7w = t_ni_2; r_w5 = t_bt_2; r_0i = r_47_2; r_x9 = t_pt_3; r_vm = t_ni_3; r_4a = t_bt_3; r_75_1 = r_47_3; r_9s = t_pt_4; r_co = t_ni_4; r_0c = t_bt_4; r_9q = r_47_4; r_zy = t_pt_5; r_ph = t_ni_5; r_hk = t_bt_5; r_tw = r_47_5; r_hl = t_pt_6; r_7a = t_ni_6; r_1y = t_bt_6; r_if = r_47_6; r_uk = t_pt_7; r_3d = t_ni_7; r_6w = t_bt_7; r_93 = 46u; r_gg = 0x2e0000ull; r_zt = 0x2e00000000ull; r_m6 = 0x2e000000000000ull; r_jc = 46u; r_vw = 0x2e0000ull; r_xz = 0x2e00000000ull; goto l_std_tz; }
     t_1w_7 = (u64)((u64)ld8((a_4 + 63)) << 56ull);
-    if (!(a_5 > 64ull)) { r_zo = 0x2e000000ull; r_lj = 11776ull; r_42 = 0x2e00000000000000ull; r_5r = 0x2e0000000000ull; r_pa = 0x2e000000ull; r_7p = 11776ull; r_o8 = t_1w_7; r_bf = t_pq_7; r_bp = t_ed_7; r_m3 = t_6o_7; r_1s = t_1w_6; r_2r = t_pq_6; r_pk = t_ed_6; r_wb = t_6o_6; r_3n = t_1w_5; r_bo = t_pq_5; r_zs = t_ed_5; r_v3 = t_6o_5; r_ua = t_1w_4; r_v9 = t_pq_4; r_ps = t_ed_4; r_gi = t_6o_4; r_3f = t_1w_3; r_pn = t_pq_3; r_je = t_ed_3; r_jk = t_6o_3; r_l0 = t_1w_2; r_qi = t_pq_2; r_vv = t_ed_2; r_sr = t_6o_2; r_qg = t_1w_1; r_q7 = t_pq_1; r_58 = t_ed_1; r_6f = t_6o_1; r_w2 = t_1w; r_mm = t_pq; r_0r = t_ed; r_75 = t_6o; r_fn = r_pe; r_i4 = t_pt; r_1t = t_ni; r_a1 = t_bt; r_cc = r_47_7; r_5r_1 = t_pt_1; r_og = t_ni_1; r_7z = t_bt_1; r_m1 = r_47_15; r_nq = t_pt_2; r_7w = t_ni_2; r_w5 = t_bt_2; r_0i = r_47_23; r_x9 = t_pt_3; r_vm = t_ni_3; r_4a = t_bt_3; r_75_1 = r_47_31; r_9s = t_pt_4; r_co = t_ni_4; r_0c = t_bt_4; r_9q = r_47_39; r_zy = t_pt_5; r_ph = t_ni_5; r_hk = t_bt_5; r_tw = r_47_47; r_hl = t_pt_6; r_7a = t_ni_6; r_1y = t_bt_6; r_if = r_47_55; r_uk = t_pt_7; r_3d = t_ni_7; r_6w = t_bt_7; r_93 = 46u; r_gg = 0x2e0000ull; r_zt = 0x2e00000000ull; r_m6 = 0x2e000000000000ull; r_jc = 46u; r_vw = 0x2e0000ull; r_xz = 0x2e00000000ull; goto l_std_tz; }
-    r_47_63 = ld8((a_4 + 64));
-    if (a_5 == 65ull) { r_zo = 0x2e000000ull; r_lj = 11776ull; r_42 = 0x2e00000000000000ull; r_5r = 0x2e0000000000ull; r_pa = 0x2e000000ull; r_7p = 11776ull; r_o8 = t_1w_7; r_bf = t_pq_7; r_bp = t_ed_7; r_m3 = t_6o_7; r_1s = t_1w_6; r_2r = t_pq_6; r_pk = t_ed_6; r_wb = t_6o_6; r_3n = t_1w_5; r_bo = t_pq_5; r_zs = t_ed_5; r_v3 = t_6o_5; r_ua = t_1w_4; r_v9 = t_pq_4; r_ps = t_ed_4; r_gi = t_6o_4; r_3f = t_1w_3; r_pn = t_pq_3; r_je = t_ed_3; r_jk = t_6o_3; r_l0 = t_1w_2; r_qi = t_pq_2; r_vv = t_ed_2; r_sr = t_6o_2; r_qg = t_1w_1; r_q7 = t_pq_1; r_58 = t_ed_1; r_6f = t_6o_1; r_w2 = t_1w; r_mm = t_pq; r_0r = t_ed; r_75 = t_6o; r_fn = r_pe; r_i4 = t_pt; r_1t = t_ni; r_a1 = t_bt; r_cc = r_47_7; r_5r_1 = t_pt_1; r_og = t_ni_1; r_7z = t_bt_1; r_m1 = r_47_15; r_nq = t_pt_2; r_7w = t_ni_2; r_w5 = t_bt_2; r_0i = r_47_23; r_x9 = t_pt_3; r_vm = t_ni_3; r_4a = t_bt_3; r_75_1 = r_47_31; r_9s = t_pt_4; r_co = t_ni_4; r_0c = t_bt_4; r_9q = r_47_39; r_zy = t_pt_5; r_ph = t_ni_5; r_hk = t_bt_5; r_tw = r_47_47; r_hl = t_pt_6; r_7a = t_ni_6; r_1y = t_bt_6; r_if = r_47_55; r_uk = t_pt_7; r_3d = t_ni_7; r_6w = t_bt_7; r_93 = r_47_63; r_gg = 0x2e0000ull; r_zt = 0x2e00000000ull; r_m6 = 0x2e000000000000ull; r_jc = 46u; r_vw = 0x2e0000ull; r_xz = 0x2e00000000ull; goto l_std_tz; }
+    if (!(a_5 > 64ull)) { r_zo = 0x2e000000ull; r_lj = 11776ull; r_42 = 0x2e00000000000000ull; r_5r = 0x2e0000000000ull; r_pa = 0x2e000000ull; r_7p = 11776ull; r_o8 = t_1w_7; r_bf = t_pq_7; r_bp = t_ed_7; r_m3 = t_6o_7; r_1s = t_1w_6; r_2r = t_pq_6; r_pk = t_ed_6; r_wb = t_6o_6; r_3n = t_1w_5; r_bo = t_pq_5; r_zs = t_ed_5; r_v3 = t_6o_5; r_ua = t_1w_4; r_v9 = t_pq_4; r_ps = t_ed_4; r_gi = t_6o_4; r_3f = t_1w_3; r_pn = t_pq_3; r_je = t_ed_3; r_jk = t_6o_3; r_l0 = t_1w_2; r_qi = t_pq_2; r_vv = t_ed_2; r_sr = t_6o_2; r_qg = t_1w_1; r_q7 = t_pq_1; r_58 = t_ed_1; r_6f = t_6o_1; r_w2 = t_1w; r_mm = t_pq; r_0r = t_ed; r_75 = t_6o; r_fn = r_pe; r_i4 = t_pt; r_1t = t_ni; r_a1 = t_bt; r_cc = r_47; r_5r_1 = t_pt_1; r_og = t_ni_1; r_7z = t_bt_1; r_m1 = r_47_1; r_nq = t_pt_2; r_7w = t_ni_2; r_w5 = t_bt_2; r_0i = r_47_2; r_x9 = t_pt_3; r_vm = t_ni_3; r_4a = t_bt_3; r_75_1 = r_47_3; r_9s = t_pt_4; r_co = t_ni_4; r_0c = t_bt_4; r_9q = r_47_4; r_zy = t_pt_5; r_ph = t_ni_5; r_hk = t_bt_5; r_tw = r_47_5; r_hl = t_pt_6; r_7a = t_ni_6; r_1y = t_bt_6; r_if = r_47_6; r_uk = t_pt_7; r_3d = t_ni_7; r_6w = t_bt_7; r_93 = 46u; r_gg = 0x2e0000ull; r_zt = 0x2e00000000ull; r_m6 = 0x2e000000000000ull; r_jc = 46u; r_vw = 0x2e0000ull; r_xz = 0x2e00000000ull; goto l_std_tz; }
+    r_47_7 = ld8((a_4 + 64));
+    if (a_5 == 65ull) { r_zo = 0x2e000000ull; r_lj = 11776ull; r_42 = 0x2e00000000000000ull; r_5r = 0x2e0000000000ull; r_pa = 0x2e000000ull; r_7p = 11776ull; r_o8 = t_1w_7; r_bf = t_pq_7; r_bp = t_ed_7; r_m3 = t_6o_7; r_1s = t_1w_6; r_2r = t_pq_6; r_pk = t_ed_6; r_wb = t_6o_6; r_3n = t_1w_5; r_bo = t_pq_5; r_zs = t_ed_5; r_v3 = t_6o_5; r_ua = t_1w_4; r_v9 = t_pq_4; r_ps = t_ed_4; r_gi = t_6o_4; r_3f = t_1w_3; r_pn = t_pq_3; r_je = t_ed_3; r_jk = t_6o_3; r_l0 = t_1w_2; r_qi = t_pq_2; r_vv = t_ed_2; r_sr = t_6o_2; r_qg = t_1w_1; r_q7 = t_pq_1; r_58 = t_ed_1; r_6f = t_6o_1; r_w2 = t_1w; r_mm = t_pq; r_0r = t_ed; r_75 = t_6o; r_fn = r_pe; r_i4 = t_pt; r_1t = t_ni; r_a1 = t_bt; r_cc = r_47; r_5r_1 = t_pt_1; r_og = t_ni_1; r_7z = t_bt_1; r_m1 = r_47_1; r_nq = t_pt_2; r_7w = t_ni_2; r_w5 = t_bt_2; r_0i = r_47_2; r_x9 = t_pt_3; r_vm = t_ni_3; r_4a = t_bt_3; r_75_1 = r_47_3; r_9s = t_pt_4; r_co = t_ni_4; r_0c = t_bt_4; r_9q = r_47_4; r_zy = t_pt_5; r_ph = t_ni_5; r_hk = t_bt_5; r_tw = r_47_5; r_hl = t_pt_6; r_7a = t_ni_6; r_1y = t_bt_6; r_if = r_47_6; r_uk = t_pt_7; r_3d = t_ni_7; r_6w = t_bt_7; r_93 = r_47_7; r_gg = 0x2e0000ull; r_zt = 0x2e00000000ull; r_m6 = 0x2e000000000000ull; r_jc = 46u; r_vw = 0x2e0000ull; r_xz = 0x2e00000000ull; goto l_std_tz; }
     t_6o_8 = (u64)((u64)ld8((a_4 + 65)) << 8ull);
-    if (!(a_5 > 66ull)) { r_zo = 0x2e000000ull; r_lj = 11776ull; r_42 = 0x2e00000000000000ull; r_5r = 0x2e0000000000ull; r_pa = 0x2e000000ull; r_7p = t_6o_8; r_o8 = t_1w_7; r_bf = t_pq_7; r_bp = t_ed_7; r_m3 = t_6o_7; r_1s = t_1w_6; r_2r = t_pq_6; r_pk = t_ed_6; r_wb = t_6o_6; r_3n = t_1w_5; r_bo = t_pq_5; r_zs = t_ed_5; r_v3 = t_6o_5; r_ua = t_1w_4; r_v9 = t_pq_4; r_ps = t_ed_4; r_gi = t_6o_4; r_3f = t_1w_3; r_pn = t_pq_3; r_je = t_ed_3; r_jk = t_6o_3; r_l0 = t_1w_2; r_qi = t_pq_2; r_vv = t_ed_2; r_sr = t_6o_2; r_qg = t_1w_1; r_q7 = t_pq_1; r_58 = t_ed_1; r_6f = t_6o_1; r_w2 = t_1w; r_mm = t_pq; r_0r = t_ed; r_75 = t_6o; r_fn = r_pe; r_i4 = t_pt; r_1t = t_ni; r_a1 = t_bt; r_cc = r_47_7; r_5r_1 = t_pt_1; r_og = t_ni_1; r_7z = t_bt_1; r_m1 = r_47_15; r_nq = t_pt_2; r_7w = t_ni_2; r_w5 = t_bt_2; r_0i = r_47_23; r_x9 = t_pt_3; r_vm = t_ni_3; r_4a = t_bt_3; r_75_1 = r_47_31; r_9s = t_pt_4; r_co = t_ni_4; r_0c = t_bt_4; r_9q = r_47_39; r_zy = t_pt_5; r_ph = t_ni_5; r_hk = t_bt_5; r_tw = r_47_47; r_hl = t_pt_6; r_7a = t_ni_6; r_1y = t_bt_6; r_if = r_47_55; r_uk = t_pt_7; r_3d = t_ni_7; r_6w = t_bt_7; r_93 = r_47_63; r_gg = 0x2e0000ull; r_zt = 0x2e00000000ull; r_m6 = 0x2e000000000000ull; r_jc = 46u; r_vw = 0x2e0000ull; r_xz = 0x2e00000000ull; goto l_std_tz; }
+    if (!(a_5 > 66ull)) { r_zo = 0x2e000000ull; r_lj = 11776ull; r_42 = 0x2e00000000000000ull; r_5r = 0x2e0000000000ull; r_pa = 0x2e000000ull; r_7p = t_6o_8; r_o8 = t_1w_7; r_bf = t_pq_7; r_bp = t_ed_7; r_m3 = t_6o_7; r_1s = t_1w_6; r_2r = t_pq_6; r_pk = t_ed_6; r_wb = t_6o_6; r_3n = t_1w_5; r_bo = t_pq_5; r_zs = t_ed_5; r_v3 = t_6o_5; r_ua = t_1w_4; r_v9 = t_pq_4; r_ps = t_ed_4; r_gi = t_6o_4; r_3f = t_1w_3; r_pn = t_pq_3; r_je = t_ed_3; r_jk = t_6o_3; r_l0 = t_1w_2; r_qi = t_pq_2; r_vv = t_ed_2; r_sr = t_6o_2; r_qg = t_1w_1; r_q7 = t_pq_1; r_58 = t_ed_1; r_6f = t_6o_1; r_w2 = t_1w; r_mm = t_pq; r_0r = t_ed; r_75 = t_6o; r_fn = r_pe; r_i4 = t_pt; r_1t = t_ni; r_a1 = t_bt; r_cc = r_47; r_5r_1 = t_pt_1; r_og = t_ni_1; r_7z = t_bt_1; r_m1 = r_47_1; r_nq = t_pt_2; r_7w = t_ni_2; r_w5 = t_bt_2; r_0i = r_47_2; r_x9 = t_pt_3; r_vm = t_ni_3; r_4a = t_bt_3; r_75_1 = r_47_3; r_9s = t_pt_4; r_co = t_ni_4; r_0c = t_bt_4; r_9q = r_47_4; r_zy = t_pt_5; r_ph = t_ni_5; r_hk = t_bt_5; r_tw = r_47_5; r_hl = t_pt_6; r_7a = t_ni_6; r_1y = t_bt_6; r_if = r_47_6; r_uk = t_pt_7; r_3d = t_ni_7; r_6w = t_bt_7; r_93 = r_47_7; r_gg = 0x2e0000ull; r_zt = 0x2e00000000ull; r_m6 = 0x2e000000000000ull; r_jc = 46u; r_vw = 0x2e0000ull; r_xz = 0x2e00000000ull; goto l_std_tz; }
     t_pt_8 = (u64)((u64)ld8((a_4 + 66)) << 16ull);
-    if (a_5 == 67ull) { r_zo = 0x2e000000ull; r_lj = 11776ull; r_42 = 0x2e00000000000000ull; r_5r = 0x2e0000000000ull; r_pa = 0x2e000000ull; r_7p = t_6o_8; r_o8 = t_1w_7; r_bf = t_pq_7; r_bp = t_ed_7; r_m3 = t_6o_7; r_1s = t_1w_6; r_2r = t_pq_6; r_pk = t_ed_6; r_wb = t_6o_6; r_3n = t_1w_5; r_bo = t_pq_5; r_zs = t_ed_5; r_v3 = t_6o_5; r_ua = t_1w_4; r_v9 = t_pq_4; r_ps = t_ed_4; r_gi = t_6o_4; r_3f = t_1w_3; r_pn = t_pq_3; r_je = t_ed_3; r_jk = t_6o_3; r_l0 = t_1w_2; r_qi = t_pq_2; r_vv = t_ed_2; r_sr = t_6o_2; r_qg = t_1w_1; r_q7 = t_pq_1; r_58 = t_ed_1; r_6f = t_6o_1; r_w2 = t_1w; r_mm = t_pq; r_0r = t_ed; r_75 = t_6o; r_fn = r_pe; r_i4 = t_pt; r_1t = t_ni; r_a1 = t_bt; r_cc = r_47_7; r_5r_1 = t_pt_1; r_og = t_ni_1; r_7z = t_bt_1; r_m1 = r_47_15; r_nq = t_pt_2; r_7w = t_ni_2; r_w5 = t_bt_2; r_0i = r_47_23; r_x9 = t_pt_3; r_vm = t_ni_3; r_4a = t_bt_3; r_75_1 = r_47_31; r_9s = t_pt_4; r_co = t_ni_4; r_0c = t_bt_4; r_9q = r_47_39; r_zy = t_pt_5; r_ph = t_ni_5; r_hk = t_bt_5; r_tw = r_47_47; r_hl = t_pt_6; r_7a = t_ni_6; r_1y = t_bt_6; r_if = r_47_55; r_uk = t_pt_7; r_3d = t_ni_7; r_6w = t_bt_7; r_93 = r_47_63; r_gg = t_pt_8; r_zt = 0x2e00000000ull; r_m6 = 0x2e000000000000ull; r_jc = 46u; r_vw = 0x2e0000ull; r_xz = 0x2e00000000ull; goto l_std_tz; }
+    if (a_5 == 67ull) { r_zo = 0x2e000000ull; r_lj = 11776ull; r_42 = 0x2e00000000000000ull; r_5r = 0x2e0000000000ull; r_pa = 0x2e000000ull; r_7p = t_6o_8; r_o8 = t_1w_7; r_bf = t_pq_7; r_bp = t_ed_7; r_m3 = t_6o_7; r_1s = t_1w_6; r_2r = t_pq_6; r_pk = t_ed_6; r_wb = t_6o_6; r_3n = t_1w_5; r_bo = t_pq_5; r_zs = t_ed_5; r_v3 = t_6o_5; r_ua = t_1w_4; r_v9 = t_pq_4; r_ps = t_ed_4; r_gi = t_6o_4; r_3f = t_1w_3; r_pn = t_pq_3; r_je = t_ed_3; r_jk = t_6o_3; r_l0 = t_1w_2; r_qi = t_pq_2; r_vv = t_ed_2; r_sr = t_6o_2; r_qg = t_1w_1; r_q7 = t_pq_1; r_58 = t_ed_1; r_6f = t_6o_1; r_w2 = t_1w; r_mm = t_pq; r_0r = t_ed; r_75 = t_6o; r_fn = r_pe; r_i4 = t_pt; r_1t = t_ni; r_a1 = t_bt; r_cc = r_47; r_5r_1 = t_pt_1; r_og = t_ni_1; r_7z = t_bt_1; r_m1 = r_47_1; r_nq = t_pt_2; r_7w = t_ni_2; r_w5 = t_bt_2; r_0i = r_47_2; r_x9 = t_pt_3; r_vm = t_ni_3; r_4a = t_bt_3; r_75_1 = r_47_3; r_9s = t_pt_4; r_co = t_ni_4; r_0c = t_bt_4; r_9q = r_47_4; r_zy = t_pt_5; r_ph = t_ni_5; r_hk = t_bt_5; r_tw = r_47_5; r_hl = t_pt_6; r_7a = t_ni_6; r_1y = t_bt_6; r_if = r_47_6; r_uk = t_pt_7; r_3d = t_ni_7; r_6w = t_bt_7; r_93 = r_47_7; r_gg = t_pt_8; r_zt = 0x2e00000000ull; r_m6 = 0x2e000000000000ull; r_jc = 46u; r_vw = 0x2e0000ull; r_xz = 0x2e00000000ull; goto l_std_tz; }
     t_ed_8 = (u64)((u64)ld8((a_4 + 67)) << 24ull);
-    if (!(a_5 > 68ull)) { r_zo = 0x2e000000ull; r_lj = 11776ull; r_42 = 0x2e00000000000000ull; r_5r = 0x2e0000000000ull; r_pa = t_ed_8; r_7p = t_6o_8; r_o8 = t_1w_7; r_bf = t_pq_7; r_bp = t_ed_7; r_m3 = t_6o_7; r_1s = t_1w_6; r_2r = t_pq_6; r_pk = t_ed_6; r_wb = t_6o_6; r_3n = t_1w_5; r_bo = t_pq_5; r_zs = t_ed_5; r_v3 = t_6o_5; r_ua = t_1w_4; r_v9 = t_pq_4; r_ps = t_ed_4; r_gi = t_6o_4; r_3f = t_1w_3; r_pn = t_pq_3; r_je = t_ed_3; r_jk = t_6o_3; r_l0 = t_1w_2; r_qi = t_pq_2; r_vv = t_ed_2; r_sr = t_6o_2; r_qg = t_1w_1; r_q7 = t_pq_1; r_58 = t_ed_1; r_6f = t_6o_1; r_w2 = t_1w; r_mm = t_pq; r_0r = t_ed; r_75 = t_6o; r_fn = r_pe; r_i4 = t_pt; r_1t = t_ni; r_a1 = t_bt; r_cc = r_47_7; r_5r_1 = t_pt_1; r_og = t_ni_1; r_7z = t_bt_1; r_m1 = r_47_15; r_nq = t_pt_2; r_7w = t_ni_2; r_w5 = t_bt_2; r_0i = r_47_23; r_x9 = t_pt_3; r_vm = t_ni_3; r_4a = t_bt_3; r_75_1 = r_47_31; r_9s = t_pt_4; r_co = t_ni_4; r_0c = t_bt_4; r_9q = r_47_39; r_zy = t_pt_5; r_ph = t_ni_5; r_hk = t_bt_5; r_tw = r_47_47; r_hl = t_pt_6; r_7a = t_ni_6; r_1y = t_bt_6; r_if = r_47_55; r_uk = t_pt_7; r_3d = t_ni_7; r_6w = t_bt_7; r_93 = r_47_63; r_gg = t_pt_8; r_zt = 0x2e00000000ull; r_m6 = 0x2e000000000000ull; r_jc = 46u; r_vw = 0x2e0000ull; r_xz = 0x2e00000000ull; goto l_std_tz; }
+    if (!(a_5 > 68ull)) { r_zo = 0x2e000000ull; r_lj = 11776ull; r_42 = 0x2e00000000000000ull; r_5r = 0x2e0000000000ull; r_pa = t_ed_8; r_7p = t_6o_8; r_o8 = t_1w_7; r_bf = t_pq_7; r_bp = t_ed_7; r_m3 = t_6o_7; r_1s = t_1w_6; r_2r = t_pq_6; r_pk = t_ed_6; r_wb = t_6o_6; r_3n = t_1w_5; r_bo = t_pq_5; r_zs = t_ed_5; r_v3 = t_6o_5; r_ua = t_1w_4; r_v9 = t_pq_4; r_ps = t_ed_4; r_gi = t_6o_4; r_3f = t_1w_3; r_pn = t_pq_3; r_je = t_ed_3; r_jk = t_6o_3; r_l0 = t_1w_2; r_qi = t_pq_2; r_vv = t_ed_2; r_sr = t_6o_2; r_qg = t_1w_1; r_q7 = t_pq_1; r_58 = t_ed_1; r_6f = t_6o_1; r_w2 = t_1w; r_mm = t_pq; r_0r = t_ed; r_75 = t_6o; r_fn = r_pe; r_i4 = t_pt; r_1t = t_ni; r_a1 = t_bt; r_cc = r_47; r_5r_1 = t_pt_1; r_og = t_ni_1; r_7z = t_bt_1; r_m1 = r_47_1; r_nq = t_pt_2; r_7w = t_ni_2; r_w5 = t_bt_2; r_0i = r_47_2; r_x9 = t_pt_3; r_vm = t_ni_3; r_4a = t_bt_3; r_75_1 = r_47_3; r_9s = t_pt_4; r_co = t_ni_4; r_0c = t_bt_4; r_9q = r_47_4; r_zy = t_pt_5; r_ph = t_ni_5; r_hk = t_bt_5; r_tw = r_47_5; r_hl = t_pt_6; r_7a = t_ni_6; r_1y = t_bt_6; r_if = r_47_6; r_uk = t_pt_7; r_3d = t_ni_7; r_6w = t_bt_7; r_93 = r_47_7; r_gg = t_pt_8; r_zt = 0x2e00000000ull; r_m6 = 0x2e000000000000ull; r_jc = 46u; r_vw = 0x2e0000ull; r_xz = 0x2e00000000ull; goto l_std_tz; }
     t_ni_8 = (u64)((u64)ld8((a_4 + 68)) << 32ull);
-    if (a_5 == 69ull) { r_zo = 0x2e000000ull; r_lj = 11776ull; r_42 = 0x2e00000000000000ull; r_5r = 0x2e0000000000ull; r_pa = t_ed_8; r_7p = t_6o_8; r_o8 = t_1w_7; r_bf = t_pq_7; r_bp = t_ed_7; r_m3 = t_6o_7; r_1s = t_1w_6; r_2r = t_pq_6; r_pk = t_ed_6; r_wb = t_6o_6; r_3n = t_1w_5; r_bo = t_pq_5; r_zs = t_ed_5; r_v3 = t_6o_5; r_ua = t_1w_4; r_v9 = t_pq_4; r_ps = t_ed_4; r_gi = t_6o_4; r_3f = t_1w_3; r_pn = t_pq_3; r_je = t_ed_3; r_jk = t_6o_3; r_l0 = t_1w_2; r_qi = t_pq_2; r_vv = t_ed_2; r_sr = t_6o_2; r_qg = t_1w_1; r_q7 = t_pq_1; r_58 = t_ed_1; r_6f = t_6o_1; r_w2 = t_1w; r_mm = t_pq; r_0r = t_ed; r_75 = t_6o; r_fn = r_pe; r_i4 = t_pt; r_1t = t_ni; r_a1 = t_bt; r_cc = r_47_7; r_5r_1 = t_pt_1; r_og = t_ni_1; r_7z = t_bt_1; r_m1 = r_47_15; r_nq = t_pt_2; r_7w = t_ni_2; r_w5 = t_bt_2; r_0i = r_47_23; r_x9 = t_pt_3; r_vm = t_ni_3; r_4a = t_bt_3; r_75_1 = r_47_31; r_9s = t_pt_4; r_co = t_ni_4; r_0c = t_bt_4; r_9q = r_47_39; r_zy = t_pt_5; r_ph = t_ni_5; r_hk = t_bt_5; r_tw = r_47_47; r_hl = t_pt_6; r_7a = t_ni_6; r_1y = t_bt_6; r_if = r_47_55; r_uk = t_pt_7; r_3d = t_ni_7; r_6w = t_bt_7; r_93 = r_47_63; r_gg = t_pt_8; r_zt = t_ni_8; r_m6 = 0x2e000000000000ull; r_jc = 46u; r_vw = 0x2e0000ull; r_xz = 0x2e00000000ull; goto l_std_tz; }
+    if (a_5 == 69ull) { r_zo = 0x2e000000ull; r_lj = 11776ull; r_42 = 0x2e00000000000000ull; r_5r = 0x2e0000000000ull; r_pa = t_ed_8; r_7p = t_6o_8; r_o8 = t_1w_7; r_bf = t_pq_7; r_bp = t_ed_7; r_m3 = t_6o_7; r_1s = t_1w_6; r_2r = t_pq_6; r_pk = t_ed_6; r_wb = t_6o_6; r_3n = t_1w_5; r_bo = t_pq_5; r_zs = t_ed_5; r_v3 = t_6o_5; r_ua = t_1w_4; r_v9 = t_pq_4; r_ps = t_ed_4; r_gi = t_6o_4; r_3f = t_1w_3; r_pn = t_pq_3; r_je = t_ed_3; r_jk = t_6o_3; r_l0 = t_1w_2; r_qi = t_pq_2; r_vv = t_ed_2; r_sr = t_6o_2; r_qg = t_1w_1; r_q7 = t_pq_1; r_58 = t_ed_1; r_6f = t_6o_1; r_w2 = t_1w; r_mm = t_pq; r_0r = t_ed; r_75 = t_6o; r_fn = r_pe; r_i4 = t_pt; r_1t = t_ni; r_a1 = t_bt; r_cc = r_47; r_5r_1 = t_pt_1; r_og = t_ni_1; r_7z = t_bt_1; r_m1 = r_47_1; r_nq = t_pt_2; r_7w = t_ni_2; r_w5 = t_bt_2; r_0i = r_47_2; r_x9 = t_pt_3; r_vm = t_ni_3; r_4a = t_bt_3; r_75_1 = r_47_3; r_9s = t_pt_4; r_co = t_ni_4; r_0c = t_bt_4; r_9q = r_47_4; r_zy = t_pt_5; r_ph = t_ni_5; r_hk = t_bt_5; r_tw = r_47_5; r_hl = t_pt_6; r_7a = t_ni_6; r_1y = t_bt_6; r_if = r_47_6; r_uk = t_pt_7; r_3d = t_ni_7; r_6w = t_bt_7; r_93 = r_47_7; r_gg = t_pt_8; r_zt = t_ni_8; r_m6 = 0x2e000000000000ull; r_jc = 46u; r_vw = 0x2e0000ull; r_xz = 0x2e00000000ull; goto l_std_tz; }
     t_pq_8 = (u64)((u64)ld8((a_4 + 69)) << 40ull);
-    if (!(a_5 > 70ull)) { r_zo = 0x2e000000ull; r_lj = 11776ull; r_42 = 0x2e00000000000000ull; r_5r = t_pq_8; r_pa = t_ed_8; r_7p = t_6o_8; r_o8 = t_1w_7; r_bf = t_pq_7; r_bp = t_ed_7; r_m3 = t_6o_7; r_1s = t_1w_6; r_2r = t_pq_6; r_pk = t_ed_6; r_wb = t_6o_6; r_3n = t_1w_5; r_bo = t_pq_5; r_zs = t_ed_5; r_v3 = t_6o_5; r_ua = t_1w_4; r_v9 = t_pq_4; r_ps = t_ed_4; r_gi = t_6o_4; r_3f = t_1w_3; r_pn = t_pq_3; r_je = t_ed_3; r_jk = t_6o_3; r_l0 = t_1w_2; r_qi = t_pq_2; r_vv = t_ed_2; r_sr = t_6o_2; r_qg = t_1w_1; r_q7 = t_pq_1; r_58 = t_ed_1; r_6f = t_6o_1; r_w2 = t_1w; r_mm = t_pq; r_0r = t_ed; r_75 = t_6o; r_fn = r_pe; r_i4 = t_pt; r_1t = t_ni; r_a1 = t_bt; r_cc = r_47_7; r_5r_1 = t_pt_1; r_og = t_ni_1; r_7z = t_bt_1; r_m1 = r_47_15; r_nq = t_pt_2; r_7w = t_ni_2; r_w5 = t_bt_2; r_0i = r_47_23; r_x9 = t_pt_3; r_vm = t_ni_3; r_4a = t_bt_3; r_75_1 = r_47_31; r_9s = t_pt_4; r_co = t_ni_4; r_0c = t_bt_4; r_9q = r_47_39; r_zy = t_pt_5; r_ph = t_ni_5; r_hk = t_bt_5; r_tw = r_47_47; r_hl = t_pt_6; r_7a = t_ni_6; r_1y = t_bt_6; r_if = r_47_55; r_uk = t_pt_7; r_3d = t_ni_7; r_6w = t_bt_7; r_93 = r_47_63; r_gg = t_pt_8; r_zt = t_ni_8; r_m6 = 0x2e000000000000ull; r_jc = 46u; r_vw = 0x2e0000ull; r_xz = 0x2e00000000ull; goto l_std_tz; }
+    if (!(a_5 > 70ull)) { r_zo = 0x2e000000ull; r_lj = 11776ull; r_42 = 0x2e00000000000000ull; r_5r = t_pq_8; r_pa = t_ed_8; r_7p = t_6o_8; r_o8 = t_1w_7; r_bf = t_pq_7; r_bp = t_ed_7; r_m3 = t_6o_7; r_1s = t_1w_6; r_2r = t_pq_6; r_pk = t_ed_6; r_wb = t_6o_6; r_3n = t_1w_5; r_bo = t_pq_5; r_zs = t_ed_5; r_v3 = t_6o_5; r_ua = t_1w_4; r_v9 = t_pq_4; r_ps = t_ed_4; r_gi = t_6o_4; r_3f = t_1w_3; r_pn = t_pq_3; r_je = t_ed_3; r_jk = t_6o_3; r_l0 = t_1w_2; r_qi = t_pq_2; r_vv = t_ed_2; r_sr = t_6o_2; r_qg = t_1w_1; r_q7 = t_pq_1; r_58 = t_ed_1; r_6f = t_6o_1; r_w2 = t_1w; r_mm = t_pq; r_0r = t_ed; r_75 = t_6o; r_fn = r_pe; r_i4 = t_pt; r_1t = t_ni; r_a1 = t_bt; r_cc = r_47; r_5r_1 = t_pt_1; r_og = t_ni_1; r_7z = t_bt_1; r_m1 = r_47_1; r_nq = t_pt_2; r_7w = t_ni_2; r_w5 = t_bt_2; r_0i = r_47_2; r_x9 = t_pt_3; r_vm = t_ni_3; r_4a = t_bt_3; r_75_1 = r_47_3; r_9s = t_pt_4; r_co = t_ni_4; r_0c = t_bt_4; r_9q = r_47_4; r_zy = t_pt_5; r_ph = t_ni_5; r_hk = t_bt_5; r_tw = r_47_5; r_hl = t_pt_6; r_7a = t_ni_6; r_1y = t_bt_6; r_if = r_47_6; r_uk = t_pt_7; r_3d = t_ni_7; r_6w = t_bt_7; r_93 = r_47_7; r_gg = t_pt_8; r_zt = t_ni_8; r_m6 = 0x2e000000000000ull; r_jc = 46u; r_vw = 0x2e0000ull; r_xz = 0x2e00000000ull; goto l_std_tz; }
     t_bt_8 = (u64)((u64)ld8((a_4 + 70)) << 48ull);
-    if (a_5 == 71ull) { r_zo = 0x2e000000ull; r_lj = 11776ull; r_42 = 0x2e00000000000000ull; r_5r = t_pq_8; r_pa = t_ed_8; r_7p = t_6o_8; r_o8 = t_1w_7; r_bf = t_pq_7; r_bp = t_ed_7; r_m3 = t_6o_7; r_1s = t_1w_6; r_2r = t_pq_6; r_pk = t_ed_6; r_wb = t_6o_6; r_3n = t_1w_5; r_bo = t_pq_5; r_zs = t_ed_5; r_v3 = t_6o_5; r_ua = t_1w_4; r_v9 = t_pq_4; r_ps = t_ed_4; r_gi = t_6o_4; r_3f = t_1w_3; r_pn = t_pq_3; r_je = t_ed_3; r_jk = t_6o_3; r_l0 = t_1w_2; r_qi = t_pq_2; r_vv = t_ed_2; r_sr = t_6o_2; r_qg = t_1w_1; r_q7 = t_pq_1; r_58 = t_ed_1; r_6f = t_6o_1; r_w2 = t_1w; r_mm = t_pq; r_0r = t_ed; r_75 = t_6o; r_fn = r_pe; r_i4 = t_pt; r_1t = t_ni; r_a1 = t_bt; r_cc = r_47_7; r_5r_1 = t_pt_1; r_og = t_ni_1; r_7z = t_bt_1; r_m1 = r_47_15; r_nq = t_pt_2; r_7w = t_ni_2; r_w5 = t_bt_2; r_0i = r_47_23; r_x9 = t_pt_3; r_vm = t_ni_3; r_4a = t_bt_3; r_75_1 = r_47_31; r_9s = t_pt_4; r_co = t_ni_4; r_0c = t_bt_4; r_9q = r_47_39; r_zy = t_pt_5; r_ph = t_ni_5; r_hk = t_bt_5; r_tw = r_47_47; r_hl = t_pt_6; r_7a = t_ni_6; r_1y = t_bt_6; r_if = r_47_55; r_uk = t_pt_7; r_3d = t_ni_7; r_6w = t_bt_7; r_93 = r_47_63; r_gg = t_pt_8; r_zt = t_ni_8; r_m6 = t_bt_8; r_jc = 46u; r_vw = 0x2e0000ull; r_xz = 0x2e00000000ull; goto l_std_tz; }
+    if (a_5 == 71ull) { r_zo = 0x2e000000ull; r_lj = 11776ull; r_42 = 0x2e00000000000000ull; r_5r = t_pq_8; r_pa = t_ed_8; r_7p = t_6o_8; r_o8 = t_1w_7; r_bf = t_pq_7; r_bp = t_ed_7; r_m3 = t_6o_7; r_1s = t_1w_6; r_2r = t_pq_6; r_pk = t_ed_6; r_wb = t_6o_6; r_3n = t_1w_5; r_bo = t_pq_5; r_zs = t_ed_5; r_v3 = t_6o_5; r_ua = t_1w_4; r_v9 = t_pq_4; r_ps = t_ed_4; r_gi = t_6o_4; r_3f = t_1w_3; r_pn = t_pq_3; r_je = t_ed_3; r_jk = t_6o_3; r_l0 = t_1w_2; r_qi = t_pq_2; r_vv = t_ed_2; r_sr = t_6o_2; r_qg = t_1w_1; r_q7 = t_pq_1; r_58 = t_ed_1; r_6f = t_6o_1; r_w2 = t_1w; r_mm = t_pq; r_0r = t_ed; r_75 = t_6o; r_fn = r_pe; r_i4 = t_pt; r_1t = t_ni; r_a1 = t_bt; r_cc = r_47; r_5r_1 = t_pt_1; r_og = t_ni_1; r_7z = t_bt_1; r_m1 = r_47_1; r_nq = t_pt_2; r_7w = t_ni_2; r_w5 = t_bt_2; r_0i = r_47_2; r_x9 = t_pt_3; r_vm = t_ni_3; r_4a = t_bt_3; r_75_1 = r_47_3; r_9s = t_pt_4; r_co = t_ni_4; r_0c = t_bt_4; r_9q = r_47_4; r_zy = t_pt_5; r_ph = t_ni_5; r_hk = t_bt_5; r_tw = r_47_5; r_hl = t_pt_6; r_7a = t_ni_6; r_1y = t_bt_6; r_if = r_47_6; r_uk = t_pt_7; r_3d = t_ni_7; r_6w = t_bt_7; r_93 = r_47_7; r_gg = t_pt_8; r_zt = t_ni_8; r_m6 = t_bt_8; r_jc = 46u; r_vw = 0x2e0000ull; r_xz = 0x2e00000000ull; goto l_std_tz; }
     t_1w_8 = (u64)((u64)ld8((a_4 + 71)) << 56ull);
-    if (!(a_5 > 72ull)) { r_zo = 0x2e000000ull; r_lj = 11776ull; r_42 = t_1w_8; r_5r = t_pq_8; r_pa = t_ed_8; r_7p = t_6o_8; r_o8 = t_1w_7; r_bf = t_pq_7; r_bp = t_ed_7; r_m3 = t_6o_7; r_1s = t_1w_6; r_2r = t_pq_6; r_pk = t_ed_6; r_wb = t_6o_6; r_3n = t_1w_5; r_bo = t_pq_5; r_zs = t_ed_5; r_v3 = t_6o_5; r_ua = t_1w_4; r_v9 = t_pq_4; r_ps = t_ed_4; r_gi = t_6o_4; r_3f = t_1w_3; r_pn = t_pq_3; r_je = t_ed_3; r_jk = t_6o_3; r_l0 = t_1w_2; r_qi = t_pq_2; r_vv = t_ed_2; r_sr = t_6o_2; r_qg = t_1w_1; r_q7 = t_pq_1; r_58 = t_ed_1; r_6f = t_6o_1; r_w2 = t_1w; r_mm = t_pq; r_0r = t_ed; r_75 = t_6o; r_fn = r_pe; r_i4 = t_pt; r_1t = t_ni; r_a1 = t_bt; r_cc = r_47_7; r_5r_1 = t_pt_1; r_og = t_ni_1; r_7z = t_bt_1; r_m1 = r_47_15; r_nq = t_pt_2; r_7w = t_ni_2; r_w5 = t_bt_2; r_0i = r_47_23; r_x9 = t_pt_3; r_vm = t_ni_3; r_4a = t_bt_3; r_75_1 = r_47_31; r_9s = t_pt_4; r_co = t_ni_4; r_0c = t_bt_4; r_9q = r_47_39; r_zy = t_pt_5; r_ph = t_ni_5; r_hk = t_bt_5; r_tw = r_47_47; r_hl = t_pt_6; r_7a = t_ni_6; r_1y = t_bt_6; r_if = r_47_55; r_uk = t_pt_7; r_3d = t_ni_7; r_6w = t_bt_7; r_93 = r_47_63; r_gg = t_pt_8; r_zt = t_ni_8; r_m6 = t_bt_8; r_jc = 46u; r_vw = 0x2e0000ull; r_xz = 0x2e00000000ull; goto l_std_tz; }
-    r_47_71 = ld8((a_4 + 72));
-    if (a_5 == 73ull) { r_zo = 0x2e000000ull; r_lj = 11776ull; r_42 = t_1w_8; r_5r = t_pq_8; r_pa = t_ed_8; r_7p = t_6o_8; r_o8 = t_1w_7; r_bf = t_pq_7; r_bp = t_ed_7; r_m3 = t_6o_7; r_1s = t_1w_6; r_2r = t_pq_6; r_pk = t_ed_6; r_wb = t_6o_6; r_3n = t_1w_5; r_bo = t_pq_5; r_zs = t_ed_5; r_v3 = t_6o_5; r_ua = t_1w_4; r_v9 = t_pq_4; r_ps = t_ed_4; r_gi = t_6o_4; r_3f = t_1w_3; r_pn = t_pq_3; r_je = t_ed_3; r_jk = t_6o_3; r_l0 = t_1w_2; r_qi = t_pq_2; r_vv = t_ed_2; r_sr = t_6o_2; r_qg = t_1w_1; r_q7 = t_pq_1; r_58 = t_ed_1; r_6f = t_6o_1; r_w2 = t_1w; r_mm = t_pq; r_0r = t_ed; r_75 = t_6o; r_fn = r_pe; r_i4 = t_pt; r_1t = t_ni; r_a1 = t_bt; r_cc = r_47_7; r_5r_1 = t_pt_1; r_og = t_ni_1; r_7z = t_bt_1; r_m1 = r_47_15; r_nq = t_pt_2; r_7w = t_ni_2; r_w5 = t_bt_2; r_0i = r_47_23; r_x9 = t_pt_3; r_vm = t_ni_3; r_4a = t_bt_3; r_75_1 = r_47_31; r_9s = t_pt_4; r_co = t_ni_4; r_0c = t_bt_4; r_9q = r_47_39; r_zy = t_pt_5; r_ph = t_ni_5; r_hk = t_bt_5; r_tw = r_47_47; r_hl = t_pt_6; r_7a = t_ni_6; r_1y = t_bt_6; r_if = r_47_55; r_uk = t_pt_7; r_3d = t_ni_7; r_6w = t_bt_7; r_93 = r_47_63; r_gg = t_pt_8; r_zt = t_ni_8; r_m6 = t_bt_8; r_jc = r_47_71; r_vw = 0x2e0000ull; r_xz = 0x2e00000000ull; goto l_std_tz; }
+    if (!(a_5 > 72ull)) { r_zo = 0x2e000000ull; r_lj = 11776ull; r_42 = t_1w_8; r_5r = t_pq_8; r_pa = t_ed_8; r_7p = t_6o_8; r_o8 = t_1w_7; r_bf = t_pq_7; r_bp = t_ed_7; r_m3 = t_6o_7; r_1s = t_1w_6; r_2r = t_pq_6; r_pk = t_ed_6; r_wb = t_6o_6; r_3n = t_1w_5; r_bo = t_pq_5; r_zs = t_ed_5; r_v3 = t_6o_5; r_ua = t_1w_4; r_v9 = t_pq_4; r_ps = t_ed_4; r_gi = t_6o_4; r_3f = t_1w_3; r_pn = t_pq_3; r_je = t_ed_3; r_jk = t_6o_3; r_l0 = t_1w_2; r_qi = t_pq_2; r_vv = t_ed_2; r_sr = t_6o_2; r_qg = t_1w_1; r_q7 = t_pq_1; r_58 = t_ed_1; r_6f = t_6o_1; r_w2 = t_1w; r_mm = t_pq; r_0r = t_ed; r_75 = t_6o; r_fn = r_pe; r_i4 = t_pt; r_1t = t_ni; r_a1 = t_bt; r_cc = r_47; r_5r_1 = t_pt_1; r_og = t_ni_1; r_7z = t_bt_1; r_m1 = r_47_1; r_nq = t_pt_2; r_7w = t_ni_2; r_w5 = t_bt_2; r_0i = r_47_2; r_x9 = t_pt_3; r_vm = t_ni_3; r_4a = t_bt_3; r_75_1 = r_47_3; r_9s = t_pt_4; r_co = t_ni_4; r_0c = t_bt_4; r_9q = r_47_4; r_zy = t_pt_5; r_ph = t_ni_5; r_hk = t_bt_5; r_tw = r_47_5; r_hl = t_pt_6; r_7a = t_ni_6; r_1y = t_bt_6; r_if = r_47_6; r_uk = t_pt_7; r_3d = t_ni_7; r_6w = t_bt_7; r_93 = r_47_7; r_gg = t_pt_8; r_zt = t_ni_8; r_m6 = t_bt_8; r_jc = 46u; r_vw = 0x2e0000ull; r_xz = 0x2e00000000ull; goto l_std_tz; }
+    r_47_8 = ld8((a_4 + 72));
+    if (a_5 == 73ull) { r_zo = 0x2e000000ull; r_lj = 11776ull; r_42 = t_1w_8; r_5r = t_pq_8; r_pa = t_ed_8; r_7p = t_6o_8; r_o8 = t_1w_7; r_bf = t_pq_7; r_bp = t_ed_7; r_m3 = t_6o_7; r_1s = t_1w_6; r_2r = t_pq_6; r_pk = t_ed_6; r_wb = t_6o_6; r_3n = t_1w_5; r_bo = t_pq_5; r_zs = t_ed_5; r_v3 = t_6o_5; r_ua = t_1w_4; r_v9 = t_pq_4; r_ps = t_ed_4; r_gi = t_6o_4; r_3f = t_1w_3; r_pn = t_pq_3; r_je = t_ed_3; r_jk = t_6o_3; r_l0 = t_1w_2; r_qi = t_pq_2; r_vv = t_ed_2; r_sr = t_6o_2; r_qg = t_1w_1; r_q7 = t_pq_1; r_58 = t_ed_1; r_6f = t_6o_1; r_w2 = t_1w; r_mm = t_pq; r_0r = t_ed; r_75 = t_6o; r_fn = r_pe; r_i4 = t_pt; r_1t = t_ni; r_a1 = t_bt; r_cc = r_47; r_5r_1 = t_pt_1; r_og = t_ni_1; r_7z = t_bt_1; r_m1 = r_47_1; r_nq = t_pt_2; r_7w = t_ni_2; r_w5 = t_bt_2; r_0i = r_47_2; r_x9 = t_pt_3; r_vm = t_ni_3; r_4a = t_bt_3; r_75_1 = r_47_3; r_9s = t_pt_4; r_co = t_ni_4; r_0c = t_bt_4; r_9q = r_47_4; r_zy = t_pt_5; r_ph = t_ni_5; r_hk = t_bt_5; r_tw = r_47_5; r_hl = t_pt_6; r_7a = t_ni_6; r_1y = t_bt_6; r_if = r_47_6; r_uk = t_pt_7; r_3d = t_ni_7; r_6w = t_bt_7; r_93 = r_47_7; r_gg = t_pt_8; r_zt = t_ni_8; r_m6 = t_bt_8; r_jc = r_47_8; r_vw = 0x2e0000ull; r_xz = 0x2e00000000ull; goto l_std_tz; }
     t_6o_9 = (u64)((u64)ld8((a_4 + 73)) << 8ull);
-    if (!(a_5 > 74ull)) { r_zo = 0x2e000000ull; r_lj = t_6o_9; r_42 = t_1w_8; r_5r = t_pq_8; r_pa = t_ed_8; r_7p = t_6o_8; r_o8 = t_1w_7; r_bf = t_pq_7; r_bp = t_ed_7; r_m3 = t_6o_7; r_1s = t_1w_6; r_2r = t_pq_6; r_pk = t_ed_6; r_wb = t_6o_6; r_3n = t_1w_5; r_bo = t_pq_5; r_zs = t_ed_5; r_v3 = t_6o_5; r_ua = t_1w_4; r_v9 = t_pq_4; r_ps = t_ed_4; r_gi = t_6o_4; r_3f = t_1w_3; r_pn = t_pq_3; r_je = t_ed_3; r_jk = t_6o_3; r_l0 = t_1w_2; r_qi = t_pq_2; r_vv = t_ed_2; r_sr = t_6o_2; r_qg = t_1w_1; r_q7 = t_pq_1; r_58 = t_ed_1; r_6f = t_6o_1; r_w2 = t_1w; r_mm = t_pq; r_0r = t_ed; r_75 = t_6o; r_fn = r_pe; r_i4 = t_pt; r_1t = t_ni; r_a1 = t_bt; r_cc = r_47_7; r_5r_1 = t_pt_1; r_og = t_ni_1; r_7z = t_bt_1; r_m1 = r_47_15; r_nq = t_pt_2; r_7w = t_ni_2; r_w5 = t_bt_2; r_0i = r_47_23; r_x9 = t_pt_3; r_vm = t_ni_3; r_4a = t_bt_3; r_75_1 = r_47_31; r_9s = t_pt_4; r_co = t_ni_4; r_0c = t_bt_4; r_9q = r_47_39; r_zy = t_pt_5; r_ph = t_ni_5; r_hk = t_bt_5; r_tw = r_47_47; r_hl = t_pt_6; r_7a = t_ni_6; r_1y = t_bt_6; r_if = r_47_55; r_uk = t_pt_7; r_3d = t_ni_7; r_6w = t_bt_7; r_93 = r_47_63; r_gg = t_pt_8; r_zt = t_ni_8; r_m6 = t_bt_8; r_jc = r_47_71; r_vw = 0x2e0000ull; r_xz = 0x2e00000000ull; goto l_std_tz; }
+    if (!(a_5 > 74ull)) { r_zo = 0x2e000000ull; r_lj = t_6o_9; r_42 = t_1w_8; r_5r = t_pq_8; r_pa = t_ed_8; r_7p = t_6o_8; r_o8 = t_1w_7; r_bf = t_pq_7; r_bp = t_ed_7; r_m3 = t_6o_7; r_1s = t_1w_6; r_2r = t_pq_6; r_pk = t_ed_6; r_wb = t_6o_6; r_3n = t_1w_5; r_bo = t_pq_5; r_zs = t_ed_5; r_v3 = t_6o_5; r_ua = t_1w_4; r_v9 = t_pq_4; r_ps = t_ed_4; r_gi = t_6o_4; r_3f = t_1w_3; r_pn = t_pq_3; r_je = t_ed_3; r_jk = t_6o_3; r_l0 = t_1w_2; r_qi = t_pq_2; r_vv = t_ed_2; r_sr = t_6o_2; r_qg = t_1w_1; r_q7 = t_pq_1; r_58 = t_ed_1; r_6f = t_6o_1; r_w2 = t_1w; r_mm = t_pq; r_0r = t_ed; r_75 = t_6o; r_fn = r_pe; r_i4 = t_pt; r_1t = t_ni; r_a1 = t_bt; r_cc = r_47; r_5r_1 = t_pt_1; r_og = t_ni_1; r_7z = t_bt_1; r_m1 = r_47_1; r_nq = t_pt_2; r_7w = t_ni_2; r_w5 = t_bt_2; r_0i = r_47_2; r_x9 = t_pt_3; r_vm = t_ni_3; r_4a = t_bt_3; r_75_1 = r_47_3; r_9s = t_pt_4; r_co = t_ni_4; r_0c = t_bt_4; r_9q = r_47_4; r_zy = t_pt_5; r_ph = t_ni_5; r_hk = t_bt_5; r_tw = r_47_5; r_hl = t_pt_6; r_7a = t_ni_6; r_1y = t_bt_6; r_if = r_47_6; r_uk = t_pt_7; r_3d = t_ni_7; r_6w = t_bt_7; r_93 = r_47_7; r_gg = t_pt_8; r_zt = t_ni_8; r_m6 = t_bt_8; r_jc = r_47_8; r_vw = 0x2e0000ull; r_xz = 0x2e00000000ull; goto l_std_tz; }
     t_pt_9 = (u64)((u64)ld8((a_4 + 74)) << 16ull);
-    if (a_5 == 75ull) { r_zo = 0x2e000000ull; r_lj = t_6o_9; r_42 = t_1w_8; r_5r = t_pq_8; r_pa = t_ed_8; r_7p = t_6o_8; r_o8 = t_1w_7; r_bf = t_pq_7; r_bp = t_ed_7; r_m3 = t_6o_7; r_1s = t_1w_6; r_2r = t_pq_6; r_pk = t_ed_6; r_wb = t_6o_6; r_3n = t_1w_5; r_bo = t_pq_5; r_zs = t_ed_5; r_v3 = t_6o_5; r_ua = t_1w_4; r_v9 = t_pq_4; r_ps = t_ed_4; r_gi = t_6o_4; r_3f = t_1w_3; r_pn = t_pq_3; r_je = t_ed_3; r_jk = t_6o_3; r_l0 = t_1w_2; r_qi = t_pq_2; r_vv = t_ed_2; r_sr = t_6o_2; r_qg = t_1w_1; r_q7 = t_pq_1; r_58 = t_ed_1; r_6f = t_6o_1; r_w2 = t_1w; r_mm = t_pq; r_0r = t_ed; r_75 = t_6o; r_fn = r_pe; r_i4 = t_pt; r_1t = t_ni; r_a1 = t_bt; r_cc = r_47_7; r_5r_1 = t_pt_1; r_og = t_ni_1; r_7z = t_bt_1; r_m1 = r_47_15; r_nq = t_pt_2; r_7w = t_ni_2; r_w5 = t_bt_2; r_0i = r_47_23; r_x9 = t_pt_3; r_vm = t_ni_3; r_4a = t_bt_3; r_75_1 = r_47_31; r_9s = t_pt_4; r_co = t_ni_4; r_0c = t_bt_4; r_9q = r_47_39; r_zy = t_pt_5; r_ph = t_ni_5; r_hk = t_bt_5; r_tw = r_47_47; r_hl = t_pt_6; r_7a = t_ni_6; r_1y = t_bt_6; r_if = r_47_55; r_uk = t_pt_7; r_3d = t_ni_7; r_6w = t_bt_7; r_93 = r_47_63; r_gg = t_pt_8; r_zt = t_ni_8; r_m6 = t_bt_8; r_jc = r_47_71; r_vw = t_pt_9; r_xz = 0x2e00000000ull; goto l_std_tz; }
+    if (a_5 == 75ull) { r_zo = 0x2e000000ull; r_lj = t_6o_9; r_42 = t_1w_8; r_5r = t_pq_8; r_pa = t_ed_8; r_7p = t_6o_8; r_o8 = t_1w_7; r_bf = t_pq_7; r_bp = t_ed_7; r_m3 = t_6o_7; r_1s = t_1w_6; r_2r = t_pq_6; r_pk = t_ed_6; r_wb = t_6o_6; r_3n = t_1w_5; r_bo = t_pq_5; r_zs = t_ed_5; r_v3 = t_6o_5; r_ua = t_1w_4; r_v9 = t_pq_4; r_ps = t_ed_4; r_gi = t_6o_4; r_3f = t_1w_3; r_pn = t_pq_3; r_je = t_ed_3; r_jk = t_6o_3; r_l0 = t_1w_2; r_qi = t_pq_2; r_vv = t_ed_2; r_sr = t_6o_2; r_qg = t_1w_1; r_q7 = t_pq_1; r_58 = t_ed_1; r_6f = t_6o_1; r_w2 = t_1w; r_mm = t_pq; r_0r = t_ed; r_75 = t_6o; r_fn = r_pe; r_i4 = t_pt; r_1t = t_ni; r_a1 = t_bt; r_cc = r_47; r_5r_1 = t_pt_1; r_og = t_ni_1; r_7z = t_bt_1; r_m1 = r_47_1; r_nq = t_pt_2; r_7w = t_ni_2; r_w5 = t_bt_2; r_0i = r_47_2; r_x9 = t_pt_3; r_vm = t_ni_3; r_4a = t_bt_3; r_75_1 = r_47_3; r_9s = t_pt_4; r_co = t_ni_4; r_0c = t_bt_4; r_9q = r_47_4; r_zy = t_pt_5; r_ph = t_ni_5; r_hk = t_bt_5; r_tw = r_47_5; r_hl = t_pt_6; r_7a = t_ni_6; r_1y = t_bt_6; r_if = r_47_6; r_uk = t_pt_7; r_3d = t_ni_7; r_6w = t_bt_7; r_93 = r_47_7; r_gg = t_pt_8; r_zt = t_ni_8; r_m6 = t_bt_8; r_jc = r_47_8; r_vw = t_pt_9; r_xz = 0x2e00000000ull; goto l_std_tz; }
     t_ed_9 = (u64)((u64)ld8((a_4 + 75)) << 24ull);
-    if (!(a_5 > 76ull)) { r_zo = t_ed_9; r_lj = t_6o_9; r_42 = t_1w_8; r_5r = t_pq_8; r_pa = t_ed_8; r_7p = t_6o_8; r_o8 = t_1w_7; r_bf = t_pq_7; r_bp = t_ed_7; r_m3 = t_6o_7; r_1s = t_1w_6; r_2r = t_pq_6; r_pk = t_ed_6; r_wb = t_6o_6; r_3n = t_1w_5; r_bo = t_pq_5; r_zs = t_ed_5; r_v3 = t_6o_5; r_ua = t_1w_4; r_v9 = t_pq_4; r_ps = t_ed_4; r_gi = t_6o_4; r_3f = t_1w_3; r_pn = t_pq_3; r_je = t_ed_3; r_jk = t_6o_3; r_l0 = t_1w_2; r_qi = t_pq_2; r_vv = t_ed_2; r_sr = t_6o_2; r_qg = t_1w_1; r_q7 = t_pq_1; r_58 = t_ed_1; r_6f = t_6o_1; r_w2 = t_1w; r_mm = t_pq; r_0r = t_ed; r_75 = t_6o; r_fn = r_pe; r_i4 = t_pt; r_1t = t_ni; r_a1 = t_bt; r_cc = r_47_7; r_5r_1 = t_pt_1; r_og = t_ni_1; r_7z = t_bt_1; r_m1 = r_47_15; r_nq = t_pt_2; r_7w = t_ni_2; r_w5 = t_bt_2; r_0i = r_47_23; r_x9 = t_pt_3; r_vm = t_ni_3; r_4a = t_bt_3; r_75_1 = r_47_31; r_9s = t_pt_4; r_co = t_ni_4; r_0c = t_bt_4; r_9q = r_47_39; r_zy = t_pt_5; r_ph = t_ni_5; r_hk = t_bt_5; r_tw = r_47_47; r_hl = t_pt_6; r_7a = t_ni_6; r_1y = t_bt_6; r_if = r_47_55; r_uk = t_pt_7; r_3d = t_ni_7; r_6w = t_bt_7; r_93 = r_47_63; r_gg = t_pt_8; r_zt = t_ni_8; r_m6 = t_bt_8; r_jc = r_47_71; r_vw = t_pt_9; r_xz = 0x2e00000000ull; goto l_std_tz; }
+    if (!(a_5 > 76ull)) { r_zo = t_ed_9; r_lj = t_6o_9; r_42 = t_1w_8; r_5r = t_pq_8; r_pa = t_ed_8; r_7p = t_6o_8; r_o8 = t_1w_7; r_bf = t_pq_7; r_bp = t_ed_7; r_m3 = t_6o_7; r_1s = t_1w_6; r_2r = t_pq_6; r_pk = t_ed_6; r_wb = t_6o_6; r_3n = t_1w_5; r_bo = t_pq_5; r_zs = t_ed_5; r_v3 = t_6o_5; r_ua = t_1w_4; r_v9 = t_pq_4; r_ps = t_ed_4; r_gi = t_6o_4; r_3f = t_1w_3; r_pn = t_pq_3; r_je = t_ed_3; r_jk = t_6o_3; r_l0 = t_1w_2; r_qi = t_pq_2; r_vv = t_ed_2; r_sr = t_6o_2; r_qg = t_1w_1; r_q7 = t_pq_1; r_58 = t_ed_1; r_6f = t_6o_1; r_w2 = t_1w; r_mm = t_pq; r_0r = t_ed; r_75 = t_6o; r_fn = r_pe; r_i4 = t_pt; r_1t = t_ni; r_a1 = t_bt; r_cc = r_47; r_5r_1 = t_pt_1; r_og = t_ni_1; r_7z = t_bt_1; r_m1 = r_47_1; r_nq = t_pt_2; r_7w = t_ni_2; r_w5 = t_bt_2; r_0i = r_47_2; r_x9 = t_pt_3; r_vm = t_ni_3; r_4a = t_bt_3; r_75_1 = r_47_3; r_9s = t_pt_4; r_co = t_ni_4; r_0c = t_bt_4; r_9q = r_47_4; r_zy = t_pt_5; r_ph = t_ni_5; r_hk = t_bt_5; r_tw = r_47_5; r_hl = t_pt_6; r_7a = t_ni_6; r_1y = t_bt_6; r_if = r_47_6; r_uk = t_pt_7; r_3d = t_ni_7; r_6w = t_bt_7; r_93 = r_47_7; r_gg = t_pt_8; r_zt = t_ni_8; r_m6 = t_bt_8; r_jc = r_47_8; r_vw = t_pt_9; r_xz = 0x2e00000000ull; goto l_std_tz; }
     r_zo = t_ed_9;
     r_lj = t_6o_9;
     r_42 = t_1w_8;
@@ -633,50 +633,50 @@ void std_io_io_error_Error_from_bytes(u8 *a_1, u8 a_2, u8 a_3, u8 *a_4, u64 a_5,
     r_i4 = t_pt;
     r_1t = t_ni;
     r_a1 = t_bt;
-    r_cc = r_47_7;
+    r_cc = r_47;
     r_5r_1 = t_pt_1;
     r_og = t_ni_1;
     r_7z = t_bt_1;
-    r_m1 = r_47_15;
+    r_m1 = r_47_1;
     r_nq = t_pt_2;
     r_7w = t_ni_2;
     r_w5 = t_bt_2;
-    r_0i = r_47_23;
+    r_0i = r_47_2;
     r_x9 = t_pt_3;
     r_vm = t_ni_3;
     r_4a = t_bt_3;
-    r_75_1 = r_47_31;
+    r_75_1 = r_47_3;
     r_9s = t_pt_4;
     r_co = t_ni_4;
     r_0c = t_bt_4;
-    r_9q = r_47_39;
+    r_9q = r_47_4;
     r_zy = t_pt_5;
     r_ph = t_ni_5;
     r_hk = t_bt_5;
-    r_tw = r_47_47;
+    r_tw = r_47_5;
     r_hl = t_pt_6;
     r_7a = t_ni_6;
     r_1y = t_bt_6;
-    r_if = r_47_55;
+    r_if = r_47_6;
     r_uk = t_pt_7;
     r_3d = t_ni_7;
     r_6w = t_bt_7;
-    r_93 = r_47_63;
+    r_93 = r_47_7;
     r_gg = t_pt_8;
     r_zt = t_ni_8;
     r_m6 = t_bt_8;
-    r_jc = r_47_71;
+    r_jc = r_47_8;
     r_vw = t_pt_9;
     r_xz = (u64)((u64)ld8((a_4 + 76)) << 32ull);
 l_std_tz:;
-    if (!(a_5 > 77ull)) { r_zo_1 = 0x2e000000000000ull; r_jg = 0x2e0000000000ull; r_a3_1 = 0x2e00000000000000ull; goto l_std_8p; }
+    if (!(a_5 > 77ull)) { r_zo_1 = 0x2e000000000000ull; r_jg = 0x2e0000000000ull; r_a3 = 0x2e00000000000000ull; goto l_std_8p; }
     t_pq_9 = (u64)((u64)ld8((a_4 + 77)) << 40ull);
-    if (a_5 == 78ull) { r_zo_1 = 0x2e000000000000ull; r_jg = t_pq_9; r_a3_1 = 0x2e00000000000000ull; goto l_std_8p; }
+    if (a_5 == 78ull) { r_zo_1 = 0x2e000000000000ull; r_jg = t_pq_9; r_a3 = 0x2e00000000000000ull; goto l_std_8p; }
     t_bt_9 = (u64)((u64)ld8((a_4 + 78)) << 48ull);
-    if (!(a_5 > 79ull)) { r_zo_1 = t_bt_9; r_jg = t_pq_9; r_a3_1 = 0x2e00000000000000ull; goto l_std_8p; }
+    if (!(a_5 > 79ull)) { r_zo_1 = t_bt_9; r_jg = t_pq_9; r_a3 = 0x2e00000000000000ull; goto l_std_8p; }
     r_zo_1 = t_bt_9;
     r_jg = t_pq_9;
-    r_a3_1 = (u64)((u64)ld8((a_4 + 79)) << 56ull);
+    r_a3 = (u64)((u64)ld8((a_4 + 79)) << 56ull);
 l_std_8p:;
     st8(a_1, a_2);
     st8((a_1 + 1), a_3);
@@ -692,7 +692,7 @@ l_std_8p:;
     st64((a_1 + 56), (((((((r_wb | (u64)r_tw) | r_hl) | r_pk) | r_7a) | r_2r) | r_1y) | r_1s));
     st64((a_1 + 64), (((((((r_m3 | (u64)r_if) | r_uk) | r_bp) | r_3d) | r_bf) | r_6w) | r_o8));
     st64((a_1 + 72), (((((((r_7p | (u64)r_93) | r_gg) | r_pa) | r_zt) | r_5r) | r_m6) | r_42));
-    st64((a_1 + 80), (((((((r_lj | (u64)r_jc) | r_vw) | r_zo) | r_xz) | r_jg) | r_zo_1) | r_a3_1));
+    st64((a_1 + 80), (((((((r_lj | (u64)r_jc) | r_vw) | r_zo) | r_xz) | r_jg) | r_zo_1) | r_a3));
     return;
 }
 
@@ -940,9 +940,9 @@ l_arm_td:;
     if (!(r_pv > 1023ull)) { r_km = r_pv; goto l_std_41; }
     u8 r_09 = std_io_io_buffer_Buffer_flush(a_1);
     if (!r_09) { r_fk = 1u; goto l_return_ri; }
-    u64 r_38_1 = ld64(r_ym);
-    if (r_38_1 > 1023ull) { r_fk = 1u; goto l_return_ri; }
-    r_km = r_38_1;
+    u64 r_38 = ld64(r_ym);
+    if (r_38 > 1023ull) { r_fk = 1u; goto l_return_ri; }
+    r_km = r_38;
 l_std_41:;
     st8((r_1x + (i64)(r_km)), r_47);
     r_c4 = (r_km + 1ull);
@@ -966,9 +966,9 @@ l_arm_65:;
     if (!(r_9w > 1023ull)) { r_km_1 = r_9w; goto l_std_41_1; }
     u8 r_09_1 = std_io_io_buffer_Buffer_flush(a_1);
     if (!r_09_1) { r_fk = 1u; goto l_return_ri; }
-    u64 r_38_3 = ld64(r_ym_1);
-    if (r_38_3 > 1023ull) { r_fk = 1u; goto l_return_ri; }
-    r_km_1 = r_38_3;
+    u64 r_38_1 = ld64(r_ym_1);
+    if (r_38_1 > 1023ull) { r_fk = 1u; goto l_return_ri; }
+    r_km_1 = r_38_1;
 l_std_41_1:;
     st8((r_1x_1 + (i64)(r_km_1)), r_47_1);
     u64 r_c4_1 = (r_km_1 + 1ull);
@@ -1049,7 +1049,7 @@ static NEVER u8 core_fmt_formatter_Formatter_cut_and_fill_bf264aed5fa78656(u8 *a
     u64 r_ib;
     u64 r_pk;
     u64 r_ov;
-    u32 r_yf_1;
+    u32 r_yf;
     u64 r_ee;
     u32 r_cq;
     u8 *r_ym;
@@ -1058,8 +1058,8 @@ static NEVER u8 core_fmt_formatter_Formatter_cut_and_fill_bf264aed5fa78656(u8 *a
     u64 r_uj;
     u8 *r_35;
     u8 *r_62;
-    u64 r_zn_1;
-    u8 r_47_4;
+    u64 r_zn;
+    u8 r_47;
     u64 r_km;
     u8 r_fk;
     u64 r_52 = ld64(away(a_1, 1152ull));
@@ -1116,12 +1116,12 @@ l_core_h6:;
 l_then_j0:;
     r_ov = (u64)(r_pk >> 1ull);
 l_core_yu:;
-    r_yf_1 = ld32(r_p7);
-    if (r_ov == 0ull) { r_ee = 0ull; r_cq = r_yf_1; goto l_arm_l3; }
-    u8 r_wf = core_fmt_formatter_Formatter_write_char_n_times_bf264a_5c1f4f90(a_1, r_yf_1, r_ov);
+    r_yf = ld32(r_p7);
+    if (r_ov == 0ull) { r_ee = 0ull; r_cq = r_yf; goto l_arm_l3; }
+    u8 r_wf = core_fmt_formatter_Formatter_write_char_n_times_bf264a_5c1f4f90(a_1, r_yf, r_ov);
     if ((u8)(r_wf & 1)) { r_fk = 1u; goto l_return_ri; }
     r_ee = r_ov;
-    r_cq = r_yf_1;
+    r_cq = r_yf;
 l_arm_l3:;
     if (!(ld64(away(a_1, 1160ull)) == 0ull)) goto l_core_gy;
     if (r_5s) goto l_arm_vh;
@@ -1132,21 +1132,21 @@ l_arm_l3:;
     r_35 = a_2;
 l_arm_65:;
     r_62 = away(r_35, 1ull);
-    r_zn_1 = (r_uj + 0xffffffffffffffffull);
-    r_47_4 = ld8(r_35);
+    r_zn = (r_uj + 0xffffffffffffffffull);
+    r_47 = ld8(r_35);
     if (!(r_9w > 1023ull)) { r_km = r_9w; goto l_std_41; }
     u8 r_09 = std_io_io_buffer_Buffer_flush(a_1);
     if (!r_09) { r_fk = 1u; goto l_return_ri; }
-    u64 r_38_1 = ld64(r_ym);
-    if (r_38_1 > 1023ull) { r_fk = 1u; goto l_return_ri; }
-    r_km = r_38_1;
+    u64 r_38 = ld64(r_ym);
+    if (r_38 > 1023ull) { r_fk = 1u; goto l_return_ri; }
+    r_km = r_38;
 l_std_41:;
-    st8((r_1x + (i64)(r_km)), r_47_4);
+    st8((r_1x + (i64)(r_km)), r_47);
     u64 r_c4 = (r_km + 1ull);
     st64(r_ym, r_c4);
-    if (r_zn_1 == 0ull) goto l_arm_vh;
+    if (r_zn == 0ull) goto l_arm_vh;
     r_9w = r_c4;
-    r_uj = r_zn_1;
+    r_uj = r_zn;
     r_35 = r_62;
     goto l_arm_65;
 l_core_gy:;
@@ -1195,14 +1195,14 @@ static u8 core_fmt_formatter_Formatter_write_char_n_times_bf264a_5c1f4f90(u8 *a_
     u8 r_3c;
     u64 r_te;
     u8 *r_xw;
-    u64 r_38_4;
-    u8 *r_89_2;
-    u8 r_ts_4;
+    u64 r_38_2;
+    u8 *r_89_1;
+    u8 r_ts;
     u8 *r_ym_2;
     u8 *r_1x_2;
     u64 r_9x;
     u64 r_9w;
-    u64 r_uj_1;
+    u64 r_uj;
     u8 *r_35;
     u8 *r_62_2;
     u64 r_zn;
@@ -1232,9 +1232,9 @@ l_arm_td:;
     if (!(r_pv > 1023ull)) { r_km = r_pv; goto l_std_41; }
     u8 r_09 = std_io_io_buffer_Buffer_flush(a_1);
     if (!r_09) { r_ww = 1u; goto l_core_2s; }
-    u64 r_38_1 = ld64(r_ym);
-    if (r_38_1 > 1023ull) { r_ww = 1u; goto l_core_2s; }
-    r_km = r_38_1;
+    u64 r_38 = ld64(r_ym);
+    if (r_38 > 1023ull) { r_ww = 1u; goto l_core_2s; }
+    r_km = r_38;
 l_std_41:;
     st8((r_1x + (i64)(r_km)), r_47);
     u64 r_c4 = (r_km + 1ull);
@@ -1265,9 +1265,9 @@ l_arm_td_1:;
     if (!(r_pv_1 > 1023ull)) { r_km_1 = r_pv_1; goto l_std_41_1; }
     u8 r_09_1 = std_io_io_buffer_Buffer_flush(a_1);
     if (!r_09_1) { r_ww = 1u; goto l_core_2s; }
-    u64 r_38_3 = ld64(r_ym_1);
-    if (r_38_3 > 1023ull) { r_ww = 1u; goto l_core_2s; }
-    r_km_1 = r_38_3;
+    u64 r_38_1 = ld64(r_ym_1);
+    if (r_38_1 > 1023ull) { r_ww = 1u; goto l_core_2s; }
+    r_km_1 = r_38_1;
 l_std_41_1:;
     st8((r_1x_1 + (i64)(r_km_1)), r_47_1);
     u64 r_c4_1 = (r_km_1 + 1ull);
@@ -1319,39 +1319,39 @@ l_core_kp:;
     core_str_utf8_from_utf8(slot_3, slot_2, r_te);
     if (!(ld8(slot_3) == 0u)) { r_fk = 1u; goto l_return_ri; }
     r_xw = ldp((slot_3 + 8));
-    r_38_4 = ld64((slot_3 + 16));
-    r_89_2 = away(a_1, 1160ull);
-    r_ts_4 = (r_38_4 == 0ull);
+    r_38_2 = ld64((slot_3 + 16));
+    r_89_1 = away(a_1, 1160ull);
+    r_ts = (r_38_2 == 0ull);
     r_ym_2 = away(a_1, 1032ull);
     r_1x_2 = away(a_1, 4ull);
     r_9x = 0ull;
 l_join_de:;
-    if (!(ld64(r_89_2) == 0ull)) goto l_core_tj;
-    if (r_ts_4) goto l_arm_90;
+    if (!(ld64(r_89_1) == 0ull)) goto l_core_tj;
+    if (r_ts) goto l_arm_90;
     r_9w = ld64(r_ym_2);
-    r_uj_1 = r_38_4;
+    r_uj = r_38_2;
     r_35 = r_xw;
 l_arm_65:;
     r_62_2 = away(r_35, 1ull);
-    r_zn = (r_uj_1 + 0xffffffffffffffffull);
+    r_zn = (r_uj + 0xffffffffffffffffull);
     r_47_2 = ld8(r_35);
     if (!(r_9w > 1023ull)) { r_km_2 = r_9w; goto l_std_41_2; }
     u8 r_ba = std_io_io_buffer_Buffer_flush(a_1);
     if (!r_ba) { r_fk = 1u; goto l_return_ri; }
-    u64 r_38_6 = ld64(r_ym_2);
-    if (r_38_6 > 1023ull) { r_fk = 1u; goto l_return_ri; }
-    r_km_2 = r_38_6;
+    u64 r_38_3 = ld64(r_ym_2);
+    if (r_38_3 > 1023ull) { r_fk = 1u; goto l_return_ri; }
+    r_km_2 = r_38_3;
 l_std_41_2:;
     st8((r_1x_2 + (i64)(r_km_2)), r_47_2);
     u64 r_c4_2 = (r_km_2 + 1ull);
     st64(r_ym_2, r_c4_2);
     if (r_zn == 0ull) goto l_arm_90;
     r_9w = r_c4_2;
-    r_uj_1 = r_zn;
+    r_uj = r_zn;
     r_35 = r_62_2;
     goto l_arm_65;
 l_core_tj:;
-    u8 r_a0 = core_fmt_formatter_Formatter_write_indented_bf264aed5fa78656(a_1, r_xw, r_38_4);
+    u8 r_a0 = core_fmt_formatter_Formatter_write_indented_bf264aed5fa78656(a_1, r_xw, r_38_2);
     if ((u8)(r_a0 & 1)) { r_fk = 1u; goto l_return_ri; }
 l_arm_90:;
     u64 r_36 = (r_9x + 1ull);
@@ -1377,8 +1377,8 @@ NEVER COLD u8 core_fmt_formatter_Formatter_write_indented_b6936a32b1fe2110(u8 *a
 l_core_q2:;
     r_36 = (r_11 + 1ull);
     if (!(ld8((a_2 + (i64)(r_11))) == 10u)) { r_9y = r_4q; goto l_join_lk; }
-    u8 r_8z_1 = core_fmt_formatter_Formatter_write_indented_line_b6936_43eaca3d(a_1, away(a_2, ((r_4q > r_36) ? 0ull : r_4q)), usub_sat64(r_36, r_4q), 1u);
-    if ((u8)(r_8z_1 & 1)) { r_fk = 1u; goto l_return_ri; }
+    u8 r_8z = core_fmt_formatter_Formatter_write_indented_line_b6936_43eaca3d(a_1, away(a_2, ((r_4q > r_36) ? 0ull : r_4q)), usub_sat64(r_36, r_4q), 1u);
+    if ((u8)(r_8z & 1)) { r_fk = 1u; goto l_return_ri; }
     r_9y = r_36;
 l_join_lk:;
     if (r_36 == a_3) { r_c4 = r_9y; goto l_after_xu; }
@@ -1410,7 +1410,7 @@ static u8 core_fmt_formatter_Formatter_write_indented_line_b6936_43eaca3d(u8 *a_
     u64 r_fj;
     u64 r_zx;
     u8 *r_fx_1;
-    u8 *r_2b_1;
+    u8 *r_2b;
     u64 r_31;
     u8 r_fk;
     if (a_3 == 0ull) { r_fk = 0u; goto l_return_ri; }
@@ -1455,12 +1455,12 @@ l_join_8y:;
     r_zx = (r_fj + a_3);
     r_fx_1 = ldp(a_1);
     memset(r_rq_1, 0u, 16);
-    r_2b_1 = away(r_fx_1, r_fj);
-    if (((u64)(uptr)r_2b_1 - (u64)(uptr)a_2) < a_3) { r_31 = 0ull; goto l_join_sz; }
-    memmove_or_none(r_2b_1, a_2, a_3);
+    r_2b = away(r_fx_1, r_fj);
+    if (((u64)(uptr)r_2b - (u64)(uptr)a_2) < a_3) { r_31 = 0ull; goto l_join_sz; }
+    memmove_or_none(r_2b, a_2, a_3);
     goto l_core_x2;
 l_join_sz:;
-    st8((r_2b_1 + (i64)(r_31)), ld8((a_2 + (i64)(r_31))));
+    st8((r_2b + (i64)(r_31)), ld8((a_2 + (i64)(r_31))));
     u64 r_36_1 = (r_31 + 1ull);
     if (!(r_36_1 == a_3)) { r_31 = r_36_1; goto l_join_sz; }
 l_core_x2:;
@@ -1497,17 +1497,17 @@ static u8 core_fmt_formatter_Formatter_write_char_n_times_b6936a_f8339ab4(u8 *a_
     u8 r_3c;
     u64 r_te;
     u8 *r_xw;
-    u64 r_38_4;
-    u8 *r_t9_4;
+    u64 r_38;
+    u8 *r_t9_1;
     u8 *r_08_2;
     u8 *r_rq_2;
     u64 r_tz;
     u64 r_9x_1;
     u64 r_18;
     u64 r_2p;
-    u64 r_5q_1;
+    u64 r_5q;
     u8 *r_fx_2;
-    u8 *r_2b_2;
+    u8 *r_2b;
     u64 r_il;
     u8 r_fk;
     memset(slot_3, 0u, 24);
@@ -1523,9 +1523,9 @@ static u8 core_fmt_formatter_Formatter_write_char_n_times_b6936a_f8339ab4(u8 *a_
     r_9x = a_3;
 l_join_de:;
     if (!(ld64(r_t9) == 0ull)) goto l_core_t8;
-    u64 r_52_1 = ld64(r_08);
-    u64 r_52_2 = ld64(r_rq);
-    if (!((r_52_1 - r_52_2) < 16ull)) { r_3h = r_52_1; r_fu = r_52_2; goto l_join_1j; }
+    u64 r_52 = ld64(r_08);
+    u64 r_52_1 = ld64(r_rq);
+    if (!((r_52 - r_52_1) < 16ull)) { r_3h = r_52; r_fu = r_52_1; goto l_join_1j; }
     u8 r_s8 = std_alloc_vec_Vec_grow_amortized_f0820c3131a574aa(a_1, 16ull);
     if (!r_s8) { r_ww = 1u; goto l_core_2s; }
     r_3h = ld64(r_08);
@@ -1547,10 +1547,10 @@ l_arm_wa:;
 l_after_ip:;
     if (!(ld64(away(a_1, 48ull)) == 0ull)) goto l_else_ug;
     r_08_1 = away(a_1, 16ull);
-    u64 r_52_4 = ld64(r_08_1);
+    u64 r_52_2 = ld64(r_08_1);
     r_rq_1 = away(a_1, 8ull);
-    u64 r_52_5 = ld64(r_rq_1);
-    if (!(r_ls > (r_52_4 - r_52_5))) { r_kp = r_52_4; r_ai = r_52_5; goto l_join_o0; }
+    u64 r_52_3 = ld64(r_rq_1);
+    if (!(r_ls > (r_52_2 - r_52_3))) { r_kp = r_52_2; r_ai = r_52_3; goto l_join_o0; }
     u8 r_6p = std_alloc_vec_Vec_grow_amortized_f0820c3131a574aa(a_1, r_ls);
     if (!r_6p) { r_ww = 1u; goto l_core_2s; }
     r_kp = ld64(r_08_1);
@@ -1605,40 +1605,40 @@ l_core_kp:;
     core_str_utf8_from_utf8(slot_3, slot_2, r_te);
     if (!(ld8(slot_3) == 0u)) { r_fk = 1u; goto l_return_ri; }
     r_xw = ldp((slot_3 + 8));
-    r_38_4 = ld64((slot_3 + 16));
-    r_t9_4 = away(a_1, 48ull);
+    r_38 = ld64((slot_3 + 16));
+    r_t9_1 = away(a_1, 48ull);
     r_08_2 = away(a_1, 16ull);
     r_rq_2 = away(a_1, 8ull);
     r_tz = (u64)(uptr)r_xw;
     r_9x_1 = 0ull;
 l_join_de_1:;
-    if (!(ld64(r_t9_4) == 0ull)) goto l_core_ac;
-    u64 r_52_7 = ld64(r_08_2);
-    u64 r_52_8 = ld64(r_rq_2);
-    if (!(r_38_4 > (r_52_7 - r_52_8))) { r_18 = r_52_7; r_2p = r_52_8; goto l_join_ep; }
-    u8 r_6p_1 = std_alloc_vec_Vec_grow_amortized_f0820c3131a574aa(a_1, r_38_4);
+    if (!(ld64(r_t9_1) == 0ull)) goto l_core_ac;
+    u64 r_52_4 = ld64(r_08_2);
+    u64 r_52_5 = ld64(r_rq_2);
+    if (!(r_38 > (r_52_4 - r_52_5))) { r_18 = r_52_4; r_2p = r_52_5; goto l_join_ep; }
+    u8 r_6p_1 = std_alloc_vec_Vec_grow_amortized_f0820c3131a574aa(a_1, r_38);
     if (!r_6p_1) { r_fk = 1u; goto l_return_ri; }
     r_18 = ld64(r_08_2);
     r_2p = ld64(r_rq_2);
 l_join_ep:;
-    r_5q_1 = (r_2p + r_38_4);
+    r_5q = (r_2p + r_38);
     r_fx_2 = ldp(a_1);
     memset(r_rq_2, 0u, 16);
-    r_2b_2 = away(r_fx_2, r_2p);
-    if (((u64)(uptr)r_2b_2 - r_tz) < r_38_4) { r_il = 0ull; goto l_join_fh; }
-    memmove_or_none(r_2b_2, r_xw, r_38_4);
+    r_2b = away(r_fx_2, r_2p);
+    if (((u64)(uptr)r_2b - r_tz) < r_38) { r_il = 0ull; goto l_join_fh; }
+    memmove_or_none(r_2b, r_xw, r_38);
     goto l_core_aw;
 l_join_fh:;
-    st8((r_2b_2 + (i64)(r_il)), ld8((r_xw + (i64)(r_il))));
+    st8((r_2b + (i64)(r_il)), ld8((r_xw + (i64)(r_il))));
     u64 r_36 = (r_il + 1ull);
-    if (!(r_36 == r_38_4)) { r_il = r_36; goto l_join_fh; }
+    if (!(r_36 == r_38)) { r_il = r_36; goto l_join_fh; }
 l_core_aw:;
     stp(a_1, r_fx_2);
-    st64(r_rq_2, r_5q_1);
+    st64(r_rq_2, r_5q);
     st64(r_08_2, r_18);
     goto l_arm_90;
 l_core_ac:;
-    u8 r_e9 = core_fmt_formatter_Formatter_write_indented_b6936a32b1fe2110(a_1, r_xw, r_38_4);
+    u8 r_e9 = core_fmt_formatter_Formatter_write_indented_b6936a32b1fe2110(a_1, r_xw, r_38);
     if ((u8)(r_e9 & 1)) { r_fk = 1u; goto l_return_ri; }
 l_arm_90:;
     u64 r_36_1 = (r_9x_1 + 1ull);
@@ -1663,7 +1663,7 @@ NEVER u8 core_fmt_formatter_Formatter_cut_and_fill_b6936a32b1fe2110(u8 *a_1, u8 
     u64 r_ib;
     u64 r_dr;
     u64 r_ov;
-    u32 r_yf_1;
+    u32 r_yf;
     u64 r_fq;
     u32 r_v0;
     u8 *r_08;
@@ -1728,19 +1728,19 @@ l_core_h6:;
 l_then_j0:;
     r_ov = (u64)(r_dr >> 1ull);
 l_core_yu:;
-    r_yf_1 = ld32(r_xz);
-    if (r_ov == 0ull) { r_fq = 0ull; r_v0 = r_yf_1; goto l_arm_4x; }
-    u8 r_pr = core_fmt_formatter_Formatter_write_char_n_times_b6936a_f8339ab4(a_1, r_yf_1, r_ov);
+    r_yf = ld32(r_xz);
+    if (r_ov == 0ull) { r_fq = 0ull; r_v0 = r_yf; goto l_arm_4x; }
+    u8 r_pr = core_fmt_formatter_Formatter_write_char_n_times_b6936a_f8339ab4(a_1, r_yf, r_ov);
     if ((u8)(r_pr & 1)) { r_fk = 1u; goto l_return_ri; }
     r_fq = r_ov;
-    r_v0 = r_yf_1;
+    r_v0 = r_yf;
 l_arm_4x:;
     if (!(ld64(away(a_1, 48ull)) == 0ull)) goto l_core_4s;
     r_08 = away(a_1, 16ull);
-    u64 r_52_3 = ld64(r_08);
+    u64 r_52_2 = ld64(r_08);
     r_rq = away(a_1, 8ull);
-    u64 r_52_4 = ld64(r_rq);
-    if (!(common_yk > (r_52_3 - r_52_4))) { r_m0 = r_52_3; r_ib_1 = r_52_4; goto l_join_nd; }
+    u64 r_52_3 = ld64(r_rq);
+    if (!(common_yk > (r_52_2 - r_52_3))) { r_m0 = r_52_2; r_ib_1 = r_52_3; goto l_join_nd; }
     u8 r_3w = std_alloc_vec_Vec_grow_amortized_f0820c3131a574aa(a_1, common_yk);
     if (!r_3w) { r_fk = 1u; goto l_return_ri; }
     r_m0 = ld64(r_08);
@@ -1787,18 +1787,18 @@ u8 core_fmt_formatter_Formatter_write_piece_cd5e334430faecd3(u8 *a_1, u8 *a_2)
     u64 r_sm;
     u64 common_35;
     u64 r_38;
-    u8 *r_58;
+    u8 *r_uw;
     u64 r_vj;
-    u32 r_yf_1;
-    u8 *r_89_1;
+    u32 r_yf;
+    u8 *r_89;
     u8 *r_ym;
     u8 *r_1x;
     u64 r_9w;
     u64 r_uj;
     u8 *r_35;
     u8 *r_62;
-    u64 r_zn_1;
-    u8 r_47_3;
+    u64 r_zn;
+    u8 r_47;
     u64 r_km;
     u8 *r_ym_1;
     u8 *r_1x_1;
@@ -1807,7 +1807,7 @@ u8 core_fmt_formatter_Formatter_write_piece_cd5e334430faecd3(u8 *a_1, u8 *a_2)
     u8 *r_w9;
     u8 *r_62_1;
     u64 r_0f;
-    u8 r_47_4;
+    u8 r_47_1;
     u64 r_km_1;
     u8 r_06;
     u64 r_10;
@@ -1825,401 +1825,401 @@ u8 core_fmt_formatter_Formatter_write_piece_cd5e334430faecd3(u8 *a_1, u8 *a_2)
     u64 r_uj_1;
     u8 *r_35_1;
     u8 *r_62_2;
-    u64 r_zn_3;
-    u8 r_47_5;
+    u64 r_zn_2;
+    u8 r_47_2;
     u64 r_km_2;
     u8 *r_ym_3;
     u8 *r_1x_3;
     u64 r_lb_1;
     u8 r_ot;
-    u8 r_47_6;
-    u8 r_ts_9;
+    u8 r_47_3;
+    u8 r_ts;
     u8 *r_ym_4;
     u8 *r_1x_4;
     u64 r_pv_1;
     u64 r_m0_1;
     u8 *r_w9_1;
-    u8 *r_62_4;
+    u8 *r_62_3;
     u64 r_0f_1;
-    u8 r_47_7;
+    u8 r_47_4;
     u64 r_km_3;
     u8 *r_ym_5;
     u8 *r_1x_5;
     u64 r_pv_2;
     u64 r_m0_2;
     u8 *r_w9_2;
-    u8 *r_62_5;
+    u8 *r_62_4;
     u64 r_0f_2;
-    u8 r_47_8;
+    u8 r_47_5;
     u64 r_km_4;
     u8 *r_ym_6;
     u8 *r_1x_6;
     u64 r_pv_3;
     u64 r_m0_3;
     u8 *r_w9_3;
-    u8 *r_62_6;
+    u8 *r_62_5;
     u64 r_0f_3;
-    u8 r_47_9;
+    u8 r_47_6;
     u64 r_km_5;
     u8 *r_ym_7;
     u8 *r_1x_7;
     u64 r_pv_4;
     u64 r_m0_4;
     u8 *r_w9_4;
-    u8 *r_62_7;
+    u8 *r_62_6;
     u64 r_0f_4;
-    u8 r_47_10;
+    u8 r_47_7;
     u64 r_km_6;
     u8 *r_ym_8;
     u8 *r_1x_8;
     u64 r_pv_5;
     u64 r_m0_5;
     u8 *r_w9_5;
-    u8 *r_62_8;
+    u8 *r_62_7;
     u64 r_0f_5;
-    u8 r_47_11;
+    u8 r_47_8;
     u64 r_km_7;
     u8 *r_ym_9;
     u8 *r_1x_9;
     u64 r_pv_6;
     u64 r_m0_6;
     u8 *r_w9_6;
-    u8 *r_62_9;
+    u8 *r_62_8;
     u64 r_0f_6;
-    u8 r_47_12;
+    u8 r_47_9;
     u64 r_km_8;
     u8 *r_ym_10;
     u8 *r_1x_10;
     u64 r_pv_7;
     u64 r_m0_7;
     u8 *r_w9_7;
-    u8 *r_62_10;
+    u8 *r_62_9;
     u64 r_0f_7;
-    u8 r_47_13;
+    u8 r_47_10;
     u64 r_km_9;
     u8 *r_ym_11;
     u8 *r_1x_11;
     u64 r_pv_8;
     u64 r_m0_8;
     u8 *r_w9_8;
-    u8 *r_62_11;
+    u8 *r_62_10;
     u64 r_0f_8;
-    u8 r_47_14;
+    u8 r_47_11;
     u64 r_km_10;
     u8 *r_ym_12;
     u8 *r_1x_12;
     u64 r_pv_9;
     u64 r_m0_9;
     u8 *r_w9_9;
-    u8 *r_62_12;
+    u8 *r_62_11;
     u64 r_0f_9;
-    u8 r_47_15;
+    u8 r_47_12;
     u64 r_km_11;
     u8 *r_ym_13;
     u8 *r_1x_13;
     u64 r_pv_10;
     u64 r_m0_10;
     u8 *r_w9_10;
-    u8 *r_62_13;
+    u8 *r_62_12;
     u64 r_0f_10;
-    u8 r_47_16;
+    u8 r_47_13;
     u64 r_km_12;
     u8 *r_ym_14;
     u8 *r_1x_14;
     u64 r_pv_11;
     u64 r_m0_11;
     u8 *r_w9_11;
-    u8 *r_62_14;
+    u8 *r_62_13;
     u64 r_0f_11;
-    u8 r_47_17;
+    u8 r_47_14;
     u64 r_km_13;
     u8 *r_ym_15;
     u8 *r_1x_15;
     u64 r_pv_12;
     u64 r_m0_12;
     u8 *r_w9_12;
-    u8 *r_62_15;
+    u8 *r_62_14;
     u64 r_0f_12;
-    u8 r_47_18;
+    u8 r_47_15;
     u64 r_km_14;
     u8 *r_ym_16;
     u8 *r_1x_16;
     u64 r_pv_13;
     u64 r_m0_13;
     u8 *r_w9_13;
-    u8 *r_62_16;
+    u8 *r_62_15;
     u64 r_0f_13;
-    u8 r_47_19;
+    u8 r_47_16;
     u64 r_km_15;
     u8 *r_ym_17;
     u8 *r_1x_17;
     u64 r_pv_14;
     u64 r_m0_14;
     u8 *r_w9_14;
-    u8 *r_62_17;
+    u8 *r_62_16;
     u64 r_0f_14;
-    u8 r_47_20;
+    u8 r_47_17;
     u64 r_km_16;
     u8 *r_ym_18;
     u8 *r_1x_18;
     u64 r_pv_15;
     u64 r_m0_15;
     u8 *r_w9_15;
-    u8 *r_62_18;
+    u8 *r_62_17;
     u64 r_0f_15;
-    u8 r_47_21;
+    u8 r_47_18;
     u64 r_km_17;
     u8 *r_ym_19;
     u8 *r_1x_19;
     u64 r_pv_16;
     u64 r_m0_16;
     u8 *r_w9_16;
-    u8 *r_62_19;
+    u8 *r_62_18;
     u64 r_0f_16;
-    u8 r_47_22;
+    u8 r_47_19;
     u64 r_km_18;
     u8 *r_ym_20;
     u8 *r_1x_20;
     u64 r_pv_17;
     u64 r_m0_17;
     u8 *r_w9_17;
-    u8 *r_62_20;
+    u8 *r_62_19;
     u64 r_0f_17;
-    u8 r_47_23;
+    u8 r_47_20;
     u64 r_km_19;
     u8 *r_ym_21;
     u8 *r_1x_21;
     u64 r_pv_18;
     u64 r_m0_18;
     u8 *r_w9_18;
-    u8 *r_62_21;
+    u8 *r_62_20;
     u64 r_0f_18;
-    u8 r_47_24;
+    u8 r_47_21;
     u64 r_km_20;
     u8 *r_ym_22;
     u8 *r_1x_22;
     u64 r_pv_19;
     u64 r_m0_19;
     u8 *r_w9_19;
-    u8 *r_62_22;
+    u8 *r_62_21;
     u64 r_0f_19;
-    u8 r_47_25;
+    u8 r_47_22;
     u64 r_km_21;
     u8 *r_ym_23;
     u8 *r_1x_23;
     u64 r_pv_20;
     u64 r_m0_20;
     u8 *r_w9_20;
-    u8 *r_62_23;
+    u8 *r_62_22;
     u64 r_0f_20;
-    u8 r_47_26;
+    u8 r_47_23;
     u64 r_km_22;
     u8 *r_ym_24;
     u8 *r_1x_24;
     u64 r_pv_21;
     u64 r_m0_21;
     u8 *r_w9_21;
-    u8 *r_62_24;
+    u8 *r_62_23;
     u64 r_0f_21;
-    u8 r_47_27;
+    u8 r_47_24;
     u64 r_km_23;
     u8 *r_ym_25;
     u8 *r_1x_25;
     u64 r_pv_22;
     u64 r_m0_22;
     u8 *r_w9_22;
-    u8 *r_62_25;
+    u8 *r_62_24;
     u64 r_0f_22;
-    u8 r_47_28;
+    u8 r_47_25;
     u64 r_km_24;
     u8 *r_ym_26;
     u8 *r_1x_26;
     u64 r_pv_23;
     u64 r_m0_23;
     u8 *r_w9_23;
-    u8 *r_62_26;
+    u8 *r_62_25;
     u64 r_0f_23;
-    u8 r_47_29;
+    u8 r_47_26;
     u64 r_km_25;
     u8 *r_ym_27;
     u8 *r_1x_27;
     u64 r_pv_24;
     u64 r_m0_24;
     u8 *r_w9_24;
-    u8 *r_62_27;
+    u8 *r_62_26;
     u64 r_0f_24;
-    u8 r_47_30;
+    u8 r_47_27;
     u64 r_km_26;
     u8 *r_ym_28;
     u8 *r_1x_28;
     u64 r_pv_25;
     u64 r_m0_25;
     u8 *r_w9_25;
-    u8 *r_62_28;
+    u8 *r_62_27;
     u64 r_0f_25;
-    u8 r_47_31;
+    u8 r_47_28;
     u64 r_km_27;
     u8 *r_ym_29;
     u8 *r_1x_29;
     u64 r_pv_26;
     u64 r_m0_26;
     u8 *r_w9_26;
-    u8 *r_62_29;
+    u8 *r_62_28;
     u64 r_0f_26;
-    u8 r_47_32;
+    u8 r_47_29;
     u64 r_km_28;
     u8 *r_ym_30;
     u8 *r_1x_30;
     u64 r_pv_27;
     u64 r_m0_27;
     u8 *r_w9_27;
-    u8 *r_62_30;
+    u8 *r_62_29;
     u64 r_0f_27;
-    u8 r_47_33;
+    u8 r_47_30;
     u64 r_km_29;
     u8 *r_ym_31;
     u8 *r_1x_31;
     u64 r_pv_28;
     u64 r_m0_28;
     u8 *r_w9_28;
-    u8 *r_62_31;
+    u8 *r_62_30;
     u64 r_0f_28;
-    u8 r_47_34;
+    u8 r_47_31;
     u64 r_km_30;
     u8 *r_ym_32;
     u8 *r_1x_32;
     u64 r_pv_29;
     u64 r_m0_29;
     u8 *r_w9_29;
-    u8 *r_62_32;
+    u8 *r_62_31;
     u64 r_0f_29;
-    u8 r_47_35;
+    u8 r_47_32;
     u64 r_km_31;
     u8 *r_ym_33;
     u8 *r_1x_33;
     u64 r_pv_30;
     u64 r_m0_30;
     u8 *r_w9_30;
-    u8 *r_62_33;
+    u8 *r_62_32;
     u64 r_0f_30;
-    u8 r_47_36;
+    u8 r_47_33;
     u64 r_km_32;
     u8 *r_ym_34;
     u8 *r_1x_34;
     u64 r_pv_31;
     u64 r_m0_31;
     u8 *r_w9_31;
-    u8 *r_62_34;
+    u8 *r_62_33;
     u64 r_0f_31;
-    u8 r_47_37;
+    u8 r_47_34;
     u64 r_km_33;
     u8 *r_ym_35;
     u8 *r_1x_35;
     u64 r_pv_32;
     u64 r_m0_32;
     u8 *r_w9_32;
-    u8 *r_62_35;
+    u8 *r_62_34;
     u64 r_0f_32;
-    u8 r_47_38;
+    u8 r_47_35;
     u64 r_km_34;
     u8 *r_ym_36;
     u8 *r_1x_36;
     u64 r_pv_33;
     u64 r_m0_33;
     u8 *r_w9_33;
-    u8 *r_62_36;
+    u8 *r_62_35;
     u64 r_0f_33;
-    u8 r_47_39;
+    u8 r_47_36;
     u64 r_km_35;
     u8 *r_ym_37;
     u8 *r_1x_37;
     u64 r_pv_34;
     u64 r_m0_34;
     u8 *r_w9_34;
-    u8 *r_62_37;
+    u8 *r_62_36;
     u64 r_0f_34;
-    u8 r_47_40;
+    u8 r_47_37;
     u64 r_km_36;
     u8 *r_ym_38;
     u8 *r_1x_38;
     u64 r_pv_35;
     u64 r_m0_35;
     u8 *r_w9_35;
-    u8 *r_62_38;
+    u8 *r_62_37;
     u64 r_0f_35;
-    u8 r_47_41;
+    u8 r_47_38;
     u64 r_km_37;
     u8 *r_ym_39;
     u8 *r_1x_39;
     u64 r_pv_36;
     u64 r_m0_36;
     u8 *r_w9_36;
-    u8 *r_62_39;
+    u8 *r_62_38;
     u64 r_0f_36;
-    u8 r_47_42;
+    u8 r_47_39;
     u64 r_km_38;
     u8 *r_ym_40;
     u8 *r_1x_40;
     u64 r_pv_37;
     u64 r_m0_37;
     u8 *r_w9_37;
-    u8 *r_62_40;
+    u8 *r_62_39;
     u64 r_0f_37;
-    u8 r_47_43;
+    u8 r_47_40;
     u64 r_km_39;
     u8 *r_ym_41;
     u8 *r_1x_41;
     u64 r_pv_38;
     u64 r_m0_38;
     u8 *r_w9_38;
-    u8 *r_62_41;
+    u8 *r_62_40;
     u64 r_0f_38;
-    u8 r_47_44;
+    u8 r_47_41;
     u64 r_km_40;
     u8 *r_ym_42;
     u8 *r_1x_42;
     u64 r_pv_39;
     u64 r_m0_39;
     u8 *r_w9_39;
-    u8 *r_62_42;
+    u8 *r_62_41;
     u64 r_0f_39;
-    u8 r_47_45;
+    u8 r_47_42;
     u64 r_km_41;
     u8 *r_ym_43;
     u8 *r_1x_43;
     u64 r_pv_40;
     u64 r_m0_40;
     u8 *r_w9_40;
-    u8 *r_62_43;
+    u8 *r_62_42;
     u64 r_0f_40;
-    u8 r_47_46;
+    u8 r_47_43;
     u64 r_km_42;
     u8 *r_ym_44;
     u8 *r_1x_44;
     u64 r_pv_41;
     u64 r_m0_41;
     u8 *r_w9_41;
-    u8 *r_62_44;
+    u8 *r_62_43;
     u64 r_0f_41;
-    u8 r_47_47;
+    u8 r_47_44;
     u64 r_km_43;
     u8 *r_ym_45;
     u8 *r_1x_45;
     u64 r_pv_42;
     u64 r_m0_42;
     u8 *r_w9_42;
-    u8 *r_62_45;
+    u8 *r_62_44;
     u64 r_0f_42;
-    u8 r_47_48;
+    u8 r_47_45;
     u64 r_km_44;
     u8 *r_ym_46;
     u8 *r_1x_46;
     u64 r_9w_2;
     u64 r_uj_2;
     u8 *r_35_2;
-    u8 *r_62_46;
-    u64 r_zn_4;
-    u8 r_47_49;
+    u8 *r_62_45;
+    u64 r_zn_3;
+    u8 r_47_46;
     u64 r_km_45;
     u8 r_m4;
     r_p7 = away(a_1, 1136ull);
@@ -2241,32 +2241,32 @@ l_join_ow:;
     r_sm = r_c4;
     goto l_join_ow;
 l_join_x5:;
-    u64 r_52_1 = ld64(away(r_fx, 16ull));
-    u64 r_52_2 = ld64(away(r_fx, 24ull));
-    u64 r_52_3 = ld64(away(r_fx, 32ull));
-    u64 r_52_4 = ld64(away(r_fx, 40ull));
-    u64 r_52_5 = ld64(away(r_fx, 48ull));
-    u64 r_52_6 = ld64(away(r_fx, 56ull));
-    u64 r_52_7 = ld64(away(r_fx, 64ull));
-    u64 r_52_8 = ld64(away(r_fx, 72ull));
-    u64 r_52_9 = ld64(away(r_fx, 80ull));
+    u64 r_52 = ld64(away(r_fx, 16ull));
+    u64 r_52_1 = ld64(away(r_fx, 24ull));
+    u64 r_52_2 = ld64(away(r_fx, 32ull));
+    u64 r_52_3 = ld64(away(r_fx, 40ull));
+    u64 r_52_4 = ld64(away(r_fx, 48ull));
+    u64 r_52_5 = ld64(away(r_fx, 56ull));
+    u64 r_52_6 = ld64(away(r_fx, 64ull));
+    u64 r_52_7 = ld64(away(r_fx, 72ull));
+    u64 r_52_8 = ld64(away(r_fx, 80ull));
     st64(slot_3, ld64(away(r_fx, 8ull)));
-    st64((slot_3 + 8), r_52_1);
-    st64((slot_3 + 16), r_52_2);
-    st64((slot_3 + 24), r_52_3);
-    st64((slot_3 + 32), r_52_4);
-    st64((slot_3 + 40), r_52_5);
-    st64((slot_3 + 48), r_52_6);
-    st64((slot_3 + 56), r_52_7);
-    st64((slot_3 + 64), r_52_8);
-    st64((slot_3 + 72), r_52_9);
+    st64((slot_3 + 8), r_52);
+    st64((slot_3 + 16), r_52_1);
+    st64((slot_3 + 24), r_52_2);
+    st64((slot_3 + 32), r_52_3);
+    st64((slot_3 + 40), r_52_4);
+    st64((slot_3 + 48), r_52_5);
+    st64((slot_3 + 56), r_52_6);
+    st64((slot_3 + 64), r_52_7);
+    st64((slot_3 + 72), r_52_8);
     common_35 = (u64)ld8(away(r_fx, 2ull));
 l_std_xi:;
     memset(slot_1, 0u, 24);
     core_str_utf8_from_utf8(slot_1, slot_3, common_35);
     u8 t_0c = (ld8(slot_1) == 0u);
     r_38 = ld64((slot_1 + 16));
-    r_58 = (t_0c ? ldp((slot_1 + 8)) : ((u8 *)g_static_287));
+    r_uw = (t_0c ? ldp((slot_1 + 8)) : ((u8 *)g_static_297));
     r_vj = (t_0c ? r_38 : 0ull);
     switch (ld8(r_fx)) {
     case 0u: goto l_arm_cu;
@@ -2274,81 +2274,81 @@ l_std_xi:;
     default: goto l_default_5w;
     }
 l_arm_cu:;
-    r_yf_1 = ld32(away(r_fx, 4ull));
+    r_yf = ld32(away(r_fx, 4ull));
     mv24(slot_2, r_p7);
     st32(r_p7, 32u);
     memset(r_ix, 0u, 12);
     st64(r_fn, 0xffffffffffffffffull);
-    r_89_1 = away(a_1, 1160ull);
-    if (!(ld64(r_89_1) == 0ull)) goto l_core_o3;
+    r_89 = away(a_1, 1160ull);
+    if (!(ld64(r_89) == 0ull)) goto l_core_o3;
     if (r_vj == 0ull) goto l_arm_je;
     r_ym = away(a_1, 1032ull);
     r_1x = away(a_1, 4ull);
     r_9w = ld64(r_ym);
     r_uj = r_38;
-    r_35 = r_58;
+    r_35 = r_uw;
 l_arm_65:;
     r_62 = away(r_35, 1ull);
-    r_zn_1 = (r_uj + 0xffffffffffffffffull);
-    r_47_3 = ld8(r_35);
+    r_zn = (r_uj + 0xffffffffffffffffull);
+    r_47 = ld8(r_35);
     if (!(r_9w > 1023ull)) { r_km = r_9w; goto l_std_41; }
     u8 r_ba = std_io_io_buffer_Buffer_flush(a_1);
     if (!r_ba) { r_ot = 1u; goto l_core_27; }
-    u64 r_38_2 = ld64(r_ym);
-    if (r_38_2 > 1023ull) { r_ot = 1u; goto l_core_27; }
-    r_km = r_38_2;
+    u64 r_38_1 = ld64(r_ym);
+    if (r_38_1 > 1023ull) { r_ot = 1u; goto l_core_27; }
+    r_km = r_38_1;
 l_std_41:;
-    st8((r_1x + (i64)(r_km)), r_47_3);
-    u64 r_c4_2 = (r_km + 1ull);
-    st64(r_ym, r_c4_2);
-    if (r_zn_1 == 0ull) goto l_arm_ju;
-    r_9w = r_c4_2;
-    r_uj = r_zn_1;
+    st8((r_1x + (i64)(r_km)), r_47);
+    u64 r_c4_1 = (r_km + 1ull);
+    st64(r_ym, r_c4_1);
+    if (r_zn == 0ull) goto l_arm_ju;
+    r_9w = r_c4_1;
+    r_uj = r_zn;
     r_35 = r_62;
     goto l_arm_65;
 l_core_o3:;
-    u8 r_q3 = core_fmt_formatter_Formatter_write_indented_bf264aed5fa78656(a_1, r_58, r_vj);
+    u8 r_q3 = core_fmt_formatter_Formatter_write_indented_bf264aed5fa78656(a_1, r_uw, r_vj);
     if (!(r_q3 == 0u)) { r_ot = 1u; goto l_core_27; }
 l_arm_ju:;
-    u64 r_38_3 = ld64(r_89_1);
+    u64 r_38_2 = ld64(r_89);
     st32(r_p7, 32u);
     memset(r_ix, 0u, 12);
     st64(r_fn, 0xffffffffffffffffull);
-    if (!(r_38_3 == 0ull)) goto l_core_fx;
+    if (!(r_38_2 == 0ull)) goto l_core_5z;
 l_arm_je:;
     r_ym_1 = away(a_1, 1032ull);
     r_1x_1 = away(a_1, 4ull);
     r_pv = ld64(r_ym_1);
     r_m0 = 11ull;
-    r_w9 = ((u8 *)g_static_58);
+    r_w9 = ((u8 *)g_static_60);
 l_arm_td:;
     r_62_1 = away(r_w9, 1ull);
     r_0f = (r_m0 + 0xffffffffffffffffull);
-    r_47_4 = ld8(r_w9);
+    r_47_1 = ld8(r_w9);
     if (!(r_pv > 1023ull)) { r_km_1 = r_pv; goto l_std_41_1; }
     u8 r_ba_1 = std_io_io_buffer_Buffer_flush(a_1);
     if (!r_ba_1) { r_ot = 1u; goto l_core_27; }
-    u64 r_38_5 = ld64(r_ym_1);
-    if (r_38_5 > 1023ull) { r_ot = 1u; goto l_core_27; }
-    r_km_1 = r_38_5;
+    u64 r_38_3 = ld64(r_ym_1);
+    if (r_38_3 > 1023ull) { r_ot = 1u; goto l_core_27; }
+    r_km_1 = r_38_3;
 l_std_41_1:;
-    st8((r_1x_1 + (i64)(r_km_1)), r_47_4);
-    u64 r_c4_3 = (r_km_1 + 1ull);
-    st64(r_ym_1, r_c4_3);
+    st8((r_1x_1 + (i64)(r_km_1)), r_47_1);
+    u64 r_c4_2 = (r_km_1 + 1ull);
+    st64(r_ym_1, r_c4_2);
     if (r_0f == 0ull) goto l_arm_fl;
-    r_pv = r_c4_3;
+    r_pv = r_c4_2;
     r_m0 = r_0f;
     r_w9 = r_62_1;
     goto l_arm_td;
-l_core_fx:;
-    u8 r_fg = core_fmt_formatter_Formatter_write_indented_bf264aed5fa78656(a_1, ((u8 *)g_static_58), 11ull);
-    if (!(r_fg == 0u)) { r_ot = 1u; goto l_core_27; }
+l_core_5z:;
+    u8 r_9g = core_fmt_formatter_Formatter_write_indented_bf264aed5fa78656(a_1, ((u8 *)g_static_60), 11ull);
+    if (!(r_9g == 0u)) { r_ot = 1u; goto l_core_27; }
 l_arm_fl:;
     st32(r_p7, 32u);
     memset(r_ix, 0u, 12);
     st64(r_fn, 0xffffffffffffffffull);
-    r_06 = ((i32)r_yf_1 < (i32)0u);
-    u32 t_nb = abs32(r_yf_1);
+    r_06 = ((i32)r_yf < (i32)0u);
+    u32 t_nb = abs32(r_yf);
     u64 r_r5 = (u64)t_nb;
     memset(slot_1, 0u, 24);
     if (t_nb > 99u) { r_10 = 24ull; r_hc = r_r5; goto l_join_rc; }
@@ -2374,16 +2374,16 @@ l_after_6x:;
     common_1h = (r_c0 + 0xfffffffffffffffeull);
     goto l_core_14;
 l_join_qo:;
-    u64 r_zn_2 = (r_c0 + 0xffffffffffffffffull);
-    st8((slot_1 + (i64)(r_zn_2)), (u8)(r_qb_1 | 48u));
-    common_1h = r_zn_2;
+    u64 r_zn_1 = (r_c0 + 0xffffffffffffffffull);
+    st8((slot_1 + (i64)(r_zn_1)), (u8)(r_qb_1 | 48u));
+    common_1h = r_zn_1;
 l_core_14:;
     u64 r_7w = (common_1h + 0xffffffffffffffffull);
     st8((slot_1 + (i64)(r_7w)), 45u);
     r_8y = (r_06 ? r_7w : common_1h);
     r_2b = away(slot_1, r_8y);
     r_lb = (24ull - r_8y);
-    if (!(ld64(r_89_1) == 0ull)) goto l_core_z4;
+    if (!(ld64(r_89) == 0ull)) goto l_core_z4;
     if (r_8y == 24ull) goto l_core_5s;
     r_ym_2 = away(a_1, 1032ull);
     r_1x_2 = away(a_1, 4ull);
@@ -2392,19 +2392,19 @@ l_core_14:;
     r_35_1 = r_2b;
 l_arm_65_1:;
     r_62_2 = away(r_35_1, 1ull);
-    r_zn_3 = (r_uj_1 + 0xffffffffffffffffull);
-    r_47_5 = ld8(r_35_1);
+    r_zn_2 = (r_uj_1 + 0xffffffffffffffffull);
+    r_47_2 = ld8(r_35_1);
     if (!(r_9w_1 > 1023ull)) { r_km_2 = r_9w_1; goto l_std_41_2; }
     u8 r_ba_2 = std_io_io_buffer_Buffer_flush(a_1);
     if (!r_ba_2) goto l_core_8y;
-    u64 r_38_7 = ld64(r_ym_2);
-    if (r_38_7 > 1023ull) goto l_core_8y;
-    r_km_2 = r_38_7;
+    u64 r_38_4 = ld64(r_ym_2);
+    if (r_38_4 > 1023ull) goto l_core_8y;
+    r_km_2 = r_38_4;
 l_std_41_2:;
-    st8((r_1x_2 + (i64)(r_km_2)), r_47_5);
-    u64 r_c4_4 = (r_km_2 + 1ull);
-    st64(r_ym_2, r_c4_4);
-    if (!(r_zn_3 == 0ull)) { r_9w_1 = r_c4_4; r_uj_1 = r_zn_3; r_35_1 = r_62_2; goto l_arm_65_1; }
+    st8((r_1x_2 + (i64)(r_km_2)), r_47_2);
+    u64 r_c4_3 = (r_km_2 + 1ull);
+    st64(r_ym_2, r_c4_3);
+    if (!(r_zn_2 == 0ull)) { r_9w_1 = r_c4_3; r_uj_1 = r_zn_2; r_35_1 = r_62_2; goto l_arm_65_1; }
 l_core_5s:;
     goto l_arm_y8;
 l_core_8y:;
@@ -2417,30 +2417,30 @@ l_arm_y8:;
     st32(r_p7, 32u);
     memset(r_ix, 0u, 12);
     st64(r_fn, 0xffffffffffffffffull);
-    if (!(ld64(r_89_1) == 0ull)) goto l_else_ts;
+    if (!(ld64(r_89) == 0ull)) goto l_else_g8;
     r_ym_3 = away(a_1, 1032ull);
     r_1x_3 = away(a_1, 4ull);
-    u64 r_38_8 = ld64(r_ym_3);
-    if (!(r_38_8 > 1023ull)) { r_lb_1 = r_38_8; goto l_std_ix; }
+    u64 r_38_5 = ld64(r_ym_3);
+    if (!(r_38_5 > 1023ull)) { r_lb_1 = r_38_5; goto l_std_ix; }
     u8 r_ba_3 = std_io_io_buffer_Buffer_flush(a_1);
     if (!r_ba_3) { r_ot = 1u; goto l_core_27; }
-    u64 r_38_9 = ld64(r_ym_3);
-    if (r_38_9 > 1023ull) { r_ot = 1u; goto l_core_27; }
-    r_lb_1 = r_38_9;
+    u64 r_38_6 = ld64(r_ym_3);
+    if (r_38_6 > 1023ull) { r_ot = 1u; goto l_core_27; }
+    r_lb_1 = r_38_6;
 l_std_ix:;
     st8((r_1x_3 + (i64)(r_lb_1)), 41u);
     st64(r_ym_3, (r_lb_1 + 1ull));
     r_ot = 0u;
     goto l_core_27;
-l_else_ts:;
-    u8 r_2w = core_fmt_formatter_Formatter_write_indented_bf264aed5fa78656(a_1, ((u8 *)g_static_59), 1ull);
-    r_ot = r_2w;
+l_else_g8:;
+    u8 r_ly = core_fmt_formatter_Formatter_write_indented_bf264aed5fa78656(a_1, ((u8 *)g_static_61), 1ull);
+    r_ot = r_ly;
 l_core_27:;
     mv24(r_p7, slot_2);
     r_m4 = r_ot;
     goto l_std_lh;
 l_arm_ks:;
-    r_47_6 = ld8(away(r_fx, 1ull));
+    r_47_3 = ld8(away(r_fx, 1ull));
     st8(slot_1, 0u);
     st8((slot_1 + 1), 1u);
     st8((slot_1 + 2), 2u);
@@ -2482,12 +2482,12 @@ l_arm_ks:;
     st8((slot_1 + 38), 38u);
     st8((slot_1 + 39), 39u);
     st8((slot_1 + 40), 40u);
-    if (r_47_6 < 41u) goto l_std_87;
+    if (r_47_3 < 41u) goto l_std_87;
     if (ld64(away(a_1, 1160ull)) == 0ull) goto l_then_je;
-    goto l_else_tm;
+    goto l_else_zk;
 l_std_87:;
-    r_ts_9 = (ld64(away(a_1, 1160ull)) == 0ull);
-    switch (ld8((slot_1 + (i64)((u64)r_47_6)))) {
+    r_ts = (ld64(away(a_1, 1160ull)) == 0ull);
+    switch (ld8((slot_1 + (i64)((u64)r_47_3)))) {
     case 0u: goto l_arm_lx;
     case 1u: goto l_arm_lx_1;
     case 2u: goto l_arm_lx_2;
@@ -2533,1265 +2533,1265 @@ l_std_87:;
     default: goto l_noarm_e1;
     }
 l_arm_lx:;
-    if (!r_ts_9) goto l_else_ti;
+    if (!r_ts) goto l_else_s0;
     r_ym_4 = away(a_1, 1032ull);
     r_1x_4 = away(a_1, 4ull);
     r_pv_1 = ld64(r_ym_4);
     r_m0_1 = 16ull;
-    r_w9_1 = ((u8 *)g_static_62);
+    r_w9_1 = ((u8 *)g_static_64);
 l_arm_td_1:;
-    r_62_4 = away(r_w9_1, 1ull);
+    r_62_3 = away(r_w9_1, 1ull);
     r_0f_1 = (r_m0_1 + 0xffffffffffffffffull);
-    r_47_7 = ld8(r_w9_1);
+    r_47_4 = ld8(r_w9_1);
     if (!(r_pv_1 > 1023ull)) { r_km_3 = r_pv_1; goto l_std_41_3; }
     u8 r_ba_4 = std_io_io_buffer_Buffer_flush(a_1);
     if (!r_ba_4) { r_m4 = 1u; goto l_std_lh; }
-    u64 r_38_11 = ld64(r_ym_4);
-    if (r_38_11 > 1023ull) { r_m4 = 1u; goto l_std_lh; }
-    r_km_3 = r_38_11;
+    u64 r_38_7 = ld64(r_ym_4);
+    if (r_38_7 > 1023ull) { r_m4 = 1u; goto l_std_lh; }
+    r_km_3 = r_38_7;
 l_std_41_3:;
-    st8((r_1x_4 + (i64)(r_km_3)), r_47_7);
-    u64 r_c4_7 = (r_km_3 + 1ull);
-    st64(r_ym_4, r_c4_7);
+    st8((r_1x_4 + (i64)(r_km_3)), r_47_4);
+    u64 r_c4_4 = (r_km_3 + 1ull);
+    st64(r_ym_4, r_c4_4);
     if (r_0f_1 == 0ull) { r_m4 = 0u; goto l_std_lh; }
-    r_pv_1 = r_c4_7;
+    r_pv_1 = r_c4_4;
     r_m0_1 = r_0f_1;
-    r_w9_1 = r_62_4;
+    r_w9_1 = r_62_3;
     goto l_arm_td_1;
-l_else_ti:;
-    u8 r_kb_2 = core_fmt_formatter_Formatter_write_indented_bf264aed5fa78656(a_1, ((u8 *)g_static_62), 16ull);
-    r_m4 = r_kb_2;
+l_else_s0:;
+    u8 r_xp = core_fmt_formatter_Formatter_write_indented_bf264aed5fa78656(a_1, ((u8 *)g_static_64), 16ull);
+    r_m4 = r_xp;
     goto l_std_lh;
 l_arm_lx_1:;
-    if (!r_ts_9) goto l_else_ld;
+    if (!r_ts) goto l_else_8e;
     r_ym_5 = away(a_1, 1032ull);
     r_1x_5 = away(a_1, 4ull);
     r_pv_2 = ld64(r_ym_5);
     r_m0_2 = 17ull;
-    r_w9_2 = ((u8 *)g_static_63);
+    r_w9_2 = ((u8 *)g_static_65);
 l_arm_td_2:;
-    r_62_5 = away(r_w9_2, 1ull);
+    r_62_4 = away(r_w9_2, 1ull);
     r_0f_2 = (r_m0_2 + 0xffffffffffffffffull);
-    r_47_8 = ld8(r_w9_2);
+    r_47_5 = ld8(r_w9_2);
     if (!(r_pv_2 > 1023ull)) { r_km_4 = r_pv_2; goto l_std_41_4; }
     u8 r_ba_5 = std_io_io_buffer_Buffer_flush(a_1);
     if (!r_ba_5) { r_m4 = 1u; goto l_std_lh; }
-    u64 r_38_13 = ld64(r_ym_5);
-    if (r_38_13 > 1023ull) { r_m4 = 1u; goto l_std_lh; }
-    r_km_4 = r_38_13;
+    u64 r_38_8 = ld64(r_ym_5);
+    if (r_38_8 > 1023ull) { r_m4 = 1u; goto l_std_lh; }
+    r_km_4 = r_38_8;
 l_std_41_4:;
-    st8((r_1x_5 + (i64)(r_km_4)), r_47_8);
-    u64 r_c4_8 = (r_km_4 + 1ull);
-    st64(r_ym_5, r_c4_8);
+    st8((r_1x_5 + (i64)(r_km_4)), r_47_5);
+    u64 r_c4_5 = (r_km_4 + 1ull);
+    st64(r_ym_5, r_c4_5);
     if (r_0f_2 == 0ull) { r_m4 = 0u; goto l_std_lh; }
-    r_pv_2 = r_c4_8;
+    r_pv_2 = r_c4_5;
     r_m0_2 = r_0f_2;
-    r_w9_2 = r_62_5;
+    r_w9_2 = r_62_4;
     goto l_arm_td_2;
-l_else_ld:;
-    u8 r_n4 = core_fmt_formatter_Formatter_write_indented_bf264aed5fa78656(a_1, ((u8 *)g_static_63), 17ull);
-    r_m4 = r_n4;
+l_else_8e:;
+    u8 r_am = core_fmt_formatter_Formatter_write_indented_bf264aed5fa78656(a_1, ((u8 *)g_static_65), 17ull);
+    r_m4 = r_am;
     goto l_std_lh;
 l_arm_lx_2:;
-    if (!r_ts_9) goto l_else_3o;
+    if (!r_ts) goto l_else_cg;
     r_ym_6 = away(a_1, 1032ull);
     r_1x_6 = away(a_1, 4ull);
     r_pv_3 = ld64(r_ym_6);
     r_m0_3 = 18ull;
-    r_w9_3 = ((u8 *)g_static_64);
+    r_w9_3 = ((u8 *)g_static_66);
 l_arm_td_3:;
-    r_62_6 = away(r_w9_3, 1ull);
+    r_62_5 = away(r_w9_3, 1ull);
     r_0f_3 = (r_m0_3 + 0xffffffffffffffffull);
-    r_47_9 = ld8(r_w9_3);
+    r_47_6 = ld8(r_w9_3);
     if (!(r_pv_3 > 1023ull)) { r_km_5 = r_pv_3; goto l_std_41_5; }
     u8 r_ba_6 = std_io_io_buffer_Buffer_flush(a_1);
     if (!r_ba_6) { r_m4 = 1u; goto l_std_lh; }
-    u64 r_38_15 = ld64(r_ym_6);
-    if (r_38_15 > 1023ull) { r_m4 = 1u; goto l_std_lh; }
-    r_km_5 = r_38_15;
+    u64 r_38_9 = ld64(r_ym_6);
+    if (r_38_9 > 1023ull) { r_m4 = 1u; goto l_std_lh; }
+    r_km_5 = r_38_9;
 l_std_41_5:;
-    st8((r_1x_6 + (i64)(r_km_5)), r_47_9);
-    u64 r_c4_9 = (r_km_5 + 1ull);
-    st64(r_ym_6, r_c4_9);
+    st8((r_1x_6 + (i64)(r_km_5)), r_47_6);
+    u64 r_c4_6 = (r_km_5 + 1ull);
+    st64(r_ym_6, r_c4_6);
     if (r_0f_3 == 0ull) { r_m4 = 0u; goto l_std_lh; }
-    r_pv_3 = r_c4_9;
+    r_pv_3 = r_c4_6;
     r_m0_3 = r_0f_3;
-    r_w9_3 = r_62_6;
+    r_w9_3 = r_62_5;
     goto l_arm_td_3;
-l_else_3o:;
-    u8 r_cc = core_fmt_formatter_Formatter_write_indented_bf264aed5fa78656(a_1, ((u8 *)g_static_64), 18ull);
-    r_m4 = r_cc;
+l_else_cg:;
+    u8 r_0h = core_fmt_formatter_Formatter_write_indented_bf264aed5fa78656(a_1, ((u8 *)g_static_66), 18ull);
+    r_m4 = r_0h;
     goto l_std_lh;
 l_arm_lx_3:;
-    if (!r_ts_9) goto l_else_r0;
+    if (!r_ts) goto l_else_ov;
     r_ym_7 = away(a_1, 1032ull);
     r_1x_7 = away(a_1, 4ull);
     r_pv_4 = ld64(r_ym_7);
     r_m0_4 = 16ull;
-    r_w9_4 = ((u8 *)g_static_65);
+    r_w9_4 = ((u8 *)g_static_67);
 l_arm_td_4:;
-    r_62_7 = away(r_w9_4, 1ull);
+    r_62_6 = away(r_w9_4, 1ull);
     r_0f_4 = (r_m0_4 + 0xffffffffffffffffull);
-    r_47_10 = ld8(r_w9_4);
+    r_47_7 = ld8(r_w9_4);
     if (!(r_pv_4 > 1023ull)) { r_km_6 = r_pv_4; goto l_std_41_6; }
     u8 r_ba_7 = std_io_io_buffer_Buffer_flush(a_1);
     if (!r_ba_7) { r_m4 = 1u; goto l_std_lh; }
-    u64 r_38_17 = ld64(r_ym_7);
-    if (r_38_17 > 1023ull) { r_m4 = 1u; goto l_std_lh; }
-    r_km_6 = r_38_17;
+    u64 r_38_10 = ld64(r_ym_7);
+    if (r_38_10 > 1023ull) { r_m4 = 1u; goto l_std_lh; }
+    r_km_6 = r_38_10;
 l_std_41_6:;
-    st8((r_1x_7 + (i64)(r_km_6)), r_47_10);
-    u64 r_c4_10 = (r_km_6 + 1ull);
-    st64(r_ym_7, r_c4_10);
+    st8((r_1x_7 + (i64)(r_km_6)), r_47_7);
+    u64 r_c4_7 = (r_km_6 + 1ull);
+    st64(r_ym_7, r_c4_7);
     if (r_0f_4 == 0ull) { r_m4 = 0u; goto l_std_lh; }
-    r_pv_4 = r_c4_10;
+    r_pv_4 = r_c4_7;
     r_m0_4 = r_0f_4;
-    r_w9_4 = r_62_7;
+    r_w9_4 = r_62_6;
     goto l_arm_td_4;
-l_else_r0:;
-    u8 r_5j = core_fmt_formatter_Formatter_write_indented_bf264aed5fa78656(a_1, ((u8 *)g_static_65), 16ull);
-    r_m4 = r_5j;
+l_else_ov:;
+    u8 r_d1 = core_fmt_formatter_Formatter_write_indented_bf264aed5fa78656(a_1, ((u8 *)g_static_67), 16ull);
+    r_m4 = r_d1;
     goto l_std_lh;
 l_arm_lx_4:;
-    if (!r_ts_9) goto l_else_5k;
+    if (!r_ts) goto l_else_io;
     r_ym_8 = away(a_1, 1032ull);
     r_1x_8 = away(a_1, 4ull);
     r_pv_5 = ld64(r_ym_8);
     r_m0_5 = 16ull;
-    r_w9_5 = ((u8 *)g_static_66);
+    r_w9_5 = ((u8 *)g_static_68);
 l_arm_td_5:;
-    r_62_8 = away(r_w9_5, 1ull);
+    r_62_7 = away(r_w9_5, 1ull);
     r_0f_5 = (r_m0_5 + 0xffffffffffffffffull);
-    r_47_11 = ld8(r_w9_5);
+    r_47_8 = ld8(r_w9_5);
     if (!(r_pv_5 > 1023ull)) { r_km_7 = r_pv_5; goto l_std_41_7; }
     u8 r_ba_8 = std_io_io_buffer_Buffer_flush(a_1);
     if (!r_ba_8) { r_m4 = 1u; goto l_std_lh; }
-    u64 r_38_19 = ld64(r_ym_8);
-    if (r_38_19 > 1023ull) { r_m4 = 1u; goto l_std_lh; }
-    r_km_7 = r_38_19;
+    u64 r_38_11 = ld64(r_ym_8);
+    if (r_38_11 > 1023ull) { r_m4 = 1u; goto l_std_lh; }
+    r_km_7 = r_38_11;
 l_std_41_7:;
-    st8((r_1x_8 + (i64)(r_km_7)), r_47_11);
-    u64 r_c4_11 = (r_km_7 + 1ull);
-    st64(r_ym_8, r_c4_11);
+    st8((r_1x_8 + (i64)(r_km_7)), r_47_8);
+    u64 r_c4_8 = (r_km_7 + 1ull);
+    st64(r_ym_8, r_c4_8);
     if (r_0f_5 == 0ull) { r_m4 = 0u; goto l_std_lh; }
-    r_pv_5 = r_c4_11;
+    r_pv_5 = r_c4_8;
     r_m0_5 = r_0f_5;
-    r_w9_5 = r_62_8;
+    r_w9_5 = r_62_7;
     goto l_arm_td_5;
-l_else_5k:;
-    u8 r_fh = core_fmt_formatter_Formatter_write_indented_bf264aed5fa78656(a_1, ((u8 *)g_static_66), 16ull);
-    r_m4 = r_fh;
+l_else_io:;
+    u8 r_df = core_fmt_formatter_Formatter_write_indented_bf264aed5fa78656(a_1, ((u8 *)g_static_68), 16ull);
+    r_m4 = r_df;
     goto l_std_lh;
 l_arm_lx_5:;
-    if (!r_ts_9) goto l_else_uv;
+    if (!r_ts) goto l_else_o5;
     r_ym_9 = away(a_1, 1032ull);
     r_1x_9 = away(a_1, 4ull);
     r_pv_6 = ld64(r_ym_9);
     r_m0_6 = 19ull;
-    r_w9_6 = ((u8 *)g_static_67);
+    r_w9_6 = ((u8 *)g_static_69);
 l_arm_td_6:;
-    r_62_9 = away(r_w9_6, 1ull);
+    r_62_8 = away(r_w9_6, 1ull);
     r_0f_6 = (r_m0_6 + 0xffffffffffffffffull);
-    r_47_12 = ld8(r_w9_6);
+    r_47_9 = ld8(r_w9_6);
     if (!(r_pv_6 > 1023ull)) { r_km_8 = r_pv_6; goto l_std_41_8; }
     u8 r_ba_9 = std_io_io_buffer_Buffer_flush(a_1);
     if (!r_ba_9) { r_m4 = 1u; goto l_std_lh; }
-    u64 r_38_21 = ld64(r_ym_9);
-    if (r_38_21 > 1023ull) { r_m4 = 1u; goto l_std_lh; }
-    r_km_8 = r_38_21;
+    u64 r_38_12 = ld64(r_ym_9);
+    if (r_38_12 > 1023ull) { r_m4 = 1u; goto l_std_lh; }
+    r_km_8 = r_38_12;
 l_std_41_8:;
-    st8((r_1x_9 + (i64)(r_km_8)), r_47_12);
-    u64 r_c4_12 = (r_km_8 + 1ull);
-    st64(r_ym_9, r_c4_12);
+    st8((r_1x_9 + (i64)(r_km_8)), r_47_9);
+    u64 r_c4_9 = (r_km_8 + 1ull);
+    st64(r_ym_9, r_c4_9);
     if (r_0f_6 == 0ull) { r_m4 = 0u; goto l_std_lh; }
-    r_pv_6 = r_c4_12;
+    r_pv_6 = r_c4_9;
     r_m0_6 = r_0f_6;
-    r_w9_6 = r_62_9;
+    r_w9_6 = r_62_8;
     goto l_arm_td_6;
-l_else_uv:;
-    u8 r_kz = core_fmt_formatter_Formatter_write_indented_bf264aed5fa78656(a_1, ((u8 *)g_static_67), 19ull);
-    r_m4 = r_kz;
+l_else_o5:;
+    u8 r_6s = core_fmt_formatter_Formatter_write_indented_bf264aed5fa78656(a_1, ((u8 *)g_static_69), 19ull);
+    r_m4 = r_6s;
     goto l_std_lh;
 l_arm_lx_6:;
-    if (!r_ts_9) goto l_else_0p;
+    if (!r_ts) goto l_else_d7;
     r_ym_10 = away(a_1, 1032ull);
     r_1x_10 = away(a_1, 4ull);
     r_pv_7 = ld64(r_ym_10);
     r_m0_7 = 18ull;
-    r_w9_7 = ((u8 *)g_static_68);
+    r_w9_7 = ((u8 *)g_static_70);
 l_arm_td_7:;
-    r_62_10 = away(r_w9_7, 1ull);
+    r_62_9 = away(r_w9_7, 1ull);
     r_0f_7 = (r_m0_7 + 0xffffffffffffffffull);
-    r_47_13 = ld8(r_w9_7);
+    r_47_10 = ld8(r_w9_7);
     if (!(r_pv_7 > 1023ull)) { r_km_9 = r_pv_7; goto l_std_41_9; }
     u8 r_ba_10 = std_io_io_buffer_Buffer_flush(a_1);
     if (!r_ba_10) { r_m4 = 1u; goto l_std_lh; }
-    u64 r_38_23 = ld64(r_ym_10);
-    if (r_38_23 > 1023ull) { r_m4 = 1u; goto l_std_lh; }
-    r_km_9 = r_38_23;
+    u64 r_38_13 = ld64(r_ym_10);
+    if (r_38_13 > 1023ull) { r_m4 = 1u; goto l_std_lh; }
+    r_km_9 = r_38_13;
 l_std_41_9:;
-    st8((r_1x_10 + (i64)(r_km_9)), r_47_13);
-    u64 r_c4_13 = (r_km_9 + 1ull);
-    st64(r_ym_10, r_c4_13);
+    st8((r_1x_10 + (i64)(r_km_9)), r_47_10);
+    u64 r_c4_10 = (r_km_9 + 1ull);
+    st64(r_ym_10, r_c4_10);
     if (r_0f_7 == 0ull) { r_m4 = 0u; goto l_std_lh; }
-    r_pv_7 = r_c4_13;
+    r_pv_7 = r_c4_10;
     r_m0_7 = r_0f_7;
-    r_w9_7 = r_62_10;
+    r_w9_7 = r_62_9;
     goto l_arm_td_7;
-l_else_0p:;
-    u8 r_p8 = core_fmt_formatter_Formatter_write_indented_bf264aed5fa78656(a_1, ((u8 *)g_static_68), 18ull);
-    r_m4 = r_p8;
+l_else_d7:;
+    u8 r_59 = core_fmt_formatter_Formatter_write_indented_bf264aed5fa78656(a_1, ((u8 *)g_static_70), 18ull);
+    r_m4 = r_59;
     goto l_std_lh;
 l_arm_lx_7:;
-    if (!r_ts_9) goto l_else_9f;
+    if (!r_ts) goto l_else_tp;
     r_ym_11 = away(a_1, 1032ull);
     r_1x_11 = away(a_1, 4ull);
     r_pv_8 = ld64(r_ym_11);
     r_m0_8 = 13ull;
-    r_w9_8 = ((u8 *)g_static_69);
+    r_w9_8 = ((u8 *)g_static_71);
 l_arm_td_8:;
-    r_62_11 = away(r_w9_8, 1ull);
+    r_62_10 = away(r_w9_8, 1ull);
     r_0f_8 = (r_m0_8 + 0xffffffffffffffffull);
-    r_47_14 = ld8(r_w9_8);
+    r_47_11 = ld8(r_w9_8);
     if (!(r_pv_8 > 1023ull)) { r_km_10 = r_pv_8; goto l_std_41_10; }
     u8 r_ba_11 = std_io_io_buffer_Buffer_flush(a_1);
     if (!r_ba_11) { r_m4 = 1u; goto l_std_lh; }
-    u64 r_38_25 = ld64(r_ym_11);
-    if (r_38_25 > 1023ull) { r_m4 = 1u; goto l_std_lh; }
-    r_km_10 = r_38_25;
+    u64 r_38_14 = ld64(r_ym_11);
+    if (r_38_14 > 1023ull) { r_m4 = 1u; goto l_std_lh; }
+    r_km_10 = r_38_14;
 l_std_41_10:;
-    st8((r_1x_11 + (i64)(r_km_10)), r_47_14);
-    u64 r_c4_14 = (r_km_10 + 1ull);
-    st64(r_ym_11, r_c4_14);
+    st8((r_1x_11 + (i64)(r_km_10)), r_47_11);
+    u64 r_c4_11 = (r_km_10 + 1ull);
+    st64(r_ym_11, r_c4_11);
     if (r_0f_8 == 0ull) { r_m4 = 0u; goto l_std_lh; }
-    r_pv_8 = r_c4_14;
+    r_pv_8 = r_c4_11;
     r_m0_8 = r_0f_8;
-    r_w9_8 = r_62_11;
+    r_w9_8 = r_62_10;
     goto l_arm_td_8;
-l_else_9f:;
-    u8 r_o9 = core_fmt_formatter_Formatter_write_indented_bf264aed5fa78656(a_1, ((u8 *)g_static_69), 13ull);
-    r_m4 = r_o9;
+l_else_tp:;
+    u8 r_w5 = core_fmt_formatter_Formatter_write_indented_bf264aed5fa78656(a_1, ((u8 *)g_static_71), 13ull);
+    r_m4 = r_w5;
     goto l_std_lh;
 l_arm_lx_8:;
-    if (!r_ts_9) goto l_else_y8;
+    if (!r_ts) goto l_else_05;
     r_ym_12 = away(a_1, 1032ull);
     r_1x_12 = away(a_1, 4ull);
     r_pv_9 = ld64(r_ym_12);
     r_m0_9 = 14ull;
-    r_w9_9 = ((u8 *)g_static_70);
+    r_w9_9 = ((u8 *)g_static_72);
 l_arm_td_9:;
-    r_62_12 = away(r_w9_9, 1ull);
+    r_62_11 = away(r_w9_9, 1ull);
     r_0f_9 = (r_m0_9 + 0xffffffffffffffffull);
-    r_47_15 = ld8(r_w9_9);
+    r_47_12 = ld8(r_w9_9);
     if (!(r_pv_9 > 1023ull)) { r_km_11 = r_pv_9; goto l_std_41_11; }
     u8 r_ba_12 = std_io_io_buffer_Buffer_flush(a_1);
     if (!r_ba_12) { r_m4 = 1u; goto l_std_lh; }
-    u64 r_38_27 = ld64(r_ym_12);
-    if (r_38_27 > 1023ull) { r_m4 = 1u; goto l_std_lh; }
-    r_km_11 = r_38_27;
+    u64 r_38_15 = ld64(r_ym_12);
+    if (r_38_15 > 1023ull) { r_m4 = 1u; goto l_std_lh; }
+    r_km_11 = r_38_15;
 l_std_41_11:;
-    st8((r_1x_12 + (i64)(r_km_11)), r_47_15);
-    u64 r_c4_15 = (r_km_11 + 1ull);
-    st64(r_ym_12, r_c4_15);
+    st8((r_1x_12 + (i64)(r_km_11)), r_47_12);
+    u64 r_c4_12 = (r_km_11 + 1ull);
+    st64(r_ym_12, r_c4_12);
     if (r_0f_9 == 0ull) { r_m4 = 0u; goto l_std_lh; }
-    r_pv_9 = r_c4_15;
+    r_pv_9 = r_c4_12;
     r_m0_9 = r_0f_9;
-    r_w9_9 = r_62_12;
+    r_w9_9 = r_62_11;
     goto l_arm_td_9;
-l_else_y8:;
-    u8 r_9l = core_fmt_formatter_Formatter_write_indented_bf264aed5fa78656(a_1, ((u8 *)g_static_70), 14ull);
-    r_m4 = r_9l;
+l_else_05:;
+    u8 r_u5 = core_fmt_formatter_Formatter_write_indented_bf264aed5fa78656(a_1, ((u8 *)g_static_72), 14ull);
+    r_m4 = r_u5;
     goto l_std_lh;
 l_arm_lx_9:;
-    if (!r_ts_9) goto l_else_kv;
+    if (!r_ts) goto l_else_pw;
     r_ym_13 = away(a_1, 1032ull);
     r_1x_13 = away(a_1, 4ull);
     r_pv_10 = ld64(r_ym_13);
     r_m0_10 = 21ull;
-    r_w9_10 = ((u8 *)g_static_71);
+    r_w9_10 = ((u8 *)g_static_73);
 l_arm_td_10:;
-    r_62_13 = away(r_w9_10, 1ull);
+    r_62_12 = away(r_w9_10, 1ull);
     r_0f_10 = (r_m0_10 + 0xffffffffffffffffull);
-    r_47_16 = ld8(r_w9_10);
+    r_47_13 = ld8(r_w9_10);
     if (!(r_pv_10 > 1023ull)) { r_km_12 = r_pv_10; goto l_std_41_12; }
     u8 r_ba_13 = std_io_io_buffer_Buffer_flush(a_1);
     if (!r_ba_13) { r_m4 = 1u; goto l_std_lh; }
-    u64 r_38_29 = ld64(r_ym_13);
-    if (r_38_29 > 1023ull) { r_m4 = 1u; goto l_std_lh; }
-    r_km_12 = r_38_29;
+    u64 r_38_16 = ld64(r_ym_13);
+    if (r_38_16 > 1023ull) { r_m4 = 1u; goto l_std_lh; }
+    r_km_12 = r_38_16;
 l_std_41_12:;
-    st8((r_1x_13 + (i64)(r_km_12)), r_47_16);
-    u64 r_c4_16 = (r_km_12 + 1ull);
-    st64(r_ym_13, r_c4_16);
+    st8((r_1x_13 + (i64)(r_km_12)), r_47_13);
+    u64 r_c4_13 = (r_km_12 + 1ull);
+    st64(r_ym_13, r_c4_13);
     if (r_0f_10 == 0ull) { r_m4 = 0u; goto l_std_lh; }
-    r_pv_10 = r_c4_16;
+    r_pv_10 = r_c4_13;
     r_m0_10 = r_0f_10;
-    r_w9_10 = r_62_13;
+    r_w9_10 = r_62_12;
     goto l_arm_td_10;
-l_else_kv:;
-    u8 r_4z = core_fmt_formatter_Formatter_write_indented_bf264aed5fa78656(a_1, ((u8 *)g_static_71), 21ull);
-    r_m4 = r_4z;
+l_else_pw:;
+    u8 r_v1 = core_fmt_formatter_Formatter_write_indented_bf264aed5fa78656(a_1, ((u8 *)g_static_73), 21ull);
+    r_m4 = r_v1;
     goto l_std_lh;
 l_arm_lx_10:;
-    if (!r_ts_9) goto l_else_8r;
+    if (!r_ts) goto l_else_wu;
     r_ym_14 = away(a_1, 1032ull);
     r_1x_14 = away(a_1, 4ull);
     r_pv_11 = ld64(r_ym_14);
     r_m0_11 = 12ull;
-    r_w9_11 = ((u8 *)g_static_72);
+    r_w9_11 = ((u8 *)g_static_74);
 l_arm_td_11:;
-    r_62_14 = away(r_w9_11, 1ull);
+    r_62_13 = away(r_w9_11, 1ull);
     r_0f_11 = (r_m0_11 + 0xffffffffffffffffull);
-    r_47_17 = ld8(r_w9_11);
+    r_47_14 = ld8(r_w9_11);
     if (!(r_pv_11 > 1023ull)) { r_km_13 = r_pv_11; goto l_std_41_13; }
     u8 r_ba_14 = std_io_io_buffer_Buffer_flush(a_1);
     if (!r_ba_14) { r_m4 = 1u; goto l_std_lh; }
-    u64 r_38_31 = ld64(r_ym_14);
-    if (r_38_31 > 1023ull) { r_m4 = 1u; goto l_std_lh; }
-    r_km_13 = r_38_31;
+    u64 r_38_17 = ld64(r_ym_14);
+    if (r_38_17 > 1023ull) { r_m4 = 1u; goto l_std_lh; }
+    r_km_13 = r_38_17;
 l_std_41_13:;
-    st8((r_1x_14 + (i64)(r_km_13)), r_47_17);
-    u64 r_c4_17 = (r_km_13 + 1ull);
-    st64(r_ym_14, r_c4_17);
+    st8((r_1x_14 + (i64)(r_km_13)), r_47_14);
+    u64 r_c4_14 = (r_km_13 + 1ull);
+    st64(r_ym_14, r_c4_14);
     if (r_0f_11 == 0ull) { r_m4 = 0u; goto l_std_lh; }
-    r_pv_11 = r_c4_17;
+    r_pv_11 = r_c4_14;
     r_m0_11 = r_0f_11;
-    r_w9_11 = r_62_14;
+    r_w9_11 = r_62_13;
     goto l_arm_td_11;
-l_else_8r:;
-    u8 r_dj = core_fmt_formatter_Formatter_write_indented_bf264aed5fa78656(a_1, ((u8 *)g_static_72), 12ull);
-    r_m4 = r_dj;
+l_else_wu:;
+    u8 r_l4 = core_fmt_formatter_Formatter_write_indented_bf264aed5fa78656(a_1, ((u8 *)g_static_74), 12ull);
+    r_m4 = r_l4;
     goto l_std_lh;
 l_arm_lx_11:;
-    if (!r_ts_9) goto l_else_vu;
+    if (!r_ts) goto l_else_p1;
     r_ym_15 = away(a_1, 1032ull);
     r_1x_15 = away(a_1, 4ull);
     r_pv_12 = ld64(r_ym_15);
     r_m0_12 = 11ull;
-    r_w9_12 = ((u8 *)g_static_73);
+    r_w9_12 = ((u8 *)g_static_75);
 l_arm_td_12:;
-    r_62_15 = away(r_w9_12, 1ull);
+    r_62_14 = away(r_w9_12, 1ull);
     r_0f_12 = (r_m0_12 + 0xffffffffffffffffull);
-    r_47_18 = ld8(r_w9_12);
+    r_47_15 = ld8(r_w9_12);
     if (!(r_pv_12 > 1023ull)) { r_km_14 = r_pv_12; goto l_std_41_14; }
     u8 r_ba_15 = std_io_io_buffer_Buffer_flush(a_1);
     if (!r_ba_15) { r_m4 = 1u; goto l_std_lh; }
-    u64 r_38_33 = ld64(r_ym_15);
-    if (r_38_33 > 1023ull) { r_m4 = 1u; goto l_std_lh; }
-    r_km_14 = r_38_33;
+    u64 r_38_18 = ld64(r_ym_15);
+    if (r_38_18 > 1023ull) { r_m4 = 1u; goto l_std_lh; }
+    r_km_14 = r_38_18;
 l_std_41_14:;
-    st8((r_1x_15 + (i64)(r_km_14)), r_47_18);
-    u64 r_c4_18 = (r_km_14 + 1ull);
-    st64(r_ym_15, r_c4_18);
+    st8((r_1x_15 + (i64)(r_km_14)), r_47_15);
+    u64 r_c4_15 = (r_km_14 + 1ull);
+    st64(r_ym_15, r_c4_15);
     if (r_0f_12 == 0ull) { r_m4 = 0u; goto l_std_lh; }
-    r_pv_12 = r_c4_18;
+    r_pv_12 = r_c4_15;
     r_m0_12 = r_0f_12;
-    r_w9_12 = r_62_15;
+    r_w9_12 = r_62_14;
     goto l_arm_td_12;
-l_else_vu:;
-    u8 r_yl = core_fmt_formatter_Formatter_write_indented_bf264aed5fa78656(a_1, ((u8 *)g_static_73), 11ull);
-    r_m4 = r_yl;
+l_else_p1:;
+    u8 r_iv = core_fmt_formatter_Formatter_write_indented_bf264aed5fa78656(a_1, ((u8 *)g_static_75), 11ull);
+    r_m4 = r_iv;
     goto l_std_lh;
 l_arm_lx_12:;
-    if (!r_ts_9) goto l_else_yf;
+    if (!r_ts) goto l_else_kb;
     r_ym_16 = away(a_1, 1032ull);
     r_1x_16 = away(a_1, 4ull);
     r_pv_13 = ld64(r_ym_16);
     r_m0_13 = 21ull;
-    r_w9_13 = ((u8 *)g_static_74);
+    r_w9_13 = ((u8 *)g_static_76);
 l_arm_td_13:;
-    r_62_16 = away(r_w9_13, 1ull);
+    r_62_15 = away(r_w9_13, 1ull);
     r_0f_13 = (r_m0_13 + 0xffffffffffffffffull);
-    r_47_19 = ld8(r_w9_13);
+    r_47_16 = ld8(r_w9_13);
     if (!(r_pv_13 > 1023ull)) { r_km_15 = r_pv_13; goto l_std_41_15; }
     u8 r_ba_16 = std_io_io_buffer_Buffer_flush(a_1);
     if (!r_ba_16) { r_m4 = 1u; goto l_std_lh; }
-    u64 r_38_35 = ld64(r_ym_16);
-    if (r_38_35 > 1023ull) { r_m4 = 1u; goto l_std_lh; }
-    r_km_15 = r_38_35;
+    u64 r_38_19 = ld64(r_ym_16);
+    if (r_38_19 > 1023ull) { r_m4 = 1u; goto l_std_lh; }
+    r_km_15 = r_38_19;
 l_std_41_15:;
-    st8((r_1x_16 + (i64)(r_km_15)), r_47_19);
-    u64 r_c4_19 = (r_km_15 + 1ull);
-    st64(r_ym_16, r_c4_19);
+    st8((r_1x_16 + (i64)(r_km_15)), r_47_16);
+    u64 r_c4_16 = (r_km_15 + 1ull);
+    st64(r_ym_16, r_c4_16);
     if (r_0f_13 == 0ull) { r_m4 = 0u; goto l_std_lh; }
-    r_pv_13 = r_c4_19;
+    r_pv_13 = r_c4_16;
     r_m0_13 = r_0f_13;
-    r_w9_13 = r_62_16;
+    r_w9_13 = r_62_15;
     goto l_arm_td_13;
-l_else_yf:;
-    u8 r_hq = core_fmt_formatter_Formatter_write_indented_bf264aed5fa78656(a_1, ((u8 *)g_static_74), 21ull);
-    r_m4 = r_hq;
+l_else_kb:;
+    u8 r_nq = core_fmt_formatter_Formatter_write_indented_bf264aed5fa78656(a_1, ((u8 *)g_static_76), 21ull);
+    r_m4 = r_nq;
     goto l_std_lh;
 l_arm_lx_13:;
-    if (!r_ts_9) goto l_else_r4;
+    if (!r_ts) goto l_else_aq;
     r_ym_17 = away(a_1, 1032ull);
     r_1x_17 = away(a_1, 4ull);
     r_pv_14 = ld64(r_ym_17);
     r_m0_14 = 21ull;
-    r_w9_14 = ((u8 *)g_static_75);
+    r_w9_14 = ((u8 *)g_static_77);
 l_arm_td_14:;
-    r_62_17 = away(r_w9_14, 1ull);
+    r_62_16 = away(r_w9_14, 1ull);
     r_0f_14 = (r_m0_14 + 0xffffffffffffffffull);
-    r_47_20 = ld8(r_w9_14);
+    r_47_17 = ld8(r_w9_14);
     if (!(r_pv_14 > 1023ull)) { r_km_16 = r_pv_14; goto l_std_41_16; }
     u8 r_ba_17 = std_io_io_buffer_Buffer_flush(a_1);
     if (!r_ba_17) { r_m4 = 1u; goto l_std_lh; }
-    u64 r_38_37 = ld64(r_ym_17);
-    if (r_38_37 > 1023ull) { r_m4 = 1u; goto l_std_lh; }
-    r_km_16 = r_38_37;
+    u64 r_38_20 = ld64(r_ym_17);
+    if (r_38_20 > 1023ull) { r_m4 = 1u; goto l_std_lh; }
+    r_km_16 = r_38_20;
 l_std_41_16:;
-    st8((r_1x_17 + (i64)(r_km_16)), r_47_20);
-    u64 r_c4_20 = (r_km_16 + 1ull);
-    st64(r_ym_17, r_c4_20);
+    st8((r_1x_17 + (i64)(r_km_16)), r_47_17);
+    u64 r_c4_17 = (r_km_16 + 1ull);
+    st64(r_ym_17, r_c4_17);
     if (r_0f_14 == 0ull) { r_m4 = 0u; goto l_std_lh; }
-    r_pv_14 = r_c4_20;
+    r_pv_14 = r_c4_17;
     r_m0_14 = r_0f_14;
-    r_w9_14 = r_62_17;
+    r_w9_14 = r_62_16;
     goto l_arm_td_14;
-l_else_r4:;
-    u8 r_7b = core_fmt_formatter_Formatter_write_indented_bf264aed5fa78656(a_1, ((u8 *)g_static_75), 21ull);
-    r_m4 = r_7b;
+l_else_aq:;
+    u8 r_ol = core_fmt_formatter_Formatter_write_indented_bf264aed5fa78656(a_1, ((u8 *)g_static_77), 21ull);
+    r_m4 = r_ol;
     goto l_std_lh;
 l_arm_lx_14:;
-    if (!r_ts_9) goto l_else_b8;
+    if (!r_ts) goto l_else_ep;
     r_ym_18 = away(a_1, 1032ull);
     r_1x_18 = away(a_1, 4ull);
     r_pv_15 = ld64(r_ym_18);
     r_m0_15 = 15ull;
-    r_w9_15 = ((u8 *)g_static_76);
+    r_w9_15 = ((u8 *)g_static_78);
 l_arm_td_15:;
-    r_62_18 = away(r_w9_15, 1ull);
+    r_62_17 = away(r_w9_15, 1ull);
     r_0f_15 = (r_m0_15 + 0xffffffffffffffffull);
-    r_47_21 = ld8(r_w9_15);
+    r_47_18 = ld8(r_w9_15);
     if (!(r_pv_15 > 1023ull)) { r_km_17 = r_pv_15; goto l_std_41_17; }
     u8 r_ba_18 = std_io_io_buffer_Buffer_flush(a_1);
     if (!r_ba_18) { r_m4 = 1u; goto l_std_lh; }
-    u64 r_38_39 = ld64(r_ym_18);
-    if (r_38_39 > 1023ull) { r_m4 = 1u; goto l_std_lh; }
-    r_km_17 = r_38_39;
+    u64 r_38_21 = ld64(r_ym_18);
+    if (r_38_21 > 1023ull) { r_m4 = 1u; goto l_std_lh; }
+    r_km_17 = r_38_21;
 l_std_41_17:;
-    st8((r_1x_18 + (i64)(r_km_17)), r_47_21);
-    u64 r_c4_21 = (r_km_17 + 1ull);
-    st64(r_ym_18, r_c4_21);
+    st8((r_1x_18 + (i64)(r_km_17)), r_47_18);
+    u64 r_c4_18 = (r_km_17 + 1ull);
+    st64(r_ym_18, r_c4_18);
     if (r_0f_15 == 0ull) { r_m4 = 0u; goto l_std_lh; }
-    r_pv_15 = r_c4_21;
+    r_pv_15 = r_c4_18;
     r_m0_15 = r_0f_15;
-    r_w9_15 = r_62_18;
+    r_w9_15 = r_62_17;
     goto l_arm_td_15;
-l_else_b8:;
-    u8 r_4y = core_fmt_formatter_Formatter_write_indented_bf264aed5fa78656(a_1, ((u8 *)g_static_76), 15ull);
-    r_m4 = r_4y;
+l_else_ep:;
+    u8 r_no = core_fmt_formatter_Formatter_write_indented_bf264aed5fa78656(a_1, ((u8 *)g_static_78), 15ull);
+    r_m4 = r_no;
     goto l_std_lh;
 l_arm_lx_15:;
-    if (!r_ts_9) goto l_else_9g;
+    if (!r_ts) goto l_else_k1;
     r_ym_19 = away(a_1, 1032ull);
     r_1x_19 = away(a_1, 4ull);
     r_pv_16 = ld64(r_ym_19);
     r_m0_16 = 14ull;
-    r_w9_16 = ((u8 *)g_static_77);
+    r_w9_16 = ((u8 *)g_static_79);
 l_arm_td_16:;
-    r_62_19 = away(r_w9_16, 1ull);
+    r_62_18 = away(r_w9_16, 1ull);
     r_0f_16 = (r_m0_16 + 0xffffffffffffffffull);
-    r_47_22 = ld8(r_w9_16);
+    r_47_19 = ld8(r_w9_16);
     if (!(r_pv_16 > 1023ull)) { r_km_18 = r_pv_16; goto l_std_41_18; }
     u8 r_ba_19 = std_io_io_buffer_Buffer_flush(a_1);
     if (!r_ba_19) { r_m4 = 1u; goto l_std_lh; }
-    u64 r_38_41 = ld64(r_ym_19);
-    if (r_38_41 > 1023ull) { r_m4 = 1u; goto l_std_lh; }
-    r_km_18 = r_38_41;
+    u64 r_38_22 = ld64(r_ym_19);
+    if (r_38_22 > 1023ull) { r_m4 = 1u; goto l_std_lh; }
+    r_km_18 = r_38_22;
 l_std_41_18:;
-    st8((r_1x_19 + (i64)(r_km_18)), r_47_22);
-    u64 r_c4_22 = (r_km_18 + 1ull);
-    st64(r_ym_19, r_c4_22);
+    st8((r_1x_19 + (i64)(r_km_18)), r_47_19);
+    u64 r_c4_19 = (r_km_18 + 1ull);
+    st64(r_ym_19, r_c4_19);
     if (r_0f_16 == 0ull) { r_m4 = 0u; goto l_std_lh; }
-    r_pv_16 = r_c4_22;
+    r_pv_16 = r_c4_19;
     r_m0_16 = r_0f_16;
-    r_w9_16 = r_62_19;
+    r_w9_16 = r_62_18;
     goto l_arm_td_16;
-l_else_9g:;
-    u8 r_7n = core_fmt_formatter_Formatter_write_indented_bf264aed5fa78656(a_1, ((u8 *)g_static_77), 14ull);
-    r_m4 = r_7n;
+l_else_k1:;
+    u8 r_zf = core_fmt_formatter_Formatter_write_indented_bf264aed5fa78656(a_1, ((u8 *)g_static_79), 14ull);
+    r_m4 = r_zf;
     goto l_std_lh;
 l_arm_lx_16:;
-    if (!r_ts_9) goto l_else_82;
+    if (!r_ts) goto l_else_gf;
     r_ym_20 = away(a_1, 1032ull);
     r_1x_20 = away(a_1, 4ull);
     r_pv_17 = ld64(r_ym_20);
     r_m0_17 = 19ull;
-    r_w9_17 = ((u8 *)g_static_78);
+    r_w9_17 = ((u8 *)g_static_80);
 l_arm_td_17:;
-    r_62_20 = away(r_w9_17, 1ull);
+    r_62_19 = away(r_w9_17, 1ull);
     r_0f_17 = (r_m0_17 + 0xffffffffffffffffull);
-    r_47_23 = ld8(r_w9_17);
+    r_47_20 = ld8(r_w9_17);
     if (!(r_pv_17 > 1023ull)) { r_km_19 = r_pv_17; goto l_std_41_19; }
     u8 r_ba_20 = std_io_io_buffer_Buffer_flush(a_1);
     if (!r_ba_20) { r_m4 = 1u; goto l_std_lh; }
-    u64 r_38_43 = ld64(r_ym_20);
-    if (r_38_43 > 1023ull) { r_m4 = 1u; goto l_std_lh; }
-    r_km_19 = r_38_43;
+    u64 r_38_23 = ld64(r_ym_20);
+    if (r_38_23 > 1023ull) { r_m4 = 1u; goto l_std_lh; }
+    r_km_19 = r_38_23;
 l_std_41_19:;
-    st8((r_1x_20 + (i64)(r_km_19)), r_47_23);
-    u64 r_c4_23 = (r_km_19 + 1ull);
-    st64(r_ym_20, r_c4_23);
+    st8((r_1x_20 + (i64)(r_km_19)), r_47_20);
+    u64 r_c4_20 = (r_km_19 + 1ull);
+    st64(r_ym_20, r_c4_20);
     if (r_0f_17 == 0ull) { r_m4 = 0u; goto l_std_lh; }
-    r_pv_17 = r_c4_23;
+    r_pv_17 = r_c4_20;
     r_m0_17 = r_0f_17;
-    r_w9_17 = r_62_20;
+    r_w9_17 = r_62_19;
     goto l_arm_td_17;
-l_else_82:;
-    u8 r_rt = core_fmt_formatter_Formatter_write_indented_bf264aed5fa78656(a_1, ((u8 *)g_static_78), 19ull);
-    r_m4 = r_rt;
+l_else_gf:;
+    u8 r_zt = core_fmt_formatter_Formatter_write_indented_bf264aed5fa78656(a_1, ((u8 *)g_static_80), 19ull);
+    r_m4 = r_zt;
     goto l_std_lh;
 l_arm_lx_17:;
-    if (!r_ts_9) goto l_else_j6;
+    if (!r_ts) goto l_else_ph;
     r_ym_21 = away(a_1, 1032ull);
     r_1x_21 = away(a_1, 4ull);
     r_pv_18 = ld64(r_ym_21);
     r_m0_18 = 38ull;
-    r_w9_18 = ((u8 *)g_static_79);
+    r_w9_18 = ((u8 *)g_static_81);
 l_arm_td_18:;
-    r_62_21 = away(r_w9_18, 1ull);
+    r_62_20 = away(r_w9_18, 1ull);
     r_0f_18 = (r_m0_18 + 0xffffffffffffffffull);
-    r_47_24 = ld8(r_w9_18);
+    r_47_21 = ld8(r_w9_18);
     if (!(r_pv_18 > 1023ull)) { r_km_20 = r_pv_18; goto l_std_41_20; }
     u8 r_ba_21 = std_io_io_buffer_Buffer_flush(a_1);
     if (!r_ba_21) { r_m4 = 1u; goto l_std_lh; }
-    u64 r_38_45 = ld64(r_ym_21);
-    if (r_38_45 > 1023ull) { r_m4 = 1u; goto l_std_lh; }
-    r_km_20 = r_38_45;
+    u64 r_38_24 = ld64(r_ym_21);
+    if (r_38_24 > 1023ull) { r_m4 = 1u; goto l_std_lh; }
+    r_km_20 = r_38_24;
 l_std_41_20:;
-    st8((r_1x_21 + (i64)(r_km_20)), r_47_24);
-    u64 r_c4_24 = (r_km_20 + 1ull);
-    st64(r_ym_21, r_c4_24);
+    st8((r_1x_21 + (i64)(r_km_20)), r_47_21);
+    u64 r_c4_21 = (r_km_20 + 1ull);
+    st64(r_ym_21, r_c4_21);
     if (r_0f_18 == 0ull) { r_m4 = 0u; goto l_std_lh; }
-    r_pv_18 = r_c4_24;
+    r_pv_18 = r_c4_21;
     r_m0_18 = r_0f_18;
-    r_w9_18 = r_62_21;
+    r_w9_18 = r_62_20;
     goto l_arm_td_18;
-l_else_j6:;
-    u8 r_tb = core_fmt_formatter_Formatter_write_indented_bf264aed5fa78656(a_1, ((u8 *)g_static_79), 38ull);
-    r_m4 = r_tb;
+l_else_ph:;
+    u8 r_sh = core_fmt_formatter_Formatter_write_indented_bf264aed5fa78656(a_1, ((u8 *)g_static_81), 38ull);
+    r_m4 = r_sh;
     goto l_std_lh;
 l_arm_lx_18:;
-    if (!r_ts_9) goto l_else_yr;
+    if (!r_ts) goto l_else_yq;
     r_ym_22 = away(a_1, 1032ull);
     r_1x_22 = away(a_1, 4ull);
     r_pv_19 = ld64(r_ym_22);
     r_m0_19 = 56ull;
-    r_w9_19 = ((u8 *)g_static_80);
+    r_w9_19 = ((u8 *)g_static_82);
 l_arm_td_19:;
-    r_62_22 = away(r_w9_19, 1ull);
+    r_62_21 = away(r_w9_19, 1ull);
     r_0f_19 = (r_m0_19 + 0xffffffffffffffffull);
-    r_47_25 = ld8(r_w9_19);
+    r_47_22 = ld8(r_w9_19);
     if (!(r_pv_19 > 1023ull)) { r_km_21 = r_pv_19; goto l_std_41_21; }
     u8 r_ba_22 = std_io_io_buffer_Buffer_flush(a_1);
     if (!r_ba_22) { r_m4 = 1u; goto l_std_lh; }
-    u64 r_38_47 = ld64(r_ym_22);
-    if (r_38_47 > 1023ull) { r_m4 = 1u; goto l_std_lh; }
-    r_km_21 = r_38_47;
+    u64 r_38_25 = ld64(r_ym_22);
+    if (r_38_25 > 1023ull) { r_m4 = 1u; goto l_std_lh; }
+    r_km_21 = r_38_25;
 l_std_41_21:;
-    st8((r_1x_22 + (i64)(r_km_21)), r_47_25);
-    u64 r_c4_25 = (r_km_21 + 1ull);
-    st64(r_ym_22, r_c4_25);
+    st8((r_1x_22 + (i64)(r_km_21)), r_47_22);
+    u64 r_c4_22 = (r_km_21 + 1ull);
+    st64(r_ym_22, r_c4_22);
     if (r_0f_19 == 0ull) { r_m4 = 0u; goto l_std_lh; }
-    r_pv_19 = r_c4_25;
+    r_pv_19 = r_c4_22;
     r_m0_19 = r_0f_19;
-    r_w9_19 = r_62_22;
+    r_w9_19 = r_62_21;
     goto l_arm_td_19;
-l_else_yr:;
-    u8 r_ys = core_fmt_formatter_Formatter_write_indented_bf264aed5fa78656(a_1, ((u8 *)g_static_80), 56ull);
-    r_m4 = r_ys;
+l_else_yq:;
+    u8 r_38_26 = core_fmt_formatter_Formatter_write_indented_bf264aed5fa78656(a_1, ((u8 *)g_static_82), 56ull);
+    r_m4 = r_38_26;
     goto l_std_lh;
 l_arm_lx_19:;
-    if (!r_ts_9) goto l_else_lw;
+    if (!r_ts) goto l_else_kw;
     r_ym_23 = away(a_1, 1032ull);
     r_1x_23 = away(a_1, 4ull);
     r_pv_20 = ld64(r_ym_23);
     r_m0_20 = 25ull;
-    r_w9_20 = ((u8 *)g_static_81);
+    r_w9_20 = ((u8 *)g_static_83);
 l_arm_td_20:;
-    r_62_23 = away(r_w9_20, 1ull);
+    r_62_22 = away(r_w9_20, 1ull);
     r_0f_20 = (r_m0_20 + 0xffffffffffffffffull);
-    r_47_26 = ld8(r_w9_20);
+    r_47_23 = ld8(r_w9_20);
     if (!(r_pv_20 > 1023ull)) { r_km_22 = r_pv_20; goto l_std_41_22; }
     u8 r_ba_23 = std_io_io_buffer_Buffer_flush(a_1);
     if (!r_ba_23) { r_m4 = 1u; goto l_std_lh; }
-    u64 r_38_49 = ld64(r_ym_23);
-    if (r_38_49 > 1023ull) { r_m4 = 1u; goto l_std_lh; }
-    r_km_22 = r_38_49;
+    u64 r_38_27 = ld64(r_ym_23);
+    if (r_38_27 > 1023ull) { r_m4 = 1u; goto l_std_lh; }
+    r_km_22 = r_38_27;
 l_std_41_22:;
-    st8((r_1x_23 + (i64)(r_km_22)), r_47_26);
-    u64 r_c4_26 = (r_km_22 + 1ull);
-    st64(r_ym_23, r_c4_26);
+    st8((r_1x_23 + (i64)(r_km_22)), r_47_23);
+    u64 r_c4_23 = (r_km_22 + 1ull);
+    st64(r_ym_23, r_c4_23);
     if (r_0f_20 == 0ull) { r_m4 = 0u; goto l_std_lh; }
-    r_pv_20 = r_c4_26;
+    r_pv_20 = r_c4_23;
     r_m0_20 = r_0f_20;
-    r_w9_20 = r_62_23;
+    r_w9_20 = r_62_22;
     goto l_arm_td_20;
-l_else_lw:;
-    u8 r_5g = core_fmt_formatter_Formatter_write_indented_bf264aed5fa78656(a_1, ((u8 *)g_static_81), 25ull);
-    r_m4 = r_5g;
+l_else_kw:;
+    u8 r_p4 = core_fmt_formatter_Formatter_write_indented_bf264aed5fa78656(a_1, ((u8 *)g_static_83), 25ull);
+    r_m4 = r_p4;
     goto l_std_lh;
 l_arm_lx_20:;
-    if (!r_ts_9) goto l_else_1e;
+    if (!r_ts) goto l_else_w1;
     r_ym_24 = away(a_1, 1032ull);
     r_1x_24 = away(a_1, 4ull);
     r_pv_21 = ld64(r_ym_24);
     r_m0_21 = 23ull;
-    r_w9_21 = ((u8 *)g_static_82);
+    r_w9_21 = ((u8 *)g_static_84);
 l_arm_td_21:;
-    r_62_24 = away(r_w9_21, 1ull);
+    r_62_23 = away(r_w9_21, 1ull);
     r_0f_21 = (r_m0_21 + 0xffffffffffffffffull);
-    r_47_27 = ld8(r_w9_21);
+    r_47_24 = ld8(r_w9_21);
     if (!(r_pv_21 > 1023ull)) { r_km_23 = r_pv_21; goto l_std_41_23; }
     u8 r_ba_24 = std_io_io_buffer_Buffer_flush(a_1);
     if (!r_ba_24) { r_m4 = 1u; goto l_std_lh; }
-    u64 r_38_51 = ld64(r_ym_24);
-    if (r_38_51 > 1023ull) { r_m4 = 1u; goto l_std_lh; }
-    r_km_23 = r_38_51;
+    u64 r_38_28 = ld64(r_ym_24);
+    if (r_38_28 > 1023ull) { r_m4 = 1u; goto l_std_lh; }
+    r_km_23 = r_38_28;
 l_std_41_23:;
-    st8((r_1x_24 + (i64)(r_km_23)), r_47_27);
-    u64 r_c4_27 = (r_km_23 + 1ull);
-    st64(r_ym_24, r_c4_27);
+    st8((r_1x_24 + (i64)(r_km_23)), r_47_24);
+    u64 r_c4_24 = (r_km_23 + 1ull);
+    st64(r_ym_24, r_c4_24);
     if (r_0f_21 == 0ull) { r_m4 = 0u; goto l_std_lh; }
-    r_pv_21 = r_c4_27;
+    r_pv_21 = r_c4_24;
     r_m0_21 = r_0f_21;
-    r_w9_21 = r_62_24;
+    r_w9_21 = r_62_23;
     goto l_arm_td_21;
-l_else_1e:;
-    u8 r_vi = core_fmt_formatter_Formatter_write_indented_bf264aed5fa78656(a_1, ((u8 *)g_static_82), 23ull);
-    r_m4 = r_vi;
+l_else_w1:;
+    u8 r_76 = core_fmt_formatter_Formatter_write_indented_bf264aed5fa78656(a_1, ((u8 *)g_static_84), 23ull);
+    r_m4 = r_76;
     goto l_std_lh;
 l_arm_lx_21:;
-    if (!r_ts_9) goto l_else_3r;
+    if (!r_ts) goto l_else_p6;
     r_ym_25 = away(a_1, 1032ull);
     r_1x_25 = away(a_1, 4ull);
     r_pv_22 = ld64(r_ym_25);
     r_m0_22 = 12ull;
-    r_w9_22 = ((u8 *)g_static_83);
+    r_w9_22 = ((u8 *)g_static_85);
 l_arm_td_22:;
-    r_62_25 = away(r_w9_22, 1ull);
+    r_62_24 = away(r_w9_22, 1ull);
     r_0f_22 = (r_m0_22 + 0xffffffffffffffffull);
-    r_47_28 = ld8(r_w9_22);
+    r_47_25 = ld8(r_w9_22);
     if (!(r_pv_22 > 1023ull)) { r_km_24 = r_pv_22; goto l_std_41_24; }
     u8 r_ba_25 = std_io_io_buffer_Buffer_flush(a_1);
     if (!r_ba_25) { r_m4 = 1u; goto l_std_lh; }
-    u64 r_38_53 = ld64(r_ym_25);
-    if (r_38_53 > 1023ull) { r_m4 = 1u; goto l_std_lh; }
-    r_km_24 = r_38_53;
+    u64 r_38_29 = ld64(r_ym_25);
+    if (r_38_29 > 1023ull) { r_m4 = 1u; goto l_std_lh; }
+    r_km_24 = r_38_29;
 l_std_41_24:;
-    st8((r_1x_25 + (i64)(r_km_24)), r_47_28);
-    u64 r_c4_28 = (r_km_24 + 1ull);
-    st64(r_ym_25, r_c4_28);
+    st8((r_1x_25 + (i64)(r_km_24)), r_47_25);
+    u64 r_c4_25 = (r_km_24 + 1ull);
+    st64(r_ym_25, r_c4_25);
     if (r_0f_22 == 0ull) { r_m4 = 0u; goto l_std_lh; }
-    r_pv_22 = r_c4_28;
+    r_pv_22 = r_c4_25;
     r_m0_22 = r_0f_22;
-    r_w9_22 = r_62_25;
+    r_w9_22 = r_62_24;
     goto l_arm_td_22;
-l_else_3r:;
-    u8 r_7q = core_fmt_formatter_Formatter_write_indented_bf264aed5fa78656(a_1, ((u8 *)g_static_83), 12ull);
-    r_m4 = r_7q;
+l_else_p6:;
+    u8 r_ry = core_fmt_formatter_Formatter_write_indented_bf264aed5fa78656(a_1, ((u8 *)g_static_85), 12ull);
+    r_m4 = r_ry;
     goto l_std_lh;
 l_arm_lx_22:;
-    if (!r_ts_9) goto l_else_3i;
+    if (!r_ts) goto l_else_ao;
     r_ym_26 = away(a_1, 1032ull);
     r_1x_26 = away(a_1, 4ull);
     r_pv_23 = ld64(r_ym_26);
     r_m0_23 = 9ull;
-    r_w9_23 = ((u8 *)g_static_84);
+    r_w9_23 = ((u8 *)g_static_86);
 l_arm_td_23:;
-    r_62_26 = away(r_w9_23, 1ull);
+    r_62_25 = away(r_w9_23, 1ull);
     r_0f_23 = (r_m0_23 + 0xffffffffffffffffull);
-    r_47_29 = ld8(r_w9_23);
+    r_47_26 = ld8(r_w9_23);
     if (!(r_pv_23 > 1023ull)) { r_km_25 = r_pv_23; goto l_std_41_25; }
     u8 r_ba_26 = std_io_io_buffer_Buffer_flush(a_1);
     if (!r_ba_26) { r_m4 = 1u; goto l_std_lh; }
-    u64 r_38_55 = ld64(r_ym_26);
-    if (r_38_55 > 1023ull) { r_m4 = 1u; goto l_std_lh; }
-    r_km_25 = r_38_55;
+    u64 r_38_30 = ld64(r_ym_26);
+    if (r_38_30 > 1023ull) { r_m4 = 1u; goto l_std_lh; }
+    r_km_25 = r_38_30;
 l_std_41_25:;
-    st8((r_1x_26 + (i64)(r_km_25)), r_47_29);
-    u64 r_c4_29 = (r_km_25 + 1ull);
-    st64(r_ym_26, r_c4_29);
+    st8((r_1x_26 + (i64)(r_km_25)), r_47_26);
+    u64 r_c4_26 = (r_km_25 + 1ull);
+    st64(r_ym_26, r_c4_26);
     if (r_0f_23 == 0ull) { r_m4 = 0u; goto l_std_lh; }
-    r_pv_23 = r_c4_29;
+    r_pv_23 = r_c4_26;
     r_m0_23 = r_0f_23;
-    r_w9_23 = r_62_26;
+    r_w9_23 = r_62_25;
     goto l_arm_td_23;
-l_else_3i:;
-    u8 r_t0 = core_fmt_formatter_Formatter_write_indented_bf264aed5fa78656(a_1, ((u8 *)g_static_84), 9ull);
-    r_m4 = r_t0;
+l_else_ao:;
+    u8 r_rq = core_fmt_formatter_Formatter_write_indented_bf264aed5fa78656(a_1, ((u8 *)g_static_86), 9ull);
+    r_m4 = r_rq;
     goto l_std_lh;
 l_arm_lx_23:;
-    if (!r_ts_9) goto l_else_n7;
+    if (!r_ts) goto l_else_6r;
     r_ym_27 = away(a_1, 1032ull);
     r_1x_27 = away(a_1, 4ull);
     r_pv_24 = ld64(r_ym_27);
     r_m0_24 = 10ull;
-    r_w9_24 = ((u8 *)g_static_85);
+    r_w9_24 = ((u8 *)g_static_87);
 l_arm_td_24:;
-    r_62_27 = away(r_w9_24, 1ull);
+    r_62_26 = away(r_w9_24, 1ull);
     r_0f_24 = (r_m0_24 + 0xffffffffffffffffull);
-    r_47_30 = ld8(r_w9_24);
+    r_47_27 = ld8(r_w9_24);
     if (!(r_pv_24 > 1023ull)) { r_km_26 = r_pv_24; goto l_std_41_26; }
     u8 r_ba_27 = std_io_io_buffer_Buffer_flush(a_1);
     if (!r_ba_27) { r_m4 = 1u; goto l_std_lh; }
-    u64 r_38_57 = ld64(r_ym_27);
-    if (r_38_57 > 1023ull) { r_m4 = 1u; goto l_std_lh; }
-    r_km_26 = r_38_57;
+    u64 r_38_31 = ld64(r_ym_27);
+    if (r_38_31 > 1023ull) { r_m4 = 1u; goto l_std_lh; }
+    r_km_26 = r_38_31;
 l_std_41_26:;
-    st8((r_1x_27 + (i64)(r_km_26)), r_47_30);
-    u64 r_c4_30 = (r_km_26 + 1ull);
-    st64(r_ym_27, r_c4_30);
+    st8((r_1x_27 + (i64)(r_km_26)), r_47_27);
+    u64 r_c4_27 = (r_km_26 + 1ull);
+    st64(r_ym_27, r_c4_27);
     if (r_0f_24 == 0ull) { r_m4 = 0u; goto l_std_lh; }
-    r_pv_24 = r_c4_30;
+    r_pv_24 = r_c4_27;
     r_m0_24 = r_0f_24;
-    r_w9_24 = r_62_27;
+    r_w9_24 = r_62_26;
     goto l_arm_td_24;
-l_else_n7:;
-    u8 r_wm = core_fmt_formatter_Formatter_write_indented_bf264aed5fa78656(a_1, ((u8 *)g_static_85), 10ull);
-    r_m4 = r_wm;
+l_else_6r:;
+    u8 r_82 = core_fmt_formatter_Formatter_write_indented_bf264aed5fa78656(a_1, ((u8 *)g_static_87), 10ull);
+    r_m4 = r_82;
     goto l_std_lh;
 l_arm_lx_24:;
-    if (!r_ts_9) goto l_else_gt;
+    if (!r_ts) goto l_else_3v;
     r_ym_28 = away(a_1, 1032ull);
     r_1x_28 = away(a_1, 4ull);
     r_pv_25 = ld64(r_ym_28);
     r_m0_25 = 16ull;
-    r_w9_25 = ((u8 *)g_static_86);
+    r_w9_25 = ((u8 *)g_static_88);
 l_arm_td_25:;
-    r_62_28 = away(r_w9_25, 1ull);
+    r_62_27 = away(r_w9_25, 1ull);
     r_0f_25 = (r_m0_25 + 0xffffffffffffffffull);
-    r_47_31 = ld8(r_w9_25);
+    r_47_28 = ld8(r_w9_25);
     if (!(r_pv_25 > 1023ull)) { r_km_27 = r_pv_25; goto l_std_41_27; }
     u8 r_ba_28 = std_io_io_buffer_Buffer_flush(a_1);
     if (!r_ba_28) { r_m4 = 1u; goto l_std_lh; }
-    u64 r_38_59 = ld64(r_ym_28);
-    if (r_38_59 > 1023ull) { r_m4 = 1u; goto l_std_lh; }
-    r_km_27 = r_38_59;
+    u64 r_38_32 = ld64(r_ym_28);
+    if (r_38_32 > 1023ull) { r_m4 = 1u; goto l_std_lh; }
+    r_km_27 = r_38_32;
 l_std_41_27:;
-    st8((r_1x_28 + (i64)(r_km_27)), r_47_31);
-    u64 r_c4_31 = (r_km_27 + 1ull);
-    st64(r_ym_28, r_c4_31);
+    st8((r_1x_28 + (i64)(r_km_27)), r_47_28);
+    u64 r_c4_28 = (r_km_27 + 1ull);
+    st64(r_ym_28, r_c4_28);
     if (r_0f_25 == 0ull) { r_m4 = 0u; goto l_std_lh; }
-    r_pv_25 = r_c4_31;
+    r_pv_25 = r_c4_28;
     r_m0_25 = r_0f_25;
-    r_w9_25 = r_62_28;
+    r_w9_25 = r_62_27;
     goto l_arm_td_25;
-l_else_gt:;
-    u8 r_ga = core_fmt_formatter_Formatter_write_indented_bf264aed5fa78656(a_1, ((u8 *)g_static_86), 16ull);
-    r_m4 = r_ga;
+l_else_3v:;
+    u8 r_cu = core_fmt_formatter_Formatter_write_indented_bf264aed5fa78656(a_1, ((u8 *)g_static_88), 16ull);
+    r_m4 = r_cu;
     goto l_std_lh;
 l_arm_lx_25:;
-    if (!r_ts_9) goto l_else_oc;
+    if (!r_ts) goto l_else_zp;
     r_ym_29 = away(a_1, 1032ull);
     r_1x_29 = away(a_1, 4ull);
     r_pv_26 = ld64(r_ym_29);
     r_m0_26 = 23ull;
-    r_w9_26 = ((u8 *)g_static_87);
+    r_w9_26 = ((u8 *)g_static_89);
 l_arm_td_26:;
-    r_62_29 = away(r_w9_26, 1ull);
+    r_62_28 = away(r_w9_26, 1ull);
     r_0f_26 = (r_m0_26 + 0xffffffffffffffffull);
-    r_47_32 = ld8(r_w9_26);
+    r_47_29 = ld8(r_w9_26);
     if (!(r_pv_26 > 1023ull)) { r_km_28 = r_pv_26; goto l_std_41_28; }
     u8 r_ba_29 = std_io_io_buffer_Buffer_flush(a_1);
     if (!r_ba_29) { r_m4 = 1u; goto l_std_lh; }
-    u64 r_38_61 = ld64(r_ym_29);
-    if (r_38_61 > 1023ull) { r_m4 = 1u; goto l_std_lh; }
-    r_km_28 = r_38_61;
+    u64 r_38_33 = ld64(r_ym_29);
+    if (r_38_33 > 1023ull) { r_m4 = 1u; goto l_std_lh; }
+    r_km_28 = r_38_33;
 l_std_41_28:;
-    st8((r_1x_29 + (i64)(r_km_28)), r_47_32);
-    u64 r_c4_32 = (r_km_28 + 1ull);
-    st64(r_ym_29, r_c4_32);
+    st8((r_1x_29 + (i64)(r_km_28)), r_47_29);
+    u64 r_c4_29 = (r_km_28 + 1ull);
+    st64(r_ym_29, r_c4_29);
     if (r_0f_26 == 0ull) { r_m4 = 0u; goto l_std_lh; }
-    r_pv_26 = r_c4_32;
+    r_pv_26 = r_c4_29;
     r_m0_26 = r_0f_26;
-    r_w9_26 = r_62_29;
+    r_w9_26 = r_62_28;
     goto l_arm_td_26;
-l_else_oc:;
-    u8 r_75 = core_fmt_formatter_Formatter_write_indented_bf264aed5fa78656(a_1, ((u8 *)g_static_87), 23ull);
-    r_m4 = r_75;
+l_else_zp:;
+    u8 r_pp = core_fmt_formatter_Formatter_write_indented_bf264aed5fa78656(a_1, ((u8 *)g_static_89), 23ull);
+    r_m4 = r_pp;
     goto l_std_lh;
 l_arm_lx_26:;
-    if (!r_ts_9) goto l_else_kf;
+    if (!r_ts) goto l_else_rc;
     r_ym_30 = away(a_1, 1032ull);
     r_1x_30 = away(a_1, 4ull);
     r_pv_27 = ld64(r_ym_30);
     r_m0_27 = 14ull;
-    r_w9_27 = ((u8 *)g_static_88);
+    r_w9_27 = ((u8 *)g_static_90);
 l_arm_td_27:;
-    r_62_30 = away(r_w9_27, 1ull);
+    r_62_29 = away(r_w9_27, 1ull);
     r_0f_27 = (r_m0_27 + 0xffffffffffffffffull);
-    r_47_33 = ld8(r_w9_27);
+    r_47_30 = ld8(r_w9_27);
     if (!(r_pv_27 > 1023ull)) { r_km_29 = r_pv_27; goto l_std_41_29; }
     u8 r_ba_30 = std_io_io_buffer_Buffer_flush(a_1);
     if (!r_ba_30) { r_m4 = 1u; goto l_std_lh; }
-    u64 r_38_63 = ld64(r_ym_30);
-    if (r_38_63 > 1023ull) { r_m4 = 1u; goto l_std_lh; }
-    r_km_29 = r_38_63;
+    u64 r_38_34 = ld64(r_ym_30);
+    if (r_38_34 > 1023ull) { r_m4 = 1u; goto l_std_lh; }
+    r_km_29 = r_38_34;
 l_std_41_29:;
-    st8((r_1x_30 + (i64)(r_km_29)), r_47_33);
-    u64 r_c4_33 = (r_km_29 + 1ull);
-    st64(r_ym_30, r_c4_33);
+    st8((r_1x_30 + (i64)(r_km_29)), r_47_30);
+    u64 r_c4_30 = (r_km_29 + 1ull);
+    st64(r_ym_30, r_c4_30);
     if (r_0f_27 == 0ull) { r_m4 = 0u; goto l_std_lh; }
-    r_pv_27 = r_c4_33;
+    r_pv_27 = r_c4_30;
     r_m0_27 = r_0f_27;
-    r_w9_27 = r_62_30;
+    r_w9_27 = r_62_29;
     goto l_arm_td_27;
-l_else_kf:;
-    u8 r_8s = core_fmt_formatter_Formatter_write_indented_bf264aed5fa78656(a_1, ((u8 *)g_static_88), 14ull);
-    r_m4 = r_8s;
+l_else_rc:;
+    u8 r_vq = core_fmt_formatter_Formatter_write_indented_bf264aed5fa78656(a_1, ((u8 *)g_static_90), 14ull);
+    r_m4 = r_vq;
     goto l_std_lh;
 l_arm_lx_27:;
-    if (!r_ts_9) goto l_else_4k;
+    if (!r_ts) goto l_else_ri;
     r_ym_31 = away(a_1, 1032ull);
     r_1x_31 = away(a_1, 4ull);
     r_pv_28 = ld64(r_ym_31);
     r_m0_28 = 14ull;
-    r_w9_28 = ((u8 *)g_static_89);
+    r_w9_28 = ((u8 *)g_static_91);
 l_arm_td_28:;
-    r_62_31 = away(r_w9_28, 1ull);
+    r_62_30 = away(r_w9_28, 1ull);
     r_0f_28 = (r_m0_28 + 0xffffffffffffffffull);
-    r_47_34 = ld8(r_w9_28);
+    r_47_31 = ld8(r_w9_28);
     if (!(r_pv_28 > 1023ull)) { r_km_30 = r_pv_28; goto l_std_41_30; }
     u8 r_ba_31 = std_io_io_buffer_Buffer_flush(a_1);
     if (!r_ba_31) { r_m4 = 1u; goto l_std_lh; }
-    u64 r_38_65 = ld64(r_ym_31);
-    if (r_38_65 > 1023ull) { r_m4 = 1u; goto l_std_lh; }
-    r_km_30 = r_38_65;
+    u64 r_38_35 = ld64(r_ym_31);
+    if (r_38_35 > 1023ull) { r_m4 = 1u; goto l_std_lh; }
+    r_km_30 = r_38_35;
 l_std_41_30:;
-    st8((r_1x_31 + (i64)(r_km_30)), r_47_34);
-    u64 r_c4_34 = (r_km_30 + 1ull);
-    st64(r_ym_31, r_c4_34);
+    st8((r_1x_31 + (i64)(r_km_30)), r_47_31);
+    u64 r_c4_31 = (r_km_30 + 1ull);
+    st64(r_ym_31, r_c4_31);
     if (r_0f_28 == 0ull) { r_m4 = 0u; goto l_std_lh; }
-    r_pv_28 = r_c4_34;
+    r_pv_28 = r_c4_31;
     r_m0_28 = r_0f_28;
-    r_w9_28 = r_62_31;
+    r_w9_28 = r_62_30;
     goto l_arm_td_28;
-l_else_4k:;
-    u8 r_2t = core_fmt_formatter_Formatter_write_indented_bf264aed5fa78656(a_1, ((u8 *)g_static_89), 14ull);
-    r_m4 = r_2t;
+l_else_ri:;
+    u8 r_wy = core_fmt_formatter_Formatter_write_indented_bf264aed5fa78656(a_1, ((u8 *)g_static_91), 14ull);
+    r_m4 = r_wy;
     goto l_std_lh;
 l_arm_lx_28:;
-    if (!r_ts_9) goto l_else_iy;
+    if (!r_ts) goto l_else_41;
     r_ym_32 = away(a_1, 1032ull);
     r_1x_32 = away(a_1, 4ull);
     r_pv_29 = ld64(r_ym_32);
     r_m0_29 = 13ull;
-    r_w9_29 = ((u8 *)g_static_90);
+    r_w9_29 = ((u8 *)g_static_92);
 l_arm_td_29:;
-    r_62_32 = away(r_w9_29, 1ull);
+    r_62_31 = away(r_w9_29, 1ull);
     r_0f_29 = (r_m0_29 + 0xffffffffffffffffull);
-    r_47_35 = ld8(r_w9_29);
+    r_47_32 = ld8(r_w9_29);
     if (!(r_pv_29 > 1023ull)) { r_km_31 = r_pv_29; goto l_std_41_31; }
     u8 r_ba_32 = std_io_io_buffer_Buffer_flush(a_1);
     if (!r_ba_32) { r_m4 = 1u; goto l_std_lh; }
-    u64 r_38_67 = ld64(r_ym_32);
-    if (r_38_67 > 1023ull) { r_m4 = 1u; goto l_std_lh; }
-    r_km_31 = r_38_67;
+    u64 r_38_36 = ld64(r_ym_32);
+    if (r_38_36 > 1023ull) { r_m4 = 1u; goto l_std_lh; }
+    r_km_31 = r_38_36;
 l_std_41_31:;
-    st8((r_1x_32 + (i64)(r_km_31)), r_47_35);
-    u64 r_c4_35 = (r_km_31 + 1ull);
-    st64(r_ym_32, r_c4_35);
+    st8((r_1x_32 + (i64)(r_km_31)), r_47_32);
+    u64 r_c4_32 = (r_km_31 + 1ull);
+    st64(r_ym_32, r_c4_32);
     if (r_0f_29 == 0ull) { r_m4 = 0u; goto l_std_lh; }
-    r_pv_29 = r_c4_35;
+    r_pv_29 = r_c4_32;
     r_m0_29 = r_0f_29;
-    r_w9_29 = r_62_32;
+    r_w9_29 = r_62_31;
     goto l_arm_td_29;
-l_else_iy:;
-    u8 r_8r = core_fmt_formatter_Formatter_write_indented_bf264aed5fa78656(a_1, ((u8 *)g_static_90), 13ull);
-    r_m4 = r_8r;
+l_else_41:;
+    u8 r_x5 = core_fmt_formatter_Formatter_write_indented_bf264aed5fa78656(a_1, ((u8 *)g_static_92), 13ull);
+    r_m4 = r_x5;
     goto l_std_lh;
 l_arm_lx_29:;
-    if (!r_ts_9) goto l_else_re;
+    if (!r_ts) goto l_else_ro;
     r_ym_33 = away(a_1, 1032ull);
     r_1x_33 = away(a_1, 4ull);
     r_pv_30 = ld64(r_ym_33);
     r_m0_30 = 20ull;
-    r_w9_30 = ((u8 *)g_static_91);
+    r_w9_30 = ((u8 *)g_static_93);
 l_arm_td_30:;
-    r_62_33 = away(r_w9_30, 1ull);
+    r_62_32 = away(r_w9_30, 1ull);
     r_0f_30 = (r_m0_30 + 0xffffffffffffffffull);
-    r_47_36 = ld8(r_w9_30);
+    r_47_33 = ld8(r_w9_30);
     if (!(r_pv_30 > 1023ull)) { r_km_32 = r_pv_30; goto l_std_41_32; }
     u8 r_ba_33 = std_io_io_buffer_Buffer_flush(a_1);
     if (!r_ba_33) { r_m4 = 1u; goto l_std_lh; }
-    u64 r_38_69 = ld64(r_ym_33);
-    if (r_38_69 > 1023ull) { r_m4 = 1u; goto l_std_lh; }
-    r_km_32 = r_38_69;
+    u64 r_38_37 = ld64(r_ym_33);
+    if (r_38_37 > 1023ull) { r_m4 = 1u; goto l_std_lh; }
+    r_km_32 = r_38_37;
 l_std_41_32:;
-    st8((r_1x_33 + (i64)(r_km_32)), r_47_36);
-    u64 r_c4_36 = (r_km_32 + 1ull);
-    st64(r_ym_33, r_c4_36);
+    st8((r_1x_33 + (i64)(r_km_32)), r_47_33);
+    u64 r_c4_33 = (r_km_32 + 1ull);
+    st64(r_ym_33, r_c4_33);
     if (r_0f_30 == 0ull) { r_m4 = 0u; goto l_std_lh; }
-    r_pv_30 = r_c4_36;
+    r_pv_30 = r_c4_33;
     r_m0_30 = r_0f_30;
-    r_w9_30 = r_62_33;
+    r_w9_30 = r_62_32;
     goto l_arm_td_30;
-l_else_re:;
-    u8 r_mh = core_fmt_formatter_Formatter_write_indented_bf264aed5fa78656(a_1, ((u8 *)g_static_91), 20ull);
-    r_m4 = r_mh;
+l_else_ro:;
+    u8 r_al = core_fmt_formatter_Formatter_write_indented_bf264aed5fa78656(a_1, ((u8 *)g_static_93), 20ull);
+    r_m4 = r_al;
     goto l_std_lh;
 l_arm_lx_30:;
-    if (!r_ts_9) goto l_else_w6;
+    if (!r_ts) goto l_else_p2;
     r_ym_34 = away(a_1, 1032ull);
     r_1x_34 = away(a_1, 4ull);
     r_pv_31 = ld64(r_ym_34);
     r_m0_31 = 8ull;
-    r_w9_31 = ((u8 *)g_static_92);
+    r_w9_31 = ((u8 *)g_static_94);
 l_arm_td_31:;
-    r_62_34 = away(r_w9_31, 1ull);
+    r_62_33 = away(r_w9_31, 1ull);
     r_0f_31 = (r_m0_31 + 0xffffffffffffffffull);
-    r_47_37 = ld8(r_w9_31);
+    r_47_34 = ld8(r_w9_31);
     if (!(r_pv_31 > 1023ull)) { r_km_33 = r_pv_31; goto l_std_41_33; }
     u8 r_ba_34 = std_io_io_buffer_Buffer_flush(a_1);
     if (!r_ba_34) { r_m4 = 1u; goto l_std_lh; }
-    u64 r_38_71 = ld64(r_ym_34);
-    if (r_38_71 > 1023ull) { r_m4 = 1u; goto l_std_lh; }
-    r_km_33 = r_38_71;
+    u64 r_38_38 = ld64(r_ym_34);
+    if (r_38_38 > 1023ull) { r_m4 = 1u; goto l_std_lh; }
+    r_km_33 = r_38_38;
 l_std_41_33:;
-    st8((r_1x_34 + (i64)(r_km_33)), r_47_37);
-    u64 r_c4_37 = (r_km_33 + 1ull);
-    st64(r_ym_34, r_c4_37);
+    st8((r_1x_34 + (i64)(r_km_33)), r_47_34);
+    u64 r_c4_34 = (r_km_33 + 1ull);
+    st64(r_ym_34, r_c4_34);
     if (r_0f_31 == 0ull) { r_m4 = 0u; goto l_std_lh; }
-    r_pv_31 = r_c4_37;
+    r_pv_31 = r_c4_34;
     r_m0_31 = r_0f_31;
-    r_w9_31 = r_62_34;
+    r_w9_31 = r_62_33;
     goto l_arm_td_31;
-l_else_w6:;
-    u8 r_iz = core_fmt_formatter_Formatter_write_indented_bf264aed5fa78656(a_1, ((u8 *)g_static_92), 8ull);
-    r_m4 = r_iz;
+l_else_p2:;
+    u8 r_pb = core_fmt_formatter_Formatter_write_indented_bf264aed5fa78656(a_1, ((u8 *)g_static_94), 8ull);
+    r_m4 = r_pb;
     goto l_std_lh;
 l_arm_lx_31:;
-    if (!r_ts_9) goto l_else_se;
+    if (!r_ts) goto l_else_vk;
     r_ym_35 = away(a_1, 1032ull);
     r_1x_35 = away(a_1, 4ull);
     r_pv_32 = ld64(r_ym_35);
     r_m0_32 = 27ull;
-    r_w9_32 = ((u8 *)g_static_93);
+    r_w9_32 = ((u8 *)g_static_95);
 l_arm_td_32:;
-    r_62_35 = away(r_w9_32, 1ull);
+    r_62_34 = away(r_w9_32, 1ull);
     r_0f_32 = (r_m0_32 + 0xffffffffffffffffull);
-    r_47_38 = ld8(r_w9_32);
+    r_47_35 = ld8(r_w9_32);
     if (!(r_pv_32 > 1023ull)) { r_km_34 = r_pv_32; goto l_std_41_34; }
     u8 r_ba_35 = std_io_io_buffer_Buffer_flush(a_1);
     if (!r_ba_35) { r_m4 = 1u; goto l_std_lh; }
-    u64 r_38_73 = ld64(r_ym_35);
-    if (r_38_73 > 1023ull) { r_m4 = 1u; goto l_std_lh; }
-    r_km_34 = r_38_73;
+    u64 r_38_39 = ld64(r_ym_35);
+    if (r_38_39 > 1023ull) { r_m4 = 1u; goto l_std_lh; }
+    r_km_34 = r_38_39;
 l_std_41_34:;
-    st8((r_1x_35 + (i64)(r_km_34)), r_47_38);
-    u64 r_c4_38 = (r_km_34 + 1ull);
-    st64(r_ym_35, r_c4_38);
+    st8((r_1x_35 + (i64)(r_km_34)), r_47_35);
+    u64 r_c4_35 = (r_km_34 + 1ull);
+    st64(r_ym_35, r_c4_35);
     if (r_0f_32 == 0ull) { r_m4 = 0u; goto l_std_lh; }
-    r_pv_32 = r_c4_38;
+    r_pv_32 = r_c4_35;
     r_m0_32 = r_0f_32;
-    r_w9_32 = r_62_35;
+    r_w9_32 = r_62_34;
     goto l_arm_td_32;
-l_else_se:;
-    u8 r_xn = core_fmt_formatter_Formatter_write_indented_bf264aed5fa78656(a_1, ((u8 *)g_static_93), 27ull);
-    r_m4 = r_xn;
+l_else_vk:;
+    u8 r_25 = core_fmt_formatter_Formatter_write_indented_bf264aed5fa78656(a_1, ((u8 *)g_static_95), 27ull);
+    r_m4 = r_25;
     goto l_std_lh;
 l_arm_lx_32:;
-    if (!r_ts_9) goto l_else_6e;
+    if (!r_ts) goto l_else_ft;
     r_ym_36 = away(a_1, 1032ull);
     r_1x_36 = away(a_1, 4ull);
     r_pv_33 = ld64(r_ym_36);
     r_m0_33 = 14ull;
-    r_w9_33 = ((u8 *)g_static_94);
+    r_w9_33 = ((u8 *)g_static_96);
 l_arm_td_33:;
-    r_62_36 = away(r_w9_33, 1ull);
+    r_62_35 = away(r_w9_33, 1ull);
     r_0f_33 = (r_m0_33 + 0xffffffffffffffffull);
-    r_47_39 = ld8(r_w9_33);
+    r_47_36 = ld8(r_w9_33);
     if (!(r_pv_33 > 1023ull)) { r_km_35 = r_pv_33; goto l_std_41_35; }
     u8 r_ba_36 = std_io_io_buffer_Buffer_flush(a_1);
     if (!r_ba_36) { r_m4 = 1u; goto l_std_lh; }
-    u64 r_38_75 = ld64(r_ym_36);
-    if (r_38_75 > 1023ull) { r_m4 = 1u; goto l_std_lh; }
-    r_km_35 = r_38_75;
+    u64 r_38_40 = ld64(r_ym_36);
+    if (r_38_40 > 1023ull) { r_m4 = 1u; goto l_std_lh; }
+    r_km_35 = r_38_40;
 l_std_41_35:;
-    st8((r_1x_36 + (i64)(r_km_35)), r_47_39);
-    u64 r_c4_39 = (r_km_35 + 1ull);
-    st64(r_ym_36, r_c4_39);
+    st8((r_1x_36 + (i64)(r_km_35)), r_47_36);
+    u64 r_c4_36 = (r_km_35 + 1ull);
+    st64(r_ym_36, r_c4_36);
     if (r_0f_33 == 0ull) { r_m4 = 0u; goto l_std_lh; }
-    r_pv_33 = r_c4_39;
+    r_pv_33 = r_c4_36;
     r_m0_33 = r_0f_33;
-    r_w9_33 = r_62_36;
+    r_w9_33 = r_62_35;
     goto l_arm_td_33;
-l_else_6e:;
-    u8 r_h8 = core_fmt_formatter_Formatter_write_indented_bf264aed5fa78656(a_1, ((u8 *)g_static_94), 14ull);
-    r_m4 = r_h8;
+l_else_ft:;
+    u8 r_bt = core_fmt_formatter_Formatter_write_indented_bf264aed5fa78656(a_1, ((u8 *)g_static_96), 14ull);
+    r_m4 = r_bt;
     goto l_std_lh;
 l_arm_lx_33:;
-    if (!r_ts_9) goto l_else_5v;
+    if (!r_ts) goto l_else_2x;
     r_ym_37 = away(a_1, 1032ull);
     r_1x_37 = away(a_1, 4ull);
     r_pv_34 = ld64(r_ym_37);
     r_m0_34 = 16ull;
-    r_w9_34 = ((u8 *)g_static_95);
+    r_w9_34 = ((u8 *)g_static_97);
 l_arm_td_34:;
-    r_62_37 = away(r_w9_34, 1ull);
+    r_62_36 = away(r_w9_34, 1ull);
     r_0f_34 = (r_m0_34 + 0xffffffffffffffffull);
-    r_47_40 = ld8(r_w9_34);
+    r_47_37 = ld8(r_w9_34);
     if (!(r_pv_34 > 1023ull)) { r_km_36 = r_pv_34; goto l_std_41_36; }
     u8 r_ba_37 = std_io_io_buffer_Buffer_flush(a_1);
     if (!r_ba_37) { r_m4 = 1u; goto l_std_lh; }
-    u64 r_38_77 = ld64(r_ym_37);
-    if (r_38_77 > 1023ull) { r_m4 = 1u; goto l_std_lh; }
-    r_km_36 = r_38_77;
+    u64 r_38_41 = ld64(r_ym_37);
+    if (r_38_41 > 1023ull) { r_m4 = 1u; goto l_std_lh; }
+    r_km_36 = r_38_41;
 l_std_41_36:;
-    st8((r_1x_37 + (i64)(r_km_36)), r_47_40);
-    u64 r_c4_40 = (r_km_36 + 1ull);
-    st64(r_ym_37, r_c4_40);
+    st8((r_1x_37 + (i64)(r_km_36)), r_47_37);
+    u64 r_c4_37 = (r_km_36 + 1ull);
+    st64(r_ym_37, r_c4_37);
     if (r_0f_34 == 0ull) { r_m4 = 0u; goto l_std_lh; }
-    r_pv_34 = r_c4_40;
+    r_pv_34 = r_c4_37;
     r_m0_34 = r_0f_34;
-    r_w9_34 = r_62_37;
+    r_w9_34 = r_62_36;
     goto l_arm_td_34;
-l_else_5v:;
-    u8 r_5j_1 = core_fmt_formatter_Formatter_write_indented_bf264aed5fa78656(a_1, ((u8 *)g_static_95), 16ull);
-    r_m4 = r_5j_1;
+l_else_2x:;
+    u8 r_tt = core_fmt_formatter_Formatter_write_indented_bf264aed5fa78656(a_1, ((u8 *)g_static_97), 16ull);
+    r_m4 = r_tt;
     goto l_std_lh;
 l_arm_lx_34:;
-    if (!r_ts_9) goto l_else_sy;
+    if (!r_ts) goto l_else_de;
     r_ym_38 = away(a_1, 1032ull);
     r_1x_38 = away(a_1, 4ull);
     r_pv_35 = ld64(r_ym_38);
     r_m0_35 = 22ull;
-    r_w9_35 = ((u8 *)g_static_96);
+    r_w9_35 = ((u8 *)g_static_98);
 l_arm_td_35:;
-    r_62_38 = away(r_w9_35, 1ull);
+    r_62_37 = away(r_w9_35, 1ull);
     r_0f_35 = (r_m0_35 + 0xffffffffffffffffull);
-    r_47_41 = ld8(r_w9_35);
+    r_47_38 = ld8(r_w9_35);
     if (!(r_pv_35 > 1023ull)) { r_km_37 = r_pv_35; goto l_std_41_37; }
     u8 r_ba_38 = std_io_io_buffer_Buffer_flush(a_1);
     if (!r_ba_38) { r_m4 = 1u; goto l_std_lh; }
-    u64 r_38_79 = ld64(r_ym_38);
-    if (r_38_79 > 1023ull) { r_m4 = 1u; goto l_std_lh; }
-    r_km_37 = r_38_79;
+    u64 r_38_42 = ld64(r_ym_38);
+    if (r_38_42 > 1023ull) { r_m4 = 1u; goto l_std_lh; }
+    r_km_37 = r_38_42;
 l_std_41_37:;
-    st8((r_1x_38 + (i64)(r_km_37)), r_47_41);
-    u64 r_c4_41 = (r_km_37 + 1ull);
-    st64(r_ym_38, r_c4_41);
+    st8((r_1x_38 + (i64)(r_km_37)), r_47_38);
+    u64 r_c4_38 = (r_km_37 + 1ull);
+    st64(r_ym_38, r_c4_38);
     if (r_0f_35 == 0ull) { r_m4 = 0u; goto l_std_lh; }
-    r_pv_35 = r_c4_41;
+    r_pv_35 = r_c4_38;
     r_m0_35 = r_0f_35;
-    r_w9_35 = r_62_38;
+    r_w9_35 = r_62_37;
     goto l_arm_td_35;
-l_else_sy:;
-    u8 r_qi = core_fmt_formatter_Formatter_write_indented_bf264aed5fa78656(a_1, ((u8 *)g_static_96), 22ull);
-    r_m4 = r_qi;
+l_else_de:;
+    u8 r_8j = core_fmt_formatter_Formatter_write_indented_bf264aed5fa78656(a_1, ((u8 *)g_static_98), 22ull);
+    r_m4 = r_8j;
     goto l_std_lh;
 l_arm_lx_35:;
-    if (!r_ts_9) goto l_else_fv;
+    if (!r_ts) goto l_else_uc;
     r_ym_39 = away(a_1, 1032ull);
     r_1x_39 = away(a_1, 4ull);
     r_pv_36 = ld64(r_ym_39);
     r_m0_36 = 21ull;
-    r_w9_36 = ((u8 *)g_static_97);
+    r_w9_36 = ((u8 *)g_static_99);
 l_arm_td_36:;
-    r_62_39 = away(r_w9_36, 1ull);
+    r_62_38 = away(r_w9_36, 1ull);
     r_0f_36 = (r_m0_36 + 0xffffffffffffffffull);
-    r_47_42 = ld8(r_w9_36);
+    r_47_39 = ld8(r_w9_36);
     if (!(r_pv_36 > 1023ull)) { r_km_38 = r_pv_36; goto l_std_41_38; }
     u8 r_ba_39 = std_io_io_buffer_Buffer_flush(a_1);
     if (!r_ba_39) { r_m4 = 1u; goto l_std_lh; }
-    u64 r_38_81 = ld64(r_ym_39);
-    if (r_38_81 > 1023ull) { r_m4 = 1u; goto l_std_lh; }
-    r_km_38 = r_38_81;
+    u64 r_38_43 = ld64(r_ym_39);
+    if (r_38_43 > 1023ull) { r_m4 = 1u; goto l_std_lh; }
+    r_km_38 = r_38_43;
 l_std_41_38:;
-    st8((r_1x_39 + (i64)(r_km_38)), r_47_42);
-    u64 r_c4_42 = (r_km_38 + 1ull);
-    st64(r_ym_39, r_c4_42);
+    st8((r_1x_39 + (i64)(r_km_38)), r_47_39);
+    u64 r_c4_39 = (r_km_38 + 1ull);
+    st64(r_ym_39, r_c4_39);
     if (r_0f_36 == 0ull) { r_m4 = 0u; goto l_std_lh; }
-    r_pv_36 = r_c4_42;
+    r_pv_36 = r_c4_39;
     r_m0_36 = r_0f_36;
-    r_w9_36 = r_62_39;
+    r_w9_36 = r_62_38;
     goto l_arm_td_36;
-l_else_fv:;
-    u8 r_gk = core_fmt_formatter_Formatter_write_indented_bf264aed5fa78656(a_1, ((u8 *)g_static_97), 21ull);
-    r_m4 = r_gk;
+l_else_uc:;
+    u8 r_ok = core_fmt_formatter_Formatter_write_indented_bf264aed5fa78656(a_1, ((u8 *)g_static_99), 21ull);
+    r_m4 = r_ok;
     goto l_std_lh;
 l_arm_lx_36:;
-    if (!r_ts_9) goto l_else_fv_1;
+    if (!r_ts) goto l_else_uj;
     r_ym_40 = away(a_1, 1032ull);
     r_1x_40 = away(a_1, 4ull);
     r_pv_37 = ld64(r_ym_40);
     r_m0_37 = 11ull;
-    r_w9_37 = ((u8 *)g_static_98);
+    r_w9_37 = ((u8 *)g_static_100);
 l_arm_td_37:;
-    r_62_40 = away(r_w9_37, 1ull);
+    r_62_39 = away(r_w9_37, 1ull);
     r_0f_37 = (r_m0_37 + 0xffffffffffffffffull);
-    r_47_43 = ld8(r_w9_37);
+    r_47_40 = ld8(r_w9_37);
     if (!(r_pv_37 > 1023ull)) { r_km_39 = r_pv_37; goto l_std_41_39; }
     u8 r_ba_40 = std_io_io_buffer_Buffer_flush(a_1);
     if (!r_ba_40) { r_m4 = 1u; goto l_std_lh; }
-    u64 r_38_83 = ld64(r_ym_40);
-    if (r_38_83 > 1023ull) { r_m4 = 1u; goto l_std_lh; }
-    r_km_39 = r_38_83;
+    u64 r_38_44 = ld64(r_ym_40);
+    if (r_38_44 > 1023ull) { r_m4 = 1u; goto l_std_lh; }
+    r_km_39 = r_38_44;
 l_std_41_39:;
-    st8((r_1x_40 + (i64)(r_km_39)), r_47_43);
-    u64 r_c4_43 = (r_km_39 + 1ull);
-    st64(r_ym_40, r_c4_43);
+    st8((r_1x_40 + (i64)(r_km_39)), r_47_40);
+    u64 r_c4_40 = (r_km_39 + 1ull);
+    st64(r_ym_40, r_c4_40);
     if (r_0f_37 == 0ull) { r_m4 = 0u; goto l_std_lh; }
-    r_pv_37 = r_c4_43;
+    r_pv_37 = r_c4_40;
     r_m0_37 = r_0f_37;
-    r_w9_37 = r_62_40;
+    r_w9_37 = r_62_39;
     goto l_arm_td_37;
-l_else_fv_1:;
-    u8 r_8s_1 = core_fmt_formatter_Formatter_write_indented_bf264aed5fa78656(a_1, ((u8 *)g_static_98), 11ull);
-    r_m4 = r_8s_1;
+l_else_uj:;
+    u8 r_jz = core_fmt_formatter_Formatter_write_indented_bf264aed5fa78656(a_1, ((u8 *)g_static_100), 11ull);
+    r_m4 = r_jz;
     goto l_std_lh;
 l_arm_lx_37:;
-    if (!r_ts_9) goto l_else_v3;
+    if (!r_ts) goto l_else_sp;
     r_ym_41 = away(a_1, 1032ull);
     r_1x_41 = away(a_1, 4ull);
     r_pv_38 = ld64(r_ym_41);
     r_m0_38 = 22ull;
-    r_w9_38 = ((u8 *)g_static_99);
+    r_w9_38 = ((u8 *)g_static_101);
 l_arm_td_38:;
-    r_62_41 = away(r_w9_38, 1ull);
+    r_62_40 = away(r_w9_38, 1ull);
     r_0f_38 = (r_m0_38 + 0xffffffffffffffffull);
-    r_47_44 = ld8(r_w9_38);
+    r_47_41 = ld8(r_w9_38);
     if (!(r_pv_38 > 1023ull)) { r_km_40 = r_pv_38; goto l_std_41_40; }
     u8 r_ba_41 = std_io_io_buffer_Buffer_flush(a_1);
     if (!r_ba_41) { r_m4 = 1u; goto l_std_lh; }
-    u64 r_38_85 = ld64(r_ym_41);
-    if (r_38_85 > 1023ull) { r_m4 = 1u; goto l_std_lh; }
-    r_km_40 = r_38_85;
+    u64 r_38_45 = ld64(r_ym_41);
+    if (r_38_45 > 1023ull) { r_m4 = 1u; goto l_std_lh; }
+    r_km_40 = r_38_45;
 l_std_41_40:;
-    st8((r_1x_41 + (i64)(r_km_40)), r_47_44);
-    u64 r_c4_44 = (r_km_40 + 1ull);
-    st64(r_ym_41, r_c4_44);
+    st8((r_1x_41 + (i64)(r_km_40)), r_47_41);
+    u64 r_c4_41 = (r_km_40 + 1ull);
+    st64(r_ym_41, r_c4_41);
     if (r_0f_38 == 0ull) { r_m4 = 0u; goto l_std_lh; }
-    r_pv_38 = r_c4_44;
+    r_pv_38 = r_c4_41;
     r_m0_38 = r_0f_38;
-    r_w9_38 = r_62_41;
+    r_w9_38 = r_62_40;
     goto l_arm_td_38;
-l_else_v3:;
-    u8 r_tj = core_fmt_formatter_Formatter_write_indented_bf264aed5fa78656(a_1, ((u8 *)g_static_99), 22ull);
-    r_m4 = r_tj;
+l_else_sp:;
+    u8 r_k2 = core_fmt_formatter_Formatter_write_indented_bf264aed5fa78656(a_1, ((u8 *)g_static_101), 22ull);
+    r_m4 = r_k2;
     goto l_std_lh;
 l_arm_lx_38:;
-    if (!r_ts_9) goto l_else_d5;
+    if (!r_ts) goto l_else_6s;
     r_ym_42 = away(a_1, 1032ull);
     r_1x_42 = away(a_1, 4ull);
     r_pv_39 = ld64(r_ym_42);
     r_m0_39 = 13ull;
-    r_w9_39 = ((u8 *)g_static_100);
+    r_w9_39 = ((u8 *)g_static_102);
 l_arm_td_39:;
-    r_62_42 = away(r_w9_39, 1ull);
+    r_62_41 = away(r_w9_39, 1ull);
     r_0f_39 = (r_m0_39 + 0xffffffffffffffffull);
-    r_47_45 = ld8(r_w9_39);
+    r_47_42 = ld8(r_w9_39);
     if (!(r_pv_39 > 1023ull)) { r_km_41 = r_pv_39; goto l_std_41_41; }
     u8 r_ba_42 = std_io_io_buffer_Buffer_flush(a_1);
     if (!r_ba_42) { r_m4 = 1u; goto l_std_lh; }
-    u64 r_38_87 = ld64(r_ym_42);
-    if (r_38_87 > 1023ull) { r_m4 = 1u; goto l_std_lh; }
-    r_km_41 = r_38_87;
+    u64 r_38_46 = ld64(r_ym_42);
+    if (r_38_46 > 1023ull) { r_m4 = 1u; goto l_std_lh; }
+    r_km_41 = r_38_46;
 l_std_41_41:;
-    st8((r_1x_42 + (i64)(r_km_41)), r_47_45);
-    u64 r_c4_45 = (r_km_41 + 1ull);
-    st64(r_ym_42, r_c4_45);
+    st8((r_1x_42 + (i64)(r_km_41)), r_47_42);
+    u64 r_c4_42 = (r_km_41 + 1ull);
+    st64(r_ym_42, r_c4_42);
     if (r_0f_39 == 0ull) { r_m4 = 0u; goto l_std_lh; }
-    r_pv_39 = r_c4_45;
+    r_pv_39 = r_c4_42;
     r_m0_39 = r_0f_39;
-    r_w9_39 = r_62_42;
+    r_w9_39 = r_62_41;
     goto l_arm_td_39;
-l_else_d5:;
-    u8 r_tg = core_fmt_formatter_Formatter_write_indented_bf264aed5fa78656(a_1, ((u8 *)g_static_100), 13ull);
-    r_m4 = r_tg;
+l_else_6s:;
+    u8 r_fg = core_fmt_formatter_Formatter_write_indented_bf264aed5fa78656(a_1, ((u8 *)g_static_102), 13ull);
+    r_m4 = r_fg;
     goto l_std_lh;
 l_arm_lx_39:;
-    if (!r_ts_9) goto l_else_zd;
+    if (!r_ts) goto l_else_6y;
     r_ym_43 = away(a_1, 1032ull);
     r_1x_43 = away(a_1, 4ull);
     r_pv_40 = ld64(r_ym_43);
     r_m0_40 = 11ull;
-    r_w9_40 = ((u8 *)g_static_101);
+    r_w9_40 = ((u8 *)g_static_103);
 l_arm_td_40:;
-    r_62_43 = away(r_w9_40, 1ull);
+    r_62_42 = away(r_w9_40, 1ull);
     r_0f_40 = (r_m0_40 + 0xffffffffffffffffull);
-    r_47_46 = ld8(r_w9_40);
+    r_47_43 = ld8(r_w9_40);
     if (!(r_pv_40 > 1023ull)) { r_km_42 = r_pv_40; goto l_std_41_42; }
     u8 r_ba_43 = std_io_io_buffer_Buffer_flush(a_1);
     if (!r_ba_43) { r_m4 = 1u; goto l_std_lh; }
-    u64 r_38_89 = ld64(r_ym_43);
-    if (r_38_89 > 1023ull) { r_m4 = 1u; goto l_std_lh; }
-    r_km_42 = r_38_89;
+    u64 r_38_47 = ld64(r_ym_43);
+    if (r_38_47 > 1023ull) { r_m4 = 1u; goto l_std_lh; }
+    r_km_42 = r_38_47;
 l_std_41_42:;
-    st8((r_1x_43 + (i64)(r_km_42)), r_47_46);
-    u64 r_c4_46 = (r_km_42 + 1ull);
-    st64(r_ym_43, r_c4_46);
+    st8((r_1x_43 + (i64)(r_km_42)), r_47_43);
+    u64 r_c4_43 = (r_km_42 + 1ull);
+    st64(r_ym_43, r_c4_43);
     if (r_0f_40 == 0ull) { r_m4 = 0u; goto l_std_lh; }
-    r_pv_40 = r_c4_46;
+    r_pv_40 = r_c4_43;
     r_m0_40 = r_0f_40;
-    r_w9_40 = r_62_43;
+    r_w9_40 = r_62_42;
     goto l_arm_td_40;
-l_else_zd:;
-    u8 r_pq = core_fmt_formatter_Formatter_write_indented_bf264aed5fa78656(a_1, ((u8 *)g_static_101), 11ull);
-    r_m4 = r_pq;
+l_else_6y:;
+    u8 r_3x = core_fmt_formatter_Formatter_write_indented_bf264aed5fa78656(a_1, ((u8 *)g_static_103), 11ull);
+    r_m4 = r_3x;
     goto l_std_lh;
 l_arm_lx_40:;
-    if (!r_ts_9) goto l_else_8h;
+    if (!r_ts) goto l_else_ed;
     r_ym_44 = away(a_1, 1032ull);
     r_1x_44 = away(a_1, 4ull);
     r_pv_41 = ld64(r_ym_44);
     r_m0_41 = 11ull;
-    r_w9_41 = ((u8 *)g_static_102);
+    r_w9_41 = ((u8 *)g_static_104);
 l_arm_td_41:;
-    r_62_44 = away(r_w9_41, 1ull);
+    r_62_43 = away(r_w9_41, 1ull);
     r_0f_41 = (r_m0_41 + 0xffffffffffffffffull);
-    r_47_47 = ld8(r_w9_41);
+    r_47_44 = ld8(r_w9_41);
     if (!(r_pv_41 > 1023ull)) { r_km_43 = r_pv_41; goto l_std_41_43; }
     u8 r_ba_44 = std_io_io_buffer_Buffer_flush(a_1);
     if (!r_ba_44) { r_m4 = 1u; goto l_std_lh; }
-    u64 r_38_91 = ld64(r_ym_44);
-    if (r_38_91 > 1023ull) { r_m4 = 1u; goto l_std_lh; }
-    r_km_43 = r_38_91;
+    u64 r_38_48 = ld64(r_ym_44);
+    if (r_38_48 > 1023ull) { r_m4 = 1u; goto l_std_lh; }
+    r_km_43 = r_38_48;
 l_std_41_43:;
-    st8((r_1x_44 + (i64)(r_km_43)), r_47_47);
-    u64 r_c4_47 = (r_km_43 + 1ull);
-    st64(r_ym_44, r_c4_47);
+    st8((r_1x_44 + (i64)(r_km_43)), r_47_44);
+    u64 r_c4_44 = (r_km_43 + 1ull);
+    st64(r_ym_44, r_c4_44);
     if (r_0f_41 == 0ull) { r_m4 = 0u; goto l_std_lh; }
-    r_pv_41 = r_c4_47;
+    r_pv_41 = r_c4_44;
     r_m0_41 = r_0f_41;
-    r_w9_41 = r_62_44;
+    r_w9_41 = r_62_43;
     goto l_arm_td_41;
-l_else_8h:;
-    u8 r_mt = core_fmt_formatter_Formatter_write_indented_bf264aed5fa78656(a_1, ((u8 *)g_static_102), 11ull);
-    r_m4 = r_mt;
+l_else_ed:;
+    u8 r_5b = core_fmt_formatter_Formatter_write_indented_bf264aed5fa78656(a_1, ((u8 *)g_static_104), 11ull);
+    r_m4 = r_5b;
     goto l_std_lh;
 l_arm_lx_41:;
-    if (!r_ts_9) goto l_else_tm;
+    if (!r_ts) goto l_else_zk;
 l_then_je:;
     r_ym_45 = away(a_1, 1032ull);
     r_1x_45 = away(a_1, 4ull);
     r_pv_42 = ld64(r_ym_45);
     r_m0_42 = 19ull;
-    r_w9_42 = ((u8 *)g_static_103);
+    r_w9_42 = ((u8 *)g_static_105);
 l_arm_td_42:;
-    r_62_45 = away(r_w9_42, 1ull);
+    r_62_44 = away(r_w9_42, 1ull);
     r_0f_42 = (r_m0_42 + 0xffffffffffffffffull);
-    r_47_48 = ld8(r_w9_42);
+    r_47_45 = ld8(r_w9_42);
     if (!(r_pv_42 > 1023ull)) { r_km_44 = r_pv_42; goto l_std_41_44; }
     u8 r_ba_45 = std_io_io_buffer_Buffer_flush(a_1);
     if (!r_ba_45) { r_m4 = 1u; goto l_std_lh; }
-    u64 r_38_93 = ld64(r_ym_45);
-    if (r_38_93 > 1023ull) { r_m4 = 1u; goto l_std_lh; }
-    r_km_44 = r_38_93;
+    u64 r_38_49 = ld64(r_ym_45);
+    if (r_38_49 > 1023ull) { r_m4 = 1u; goto l_std_lh; }
+    r_km_44 = r_38_49;
 l_std_41_44:;
-    st8((r_1x_45 + (i64)(r_km_44)), r_47_48);
-    u64 r_c4_48 = (r_km_44 + 1ull);
-    st64(r_ym_45, r_c4_48);
+    st8((r_1x_45 + (i64)(r_km_44)), r_47_45);
+    u64 r_c4_45 = (r_km_44 + 1ull);
+    st64(r_ym_45, r_c4_45);
     if (r_0f_42 == 0ull) { r_m4 = 0u; goto l_std_lh; }
-    r_pv_42 = r_c4_48;
+    r_pv_42 = r_c4_45;
     r_m0_42 = r_0f_42;
-    r_w9_42 = r_62_45;
+    r_w9_42 = r_62_44;
     goto l_arm_td_42;
-l_else_tm:;
-    u8 r_w8 = core_fmt_formatter_Formatter_write_indented_bf264aed5fa78656(a_1, ((u8 *)g_static_103), 19ull);
-    r_m4 = r_w8;
+l_else_zk:;
+    u8 r_wx = core_fmt_formatter_Formatter_write_indented_bf264aed5fa78656(a_1, ((u8 *)g_static_105), 19ull);
+    r_m4 = r_wx;
     goto l_std_lh;
 l_noarm_e1:;
     UNREACHABLE();
@@ -3804,32 +3804,32 @@ l_default_5w:;
     r_1x_46 = away(a_1, 4ull);
     r_9w_2 = ld64(r_ym_46);
     r_uj_2 = r_38;
-    r_35_2 = r_58;
+    r_35_2 = r_uw;
 l_arm_65_2:;
-    r_62_46 = away(r_35_2, 1ull);
-    r_zn_4 = (r_uj_2 + 0xffffffffffffffffull);
-    r_47_49 = ld8(r_35_2);
+    r_62_45 = away(r_35_2, 1ull);
+    r_zn_3 = (r_uj_2 + 0xffffffffffffffffull);
+    r_47_46 = ld8(r_35_2);
     if (!(r_9w_2 > 1023ull)) { r_km_45 = r_9w_2; goto l_std_41_45; }
     u8 r_ba_46 = std_io_io_buffer_Buffer_flush(a_1);
     if (!r_ba_46) { r_m4 = 1u; goto l_std_lh; }
-    u64 r_38_95 = ld64(r_ym_46);
-    if (r_38_95 > 1023ull) { r_m4 = 1u; goto l_std_lh; }
-    r_km_45 = r_38_95;
+    u64 r_38_50 = ld64(r_ym_46);
+    if (r_38_50 > 1023ull) { r_m4 = 1u; goto l_std_lh; }
+    r_km_45 = r_38_50;
 l_std_41_45:;
-    st8((r_1x_46 + (i64)(r_km_45)), r_47_49);
-    u64 r_c4_49 = (r_km_45 + 1ull);
-    st64(r_ym_46, r_c4_49);
-    if (r_zn_4 == 0ull) { r_m4 = 0u; goto l_std_lh; }
-    r_9w_2 = r_c4_49;
-    r_uj_2 = r_zn_4;
-    r_35_2 = r_62_46;
+    st8((r_1x_46 + (i64)(r_km_45)), r_47_46);
+    u64 r_c4_46 = (r_km_45 + 1ull);
+    st64(r_ym_46, r_c4_46);
+    if (r_zn_3 == 0ull) { r_m4 = 0u; goto l_std_lh; }
+    r_9w_2 = r_c4_46;
+    r_uj_2 = r_zn_3;
+    r_35_2 = r_62_45;
     goto l_arm_65_2;
 l_else_xg:;
-    u8 r_q3_2 = core_fmt_formatter_Formatter_write_indented_bf264aed5fa78656(a_1, r_58, r_vj);
+    u8 r_q3_2 = core_fmt_formatter_Formatter_write_indented_bf264aed5fa78656(a_1, r_uw, r_vj);
     r_m4 = r_q3_2;
     goto l_std_lh;
 l_after_03:;
-    u8 r_rr = core_fmt_formatter_Formatter_cut_and_fill_bf264aed5fa78656(a_1, r_58, r_vj);
+    u8 r_rr = core_fmt_formatter_Formatter_cut_and_fill_bf264aed5fa78656(a_1, r_uw, r_vj);
     r_m4 = r_rr;
 l_std_lh:;
     return r_m4;
@@ -3978,8 +3978,8 @@ l_arm_65_1:;
     r_47_1 = ld8(r_35_1);
     if (!(r_9w_1 > 1023ull)) { r_km_1 = r_9w_1; goto l_std_41_1; }
     u8 r_m5_1 = std_io_io_buffer_Buffer_flush(slot_4);
-    u64 r_38_2 = ld64(r_e1_1);
-    if (r_m5_1 ? (r_38_2 < 1024ull) : 0u) { r_km_1 = r_38_2; goto l_std_41_1; }
+    u64 r_38_1 = ld64(r_e1_1);
+    if (r_m5_1 ? (r_38_1 < 1024ull) : 0u) { r_km_1 = r_38_1; goto l_std_41_1; }
     goto l_core_pf;
 l_std_41_1:;
     st8((r_ix + (i64)(r_km_1)), r_47_1);
@@ -3994,11 +3994,11 @@ l_core_rq:;
     u8 r_sr = core_fmt_formatter_Formatter_write_indented_bf264aed5fa78656(slot_4, r_rv, r_qw_1);
     if (!(r_sr == 0u)) goto l_core_pf;
 l_arm_g6:;
-    u64 r_38_3 = ld64(r_lp);
+    u64 r_38_2 = ld64(r_lp);
     st32(r_s4, 32u);
     memset(r_uy, 0u, 12);
     st64(r_ky, 0xffffffffffffffffull);
-    if (!(r_38_3 == 0ull)) goto l_core_rq_1;
+    if (!(r_38_2 == 0ull)) goto l_core_rq_1;
 l_then_7z_1:;
     if (r_qw_2 == 0ull) goto l_arm_h0;
     r_e1_2 = (slot_4 + 1032);
@@ -4011,8 +4011,8 @@ l_arm_65_2:;
     r_47_2 = ld8(r_35_2);
     if (!(r_9w_2 > 1023ull)) { r_km_2 = r_9w_2; goto l_std_41_2; }
     u8 r_m5_2 = std_io_io_buffer_Buffer_flush(slot_4);
-    u64 r_38_5 = ld64(r_e1_2);
-    if (r_m5_2 ? (r_38_5 < 1024ull) : 0u) { r_km_2 = r_38_5; goto l_std_41_2; }
+    u64 r_38_3 = ld64(r_e1_2);
+    if (r_m5_2 ? (r_38_3 < 1024ull) : 0u) { r_km_2 = r_38_3; goto l_std_41_2; }
     goto l_core_pf;
 l_std_41_2:;
     st8((r_ix + (i64)(r_km_2)), r_47_2);
@@ -4044,8 +4044,8 @@ l_arm_65_3:;
     r_47_3 = ld8(r_35_3);
     if (!(r_9w_3 > 1023ull)) { r_km_3 = r_9w_3; goto l_std_41_3; }
     u8 r_m5_3 = std_io_io_buffer_Buffer_flush(slot_4);
-    u64 r_38_7 = ld64(r_e1_3);
-    if (r_m5_3 ? (r_38_7 < 1024ull) : 0u) { r_km_3 = r_38_7; goto l_std_41_3; }
+    u64 r_38_4 = ld64(r_e1_3);
+    if (r_m5_3 ? (r_38_4 < 1024ull) : 0u) { r_km_3 = r_38_4; goto l_std_41_3; }
     goto l_core_pf;
 l_std_41_3:;
     st8((r_ix + (i64)(r_km_3)), r_47_3);
@@ -4074,11 +4074,11 @@ l_arm_9c:;
     st64(r_ky, 0xffffffffffffffffull);
     if (!(ld64(r_lp) == 0ull)) goto l_else_7o;
     r_e1_4 = (slot_4 + 1032);
-    u64 r_38_8 = ld64(r_e1_4);
-    if (!(r_38_8 > 1023ull)) { r_4x = r_38_8; goto l_std_vs; }
+    u64 r_38_5 = ld64(r_e1_4);
+    if (!(r_38_5 > 1023ull)) { r_4x = r_38_5; goto l_std_vs; }
     u8 r_m5_4 = std_io_io_buffer_Buffer_flush(slot_4);
-    u64 r_38_9 = ld64(r_e1_4);
-    if (r_m5_4 ? (r_38_9 < 1024ull) : 0u) { r_4x = r_38_9; goto l_std_vs; }
+    u64 r_38_6 = ld64(r_e1_4);
+    if (r_m5_4 ? (r_38_6 < 1024ull) : 0u) { r_4x = r_38_6; goto l_std_vs; }
     r_bu = 0u;
     goto l_core_pf_1;
 l_std_vs:;
@@ -4114,16 +4114,16 @@ l_join_to:;
     u8 r_sw = ld8((slot_1 + 1050));
     u8 r_dd_1 = ld8((slot_1 + 1051));
     u32 r_uq = ld32((slot_1 + 1052));
-    u64 r_38_10 = ld64((slot_1 + 1056));
-    u64 r_38_11 = ld64((slot_1 + 1064));
+    u64 r_38_7 = ld64((slot_1 + 1056));
+    u64 r_38_8 = ld64((slot_1 + 1064));
     mv64(slot_2, (slot_1 + 1072));
     r_jt = r_r5;
     r_qc = r_dd;
     r_yd = r_sw;
     r_x1 = r_dd_1;
     r_g6 = r_uq;
-    r_qc_1 = r_38_10;
-    r_bi = r_38_11;
+    r_qc_1 = r_38_7;
+    r_bi = r_38_8;
     goto l_join_qx;
 l_arm_or:;
     memset(slot_2, 46u, 64);
@@ -4187,8 +4187,8 @@ void std_io_io_LibcRuntimeEprint_eprintln_213d5a088f689746(u8 *a_1, u8 *a_2)
     u8 r_47;
     u64 r_km;
     u64 r_c4_1;
-    u8 *r_xw_2;
-    u64 r_38_4;
+    u8 *r_xw;
+    u64 r_38_2;
     u64 r_5a;
     u64 r_2l;
     u8 *r_9a;
@@ -4200,8 +4200,8 @@ void std_io_io_LibcRuntimeEprint_eprintln_213d5a088f689746(u8 *a_1, u8 *a_2)
     u64 r_zn_1;
     u8 r_47_1;
     u64 r_km_1;
-    u8 *r_xw_4;
-    u64 r_38_8;
+    u8 *r_xw_1;
+    u64 r_38_4;
     u64 r_ry;
     u8 *r_9n;
     u8 *r_e1_2;
@@ -4270,8 +4270,8 @@ l_arm_65:;
     r_47 = ld8(r_35);
     if (!(r_9w > 1023ull)) { r_km = r_9w; goto l_std_41; }
     u8 r_m5 = std_io_io_buffer_Buffer_flush(slot_5);
-    u64 r_38_2 = ld64(r_e1);
-    if (r_m5 ? (r_38_2 < 1024ull) : 0u) { r_km = r_38_2; goto l_std_41; }
+    u64 r_38_1 = ld64(r_e1);
+    if (r_m5 ? (r_38_1 < 1024ull) : 0u) { r_km = r_38_1; goto l_std_41; }
     goto l_core_pf;
 l_std_41:;
     st8((r_ix + (i64)(r_km)), r_47);
@@ -4282,9 +4282,9 @@ l_std_41:;
     st32(r_s4, 32u);
     memset(r_uy, 0u, 12);
     st64(r_ky, 0xffffffffffffffffull);
-    r_xw_2 = ldp(r_zd);
-    r_38_4 = ld64((slot_4 + 24));
-    if (t_ts) { r_5a = r_c4_1; r_2l = r_38_4; r_9a = r_xw_2; goto l_then_7z; }
+    r_xw = ldp(r_zd);
+    r_38_2 = ld64((slot_4 + 24));
+    if (t_ts) { r_5a = r_c4_1; r_2l = r_38_2; r_9a = r_xw; goto l_then_7z; }
     goto l_core_rq;
 l_then_7z:;
     if (!(r_2l == 0ull)) goto l_arm_yd;
@@ -4305,8 +4305,8 @@ l_arm_65_1:;
     r_47_1 = ld8(r_35_1);
     if (!(r_9w_1 > 1023ull)) { r_km_1 = r_9w_1; goto l_std_41_1; }
     u8 r_m5_1 = std_io_io_buffer_Buffer_flush(slot_5);
-    u64 r_38_6 = ld64(r_e1_1);
-    if (r_m5_1 ? (r_38_6 < 1024ull) : 0u) { r_km_1 = r_38_6; goto l_std_41_1; }
+    u64 r_38_3 = ld64(r_e1_1);
+    if (r_m5_1 ? (r_38_3 < 1024ull) : 0u) { r_km_1 = r_38_3; goto l_std_41_1; }
     goto l_core_pf;
 l_std_41_1:;
     st8((r_ix + (i64)(r_km_1)), r_47_1);
@@ -4318,16 +4318,16 @@ l_std_41_1:;
     r_35_1 = r_62_1;
     goto l_arm_65_1;
 l_core_rq:;
-    u8 r_sr = core_fmt_formatter_Formatter_write_indented_bf264aed5fa78656(slot_5, r_xw_2, r_38_4);
+    u8 r_sr = core_fmt_formatter_Formatter_write_indented_bf264aed5fa78656(slot_5, r_xw, r_38_2);
     if (!(r_sr == 0u)) goto l_core_pf;
 l_arm_21:;
     u8 t_ts_1 = (ld64(r_lp) == 0ull);
     st32(r_s4, 32u);
     memset(r_uy, 0u, 12);
     st64(r_ky, 0xffffffffffffffffull);
-    r_xw_4 = ldp(r_89);
-    r_38_8 = ld64((slot_4 + 40));
-    if (t_ts_1) { r_ry = r_38_8; r_9n = r_xw_4; goto l_then_mi; }
+    r_xw_1 = ldp(r_89);
+    r_38_4 = ld64((slot_4 + 40));
+    if (t_ts_1) { r_ry = r_38_4; r_9n = r_xw_1; goto l_then_mi; }
     goto l_core_en;
 l_then_mi:;
     if (r_ry == 0ull) goto l_core_ca;
@@ -4341,8 +4341,8 @@ l_arm_65_2:;
     r_47_2 = ld8(r_35_2);
     if (!(r_9w_2 > 1023ull)) { r_km_2 = r_9w_2; goto l_std_41_2; }
     u8 r_m5_2 = std_io_io_buffer_Buffer_flush(slot_5);
-    u64 r_38_10 = ld64(r_e1_2);
-    if (r_m5_2 ? (r_38_10 < 1024ull) : 0u) { r_km_2 = r_38_10; goto l_std_41_2; }
+    u64 r_38_5 = ld64(r_e1_2);
+    if (r_m5_2 ? (r_38_5 < 1024ull) : 0u) { r_km_2 = r_38_5; goto l_std_41_2; }
     goto l_core_pf;
 l_std_41_2:;
     st8((r_ix + (i64)(r_km_2)), r_47_2);
@@ -4354,7 +4354,7 @@ l_std_41_2:;
     r_35_2 = r_62_2;
     goto l_arm_65_2;
 l_core_en:;
-    u8 r_sr_1 = core_fmt_formatter_Formatter_write_indented_bf264aed5fa78656(slot_5, r_xw_4, r_38_8);
+    u8 r_sr_1 = core_fmt_formatter_Formatter_write_indented_bf264aed5fa78656(slot_5, r_xw_1, r_38_4);
     if (r_sr_1 == 0u) goto l_core_ca;
 l_core_pf:;
     mv24(r_s4, slot_1);
@@ -4370,11 +4370,11 @@ l_core_ca:;
     st64(r_ky, 0xffffffffffffffffull);
     if (!(ld64(r_lp) == 0ull)) goto l_else_7o;
     r_e1_3 = (slot_5 + 1032);
-    u64 r_38_11 = ld64(r_e1_3);
-    if (!(r_38_11 > 1023ull)) { r_4x = r_38_11; goto l_std_vs; }
+    u64 r_38_6 = ld64(r_e1_3);
+    if (!(r_38_6 > 1023ull)) { r_4x = r_38_6; goto l_std_vs; }
     u8 r_m5_3 = std_io_io_buffer_Buffer_flush(slot_5);
-    u64 r_38_12 = ld64(r_e1_3);
-    if (r_m5_3 ? (r_38_12 < 1024ull) : 0u) { r_4x = r_38_12; goto l_std_vs; }
+    u64 r_38_7 = ld64(r_e1_3);
+    if (r_m5_3 ? (r_38_7 < 1024ull) : 0u) { r_4x = r_38_7; goto l_std_vs; }
     r_bu = 0u;
     goto l_core_pf_1;
 l_std_vs:;
@@ -4410,16 +4410,16 @@ l_join_to:;
     u8 r_sw = ld8((slot_1 + 1050));
     u8 r_dd_1 = ld8((slot_1 + 1051));
     u32 r_uq = ld32((slot_1 + 1052));
-    u64 r_38_13 = ld64((slot_1 + 1056));
-    u64 r_38_14 = ld64((slot_1 + 1064));
+    u64 r_38_8 = ld64((slot_1 + 1056));
+    u64 r_38_9 = ld64((slot_1 + 1064));
     mv64(slot_2, (slot_1 + 1072));
     r_jt = r_r5;
     r_qc = r_dd;
     r_yd = r_sw;
     r_x1 = r_dd_1;
     r_g6 = r_uq;
-    r_qc_1 = r_38_13;
-    r_bi = r_38_14;
+    r_qc_1 = r_38_8;
+    r_bi = r_38_9;
     goto l_join_qx;
 l_arm_or:;
     memset(slot_2, 46u, 64);
@@ -4598,8 +4598,8 @@ l_arm_65_1:;
     r_47_1 = ld8(r_35_1);
     if (!(r_9w_1 > 1023ull)) { r_km_1 = r_9w_1; goto l_std_41_1; }
     u8 r_m5_1 = std_io_io_buffer_Buffer_flush(slot_4);
-    u64 r_38_2 = ld64(r_e1_1);
-    if (r_m5_1 ? (r_38_2 < 1024ull) : 0u) { r_km_1 = r_38_2; goto l_std_41_1; }
+    u64 r_38_1 = ld64(r_e1_1);
+    if (r_m5_1 ? (r_38_1 < 1024ull) : 0u) { r_km_1 = r_38_1; goto l_std_41_1; }
     goto l_core_pf;
 l_std_41_1:;
     st8((r_ix + (i64)(r_km_1)), r_47_1);
@@ -4614,11 +4614,11 @@ l_core_rq:;
     u8 r_sr = core_fmt_formatter_Formatter_write_indented_bf264aed5fa78656(slot_4, r_rv, r_qw_1);
     if (!(r_sr == 0u)) goto l_core_pf;
 l_arm_g6:;
-    u64 r_38_3 = ld64(r_lp);
+    u64 r_38_2 = ld64(r_lp);
     st32(r_s4, 32u);
     memset(r_uy, 0u, 12);
     st64(r_ky, 0xffffffffffffffffull);
-    if (!(r_38_3 == 0ull)) goto l_core_rq_1;
+    if (!(r_38_2 == 0ull)) goto l_core_rq_1;
 l_then_7z_1:;
     if (r_qw_2 == 0ull) goto l_arm_2r;
     r_e1_2 = (slot_4 + 1032);
@@ -4631,8 +4631,8 @@ l_arm_65_2:;
     r_47_2 = ld8(r_35_2);
     if (!(r_9w_2 > 1023ull)) { r_km_2 = r_9w_2; goto l_std_41_2; }
     u8 r_m5_2 = std_io_io_buffer_Buffer_flush(slot_4);
-    u64 r_38_5 = ld64(r_e1_2);
-    if (r_m5_2 ? (r_38_5 < 1024ull) : 0u) { r_km_2 = r_38_5; goto l_std_41_2; }
+    u64 r_38_3 = ld64(r_e1_2);
+    if (r_m5_2 ? (r_38_3 < 1024ull) : 0u) { r_km_2 = r_38_3; goto l_std_41_2; }
     goto l_core_pf;
 l_std_41_2:;
     st8((r_ix + (i64)(r_km_2)), r_47_2);
@@ -4664,8 +4664,8 @@ l_arm_65_3:;
     r_47_3 = ld8(r_35_3);
     if (!(r_9w_3 > 1023ull)) { r_km_3 = r_9w_3; goto l_std_41_3; }
     u8 r_m5_3 = std_io_io_buffer_Buffer_flush(slot_4);
-    u64 r_38_7 = ld64(r_e1_3);
-    if (r_m5_3 ? (r_38_7 < 1024ull) : 0u) { r_km_3 = r_38_7; goto l_std_41_3; }
+    u64 r_38_4 = ld64(r_e1_3);
+    if (r_m5_3 ? (r_38_4 < 1024ull) : 0u) { r_km_3 = r_38_4; goto l_std_41_3; }
     goto l_core_pf;
 l_std_41_3:;
     st8((r_ix + (i64)(r_km_3)), r_47_3);
@@ -4694,11 +4694,11 @@ l_arm_9c:;
     st64(r_ky, 0xffffffffffffffffull);
     if (!(ld64(r_lp) == 0ull)) goto l_else_7o;
     r_e1_4 = (slot_4 + 1032);
-    u64 r_38_8 = ld64(r_e1_4);
-    if (!(r_38_8 > 1023ull)) { r_4x = r_38_8; goto l_std_vs; }
+    u64 r_38_5 = ld64(r_e1_4);
+    if (!(r_38_5 > 1023ull)) { r_4x = r_38_5; goto l_std_vs; }
     u8 r_m5_4 = std_io_io_buffer_Buffer_flush(slot_4);
-    u64 r_38_9 = ld64(r_e1_4);
-    if (r_m5_4 ? (r_38_9 < 1024ull) : 0u) { r_4x = r_38_9; goto l_std_vs; }
+    u64 r_38_6 = ld64(r_e1_4);
+    if (r_m5_4 ? (r_38_6 < 1024ull) : 0u) { r_4x = r_38_6; goto l_std_vs; }
     r_bu = 0u;
     goto l_core_pf_1;
 l_std_vs:;
@@ -4714,6 +4714,364 @@ l_core_pf_1:;
     r_b2 = r_bu;
 l_join_2k:;
     st32(slot_1, ld32(slot_4));
+    memcpy((slot_1 + 4), r_ix, 1132);
+    u8 r_vx = std_io_io_buffer_Buffer_flush(slot_1);
+    if (!(u8)((u8)r_b2 & (u8)r_vx)) goto l_join_to;
+    memset(slot_3, 0u, 64);
+    r_u5 = 0u;
+    r_mz = 0u;
+    r_pi = 0u;
+    r_gx = 0u;
+    r_wb = 0u;
+    r_8b = 0u;
+    r_59 = 0ull;
+    r_nl = 0ull;
+    goto l_std_jl;
+l_join_to:;
+    if (!(ld8((slot_1 + 1040)) == 1u)) goto l_arm_or;
+    u8 r_r5 = ld8((slot_1 + 1048));
+    u8 r_dd = ld8((slot_1 + 1049));
+    u8 r_sw = ld8((slot_1 + 1050));
+    u8 r_dd_1 = ld8((slot_1 + 1051));
+    u32 r_uq = ld32((slot_1 + 1052));
+    u64 r_38_7 = ld64((slot_1 + 1056));
+    u64 r_38_8 = ld64((slot_1 + 1064));
+    mv64(slot_2, (slot_1 + 1072));
+    r_jt = r_r5;
+    r_qc = r_dd;
+    r_yd = r_sw;
+    r_x1 = r_dd_1;
+    r_g6 = r_uq;
+    r_qc_1 = r_38_7;
+    r_bi = r_38_8;
+    goto l_join_qx;
+l_arm_or:;
+    memset(slot_2, 46u, 64);
+    r_jt = 2u;
+    r_qc = 41u;
+    r_yd = 15u;
+    r_x1 = 0u;
+    r_g6 = 0u;
+    r_qc_1 = 0x657474616d726f66ull;
+    r_bi = 0x2e726f7272652072ull;
+l_join_qx:;
+    mv64(slot_3, slot_2);
+    r_u5 = 1u;
+    r_mz = r_jt;
+    r_pi = r_qc;
+    r_gx = r_yd;
+    r_wb = r_x1;
+    r_8b = r_g6;
+    r_59 = r_qc_1;
+    r_nl = r_bi;
+l_std_jl:;
+    mv64(slot_5, slot_3);
+    mv64(slot_6, slot_5);
+    st8(a_1, r_u5);
+    st8(away(a_1, 8ull), r_mz);
+    st8(away(a_1, 9ull), r_pi);
+    st8(away(a_1, 10ull), r_gx);
+    st8(away(a_1, 11ull), r_wb);
+    st32(away(a_1, 12ull), r_8b);
+    st64(away(a_1, 16ull), r_59);
+    st64(away(a_1, 24ull), r_nl);
+    mv64(away(a_1, 32ull), slot_6);
+    return;
+}
+
+/* std_io::io::LibcRuntimeEprint::eprint::<#a60bf8f0966fe87f> */
+void std_io_io_LibcRuntimeEprint_eprint_a60bf8f0966fe87f(u8 *a_1, u8 *a_2)
+{
+    A(8) u8 slot_1[1136];
+    A(1) u8 slot_2[64];
+    A(8) u8 slot_3[64];
+    A(8) u8 slot_4[112];
+    A(8) u8 slot_5[1176];
+    A(8) u8 slot_6[64];
+    A(8) u8 slot_7[64];
+    u8 *r_ix;
+    u8 *r_s4;
+    u8 *r_uy;
+    u8 *r_ky;
+    u8 *r_lp;
+    u8 *r_zd;
+    u8 *r_lk;
+    u8 *r_a8;
+    u64 r_38;
+    u8 *r_e1;
+    u64 r_9w;
+    u64 r_uj;
+    u8 *r_35;
+    u8 *r_62;
+    u64 r_zn;
+    u8 r_47;
+    u64 r_km;
+    u8 *r_xw;
+    u64 r_38_2;
+    u8 *r_e1_1;
+    u64 r_9w_1;
+    u64 r_uj_1;
+    u8 *r_35_1;
+    u8 *r_62_1;
+    u64 r_zn_1;
+    u8 r_47_1;
+    u64 r_km_1;
+    u8 *r_5q;
+    u8 *r_1e;
+    u8 *r_k5;
+    u8 *r_xw_1;
+    u64 r_38_4;
+    u8 *r_e1_2;
+    u64 r_9w_2;
+    u64 r_uj_2;
+    u8 *r_35_2;
+    u8 *r_62_2;
+    u64 r_zn_2;
+    u8 r_47_2;
+    u64 r_km_2;
+    u8 *r_xw_2;
+    u64 r_38_6;
+    u8 *r_e1_3;
+    u64 r_9w_3;
+    u64 r_uj_3;
+    u8 *r_35_3;
+    u8 *r_62_3;
+    u64 r_zn_3;
+    u8 r_47_3;
+    u64 r_km_3;
+    u8 *r_xw_3;
+    u64 r_38_8;
+    u8 *r_e1_4;
+    u64 r_9w_4;
+    u64 r_uj_4;
+    u8 *r_35_4;
+    u8 *r_62_4;
+    u64 r_zn_4;
+    u8 r_47_4;
+    u64 r_km_4;
+    u8 r_bu;
+    u8 r_b2;
+    u8 r_jt;
+    u8 r_qc;
+    u8 r_yd;
+    u8 r_x1;
+    u32 r_g6;
+    u64 r_qc_1;
+    u64 r_bi;
+    u8 r_u5;
+    u8 r_mz;
+    u8 r_pi;
+    u8 r_gx;
+    u8 r_wb;
+    u32 r_8b;
+    u64 r_59;
+    u64 r_nl;
+    memset(slot_7, 0u, 64);
+    memcpy(slot_4, a_2, 112);
+    memset(slot_6, 0u, 64);
+    memset(slot_3, 0u, 64);
+    st32(slot_5, 2u);
+    r_ix = (slot_5 + 4);
+    memset(r_ix, 0u, 1132);
+    r_s4 = (slot_5 + 1136);
+    st32(r_s4, 32u);
+    r_uy = (slot_5 + 1140);
+    r_ky = (slot_5 + 1152);
+    memset(r_uy, 0u, 12);
+    st64(r_ky, 0xffffffffffffffffull);
+    r_lp = (slot_5 + 1160);
+    memset(r_lp, 0u, 16);
+    mv24(slot_1, r_s4);
+    r_zd = (slot_4 + 16);
+    r_lk = (slot_4 + 24);
+    r_a8 = (slot_4 + 40);
+    st32(r_s4, 32u);
+    memset(r_uy, 0u, 12);
+    st64(r_ky, 0xffffffffffffffffull);
+    r_38 = ld64((slot_4 + 8));
+    if (r_38 == 0ull) goto l_core_yi;
+    r_e1 = (slot_5 + 1032);
+    r_9w = 0ull;
+    r_uj = r_38;
+    r_35 = ldp(slot_4);
+l_arm_65:;
+    r_62 = away(r_35, 1ull);
+    r_zn = (r_uj + 0xffffffffffffffffull);
+    r_47 = ld8(r_35);
+    if (!(r_9w > 1023ull)) { r_km = r_9w; goto l_std_41; }
+    u8 r_m5 = std_io_io_buffer_Buffer_flush(slot_5);
+    u64 r_38_1 = ld64(r_e1);
+    if (r_m5 ? (r_38_1 < 1024ull) : 0u) { r_km = r_38_1; goto l_std_41; }
+    goto l_core_pf;
+l_std_41:;
+    st8((r_ix + (i64)(r_km)), r_47);
+    u64 r_c4 = (r_km + 1ull);
+    st64(r_e1, r_c4);
+    if (!(r_zn == 0ull)) { r_9w = r_c4; r_uj = r_zn; r_35 = r_62; goto l_arm_65; }
+l_core_yi:;
+    u8 r_od = core_fmt_formatter_Formatter_write_piece_ad6cde96c05b3f7d(slot_5, r_zd);
+    if (!(r_od == 0u)) goto l_core_pf;
+    st32(r_s4, 32u);
+    memset(r_uy, 0u, 12);
+    st64(r_ky, 0xffffffffffffffffull);
+    r_xw = ldp(r_lk);
+    r_38_2 = ld64((slot_4 + 32));
+    if (!(ld64(r_lp) == 0ull)) goto l_core_en;
+    if (r_38_2 == 0ull) goto l_core_f9;
+    r_e1_1 = (slot_5 + 1032);
+    r_9w_1 = ld64(r_e1_1);
+    r_uj_1 = r_38_2;
+    r_35_1 = r_xw;
+l_arm_65_1:;
+    r_62_1 = away(r_35_1, 1ull);
+    r_zn_1 = (r_uj_1 + 0xffffffffffffffffull);
+    r_47_1 = ld8(r_35_1);
+    if (!(r_9w_1 > 1023ull)) { r_km_1 = r_9w_1; goto l_std_41_1; }
+    u8 r_m5_1 = std_io_io_buffer_Buffer_flush(slot_5);
+    u64 r_38_3 = ld64(r_e1_1);
+    if (r_m5_1 ? (r_38_3 < 1024ull) : 0u) { r_km_1 = r_38_3; goto l_std_41_1; }
+    goto l_core_pf;
+l_std_41_1:;
+    st8((r_ix + (i64)(r_km_1)), r_47_1);
+    u64 r_c4_1 = (r_km_1 + 1ull);
+    st64(r_e1_1, r_c4_1);
+    if (r_zn_1 == 0ull) goto l_core_f9;
+    r_9w_1 = r_c4_1;
+    r_uj_1 = r_zn_1;
+    r_35_1 = r_62_1;
+    goto l_arm_65_1;
+l_core_en:;
+    u8 r_sr = core_fmt_formatter_Formatter_write_indented_bf264aed5fa78656(slot_5, r_xw, r_38_2);
+    if (!(r_sr == 0u)) goto l_core_pf;
+l_core_f9:;
+    u8 r_od_1 = core_fmt_formatter_Formatter_write_piece_ad6cde96c05b3f7d(slot_5, r_a8);
+    r_5q = (slot_4 + 64);
+    r_1e = (slot_4 + 72);
+    r_k5 = (slot_4 + 88);
+    if (!(r_od_1 == 0u)) goto l_core_pf;
+    st32(r_s4, 32u);
+    memset(r_uy, 0u, 12);
+    st64(r_ky, 0xffffffffffffffffull);
+    r_xw_1 = ldp((slot_4 + 48));
+    r_38_4 = ld64((slot_4 + 56));
+    if (!(ld64(r_lp) == 0ull)) goto l_core_en_1;
+    if (r_38_4 == 0ull) goto l_core_yi_1;
+    r_e1_2 = (slot_5 + 1032);
+    r_9w_2 = ld64(r_e1_2);
+    r_uj_2 = r_38_4;
+    r_35_2 = r_xw_1;
+l_arm_65_2:;
+    r_62_2 = away(r_35_2, 1ull);
+    r_zn_2 = (r_uj_2 + 0xffffffffffffffffull);
+    r_47_2 = ld8(r_35_2);
+    if (!(r_9w_2 > 1023ull)) { r_km_2 = r_9w_2; goto l_std_41_2; }
+    u8 r_m5_2 = std_io_io_buffer_Buffer_flush(slot_5);
+    u64 r_38_5 = ld64(r_e1_2);
+    if (r_m5_2 ? (r_38_5 < 1024ull) : 0u) { r_km_2 = r_38_5; goto l_std_41_2; }
+    goto l_core_pf;
+l_std_41_2:;
+    st8((r_ix + (i64)(r_km_2)), r_47_2);
+    u64 r_c4_2 = (r_km_2 + 1ull);
+    st64(r_e1_2, r_c4_2);
+    if (r_zn_2 == 0ull) goto l_core_yi_1;
+    r_9w_2 = r_c4_2;
+    r_uj_2 = r_zn_2;
+    r_35_2 = r_62_2;
+    goto l_arm_65_2;
+l_core_en_1:;
+    u8 r_sr_1 = core_fmt_formatter_Formatter_write_indented_bf264aed5fa78656(slot_5, r_xw_1, r_38_4);
+    if (!(r_sr_1 == 0u)) goto l_core_pf;
+l_core_yi_1:;
+    u8 r_od_2 = core_fmt_formatter_Formatter_write_piece_ad6cde96c05b3f7d(slot_5, r_5q);
+    if (!(r_od_2 == 0u)) goto l_core_pf;
+    st32(r_s4, 32u);
+    memset(r_uy, 0u, 12);
+    st64(r_ky, 0xffffffffffffffffull);
+    r_xw_2 = ldp(r_1e);
+    r_38_6 = ld64((slot_4 + 80));
+    if (!(ld64(r_lp) == 0ull)) goto l_core_en_2;
+    if (r_38_6 == 0ull) goto l_core_yi_2;
+    r_e1_3 = (slot_5 + 1032);
+    r_9w_3 = ld64(r_e1_3);
+    r_uj_3 = r_38_6;
+    r_35_3 = r_xw_2;
+l_arm_65_3:;
+    r_62_3 = away(r_35_3, 1ull);
+    r_zn_3 = (r_uj_3 + 0xffffffffffffffffull);
+    r_47_3 = ld8(r_35_3);
+    if (!(r_9w_3 > 1023ull)) { r_km_3 = r_9w_3; goto l_std_41_3; }
+    u8 r_m5_3 = std_io_io_buffer_Buffer_flush(slot_5);
+    u64 r_38_7 = ld64(r_e1_3);
+    if (r_m5_3 ? (r_38_7 < 1024ull) : 0u) { r_km_3 = r_38_7; goto l_std_41_3; }
+    goto l_core_pf;
+l_std_41_3:;
+    st8((r_ix + (i64)(r_km_3)), r_47_3);
+    u64 r_c4_3 = (r_km_3 + 1ull);
+    st64(r_e1_3, r_c4_3);
+    if (r_zn_3 == 0ull) goto l_core_yi_2;
+    r_9w_3 = r_c4_3;
+    r_uj_3 = r_zn_3;
+    r_35_3 = r_62_3;
+    goto l_arm_65_3;
+l_core_en_2:;
+    u8 r_sr_2 = core_fmt_formatter_Formatter_write_indented_bf264aed5fa78656(slot_5, r_xw_2, r_38_6);
+    if (!(r_sr_2 == 0u)) goto l_core_pf;
+l_core_yi_2:;
+    u8 r_od_3 = core_fmt_formatter_Formatter_write_piece_ad6cde96c05b3f7d(slot_5, r_k5);
+    if (!(r_od_3 == 0u)) goto l_core_pf;
+    st32(r_s4, 32u);
+    memset(r_uy, 0u, 12);
+    st64(r_ky, 0xffffffffffffffffull);
+    r_xw_3 = ldp((slot_4 + 96));
+    r_38_8 = ld64((slot_4 + 104));
+    if (!(ld64(r_lp) == 0ull)) goto l_core_id;
+    if (r_38_8 == 0ull) goto l_core_3b;
+    r_e1_4 = (slot_5 + 1032);
+    r_9w_4 = ld64(r_e1_4);
+    r_uj_4 = r_38_8;
+    r_35_4 = r_xw_3;
+l_arm_65_4:;
+    r_62_4 = away(r_35_4, 1ull);
+    r_zn_4 = (r_uj_4 + 0xffffffffffffffffull);
+    r_47_4 = ld8(r_35_4);
+    if (!(r_9w_4 > 1023ull)) { r_km_4 = r_9w_4; goto l_std_41_4; }
+    u8 r_m5_4 = std_io_io_buffer_Buffer_flush(slot_5);
+    u64 r_38_9 = ld64(r_e1_4);
+    if (r_m5_4 ? (r_38_9 < 1024ull) : 0u) { r_km_4 = r_38_9; goto l_std_41_4; }
+    goto l_core_pf;
+l_std_41_4:;
+    st8((r_ix + (i64)(r_km_4)), r_47_4);
+    u64 r_c4_4 = (r_km_4 + 1ull);
+    st64(r_e1_4, r_c4_4);
+    if (r_zn_4 == 0ull) goto l_core_3b;
+    r_9w_4 = r_c4_4;
+    r_uj_4 = r_zn_4;
+    r_35_4 = r_62_4;
+    goto l_arm_65_4;
+l_core_pf:;
+    mv24(r_s4, slot_1);
+    r_b2 = 0u;
+    goto l_join_2k;
+l_core_3b:;
+    mv24(r_s4, slot_1);
+    goto l_arm_9c;
+l_core_id:;
+    u8 r_sr_3 = core_fmt_formatter_Formatter_write_indented_bf264aed5fa78656(slot_5, r_xw_3, r_38_8);
+    mv24(r_s4, slot_1);
+    if (!(r_sr_3 == 0u)) { r_b2 = 0u; goto l_join_2k; }
+l_arm_9c:;
+    mv24(slot_1, r_s4);
+    st32(r_s4, 32u);
+    memset(r_uy, 0u, 12);
+    st64(r_ky, 0xffffffffffffffffull);
+    if (ld64(r_lp) == 0ull) { r_bu = 1u; goto l_core_pf_1; }
+    u8 r_by = core_fmt_formatter_Formatter_write_indented_bf264aed5fa78656(slot_5, ((u8 *)g_static_297), 0ull);
+    r_bu = (r_by == 0u);
+l_core_pf_1:;
+    mv24(r_s4, slot_1);
+    r_b2 = r_bu;
+l_join_2k:;
+    st32(slot_1, ld32(slot_5));
     memcpy((slot_1 + 4), r_ix, 1132);
     u8 r_vx = std_io_io_buffer_Buffer_flush(slot_1);
     if (!(u8)((u8)r_b2 & (u8)r_vx)) goto l_join_to;
@@ -4765,8 +5123,8 @@ l_join_qx:;
     r_59 = r_qc_1;
     r_nl = r_bi;
 l_std_jl:;
-    mv64(slot_5, slot_3);
-    mv64(slot_6, slot_5);
+    mv64(slot_6, slot_3);
+    mv64(slot_7, slot_6);
     st8(a_1, r_u5);
     st8(away(a_1, 8ull), r_mz);
     st8(away(a_1, 9ull), r_pi);
@@ -4775,7 +5133,7 @@ l_std_jl:;
     st32(away(a_1, 12ull), r_8b);
     st64(away(a_1, 16ull), r_59);
     st64(away(a_1, 24ull), r_nl);
-    mv64(away(a_1, 32ull), slot_6);
+    mv64(away(a_1, 32ull), slot_7);
     return;
 }
 
@@ -4850,9 +5208,9 @@ l_arm_65:;
     if (!(r_9w > 1023ull)) { r_km = r_9w; goto l_std_41; }
     u8 r_09 = std_io_io_buffer_Buffer_flush(a_1);
     if (!r_09) { r_m4 = 1u; goto l_core_lh; }
-    u64 r_38_1 = ld64(r_ym);
-    if (r_38_1 > 1023ull) { r_m4 = 1u; goto l_core_lh; }
-    r_km = r_38_1;
+    u64 r_38 = ld64(r_ym);
+    if (r_38 > 1023ull) { r_m4 = 1u; goto l_core_lh; }
+    r_km = r_38;
 l_std_41:;
     st8((r_1x + (i64)(r_km)), r_47);
     u64 r_c4 = (r_km + 1ull);
@@ -4897,8 +5255,8 @@ void std_io_io_LibcRuntimeEprint_eprintln_ca48b51c48df6db8(u8 *a_1, u8 *a_2)
     u8 r_47;
     u64 r_km;
     u64 r_c4_1;
-    u8 *r_xw_2;
-    u64 r_38_4;
+    u8 *r_xw;
+    u64 r_38_2;
     u64 r_5a;
     u64 r_2l;
     u8 *r_9a;
@@ -4910,8 +5268,8 @@ void std_io_io_LibcRuntimeEprint_eprintln_ca48b51c48df6db8(u8 *a_1, u8 *a_2)
     u64 r_zn_1;
     u8 r_47_1;
     u64 r_km_1;
-    u8 *r_xw_4;
-    u64 r_38_8;
+    u8 *r_xw_1;
+    u64 r_38_4;
     u64 r_5a_1;
     u8 *r_2l_1;
     u8 *r_e1_2;
@@ -4922,8 +5280,8 @@ void std_io_io_LibcRuntimeEprint_eprintln_ca48b51c48df6db8(u8 *a_1, u8 *a_2)
     u64 r_zn_2;
     u8 r_47_2;
     u64 r_km_2;
-    u8 *r_xw_5;
-    u64 r_38_11;
+    u8 *r_xw_2;
+    u64 r_38_6;
     u8 *r_e1_3;
     u64 r_9w_3;
     u64 r_uj_3;
@@ -4937,7 +5295,7 @@ void std_io_io_LibcRuntimeEprint_eprintln_ca48b51c48df6db8(u8 *a_1, u8 *a_2)
     u8 *r_km_4;
     u8 *r_0s;
     u8 *r_rv;
-    u64 r_38_14;
+    u64 r_38_8;
     u8 *r_e1_4;
     u64 r_9w_4;
     u64 r_uj_4;
@@ -4947,7 +5305,7 @@ void std_io_io_LibcRuntimeEprint_eprintln_ca48b51c48df6db8(u8 *a_1, u8 *a_2)
     u8 r_47_4;
     u64 r_km_5;
     u8 *r_rv_1;
-    u64 r_38_17;
+    u64 r_38_10;
     u8 *r_e1_5;
     u64 r_9w_5;
     u64 r_uj_5;
@@ -4958,7 +5316,7 @@ void std_io_io_LibcRuntimeEprint_eprintln_ca48b51c48df6db8(u8 *a_1, u8 *a_2)
     u64 r_km_6;
     u8 *r_ar;
     u8 *r_rv_2;
-    u64 r_38_20;
+    u64 r_38_12;
     u8 *r_e1_6;
     u64 r_9w_6;
     u64 r_uj_6;
@@ -5025,8 +5383,8 @@ l_arm_65:;
     r_47 = ld8(r_35);
     if (!(r_9w > 1023ull)) { r_km = r_9w; goto l_std_41; }
     u8 r_m5 = std_io_io_buffer_Buffer_flush(slot_5);
-    u64 r_38_2 = ld64(r_e1);
-    if (r_m5 ? (r_38_2 < 1024ull) : 0u) { r_km = r_38_2; goto l_std_41; }
+    u64 r_38_1 = ld64(r_e1);
+    if (r_m5 ? (r_38_1 < 1024ull) : 0u) { r_km = r_38_1; goto l_std_41; }
     goto l_core_pf;
 l_std_41:;
     st8((r_ix + (i64)(r_km)), r_47);
@@ -5037,9 +5395,9 @@ l_std_41:;
     st32(r_s4, 32u);
     memset(r_uy, 0u, 12);
     st64(r_ky, 0xffffffffffffffffull);
-    r_xw_2 = ldp(r_zd);
-    r_38_4 = ld64((slot_4 + 24));
-    if (t_ts) { r_5a = r_c4_1; r_2l = r_38_4; r_9a = r_xw_2; goto l_then_7z; }
+    r_xw = ldp(r_zd);
+    r_38_2 = ld64((slot_4 + 24));
+    if (t_ts) { r_5a = r_c4_1; r_2l = r_38_2; r_9a = r_xw; goto l_then_7z; }
     goto l_core_rq;
 l_then_7z:;
     if (!(r_2l == 0ull)) goto l_arm_yd;
@@ -5060,8 +5418,8 @@ l_arm_65_1:;
     r_47_1 = ld8(r_35_1);
     if (!(r_9w_1 > 1023ull)) { r_km_1 = r_9w_1; goto l_std_41_1; }
     u8 r_m5_1 = std_io_io_buffer_Buffer_flush(slot_5);
-    u64 r_38_6 = ld64(r_e1_1);
-    if (r_m5_1 ? (r_38_6 < 1024ull) : 0u) { r_km_1 = r_38_6; goto l_std_41_1; }
+    u64 r_38_3 = ld64(r_e1_1);
+    if (r_m5_1 ? (r_38_3 < 1024ull) : 0u) { r_km_1 = r_38_3; goto l_std_41_1; }
     goto l_core_pf;
 l_std_41_1:;
     st8((r_ix + (i64)(r_km_1)), r_47_1);
@@ -5073,16 +5431,16 @@ l_std_41_1:;
     r_35_1 = r_62_1;
     goto l_arm_65_1;
 l_core_rq:;
-    u8 r_sr = core_fmt_formatter_Formatter_write_indented_bf264aed5fa78656(slot_5, r_xw_2, r_38_4);
+    u8 r_sr = core_fmt_formatter_Formatter_write_indented_bf264aed5fa78656(slot_5, r_xw, r_38_2);
     if (!(r_sr == 0u)) goto l_core_pf;
 l_arm_21:;
     u8 t_ts_1 = (ld64(r_lp) == 0ull);
     st32(r_s4, 32u);
     memset(r_uy, 0u, 12);
     st64(r_ky, 0xffffffffffffffffull);
-    r_xw_4 = ldp(r_89);
-    r_38_8 = ld64((slot_4 + 40));
-    if (t_ts_1) { r_5a_1 = r_38_8; r_2l_1 = r_xw_4; goto l_then_7z_1; }
+    r_xw_1 = ldp(r_89);
+    r_38_4 = ld64((slot_4 + 40));
+    if (t_ts_1) { r_5a_1 = r_38_4; r_2l_1 = r_xw_1; goto l_then_7z_1; }
     goto l_core_rq_1;
 l_then_7z_1:;
     if (r_5a_1 == 0ull) goto l_arm_8o;
@@ -5096,8 +5454,8 @@ l_arm_65_2:;
     r_47_2 = ld8(r_35_2);
     if (!(r_9w_2 > 1023ull)) { r_km_2 = r_9w_2; goto l_std_41_2; }
     u8 r_m5_2 = std_io_io_buffer_Buffer_flush(slot_5);
-    u64 r_38_10 = ld64(r_e1_2);
-    if (r_m5_2 ? (r_38_10 < 1024ull) : 0u) { r_km_2 = r_38_10; goto l_std_41_2; }
+    u64 r_38_5 = ld64(r_e1_2);
+    if (r_m5_2 ? (r_38_5 < 1024ull) : 0u) { r_km_2 = r_38_5; goto l_std_41_2; }
     goto l_core_pf;
 l_std_41_2:;
     st8((r_ix + (i64)(r_km_2)), r_47_2);
@@ -5109,28 +5467,28 @@ l_std_41_2:;
     r_35_2 = r_62_2;
     goto l_arm_65_2;
 l_core_rq_1:;
-    u8 r_sr_1 = core_fmt_formatter_Formatter_write_indented_bf264aed5fa78656(slot_5, r_xw_4, r_38_8);
+    u8 r_sr_1 = core_fmt_formatter_Formatter_write_indented_bf264aed5fa78656(slot_5, r_xw_1, r_38_4);
     if (!(r_sr_1 == 0u)) goto l_core_pf;
 l_arm_8o:;
     st32(r_s4, 32u);
     memset(r_uy, 0u, 12);
     st64(r_ky, 0xffffffffffffffffull);
-    r_xw_5 = ldp(r_c4);
-    r_38_11 = ld64((slot_4 + 56));
+    r_xw_2 = ldp(r_c4);
+    r_38_6 = ld64((slot_4 + 56));
     if (!(ld64(r_lp) == 0ull)) goto l_core_t6;
-    if (r_38_11 == 0ull) goto l_core_zz;
+    if (r_38_6 == 0ull) goto l_core_zz;
     r_e1_3 = (slot_5 + 1032);
     r_9w_3 = ld64(r_e1_3);
-    r_uj_3 = r_38_11;
-    r_35_3 = r_xw_5;
+    r_uj_3 = r_38_6;
+    r_35_3 = r_xw_2;
 l_arm_65_3:;
     r_62_3 = away(r_35_3, 1ull);
     r_zn_3 = (r_uj_3 + 0xffffffffffffffffull);
     r_47_3 = ld8(r_35_3);
     if (!(r_9w_3 > 1023ull)) { r_km_3 = r_9w_3; goto l_std_41_3; }
     u8 r_m5_3 = std_io_io_buffer_Buffer_flush(slot_5);
-    u64 r_38_13 = ld64(r_e1_3);
-    if (r_m5_3 ? (r_38_13 < 1024ull) : 0u) { r_km_3 = r_38_13; goto l_std_41_3; }
+    u64 r_38_7 = ld64(r_e1_3);
+    if (r_m5_3 ? (r_38_7 < 1024ull) : 0u) { r_km_3 = r_38_7; goto l_std_41_3; }
     goto l_core_pf;
 l_std_41_3:;
     st8((r_ix + (i64)(r_km_3)), r_47_3);
@@ -5144,7 +5502,7 @@ l_core_zz:;
     r_0s = (slot_4 + 64);
     goto l_core_yi;
 l_core_t6:;
-    u8 r_sr_2 = core_fmt_formatter_Formatter_write_indented_bf264aed5fa78656(slot_5, r_xw_5, r_38_11);
+    u8 r_sr_2 = core_fmt_formatter_Formatter_write_indented_bf264aed5fa78656(slot_5, r_xw_2, r_38_6);
     if (r_sr_2 == 0u) { r_i5 = (slot_4 + 96); r_m5_4 = (slot_4 + 88); r_km_4 = (slot_4 + 72); r_0s = (slot_4 + 64); goto l_core_yi; }
     goto l_core_pf;
 l_core_yi:;
@@ -5154,12 +5512,12 @@ l_core_yi:;
     memset(r_uy, 0u, 12);
     st64(r_ky, 0xffffffffffffffffull);
     r_rv = ldp(r_km_4);
-    r_38_14 = ld64((slot_4 + 80));
+    r_38_8 = ld64((slot_4 + 80));
     if (!(ld64(r_lp) == 0ull)) goto l_core_en;
-    if (r_38_14 == 0ull) goto l_core_yi_1;
+    if (r_38_8 == 0ull) goto l_core_yi_1;
     r_e1_4 = (slot_5 + 1032);
     r_9w_4 = ld64(r_e1_4);
-    r_uj_4 = r_38_14;
+    r_uj_4 = r_38_8;
     r_35_4 = r_rv;
 l_arm_65_4:;
     r_62_4 = away(r_35_4, 1ull);
@@ -5167,8 +5525,8 @@ l_arm_65_4:;
     r_47_4 = ld8(r_35_4);
     if (!(r_9w_4 > 1023ull)) { r_km_5 = r_9w_4; goto l_std_41_4; }
     u8 r_m5_5 = std_io_io_buffer_Buffer_flush(slot_5);
-    u64 r_38_16 = ld64(r_e1_4);
-    if (r_m5_5 ? (r_38_16 < 1024ull) : 0u) { r_km_5 = r_38_16; goto l_std_41_4; }
+    u64 r_38_9 = ld64(r_e1_4);
+    if (r_m5_5 ? (r_38_9 < 1024ull) : 0u) { r_km_5 = r_38_9; goto l_std_41_4; }
     goto l_core_pf;
 l_std_41_4:;
     st8((r_ix + (i64)(r_km_5)), r_47_4);
@@ -5180,7 +5538,7 @@ l_std_41_4:;
     r_35_4 = r_62_4;
     goto l_arm_65_4;
 l_core_en:;
-    u8 r_sr_3 = core_fmt_formatter_Formatter_write_indented_bf264aed5fa78656(slot_5, r_rv, r_38_14);
+    u8 r_sr_3 = core_fmt_formatter_Formatter_write_indented_bf264aed5fa78656(slot_5, r_rv, r_38_8);
     if (!(r_sr_3 == 0u)) goto l_core_pf;
 l_core_yi_1:;
     u8 r_od_1 = core_fmt_formatter_Formatter_write_piece_ad6cde96c05b3f7d(slot_5, r_m5_4);
@@ -5189,12 +5547,12 @@ l_core_yi_1:;
     memset(r_uy, 0u, 12);
     st64(r_ky, 0xffffffffffffffffull);
     r_rv_1 = ldp(r_i5);
-    r_38_17 = ld64((slot_4 + 104));
+    r_38_10 = ld64((slot_4 + 104));
     if (!(ld64(r_lp) == 0ull)) goto l_core_ct;
-    if (r_38_17 == 0ull) goto l_core_wb;
+    if (r_38_10 == 0ull) goto l_core_wb;
     r_e1_5 = (slot_5 + 1032);
     r_9w_5 = ld64(r_e1_5);
-    r_uj_5 = r_38_17;
+    r_uj_5 = r_38_10;
     r_35_5 = r_rv_1;
 l_arm_65_5:;
     r_62_5 = away(r_35_5, 1ull);
@@ -5202,8 +5560,8 @@ l_arm_65_5:;
     r_47_5 = ld8(r_35_5);
     if (!(r_9w_5 > 1023ull)) { r_km_6 = r_9w_5; goto l_std_41_5; }
     u8 r_m5_6 = std_io_io_buffer_Buffer_flush(slot_5);
-    u64 r_38_19 = ld64(r_e1_5);
-    if (r_m5_6 ? (r_38_19 < 1024ull) : 0u) { r_km_6 = r_38_19; goto l_std_41_5; }
+    u64 r_38_11 = ld64(r_e1_5);
+    if (r_m5_6 ? (r_38_11 < 1024ull) : 0u) { r_km_6 = r_38_11; goto l_std_41_5; }
     goto l_core_pf;
 l_std_41_5:;
     st8((r_ix + (i64)(r_km_6)), r_47_5);
@@ -5214,7 +5572,7 @@ l_core_wb:;
     r_ar = (slot_4 + 112);
     goto l_arm_2r;
 l_core_ct:;
-    u8 r_sr_4 = core_fmt_formatter_Formatter_write_indented_bf264aed5fa78656(slot_5, r_rv_1, r_38_17);
+    u8 r_sr_4 = core_fmt_formatter_Formatter_write_indented_bf264aed5fa78656(slot_5, r_rv_1, r_38_10);
     if (r_sr_4 == 0u) { r_ar = (slot_4 + 112); goto l_arm_2r; }
     goto l_core_pf;
 l_arm_2r:;
@@ -5222,12 +5580,12 @@ l_arm_2r:;
     memset(r_uy, 0u, 12);
     st64(r_ky, 0xffffffffffffffffull);
     r_rv_2 = ldp(r_ar);
-    r_38_20 = ld64((slot_4 + 120));
+    r_38_12 = ld64((slot_4 + 120));
     if (!(ld64(r_lp) == 0ull)) goto l_core_id;
-    if (r_38_20 == 0ull) goto l_core_3b;
+    if (r_38_12 == 0ull) goto l_core_3b;
     r_e1_6 = (slot_5 + 1032);
     r_9w_6 = ld64(r_e1_6);
-    r_uj_6 = r_38_20;
+    r_uj_6 = r_38_12;
     r_35_6 = r_rv_2;
 l_arm_65_6:;
     r_62_6 = away(r_35_6, 1ull);
@@ -5235,8 +5593,8 @@ l_arm_65_6:;
     r_47_6 = ld8(r_35_6);
     if (!(r_9w_6 > 1023ull)) { r_km_7 = r_9w_6; goto l_std_41_6; }
     u8 r_m5_7 = std_io_io_buffer_Buffer_flush(slot_5);
-    u64 r_38_22 = ld64(r_e1_6);
-    if (r_m5_7 ? (r_38_22 < 1024ull) : 0u) { r_km_7 = r_38_22; goto l_std_41_6; }
+    u64 r_38_13 = ld64(r_e1_6);
+    if (r_m5_7 ? (r_38_13 < 1024ull) : 0u) { r_km_7 = r_38_13; goto l_std_41_6; }
     goto l_core_pf;
 l_std_41_6:;
     st8((r_ix + (i64)(r_km_7)), r_47_6);
@@ -5255,7 +5613,7 @@ l_core_3b:;
     mv24(r_s4, slot_1);
     goto l_arm_9c;
 l_core_id:;
-    u8 r_sr_5 = core_fmt_formatter_Formatter_write_indented_bf264aed5fa78656(slot_5, r_rv_2, r_38_20);
+    u8 r_sr_5 = core_fmt_formatter_Formatter_write_indented_bf264aed5fa78656(slot_5, r_rv_2, r_38_12);
     mv24(r_s4, slot_1);
     if (!(r_sr_5 == 0u)) { r_b2 = 0u; goto l_join_2k; }
 l_arm_9c:;
@@ -5265,11 +5623,11 @@ l_arm_9c:;
     st64(r_ky, 0xffffffffffffffffull);
     if (!(ld64(r_lp) == 0ull)) goto l_else_7o;
     r_e1_7 = (slot_5 + 1032);
-    u64 r_38_23 = ld64(r_e1_7);
-    if (!(r_38_23 > 1023ull)) { r_4x = r_38_23; goto l_std_vs; }
+    u64 r_38_14 = ld64(r_e1_7);
+    if (!(r_38_14 > 1023ull)) { r_4x = r_38_14; goto l_std_vs; }
     u8 r_m5_8 = std_io_io_buffer_Buffer_flush(slot_5);
-    u64 r_38_24 = ld64(r_e1_7);
-    if (r_m5_8 ? (r_38_24 < 1024ull) : 0u) { r_4x = r_38_24; goto l_std_vs; }
+    u64 r_38_15 = ld64(r_e1_7);
+    if (r_m5_8 ? (r_38_15 < 1024ull) : 0u) { r_4x = r_38_15; goto l_std_vs; }
     r_bu = 0u;
     goto l_core_pf_1;
 l_std_vs:;
@@ -5305,16 +5663,16 @@ l_join_to:;
     u8 r_sw = ld8((slot_1 + 1050));
     u8 r_dd_1 = ld8((slot_1 + 1051));
     u32 r_uq = ld32((slot_1 + 1052));
-    u64 r_38_25 = ld64((slot_1 + 1056));
-    u64 r_38_26 = ld64((slot_1 + 1064));
+    u64 r_38_16 = ld64((slot_1 + 1056));
+    u64 r_38_17 = ld64((slot_1 + 1064));
     mv64(slot_2, (slot_1 + 1072));
     r_jt = r_r5;
     r_qc = r_dd;
     r_yd = r_sw;
     r_x1 = r_dd_1;
     r_g6 = r_uq;
-    r_qc_1 = r_38_25;
-    r_bi = r_38_26;
+    r_qc_1 = r_38_16;
+    r_bi = r_38_17;
     goto l_join_qx;
 l_arm_or:;
     memset(slot_2, 46u, 64);
@@ -5376,7 +5734,7 @@ void std_io_io_LibcRuntimeEprint_eprintln_d512b0887f7dcccf(u8 *a_1, u8 *a_2)
     u64 r_zn;
     u8 r_47;
     u64 r_km;
-    u8 *r_xw_1;
+    u8 *r_xw;
     u64 r_38_2;
     u8 *r_e1_1;
     u64 r_9w_1;
@@ -5452,22 +5810,22 @@ l_core_yi:;
     st32(r_s4, 32u);
     memset(r_uy, 0u, 12);
     st64(r_ky, 0xffffffffffffffffull);
-    r_xw_1 = ldp(r_lk);
+    r_xw = ldp(r_lk);
     r_38_2 = ld64((slot_4 + 32));
     if (!(ld64(r_lp) == 0ull)) goto l_core_id;
     if (r_38_2 == 0ull) goto l_core_3b;
     r_e1_1 = (slot_5 + 1032);
     r_9w_1 = ld64(r_e1_1);
     r_uj_1 = r_38_2;
-    r_35_1 = r_xw_1;
+    r_35_1 = r_xw;
 l_arm_65_1:;
     r_62_1 = away(r_35_1, 1ull);
     r_zn_1 = (r_uj_1 + 0xffffffffffffffffull);
     r_47_1 = ld8(r_35_1);
     if (!(r_9w_1 > 1023ull)) { r_km_1 = r_9w_1; goto l_std_41_1; }
     u8 r_m5_1 = std_io_io_buffer_Buffer_flush(slot_5);
-    u64 r_38_4 = ld64(r_e1_1);
-    if (r_m5_1 ? (r_38_4 < 1024ull) : 0u) { r_km_1 = r_38_4; goto l_std_41_1; }
+    u64 r_38_3 = ld64(r_e1_1);
+    if (r_m5_1 ? (r_38_3 < 1024ull) : 0u) { r_km_1 = r_38_3; goto l_std_41_1; }
     goto l_core_pf;
 l_std_41_1:;
     st8((r_ix + (i64)(r_km_1)), r_47_1);
@@ -5486,7 +5844,7 @@ l_core_3b:;
     mv24(r_s4, slot_1);
     goto l_arm_9c;
 l_core_id:;
-    u8 r_sr = core_fmt_formatter_Formatter_write_indented_bf264aed5fa78656(slot_5, r_xw_1, r_38_2);
+    u8 r_sr = core_fmt_formatter_Formatter_write_indented_bf264aed5fa78656(slot_5, r_xw, r_38_2);
     mv24(r_s4, slot_1);
     if (!(r_sr == 0u)) { r_b2 = 0u; goto l_join_2k; }
 l_arm_9c:;
@@ -5496,11 +5854,11 @@ l_arm_9c:;
     st64(r_ky, 0xffffffffffffffffull);
     if (!(ld64(r_lp) == 0ull)) goto l_else_7o;
     r_e1_2 = (slot_5 + 1032);
-    u64 r_38_5 = ld64(r_e1_2);
-    if (!(r_38_5 > 1023ull)) { r_4x = r_38_5; goto l_std_vs; }
+    u64 r_38_4 = ld64(r_e1_2);
+    if (!(r_38_4 > 1023ull)) { r_4x = r_38_4; goto l_std_vs; }
     u8 r_m5_2 = std_io_io_buffer_Buffer_flush(slot_5);
-    u64 r_38_6 = ld64(r_e1_2);
-    if (r_m5_2 ? (r_38_6 < 1024ull) : 0u) { r_4x = r_38_6; goto l_std_vs; }
+    u64 r_38_5 = ld64(r_e1_2);
+    if (r_m5_2 ? (r_38_5 < 1024ull) : 0u) { r_4x = r_38_5; goto l_std_vs; }
     r_bu = 0u;
     goto l_core_pf_1;
 l_std_vs:;
@@ -5536,16 +5894,16 @@ l_join_to:;
     u8 r_sw = ld8((slot_1 + 1050));
     u8 r_dd_1 = ld8((slot_1 + 1051));
     u32 r_uq = ld32((slot_1 + 1052));
-    u64 r_38_7 = ld64((slot_1 + 1056));
-    u64 r_38_8 = ld64((slot_1 + 1064));
+    u64 r_38_6 = ld64((slot_1 + 1056));
+    u64 r_38_7 = ld64((slot_1 + 1064));
     mv64(slot_2, (slot_1 + 1072));
     r_jt = r_r5;
     r_qc = r_dd;
     r_yd = r_sw;
     r_x1 = r_dd_1;
     r_g6 = r_uq;
-    r_qc_1 = r_38_7;
-    r_bi = r_38_8;
+    r_qc_1 = r_38_6;
+    r_bi = r_38_7;
     goto l_join_qx;
 l_arm_or:;
     memset(slot_2, 46u, 64);

@@ -4,10 +4,7 @@
 
 static NEVER u64 core_slice_words_skip_far_52f9edcae2f82f51(u8 *a_1, u64 a_2, u64 a_3);
 static NEVER u64 core_slice_words_skip_far_d9bf6fcacf29a880(u8 *a_1, u64 a_2, u64 a_3);
-static struct s_i8_i64 capnp_packing_buffered_standard_BufReaderInputInput_re_82fb4ceb(u8 *a_1, u8 *a_2, u64 a_3);
-static NEVER COLD u8 std_alloc_vec_Vec_grow_amortized_5e63141f0e39c5e0(u8 *a_1);
 static NEVER COLD void capnp_framing_framing_reading_grow_3691078bae5dd839(u8 *a_1, u8 *a_2, u8 *a_3);
-static NEVER COLD u8 std_alloc_vec_Vec_grow_amortized_5400d4f5161e8cc6(u8 *a_1);
 static struct s_i8_i32 capnp_objects_pointers_canonical_test_children_5ccc1be374b2e488(u8 *a_1, u32 a_2, u32 a_3, u32 a_4, u32 a_5, u8 *a_6);
 static NEVER struct s_i8_i32 capnp_objects_pointers_canonical_test_list_5ccc1be374b2e488(u8 *a_1, u32 a_2, u64 a_3, u32 a_4, u32 a_5, u8 *a_6);
 static struct s_i8_i32 capnp_objects_pointers_canonical_test_elements_5ccc1be374b2e488(u8 *a_1, u32 a_2, u16 a_3, u16 a_4, u32 a_5, u32 a_6, u8 *a_7);
@@ -72,8 +69,6 @@ static void capnp_refusals_refusals_search_search_elements_5ccc1be374b2e488(u8 *
 static NEVER void capnp_refusals_refusals_search_search_pointers_5ccc1be374b2e488(u8 *a_1, u8 a_2, u8 a_3, u8 *a_4, u32 a_5, u32 a_6, u32 a_7, u8 *a_8);
 static void capnp_packing_packing_place_within_word(u8 *a_1, u8 a_2, u8 a_3);
 static void capnp_framing_framing_segment_set_single_segment_36910_9043e87d(u8 *a_1, u8 *a_2, u32 a_3, u8 *a_4, u8 *a_5);
-static NEVER COLD void capnp_framing_framing_reading_grow_7f7dbdafe4478eeb(u8 *a_1, u8 *a_2, u8 *a_3);
-static struct s_i8_i64 capnp_packing_buffered_standard_BufReaderInputInput_re_5f136c95(u8 *a_1, u8 *a_2, u64 a_3);
 static NEVER COLD u8 std_alloc_vec_Vec_grow_amortized_f2d74098f88769d0(u8 *a_1, u64 a_2);
 
 /* std_alloc::vec::Vec::grow_amortized::<#f0820c3131a574aa> */
@@ -134,14 +129,14 @@ void core_str_utf8_from_utf8(u8 *a_1, u8 *a_2, u64 a_3)
     u64 r_hx;
     u64 r_hb;
     u64 r_ub;
-    u64 r_r3_2;
+    u64 r_r3_1;
     u64 r_65;
     u64 common_ag;
-    u64 r_r3_3;
+    u64 r_r3_2;
     u64 r_z1;
-    u8 r_47_4;
+    u8 r_47_2;
     u32 r_i3;
-    u8 r_47_6;
+    u8 r_47_3;
     u64 r_7v;
     u64 sink_79;
     u64 sink_b3;
@@ -151,10 +146,10 @@ void core_str_utf8_from_utf8(u8 *a_1, u8 *a_2, u64 a_3)
     if (a_3 == 0ull) goto l_after_qh;
     r_x5 = (slot_1 + 8);
     r_e3 = (a_3 + 0xfffffffffffffff8ull);
-    r_tl = (a_2 + (i64)(r_e3));
+    r_tl = away(a_2, r_e3);
     r_nq = 0ull;
 l_join_kb:;
-    r_tl_1 = (a_2 + (i64)(r_nq));
+    r_tl_1 = away(a_2, r_nq);
     r_47 = ld8(r_tl_1);
     r_9k = ((i8)r_47 > (i8)255u);
     r_17 = (a_3 - r_nq);
@@ -176,9 +171,9 @@ l_join_80:;
     common_ow = (r_nq + 8ull);
     goto l_join_gl;
 l_core_1k:;
-    u64 r_5q_1 = ((u64)(cttz64(r_r3) >> 3ull) + r_nq);
-    if (r_5q_1 < (r_nq + 8ull)) { r_z1 = r_5q_1; goto l_loop_lp; }
-    common_ow = r_5q_1;
+    u64 r_5q = ((u64)(cttz64(r_r3) >> 3ull) + r_nq);
+    if (r_5q < (r_nq + 8ull)) { r_z1 = r_5q; goto l_loop_lp; }
+    common_ow = r_5q;
 l_join_gl:;
     if ((a_3 - common_ow) > 31ull) { r_hx = common_ow; goto l_then_0h; }
     r_hb = common_ow;
@@ -193,23 +188,23 @@ l_loop_yz:;
     r_ub = r_hb;
 l_loop_cz:;
     if (!((a_3 - r_ub) > 8ull)) goto l_after_d6;
-    r_r3_2 = (ld64((a_2 + (i64)(r_ub))) & 0x8080808080808080ull);
-    if (!(r_r3_2 == 0ull)) goto l_join_1k;
-    u64 r_5q_2 = (r_ub + 8ull);
-    r_65 = r_5q_2;
-    common_ag = r_5q_2;
+    r_r3_1 = (ld64((a_2 + (i64)(r_ub))) & 0x8080808080808080ull);
+    if (!(r_r3_1 == 0ull)) goto l_join_1k;
+    u64 r_5q_1 = (r_ub + 8ull);
+    r_65 = r_5q_1;
+    common_ag = r_5q_1;
     goto l_core_6r;
 l_join_1k:;
     r_65 = (r_ub + 8ull);
-    common_ag = ((u64)(cttz64(r_r3_2) >> 3ull) + r_ub);
+    common_ag = ((u64)(cttz64(r_r3_1) >> 3ull) + r_ub);
 l_core_6r:;
     if (common_ag < r_65) { r_z1 = common_ag; goto l_loop_lp; }
     r_ub = r_65;
     goto l_loop_cz;
 l_after_d6:;
-    r_r3_3 = (ld64(r_tl) & 0x8080808080808080ull);
-    if (r_r3_3 == 0ull) goto l_after_qh;
-    r_z1 = ((u64)(cttz64(r_r3_3) >> 3ull) + r_e3);
+    r_r3_2 = (ld64(r_tl) & 0x8080808080808080ull);
+    if (r_r3_2 == 0ull) goto l_after_qh;
+    r_z1 = ((u64)(cttz64(r_r3_2) >> 3ull) + r_e3);
 l_loop_lp:;
     if (r_z1 < a_3) { r_nq = r_z1; goto l_join_kb; }
     goto l_after_qh;
@@ -218,25 +213,25 @@ l_join_mi:;
     if (r_47 < 194u) { sink_79 = 1ull; sink_b3 = r_nq; a_f3 = 257ull; goto l_common_91; }
     if (!(r_47 < 224u)) goto l_else_cg;
     if (r_17 < 2ull) { sink_79 = 1ull; sink_b3 = r_nq; a_f3 = 0ull; goto l_common_91; }
-    u8 r_47_3 = ld8(away(r_tl_1, 1ull));
-    if ((i8)r_47_3 > (i8)191u) { r_1q = r_47_3; goto l_join_gq; }
+    u8 r_47_1 = ld8(away(r_tl_1, 1ull));
+    if ((i8)r_47_1 > (i8)191u) { r_1q = r_47_1; goto l_join_gq; }
     r_b3 = 2ull;
     goto l_join_z4;
 l_else_cg:;
     if (!(r_47 < 240u)) goto l_else_it;
     if (r_17 < 3ull) goto l_join_yp;
-    r_47_4 = ld8(away(r_tl_1, 1ull));
-    if ((u8)((u8)((i8)r_47_4 > (i8)191u) | (u8)((i8)ld8(away(r_tl_1, 2ull)) > (i8)191u))) { r_1q = r_47_4; goto l_join_gq; }
-    r_i3 = (((u32)((u32)r_47 << 6u) + 0xffffc780u) + (u32)r_47_4);
-    if (r_i3 < 32u) { r_1q = r_47_4; goto l_join_gq; }
+    r_47_2 = ld8(away(r_tl_1, 1ull));
+    if ((u8)((u8)((i8)r_47_2 > (i8)191u) | (u8)((i8)ld8(away(r_tl_1, 2ull)) > (i8)191u))) { r_1q = r_47_2; goto l_join_gq; }
+    r_i3 = (((u32)((u32)r_47 << 6u) + 0xffffc780u) + (u32)r_47_2);
+    if (r_i3 < 32u) { r_1q = r_47_2; goto l_join_gq; }
     if (r_i3 < 864u) { r_b3 = 3ull; goto l_join_z4; }
     r_7v = ((r_i3 < 896u) ? 0ull : 3ull);
     goto l_core_78;
 l_else_it:;
     if (r_17 < 4ull) goto l_then_18;
-    r_47_6 = ld8(away(r_tl_1, 1ull));
-    if ((u8)((u8)(u8)((u8)((i8)r_47_6 > (i8)191u) | (u8)((i8)ld8(away(r_tl_1, 2ull)) > (i8)191u)) | (u8)((i8)ld8(away(r_tl_1, 3ull)) > (i8)191u))) goto l_then_18;
-    u32 r_i3_1 = (((u32)((u32)r_47 << 6u) + 0xffffc380u) + (u32)r_47_6);
+    r_47_3 = ld8(away(r_tl_1, 1ull));
+    if ((u8)((u8)(u8)((u8)((i8)r_47_3 > (i8)191u) | (u8)((i8)ld8(away(r_tl_1, 2ull)) > (i8)191u)) | (u8)((i8)ld8(away(r_tl_1, 3ull)) > (i8)191u))) goto l_then_18;
+    u32 r_i3_1 = (((u32)((u32)r_47 << 6u) + 0xffffc380u) + (u32)r_47_3);
     if (r_i3_1 < 16u) goto l_then_18;
     r_7v = ((r_i3_1 < 272u) ? 4ull : 0ull);
 l_core_78:;
@@ -330,6 +325,65 @@ l_arm_m7:;
     goto l_common_57;
 }
 
+/* core::cmp::bytes::equal */
+u8 core_cmp_bytes_equal(u8 *a_1, u64 a_2, u8 *a_3, u64 a_4)
+{
+    u8 common_p7;
+    u64 r_8z;
+    u64 r_ov;
+    u64 r_on;
+    u8 common_pr;
+    if (a_2 == a_4) goto l_join_er;
+    common_p7 = 0u;
+l_common_57:;
+    return common_p7;
+l_join_er:;
+    if (!(a_2 < 8ull)) goto l_join_rc;
+    if (!(a_2 > 3ull)) goto l_join_ft;
+    u64 r_uw = (a_2 + 0xfffffffffffffffcull);
+    r_8z = bswap64(((u64)((u64)ld32((a_3 + (i64)(r_uw))) << 32ull) | (u64)ld32(a_3)));
+    r_ov = bswap64(((u64)((u64)ld32((a_1 + (i64)(r_uw))) << 32ull) | (u64)ld32(a_1)));
+    goto l_core_pp;
+l_join_ft:;
+    if (a_2 == 0ull) { r_8z = 0ull; r_ov = 0ull; goto l_core_pp; }
+    u64 r_ms = (u64)(a_2 >> 1ull);
+    u64 r_qd = (a_2 + 0xffffffffffffffffull);
+    r_8z = (((u64)((u64)ld8((a_3 + (i64)(r_ms))) << 8ull) | (u64)((u64)ld8(a_3) << 16ull)) | (u64)ld8((a_3 + (i64)(r_qd))));
+    r_ov = (((u64)((u64)ld8((a_1 + (i64)(r_ms))) << 8ull) | (u64)((u64)ld8(a_1) << 16ull)) | (u64)ld8((a_1 + (i64)(r_qd))));
+l_core_pp:;
+    common_p7 = (r_ov == r_8z);
+    goto l_common_57;
+l_join_rc:;
+    if (!(a_2 < 33ull)) goto l_join_nn;
+    u64 r_t8 = (a_2 + 0xfffffffffffffff8ull);
+    u64 a_g7 = umin64(r_t8, 8ull);
+    u64 a_wx = umin64(r_t8, 16ull);
+    common_p7 = (u8)((u8)(u8)((u8)(u8)((u8)(ld64(a_1) == ld64(a_3)) & (u8)(ld64((a_1 + (i64)(a_g7))) == ld64((a_3 + (i64)(a_g7))))) & (u8)(ld64((a_1 + (i64)(a_wx))) == ld64((a_3 + (i64)(a_wx))))) & (u8)(ld64((a_1 + (i64)(r_t8))) == ld64((a_3 + (i64)(r_t8)))));
+    goto l_common_57;
+l_join_nn:;
+    if (!(a_2 < 65ull)) { r_on = 0ull; goto l_join_xt; }
+    u64 r_8y = (a_2 + 0xfffffffffffffff0ull);
+    u64 a_ot = umin64(r_8y, 32ull);
+    common_pr = (mask16(((((v16)(ldv16(a_1) != ldv16(a_3)) | (v16)(ldv16((a_1 + 16)) != ldv16((a_3 + 16)))) | (v16)(ldv16((a_1 + (i64)(a_ot))) != ldv16((a_3 + (i64)(a_ot))))) | (v16)(ldv16((a_1 + (i64)(r_8y))) != ldv16((a_3 + (i64)(r_8y)))))) != 0u);
+    goto l_core_un;
+l_loop_xy:;
+    u64 r_w2 = (r_on + 64ull);
+    if ((a_2 - r_w2) > 64ull) { r_on = r_w2; goto l_join_xt; }
+    goto l_after_g4;
+l_join_xt:;
+    v64 r_nj = (v64)(ldv64((a_1 + (i64)(r_on))) != ldv64((a_3 + (i64)(r_on))));
+    if (mask16((v16)((w16)(((part16_of_64(r_nj, 16) | part16_of_64(r_nj, 0)) | part16_of_64(r_nj, 32)) | part16_of_64(r_nj, 48)) < (w16)(v16){ 0 })) == 0u) goto l_loop_xy;
+    common_pr = 1u;
+    goto l_core_un;
+l_after_g4:;
+    u64 r_zc = (a_2 + 0xffffffffffffffc0ull);
+    v64 r_nj_1 = (v64)(ldv64((a_1 + (i64)(r_zc))) != ldv64((a_3 + (i64)(r_zc))));
+    common_pr = (mask16((v16)((w16)(((part16_of_64(r_nj_1, 16) | part16_of_64(r_nj_1, 0)) | part16_of_64(r_nj_1, 32)) | part16_of_64(r_nj_1, 48)) < (w16)(v16){ 0 })) != 0u);
+l_core_un:;
+    common_p7 = (u8)((u8)common_pr ^ (u8)1u);
+    goto l_common_57;
+}
+
 /* core::iter::pattern::CharPattern::first_in */
 void core_iter_pattern_CharPattern_first_in(u8 *a_1, u8 *a_2, u8 *a_3, u64 a_4)
 {
@@ -350,13 +404,13 @@ void core_iter_pattern_CharPattern_first_in(u8 *a_1, u8 *a_2, u8 *a_3, u64 a_4)
     u64 common_3h;
     u64 r_2n;
     u8 *r_8z_1;
-    u8 r_47_1;
+    u8 r_47;
     u32 r_cf_1;
     u32 r_to;
     u32 r_to_1;
     u64 r_of;
     u32 r_3e;
-    u64 r_5q_2;
+    u64 r_5q_1;
     u64 common_kg;
     u64 r_cq;
     r_iy = ld32(a_2);
@@ -429,17 +483,17 @@ l_join_ft:;
     r_2n = 0ull;
 l_join_mq:;
     r_8z_1 = away(a_3, r_2n);
-    r_47_1 = ld8(r_8z_1);
-    r_cf_1 = (u32)r_47_1;
-    if ((i8)r_47_1 > (i8)255u) { r_of = 1ull; r_3e = r_cf_1; goto l_core_ac; }
+    r_47 = ld8(r_8z_1);
+    r_cf_1 = (u32)r_47;
+    if ((i8)r_47 > (i8)255u) { r_of = 1ull; r_3e = r_cf_1; goto l_core_ac; }
     r_to = (u32)(u8)(ld8((r_8z_1 + 1)) & 63u);
-    if (!(r_47_1 < 224u)) goto l_join_zf;
+    if (!(r_47 < 224u)) goto l_join_zf;
     r_of = 2ull;
     r_3e = (((u32)(r_cf_1 << 6u) & 1984u) | r_to);
     goto l_core_ac;
 l_join_zf:;
     r_to_1 = (u32)(u8)(ld8((r_8z_1 + 2)) & 63u);
-    if (!(r_47_1 < 240u)) goto l_join_pb;
+    if (!(r_47 < 240u)) goto l_join_pb;
     r_of = 3ull;
     r_3e = (((u32)(r_to << 6u) | ((u32)(r_cf_1 << 12u) & 61440u)) | r_to_1);
     goto l_core_ac;
@@ -447,16 +501,16 @@ l_join_pb:;
     r_of = 4ull;
     r_3e = (((u32)(r_to_1 << 6u) | ((u32)(r_to << 12u) | ((u32)(r_cf_1 << 18u) & 0x1c0000u))) | (u32)(u8)(ld8((r_8z_1 + 3)) & 63u));
 l_core_ac:;
-    r_5q_2 = (r_of + r_2n);
-    if (r_3e == r_iy) { common_kg = r_2n; r_cq = r_5q_2; goto l_core_u9; }
-    if (r_5q_2 < a_4) { r_2n = r_5q_2; goto l_join_mq; }
-    common_kg = r_5q_2;
-    r_cq = r_5q_2;
+    r_5q_1 = (r_of + r_2n);
+    if (r_3e == r_iy) { common_kg = r_2n; r_cq = r_5q_1; goto l_core_u9; }
+    if (r_5q_1 < a_4) { r_2n = r_5q_1; goto l_join_mq; }
+    common_kg = r_5q_1;
+    r_cq = r_5q_1;
 l_core_u9:;
-    u8 r_89_1 = (common_kg < a_4);
-    st64(a_1, (u64)r_89_1);
-    st64(away(a_1, 8ull), (r_89_1 ? common_kg : 0ull));
-    st64(away(a_1, 16ull), (r_89_1 ? r_cq : 0ull));
+    u8 r_89 = (common_kg < a_4);
+    st64(a_1, (u64)r_89);
+    st64(away(a_1, 8ull), (r_89 ? common_kg : 0ull));
+    st64(away(a_1, 16ull), (r_89 ? r_cq : 0ull));
     return;
 }
 
@@ -481,72 +535,13 @@ l_then_r7:;
     u64 r_0v_5 = (ld64(away(r_2b, 24ull)) ^ r_or);
     u64 r_0v_6 = (ld64(away(r_2b, 40ull)) ^ r_or);
     u64 r_0v_7 = (ld64(away(r_2b, 56ull)) ^ r_or);
-    u64 t_41_4 = (((((((((r_0v & 0x7f7f7f7f7f7f7f7full) + 0x7f7f7f7f7f7f7f7full) | r_0v) & 0x8080808080808080ull) & (((r_0v_1 & 0x7f7f7f7f7f7f7f7full) + 0x7f7f7f7f7f7f7f7full) | r_0v_1)) & (((r_0v_2 & 0x7f7f7f7f7f7f7f7full) + 0x7f7f7f7f7f7f7f7full) | r_0v_2)) & (((r_0v_3 & 0x7f7f7f7f7f7f7f7full) + 0x7f7f7f7f7f7f7f7full) | r_0v_3)) & (((r_0v_4 & 0x7f7f7f7f7f7f7f7full) + 0x7f7f7f7f7f7f7f7full) | r_0v_4)) & (((r_0v_5 & 0x7f7f7f7f7f7f7f7full) + 0x7f7f7f7f7f7f7f7full) | r_0v_5));
-    if (!(((t_41_4 & (((r_0v_6 & 0x7f7f7f7f7f7f7f7full) + 0x7f7f7f7f7f7f7f7full) | r_0v_6)) & (((r_0v_7 & 0x7f7f7f7f7f7f7f7full) + 0x7f7f7f7f7f7f7f7full) | r_0v_7)) == 0x8080808080808080ull)) { r_z1 = r_h1; goto l_after_91; }
+    u64 t_41 = (((((((((r_0v & 0x7f7f7f7f7f7f7f7full) + 0x7f7f7f7f7f7f7f7full) | r_0v) & 0x8080808080808080ull) & (((r_0v_1 & 0x7f7f7f7f7f7f7f7full) + 0x7f7f7f7f7f7f7f7full) | r_0v_1)) & (((r_0v_2 & 0x7f7f7f7f7f7f7f7full) + 0x7f7f7f7f7f7f7f7full) | r_0v_2)) & (((r_0v_3 & 0x7f7f7f7f7f7f7f7full) + 0x7f7f7f7f7f7f7f7full) | r_0v_3)) & (((r_0v_4 & 0x7f7f7f7f7f7f7f7full) + 0x7f7f7f7f7f7f7f7full) | r_0v_4)) & (((r_0v_5 & 0x7f7f7f7f7f7f7f7full) + 0x7f7f7f7f7f7f7f7full) | r_0v_5));
+    if (!(((t_41 & (((r_0v_6 & 0x7f7f7f7f7f7f7f7full) + 0x7f7f7f7f7f7f7f7full) | r_0v_6)) & (((r_0v_7 & 0x7f7f7f7f7f7f7f7full) + 0x7f7f7f7f7f7f7f7full) | r_0v_7)) == 0x8080808080808080ull)) { r_z1 = r_h1; goto l_after_91; }
     u64 r_za = (r_h1 + 64ull);
     if ((a_3 - r_za) > 63ull) { r_h1 = r_za; goto l_then_r7; }
     r_z1 = r_za;
 l_after_91:;
     return r_z1;
-}
-
-/* core::cmp::bytes::equal */
-u8 core_cmp_bytes_equal(u8 *a_1, u64 a_2, u8 *a_3, u64 a_4)
-{
-    u8 common_p7;
-    u64 r_8z;
-    u64 r_ov;
-    u64 r_on;
-    u8 common_pr;
-    if (a_2 == a_4) goto l_join_er;
-    common_p7 = 0u;
-l_common_57:;
-    return common_p7;
-l_join_er:;
-    if (!(a_2 < 8ull)) goto l_join_rc;
-    if (!(a_2 > 3ull)) goto l_join_ft;
-    u64 r_uw = (a_2 + 0xfffffffffffffffcull);
-    r_8z = bswap64(((u64)((u64)ld32((a_3 + (i64)(r_uw))) << 32ull) | (u64)ld32(a_3)));
-    r_ov = bswap64(((u64)((u64)ld32((a_1 + (i64)(r_uw))) << 32ull) | (u64)ld32(a_1)));
-    goto l_core_pp;
-l_join_ft:;
-    if (a_2 == 0ull) { r_8z = 0ull; r_ov = 0ull; goto l_core_pp; }
-    u64 r_ms = (u64)(a_2 >> 1ull);
-    u64 r_qd = (a_2 + 0xffffffffffffffffull);
-    r_8z = (((u64)((u64)ld8((a_3 + (i64)(r_ms))) << 8ull) | (u64)((u64)ld8(a_3) << 16ull)) | (u64)ld8((a_3 + (i64)(r_qd))));
-    r_ov = (((u64)((u64)ld8((a_1 + (i64)(r_ms))) << 8ull) | (u64)((u64)ld8(a_1) << 16ull)) | (u64)ld8((a_1 + (i64)(r_qd))));
-l_core_pp:;
-    common_p7 = (r_ov == r_8z);
-    goto l_common_57;
-l_join_rc:;
-    if (!(a_2 < 33ull)) goto l_join_nn;
-    u64 r_t8 = (a_2 + 0xfffffffffffffff8ull);
-    u64 a_g7 = umin64(r_t8, 8ull);
-    u64 a_wx = umin64(r_t8, 16ull);
-    common_p7 = (u8)((u8)(u8)((u8)(u8)((u8)(ld64(a_1) == ld64(a_3)) & (u8)(ld64((a_1 + (i64)(a_g7))) == ld64((a_3 + (i64)(a_g7))))) & (u8)(ld64((a_1 + (i64)(a_wx))) == ld64((a_3 + (i64)(a_wx))))) & (u8)(ld64((a_1 + (i64)(r_t8))) == ld64((a_3 + (i64)(r_t8)))));
-    goto l_common_57;
-l_join_nn:;
-    if (!(a_2 < 65ull)) { r_on = 0ull; goto l_join_xt; }
-    u64 r_8y = (a_2 + 0xfffffffffffffff0ull);
-    u64 a_ot = umin64(r_8y, 32ull);
-    common_pr = (mask16(((((v16)(ldv16(a_1) != ldv16(a_3)) | (v16)(ldv16((a_1 + 16)) != ldv16((a_3 + 16)))) | (v16)(ldv16((a_1 + (i64)(a_ot))) != ldv16((a_3 + (i64)(a_ot))))) | (v16)(ldv16((a_1 + (i64)(r_8y))) != ldv16((a_3 + (i64)(r_8y)))))) != 0u);
-    goto l_core_un;
-l_loop_xy:;
-    u64 r_w2 = (r_on + 64ull);
-    if ((a_2 - r_w2) > 64ull) { r_on = r_w2; goto l_join_xt; }
-    goto l_after_g4;
-l_join_xt:;
-    v64 r_nj = (v64)(ldv64((a_1 + (i64)(r_on))) != ldv64((a_3 + (i64)(r_on))));
-    if (mask16((v16)((w16)(((part16_of_64(r_nj, 16) | part16_of_64(r_nj, 0)) | part16_of_64(r_nj, 32)) | part16_of_64(r_nj, 48)) < (w16)(v16){ 0 })) == 0u) goto l_loop_xy;
-    common_pr = 1u;
-    goto l_core_un;
-l_after_g4:;
-    u64 r_zc = (a_2 + 0xffffffffffffffc0ull);
-    v64 r_nj_1 = (v64)(ldv64((a_1 + (i64)(r_zc))) != ldv64((a_3 + (i64)(r_zc))));
-    common_pr = (mask16((v16)((w16)(((part16_of_64(r_nj_1, 16) | part16_of_64(r_nj_1, 0)) | part16_of_64(r_nj_1, 32)) | part16_of_64(r_nj_1, 48)) < (w16)(v16){ 0 })) != 0u);
-l_core_un:;
-    common_p7 = (u8)((u8)common_pr ^ (u8)1u);
-    goto l_common_57;
 }
 
 /* core::slice::words::skip_far::<#878162fd265b9cd6> */
@@ -581,8 +576,8 @@ l_then_4d:;
     u64 r_h1_6 = ((ld64(away(r_76, r_52)) ^ r_or_1) | (ld64(r_76) ^ r_or));
     u8 *r_ri = away(r_2b, 56ull);
     u64 r_h1_7 = ((ld64(away(r_ri, r_52)) ^ r_or_1) | (ld64(r_ri) ^ r_or));
-    u64 t_41_4 = (((((((((r_h1 & 0x7f7f7f7f7f7f7f7full) + 0x7f7f7f7f7f7f7f7full) | r_h1) & 0x8080808080808080ull) & (((r_h1_1 & 0x7f7f7f7f7f7f7f7full) + 0x7f7f7f7f7f7f7f7full) | r_h1_1)) & (((r_h1_2 & 0x7f7f7f7f7f7f7f7full) + 0x7f7f7f7f7f7f7f7full) | r_h1_2)) & (((r_h1_3 & 0x7f7f7f7f7f7f7f7full) + 0x7f7f7f7f7f7f7f7full) | r_h1_3)) & (((r_h1_4 & 0x7f7f7f7f7f7f7f7full) + 0x7f7f7f7f7f7f7f7full) | r_h1_4)) & (((r_h1_5 & 0x7f7f7f7f7f7f7f7full) + 0x7f7f7f7f7f7f7f7full) | r_h1_5));
-    if (!(((t_41_4 & (((r_h1_6 & 0x7f7f7f7f7f7f7f7full) + 0x7f7f7f7f7f7f7f7full) | r_h1_6)) & (((r_h1_7 & 0x7f7f7f7f7f7f7f7full) + 0x7f7f7f7f7f7f7f7full) | r_h1_7)) == 0x8080808080808080ull)) { r_z1 = r_38; goto l_after_91; }
+    u64 t_41 = (((((((((r_h1 & 0x7f7f7f7f7f7f7f7full) + 0x7f7f7f7f7f7f7f7full) | r_h1) & 0x8080808080808080ull) & (((r_h1_1 & 0x7f7f7f7f7f7f7f7full) + 0x7f7f7f7f7f7f7f7full) | r_h1_1)) & (((r_h1_2 & 0x7f7f7f7f7f7f7f7full) + 0x7f7f7f7f7f7f7f7full) | r_h1_2)) & (((r_h1_3 & 0x7f7f7f7f7f7f7f7full) + 0x7f7f7f7f7f7f7f7full) | r_h1_3)) & (((r_h1_4 & 0x7f7f7f7f7f7f7f7full) + 0x7f7f7f7f7f7f7f7full) | r_h1_4)) & (((r_h1_5 & 0x7f7f7f7f7f7f7f7full) + 0x7f7f7f7f7f7f7f7full) | r_h1_5));
+    if (!(((t_41 & (((r_h1_6 & 0x7f7f7f7f7f7f7f7full) + 0x7f7f7f7f7f7f7f7full) | r_h1_6)) & (((r_h1_7 & 0x7f7f7f7f7f7f7f7full) + 0x7f7f7f7f7f7f7f7full) | r_h1_7)) == 0x8080808080808080ull)) { r_z1 = r_38; goto l_after_91; }
     u64 r_za = (r_38 + 64ull);
     if ((a_3 - r_za) > 63ull) { r_38 = r_za; goto l_then_4d; }
     r_z1 = r_za;
@@ -602,13 +597,13 @@ void std_io_steps_make_room_79043aaec86f87a1(u8 *a_1, u8 *a_2, u64 a_3, u64 a_4,
     u64 r_gz;
     u64 r_qk;
     u64 r_fi;
-    u8 *r_rq_4;
-    u64 r_52_3;
+    u8 *r_rq;
+    u64 r_52_2;
     u64 r_e9;
     u64 r_ay;
     u64 r_0d;
     u64 r_5q;
-    u8 *r_fx_2;
+    u8 *r_fx;
     r_08 = away(a_2, 16ull);
     u64 r_52 = ld64(r_08);
     a_qy = umax64(a_4, 1ull);
@@ -658,23 +653,23 @@ l_arm_ql_1:;
     goto l_common_68;
 l_join_tz:;
     r_fi = (umin64(r_qk, (r_gz - a_3)) + a_3);
-    r_rq_4 = away(a_2, 8ull);
-    r_52_3 = ld64(r_rq_4);
-    if (!(r_52_3 < r_fi)) goto l_join_ko;
-    r_e9 = (r_fi - r_52_3);
-    if (!(r_e9 > (r_gz - r_52_3))) { r_ay = r_gz; r_0d = r_52_3; goto l_join_a0; }
+    r_rq = away(a_2, 8ull);
+    r_52_2 = ld64(r_rq);
+    if (!(r_52_2 < r_fi)) goto l_join_ko;
+    r_e9 = (r_fi - r_52_2);
+    if (!(r_e9 > (r_gz - r_52_2))) { r_ay = r_gz; r_0d = r_52_2; goto l_join_a0; }
     u8 r_11 = std_alloc_vec_Vec_grow_amortized_f0820c3131a574aa(a_2, r_e9);
     if (!r_11) goto l_arm_ql_2;
     r_ay = ld64(r_08);
-    r_0d = ld64(r_rq_4);
+    r_0d = ld64(r_rq);
 l_join_a0:;
     r_5q = (r_0d + r_e9);
-    r_fx_2 = ldp(a_2);
+    r_fx = ldp(a_2);
     if (!(r_0d < r_5q)) goto l_std_ci;
-    memset_or_none(away(r_fx_2, r_0d), 0u, r_e9);
+    memset_or_none(away(r_fx, r_0d), 0u, r_e9);
 l_std_ci:;
-    stp(a_2, r_fx_2);
-    st64(r_rq_4, r_5q);
+    stp(a_2, r_fx);
+    st64(r_rq, r_5q);
     st64(r_08, r_ay);
     goto l_join_ko;
 l_arm_ql_2:;
@@ -855,7 +850,7 @@ l_join_rk:;
     r_yd = r_36;
     goto l_join_rk;
 l_os_1j:;
-    if (r_yd < a_3) goto l_arm_ai;
+    if (r_yd < a_3) goto l_arm_br;
 l_arm_8u:;
     memset(slot_7, 0u, 72);
     memset(slot_3, 0u, 86);
@@ -909,7 +904,7 @@ l_arm_8u:;
     r_ck = (slot_1 + 4095);
     r_4p = 0xffffffffffffffffull;
 l_loop_tl:;
-    if (r_4p == 0ull) goto l_after_e4;
+    if (r_4p == 0ull) goto l_after_u8;
     r_zn = (r_4p + 0xffffffffffffffffull);
     if (r_41) { sink_jn = 36u; goto l_os_yr; }
     if (!r_qh) { r_yd_1 = 0ull; goto l_join_rk_1; }
@@ -1001,15 +996,15 @@ l_std_87:;
     r_0y = r_sx_1;
     r_m0 = slot_4;
     goto l_std_rm;
-l_after_e4:;
-    std_io_io_error_Error_from_bytes(slot_1, 2u, 22u, ((u8 *)g_static_108), 43ull, 43ull);
+l_after_u8:;
+    std_io_io_error_Error_from_bytes(slot_1, 2u, 22u, ((u8 *)g_static_110), 43ull, 43ull);
     u8 r_r5_1 = ld8(slot_1);
-    u8 r_dd_2 = ld8((slot_1 + 1));
+    u8 r_dd_1 = ld8((slot_1 + 1));
     memcpy(slot_5, (slot_1 + 2), 86);
     sink_en = 1u;
     sink_vv = 0u;
     r_2d = r_r5_1;
-    r_bx = r_dd_2;
+    r_bx = r_dd_1;
     r_l2 = r_g0;
     r_0y = r_sx;
     r_m0 = slot_5;
@@ -1025,8 +1020,8 @@ l_std_rm:;
     r_7x_1 = r_w2;
     r_69 = slot_6;
     goto l_std_du;
-l_arm_ai:;
-    std_io_io_error_Error_from_bytes(slot_1, 2u, 20u, ((u8 *)g_static_109), 42ull, 42ull);
+l_arm_br:;
+    std_io_io_error_Error_from_bytes(slot_1, 2u, 20u, ((u8 *)g_static_111), 42ull, 42ull);
     u8 *r_xw = ldp(slot_1);
     u64 r_38 = ld64((slot_1 + 8));
     memcpy(slot_7, (slot_1 + 16), 72);
@@ -1107,10 +1102,10 @@ l_join_hg:;
     r_2l = ld64(r_rq_1);
 l_join_ut:;
     u8 *r_fx_1 = ldp(a_1);
-    u8 *r_2b_1 = away(r_fx_1, r_2l);
-    st8(r_2b_1, r_1c);
-    st8((r_2b_1 + 1), r_17);
-    st8((r_2b_1 + 2), r_17_1);
+    u8 *r_2b = away(r_fx_1, r_2l);
+    st8(r_2b, r_1c);
+    st8((r_2b + 1), r_17);
+    st8((r_2b + 2), r_17_1);
     stp(a_1, r_fx_1);
     st64(r_rq_1, (r_2l + 3ull));
     st64(r_08_1, r_9i);
@@ -1138,13 +1133,13 @@ l_return_ri:;
     return r_fk;
 }
 
-/* capnp_framing::framing::reading::read_into_with::<#c88b2d21daea49a4> */
-void capnp_framing_framing_reading_read_into_with_c88b2d21daea49a4(u8 *a_1, u8 *a_2, u8 *a_3, u64 a_4, u8 *a_5)
+/* capnp_framing::framing::reading::read_into_with::<#19875b826fd89623> */
+void capnp_framing_framing_reading_read_into_with_19875b826fd89623(u8 *a_1, u8 *a_2, u8 *a_3, u64 a_4, u8 *a_5)
 {
     A(8) u8 slot_1[24];
     A(4) u8 slot_2[4];
-    u64 r_ug;
-    struct s_i8_i64 r_yi;
+    u64 r_50;
+    struct s_i8_i64 r_d0;
     u64 r_h9;
     u64 r_vv;
     u64 r_r5;
@@ -1152,8 +1147,8 @@ void capnp_framing_framing_reading_read_into_with_c88b2d21daea49a4(u8 *a_1, u8 *
     u64 r_7e;
     u64 r_ix;
     u64 r_lc;
-    u8 *r_rq_1;
-    u8 *r_08_1;
+    u8 *r_rq;
+    u8 *r_08;
     u8 *r_xz;
     u8 *r_x5;
     u8 *r_zd;
@@ -1165,19 +1160,19 @@ void capnp_framing_framing_reading_read_into_with_c88b2d21daea49a4(u8 *a_1, u8 *
     u64 r_5q_1;
     u8 *r_lz;
     u8 r_r5_1;
-    u64 r_38_2;
+    u64 r_38;
     u64 r_xz_1;
     u64 a_9c;
-    u8 *r_2b_1;
+    u8 *r_2b;
     u64 r_l3;
-    u64 r_fs;
-    struct s_i8_i64 r_yi_1;
+    u64 r_j7;
+    struct s_i8_i64 r_d0_1;
     u64 r_h9_1;
     u64 r_8h;
-    u8 *r_lz_2;
+    u8 *r_lz_1;
     u8 *r_xm;
     u8 *r_su;
-    u8 *r_t9_1;
+    u8 *r_t9;
     u64 r_l5;
     u64 r_rx;
     u64 r_wy;
@@ -1186,46 +1181,46 @@ void capnp_framing_framing_reading_read_into_with_c88b2d21daea49a4(u8 *a_1, u8 *
     u64 r_7e_1;
     u64 r_ix_1;
     u8 *r_r2;
-    u64 r_44_1;
+    u64 r_44;
     u8 *r_h6;
     u8 *r_2g;
     u8 *r_x5_1;
     u8 *r_zd_1;
     u64 r_lj;
-    u64 r_52_5;
+    u64 r_52_2;
     u64 r_vz;
-    u64 r_e9_2;
+    u64 r_e9;
     u64 r_ph_1;
     u64 r_az_1;
     u64 r_5q_4;
-    u8 *r_lz_4;
+    u8 *r_lz_2;
     u64 r_r4;
-    u8 r_r5_3;
-    u64 r_38_7;
+    u8 r_r5_2;
+    u64 r_38_1;
     u64 r_dv;
     u64 a_9c_1;
-    u8 *r_2b_3;
+    u8 *r_2b_1;
     u64 r_0j;
-    u64 r_fs_1;
-    struct s_i8_i64 r_yi_2;
+    u64 r_j7_1;
+    struct s_i8_i64 r_d0_2;
     u64 r_h9_2;
     u64 r_8h_1;
     u64 r_7e_2;
     u64 r_ix_2;
     st64(a_5, 0ull);
     st32(slot_2, 0u);
-    r_ug = 0ull;
-    goto l_join_xa;
+    r_50 = 0ull;
+    goto l_join_4v;
 l_loop_yc:;
-    u64 r_5q = (r_h9 + r_ug);
-    if (r_5q < 4ull) { r_ug = r_5q; goto l_join_xa; }
+    u64 r_5q = (r_h9 + r_50);
+    if (r_5q < 4ull) { r_50 = r_5q; goto l_join_4v; }
     r_vv = r_5q;
     goto l_arm_0x;
-l_join_xa:;
-    r_yi = capnp_packing_buffered_standard_BufReaderInputInput_re_82fb4ceb(a_3, away(slot_2, r_ug), (4ull - r_ug));
-    if (!(r_yi.f0 == 0u)) { r_7e = 4ull; r_ix = 0ull; goto l_arm_tl; }
-    r_h9 = r_yi.f1;
-    if (r_h9 == 0ull) { r_vv = r_ug; goto l_arm_0x; }
+l_join_4v:;
+    r_d0 = capnp_packing_buffered_standard_BufReaderInputInput_re_81b4ff93(a_3, away(slot_2, r_50), (4ull - r_50));
+    if (!(r_d0.f0 == 0u)) { r_7e = 4ull; r_ix = 0ull; goto l_arm_tl; }
+    r_h9 = r_d0.f1;
+    if (r_h9 == 0ull) { r_vv = r_50; goto l_arm_0x; }
     goto l_loop_yc;
 l_arm_0x:;
     switch (r_vv) {
@@ -1250,8 +1245,8 @@ l_arm_tl:;
 l_arm_lv:;
     u64 r_vo = (u64)(r_c4 << 2ull);
     r_lc = (((r_vo & 4ull) ^ 4ull) + r_vo);
-    r_rq_1 = away(a_5, 8ull);
-    r_08_1 = away(a_5, 16ull);
+    r_rq = away(a_5, 8ull);
+    r_08 = away(a_5, 16ull);
     r_xz = away(a_5, 24ull);
     r_x5 = (slot_1 + 8);
     r_zd = (slot_1 + 16);
@@ -1259,7 +1254,7 @@ l_arm_lv:;
 l_loop_t9:;
     if (!(r_09 < r_lc)) goto l_arm_9w;
     memset(slot_1, 0u, 24);
-    r_52 = ld64(r_08_1);
+    r_52 = ld64(r_08);
     if (!(r_09 < r_52)) goto l_join_8s;
     r_xz_1 = r_52;
     goto l_arm_gi;
@@ -1267,44 +1262,44 @@ l_join_8s:;
     r_5p = (r_lc - r_52);
     u64 r_52_1 = ld64(r_xz);
     if (!(r_5p > (r_52_1 - r_52))) { r_ph = r_52_1; r_az = r_52; goto l_join_kx; }
-    u8 r_qy = std_alloc_vec_Vec_grow_amortized_ffd95af9aab10bcd(r_rq_1, r_5p);
+    u8 r_qy = std_alloc_vec_Vec_grow_amortized_ffd95af9aab10bcd(r_rq, r_5p);
     if (!r_qy) goto l_capnp_iz;
     r_ph = ld64(r_xz);
-    r_az = ld64(r_08_1);
+    r_az = ld64(r_08);
 l_join_kx:;
     r_5q_1 = (r_az + r_5p);
-    r_lz = ldp(r_rq_1);
+    r_lz = ldp(r_rq);
     if (!(r_az < r_5q_1)) goto l_std_5b;
     memset_or_none(away(r_lz, r_az), 0u, r_5p);
 l_std_5b:;
-    stp(r_rq_1, r_lz);
-    st64(r_08_1, r_5q_1);
+    stp(r_rq, r_lz);
+    st64(r_08, r_5q_1);
     st64(r_xz, r_ph);
     r_xz_1 = r_5q_1;
     goto l_arm_gi;
 l_capnp_iz:;
-    capnp_framing_framing_reading_grow_3691078bae5dd839(slot_1, a_2, r_rq_1);
+    capnp_framing_framing_reading_grow_3691078bae5dd839(slot_1, a_2, r_rq);
     r_r5_1 = ld8(r_x5);
-    r_38_2 = ld64(r_zd);
+    r_38 = ld64(r_zd);
     if (!(ld8(slot_1) == 0u)) goto l_arm_of;
-    r_xz_1 = ld64(r_08_1);
+    r_xz_1 = ld64(r_08);
 l_arm_gi:;
     a_9c = umin64(r_xz_1, r_lc);
-    r_2b_1 = away(ldp(r_rq_1), r_09);
+    r_2b = away(ldp(r_rq), r_09);
     r_l3 = (a_9c - r_09);
     if (a_9c == r_09) { r_8h = 0ull; goto l_capnp_v8; }
-    r_fs = 0ull;
-    goto l_join_0m;
+    r_j7 = 0ull;
+    goto l_join_r2;
 l_loop_lw:;
-    u64 r_5q_2 = (r_h9_1 + r_fs);
-    if (r_5q_2 < r_l3) { r_fs = r_5q_2; goto l_join_0m; }
+    u64 r_5q_2 = (r_h9_1 + r_j7);
+    if (r_5q_2 < r_l3) { r_j7 = r_5q_2; goto l_join_r2; }
     r_8h = r_5q_2;
     goto l_capnp_v8;
-l_join_0m:;
-    r_yi_1 = capnp_packing_buffered_standard_BufReaderInputInput_re_82fb4ceb(a_3, away(r_2b_1, r_fs), (r_l3 - r_fs));
-    if (!(r_yi_1.f0 == 0u)) { r_7e_1 = 4ull; r_ix_1 = 0ull; goto l_arm_tl_1; }
-    r_h9_1 = r_yi_1.f1;
-    if (r_h9_1 == 0ull) { r_8h = r_fs; goto l_capnp_v8; }
+l_join_r2:;
+    r_d0_1 = capnp_packing_buffered_standard_BufReaderInputInput_re_81b4ff93(a_3, away(r_2b, r_j7), (r_l3 - r_j7));
+    if (!(r_d0_1.f0 == 0u)) { r_7e_1 = 4ull; r_ix_1 = 0ull; goto l_arm_tl_1; }
+    r_h9_1 = r_d0_1.f1;
+    if (r_h9_1 == 0ull) { r_8h = r_j7; goto l_capnp_v8; }
     goto l_loop_lw;
 l_capnp_v8:;
     if (r_8h == r_l3) { r_09 = a_9c; goto l_loop_t9; }
@@ -1317,19 +1312,19 @@ l_arm_yd:;
     memset(away(a_1, 8ull), 0u, 16);
     goto l_common_68;
 l_arm_9w:;
-    r_lz_2 = ldp(r_rq_1);
+    r_lz_1 = ldp(r_rq);
     r_xm = away(a_5, 32ull);
     r_su = away(a_5, 40ull);
     if (ld64(r_su) == 0ull) goto l_join_mh;
     st64(r_su, 0ull);
 l_join_mh:;
-    r_t9_1 = away(a_5, 48ull);
+    r_t9 = away(a_5, 48ull);
     r_l5 = 0ull;
     r_rx = 0ull;
     r_wy = 0ull;
 l_join_rl:;
-    r_5q_3 = (r_rx + (u64)ld32((r_lz_2 + (i64)((u64)(r_wy << 2ull)))));
-    if (!(ld64(r_t9_1) == r_l5)) { r_le = r_l5; goto l_std_28; }
+    r_5q_3 = (r_rx + (u64)ld32((r_lz_1 + (i64)((u64)(r_wy << 2ull)))));
+    if (!(ld64(r_t9) == r_l5)) { r_le = r_l5; goto l_std_28; }
     u8 r_db = std_alloc_vec_Vec_grow_amortized_5e63141f0e39c5e0(r_xm);
     if (!r_db) goto l_arm_is;
     r_le = ld64(r_su);
@@ -1347,7 +1342,7 @@ l_std_28:;
     goto l_join_rl;
 l_arm_of:;
     r_7e_1 = (u64)r_r5_1;
-    r_ix_1 = r_38_2;
+    r_ix_1 = r_38;
 l_arm_tl_1:;
     st8(a_1, 1u);
     st8(away(a_1, 1ull), 0u);
@@ -1373,41 +1368,41 @@ l_then_tl:;
     goto l_common_68;
 l_join_zs:;
     r_r2 = away(a_5, 56ull);
-    r_44_1 = (u64)(r_5q_3 << 3ull);
+    r_44 = (u64)(r_5q_3 << 3ull);
     r_h6 = away(a_5, 64ull);
     r_2g = away(a_5, 72ull);
     r_x5_1 = (slot_1 + 8);
     r_zd_1 = (slot_1 + 16);
     r_lj = 0ull;
 l_loop_hb:;
-    if (!(r_lj < r_44_1)) goto l_arm_es;
+    if (!(r_lj < r_44)) goto l_arm_es;
     memset(slot_1, 0u, 24);
-    r_52_5 = ld64(r_h6);
-    if (!(r_lj < r_52_5)) goto l_join_c5;
-    r_dv = r_52_5;
+    r_52_2 = ld64(r_h6);
+    if (!(r_lj < r_52_2)) goto l_join_c5;
+    r_dv = r_52_2;
     goto l_arm_df;
 l_join_c5:;
-    r_vz = (umin64((r_44_1 - r_lj), 0x40000ull) + r_lj);
-    if (r_vz > r_52_5) goto l_join_q6;
-    if (!(r_52_5 > r_vz)) { r_r4 = r_52_5; goto l_capnp_5s; }
+    r_vz = (umin64((r_44 - r_lj), 0x40000ull) + r_lj);
+    if (r_vz > r_52_2) goto l_join_q6;
+    if (!(r_52_2 > r_vz)) { r_r4 = r_52_2; goto l_capnp_5s; }
     st64(r_h6, r_vz);
     r_r4 = r_vz;
     goto l_capnp_5s;
 l_join_q6:;
-    r_e9_2 = (r_vz - r_52_5);
-    u64 r_52_6 = ld64(r_2g);
-    if (!(r_e9_2 > (r_52_6 - r_52_5))) { r_ph_1 = r_52_6; r_az_1 = r_52_5; goto l_join_kx_1; }
-    u8 r_qy_1 = std_alloc_vec_Vec_grow_amortized_ffd95af9aab10bcd(r_r2, r_e9_2);
+    r_e9 = (r_vz - r_52_2);
+    u64 r_52_3 = ld64(r_2g);
+    if (!(r_e9 > (r_52_3 - r_52_2))) { r_ph_1 = r_52_3; r_az_1 = r_52_2; goto l_join_kx_1; }
+    u8 r_qy_1 = std_alloc_vec_Vec_grow_amortized_ffd95af9aab10bcd(r_r2, r_e9);
     if (!r_qy_1) goto l_capnp_iz_1;
     r_ph_1 = ld64(r_2g);
     r_az_1 = ld64(r_h6);
 l_join_kx_1:;
-    r_5q_4 = (r_az_1 + r_e9_2);
-    r_lz_4 = ldp(r_r2);
+    r_5q_4 = (r_az_1 + r_e9);
+    r_lz_2 = ldp(r_r2);
     if (!(r_az_1 < r_5q_4)) goto l_std_re;
-    memset_or_none(away(r_lz_4, r_az_1), 0u, r_e9_2);
+    memset_or_none(away(r_lz_2, r_az_1), 0u, r_e9);
 l_std_re:;
-    stp(r_r2, r_lz_4);
+    stp(r_r2, r_lz_2);
     st64(r_h6, r_5q_4);
     st64(r_2g, r_ph_1);
     r_r4 = r_5q_4;
@@ -1416,27 +1411,27 @@ l_capnp_5s:;
     goto l_arm_df;
 l_capnp_iz_1:;
     capnp_framing_framing_reading_grow_3691078bae5dd839(slot_1, a_2, r_r2);
-    r_r5_3 = ld8(r_x5_1);
-    r_38_7 = ld64(r_zd_1);
+    r_r5_2 = ld8(r_x5_1);
+    r_38_1 = ld64(r_zd_1);
     if (!(ld8(slot_1) == 0u)) goto l_arm_of_1;
     r_dv = ld64(r_h6);
 l_arm_df:;
-    a_9c_1 = umin64(r_dv, r_44_1);
-    r_2b_3 = away(ldp(r_r2), r_lj);
+    a_9c_1 = umin64(r_dv, r_44);
+    r_2b_1 = away(ldp(r_r2), r_lj);
     r_0j = (a_9c_1 - r_lj);
     if (a_9c_1 == r_lj) { r_8h_1 = 0ull; goto l_capnp_v8_1; }
-    r_fs_1 = 0ull;
-    goto l_join_0m_1;
+    r_j7_1 = 0ull;
+    goto l_join_r2_1;
 l_loop_lw_1:;
-    u64 r_5q_5 = (r_h9_2 + r_fs_1);
-    if (r_5q_5 < r_0j) { r_fs_1 = r_5q_5; goto l_join_0m_1; }
+    u64 r_5q_5 = (r_h9_2 + r_j7_1);
+    if (r_5q_5 < r_0j) { r_j7_1 = r_5q_5; goto l_join_r2_1; }
     r_8h_1 = r_5q_5;
     goto l_capnp_v8_1;
-l_join_0m_1:;
-    r_yi_2 = capnp_packing_buffered_standard_BufReaderInputInput_re_82fb4ceb(a_3, away(r_2b_3, r_fs_1), (r_0j - r_fs_1));
-    if (!(r_yi_2.f0 == 0u)) { r_7e_2 = 4ull; r_ix_2 = 0ull; goto l_arm_tl_2; }
-    r_h9_2 = r_yi_2.f1;
-    if (r_h9_2 == 0ull) { r_8h_1 = r_fs_1; goto l_capnp_v8_1; }
+l_join_r2_1:;
+    r_d0_2 = capnp_packing_buffered_standard_BufReaderInputInput_re_81b4ff93(a_3, away(r_2b_1, r_j7_1), (r_0j - r_j7_1));
+    if (!(r_d0_2.f0 == 0u)) { r_7e_2 = 4ull; r_ix_2 = 0ull; goto l_arm_tl_2; }
+    r_h9_2 = r_d0_2.f1;
+    if (r_h9_2 == 0ull) { r_8h_1 = r_j7_1; goto l_capnp_v8_1; }
     goto l_loop_lw_1;
 l_capnp_v8_1:;
     if (r_8h_1 == r_0j) { r_lj = a_9c_1; goto l_loop_hb; }
@@ -1450,8 +1445,8 @@ l_arm_es:;
     memset(away(a_1, 8ull), 0u, 16);
     goto l_common_68;
 l_arm_of_1:;
-    r_7e_2 = (u64)r_r5_3;
-    r_ix_2 = r_38_7;
+    r_7e_2 = (u64)r_r5_2;
+    r_ix_2 = r_38_1;
 l_arm_tl_2:;
     st8(a_1, 1u);
     st8(away(a_1, 1ull), 0u);
@@ -1460,46 +1455,44 @@ l_arm_tl_2:;
     goto l_common_68;
 }
 
-/* capnp_packing::buffered::standard::BufReaderInputInput::read::<#49dea2f1a1e759b8> */
-static struct s_i8_i64 capnp_packing_buffered_standard_BufReaderInputInput_re_82fb4ceb(u8 *a_1, u8 *a_2, u64 a_3)
+/* capnp_packing::buffered::standard::BufReaderInputInput::read::<#e0346466fdadf25b> */
+struct s_i8_i64 capnp_packing_buffered_standard_BufReaderInputInput_re_81b4ff93(u8 *a_1, u8 *a_2, u64 a_3)
 {
-    A(8) u8 slot_1[32];
-    A(8) u8 slot_2[96];
-    u8 *r_un;
-    u8 *r_kj;
+    A(8) u8 slot_1[96];
+    A(8) u8 slot_2[80];
+    u8 *r_4z;
+    u8 *r_ku;
     u64 r_52;
-    u8 *r_bo;
+    u8 *r_un;
     u64 r_52_1;
-    u8 *r_e2;
+    u8 *r_bo;
     u64 r_52_2;
-    u8 r_uz;
     u64 r_38;
     u8 *r_lz_1;
     u64 r_38_1;
-    u64 r_uz_1;
-    u64 r_78;
+    u64 r_cu;
+    u64 r_89_1;
     u8 *r_2b;
     u64 a_x1;
     u64 r_e8;
-    u8 r_sb;
     u64 r_4w;
     u8 r_x4;
+    r_4z = away(a_1, 8272ull);
+    if ((u8)(ld8(r_4z) & 1)) { r_4w = 0ull; r_x4 = 1u; goto l_return_7d; }
+    r_ku = away(a_1, 8232ull);
+    r_52 = ld64(away(a_1, 8240ull));
     r_un = away(a_1, 8264ull);
-    if ((u8)(ld8(r_un) & 1)) { r_4w = 0ull; r_x4 = 1u; goto l_return_7d; }
-    r_kj = away(a_1, 8224ull);
-    r_52 = ld64(away(a_1, 8232ull));
+    r_52_1 = ld64(r_un);
     r_bo = away(a_1, 8256ull);
-    r_52_1 = ld64(r_bo);
-    r_e2 = away(a_1, 8248ull);
-    r_52_2 = ld64(r_e2);
-    if ((u8)((u8)(r_52 > a_3) | (u8)(r_52_1 != r_52_2))) goto l_after_oo;
-    memset(r_e2, 0u, 16);
-    memset(slot_2, 0u, 96);
-    std_io_stdio_LockedStdinRead_read(slot_2, a_1, a_2, a_3);
-    r_uz = ld8(slot_2);
-    r_38 = ld64((slot_2 + 8));
-    if (!(r_uz == 0u)) goto l_std_o1;
-    u8 *r_lz = ldp(away(a_1, 8216ull));
+    r_52_2 = ld64(r_bo);
+    if ((u8)((u8)(r_52 > a_3) | (u8)(r_52_1 != r_52_2))) goto l_after_wr;
+    memset(r_bo, 0u, 16);
+    memset(slot_1, 0u, 96);
+    std_io_stdio_LockedStdinRead_read(slot_1, a_1, a_2, a_3);
+    r_38 = ld64((slot_1 + 8));
+    if (!(ld8(slot_1) == 0u)) goto l_std_59;
+    capnp_canon_progress_Session_count_bytes(ldp(away(a_1, 8216ull)), r_38);
+    u8 *r_lz = ldp(away(a_1, 8224ull));
     mv32(slot_1, r_lz);
     u8 *r_89 = (r_lz + 32);
     u64 r_qw = ld64(r_89);
@@ -1510,28 +1503,29 @@ static struct s_i8_i64 capnp_packing_buffered_standard_BufReaderInputInput_re_82
     r_4w = r_38;
     r_x4 = 0u;
     goto l_return_7d;
-l_after_oo:;
-    if (r_52_2 < r_52_1) { r_uz_1 = r_52_1; r_78 = r_52_2; goto l_arm_dm; }
-    memset(r_e2, 0u, 16);
-    r_lz_1 = ldp(r_kj);
-    memset(slot_2, 0u, 96);
-    std_io_stdio_LockedStdinRead_read(slot_2, a_1, r_lz_1, r_52);
-    r_38_1 = ld64((slot_2 + 8));
-    if (!(ld8(slot_2) == 0u)) goto l_std_o1_1;
-    u8 *r_lz_2 = ldp(away(a_1, 8216ull));
+l_after_wr:;
+    if (r_52_2 < r_52_1) { r_cu = r_52_1; r_89_1 = r_52_2; goto l_arm_7l; }
+    memset(r_bo, 0u, 16);
+    r_lz_1 = ldp(r_ku);
+    memset(slot_1, 0u, 96);
+    std_io_stdio_LockedStdinRead_read(slot_1, a_1, r_lz_1, r_52);
+    r_38_1 = ld64((slot_1 + 8));
+    if (!(ld8(slot_1) == 0u)) goto l_std_59_1;
+    capnp_canon_progress_Session_count_bytes(ldp(away(a_1, 8216ull)), r_38_1);
+    u8 *r_lz_2 = ldp(away(a_1, 8224ull));
     mv32(slot_1, r_lz_2);
-    u8 *r_89_1 = (r_lz_2 + 32);
-    u64 r_qw_1 = ld64(r_89_1);
+    u8 *r_89_2 = (r_lz_2 + 32);
+    u64 r_qw_1 = ld64(r_89_2);
     u64 a_7u_1 = umin64(r_qw_1, 32ull);
     memcpy_or_none(away(slot_1, a_7u_1), r_lz_1, umin64((32ull - a_7u_1), r_38_1));
     mv32(r_lz_2, slot_1);
-    st64(r_89_1, uadd_sat64(r_38_1, r_qw_1));
-    st64(r_bo, r_38_1);
-    r_uz_1 = r_38_1;
-    r_78 = ld64(r_e2);
-l_arm_dm:;
-    r_2b = away(ldp(r_kj), r_78);
-    a_x1 = umin64(a_3, (r_uz_1 - r_78));
+    st64(r_89_2, uadd_sat64(r_38_1, r_qw_1));
+    st64(r_un, r_38_1);
+    r_cu = r_38_1;
+    r_89_1 = ld64(r_bo);
+l_arm_7l:;
+    r_2b = away(ldp(r_ku), r_89_1);
+    a_x1 = umin64(a_3, (r_cu - r_89_1));
     if (((u64)(uptr)a_2 - (u64)(uptr)r_2b) < a_x1) { r_e8 = 0ull; goto l_join_53; }
     memmove_or_none(a_2, r_2b, a_x1);
     goto l_std_mu;
@@ -1540,28 +1534,28 @@ l_join_53:;
     u64 r_36 = (r_e8 + 1ull);
     if (!(r_36 == a_x1)) { r_e8 = r_36; goto l_join_53; }
 l_std_mu:;
-    u64 r_52_3 = ld64(r_e2);
-    st64(r_e2, (umin64(a_x1, (ld64(r_bo) - r_52_3)) + r_52_3));
+    u64 r_52_3 = ld64(r_bo);
+    st64(r_bo, (umin64(a_x1, (ld64(r_un) - r_52_3)) + r_52_3));
     r_4w = a_x1;
     r_x4 = 0u;
     goto l_return_7d;
-l_std_o1_1:;
-    u8 *r_lz_4 = ldp(away(a_1, 8216ull));
-    st64(away(r_lz_4, 40ull), 1ull);
-    st64(away(r_lz_4, 48ull), r_38_1);
-    memcpy(away(r_lz_4, 56ull), (slot_2 + 16), 80);
-    r_sb = 1u;
+l_std_59_1:;
+    memcpy(slot_2, (slot_1 + 16), 80);
+    u8 *r_lz_3 = ldp(away(a_1, 8224ull));
+    st64(away(r_lz_3, 40ull), 1ull);
+    st64(away(r_lz_3, 48ull), r_38_1);
+    memcpy(away(r_lz_3, 56ull), slot_2, 80);
     goto l_arm_lj;
-l_std_o1:;
-    u8 *r_lz_5 = ldp(away(a_1, 8216ull));
-    st64(away(r_lz_5, 40ull), 1ull);
-    st64(away(r_lz_5, 48ull), r_38);
-    memcpy(away(r_lz_5, 56ull), (slot_2 + 16), 80);
-    r_sb = r_uz;
+l_std_59:;
+    memcpy(slot_2, (slot_1 + 16), 80);
+    u8 *r_lz_4 = ldp(away(a_1, 8224ull));
+    st64(away(r_lz_4, 40ull), 1ull);
+    st64(away(r_lz_4, 48ull), r_38);
+    memcpy(away(r_lz_4, 56ull), slot_2, 80);
 l_arm_lj:;
-    st8(r_un, 1u);
+    st8(r_4z, 1u);
     r_4w = 0ull;
-    r_x4 = r_sb;
+    r_x4 = 1u;
 l_return_7d:;
     struct s_i8_i64 r_80 = (struct s_i8_i64){ 0 };
     r_80.f0 = r_x4;
@@ -1570,8 +1564,89 @@ l_return_7d:;
     return r_ez;
 }
 
+/* std::time::Instant::now::<#8eb717cbc750028c> */
+void std_time_Instant_now_8eb717cbc750028c(u8 *a_1)
+{
+    A(8) u8 slot_1[88];
+    A(8) u8 slot_2[72];
+    A(8) u8 slot_3[72];
+    A(8) u8 slot_4[72];
+    A(8) u8 slot_5[72];
+    A(8) u8 slot_6[72];
+    u8 *r_x5;
+    u64 r_52;
+    u64 r_0b;
+    u64 r_vn;
+    u64 r_h4;
+    u32 r_9d;
+    u32 r_6n;
+    memset(slot_5, 0u, 72);
+    r_x5 = (slot_2 + 8);
+    memset(slot_2, 0u, 16);
+    u32 r_gi = c_clock_gettime(1u, slot_2);
+    if (r_gi == 0u) goto l_join_31;
+    u32 r_90 = rattle_errno();
+    std_io_io_error_Error_from_raw_os_error(slot_1, r_90);
+    u64 r_38 = ld64(slot_1);
+    u32 r_z4 = ld32((slot_1 + 8));
+    u32 r_uq = ld32((slot_1 + 12));
+    memcpy(slot_3, (slot_1 + 16), 72);
+    r_h4 = r_38;
+    r_9d = r_z4;
+    r_6n = r_uq;
+    goto l_arm_lo;
+l_join_31:;
+    r_52 = ld64(slot_2);
+    if (!((i64)r_52 < (i64)0ull)) goto l_arm_85;
+    std_io_io_error_Error_from_bytes(slot_1, 2u, 21u, ((u8 *)g_static_117), 39ull, 39ull);
+    u64 r_38_1 = ld64(slot_1);
+    u32 r_z4_1 = ld32((slot_1 + 8));
+    u32 r_uq_1 = ld32((slot_1 + 12));
+    memcpy(slot_3, (slot_1 + 16), 72);
+    r_h4 = r_38_1;
+    r_9d = r_z4_1;
+    r_6n = r_uq_1;
+    goto l_arm_lo;
+l_arm_85:;
+    u64 r_q3 = abs64(ld64(r_x5));
+    r_0b = (r_q3 % 0x3b9aca00ull);
+    r_vn = ((r_q3 / 0x3b9aca00ull) + r_52);
+    if ((i64)r_vn > (i64)0xffffffffffffffffull) goto l_arm_4z;
+    goto l_arm_ou;
+l_common_68:;
+    return;
+l_arm_lo:;
+    memcpy(slot_4, slot_3, 72);
+    memcpy(slot_6, slot_4, 72);
+    st64(a_1, 1ull);
+    st64(away(a_1, 8ull), r_h4);
+    st32(away(a_1, 16ull), r_9d);
+    st32(away(a_1, 20ull), r_6n);
+    memcpy(away(a_1, 24ull), slot_6, 72);
+    goto l_common_68;
+l_arm_4z:;
+    st64(a_1, 0ull);
+    st64(away(a_1, 8ull), r_vn);
+    st32(away(a_1, 16ull), (u32)r_0b);
+    memset(away(a_1, 20ull), 0u, 76);
+    goto l_common_68;
+l_arm_ou:;
+    std_io_io_error_Error_from_bytes(slot_1, 2u, 21u, ((u8 *)g_static_118), 35ull, 35ull);
+    u64 r_38_2 = ld64(slot_1);
+    u32 r_z4_2 = ld32((slot_1 + 8));
+    u32 r_uq_2 = ld32((slot_1 + 12));
+    memcpy(slot_2, (slot_1 + 16), 72);
+    memcpy(slot_5, slot_2, 72);
+    st64(a_1, 1ull);
+    st64(away(a_1, 8ull), r_38_2);
+    st32(away(a_1, 16ull), r_z4_2);
+    st32(away(a_1, 20ull), r_uq_2);
+    memcpy(away(a_1, 24ull), slot_5, 72);
+    goto l_common_68;
+}
+
 /* std_alloc::vec::Vec::grow_amortized::<#5e63141f0e39c5e0> */
-static NEVER COLD u8 std_alloc_vec_Vec_grow_amortized_5e63141f0e39c5e0(u8 *a_1)
+NEVER COLD u8 std_alloc_vec_Vec_grow_amortized_5e63141f0e39c5e0(u8 *a_1)
 {
     u64 r_52;
     u8 common_p7;
@@ -1658,7 +1733,7 @@ static NEVER COLD void capnp_framing_framing_reading_grow_3691078bae5dd839(u8 *a
     u8 *r_rq;
     u64 r_vp;
     u64 r_7n;
-    u64 r_52_2;
+    u64 r_52_1;
     r_xz = away(a_2, 24ull);
     r_08 = away(a_3, 16ull);
     r_rq = away(a_3, 8ull);
@@ -1671,8 +1746,8 @@ l_std_bs:;
     st8((ldp(a_3) + (i64)(r_vp)), 0u);
     r_7n = (r_vp + 1ull);
     st64(r_rq, r_7n);
-    r_52_2 = ld64(r_08);
-    if (r_52_2 > r_7n) goto l_join_re;
+    r_52_1 = ld64(r_08);
+    if (r_52_1 > r_7n) goto l_join_re;
     goto l_then_z5;
 l_arm_k7:;
     st64(r_xz, uadd_sat64(ld64(r_xz), 1ull));
@@ -1682,15 +1757,15 @@ l_arm_k7:;
 l_common_68:;
     return;
 l_then_z5:;
-    if (!(r_7n > r_52_2)) goto l_std_k2;
-    st64(r_rq, r_52_2);
+    if (!(r_7n > r_52_1)) goto l_std_k2;
+    st64(r_rq, r_52_1);
     goto l_std_k2;
 l_join_re:;
-    u8 *r_fx_1 = ldp(a_3);
-    memset_or_none(away(r_fx_1, r_7n), 0u, (r_52_2 - r_7n));
-    stp(a_3, r_fx_1);
-    st64(r_rq, r_52_2);
-    st64(r_08, r_52_2);
+    u8 *r_fx = ldp(a_3);
+    memset_or_none(away(r_fx, r_7n), 0u, (r_52_1 - r_7n));
+    stp(a_3, r_fx);
+    st64(r_rq, r_52_1);
+    st64(r_08, r_52_1);
 l_std_k2:;
     st8(a_1, 0u);
     memset(away(a_1, 8ull), 0u, 16);
@@ -1698,7 +1773,7 @@ l_std_k2:;
 }
 
 /* std_alloc::vec::Vec::grow_amortized::<#5400d4f5161e8cc6> */
-static NEVER COLD u8 std_alloc_vec_Vec_grow_amortized_5400d4f5161e8cc6(u8 *a_1)
+NEVER COLD u8 std_alloc_vec_Vec_grow_amortized_5400d4f5161e8cc6(u8 *a_1)
 {
     u64 r_52;
     u8 common_p7;
@@ -1744,10 +1819,10 @@ void capnp_messages_messages_message_fault_canonical_fault__490a0445(u8 *a_1, u8
     A(8) u8 slot_2[64];
     u8 *r_fx;
     u64 r_z9;
-    u64 r_52_1;
+    u64 r_52;
     u8 r_pe;
-    u8 *r_rq_1;
-    u64 r_52_2;
+    u8 *r_rq;
+    u64 r_52_1;
     u64 r_zn;
     u8 *r_xp;
     u64 r_wy;
@@ -1762,40 +1837,40 @@ void capnp_messages_messages_message_fault_canonical_fault__490a0445(u8 *a_1, u8
     u64 r_9s;
     u32 r_ny;
     u64 r_eg;
-    u8 *r_rq_3;
-    u8 *r_08_1;
-    u64 r_qw_1;
-    u8 *r_x5_1;
-    u8 *r_zd_1;
+    u8 *r_rq_1;
+    u8 *r_08;
+    u64 r_qw;
+    u8 *r_x5;
+    u8 *r_zd;
     u8 *r_lk;
-    u8 *r_89_1;
+    u8 *r_89;
     u8 *r_gs;
-    u8 *r_a8_1;
+    u8 *r_a8;
     u64 r_oz;
-    u64 r_qw_2;
+    u64 r_qw_1;
     u64 r_ep;
     u64 r_y6;
     u64 r_q7;
     u64 r_lc;
     u64 r_m6;
-    u64 r_nb_1;
+    u64 r_nb;
     u64 r_i9;
     u32 r_12;
     u32 r_az;
     u32 r_qt;
     u32 r_ff;
     u32 r_68;
-    u8 r_ts_6;
+    u8 r_ts;
     struct s_i8_i32 r_d4;
     u32 r_xo;
     u32 r_68_1;
-    u64 r_es_1;
+    u64 r_es;
     u32 r_tu;
     u8 r_di;
     u64 r_ij;
     u64 r_c6;
     u64 r_m6_1;
-    u64 r_nb_2;
+    u64 r_nb_1;
     u64 r_i9_1;
     u32 narrow_j8;
     u32 r_12_1;
@@ -1804,16 +1879,16 @@ void capnp_messages_messages_message_fault_canonical_fault__490a0445(u8 *a_1, u8
     u32 r_tu_1;
     u8 r_di_1;
     struct s_i8_i32 r_ef;
-    u8 r_5h_1;
-    u64 r_38_2;
-    u64 r_38_3;
+    u8 r_5h;
+    u64 r_38;
+    u64 r_38_1;
     u64 pre_eg;
     u64 r_6p;
     u64 r_02;
     u64 r_60;
     u64 r_jt;
     u8 r_al;
-    u64 r_38_5;
+    u64 r_38_2;
     u32 r_ob;
     u64 r_z9_1;
     u64 r_3m;
@@ -1838,23 +1913,23 @@ l_then_o7:;
     st64(away(a_1, 24ull), 0ull);
     goto l_common_68;
 l_arm_7i:;
-    r_52_1 = ld64(ldp(away(r_fx, 32ull)));
-    if ((r_52_1 & 0x1fffffffffffffffull) == 0ull) { r_ob = 23u; goto l_arm_o9; }
+    r_52 = ld64(ldp(away(r_fx, 32ull)));
+    if ((r_52 & 0x1fffffffffffffffull) == 0ull) { r_ob = 23u; goto l_arm_o9; }
     r_pe = ld8(a_3);
-    r_rq_1 = away(a_3, 8ull);
+    r_rq = away(a_3, 8ull);
     if (r_pe == 1u) goto l_arm_7p;
-    r_wy = ld64(r_rq_1);
-    r_i2 = r_52_1;
+    r_wy = ld64(r_rq);
+    r_i2 = r_52;
     r_7b = r_fx;
     goto l_arm_zz;
 l_arm_7p:;
-    r_52_2 = ld64(r_rq_1);
-    if (r_52_2 == 0ull) { r_ob = 30u; goto l_arm_o9; }
-    r_zn = (r_52_2 + 0xffffffffffffffffull);
+    r_52_1 = ld64(r_rq);
+    if (r_52_1 == 0ull) { r_ob = 30u; goto l_arm_o9; }
+    r_zn = (r_52_1 + 0xffffffffffffffffull);
     st64(a_3, 1ull);
-    st64(r_rq_1, r_zn);
+    st64(r_rq, r_zn);
     r_xp = ldp(a_2);
-    if (ld64(r_xp) == 0ull) { r_2c = r_zn; r_bq = 1u; t_d6 = 0u; r_m9 = 2ull; r_of = 0ull; r_5c = ((u8 *)g_static_287); r_9s = 0ull; r_ny = 0x7fffffffu; goto l_arm_oq; }
+    if (ld64(r_xp) == 0ull) { r_2c = r_zn; r_bq = 1u; t_d6 = 0u; r_m9 = 2ull; r_of = 0ull; r_5c = ((u8 *)g_static_297); r_9s = 0ull; r_ny = 0x7fffffffu; goto l_arm_oq; }
     r_wy = r_zn;
     r_i2 = ld64(ldp(away(r_xp, 32ull)));
     r_7b = r_xp;
@@ -1877,43 +1952,43 @@ l_arm_oq:;
     st32((slot_2 + 52), 0u);
     st32((slot_2 + 56), r_ny);
     r_eg = (u64)r_bq;
-    r_rq_3 = away(a_3, 8ull);
-    r_08_1 = away(a_3, 16ull);
-    r_qw_1 = ld64(r_08_1);
+    r_rq_1 = away(a_3, 8ull);
+    r_08 = away(a_3, 16ull);
+    r_qw = ld64(r_08);
     memset(a_3, 0u, 24);
     st64(slot_1, r_eg);
-    r_x5_1 = (slot_1 + 8);
-    st64(r_x5_1, r_2c);
-    r_zd_1 = (slot_1 + 16);
-    st64(r_zd_1, r_qw_1);
+    r_x5 = (slot_1 + 8);
+    st64(r_x5, r_2c);
+    r_zd = (slot_1 + 16);
+    st64(r_zd, r_qw);
     r_lk = (slot_1 + 24);
     st64(r_lk, 1ull);
-    r_89_1 = (slot_1 + 32);
-    st32(r_89_1, 30u);
+    r_89 = (slot_1 + 32);
+    st32(r_89, 30u);
     r_gs = (slot_1 + 36);
     st32(r_gs, 0u);
-    r_a8_1 = (slot_1 + 40);
-    st64(r_a8_1, 0ull);
+    r_a8 = (slot_1 + 40);
+    st64(r_a8, 0ull);
     r_oz = (u64)(r_9s >> 3ull);
     if (r_9s == 0ull) { r_al = 1u; goto l_arm_pn; }
-    r_qw_2 = ld64(r_5c);
-    if ((r_qw_2 & 2ull) == 0ull) goto l_join_4p;
-    r_al = (((r_qw_2 & 3ull) == 2ull) ? 2u : (((r_qw_2 & 0xffffffffull) == 3ull) ? 3u : 4u));
+    r_qw_1 = ld64(r_5c);
+    if ((r_qw_1 & 2ull) == 0ull) goto l_join_4p;
+    r_al = (((r_qw_1 & 3ull) == 2ull) ? 2u : (((r_qw_1 & 0xffffffffull) == 3ull) ? 3u : 4u));
     goto l_arm_pn;
 l_join_4p:;
-    if (r_qw_2 == 0ull) { r_6p = r_eg; r_02 = r_qw_1; r_60 = r_2c; r_jt = 1ull; goto l_arm_ji; }
-    r_ep = (u64)(r_qw_2 >> 32ull);
-    if (!((r_qw_2 & 1ull) == 0ull)) goto l_arm_st;
-    r_y6 = (u64)(r_qw_2 >> 48ull);
+    if (r_qw_1 == 0ull) { r_6p = r_eg; r_02 = r_qw; r_60 = r_2c; r_jt = 1ull; goto l_arm_ji; }
+    r_ep = (u64)(r_qw_1 >> 32ull);
+    if (!((r_qw_1 & 1ull) == 0ull)) goto l_arm_st;
+    r_y6 = (u64)(r_qw_1 >> 48ull);
     r_q7 = (r_ep & 65535ull);
     r_lc = (r_q7 + r_y6);
     if (!t_d6) goto l_join_k9;
-    st64(r_zd_1, uadd_sat64(r_qw_1, 1ull));
+    st64(r_zd, uadd_sat64(r_qw, 1ull));
 l_join_k9:;
-    r_m6 = ((u64)(r_qw_2 >> 2ull) & 0x3fffffffull);
-    r_nb_1 = (r_oz & 0xffffffffull);
+    r_m6 = ((u64)(r_qw_1 >> 2ull) & 0x3fffffffull);
+    r_nb = (r_oz & 0xffffffffull);
     if (!(r_m6 < 0x20000000ull)) goto l_else_jl;
-    if (r_m6 < r_nb_1) { r_i9 = (r_m6 + 1ull); goto l_arm_td; }
+    if (r_m6 < r_nb) { r_i9 = (r_m6 + 1ull); goto l_arm_td; }
     r_qt = 23u;
     goto l_arm_nd;
 l_else_jl:;
@@ -1922,11 +1997,11 @@ l_else_jl:;
     goto l_arm_nd;
 l_arm_td:;
     if ((i32)r_ny < (i32)1u) { r_qt = 26u; goto l_arm_nd; }
-    if (r_nb_1 < (r_i9 + r_lc)) { r_qt = 23u; goto l_arm_nd; }
+    if (r_nb < (r_i9 + r_lc)) { r_qt = 23u; goto l_arm_nd; }
     if (!(u8)((u8)t_d6 & (u8)(r_bq == 1u))) goto l_arm_7c;
     if (r_2c < r_lc) { r_qt = 30u; goto l_arm_nd; }
     st64(slot_1, 1ull);
-    st64(r_x5_1, (r_2c - r_lc));
+    st64(r_x5, (r_2c - r_lc));
 l_arm_7c:;
     r_12 = (u32)r_y6;
     r_az = ((u32)r_ep & 65535u);
@@ -1934,9 +2009,9 @@ l_arm_7c:;
     goto l_join_4n;
 l_arm_nd:;
     st64(r_lk, 1ull);
-    st32(r_89_1, r_qt);
+    st32(r_89, r_qt);
     st32(r_gs, 0u);
-    st64(r_a8_1, 0ull);
+    st64(r_a8, 0ull);
     r_tu = 0u;
     r_di = 1u;
     goto l_capnp_cm;
@@ -1959,8 +2034,8 @@ l_join_4n:;
 l_join_4w:;
     r_ff = (r_az + 1u);
     r_68 = (r_ff + r_12);
-    r_ts_6 = (r_y6 == 0ull);
-    if (!r_ts_6) goto l_join_ns;
+    r_ts = (r_y6 == 0ull);
+    if (!r_ts) goto l_join_ns;
     struct s_i8_i32 t_ph = (struct s_i8_i32){ 0u, 0u };
     t_ph.f1 = r_68;
     r_d4 = t_ph;
@@ -1976,21 +2051,21 @@ l_capnp_o7:;
     if (!(ld64(away(r_5c, (u64)(r_q7 << 3ull))) == 0ull)) goto l_join_vo;
 l_then_lv:;
     memset(r_lk, 0u, 16);
-    st32(r_a8_1, r_az);
+    st32(r_a8, r_az);
     st8((slot_1 + 44), 8u);
     memset((slot_1 + 45), 0u, 3);
     r_tu = 0u;
     r_di = 1u;
     goto l_capnp_cm;
 l_join_vo:;
-    if (r_ts_6) { r_tu = r_xo; r_di = 0u; goto l_capnp_cm; }
+    if (r_ts) { r_tu = r_xo; r_di = 0u; goto l_capnp_cm; }
     r_68_1 = (r_az + r_12);
-    r_es_1 = (u64)r_68_1;
-    if (!(r_oz > r_es_1)) goto l_then_bv;
-    if (!(ld64(away(r_5c, (u64)(r_es_1 << 3ull))) == 0ull)) { r_tu = r_xo; r_di = 0u; goto l_capnp_cm; }
+    r_es = (u64)r_68_1;
+    if (!(r_oz > r_es)) goto l_then_bv;
+    if (!(ld64(away(r_5c, (u64)(r_es << 3ull))) == 0ull)) { r_tu = r_xo; r_di = 0u; goto l_capnp_cm; }
 l_then_bv:;
     memset(r_lk, 0u, 16);
-    st32(r_a8_1, r_68_1);
+    st32(r_a8, r_68_1);
     st8((slot_1 + 44), 9u);
     memset((slot_1 + 45), 0u, 3);
     r_tu = 0u;
@@ -2004,15 +2079,15 @@ l_capnp_cm:;
     goto l_capnp_vv;
 l_arm_st:;
     if (!((u8)((u8)((u8)r_ep & 7u) + 255u) < 5u)) goto l_join_9i;
-    r_ij = (u64)(r_qw_2 >> 35ull);
+    r_ij = (u64)(r_qw_1 >> 35ull);
     r_c6 = (u64)(((ld64(away(away(((u8 *)switch_table_capnp_show_show_objects_read_object_5ccc1_1b90c80b), 8 * (r_ep & 7ull)), 0xfffffffffffffff8ull)) * r_ij) + 63ull) >> 6ull);
     if (!t_d6) goto l_join_z3;
-    st64(r_zd_1, uadd_sat64(r_qw_1, 1ull));
+    st64(r_zd, uadd_sat64(r_qw, 1ull));
 l_join_z3:;
-    r_m6_1 = ((u64)(r_qw_2 >> 2ull) & 0x3fffffffull);
-    r_nb_2 = (r_oz & 0xffffffffull);
+    r_m6_1 = ((u64)(r_qw_1 >> 2ull) & 0x3fffffffull);
+    r_nb_1 = (r_oz & 0xffffffffull);
     if (!(r_m6_1 < 0x20000000ull)) goto l_else_jl_1;
-    if (r_m6_1 < r_nb_2) { r_i9_1 = (r_m6_1 + 1ull); goto l_arm_td_1; }
+    if (r_m6_1 < r_nb_1) { r_i9_1 = (r_m6_1 + 1ull); goto l_arm_td_1; }
     narrow_j8 = 23u;
     goto l_arm_ka;
 l_else_jl_1:;
@@ -2021,19 +2096,19 @@ l_else_jl_1:;
     goto l_arm_ka;
 l_arm_td_1:;
     if ((i32)r_ny < (i32)1u) { narrow_j8 = 28u; goto l_arm_ka; }
-    if (r_nb_2 < (r_i9_1 + r_c6)) { narrow_j8 = 23u; goto l_arm_ka; }
+    if (r_nb_1 < (r_i9_1 + r_c6)) { narrow_j8 = 23u; goto l_arm_ka; }
     if (!(u8)((u8)t_d6 & (u8)(r_bq == 1u))) goto l_arm_4n;
     if (r_2c < r_c6) { narrow_j8 = 30u; goto l_arm_ka; }
     st64(slot_1, 1ull);
-    st64(r_x5_1, (r_2c - r_c6));
+    st64(r_x5, (r_2c - r_c6));
 l_arm_4n:;
     if (r_i9_1 == 1ull) goto l_join_fv;
     goto l_then_1w;
 l_arm_ka:;
     st64(r_lk, 1ull);
-    st32(r_89_1, narrow_j8);
+    st32(r_89, narrow_j8);
     st32(r_gs, 0u);
-    st64(r_a8_1, 0ull);
+    st64(r_a8, 0ull);
     r_tu_1 = 0u;
     r_di_1 = 1u;
     goto l_capnp_cm_1;
@@ -2045,14 +2120,14 @@ l_then_1w:;
     r_di_1 = 1u;
     goto l_capnp_cm_1;
 l_join_fv:;
-    u64 r_1q_1 = (ld64(away(away(((u8 *)switch_table_capnp_show_show_objects_read_object_5ccc1_1b90c80b), 8 * (r_ep & 7ull)), 0xfffffffffffffff8ull)) * r_ij);
-    r_12_1 = (u32)(u64)(r_1q_1 >> 6ull);
+    u64 r_1q = (ld64(away(away(((u8 *)switch_table_capnp_show_show_objects_read_object_5ccc1_1b90c80b), 8 * (r_ep & 7ull)), 0xfffffffffffffff8ull)) * r_ij);
+    r_12_1 = (u32)(u64)(r_1q >> 6ull);
     r_ff_1 = (r_12_1 + 1u);
-    r_4i = (r_1q_1 & 63ull);
+    r_4i = (r_1q & 63ull);
     if (r_4i == 0ull) { r_tu_1 = r_ff_1; r_di_1 = 0u; goto l_capnp_cm_1; }
     if (any8(v8_of((u64)(ld64(away(r_5c, (u64)((u64)r_ff_1 << 3ull))) >> (r_4i & 63u)))) == 0u) { r_tu_1 = (r_12_1 + 2u); r_di_1 = 0u; goto l_capnp_cm_1; }
     memset(r_lk, 0u, 16);
-    st32(r_a8_1, r_ff_1);
+    st32(r_a8, r_ff_1);
     st8((slot_1 + 44), 7u);
     memset((slot_1 + 45), 0u, 3);
     r_tu_1 = 0u;
@@ -2065,41 +2140,41 @@ l_capnp_cm_1:;
     r_ef = r_i6_1;
     goto l_capnp_vv;
 l_join_9i:;
-    struct s_i8_i32 r_r5 = capnp_objects_pointers_canonical_test_list_5ccc1be374b2e488(slot_2, 0u, r_qw_2, r_ny, 1u, slot_1);
+    struct s_i8_i32 r_r5 = capnp_objects_pointers_canonical_test_list_5ccc1be374b2e488(slot_2, 0u, r_qw_1, r_ny, 1u, slot_1);
     r_ef = r_r5;
 l_capnp_vv:;
-    r_5h_1 = r_ef.f0;
-    r_38_2 = ld64(r_x5_1);
-    r_38_3 = ld64(r_zd_1);
+    r_5h = r_ef.f0;
+    r_38 = ld64(r_x5);
+    r_38_1 = ld64(r_zd);
     pre_eg = (u64)ld8(slot_1);
-    if (!(r_5h_1 == 0u)) goto l_arm_0b;
+    if (!(r_5h == 0u)) goto l_arm_0b;
     r_6p = pre_eg;
-    r_02 = r_38_3;
-    r_60 = r_38_2;
+    r_02 = r_38_1;
+    r_60 = r_38;
     r_jt = (u64)r_ef.f1;
 l_arm_ji:;
     st64(a_3, r_6p);
-    st64(r_rq_3, r_60);
-    st64(r_08_1, r_02);
+    st64(r_rq_1, r_60);
+    st64(r_08, r_02);
     r_4b = r_jt;
     goto l_join_un;
 l_arm_pn:;
-    st32(r_a8_1, 0u);
+    st32(r_a8, 0u);
     st8((slot_1 + 44), r_al);
     memset((slot_1 + 45), 0u, 3);
     st64(a_3, r_eg);
-    st64(r_rq_3, r_2c);
-    st64(r_08_1, r_qw_1);
+    st64(r_rq_1, r_2c);
+    st64(r_08, r_qw);
     r_z9_1 = 0ull;
-    r_3m = ld64(r_a8_1);
+    r_3m = ld64(r_a8);
     goto l_arm_o7;
 l_arm_0b:;
-    u8 t_0c_2 = (ld8(r_lk) == 0u);
+    u8 t_0c = (ld8(r_lk) == 0u);
     st64(a_3, pre_eg);
-    st64(r_rq_3, r_38_2);
-    st64(r_08_1, r_38_3);
-    r_38_5 = ld64(r_a8_1);
-    if (t_0c_2) goto l_arm_5b;
+    st64(r_rq_1, r_38);
+    st64(r_08, r_38_1);
+    r_38_2 = ld64(r_a8);
+    if (t_0c) goto l_arm_5b;
     goto l_arm_fs;
 l_arm_o9:;
     st64(a_1, 1ull);
@@ -2107,16 +2182,16 @@ l_arm_o9:;
     memset(away(a_1, 12ull), 0u, 20);
     goto l_common_68;
 l_arm_5b:;
-    if (r_5h_1 == 1u) { r_z9_1 = ld64(r_89_1); r_3m = r_38_5; goto l_arm_o7; }
+    if (r_5h == 1u) { r_z9_1 = ld64(r_89); r_3m = r_38_2; goto l_arm_o7; }
     r_4b = 1ull;
     goto l_join_un;
 l_arm_fs:;
     u32 r_uq = ld32(r_gs);
-    u32 r_vt = (ld32(r_89_1) & 255u);
+    u32 r_vt = (ld32(r_89) & 255u);
     st64(a_1, 1ull);
     st32(away(a_1, 8ull), r_vt);
     st32(away(a_1, 12ull), r_uq);
-    st64(away(a_1, 16ull), r_38_5);
+    st64(away(a_1, 16ull), r_38_2);
     st64(away(a_1, 24ull), 0ull);
     goto l_common_68;
 l_arm_o7:;
@@ -2157,7 +2232,7 @@ NEVER void capnp_objects_source_follow_far_5ccc1be374b2e488(u8 *a_1, u8 *a_2, u6
     u64 r_cy_1;
     u64 r_4d;
     u8 *r_rq;
-    u64 r_52_3;
+    u64 r_52;
     u32 r_ab;
     u32 r_4r;
     u64 r_c0;
@@ -2171,7 +2246,7 @@ NEVER void capnp_objects_source_follow_far_5ccc1be374b2e488(u8 *a_1, u8 *a_2, u6
     u64 r_qz_1;
     u32 r_4r_1;
     u32 r_ab_1;
-    u64 r_es_1;
+    u64 r_es;
     u64 r_7u;
     u64 r_lc;
     u64 r_s3;
@@ -2210,10 +2285,10 @@ l_join_zm:;
     r_4d = (u64)i_io;
     if (!(ld8(a_4) == 1u)) goto l_arm_ol;
     r_rq = away(a_4, 8ull);
-    r_52_3 = ld64(r_rq);
-    if (r_52_3 < r_4d) { r_ef = 30ull; goto l_arm_c6; }
+    r_52 = ld64(r_rq);
+    if (r_52 < r_4d) { r_ef = 30ull; goto l_arm_c6; }
     st64(a_4, 1ull);
-    st64(r_rq, (r_52_3 - r_4d));
+    st64(r_rq, (r_52 - r_4d));
 l_arm_ol:;
     r_ab = (u32)t_al;
     r_4r = (u32)(u64)(t_al >> 32ull);
@@ -2236,17 +2311,17 @@ l_then_jp:;
     if (!(ld64(r_fx_1) > r_ep)) goto l_arm_8h;
     r_xw_1 = ldp(away(r_fx_1, 32ull));
     if (r_ep == 0ull) { r_ap_1 = 0ull; r_l8_1 = 0ull; goto l_arm_pv_1; }
-    u64 r_z6_2 = (u64)(r_ep << 3ull);
-    r_ap_1 = r_z6_2;
-    r_l8_1 = ld64(away(away(r_xw_1, r_z6_2), 0xfffffffffffffff8ull));
+    u64 r_z6_1 = (u64)(r_ep << 3ull);
+    r_ap_1 = r_z6_1;
+    r_l8_1 = ld64(away(away(r_xw_1, r_z6_1), 0xfffffffffffffff8ull));
 l_arm_pv_1:;
     r_qz_1 = (u64)((ld64((r_xw_1 + (i64)(r_ap_1))) - r_l8_1) << 3ull);
     u64 t_al_1 = (u64)(uptr)away(ldp(away(r_fx_1, 56ull)), (u64)(r_l8_1 << 3ull));
     r_4r_1 = (u32)(u64)(t_al_1 >> 32ull);
     r_ab_1 = (u32)t_al_1;
-    r_es_1 = (u64)(t_ri + 1u);
-    if (!(r_cy_1 > r_es_1)) { r_7u = 0ull; goto l_capnp_o6; }
-    r_7u = ld64(away(r_2b, (u64)(r_es_1 << 3ull)));
+    r_es = (u64)(t_ri + 1u);
+    if (!(r_cy_1 > r_es)) { r_7u = 0ull; goto l_capnp_o6; }
+    r_7u = ld64(away(r_2b, (u64)(r_es << 3ull)));
 l_capnp_o6:;
     r_vt = r_ab_1;
     r_8t = r_4r_1;
@@ -2320,29 +2395,29 @@ static struct s_i8_i32 capnp_objects_pointers_canonical_test_children_5ccc1be374
     u32 r_7m;
     u64 r_24;
     u64 r_gw;
-    u64 r_qw_1;
+    u64 r_qw;
     u64 r_ep;
     u64 r_y6;
     u64 r_lc;
     u8 t_pa;
     u64 r_lc_1;
-    u64 r_nb_1;
+    u64 r_nb;
     u64 r_09;
     u32 r_4r;
     u8 r_8u;
-    u64 r_52_1;
+    u64 r_52;
     u32 r_8d;
     u32 r_12;
     u32 r_az;
     u32 r_p4;
     u32 r_w0;
     u32 r_w0_1;
-    u8 r_ts_2;
+    u8 r_ts;
     struct s_i8_i32 r_d4;
     u32 r_xo;
+    u64 r_qw_3;
+    u8 *r_rv;
     u64 r_qw_4;
-    u8 *r_rv_1;
-    u64 r_qw_5;
     u64 r_24_1;
     u64 r_24_2;
     u32 r_tu;
@@ -2350,15 +2425,15 @@ static struct s_i8_i32 capnp_objects_pointers_canonical_test_children_5ccc1be374
     u64 r_ep_1;
     u64 r_ij;
     u64 r_c6;
-    u8 t_0c_1;
-    u64 r_lc_3;
-    u64 r_nb_2;
+    u8 t_0c;
+    u64 r_lc_2;
+    u64 r_nb_1;
     u64 r_09_1;
-    u32 r_4r_2;
-    u64 r_52_3;
+    u32 r_4r_1;
+    u64 r_52_1;
     u32 narrow_gg;
-    u64 r_52_4;
-    u32 r_w0_4;
+    u64 r_52_2;
+    u32 r_w0_2;
     u64 r_4i;
     u32 r_tu_1;
     u8 r_di_1;
@@ -2394,41 +2469,41 @@ l_join_7l:;
     r_24 = (u64)r_7m;
     r_gw = (u64)(ld64(r_su) >> 3ull);
     if (!(r_gw > r_24)) { sink_vv = 1u; goto l_return_9r; }
-    r_qw_1 = ld64(away(ldp(r_xm), (u64)(r_24 << 3ull)));
-    if ((r_qw_1 & 2ull) == 0ull) goto l_join_1j;
-    sink_vv = (((r_qw_1 & 3ull) == 2ull) ? 2u : (((r_qw_1 & 0xffffffffull) == 3ull) ? 3u : 4u));
+    r_qw = ld64(away(ldp(r_xm), (u64)(r_24 << 3ull)));
+    if ((r_qw & 2ull) == 0ull) goto l_join_1j;
+    sink_vv = (((r_qw & 3ull) == 2ull) ? 2u : (((r_qw & 0xffffffffull) == 3ull) ? 3u : 4u));
     goto l_return_9r;
 l_join_1j:;
-    if (r_qw_1 == 0ull) { r_kr = r_l6; goto l_loop_2y; }
-    if (!((r_qw_1 & 1ull) == 0ull)) goto l_arm_ui;
-    r_ep = (u64)(r_qw_1 >> 32ull);
-    r_y6 = (u64)(r_qw_1 >> 48ull);
+    if (r_qw == 0ull) { r_kr = r_l6; goto l_loop_2y; }
+    if (!((r_qw & 1ull) == 0ull)) goto l_arm_ui;
+    r_ep = (u64)(r_qw >> 32ull);
+    r_y6 = (u64)(r_qw >> 48ull);
     r_lc = ((r_ep & 65535ull) + r_y6);
     t_pa = (ld8(a_1) != 0u);
     if (t_pa) goto l_join_o1;
     st64(r_08, uadd_sat64(ld64(r_08), 1ull));
 l_join_o1:;
-    u64 r_m6 = ((u64)(r_qw_1 >> 2ull) & 0x3fffffffull);
+    u64 r_m6 = ((u64)(r_qw >> 2ull) & 0x3fffffffull);
     r_lc_1 = ((r_24 + 1ull) + r_m6);
-    r_nb_1 = (r_gw & 0xffffffffull);
+    r_nb = (r_gw & 0xffffffffull);
     if (!(r_m6 < 0x20000000ull)) goto l_else_70;
-    if (r_lc_1 > r_nb_1) { r_p4 = 23u; goto l_arm_rm; }
+    if (r_lc_1 > r_nb) { r_p4 = 23u; goto l_arm_rm; }
     r_09 = r_lc_1;
     goto l_arm_f4;
 l_else_70:;
     u64 r_3o = (r_lc_1 + 0xffffffffc0000000ull);
-    if ((r_lc_1 < 0x40000000ull) ? 1u : (r_3o > r_nb_1)) { r_p4 = 23u; goto l_arm_rm; }
+    if ((r_lc_1 < 0x40000000ull) ? 1u : (r_3o > r_nb)) { r_p4 = 23u; goto l_arm_rm; }
     r_09 = r_3o;
 l_arm_f4:;
     r_4r = (u32)r_09;
     if (r_30) { r_p4 = 26u; goto l_arm_rm; }
-    r_8u = (r_nb_1 < (r_09 + r_lc));
+    r_8u = (r_nb < (r_09 + r_lc));
     if ((u8)((u8)t_pa | (u8)r_8u)) goto l_capnp_bj;
     if (!(ld8(a_6) == 1u)) { r_8d = r_4r; goto l_arm_7c; }
-    r_52_1 = ld64(r_rq);
-    if (r_52_1 < r_lc) { r_p4 = 30u; goto l_arm_rm; }
+    r_52 = ld64(r_rq);
+    if (r_52 < r_lc) { r_p4 = 30u; goto l_arm_rm; }
     st64(a_6, 1ull);
-    st64(r_rq, (r_52_1 - r_lc));
+    st64(r_rq, (r_52 - r_lc));
     r_8d = r_4r;
     goto l_arm_7c;
 l_capnp_bj:;
@@ -2449,9 +2524,9 @@ l_arm_rm:;
     goto l_capnp_cm;
 l_then_h5:;
     if (r_8d == r_7m) { r_tu = r_l6; r_di = 0u; goto l_capnp_cm; }
-    u64 r_qw_2 = ld64(r_xz);
+    u64 r_qw_1 = ld64(r_xz);
     st64(r_xz_1, 0ull);
-    st64(r_xm_1, r_qw_2);
+    st64(r_xm_1, r_qw_1);
     st32(r_su_1, r_7m);
     st8(r_9e, 5u);
     memset(r_z0, 0u, 3);
@@ -2460,9 +2535,9 @@ l_then_h5:;
     goto l_capnp_cm;
 l_join_8x:;
     if (r_8d == r_l6) goto l_join_p3;
-    u64 r_qw_3 = ld64(r_xz);
+    u64 r_qw_2 = ld64(r_xz);
     st64(r_xz_1, 0ull);
-    st64(r_xm_1, r_qw_3);
+    st64(r_xm_1, r_qw_2);
     st32(r_su_1, r_7m);
     st8(r_9e, 6u);
     memset(r_z0, 0u, 3);
@@ -2472,8 +2547,8 @@ l_join_8x:;
 l_join_p3:;
     r_w0 = (r_l6 + r_az);
     r_w0_1 = (r_w0 + r_12);
-    r_ts_2 = (r_y6 == 0ull);
-    if (!r_ts_2) goto l_join_41;
+    r_ts = (r_y6 == 0ull);
+    if (!r_ts) goto l_join_41;
     struct s_i8_i32 t_ph = (struct s_i8_i32){ 0u, 0u };
     t_ph.f1 = r_w0_1;
     r_d4 = t_ph;
@@ -2484,16 +2559,16 @@ l_join_41:;
 l_capnp_o7:;
     r_xo = r_d4.f1;
     if (!(r_d4.f0 == 0u)) { r_tu = 0u; r_di = 1u; goto l_capnp_cm; }
-    r_qw_4 = ld64(r_xz);
-    r_rv_1 = ldp(r_xm);
-    r_qw_5 = ld64(r_su);
+    r_qw_3 = ld64(r_xz);
+    r_rv = ldp(r_xm);
+    r_qw_4 = ld64(r_su);
     if (r_az == 0u) goto l_join_vo;
     r_24_1 = (u64)((r_az + 0xffffffffu) + r_l6);
-    if (!((u64)(r_qw_5 >> 3ull) > r_24_1)) goto l_then_77;
-    if (!(ld64(away(r_rv_1, (u64)(r_24_1 << 3ull))) == 0ull)) goto l_join_vo;
+    if (!((u64)(r_qw_4 >> 3ull) > r_24_1)) goto l_then_77;
+    if (!(ld64(away(r_rv, (u64)(r_24_1 << 3ull))) == 0ull)) goto l_join_vo;
 l_then_77:;
     st64(r_xz_1, 0ull);
-    st64(r_xm_1, r_qw_4);
+    st64(r_xm_1, r_qw_3);
     st32(r_su_1, (r_w0 + 0xffffffffu));
     st8(r_9e, 8u);
     memset(r_z0, 0u, 3);
@@ -2501,13 +2576,13 @@ l_then_77:;
     r_di = 1u;
     goto l_capnp_cm;
 l_join_vo:;
-    if (r_ts_2) { r_tu = r_xo; r_di = 0u; goto l_capnp_cm; }
+    if (r_ts) { r_tu = r_xo; r_di = 0u; goto l_capnp_cm; }
     r_24_2 = (u64)((r_12 + 0xffffffffu) + r_w0);
-    if (!((u64)(r_qw_5 >> 3ull) > r_24_2)) goto l_then_77_1;
-    if (!(ld64(away(r_rv_1, (u64)(r_24_2 << 3ull))) == 0ull)) { r_tu = r_xo; r_di = 0u; goto l_capnp_cm; }
+    if (!((u64)(r_qw_4 >> 3ull) > r_24_2)) goto l_then_77_1;
+    if (!(ld64(away(r_rv, (u64)(r_24_2 << 3ull))) == 0ull)) { r_tu = r_xo; r_di = 0u; goto l_capnp_cm; }
 l_then_77_1:;
     st64(r_xz_1, 0ull);
-    st64(r_xm_1, r_qw_4);
+    st64(r_xm_1, r_qw_3);
     st32(r_su_1, (r_w0_1 + 0xffffffffu));
     st8(r_9e, 9u);
     memset(r_z0, 0u, 3);
@@ -2521,37 +2596,37 @@ l_capnp_cm:;
     r_cp = r_i6;
     goto l_capnp_7u;
 l_arm_ui:;
-    r_ep_1 = (u64)(r_qw_1 >> 32ull);
+    r_ep_1 = (u64)(r_qw >> 32ull);
     if (!((u8)((u8)((u8)r_ep_1 & 7u) + 255u) < 5u)) goto l_join_6e;
-    r_ij = (u64)(r_qw_1 >> 35ull);
+    r_ij = (u64)(r_qw >> 35ull);
     r_c6 = (u64)(((ld64(away(away(((u8 *)switch_table_capnp_show_show_objects_read_object_5ccc1_1b90c80b), 8 * (r_ep_1 & 7ull)), 0xfffffffffffffff8ull)) * r_ij) + 63ull) >> 6ull);
-    t_0c_1 = (ld8(a_1) == 0u);
-    if (!t_0c_1) goto l_join_bd;
+    t_0c = (ld8(a_1) == 0u);
+    if (!t_0c) goto l_join_bd;
     st64(r_08, uadd_sat64(ld64(r_08), 1ull));
 l_join_bd:;
-    u64 r_m6_1 = ((u64)(r_qw_1 >> 2ull) & 0x3fffffffull);
-    r_lc_3 = ((r_24 + 1ull) + r_m6_1);
-    r_nb_2 = (r_gw & 0xffffffffull);
+    u64 r_m6_1 = ((u64)(r_qw >> 2ull) & 0x3fffffffull);
+    r_lc_2 = ((r_24 + 1ull) + r_m6_1);
+    r_nb_1 = (r_gw & 0xffffffffull);
     if (!(r_m6_1 < 0x20000000ull)) goto l_else_70_1;
-    if (r_lc_3 > r_nb_2) { narrow_gg = 23u; goto l_arm_dw; }
-    r_09_1 = r_lc_3;
+    if (r_lc_2 > r_nb_1) { narrow_gg = 23u; goto l_arm_dw; }
+    r_09_1 = r_lc_2;
     goto l_arm_f4_1;
 l_else_70_1:;
-    u64 r_3o_1 = (r_lc_3 + 0xffffffffc0000000ull);
-    if ((r_lc_3 < 0x40000000ull) ? 1u : (r_3o_1 > r_nb_2)) { narrow_gg = 23u; goto l_arm_dw; }
+    u64 r_3o_1 = (r_lc_2 + 0xffffffffc0000000ull);
+    if ((r_lc_2 < 0x40000000ull) ? 1u : (r_3o_1 > r_nb_1)) { narrow_gg = 23u; goto l_arm_dw; }
     r_09_1 = r_3o_1;
 l_arm_f4_1:;
-    r_4r_2 = (u32)r_09_1;
+    r_4r_1 = (u32)r_09_1;
     if (r_30) { narrow_gg = 28u; goto l_arm_dw; }
-    if (r_nb_2 < (r_c6 + (r_09_1 & 0xffffffffull))) { narrow_gg = 23u; goto l_arm_dw; }
-    if (!t_0c_1) goto l_arm_8x;
+    if (r_nb_1 < (r_c6 + (r_09_1 & 0xffffffffull))) { narrow_gg = 23u; goto l_arm_dw; }
+    if (!t_0c) goto l_arm_8x;
     if (!(ld8(a_6) == 1u)) goto l_arm_8x;
-    r_52_3 = ld64(r_rq);
-    if (r_52_3 < r_c6) { narrow_gg = 30u; goto l_arm_dw; }
+    r_52_1 = ld64(r_rq);
+    if (r_52_1 < r_c6) { narrow_gg = 30u; goto l_arm_dw; }
     st64(a_6, 1ull);
-    st64(r_rq, (r_52_3 - r_c6));
+    st64(r_rq, (r_52_1 - r_c6));
 l_arm_8x:;
-    if (r_l6 == r_4r_2) goto l_join_rz;
+    if (r_l6 == r_4r_1) goto l_join_rz;
     goto l_then_9r;
 l_arm_dw:;
     st64(r_xz_1, 1ull);
@@ -2562,9 +2637,9 @@ l_arm_dw:;
     r_di_1 = 1u;
     goto l_capnp_cm_1;
 l_then_9r:;
-    u64 r_qw_8 = ld64(r_xz);
+    u64 r_qw_5 = ld64(r_xz);
     st64(r_xz_1, 0ull);
-    st64(r_xm_1, r_qw_8);
+    st64(r_xm_1, r_qw_5);
     st32(r_su_1, r_7m);
     st8(r_9e, 6u);
     memset(r_z0, 0u, 3);
@@ -2572,15 +2647,15 @@ l_then_9r:;
     r_di_1 = 1u;
     goto l_capnp_cm_1;
 l_join_rz:;
-    r_52_4 = ld64(r_xz);
-    u64 r_1q_1 = (ld64(away(away(((u8 *)switch_table_capnp_show_show_objects_read_object_5ccc1_1b90c80b), 8 * (r_ep_1 & 7ull)), 0xfffffffffffffff8ull)) * r_ij);
-    r_w0_4 = (r_l6 + (u32)(u64)(r_1q_1 >> 6ull));
-    r_4i = (r_1q_1 & 63ull);
-    if (r_4i == 0ull) { r_tu_1 = r_w0_4; r_di_1 = 0u; goto l_capnp_cm_1; }
-    if (any8(v8_of((u64)(ld64(away(ldp(r_xm), (u64)((u64)r_w0_4 << 3ull))) >> (r_4i & 63u)))) == 0u) { r_tu_1 = (r_w0_4 + 1u); r_di_1 = 0u; goto l_capnp_cm_1; }
+    r_52_2 = ld64(r_xz);
+    u64 r_1q = (ld64(away(away(((u8 *)switch_table_capnp_show_show_objects_read_object_5ccc1_1b90c80b), 8 * (r_ep_1 & 7ull)), 0xfffffffffffffff8ull)) * r_ij);
+    r_w0_2 = (r_l6 + (u32)(u64)(r_1q >> 6ull));
+    r_4i = (r_1q & 63ull);
+    if (r_4i == 0ull) { r_tu_1 = r_w0_2; r_di_1 = 0u; goto l_capnp_cm_1; }
+    if (any8(v8_of((u64)(ld64(away(ldp(r_xm), (u64)((u64)r_w0_2 << 3ull))) >> (r_4i & 63u)))) == 0u) { r_tu_1 = (r_w0_2 + 1u); r_di_1 = 0u; goto l_capnp_cm_1; }
     st64(r_xz_1, 0ull);
-    st64(r_xm_1, r_52_4);
-    st32(r_su_1, r_w0_4);
+    st64(r_xm_1, r_52_2);
+    st32(r_su_1, r_w0_2);
     st8(r_9e, 7u);
     memset(r_z0, 0u, 3);
     r_tu_1 = 0u;
@@ -2593,7 +2668,7 @@ l_capnp_cm_1:;
     r_cp = r_i6_1;
     goto l_capnp_7u;
 l_join_6e:;
-    struct s_i8_i32 r_ka = capnp_objects_pointers_canonical_test_list_5ccc1be374b2e488(a_1, r_7m, r_qw_1, a_4, r_l6, a_6);
+    struct s_i8_i32 r_ka = capnp_objects_pointers_canonical_test_list_5ccc1be374b2e488(a_1, r_7m, r_qw, a_4, r_l6, a_6);
     r_cp = r_ka;
 l_capnp_7u:;
     if (r_cp.f0 == 0u) { r_kr = r_cp.f1; goto l_loop_2y; }
@@ -2601,9 +2676,9 @@ l_capnp_7u:;
     r_1x = 1u;
     goto l_return_pr;
 l_return_9r:;
-    u64 r_qw_10 = ld64(r_xz);
+    u64 r_qw_6 = ld64(r_xz);
     st64(r_xz_1, 0ull);
-    st64(r_xm_1, r_qw_10);
+    st64(r_xm_1, r_qw_6);
     st32(r_su_1, r_7m);
     st8(r_9e, sink_vv);
     memset(r_z0, 0u, 3);
@@ -2642,37 +2717,37 @@ static NEVER struct s_i8_i32 capnp_objects_pointers_canonical_test_list_5ccc1be3
     u64 r_ep;
     u64 r_y6;
     u64 r_lc_1;
-    u8 *r_rq_1;
-    u64 r_52_2;
+    u8 *r_rq;
+    u64 r_52_1;
     u8 switch_wl;
     u64 r_ij;
-    u64 r_c4_1;
-    u64 r_24_1;
-    u64 r_gw_2;
-    u8 *r_rq_2;
-    u64 r_52_3;
+    u64 r_c4;
+    u64 r_24;
+    u64 r_gw_1;
+    u8 *r_rq_1;
+    u64 r_52_2;
     u64 r_eh;
     u32 t_c8;
-    u64 r_ep_2;
+    u64 r_ep_1;
     u64 r_y6_1;
-    u32 r_12_1;
-    u32 r_az_1;
+    u32 r_12;
+    u32 r_az;
     u32 r_68;
     u64 r_c0;
-    u8 *r_rq_3;
-    u64 r_52_4;
+    u8 *r_rq_2;
+    u64 r_52_3;
     u32 r_ll;
     u16 t_xg;
     u16 r_py;
-    u32 r_12_2;
+    u32 r_12_1;
+    u8 *r_rq_3;
+    u64 r_52_4;
     u8 *r_rq_4;
     u64 r_52_5;
-    u8 *r_rq_5;
-    u64 r_52_6;
     u64 r_7e;
     u64 r_c6;
-    u8 *r_rq_6;
-    u64 r_52_7;
+    u8 *r_rq_5;
+    u64 r_52_6;
     u64 r_2g;
     u64 r_gm;
     u64 r_dv;
@@ -2682,10 +2757,10 @@ static NEVER struct s_i8_i32 capnp_objects_pointers_canonical_test_list_5ccc1be3
     u64 r_2n;
     u32 r_id;
     u8 r_ru;
-    u8 *r_xz_3;
+    u8 *r_xz_1;
     u32 r_eh_1;
     u64 r_4i;
-    u32 r_y0_1;
+    u32 r_y0;
     u32 r_68_1;
     u32 r_us;
     u8 r_1x;
@@ -2733,11 +2808,11 @@ l_capnp_i5:;
     goto l_arm_s6;
 l_capnp_bt:;
     capnp_objects_source_follow_far_5ccc1be374b2e488(slot_1, r_xw_1, r_qw, a_6);
-    u64 r_38_2 = ld64((slot_1 + 16));
-    u64 r_38_4 = ld64((slot_1 + 8));
-    if (ld8(slot_1) == 0u) { r_nz = ld32((slot_1 + 40)); r_tc = r_38_2; r_l8 = r_38_4; r_3g = ld64((slot_1 + 32)); r_n9 = ((u8 *)(uptr)ld64((slot_1 + 24))); goto l_arm_s6; }
-    r_gm = r_38_2;
-    r_dv = r_38_4;
+    u64 r_38_1 = ld64((slot_1 + 16));
+    u64 r_38_2 = ld64((slot_1 + 8));
+    if (ld8(slot_1) == 0u) { r_nz = ld32((slot_1 + 40)); r_tc = r_38_1; r_l8 = r_38_2; r_3g = ld64((slot_1 + 32)); r_n9 = ((u8 *)(uptr)ld64((slot_1 + 24))); goto l_arm_s6; }
+    r_gm = r_38_1;
+    r_dv = r_38_2;
     goto l_capnp_up;
 l_arm_s6:;
     switch ((u8)((u8)r_l8 & 3u)) {
@@ -2755,11 +2830,11 @@ l_arm_62:;
     if (((u64)(r_3g >> 3ull) & 0xffffffffull) < (r_lc_1 + (u64)r_nz)) { r_yl = 23u; goto l_capnp_ji; }
     if (t_pa) goto l_arm_7c;
     if (!(ld8(a_6) == 1u)) goto l_arm_7c;
-    r_rq_1 = away(a_6, 8ull);
-    r_52_2 = ld64(r_rq_1);
-    if (r_52_2 < r_lc_1) { r_yl = 30u; goto l_capnp_ji; }
+    r_rq = away(a_6, 8ull);
+    r_52_1 = ld64(r_rq);
+    if (r_52_1 < r_lc_1) { r_yl = 30u; goto l_capnp_ji; }
     st64(a_6, 1ull);
-    st64(r_rq_1, (r_52_2 - r_lc_1));
+    st64(r_rq, (r_52_1 - r_lc_1));
 l_arm_7c:;
     if ((((u32)r_ep & 65535u) | (u32)r_y6) == 0u) goto l_then_s2;
     goto l_join_s2;
@@ -2779,56 +2854,56 @@ l_arm_z2:;
     }
 l_arm_gg:;
     if ((i32)a_4 < (i32)1u) { r_yl = 26u; goto l_capnp_ji; }
-    r_c4_1 = (r_ij + 1ull);
-    r_24_1 = (u64)r_nz;
-    r_gw_2 = (u64)(r_3g >> 3ull);
-    if ((r_gw_2 & 0xffffffffull) < (r_c4_1 + r_24_1)) { r_yl = 23u; goto l_capnp_ji; }
+    r_c4 = (r_ij + 1ull);
+    r_24 = (u64)r_nz;
+    r_gw_1 = (u64)(r_3g >> 3ull);
+    if ((r_gw_1 & 0xffffffffull) < (r_c4 + r_24)) { r_yl = 23u; goto l_capnp_ji; }
     if (t_pa) goto l_arm_ga;
     if (!(ld8(a_6) == 1u)) goto l_arm_ga;
-    r_rq_2 = away(a_6, 8ull);
-    r_52_3 = ld64(r_rq_2);
-    if (!(r_52_3 > r_ij)) { r_yl = 30u; goto l_capnp_ji; }
+    r_rq_1 = away(a_6, 8ull);
+    r_52_2 = ld64(r_rq_1);
+    if (!(r_52_2 > r_ij)) { r_yl = 30u; goto l_capnp_ji; }
     st64(a_6, 1ull);
-    st64(r_rq_2, (r_52_3 - r_c4_1));
+    st64(r_rq_1, (r_52_2 - r_c4));
 l_arm_ga:;
-    if (!(r_gw_2 > r_24_1)) { r_eh = 0ull; goto l_join_qm; }
-    u64 r_qw_1 = ld64(away(r_n9, (u64)(r_24_1 << 3ull)));
+    if (!(r_gw_1 > r_24)) { r_eh = 0ull; goto l_join_qm; }
+    u64 r_qw_1 = ld64(away(r_n9, (u64)(r_24 << 3ull)));
     if ((r_qw_1 & 3ull) == 0ull) { r_eh = r_qw_1; goto l_join_qm; }
     r_yl = 11u;
     goto l_capnp_ji;
 l_join_qm:;
     t_c8 = (u32)((u32)r_eh >> 2u);
-    r_ep_2 = (u64)(r_eh >> 32ull);
+    r_ep_1 = (u64)(r_eh >> 32ull);
     r_y6_1 = (u64)(r_eh >> 48ull);
-    r_12_1 = (u32)r_y6_1;
-    r_az_1 = ((u32)r_ep_2 & 65535u);
-    r_68 = (r_az_1 + r_12_1);
+    r_12 = (u32)r_y6_1;
+    r_az = ((u32)r_ep_1 & 65535u);
+    r_68 = (r_az + r_12);
     r_c0 = (u64)t_c8;
     if (r_ij < ((u64)r_68 * r_c0)) { r_yl = 10u; goto l_capnp_ji; }
     if ((u8)((u8)t_pa | (u8)(r_68 != 0u))) goto l_arm_67;
     if (!(ld8(a_6) == 1u)) goto l_arm_67;
-    r_rq_3 = away(a_6, 8ull);
-    r_52_4 = ld64(r_rq_3);
-    if (r_52_4 < r_c0) { r_yl = 30u; goto l_capnp_ji; }
+    r_rq_2 = away(a_6, 8ull);
+    r_52_3 = ld64(r_rq_2);
+    if (r_52_3 < r_c0) { r_yl = 30u; goto l_capnp_ji; }
     st64(a_6, 1ull);
-    st64(r_rq_3, (r_52_4 - r_c0));
+    st64(r_rq_2, (r_52_3 - r_c0));
 l_arm_67:;
     r_ll = (r_nz + 1u);
-    t_xg = (u16)r_ep_2;
+    t_xg = (u16)r_ep_1;
     r_py = (u16)r_y6_1;
     if (((u64)a_5 + 1ull) == (u64)r_ll) goto l_arm_bb;
     goto l_then_um;
 l_arm_0w:;
-    r_12_2 = (u32)r_ij;
+    r_12_1 = (u32)r_ij;
     if ((i32)a_4 < (i32)1u) { r_yl = 26u; goto l_capnp_ji; }
     if (((u64)(r_3g >> 3ull) & 0xffffffffull) < (r_ij + (u64)r_nz)) { r_yl = 23u; goto l_capnp_ji; }
     if (t_pa) goto l_capnp_s2;
     if (!(ld8(a_6) == 1u)) goto l_capnp_s2;
-    r_rq_4 = away(a_6, 8ull);
-    r_52_5 = ld64(r_rq_4);
-    if (r_52_5 < r_ij) { r_yl = 30u; goto l_capnp_ji; }
+    r_rq_3 = away(a_6, 8ull);
+    r_52_4 = ld64(r_rq_3);
+    if (r_52_4 < r_ij) { r_yl = 30u; goto l_capnp_ji; }
     st64(a_6, 1ull);
-    st64(r_rq_4, (r_52_5 - r_ij));
+    st64(r_rq_3, (r_52_4 - r_ij));
     goto l_capnp_s2;
 l_arm_gg_1:;
     if ((i32)a_4 < (i32)1u) { r_yl = 26u; goto l_capnp_ji; }
@@ -2836,10 +2911,10 @@ l_arm_gg_1:;
     if (t_pa) { r_xq = 0u; goto l_arm_s2; }
     if (!(ld8(a_6) == 1u)) { r_xq = 0u; goto l_arm_s2; }
     st64(a_6, 1ull);
-    r_rq_5 = away(a_6, 8ull);
-    r_52_6 = ld64(r_rq_5);
-    if (r_52_6 < r_ij) { r_yl = 30u; goto l_capnp_ji; }
-    st64(r_rq_5, (r_52_6 - r_ij));
+    r_rq_4 = away(a_6, 8ull);
+    r_52_5 = ld64(r_rq_4);
+    if (r_52_5 < r_ij) { r_yl = 30u; goto l_capnp_ji; }
+    st64(r_rq_4, (r_52_5 - r_ij));
     r_xq = 0u;
     goto l_arm_s2;
 l_arm_h9_3:;
@@ -2859,11 +2934,11 @@ l_capnp_gg:;
     if (((u64)(r_3g >> 3ull) & 0xffffffffull) < (r_c6 + (u64)r_nz)) { r_yl = 23u; goto l_capnp_ji; }
     if (t_pa) { r_xq = switch_wl; goto l_arm_s2; }
     if (!(ld8(a_6) == 1u)) { r_xq = switch_wl; goto l_arm_s2; }
-    r_rq_6 = away(a_6, 8ull);
-    r_52_7 = ld64(r_rq_6);
-    if (r_52_7 < r_c6) { r_yl = 30u; goto l_capnp_ji; }
+    r_rq_5 = away(a_6, 8ull);
+    r_52_6 = ld64(r_rq_5);
+    if (r_52_6 < r_c6) { r_yl = 30u; goto l_capnp_ji; }
     st64(a_6, 1ull);
-    st64(r_rq_6, (r_52_7 - r_c6));
+    st64(r_rq_5, (r_52_6 - r_c6));
     r_xq = switch_wl;
     goto l_arm_s2;
 l_default_e1:;
@@ -2923,13 +2998,13 @@ l_then_um:;
     r_1x = 1u;
     goto l_return_pr;
 l_arm_lp:;
-    r_xz_3 = away(a_6, 24ull);
+    r_xz_1 = away(a_6, 24ull);
     u64 r_1q = (ld64((((u8 *)switch_table_capnp_objects_pointers_canonical_test_lis_086bba06) + (i64)(8 * (u64)r_xq))) * r_ij);
     r_eh_1 = (a_5 + (u32)(u64)(r_1q >> 6ull));
     r_4i = (r_1q & 63ull);
     if (r_4i == 0ull) { r_us = r_eh_1; r_1x = 0u; goto l_return_pr; }
     if (any8(v8_of((u64)(ld64(away(r_n9, (u64)((u64)r_eh_1 << 3ull))) >> (r_4i & 63u)))) == 0u) { r_us = (r_eh_1 + 1u); r_1x = 0u; goto l_return_pr; }
-    st64(r_xz_3, 0ull);
+    st64(r_xz_1, 0ull);
     st64(away(a_6, 32ull), r_tc);
     st32(away(a_6, 40ull), r_eh_1);
     st8(away(a_6, 44ull), 7u);
@@ -2938,17 +3013,17 @@ l_arm_lp:;
     r_1x = 1u;
     goto l_return_pr;
 l_arm_tn:;
-    struct s_i8_i32 r_ce = capnp_objects_pointers_canonical_test_children_5ccc1be374b2e488(a_1, a_5, r_12_2, (a_4 + 0xffffffffu), (a_5 + r_12_2), a_6);
+    struct s_i8_i32 r_ce = capnp_objects_pointers_canonical_test_children_5ccc1be374b2e488(a_1, a_5, r_12_1, (a_4 + 0xffffffffu), (a_5 + r_12_1), a_6);
     r_us = r_ce.f1;
     r_1x = r_ce.f0;
     goto l_return_pr;
 l_arm_bb:;
-    r_y0_1 = (a_4 + 0xffffffffu);
-    r_68_1 = (r_az_1 + r_12_1);
+    r_y0 = (a_4 + 0xffffffffu);
+    r_68_1 = (r_az + r_12);
     if (((u64)r_68_1 * (u64)t_c8) == (u64)(a_3 >> 35ull)) goto l_join_1x;
-    u64 r_qw_4 = ld64(r_xz);
+    u64 r_qw_3 = ld64(r_xz);
     st64(away(a_6, 24ull), 0ull);
-    st64(away(a_6, 32ull), r_qw_4);
+    st64(away(a_6, 32ull), r_qw_3);
     st32(away(a_6, 40ull), r_nz);
     st8(away(a_6, 44ull), 10u);
     memset(away(a_6, 45ull), 0u, 3);
@@ -2957,14 +3032,14 @@ l_arm_bb:;
     goto l_return_pr;
 l_join_1x:;
     if (r_68_1 == 0u) { r_us = r_ll; r_1x = 0u; goto l_return_pr; }
-    struct s_i8_i32 r_u9 = capnp_objects_pointers_canonical_test_elements_5ccc1be374b2e488(a_1, r_ll, t_xg, r_py, t_c8, r_y0_1, a_6);
+    struct s_i8_i32 r_u9 = capnp_objects_pointers_canonical_test_elements_5ccc1be374b2e488(a_1, r_ll, t_xg, r_py, t_c8, r_y0, a_6);
     r_us = r_u9.f1;
     r_1x = r_u9.f0;
     goto l_return_pr;
 l_arm_um:;
-    u64 r_qw_5 = ld64(r_xz);
+    u64 r_qw_4 = ld64(r_xz);
     st64(away(a_6, 24ull), 0ull);
-    st64(away(a_6, 32ull), r_qw_5);
+    st64(away(a_6, 32ull), r_qw_4);
     st32(away(a_6, 40ull), a_2);
     st8(away(a_6, 44ull), 6u);
     memset(away(a_6, 45ull), 0u, 3);
@@ -3064,9 +3139,9 @@ l_join_4g:;
     goto l_join_l2;
 l_after_9q:;
     if (r_jq ? r_aj : 0u) { r_us = r_bn; r_1x = 0u; goto l_return_pr; }
-    u64 r_qw_4 = ld64(away(a_1, 24ull));
+    u64 r_qw = ld64(away(a_1, 24ull));
     st64(away(a_7, 24ull), 0ull);
-    st64(away(a_7, 32ull), r_qw_4);
+    st64(away(a_7, 32ull), r_qw);
     st32(away(a_7, 40ull), (a_2 + 0xffffffffu));
     st8(away(a_7, 44ull), (r_jq ? 12u : 11u));
     memset(away(a_7, 45ull), 0u, 3);
@@ -3138,7 +3213,7 @@ void capnp_messages_messages_whole_canonicalize_ad42fe8b34616de5(u8 *a_1, u8 *a_
     A(8) u8 slot_6[80];
     u8 *r_x5;
     u8 *r_fx;
-    u64 r_52_1;
+    u64 r_52;
     u32 r_6z;
     u64 r_6f;
     u32 r_3l;
@@ -3151,8 +3226,8 @@ void capnp_messages_messages_whole_canonicalize_ad42fe8b34616de5(u8 *a_1, u8 *a_
     st64((slot_4 + 16), 0ull);
     r_fx = ldp(a_3);
     if (ld64(r_fx) == 0ull) { r_6z = 12u; goto l_arm_pa; }
-    r_52_1 = ld64(ldp(away(r_fx, 32ull)));
-    if ((r_52_1 & 0x1fffffffffffffffull) == 0ull) { r_6z = 23u; goto l_arm_pa; }
+    r_52 = ld64(ldp(away(r_fx, 32ull)));
+    if ((r_52 & 0x1fffffffffffffffull) == 0ull) { r_6z = 23u; goto l_arm_pa; }
     if (!(a_4 == 1u)) goto l_arm_zz;
     if (a_5 == 0ull) { r_6z = 30u; goto l_arm_pa; }
     st64(slot_4, 1ull);
@@ -3166,7 +3241,7 @@ l_arm_zz:;
     st64((slot_3 + 16), (u64)(uptr)a_3);
     memset((slot_3 + 24), 0u, 16);
     stp((slot_3 + 40), r_lz);
-    st64((slot_3 + 48), (u64)(r_52_1 << 3ull));
+    st64((slot_3 + 48), (u64)(r_52 << 3ull));
     st32((slot_3 + 56), 0u);
     st32((slot_3 + 60), 0u);
     memset(slot_3, 0u, 16);
@@ -3235,10 +3310,10 @@ void capnp_messages_messages_canonical_copy_canonicalize_re_3491092d(u8 *a_1, u8
     u16 r_br_1;
     u32 r_5k_4;
     u32 t_1r;
-    u8 *r_x5_1;
+    u8 *r_x5;
     u32 r_uq;
     u64 r_38;
-    u8 *r_lk_1;
+    u8 *r_lk;
     u8 r_r5;
     u8 *t_6c;
     u8 *t_6c_1;
@@ -3248,7 +3323,7 @@ void capnp_messages_messages_canonical_copy_canonicalize_re_3491092d(u8 *a_1, u8
     u32 r_uq_2;
     u64 r_38_1;
     u32 r_1v;
-    u64 r_zd_8;
+    u64 r_zd;
     u32 r_m0;
     u32 r_n2;
     u64 r_p3;
@@ -3296,13 +3371,13 @@ l_capnp_x0:;
     st16((slot_15 + 74), r_br_1);
     st32((slot_15 + 76), r_5k_4);
     capnp_messages_messages_canonical_copy_canonicalize_to_6a763972(slot_13, slot_14, slot_15, a_4, t_1r);
-    r_x5_1 = (slot_13 + 8);
+    r_x5 = (slot_13 + 8);
     r_uq = ld32((slot_13 + 12));
     r_38 = ld64((slot_13 + 16));
-    r_lk_1 = (slot_13 + 24);
+    r_lk = (slot_13 + 24);
     if (!(ld8(slot_13) == 0u)) goto l_arm_7l;
-    u32 r_z4 = ld32(r_x5_1);
-    mv32(slot_16, r_lk_1);
+    u32 r_z4 = ld32(r_x5);
+    mv32(slot_16, r_lk);
     memcpy(slot_17, (slot_13 + 56), 80);
     r_6f = 0ull;
     r_3l = r_z4;
@@ -3310,7 +3385,7 @@ l_capnp_x0:;
     r_7q = r_38;
     goto l_join_6f;
 l_arm_7l:;
-    r_r5 = ld8(r_x5_1);
+    r_r5 = ld8(r_x5);
     if ((t_1r != 0x1fffffffu) ? (r_r5 == 27u) : 0u) goto l_after_xs;
     goto l_join_58;
 l_common_68:;
@@ -3320,11 +3395,11 @@ l_join_58:;
     st32(away(a_1, 8ull), (u32)r_r5);
     st32(away(a_1, 12ull), r_uq);
     st64(away(a_1, 16ull), r_38);
-    mv32(away(a_1, 24ull), r_lk_1);
+    mv32(away(a_1, 24ull), r_lk);
     memset(away(a_1, 56ull), 0u, 80);
     goto l_common_68;
 l_after_xs:;
-    mv32(slot_6, r_lk_1);
+    mv32(slot_6, r_lk);
     mv7(slot_7, slot_11);
     mv16(slot_8, slot_12);
     memset(slot_9, 0u, 136);
@@ -3397,14 +3472,14 @@ l_arm_dd:;
     st16((slot_10 + 74), r_br_1);
     st32((slot_10 + 76), r_5k_4);
     capnp_messages_messages_canonical_copy_canonicalize_to_6a763972(slot_9, slot_6, slot_10, a_4, r_1v);
-    r_zd_8 = ld64((slot_9 + 16));
+    r_zd = ld64((slot_9 + 16));
     r_m0 = ld32((slot_9 + 12));
     r_n2 = ld32((slot_9 + 8));
     r_p3 = (u64)ld8(slot_9);
     goto l_capnp_og;
 l_arm_nu:;
-    mv32((slot_9 + 24), r_lk_1);
-    r_zd_8 = r_38_1;
+    mv32((slot_9 + 24), r_lk);
+    r_zd = r_38_1;
     r_m0 = r_uq_2;
     r_n2 = (u32)r_r5_1;
     r_p3 = 1ull;
@@ -3414,7 +3489,7 @@ l_capnp_og:;
     r_6f = r_p3;
     r_3l = r_n2;
     r_rk = r_m0;
-    r_7q = r_zd_8;
+    r_7q = r_zd;
 l_join_6f:;
     st64(a_1, r_6f);
     st32(away(a_1, 8ull), r_3l);
@@ -3467,83 +3542,83 @@ static void capnp_messages_messages_canonical_copy_canonicalize_to_6a763972(u8 *
     u64 r_ia;
     u64 r_ll;
     u32 r_b2;
+    u8 *r_xw;
+    u64 r_38_1;
+    u64 r_38_2;
     u8 *r_xw_1;
+    u64 r_38_3;
     u64 r_38_4;
-    u64 r_38_5;
     u8 *r_xw_2;
+    u64 r_38_5;
     u64 r_38_6;
-    u64 r_38_7;
+    u8 *r_k5;
     u8 *r_xw_3;
-    u64 r_38_8;
-    u64 r_38_9;
-    u8 *r_k5_1;
-    u8 *r_xw_4;
     u64 t_gg;
     u64 r_ax;
     u64 r_du;
     u64 r_zn;
-    u8 *r_zd_3;
+    u8 *r_zd_2;
     u64 r_o3;
     u64 r_zn_1;
-    u8 *r_xw_5;
-    u32 r_z4_1;
+    u8 *r_xw_4;
+    u32 r_z4;
     u32 r_uq_1;
-    u64 r_38_13;
-    u8 *r_x5_4;
+    u64 r_38_10;
+    u8 *r_x5_2;
     u8 *r_89_1;
-    u8 *r_rq_2;
+    u8 *r_rq;
     u64 r_v1;
-    u8 *r_x5_5;
-    u8 *r_zd_6;
-    u64 r_eg_1;
+    u8 *r_x5_3;
+    u8 *r_zd_3;
+    u64 r_eg;
     u8 r_r5_2;
     u32 r_uq_2;
-    u64 r_38_14;
+    u64 r_38_11;
     u8 r_r5_3;
     u8 *r_lz;
     u64 r_qw_3;
-    u8 r_2b_1;
+    u8 r_2b;
     u32 r_qh;
     u64 r_ip;
-    u8 *t_b9_1;
+    u8 *t_b9;
     u64 r_u7;
     u64 r_lc;
     u64 r_z6;
-    u8 *r_2b_2;
+    u8 *r_2b_1;
     u64 r_nm;
     u64 r_nm_1;
     u64 r_hk;
     u64 r_u7_1;
-    u64 r_z6_3;
-    u8 *r_2b_5;
+    u64 r_z6_1;
+    u8 *r_2b_2;
     u64 r_nm_2;
     u64 r_nm_3;
     u64 r_6o;
     u32 r_29;
     u32 r_az;
     u32 r_68;
-    u8 *r_5q_2;
+    u8 *r_5q_1;
     u32 r_e3;
     u64 r_24_1;
-    u64 r_52_2;
+    u64 r_52_1;
     u32 r_w0;
-    u64 r_z6_6;
+    u64 r_z6_2;
     u32 r_yf;
     u32 r_e3_1;
     u32 r_ll_1;
-    u64 r_3v_1;
-    u64 r_1w_4;
+    u64 r_3v;
+    u64 r_1w;
     u64 r_ty;
     u64 r_j7;
-    u32 r_wt_1;
+    u32 r_wt;
     u64 r_ep;
     u32 r_4r;
     u64 r_0l;
     u8 *r_hd;
-    u8 *r_2b_9;
+    u8 *r_2b_3;
     u64 r_il;
     u8 *t_6c_1;
-    u8 r_2b_10;
+    u8 r_2b_4;
     u8 r_qh_1;
     u32 r_ip_1;
     u64 r_wq;
@@ -3551,47 +3626,47 @@ static void capnp_messages_messages_canonical_copy_canonicalize_to_6a763972(u8 *
     u8 r_45;
     u32 r_h0;
     u64 r_r1;
-    u8 r_r5_7;
+    u8 r_r5_4;
+    u64 t_38;
     u64 t_38_1;
-    u64 t_38_2;
     u8 r_ld;
     u32 r_2q;
     u64 r_gy;
     u8 t_7y;
     u64 r_4v;
-    u8 r_r5_8;
+    u8 r_r5_5;
     u32 r_ka;
     u64 r_0t;
     u64 r_ib;
     u32 r_cf;
+    u8 *r_xw_6;
+    u64 r_38_12;
+    u64 r_38_13;
     u8 *r_xw_7;
-    u64 r_38_19;
-    u64 r_38_20;
+    u64 r_38_14;
+    u64 r_38_15;
+    u64 r_38_16;
+    u64 r_38_17;
+    u8 r_r5_6;
+    u8 *r_f2;
     u8 *r_xw_8;
-    u64 r_38_21;
-    u64 r_38_22;
-    u64 r_38_23;
-    u64 r_38_24;
-    u8 r_r5_9;
-    u8 *r_f2_1;
-    u8 *r_xw_9;
-    u64 r_38_25;
-    u64 r_38_26;
-    u8 *r_08_1;
-    u64 r_52_5;
+    u64 r_38_18;
+    u64 r_38_19;
+    u8 *r_08;
+    u64 r_52_2;
     u64 r_3i_1;
     u64 r_hb;
-    u64 r_vg_1;
-    u8 *r_x5_13;
-    u8 *r_zd_11;
-    u8 *r_xw_10;
+    u64 r_vg;
+    u8 *r_x5_4;
+    u8 *r_zd_4;
+    u8 *r_xw_9;
     u64 t_gg_1;
     u64 r_ax_1;
     u64 r_du_1;
     u64 r_zn_2;
     u64 r_o3_1;
     u64 r_zn_3;
-    u8 *r_xw_11;
+    u8 *r_xw_10;
     u8 *r_6f;
     u64 r_3l;
     u64 r_rk;
@@ -3603,7 +3678,7 @@ static void capnp_messages_messages_canonical_copy_canonicalize_to_6a763972(u8 *
     u8 *r_7j;
     u64 r_p8;
     u64 r_6l;
-    u8 r_xz_1;
+    u8 r_xz;
     u32 r_tv;
     u32 r_6k;
     u64 r_hn;
@@ -3670,7 +3745,7 @@ l_arm_hm:;
 l_arm_nb:;
     u8 *r_1e = (slot_8 + 72);
     u32 r_uq = ld32((slot_2 + 4));
-    u64 r_38_3 = ld64(r_1e);
+    u64 r_38 = ld64(r_1e);
     st32(r_6c, ld32(slot_2));
     st32((slot_8 + 60), r_uq);
     st64(r_5q, r_ia);
@@ -3679,134 +3754,134 @@ l_arm_nb:;
     st32((slot_8 + 88), 0u);
     st32((slot_8 + 92), 0x1fffffffu);
     st8(r_2e, 1u);
-    if (r_38_3 == 0ull) goto l_arm_7h;
+    if (r_38 == 0ull) goto l_arm_7h;
     rattle_dealloc(slot_1);
     goto l_arm_7h;
 l_arm_ge:;
-    r_xw_1 = ldp(r_89);
-    r_38_4 = ld64(r_a8);
-    r_38_5 = ld64((slot_8 + 48));
-    r_xw_2 = ldp(r_6c);
-    r_38_6 = ld64(r_5q);
-    r_38_7 = ld64((slot_8 + 72));
-    r_xw_3 = ldp(r_ra);
-    r_38_8 = ld64(r_7x);
-    r_38_9 = ld64((slot_8 + 120));
+    r_xw = ldp(r_89);
+    r_38_1 = ld64(r_a8);
+    r_38_2 = ld64((slot_8 + 48));
+    r_xw_1 = ldp(r_6c);
+    r_38_3 = ld64(r_5q);
+    r_38_4 = ld64((slot_8 + 72));
+    r_xw_2 = ldp(r_ra);
+    r_38_5 = ld64(r_7x);
+    r_38_6 = ld64((slot_8 + 120));
     u8 r_r5_1 = ld8(r_2e);
     mv32(slot_3, slot_8);
     if ((u8)(r_r5_1 & 1)) goto l_then_fq;
     goto l_else_r8;
 l_arm_7h:;
-    r_k5_1 = (slot_8 + 88);
+    r_k5 = (slot_8 + 88);
     if ((r_ia + r_r5) < 8ull) goto l_join_rb;
     if (!(r_ia < 8ull)) goto l_capnp_dr;
     capnp_messages_messages_copy_memory_CopySegment_zero_up_to(r_6c, 8ull);
 l_capnp_dr:;
-    st32(r_k5_1, 1u);
+    st32(r_k5, 1u);
     goto l_join_rb;
 l_common_68:;
     return;
 l_then_fq:;
-    r_xw_4 = ldp(slot_3);
+    r_xw_3 = ldp(slot_3);
     u8 *r_zd_1 = (slot_3 + 16);
-    u64 r_38_10 = ld64(r_zd_1);
-    stp(slot_3, r_xw_2);
-    st64((slot_3 + 8), r_38_6);
-    st64(r_zd_1, r_38_7);
-    if (r_38_10 == 0ull) goto l_capnp_4o;
-    rattle_dealloc(r_xw_4);
+    u64 r_38_7 = ld64(r_zd_1);
+    stp(slot_3, r_xw_1);
+    st64((slot_3 + 8), r_38_3);
+    st64(r_zd_1, r_38_4);
+    if (r_38_7 == 0ull) goto l_capnp_4o;
+    rattle_dealloc(r_xw_3);
 l_capnp_4o:;
-    stp(slot_2, r_xw_3);
-    st64((slot_2 + 8), r_38_8);
-    st64((slot_2 + 16), r_38_9);
+    stp(slot_2, r_xw_2);
+    st64((slot_2 + 8), r_38_5);
+    st64((slot_2 + 16), r_38_6);
     capnp_arena_arena_builder_arena_impl_deallocate_others_74e7ad04(slot_3, slot_2);
     goto l_capnp_f6;
 l_else_r8:;
-    if (r_38_7 == 0ull) goto l_core_at;
-    rattle_dealloc(r_xw_2);
+    if (r_38_4 == 0ull) goto l_core_at;
+    rattle_dealloc(r_xw_1);
 l_core_at:;
-    if (r_38_9 == 0ull) goto l_capnp_f6;
-    rattle_dealloc(r_xw_3);
+    if (r_38_6 == 0ull) goto l_capnp_f6;
+    rattle_dealloc(r_xw_2);
 l_capnp_f6:;
-    if (!(r_38_4 > 1ull)) goto l_join_jj;
-    if (r_38_4 > 15ull) goto l_join_ys;
-    t_gg = (u64)((r_38_4 + 0xfffffffffffffffeull) >> 1ull);
+    if (!(r_38_1 > 1ull)) goto l_join_jj;
+    if (r_38_1 > 15ull) goto l_join_ys;
+    t_gg = (u64)((r_38_1 + 0xfffffffffffffffeull) >> 1ull);
     r_ax = 0ull;
-    r_du = r_38_4;
+    r_du = r_38_1;
     goto l_join_73;
 l_join_ys:;
-    u64 r_dt = (u64)(r_38_4 >> 1ull);
-    core_slice_edits_mirror_e0f4f6844e27f7b4(r_xw_1, away(r_xw_1, ((r_38_4 - r_dt) * 40ull)), r_dt);
+    u64 r_dt = (u64)(r_38_1 >> 1ull);
+    core_slice_edits_mirror_e0f4f6844e27f7b4(r_xw, away(r_xw, ((r_38_1 - r_dt) * 40ull)), r_dt);
     goto l_arm_yi;
 l_join_73:;
     r_zn = (r_du + 0xffffffffffffffffull);
     if (!(r_ax < r_zn)) goto l_else_7d;
-    u8 *r_a7 = (r_xw_1 + (i64)((r_ax * 40ull)));
-    u8 *r_a7_1 = (r_xw_1 + (i64)((r_zn * 40ull)));
+    u8 *r_a7 = (r_xw + (i64)((r_ax * 40ull)));
+    u8 *r_a7_1 = (r_xw + (i64)((r_zn * 40ull)));
     mv40(slot_2, r_a7);
     mv40(r_a7, r_a7_1);
     mv40(r_a7_1, slot_2);
     goto l_core_e6;
 l_else_7d:;
     if (!(r_zn < r_ax)) goto l_core_e6;
-    u8 *r_a7_2 = (r_xw_1 + (i64)((r_zn * 40ull)));
-    u8 *r_a7_3 = (r_xw_1 + (i64)((r_ax * 40ull)));
+    u8 *r_a7_2 = (r_xw + (i64)((r_zn * 40ull)));
+    u8 *r_a7_3 = (r_xw + (i64)((r_ax * 40ull)));
     mv40(slot_2, r_a7_2);
     mv40(r_a7_2, r_a7_3);
     mv40(r_a7_3, slot_2);
 l_core_e6:;
     if (!(r_ax == t_gg)) { u64 r_1 = (r_ax + 1ull); u64 r_2 = r_zn; r_ax = r_1; r_du = r_2; goto l_join_73; }
 l_join_jj:;
-    if (r_38_4 == 0ull) goto l_capnp_p4;
+    if (r_38_1 == 0ull) goto l_capnp_p4;
 l_arm_yi:;
-    r_zd_3 = (slot_3 + 16);
-    r_o3 = r_38_4;
+    r_zd_2 = (slot_3 + 16);
+    r_o3 = r_38_1;
 l_arm_zl:;
     r_zn_1 = (r_o3 + 0xffffffffffffffffull);
-    r_xw_5 = ldp(slot_3);
-    u64 r_38_11 = ld64(r_zd_3);
-    mv24(slot_3, (r_xw_1 + (i64)((r_zn_1 * 40ull))));
-    if (r_38_11 == 0ull) goto l_capnp_jj;
-    rattle_dealloc(r_xw_5);
+    r_xw_4 = ldp(slot_3);
+    u64 r_38_8 = ld64(r_zd_2);
+    mv24(slot_3, (r_xw + (i64)((r_zn_1 * 40ull))));
+    if (r_38_8 == 0ull) goto l_capnp_jj;
+    rattle_dealloc(r_xw_4);
 l_capnp_jj:;
     if (!(r_zn_1 == 0ull)) { r_o3 = r_zn_1; goto l_arm_zl; }
 l_capnp_p4:;
-    if (r_38_5 == 0ull) goto l_std_tt;
-    rattle_dealloc(r_xw_1);
+    if (r_38_2 == 0ull) goto l_std_tt;
+    rattle_dealloc(r_xw);
 l_std_tt:;
-    u8 *r_xw_6 = ldp((slot_3 + 16));
-    u64 r_38_12 = ld64((slot_3 + 24));
+    u8 *r_xw_5 = ldp((slot_3 + 16));
+    u64 r_38_9 = ld64((slot_3 + 24));
     mv16(slot_11, slot_3);
     st64(a_1, 1ull);
     st32(away(a_1, 8ull), r_b2);
     st32(away(a_1, 12ull), 0u);
     st64(away(a_1, 16ull), r_ll);
     mv16(away(a_1, 24ull), slot_11);
-    stp(away(a_1, 40ull), r_xw_6);
-    st64(away(a_1, 48ull), r_38_12);
+    stp(away(a_1, 40ull), r_xw_5);
+    st64(away(a_1, 48ull), r_38_9);
     memset(away(a_1, 56ull), 0u, 49);
     mv7(away(a_1, 105ull), slot_6);
     memset(away(a_1, 112ull), 0u, 24);
     goto l_common_68;
 l_join_rb:;
-    r_z4_1 = ld32(slot_8);
+    r_z4 = ld32(slot_8);
     r_uq_1 = ld32((slot_8 + 4));
-    r_38_13 = ld64(r_x5);
+    r_38_10 = ld64(r_x5);
     st64(slot_9, 0ull);
-    r_x5_4 = (slot_9 + 8);
-    mv24(r_x5_4, r_89);
+    r_x5_2 = (slot_9 + 8);
+    mv24(r_x5_2, r_89);
     r_89_1 = (slot_9 + 32);
     memcpy(r_89_1, r_6c, 72);
     mv16(slot_10, (slot_8 + 16));
-    r_rq_2 = away(a_4, 8ull);
+    r_rq = away(a_4, 8ull);
     r_v1 = (u64)a_5;
-    u64 r_qw_2 = ld64(r_rq_2);
+    u64 r_qw_2 = ld64(r_rq);
     st64(slot_5, (u64)ld8(a_4));
-    r_x5_5 = (slot_5 + 8);
-    st64(r_x5_5, r_qw_2);
-    r_zd_6 = (slot_5 + 16);
-    st64(r_zd_6, 0ull);
-    r_eg_1 = (u64)r_dd;
+    r_x5_3 = (slot_5 + 8);
+    st64(r_x5_3, r_qw_2);
+    r_zd_3 = (slot_5 + 16);
+    st64(r_zd_3, 0ull);
+    r_eg = (u64)r_dd;
     if (!(r_dh == 0u)) goto l_arm_q5;
     mv16((slot_4 + 8), (slot_7 + 7));
     st64((slot_4 + 24), r_qw);
@@ -3817,13 +3892,13 @@ l_join_rb:;
     memset(slot_3, 0u, 24);
     u8 *t_6c = (slot_4 + 56);
     st64(t_6c, 0ull);
-    st64(slot_4, r_eg_1);
+    st64(slot_4, r_eg);
     st32(t_6c, r_5k_2);
     capnp_copies_copy_copy_object_f91b20a4a575fbcb(slot_3, slot_9, 0u, 0u, slot_4, slot_5, 1u);
     r_r5_2 = ld8(slot_3);
     r_uq_2 = ld32((slot_3 + 12));
-    r_38_14 = ld64((slot_3 + 16));
-    if (r_r5_2 == 0u) { r_2b_1 = 0u; r_qh = 0u; r_ip = 0ull; goto l_capnp_no; }
+    r_38_11 = ld64((slot_3 + 16));
+    if (r_r5_2 == 0u) { r_2b = 0u; r_qh = 0u; r_ip = 0ull; goto l_capnp_no; }
     r_r5_3 = ld8((slot_3 + 8));
     r_lz = ldp(r_89_1);
     r_qw_3 = ld64(r_lz);
@@ -3835,59 +3910,59 @@ l_join_rb:;
     if (!((r_qw_3 & 3ull) == 2ull)) goto l_capnp_8g;
     capnp_making_zeroing_zero_far_pads_4072c0e2a627e5d6(slot_9, r_qw_3);
 l_capnp_8g:;
-    r_2b_1 = r_r5_3;
+    r_2b = r_r5_3;
     r_qh = r_uq_2;
-    r_ip = r_38_14;
+    r_ip = r_38_11;
 l_capnp_no:;
     r_3i = r_r5_2;
-    r_45 = r_2b_1;
+    r_45 = r_2b;
     r_h0 = r_qh;
     r_r1 = r_ip;
     goto l_capnp_x6;
 l_arm_q5:;
-    t_b9_1 = (slot_7 + 7);
+    t_b9 = (slot_7 + 7);
     u64 r_24 = (u64)r_5k;
     r_u7 = (u64)r_br;
     r_lc = (r_u7 + r_24);
     r_z6 = (u64)(r_u7 << 3ull);
-    r_2b_2 = away(r_rv, (u64)(r_24 << 3ull));
+    r_2b_1 = away(r_rv, (u64)(r_24 << 3ull));
     if (r_br < 32u) { r_nm = r_u7; goto l_loop_jc; }
     goto l_else_wj;
 l_loop_jc:;
     if (r_nm == 0ull) { r_hk = 0ull; goto l_capnp_ev; }
     u64 r_0f = (r_nm + 0xffffffffffffffffull);
-    if (ld64(away(r_2b_2, (u64)(r_0f << 3ull))) == 0ull) { r_nm = r_0f; goto l_loop_jc; }
+    if (ld64(away(r_2b_1, (u64)(r_0f << 3ull))) == 0ull) { r_nm = r_0f; goto l_loop_jc; }
     r_hk = r_nm;
     goto l_capnp_ev;
 l_else_wj:;
-    if (!(ld64(away(away(r_2b_2, r_z6), 0xfffffffffffffff8ull)) == 0ull)) { r_hk = r_u7; goto l_capnp_ev; }
-    u64 r_ot = capnp_words_lanes_used_words_bound(r_2b_2, r_z6);
+    if (!(ld64(away(away(r_2b_1, r_z6), 0xfffffffffffffff8ull)) == 0ull)) { r_hk = r_u7; goto l_capnp_ev; }
+    u64 r_ot = capnp_words_lanes_used_words_bound(r_2b_1, r_z6);
     r_nm_1 = r_ot;
 l_loop_jc_1:;
     if (r_nm_1 == 0ull) { r_hk = 0ull; goto l_capnp_ev; }
     u64 r_0f_1 = (r_nm_1 + 0xffffffffffffffffull);
-    if (ld64(away(r_2b_2, (u64)(r_0f_1 << 3ull))) == 0ull) { r_nm_1 = r_0f_1; goto l_loop_jc_1; }
+    if (ld64(away(r_2b_1, (u64)(r_0f_1 << 3ull))) == 0ull) { r_nm_1 = r_0f_1; goto l_loop_jc_1; }
     r_hk = r_nm_1;
 l_capnp_ev:;
     r_u7_1 = (u64)r_br_1;
-    r_z6_3 = (u64)(r_u7_1 << 3ull);
-    r_2b_5 = away(r_rv, (u64)(r_lc << 3ull));
+    r_z6_1 = (u64)(r_u7_1 << 3ull);
+    r_2b_2 = away(r_rv, (u64)(r_lc << 3ull));
     if (r_br_1 < 32u) { r_nm_2 = r_u7_1; goto l_loop_jc_2; }
     goto l_else_wj_1;
 l_loop_jc_2:;
     if (r_nm_2 == 0ull) { r_6o = 0ull; goto l_capnp_dw; }
     u64 r_0f_2 = (r_nm_2 + 0xffffffffffffffffull);
-    if (ld64(away(r_2b_5, (u64)(r_0f_2 << 3ull))) == 0ull) { r_nm_2 = r_0f_2; goto l_loop_jc_2; }
+    if (ld64(away(r_2b_2, (u64)(r_0f_2 << 3ull))) == 0ull) { r_nm_2 = r_0f_2; goto l_loop_jc_2; }
     r_6o = r_nm_2;
     goto l_capnp_dw;
 l_else_wj_1:;
-    if (!(ld64(away(away(r_2b_5, r_z6_3), 0xfffffffffffffff8ull)) == 0ull)) { r_6o = r_u7_1; goto l_capnp_dw; }
-    u64 r_ot_1 = capnp_words_lanes_used_words_bound(r_2b_5, r_z6_3);
+    if (!(ld64(away(away(r_2b_2, r_z6_1), 0xfffffffffffffff8ull)) == 0ull)) { r_6o = r_u7_1; goto l_capnp_dw; }
+    u64 r_ot_1 = capnp_words_lanes_used_words_bound(r_2b_2, r_z6_1);
     r_nm_3 = r_ot_1;
 l_loop_jc_3:;
     if (r_nm_3 == 0ull) { r_6o = 0ull; goto l_capnp_dw; }
     u64 r_0f_3 = (r_nm_3 + 0xffffffffffffffffull);
-    if (ld64(away(r_2b_5, (u64)(r_0f_3 << 3ull))) == 0ull) { r_nm_3 = r_0f_3; goto l_loop_jc_3; }
+    if (ld64(away(r_2b_2, (u64)(r_0f_3 << 3ull))) == 0ull) { r_nm_3 = r_0f_3; goto l_loop_jc_3; }
     r_6o = r_nm_3;
 l_capnp_dw:;
     r_29 = ((u32)r_hk & 65535u);
@@ -3898,17 +3973,17 @@ l_capnp_dw:;
     r_j7 = 0ull;
     goto l_arm_e8;
 l_then_eg:;
-    r_5q_2 = (slot_9 + 64);
-    r_e3 = ld32(r_5q_2);
+    r_5q_1 = (slot_9 + 64);
+    r_e3 = ld32(r_5q_1);
     r_24_1 = (u64)r_e3;
-    r_52_2 = ld64((slot_9 + 40));
-    if ((r_24_1 + (u64)r_68) > (u64)((ld64((slot_9 + 56)) + r_52_2) >> 3ull)) goto l_arm_5e;
+    r_52_1 = ld64((slot_9 + 40));
+    if ((r_24_1 + (u64)r_68) > (u64)((ld64((slot_9 + 56)) + r_52_1) >> 3ull)) goto l_arm_5e;
     r_w0 = (r_e3 + r_68);
-    r_z6_6 = (u64)((u64)r_w0 << 3ull);
-    if (!(r_52_2 < r_z6_6)) goto l_capnp_uo;
-    capnp_messages_messages_copy_memory_CopySegment_zero_up_to(r_89_1, r_z6_6);
+    r_z6_2 = (u64)((u64)r_w0 << 3ull);
+    if (!(r_52_1 < r_z6_2)) goto l_capnp_uo;
+    capnp_messages_messages_copy_memory_CopySegment_zero_up_to(r_89_1, r_z6_2);
 l_capnp_uo:;
-    st32(r_5q_2, r_w0);
+    st32(r_5q_1, r_w0);
     st64(ldp(r_89_1), (((u64)(r_6o << 48ull) | ((u64)(r_hk << 32ull) & 0xffff00000000ull)) | (u64)((u32)(r_e3 << 2u) + 0xfffffffcu)));
     r_j7 = (u64)(r_24_1 << 32ull);
     goto l_arm_e8;
@@ -3918,80 +3993,80 @@ l_arm_5e:;
     r_yf = ld32((slot_2 + 4));
     r_e3_1 = ld32((slot_2 + 8));
     r_ll_1 = (r_e3_1 + 1u);
-    r_3v_1 = ((u64)(r_6o << 48ull) | ((u64)(r_hk << 32ull) & 0xffff00000000ull));
+    r_3v = ((u64)(r_6o << 48ull) | ((u64)(r_hk << 32ull) & 0xffff00000000ull));
     if (!(r_yf == 0u)) goto l_else_f8;
-    u64 r_z6_7 = (u64)((u64)r_e3_1 << 3ull);
-    st64(away(ldp(r_89_1), r_z6_7), r_3v_1);
-    r_1w_4 = 0ull;
-    r_ty = r_z6_7;
+    u64 r_z6_3 = (u64)((u64)r_e3_1 << 3ull);
+    st64(away(ldp(r_89_1), r_z6_3), r_3v);
+    r_1w = 0ull;
+    r_ty = r_z6_3;
     goto l_capnp_cn;
 l_else_f8:;
-    u64 r_24_4 = (u64)r_yf;
-    capnp_arena_arena_rows_put_word_in_4426f83c3c99ca57(ldp((slot_9 + 80)), (r_24_4 + 0xffffffffffffffffull), r_e3_1, r_3v_1);
-    r_1w_4 = r_24_4;
+    u64 r_24_2 = (u64)r_yf;
+    capnp_arena_arena_rows_put_word_in_4426f83c3c99ca57(ldp((slot_9 + 80)), (r_24_2 + 0xffffffffffffffffull), r_e3_1, r_3v);
+    r_1w = r_24_2;
     r_ty = (u64)((u64)r_e3_1 << 3ull);
 l_capnp_cn:;
-    st64(ldp(r_89_1), ((r_ty | (u64)(r_1w_4 << 32ull)) | 2ull));
-    r_j7 = (r_1w_4 | (u64)((u64)r_ll_1 << 32ull));
+    st64(ldp(r_89_1), ((r_ty | (u64)(r_1w << 32ull)) | 2ull));
+    r_j7 = (r_1w | (u64)((u64)r_ll_1 << 32ull));
 l_arm_e8:;
-    r_wt_1 = (u32)r_j7;
+    r_wt = (u32)r_j7;
     r_ep = (u64)(r_j7 >> 32ull);
     r_4r = (u32)r_ep;
     r_0l = ((u64)(r_hk << 3ull) & 0x7fff8ull);
     if (r_0l == 0ull) goto l_capnp_am;
-    if (!(r_wt_1 == 0u)) goto l_else_j6;
+    if (!(r_wt == 0u)) goto l_else_j6;
     r_hd = ldp(r_89_1);
     goto l_capnp_x6_1;
 l_else_j6:;
-    u8 *r_es_2 = capnp_arena_arena_rows_Rows_other_mut_4426f83c3c99ca57(r_89_1, r_wt_1);
-    r_hd = r_es_2;
+    u8 *r_es = capnp_arena_arena_rows_Rows_other_mut_4426f83c3c99ca57(r_89_1, r_wt);
+    r_hd = r_es;
 l_capnp_x6_1:;
-    r_2b_9 = away(r_hd, (u64)(r_ep << 3ull));
+    r_2b_3 = away(r_hd, (u64)(r_ep << 3ull));
     if (!(r_0l < 64ull)) goto l_else_r3;
     if (!(r_0l > 31ull)) goto l_else_dg;
-    mv32(r_2b_9, r_2b_2);
+    mv32(r_2b_3, r_2b_1);
     u64 r_bh = (r_0l + 0xffffffffffffffe0ull);
-    mv32((r_2b_9 + (i64)(r_bh)), (r_2b_2 + (i64)(r_bh)));
+    mv32((r_2b_3 + (i64)(r_bh)), (r_2b_1 + (i64)(r_bh)));
     goto l_capnp_am;
 l_else_dg:;
     if (!(r_0l > 15ull)) goto l_then_49;
-    mv16(r_2b_9, r_2b_2);
+    mv16(r_2b_3, r_2b_1);
     u64 r_8f = (r_0l + 0xfffffffffffffff0ull);
-    mv16((r_2b_9 + (i64)(r_8f)), (r_2b_2 + (i64)(r_8f)));
+    mv16((r_2b_3 + (i64)(r_8f)), (r_2b_1 + (i64)(r_8f)));
     goto l_capnp_am;
 l_then_49:;
-    mv8(r_2b_9, r_2b_2);
+    mv8(r_2b_3, r_2b_1);
     u64 r_la = (r_0l + 0xfffffffffffffff8ull);
-    mv8((r_2b_9 + (i64)(r_la)), (r_2b_2 + (i64)(r_la)));
+    mv8((r_2b_3 + (i64)(r_la)), (r_2b_1 + (i64)(r_la)));
     goto l_capnp_am;
 l_else_r3:;
-    if (((u64)(uptr)r_2b_9 - (u64)(uptr)r_2b_2) < r_0l) { r_il = 0ull; goto l_join_fh; }
-    memmove_or_none(r_2b_9, r_2b_2, r_0l);
+    if (((u64)(uptr)r_2b_3 - (u64)(uptr)r_2b_1) < r_0l) { r_il = 0ull; goto l_join_fh; }
+    memmove_or_none(r_2b_3, r_2b_1, r_0l);
     goto l_capnp_am;
 l_join_fh:;
-    st8((r_2b_9 + (i64)(r_il)), ld8((r_2b_2 + (i64)(r_il))));
-    u64 r_c4_3 = (r_il + 1ull);
-    if (!(r_c4_3 == r_0l)) { r_il = r_c4_3; goto l_join_fh; }
+    st8((r_2b_3 + (i64)(r_il)), ld8((r_2b_1 + (i64)(r_il))));
+    u64 r_c4 = (r_il + 1ull);
+    if (!(r_c4 == r_0l)) { r_il = r_c4; goto l_join_fh; }
 l_capnp_am:;
     memset(slot_2, 0u, 24);
     t_6c_1 = (slot_3 + 56);
     st64(t_6c_1, 0ull);
-    if (r_az == 0u) { r_2b_10 = 0u; r_qh_1 = 0u; r_ip_1 = 0u; r_wq = 0ull; goto l_capnp_no_1; }
-    st64(slot_3, r_eg_1);
-    mv16((slot_3 + 8), t_b9_1);
+    if (r_az == 0u) { r_2b_4 = 0u; r_qh_1 = 0u; r_ip_1 = 0u; r_wq = 0ull; goto l_capnp_no_1; }
+    st64(slot_3, r_eg);
+    mv16((slot_3 + 8), t_b9);
     st64((slot_3 + 24), r_qw);
     stp((slot_3 + 32), r_rv);
     st64((slot_3 + 40), r_qw_1);
     st32((slot_3 + 48), (r_5k + (u32)r_br));
     st32((slot_3 + 52), 0u);
     st32(t_6c_1, r_5k_2);
-    capnp_copies_copy_children_copy_children_out_of_line_f_b6070b37(slot_2, slot_9, r_wt_1, (r_29 + r_4r), slot_3, r_az, slot_5, 1u);
-    r_2b_10 = ld8(slot_2);
+    capnp_copies_copy_children_copy_children_out_of_line_f_b6070b37(slot_2, slot_9, r_wt, (r_29 + r_4r), slot_3, r_az, slot_5, 1u);
+    r_2b_4 = ld8(slot_2);
     r_qh_1 = ld8((slot_2 + 8));
     r_ip_1 = ld32((slot_2 + 12));
     r_wq = ld64((slot_2 + 16));
 l_capnp_no_1:;
-    r_3i = r_2b_10;
+    r_3i = r_2b_4;
     r_45 = r_qh_1;
     r_h0 = r_ip_1;
     r_r1 = r_wq;
@@ -4003,14 +4078,14 @@ l_capnp_x3:;
     goto l_arm_uo;
 l_capnp_x6:;
     if (!(r_3i == 0u)) { r_ld = r_45; r_2q = r_h0; r_gy = r_r1; goto l_arm_uo; }
-    r_r5_7 = ld8(slot_5);
-    t_38_1 = ld64(r_x5_5);
-    t_38_2 = ld64(r_zd_6);
-    if (!(u8)(ld8((slot_9 + 72)) & 1)) { t_7y = 0u; r_4v = 1ull; r_r5_8 = 27u; r_ka = 0u; r_0t = r_v1; r_ib = 0ull; goto l_capnp_1l; }
-    if (ld64((slot_9 + 88)) == 0ull) { t_7y = 1u; r_4v = 0ull; r_r5_8 = r_r5_7; r_ka = 0u; r_0t = t_38_1; r_ib = t_38_2; goto l_capnp_1l; }
+    r_r5_4 = ld8(slot_5);
+    t_38 = ld64(r_x5_3);
+    t_38_1 = ld64(r_zd_3);
+    if (!(u8)(ld8((slot_9 + 72)) & 1)) { t_7y = 0u; r_4v = 1ull; r_r5_5 = 27u; r_ka = 0u; r_0t = r_v1; r_ib = 0ull; goto l_capnp_1l; }
+    if (ld64((slot_9 + 88)) == 0ull) { t_7y = 1u; r_4v = 0ull; r_r5_5 = r_r5_4; r_ka = 0u; r_0t = t_38; r_ib = t_38_1; goto l_capnp_1l; }
     t_7y = 0u;
     r_4v = 1ull;
-    r_r5_8 = 27u;
+    r_r5_5 = 27u;
     r_ka = 0u;
     r_0t = r_v1;
     r_ib = 0ull;
@@ -4019,39 +4094,39 @@ l_arm_uo:;
     switch (r_ld) {
     case 0u: goto l_t_h9;
     case 27u: goto l_t_h9;
-    case 1u: { t_7y = 0u; r_4v = 1ull; r_r5_8 = r_ld; r_ka = r_2q; r_0t = r_gy; r_ib = 0ull; goto l_capnp_1l; }
-    case 2u: { t_7y = 0u; r_4v = 1ull; r_r5_8 = r_ld; r_ka = r_2q; r_0t = r_gy; r_ib = 0ull; goto l_capnp_1l; }
-    case 3u: { t_7y = 0u; r_4v = 1ull; r_r5_8 = r_ld; r_ka = r_2q; r_0t = r_gy; r_ib = 0ull; goto l_capnp_1l; }
-    case 4u: { t_7y = 0u; r_4v = 1ull; r_r5_8 = r_ld; r_ka = r_2q; r_0t = r_gy; r_ib = 0ull; goto l_capnp_1l; }
-    case 5u: { t_7y = 0u; r_4v = 1ull; r_r5_8 = r_ld; r_ka = r_2q; r_0t = r_gy; r_ib = 0ull; goto l_capnp_1l; }
-    case 6u: { t_7y = 0u; r_4v = 1ull; r_r5_8 = r_ld; r_ka = r_2q; r_0t = r_gy; r_ib = 0ull; goto l_capnp_1l; }
-    case 7u: { t_7y = 0u; r_4v = 1ull; r_r5_8 = r_ld; r_ka = r_2q; r_0t = r_gy; r_ib = 0ull; goto l_capnp_1l; }
-    case 8u: { t_7y = 0u; r_4v = 1ull; r_r5_8 = r_ld; r_ka = r_2q; r_0t = r_gy; r_ib = 0ull; goto l_capnp_1l; }
-    case 9u: { t_7y = 0u; r_4v = 1ull; r_r5_8 = r_ld; r_ka = r_2q; r_0t = r_gy; r_ib = 0ull; goto l_capnp_1l; }
-    case 10u: { t_7y = 0u; r_4v = 1ull; r_r5_8 = r_ld; r_ka = r_2q; r_0t = r_gy; r_ib = 0ull; goto l_capnp_1l; }
-    case 11u: { t_7y = 0u; r_4v = 1ull; r_r5_8 = r_ld; r_ka = r_2q; r_0t = r_gy; r_ib = 0ull; goto l_capnp_1l; }
-    case 12u: { t_7y = 0u; r_4v = 1ull; r_r5_8 = r_ld; r_ka = r_2q; r_0t = r_gy; r_ib = 0ull; goto l_capnp_1l; }
-    case 13u: { t_7y = 0u; r_4v = 1ull; r_r5_8 = r_ld; r_ka = r_2q; r_0t = r_gy; r_ib = 0ull; goto l_capnp_1l; }
-    case 14u: { t_7y = 0u; r_4v = 1ull; r_r5_8 = r_ld; r_ka = r_2q; r_0t = r_gy; r_ib = 0ull; goto l_capnp_1l; }
-    case 15u: { t_7y = 0u; r_4v = 1ull; r_r5_8 = r_ld; r_ka = r_2q; r_0t = r_gy; r_ib = 0ull; goto l_capnp_1l; }
-    case 16u: { t_7y = 0u; r_4v = 1ull; r_r5_8 = r_ld; r_ka = r_2q; r_0t = r_gy; r_ib = 0ull; goto l_capnp_1l; }
-    case 17u: { t_7y = 0u; r_4v = 1ull; r_r5_8 = r_ld; r_ka = r_2q; r_0t = r_gy; r_ib = 0ull; goto l_capnp_1l; }
-    case 18u: { t_7y = 0u; r_4v = 1ull; r_r5_8 = r_ld; r_ka = r_2q; r_0t = r_gy; r_ib = 0ull; goto l_capnp_1l; }
-    case 19u: { t_7y = 0u; r_4v = 1ull; r_r5_8 = r_ld; r_ka = r_2q; r_0t = r_gy; r_ib = 0ull; goto l_capnp_1l; }
-    case 20u: { t_7y = 0u; r_4v = 1ull; r_r5_8 = r_ld; r_ka = r_2q; r_0t = r_gy; r_ib = 0ull; goto l_capnp_1l; }
-    case 21u: { t_7y = 0u; r_4v = 1ull; r_r5_8 = r_ld; r_ka = r_2q; r_0t = r_gy; r_ib = 0ull; goto l_capnp_1l; }
-    case 22u: { t_7y = 0u; r_4v = 1ull; r_r5_8 = r_ld; r_ka = r_2q; r_0t = r_gy; r_ib = 0ull; goto l_capnp_1l; }
-    case 23u: { t_7y = 0u; r_4v = 1ull; r_r5_8 = r_ld; r_ka = r_2q; r_0t = r_gy; r_ib = 0ull; goto l_capnp_1l; }
-    case 24u: { t_7y = 0u; r_4v = 1ull; r_r5_8 = r_ld; r_ka = r_2q; r_0t = r_gy; r_ib = 0ull; goto l_capnp_1l; }
-    case 25u: { t_7y = 0u; r_4v = 1ull; r_r5_8 = r_ld; r_ka = r_2q; r_0t = r_gy; r_ib = 0ull; goto l_capnp_1l; }
-    case 26u: { t_7y = 0u; r_4v = 1ull; r_r5_8 = r_ld; r_ka = r_2q; r_0t = r_gy; r_ib = 0ull; goto l_capnp_1l; }
-    case 28u: { t_7y = 0u; r_4v = 1ull; r_r5_8 = r_ld; r_ka = r_2q; r_0t = r_gy; r_ib = 0ull; goto l_capnp_1l; }
-    case 29u: { t_7y = 0u; r_4v = 1ull; r_r5_8 = r_ld; r_ka = r_2q; r_0t = r_gy; r_ib = 0ull; goto l_capnp_1l; }
-    case 30u: { t_7y = 0u; r_4v = 1ull; r_r5_8 = r_ld; r_ka = r_2q; r_0t = r_gy; r_ib = 0ull; goto l_capnp_1l; }
-    case 31u: { t_7y = 0u; r_4v = 1ull; r_r5_8 = r_ld; r_ka = r_2q; r_0t = r_gy; r_ib = 0ull; goto l_capnp_1l; }
-    case 32u: { t_7y = 0u; r_4v = 1ull; r_r5_8 = r_ld; r_ka = r_2q; r_0t = r_gy; r_ib = 0ull; goto l_capnp_1l; }
-    case 33u: { t_7y = 0u; r_4v = 1ull; r_r5_8 = r_ld; r_ka = r_2q; r_0t = r_gy; r_ib = 0ull; goto l_capnp_1l; }
-    case 34u: { t_7y = 0u; r_4v = 1ull; r_r5_8 = r_ld; r_ka = r_2q; r_0t = r_gy; r_ib = 0ull; goto l_capnp_1l; }
+    case 1u: { t_7y = 0u; r_4v = 1ull; r_r5_5 = r_ld; r_ka = r_2q; r_0t = r_gy; r_ib = 0ull; goto l_capnp_1l; }
+    case 2u: { t_7y = 0u; r_4v = 1ull; r_r5_5 = r_ld; r_ka = r_2q; r_0t = r_gy; r_ib = 0ull; goto l_capnp_1l; }
+    case 3u: { t_7y = 0u; r_4v = 1ull; r_r5_5 = r_ld; r_ka = r_2q; r_0t = r_gy; r_ib = 0ull; goto l_capnp_1l; }
+    case 4u: { t_7y = 0u; r_4v = 1ull; r_r5_5 = r_ld; r_ka = r_2q; r_0t = r_gy; r_ib = 0ull; goto l_capnp_1l; }
+    case 5u: { t_7y = 0u; r_4v = 1ull; r_r5_5 = r_ld; r_ka = r_2q; r_0t = r_gy; r_ib = 0ull; goto l_capnp_1l; }
+    case 6u: { t_7y = 0u; r_4v = 1ull; r_r5_5 = r_ld; r_ka = r_2q; r_0t = r_gy; r_ib = 0ull; goto l_capnp_1l; }
+    case 7u: { t_7y = 0u; r_4v = 1ull; r_r5_5 = r_ld; r_ka = r_2q; r_0t = r_gy; r_ib = 0ull; goto l_capnp_1l; }
+    case 8u: { t_7y = 0u; r_4v = 1ull; r_r5_5 = r_ld; r_ka = r_2q; r_0t = r_gy; r_ib = 0ull; goto l_capnp_1l; }
+    case 9u: { t_7y = 0u; r_4v = 1ull; r_r5_5 = r_ld; r_ka = r_2q; r_0t = r_gy; r_ib = 0ull; goto l_capnp_1l; }
+    case 10u: { t_7y = 0u; r_4v = 1ull; r_r5_5 = r_ld; r_ka = r_2q; r_0t = r_gy; r_ib = 0ull; goto l_capnp_1l; }
+    case 11u: { t_7y = 0u; r_4v = 1ull; r_r5_5 = r_ld; r_ka = r_2q; r_0t = r_gy; r_ib = 0ull; goto l_capnp_1l; }
+    case 12u: { t_7y = 0u; r_4v = 1ull; r_r5_5 = r_ld; r_ka = r_2q; r_0t = r_gy; r_ib = 0ull; goto l_capnp_1l; }
+    case 13u: { t_7y = 0u; r_4v = 1ull; r_r5_5 = r_ld; r_ka = r_2q; r_0t = r_gy; r_ib = 0ull; goto l_capnp_1l; }
+    case 14u: { t_7y = 0u; r_4v = 1ull; r_r5_5 = r_ld; r_ka = r_2q; r_0t = r_gy; r_ib = 0ull; goto l_capnp_1l; }
+    case 15u: { t_7y = 0u; r_4v = 1ull; r_r5_5 = r_ld; r_ka = r_2q; r_0t = r_gy; r_ib = 0ull; goto l_capnp_1l; }
+    case 16u: { t_7y = 0u; r_4v = 1ull; r_r5_5 = r_ld; r_ka = r_2q; r_0t = r_gy; r_ib = 0ull; goto l_capnp_1l; }
+    case 17u: { t_7y = 0u; r_4v = 1ull; r_r5_5 = r_ld; r_ka = r_2q; r_0t = r_gy; r_ib = 0ull; goto l_capnp_1l; }
+    case 18u: { t_7y = 0u; r_4v = 1ull; r_r5_5 = r_ld; r_ka = r_2q; r_0t = r_gy; r_ib = 0ull; goto l_capnp_1l; }
+    case 19u: { t_7y = 0u; r_4v = 1ull; r_r5_5 = r_ld; r_ka = r_2q; r_0t = r_gy; r_ib = 0ull; goto l_capnp_1l; }
+    case 20u: { t_7y = 0u; r_4v = 1ull; r_r5_5 = r_ld; r_ka = r_2q; r_0t = r_gy; r_ib = 0ull; goto l_capnp_1l; }
+    case 21u: { t_7y = 0u; r_4v = 1ull; r_r5_5 = r_ld; r_ka = r_2q; r_0t = r_gy; r_ib = 0ull; goto l_capnp_1l; }
+    case 22u: { t_7y = 0u; r_4v = 1ull; r_r5_5 = r_ld; r_ka = r_2q; r_0t = r_gy; r_ib = 0ull; goto l_capnp_1l; }
+    case 23u: { t_7y = 0u; r_4v = 1ull; r_r5_5 = r_ld; r_ka = r_2q; r_0t = r_gy; r_ib = 0ull; goto l_capnp_1l; }
+    case 24u: { t_7y = 0u; r_4v = 1ull; r_r5_5 = r_ld; r_ka = r_2q; r_0t = r_gy; r_ib = 0ull; goto l_capnp_1l; }
+    case 25u: { t_7y = 0u; r_4v = 1ull; r_r5_5 = r_ld; r_ka = r_2q; r_0t = r_gy; r_ib = 0ull; goto l_capnp_1l; }
+    case 26u: { t_7y = 0u; r_4v = 1ull; r_r5_5 = r_ld; r_ka = r_2q; r_0t = r_gy; r_ib = 0ull; goto l_capnp_1l; }
+    case 28u: { t_7y = 0u; r_4v = 1ull; r_r5_5 = r_ld; r_ka = r_2q; r_0t = r_gy; r_ib = 0ull; goto l_capnp_1l; }
+    case 29u: { t_7y = 0u; r_4v = 1ull; r_r5_5 = r_ld; r_ka = r_2q; r_0t = r_gy; r_ib = 0ull; goto l_capnp_1l; }
+    case 30u: { t_7y = 0u; r_4v = 1ull; r_r5_5 = r_ld; r_ka = r_2q; r_0t = r_gy; r_ib = 0ull; goto l_capnp_1l; }
+    case 31u: { t_7y = 0u; r_4v = 1ull; r_r5_5 = r_ld; r_ka = r_2q; r_0t = r_gy; r_ib = 0ull; goto l_capnp_1l; }
+    case 32u: { t_7y = 0u; r_4v = 1ull; r_r5_5 = r_ld; r_ka = r_2q; r_0t = r_gy; r_ib = 0ull; goto l_capnp_1l; }
+    case 33u: { t_7y = 0u; r_4v = 1ull; r_r5_5 = r_ld; r_ka = r_2q; r_0t = r_gy; r_ib = 0ull; goto l_capnp_1l; }
+    case 34u: { t_7y = 0u; r_4v = 1ull; r_r5_5 = r_ld; r_ka = r_2q; r_0t = r_gy; r_ib = 0ull; goto l_capnp_1l; }
     default: goto l_noarm_e1;
     }
 l_noarm_e1:;
@@ -4059,144 +4134,144 @@ l_noarm_e1:;
 l_t_h9:;
     t_7y = 0u;
     r_4v = 1ull;
-    r_r5_8 = 27u;
+    r_r5_5 = 27u;
     r_ka = 0u;
     r_0t = r_v1;
     r_ib = 0ull;
 l_capnp_1l:;
-    r_cf = (u32)r_r5_8;
-    r_xw_7 = ldp(r_x5_4);
-    r_38_19 = ld64((slot_9 + 16));
-    r_38_20 = ld64((slot_9 + 24));
-    r_xw_8 = ldp(r_89_1);
-    r_38_21 = ld64((slot_9 + 40));
-    r_38_22 = ld64((slot_9 + 48));
-    r_38_23 = ld64((slot_9 + 56));
-    r_38_24 = ld64((slot_9 + 64));
-    r_r5_9 = ld8((slot_9 + 72));
-    r_f2_1 = (slot_9 + 73);
-    r_xw_9 = ldp((slot_9 + 80));
-    r_38_25 = ld64((slot_9 + 88));
-    r_38_26 = ld64((slot_9 + 96));
+    r_cf = (u32)r_r5_5;
+    r_xw_6 = ldp(r_x5_2);
+    r_38_12 = ld64((slot_9 + 16));
+    r_38_13 = ld64((slot_9 + 24));
+    r_xw_7 = ldp(r_89_1);
+    r_38_14 = ld64((slot_9 + 40));
+    r_38_15 = ld64((slot_9 + 48));
+    r_38_16 = ld64((slot_9 + 56));
+    r_38_17 = ld64((slot_9 + 64));
+    r_r5_6 = ld8((slot_9 + 72));
+    r_f2 = (slot_9 + 73);
+    r_xw_8 = ldp((slot_9 + 80));
+    r_38_18 = ld64((slot_9 + 88));
+    r_38_19 = ld64((slot_9 + 96));
     if (!t_7y) goto l_arm_33;
-    r_08_1 = away(a_4, 16ull);
-    r_52_5 = ld64(r_08_1);
-    if (!(r_52_5 == 0ull)) goto l_join_b0;
-    st64(a_4, (u64)r_r5_8);
-    st64(r_rq_2, r_0t);
-    st64(r_08_1, r_ib);
+    r_08 = away(a_4, 16ull);
+    r_52_2 = ld64(r_08);
+    if (!(r_52_2 == 0ull)) goto l_join_b0;
+    st64(a_4, (u64)r_r5_5);
+    st64(r_rq, r_0t);
+    st64(r_08, r_ib);
     goto l_capnp_1x;
 l_join_b0:;
-    if (((ld8(a_4) != 1u) ? 1u : (r_r5_8 != 1u)) ? 1u : (ld64(r_rq_2) < r_0t)) goto l_after_jc;
+    if (((ld8(a_4) != 1u) ? 1u : (r_r5_5 != 1u)) ? 1u : (ld64(r_rq) < r_0t)) goto l_after_jc;
     st64(a_4, 1ull);
-    st64(r_rq_2, r_0t);
+    st64(r_rq, r_0t);
 l_after_jc:;
     if (r_ib == 0ull) goto l_capnp_1x;
-    r_3i_1 = r_52_5;
+    r_3i_1 = r_52_2;
     r_hb = 0ull;
 l_join_j4:;
-    r_vg_1 = uadd_sat64(r_3i_1, 1ull);
+    r_vg = uadd_sat64(r_3i_1, 1ull);
     u64 r_36 = (r_hb + 1ull);
-    if (!(r_36 == r_ib)) { r_3i_1 = r_vg_1; r_hb = r_36; goto l_join_j4; }
-    st64(r_08_1, r_vg_1);
+    if (!(r_36 == r_ib)) { r_3i_1 = r_vg; r_hb = r_36; goto l_join_j4; }
+    st64(r_08, r_vg);
 l_capnp_1x:;
     mv16(slot_12, slot_10);
-    mv7(slot_13, r_f2_1);
-    r_6f = r_xw_7;
-    r_3l = r_38_19;
-    r_rk = r_38_20;
-    r_7q = r_xw_8;
-    r_yr = r_38_21;
-    r_c1 = r_38_22;
-    r_g3 = r_38_23;
-    r_vx = r_38_24;
-    r_7j = r_xw_9;
-    r_p8 = r_38_25;
-    r_6l = r_38_26;
-    r_xz_1 = r_r5_9;
-    r_tv = r_z4_1;
+    mv7(slot_13, r_f2);
+    r_6f = r_xw_6;
+    r_3l = r_38_12;
+    r_rk = r_38_13;
+    r_7q = r_xw_7;
+    r_yr = r_38_14;
+    r_c1 = r_38_15;
+    r_g3 = r_38_16;
+    r_vx = r_38_17;
+    r_7j = r_xw_8;
+    r_p8 = r_38_18;
+    r_6l = r_38_19;
+    r_xz = r_r5_6;
+    r_tv = r_z4;
     r_6k = r_uq_1;
-    r_hn = r_38_13;
+    r_hn = r_38_10;
     goto l_join_6f;
 l_arm_33:;
-    st32(slot_3, r_z4_1);
+    st32(slot_3, r_z4);
     st32((slot_3 + 4), r_uq_1);
-    r_x5_13 = (slot_3 + 8);
-    st64(r_x5_13, r_38_13);
-    r_zd_11 = (slot_3 + 16);
-    mv16(r_zd_11, slot_10);
-    if (!(u8)(r_r5_9 & 1)) goto l_else_r8_1;
-    r_xw_10 = ldp(slot_3);
-    u64 r_38_27 = ld64(r_zd_11);
-    stp(slot_3, r_xw_8);
-    st64(r_x5_13, r_38_21);
-    st64(r_zd_11, r_38_22);
-    if (r_38_27 == 0ull) goto l_capnp_4o_1;
-    rattle_dealloc(r_xw_10);
+    r_x5_4 = (slot_3 + 8);
+    st64(r_x5_4, r_38_10);
+    r_zd_4 = (slot_3 + 16);
+    mv16(r_zd_4, slot_10);
+    if (!(u8)(r_r5_6 & 1)) goto l_else_r8_1;
+    r_xw_9 = ldp(slot_3);
+    u64 r_38_20 = ld64(r_zd_4);
+    stp(slot_3, r_xw_7);
+    st64(r_x5_4, r_38_14);
+    st64(r_zd_4, r_38_15);
+    if (r_38_20 == 0ull) goto l_capnp_4o_1;
+    rattle_dealloc(r_xw_9);
 l_capnp_4o_1:;
-    stp(slot_2, r_xw_9);
-    st64((slot_2 + 8), r_38_25);
-    st64((slot_2 + 16), r_38_26);
+    stp(slot_2, r_xw_8);
+    st64((slot_2 + 8), r_38_18);
+    st64((slot_2 + 16), r_38_19);
     capnp_arena_arena_builder_arena_impl_deallocate_others_74e7ad04(slot_3, slot_2);
     goto l_capnp_f6_1;
 l_else_r8_1:;
-    if (r_38_22 == 0ull) goto l_core_at_1;
-    rattle_dealloc(r_xw_8);
+    if (r_38_15 == 0ull) goto l_core_at_1;
+    rattle_dealloc(r_xw_7);
 l_core_at_1:;
-    if (r_38_26 == 0ull) goto l_capnp_f6_1;
-    rattle_dealloc(r_xw_9);
+    if (r_38_19 == 0ull) goto l_capnp_f6_1;
+    rattle_dealloc(r_xw_8);
 l_capnp_f6_1:;
-    if (!(r_38_19 > 1ull)) goto l_join_jj_1;
-    if (r_38_19 > 15ull) goto l_join_ys_1;
-    t_gg_1 = (u64)((r_38_19 + 0xfffffffffffffffeull) >> 1ull);
+    if (!(r_38_12 > 1ull)) goto l_join_jj_1;
+    if (r_38_12 > 15ull) goto l_join_ys_1;
+    t_gg_1 = (u64)((r_38_12 + 0xfffffffffffffffeull) >> 1ull);
     r_ax_1 = 0ull;
-    r_du_1 = r_38_19;
+    r_du_1 = r_38_12;
     goto l_join_73_1;
 l_join_ys_1:;
-    u64 r_dt_1 = (u64)(r_38_19 >> 1ull);
-    core_slice_edits_mirror_e0f4f6844e27f7b4(r_xw_7, away(r_xw_7, ((r_38_19 - r_dt_1) * 40ull)), r_dt_1);
+    u64 r_dt_1 = (u64)(r_38_12 >> 1ull);
+    core_slice_edits_mirror_e0f4f6844e27f7b4(r_xw_6, away(r_xw_6, ((r_38_12 - r_dt_1) * 40ull)), r_dt_1);
     goto l_arm_m6;
 l_join_73_1:;
     r_zn_2 = (r_du_1 + 0xffffffffffffffffull);
     if (!(r_ax_1 < r_zn_2)) goto l_else_7d_1;
-    u8 *r_a7_15 = (r_xw_7 + (i64)((r_ax_1 * 40ull)));
-    u8 *r_a7_16 = (r_xw_7 + (i64)((r_zn_2 * 40ull)));
-    mv40(slot_2, r_a7_15);
-    mv40(r_a7_15, r_a7_16);
-    mv40(r_a7_16, slot_2);
+    u8 *r_a7_4 = (r_xw_6 + (i64)((r_ax_1 * 40ull)));
+    u8 *r_a7_5 = (r_xw_6 + (i64)((r_zn_2 * 40ull)));
+    mv40(slot_2, r_a7_4);
+    mv40(r_a7_4, r_a7_5);
+    mv40(r_a7_5, slot_2);
     goto l_core_e6_1;
 l_else_7d_1:;
     if (!(r_zn_2 < r_ax_1)) goto l_core_e6_1;
-    u8 *r_a7_17 = (r_xw_7 + (i64)((r_zn_2 * 40ull)));
-    u8 *r_a7_18 = (r_xw_7 + (i64)((r_ax_1 * 40ull)));
-    mv40(slot_2, r_a7_17);
-    mv40(r_a7_17, r_a7_18);
-    mv40(r_a7_18, slot_2);
+    u8 *r_a7_6 = (r_xw_6 + (i64)((r_zn_2 * 40ull)));
+    u8 *r_a7_7 = (r_xw_6 + (i64)((r_ax_1 * 40ull)));
+    mv40(slot_2, r_a7_6);
+    mv40(r_a7_6, r_a7_7);
+    mv40(r_a7_7, slot_2);
 l_core_e6_1:;
     if (!(r_ax_1 == t_gg_1)) { u64 r_3 = (r_ax_1 + 1ull); u64 r_4 = r_zn_2; r_ax_1 = r_3; r_du_1 = r_4; goto l_join_73_1; }
 l_join_jj_1:;
-    if (r_38_19 == 0ull) goto l_capnp_p4_1;
+    if (r_38_12 == 0ull) goto l_capnp_p4_1;
 l_arm_m6:;
-    r_o3_1 = r_38_19;
+    r_o3_1 = r_38_12;
 l_arm_zl_1:;
     r_zn_3 = (r_o3_1 + 0xffffffffffffffffull);
-    r_xw_11 = ldp(slot_3);
-    u64 r_38_28 = ld64(r_zd_11);
-    mv24(slot_3, (r_xw_7 + (i64)((r_zn_3 * 40ull))));
-    if (r_38_28 == 0ull) goto l_capnp_jj_1;
-    rattle_dealloc(r_xw_11);
+    r_xw_10 = ldp(slot_3);
+    u64 r_38_21 = ld64(r_zd_4);
+    mv24(slot_3, (r_xw_6 + (i64)((r_zn_3 * 40ull))));
+    if (r_38_21 == 0ull) goto l_capnp_jj_1;
+    rattle_dealloc(r_xw_10);
 l_capnp_jj_1:;
     if (!(r_zn_3 == 0ull)) { r_o3_1 = r_zn_3; goto l_arm_zl_1; }
 l_capnp_p4_1:;
-    if (r_38_20 == 0ull) goto l_std_hs;
-    rattle_dealloc(r_xw_7);
+    if (r_38_13 == 0ull) goto l_std_hs;
+    rattle_dealloc(r_xw_6);
 l_std_hs:;
-    u8 *r_xw_12 = ldp(r_zd_11);
-    u64 r_38_29 = ld64((slot_3 + 24));
+    u8 *r_xw_11 = ldp(r_zd_4);
+    u64 r_38_22 = ld64((slot_3 + 24));
     mv16(slot_14, slot_3);
     mv16(slot_12, slot_14);
-    r_6f = r_xw_12;
-    r_3l = r_38_29;
+    r_6f = r_xw_11;
+    r_3l = r_38_22;
     r_rk = 0ull;
     r_7q = ((u8 *)0);
     r_yr = 0ull;
@@ -4206,7 +4281,7 @@ l_std_hs:;
     r_7j = ((u8 *)0);
     r_p8 = 0ull;
     r_6l = 0ull;
-    r_xz_1 = 0u;
+    r_xz = 0u;
     r_tv = r_cf;
     r_6k = r_ka;
     r_hn = r_0t;
@@ -4224,7 +4299,7 @@ l_join_6f:;
     st64(away(a_1, 80ull), r_c1);
     st64(away(a_1, 88ull), r_g3);
     st64(away(a_1, 96ull), r_vx);
-    st8(away(a_1, 104ull), r_xz_1);
+    st8(away(a_1, 104ull), r_xz);
     mv7(away(a_1, 105ull), slot_13);
     stp(away(a_1, 112ull), r_7j);
     st64(away(a_1, 120ull), r_p8);
@@ -4387,30 +4462,30 @@ static NEVER void capnp_copies_copy_copy_object_f91b20a4a575fbcb(u8 *a_1, u8 *a_
     u64 r_ep;
     u64 r_y6;
     u64 r_lc_1;
-    u8 *r_rq_1;
-    u64 r_52_1;
+    u8 *r_rq;
+    u64 r_52;
     u32 r_az;
     u8 *t_f6;
     u32 r_4w;
     u8 switch_wl;
     u64 r_ij;
-    u64 r_c4_1;
-    u64 r_24_2;
-    u64 r_gw_2;
-    u8 *r_rq_2;
-    u64 r_52_2;
+    u64 r_c4;
+    u64 r_24_1;
+    u64 r_gw_1;
+    u8 *r_rq_1;
+    u64 r_52_1;
     u64 r_eh;
     u32 t_c8;
-    u64 r_ep_2;
+    u64 r_ep_1;
     u64 r_y6_1;
     u32 r_12;
     u32 r_az_1;
     u32 r_68;
-    u64 r_c0_1;
-    u8 *r_rq_3;
-    u64 r_52_3;
+    u64 r_c0;
+    u8 *r_rq_2;
+    u64 r_52_2;
     u32 r_ll;
-    u8 *t_f6_2;
+    u8 *t_f6_1;
     u32 r_4w_1;
     u16 r_u2;
     u16 r_ka;
@@ -4418,71 +4493,71 @@ static NEVER void capnp_copies_copy_copy_object_f91b20a4a575fbcb(u8 *a_1, u8 *a_
     u32 r_68_1;
     u32 r_v3;
     u32 r_ll_1;
-    u8 *r_xm_1;
+    u8 *r_xm;
     u8 r_sz;
     u32 r_12_1;
+    u8 *r_rq_3;
+    u64 r_52_3;
     u8 *r_rq_4;
     u64 r_52_4;
-    u8 *r_rq_5;
-    u64 r_52_5;
     u64 r_v1;
     u64 r_c6;
-    u8 *r_rq_6;
-    u64 r_52_6;
+    u8 *r_rq_5;
+    u64 r_52_5;
     u64 r_2g;
     u64 r_jg;
     u64 r_6e;
-    u8 *t_f6_3;
+    u8 *t_f6_2;
     u32 r_4w_2;
-    u8 *r_xm_2;
+    u8 *r_xm_1;
     u8 r_sz_1;
     u8 r_10;
     u32 r_kb;
     u32 r_n4;
     u64 r_yp;
-    u64 r_q7_1;
-    u64 r_lc_6;
-    u64 r_z6_3;
-    u8 *r_c0_2;
+    u64 r_q7;
+    u64 r_lc_2;
+    u64 r_z6;
+    u8 *r_c0_1;
     u64 r_nm;
     u64 r_nm_1;
     u64 r_ev;
-    u64 r_z6_6;
-    u8 *r_c0_3;
+    u64 r_z6_1;
+    u8 *r_c0_2;
     u64 r_nm_2;
     u64 r_nm_3;
-    u64 r_e9_6;
+    u64 r_e9;
     u64 r_ag;
     u32 r_ib;
-    u16 r_xg_1;
+    u16 r_xg;
     u32 r_29;
     u32 r_68_2;
     u64 r_ro;
-    u64 r_xg_2;
-    u8 *r_xm_5;
+    u64 r_xg_1;
+    u8 *r_xm_2;
     u8 *r_h6;
-    u32 r_yf_2;
-    u64 r_52_7;
+    u32 r_yf;
+    u64 r_52_6;
     u32 r_w0;
-    u64 r_z6_10;
+    u64 r_z6_2;
     u8 r_kw;
     u32 r_re;
     struct s_i8_i32 r_jz;
     u64 r_nu;
-    u32 r_wt_2;
-    u64 r_ep_4;
-    u32 r_4r_4;
+    u32 r_wt;
+    u64 r_ep_2;
+    u32 r_4r;
     u64 r_0l;
-    u8 *r_c0_4;
-    u8 *r_xm_6;
+    u8 *r_c0_3;
+    u8 *r_xm_3;
     u8 *r_al;
-    u8 *r_2b_7;
+    u8 *r_2b;
     u64 r_il;
     u8 r_t8;
     u8 r_hg;
-    u32 r_lc_8;
+    u32 r_lc_3;
     u64 r_nj;
-    u8 *t_f6_5;
+    u8 *t_f6_3;
     u64 r_yo;
     u8 r_tw;
     u8 *r_l2;
@@ -4490,15 +4565,15 @@ static NEVER void capnp_copies_copy_copy_object_f91b20a4a575fbcb(u8 *a_1, u8 *a_
     u64 r_61;
     u64 r_kz;
     u64 r_se;
-    u32 r_12_3;
+    u32 r_12_2;
     u64 t_0f;
-    u8 *r_xm_7;
-    u8 r_sz_5;
+    u8 *r_xm_4;
+    u8 r_sz_2;
     u8 *r_h6_1;
-    u32 r_yf_5;
-    u64 r_52_9;
-    u32 r_w0_3;
-    u64 r_z6_26;
+    u32 r_yf_2;
+    u64 r_52_7;
+    u32 r_w0_1;
+    u64 r_z6_3;
     u8 r_kw_1;
     u32 r_re_1;
     struct s_i8_i32 r_jz_1;
@@ -4508,85 +4583,85 @@ static NEVER void capnp_copies_copy_copy_object_f91b20a4a575fbcb(u8 *a_1, u8 *a_
     u32 r_qb;
     u64 r_1q;
     u8 *r_rk;
-    u8 *r_2b_9;
+    u8 *r_2b_1;
     u64 r_il_1;
     u64 r_4i;
     u8 *r_h6_2;
-    u32 r_yf_9;
-    u64 r_52_11;
-    u32 r_w0_5;
-    u64 r_z6_30;
+    u32 r_yf_4;
+    u64 r_52_8;
+    u32 r_w0_2;
+    u64 r_z6_4;
     u8 r_kw_2;
     u32 r_re_2;
     struct s_i8_i32 r_jz_2;
     u32 r_xo_2;
     u64 r_bq;
-    u32 r_es_5;
+    u32 r_es;
     u32 r_0i;
-    u64 r_gw_9;
-    u8 *r_x5_13;
-    u8 *r_zd_6;
-    u8 *r_lk_3;
-    u8 *r_89_3;
-    u8 *r_a8_3;
-    u8 *r_c4_6;
-    u8 *r_6c_2;
-    u8 *r_08_3;
-    u64 r_nb_7;
+    u64 r_gw_2;
+    u8 *r_x5_2;
+    u8 *r_zd;
+    u8 *r_lk;
+    u8 *r_89;
+    u8 *r_a8;
+    u8 *r_c4_3;
+    u8 *r_6c;
+    u8 *r_08_1;
+    u64 r_nb_1;
     u8 r_sg;
-    u8 *r_rq_8;
-    u8 *r_x5_14;
-    u8 *r_k0_3;
-    u8 *r_zd_7;
+    u8 *r_rq_6;
+    u8 *r_x5_3;
+    u8 *r_k0;
+    u8 *r_zd_1;
     u32 r_s1;
-    u8 t_q5_1;
-    u8 *r_x5_15;
-    u8 *r_k0_4;
-    u8 *r_zd_8;
-    u8 *r_ix_3;
-    u8 *r_x5_16;
-    u8 *r_zd_9;
-    u8 *r_lk_4;
-    u8 *r_89_4;
-    u8 *r_a8_4;
-    u8 *r_c4_7;
-    u8 *r_bk_2;
-    u8 *r_6c_3;
-    u8 *r_x5_17;
-    u8 *r_k0_5;
-    u8 *r_zd_10;
-    u8 t_0c_4;
-    u8 r_2p_4;
-    u8 *r_yf_13;
-    u64 r_0f_11;
+    u8 t_q5;
+    u8 *r_x5_4;
+    u8 *r_k0_1;
+    u8 *r_zd_2;
+    u8 *r_ix;
+    u8 *r_x5_5;
+    u8 *r_zd_3;
+    u8 *r_lk_1;
+    u8 *r_89_1;
+    u8 *r_a8_1;
+    u8 *r_c4_4;
+    u8 *r_bk;
+    u8 *r_6c_1;
+    u8 *r_x5_6;
+    u8 *r_k0_2;
+    u8 *r_zd_4;
+    u8 t_0c;
+    u8 r_2p;
+    u8 *r_yf_6;
+    u64 r_0f_4;
     u8 *r_h6_3;
-    u8 *r_su_4;
-    u8 *r_r2_4;
-    u8 *r_x5_18;
-    u8 *r_k0_6;
-    u8 *r_zd_11;
-    u8 *r_ix_4;
-    u8 *t_6c_2;
-    u8 *t_6c_3;
+    u8 *r_su;
+    u8 *r_r2;
+    u8 *r_x5_7;
+    u8 *r_k0_3;
+    u8 *r_zd_5;
+    u8 *r_ix_1;
+    u8 *t_6c;
+    u8 *t_6c_1;
     u64 indvars_eg;
-    u32 r_sr_3;
-    u64 r_24_31;
-    u64 r_qw_12;
-    u64 switch_f9_3;
-    u64 r_ep_5;
+    u32 r_sr;
+    u64 r_24_3;
+    u64 r_qw_5;
+    u64 switch_f9;
+    u64 r_ep_3;
     u64 r_ij_1;
     u64 r_c6_5;
-    u64 r_lc_11;
+    u64 r_lc_4;
     u64 r_gk;
-    u64 r_52_14;
-    u64 r_z6_34;
+    u64 r_52_9;
+    u64 r_z6_5;
     u8 *r_8a;
     u64 r_se_1;
-    u32 r_12_4;
-    u32 r_yf_14;
-    u64 r_52_15;
-    u32 r_w0_6;
-    u64 r_z6_35;
+    u32 r_12_3;
+    u32 r_yf_7;
+    u64 r_52_10;
+    u32 r_w0_3;
+    u64 r_z6_6;
     u8 r_kw_3;
     u32 r_re_3;
     struct s_i8_i32 r_pp;
@@ -4594,13 +4669,13 @@ static NEVER void capnp_copies_copy_copy_object_f91b20a4a575fbcb(u8 *a_1, u8 *a_
     u32 r_x9;
     u64 r_4i_1;
     u64 r_y6_2;
-    u64 r_q7_2;
-    u64 r_lc_15;
-    u64 r_lc_16;
+    u64 r_q7_1;
+    u64 r_lc_6;
+    u64 r_lc_7;
     u64 r_jm;
-    u32 r_4r_5;
-    u8 r_8u_7;
-    u64 r_52_18;
+    u32 r_4r_1;
+    u8 r_8u;
+    u64 r_52_11;
     u32 r_5b;
     u64 r_kx;
     u64 r_21;
@@ -4610,192 +4685,192 @@ static NEVER void capnp_copies_copy_copy_object_f91b20a4a575fbcb(u8 *a_1, u8 *a_
     struct s_i8_i32 r_fd;
     u32 r_fj;
     u32 sink_il;
-    u8 r_2b_13;
+    u8 r_2b_2;
     u8 r_qh;
     u32 r_ip;
     u64 r_wq;
     u8 r_t8_2;
     u8 r_t8_1;
     u32 r_hg_1;
-    u64 r_lc_12;
+    u64 r_lc_5;
     u64 t_pz;
     u32 t_fy;
     u8 r_1l;
     u8 t_ry;
     u8 *r_h6_4;
-    u32 r_yf_17;
-    u64 r_52_19;
-    u32 r_w0_10;
-    u64 r_z6_39;
+    u32 r_yf_10;
+    u64 r_52_12;
+    u32 r_w0_4;
+    u64 r_z6_7;
     u8 r_kw_4;
     u32 r_re_4;
     struct s_i8_i32 r_jz_3;
     u32 r_xo_5;
     u64 r_mm;
-    u32 r_yf_20;
+    u32 r_yf_11;
     u32 r_e3_5;
-    u32 r_ll_7;
-    u64 r_z6_41;
+    u32 r_ll_2;
+    u64 r_z6_8;
     u64 r_59;
-    u64 r_ni_5;
+    u64 r_ni;
     u32 r_zf;
     u32 r_21_1;
-    u64 r_c0_13;
+    u64 r_c0_4;
     u64 r_u7;
-    u64 r_a7_23;
-    u32 r_ll_8;
+    u64 r_a7;
+    u32 r_ll_3;
     u32 r_68_4;
-    u64 r_z6_45;
-    u8 r_hi_1;
-    u8 r_2p_10;
-    u8 r_u6_1;
+    u64 r_z6_10;
+    u8 r_hi;
+    u8 r_2p_1;
+    u8 r_u6;
     u8 r_vw;
-    u8 r_bh_3;
+    u8 r_bh_2;
     u64 r_8f_2;
     u64 r_la_2;
-    u64 r_bh_4;
-    u8 r_hi_2;
-    u64 r_gw_12;
-    u8 *r_x5_21;
-    u8 *r_zd_13;
-    u8 *r_lk_5;
-    u8 *r_89_5;
-    u8 *r_a8_5;
-    u8 *r_c4_10;
-    u8 *r_6c_4;
-    u8 *r_08_4;
-    u64 r_nb_8;
+    u64 r_bh_3;
+    u8 r_hi_1;
+    u64 r_gw_3;
+    u8 *r_x5_8;
+    u8 *r_zd_6;
+    u8 *r_lk_2;
+    u8 *r_89_2;
+    u8 *r_a8_2;
+    u8 *r_c4_5;
+    u8 *r_6c_2;
+    u8 *r_08_2;
+    u64 r_nb_2;
     u8 r_sg_1;
-    u8 *r_rq_9;
-    u8 *r_x5_22;
-    u8 *r_k0_8;
-    u8 *r_zd_14;
+    u8 *r_rq_7;
+    u8 *r_x5_9;
+    u8 *r_k0_4;
+    u8 *r_zd_7;
     u32 r_s1_1;
-    u8 t_q5_2;
-    u8 *r_yf_24;
-    u64 r_24_49;
-    u64 r_0f_18;
+    u8 t_q5_1;
+    u8 *r_yf_12;
+    u64 r_24_6;
+    u64 r_0f_6;
     u8 *r_h6_5;
-    u8 *r_su_6;
-    u8 *r_r2_6;
-    u8 *r_x5_23;
-    u8 *r_k0_9;
-    u8 *r_zd_15;
-    u8 *r_ix_6;
-    u8 *r_x5_24;
-    u8 *r_zd_16;
-    u8 *r_lk_6;
-    u8 *r_89_6;
-    u8 *r_a8_6;
-    u8 *r_c4_11;
-    u8 *r_bk_3;
-    u8 *r_6c_5;
-    u8 *r_x5_25;
-    u8 *r_k0_10;
-    u8 *r_zd_17;
-    u8 t_0c_8;
-    u8 *r_x5_26;
-    u8 *r_k0_11;
-    u8 *r_zd_18;
-    u8 *r_ix_7;
+    u8 *r_su_1;
+    u8 *r_r2_1;
+    u8 *r_x5_10;
+    u8 *r_k0_5;
+    u8 *r_zd_8;
+    u8 *r_ix_2;
+    u8 *r_x5_11;
+    u8 *r_zd_9;
+    u8 *r_lk_3;
+    u8 *r_89_3;
+    u8 *r_a8_3;
+    u8 *r_c4_6;
+    u8 *r_bk_1;
+    u8 *r_6c_3;
+    u8 *r_x5_12;
+    u8 *r_k0_6;
+    u8 *r_zd_10;
+    u8 t_0c_1;
+    u8 *r_x5_13;
+    u8 *r_k0_7;
+    u8 *r_zd_11;
+    u8 *r_ix_3;
     u64 wide_u7;
-    u64 r_24_50;
-    u8 *t_6c_4;
+    u64 r_24_7;
+    u8 *t_6c_2;
     u64 indvars_ff;
-    u32 r_w0_11;
-    u32 r_w0_12;
-    u8 *r_c0_14;
+    u32 r_w0_5;
+    u32 r_w0_6;
+    u8 *r_c0_5;
     u8 *r_rw;
-    u8 *r_2b_18;
+    u8 *r_2b_3;
     u64 r_il_2;
-    u32 r_w0_13;
-    u32 r_w0_14;
+    u32 r_w0_7;
+    u32 r_w0_8;
     u64 indvars_vm;
-    u32 r_sr_8;
-    u64 r_24_53;
-    u64 r_qw_14;
-    u64 switch_f9_4;
-    u64 r_ep_6;
+    u32 r_sr_1;
+    u64 r_24_8;
+    u64 r_qw_6;
+    u64 switch_f9_1;
+    u64 r_ep_4;
     u64 r_ij_2;
-    u64 r_1q_4;
+    u64 r_1q_2;
     u64 r_c6_6;
-    u64 r_lc_20;
+    u64 r_lc_8;
     u64 r_gk_1;
-    u64 r_52_22;
-    u64 r_z6_49;
+    u64 r_52_13;
+    u64 r_z6_11;
     u8 *r_8a_1;
     u64 r_se_2;
-    u32 r_12_5;
-    u32 r_yf_25;
-    u64 r_52_23;
-    u32 r_w0_15;
-    u64 r_z6_50;
+    u32 r_12_4;
+    u32 r_yf_13;
+    u64 r_52_14;
+    u32 r_w0_9;
+    u64 r_z6_12;
     struct s_i8_i32 r_tu_5;
-    u32 r_yf_26;
+    u32 r_yf_14;
     u32 r_e3_6;
-    u32 r_ll_9;
-    u64 r_6f_4;
+    u32 r_ll_4;
+    u64 r_6f;
     u64 r_59_1;
-    u64 r_ni_6;
+    u64 r_ni_1;
     u32 r_7u_2;
     u32 r_x9_1;
-    u64 r_1q_6;
+    u64 r_1q_3;
     u8 *r_u9;
-    u8 *r_2b_23;
+    u8 *r_2b_5;
     u64 r_il_3;
     u64 r_4i_2;
-    u32 r_w0_16;
-    u64 r_a5_2;
+    u32 r_w0_10;
+    u64 r_a5;
     u64 r_y6_3;
-    u64 r_q7_3;
-    u64 r_lc_23;
-    u64 r_lc_24;
+    u64 r_q7_2;
+    u64 r_lc_9;
+    u64 r_lc_10;
     u64 r_jm_1;
-    u32 r_4r_6;
-    u8 r_8u_9;
-    u64 r_52_26;
+    u32 r_4r_2;
+    u8 r_8u_1;
+    u64 r_52_15;
     u32 r_5b_1;
-    u64 r_lc_26;
-    u64 r_z6_56;
-    u8 *r_c0_16;
+    u64 r_lc_11;
+    u64 r_z6_14;
+    u8 *r_c0_6;
+    u64 r_nm_5;
     u64 r_nm_6;
-    u64 r_nm_7;
     u64 r_ev_1;
-    u64 r_z6_59;
-    u8 *r_c0_17;
+    u64 r_z6_15;
+    u8 *r_c0_7;
+    u64 r_nm_7;
     u64 r_nm_8;
-    u64 r_nm_9;
-    u64 r_mz_7;
+    u64 r_mz;
     u64 r_3h;
-    u16 r_xg_3;
-    u32 r_29_2;
+    u16 r_xg_2;
+    u32 r_29_1;
     u32 r_az_4;
     u32 r_68_5;
     u64 r_ro_1;
-    u32 r_yf_27;
-    u64 r_52_27;
-    u32 r_w0_17;
-    u64 r_z6_63;
+    u32 r_yf_15;
+    u64 r_52_16;
+    u32 r_w0_11;
+    u64 r_z6_16;
     u8 r_kw_5;
     u32 r_re_5;
     struct s_i8_i32 r_jz_4;
     u32 r_xo_7;
-    u64 r_a7_43;
+    u64 r_a7_1;
     u64 r_nu_1;
-    u32 r_wt_6;
-    u64 r_ep_7;
-    u32 r_4r_7;
-    u64 r_0l_2;
-    u8 *r_c0_18;
+    u32 r_wt_1;
+    u64 r_ep_5;
+    u32 r_4r_3;
+    u64 r_0l_1;
+    u8 *r_c0_8;
     u8 *r_al_1;
-    u8 *r_2b_33;
+    u8 *r_2b_7;
     u64 r_il_4;
-    u8 r_2b_34;
+    u8 r_2b_8;
     u8 r_qh_2;
     u32 r_ip_2;
     u64 r_wq_1;
-    u8 r_2b_26;
-    u8 r_2b_19;
+    u8 r_2b_6;
+    u8 r_2b_4;
     u32 r_qh_1;
     u64 r_ip_1;
     u64 t_ko;
@@ -4806,7 +4881,7 @@ static NEVER void capnp_copies_copy_copy_object_f91b20a4a575fbcb(u8 *a_1, u8 *a_
     u8 r_hg_2;
     u32 r_je;
     u64 r_s2;
-    u8 r_5k_2;
+    u8 r_5k_1;
     u8 r_qp;
     u32 r_7u;
     u64 r_pz;
@@ -4820,15 +4895,15 @@ static NEVER void capnp_copies_copy_copy_object_f91b20a4a575fbcb(u8 *a_1, u8 *a_
     r_5k = ld32(away(a_5, 56ull));
     r_24 = (u64)ld32(away(a_5, 48ull));
     r_gw = (u64)(r_qw_2 >> 3ull);
-    if (!(r_gw > r_24)) { r_5k_2 = 0u; r_qp = 0u; r_7u = 0u; r_pz = 0ull; goto l_join_1g; }
+    if (!(r_gw > r_24)) { r_5k_1 = 0u; r_qp = 0u; r_7u = 0u; r_pz = 0ull; goto l_join_1g; }
     r_qw_3 = ld64(away(r_rv_1, (u64)(r_24 << 3ull)));
-    if (r_qw_3 == 0ull) { r_5k_2 = 0u; r_qp = 0u; r_7u = 0u; r_pz = 0ull; goto l_join_1g; }
+    if (r_qw_3 == 0ull) { r_5k_1 = 0u; r_qp = 0u; r_7u = 0u; r_pz = 0ull; goto l_join_1g; }
     t_al = (u64)(uptr)r_rv_1;
     memset(slot_1, 0u, 56);
     t_pa = (r_dh != 0u);
     if (t_pa) goto l_capnp_sm;
-    u8 *r_08_1 = away(a_6, 16ull);
-    st64(r_08_1, uadd_sat64(ld64(r_08_1), 1ull));
+    u8 *r_08 = away(a_6, 16ull);
+    st64(r_08, uadd_sat64(ld64(r_08), 1ull));
     if ((r_qw_3 & 3ull) == 2ull) goto l_capnp_bt;
     goto l_join_bd;
 l_capnp_sm:;
@@ -4857,11 +4932,11 @@ l_capnp_i5:;
     goto l_arm_wn;
 l_capnp_bt:;
     capnp_objects_source_follow_far_5ccc1be374b2e488(slot_1, r_rv, r_qw_3, a_6);
-    u64 r_38_1 = ld64((slot_1 + 16));
-    u64 r_38_2 = ld64((slot_1 + 8));
-    if (ld8(slot_1) == 0u) { r_gx = ld32((slot_1 + 40)); r_qd = r_38_1; r_d4 = r_38_2; r_9h = ld64((slot_1 + 32)); r_27 = ld64((slot_1 + 24)); goto l_arm_wn; }
-    r_jg = r_38_1;
-    r_6e = r_38_2;
+    u64 r_38 = ld64((slot_1 + 16));
+    u64 r_38_1 = ld64((slot_1 + 8));
+    if (ld8(slot_1) == 0u) { r_gx = ld32((slot_1 + 40)); r_qd = r_38; r_d4 = r_38_1; r_9h = ld64((slot_1 + 32)); r_27 = ld64((slot_1 + 24)); goto l_arm_wn; }
+    r_jg = r_38;
+    r_6e = r_38_1;
     goto l_capnp_qu;
 l_arm_wn:;
     switch ((u8)((u8)r_d4 & 3u)) {
@@ -4879,11 +4954,11 @@ l_arm_sz:;
     if (((u64)(r_9h >> 3ull) & 0xffffffffull) < (r_lc_1 + (u64)r_gx)) { r_10 = 1u; r_kb = 23u; r_n4 = 0u; r_yp = 0ull; goto l_common_9c; }
     if (t_pa) goto l_arm_gk;
     if (!(ld8(a_6) == 1u)) goto l_arm_gk;
-    r_rq_1 = away(a_6, 8ull);
-    r_52_1 = ld64(r_rq_1);
-    if (r_52_1 < r_lc_1) { r_10 = 1u; r_kb = 30u; r_n4 = 0u; r_yp = 0ull; goto l_common_9c; }
+    r_rq = away(a_6, 8ull);
+    r_52 = ld64(r_rq);
+    if (r_52 < r_lc_1) { r_10 = 1u; r_kb = 30u; r_n4 = 0u; r_yp = 0ull; goto l_common_9c; }
     st64(a_6, 1ull);
-    st64(r_rq_1, (r_52_1 - r_lc_1));
+    st64(r_rq, (r_52 - r_lc_1));
 l_arm_gk:;
     r_az = ((u32)r_ep & 65535u);
     t_f6 = ((u8 *)(uptr)r_27);
@@ -4906,20 +4981,20 @@ l_arm_z2:;
     }
 l_arm_gv:;
     if ((i32)r_5k < (i32)1u) { r_10 = 1u; r_kb = 26u; r_n4 = 0u; r_yp = 0ull; goto l_common_9c; }
-    r_c4_1 = (r_ij + 1ull);
-    r_24_2 = (u64)r_gx;
-    r_gw_2 = (u64)(r_9h >> 3ull);
-    if ((r_gw_2 & 0xffffffffull) < (r_c4_1 + r_24_2)) { r_10 = 1u; r_kb = 23u; r_n4 = 0u; r_yp = 0ull; goto l_common_9c; }
+    r_c4 = (r_ij + 1ull);
+    r_24_1 = (u64)r_gx;
+    r_gw_1 = (u64)(r_9h >> 3ull);
+    if ((r_gw_1 & 0xffffffffull) < (r_c4 + r_24_1)) { r_10 = 1u; r_kb = 23u; r_n4 = 0u; r_yp = 0ull; goto l_common_9c; }
     if (t_pa) goto l_arm_ga;
     if (!(ld8(a_6) == 1u)) goto l_arm_ga;
-    r_rq_2 = away(a_6, 8ull);
-    r_52_2 = ld64(r_rq_2);
-    if (!(r_52_2 > r_ij)) { r_10 = 1u; r_kb = 30u; r_n4 = 0u; r_yp = 0ull; goto l_common_9c; }
+    r_rq_1 = away(a_6, 8ull);
+    r_52_1 = ld64(r_rq_1);
+    if (!(r_52_1 > r_ij)) { r_10 = 1u; r_kb = 30u; r_n4 = 0u; r_yp = 0ull; goto l_common_9c; }
     st64(a_6, 1ull);
-    st64(r_rq_2, (r_52_2 - r_c4_1));
+    st64(r_rq_1, (r_52_1 - r_c4));
 l_arm_ga:;
-    if (!(r_gw_2 > r_24_2)) { r_eh = 0ull; goto l_join_qm; }
-    u64 r_qw_4 = ld64(away(((u8 *)(uptr)r_27), (u64)(r_24_2 << 3ull)));
+    if (!(r_gw_1 > r_24_1)) { r_eh = 0ull; goto l_join_qm; }
+    u64 r_qw_4 = ld64(away(((u8 *)(uptr)r_27), (u64)(r_24_1 << 3ull)));
     if ((r_qw_4 & 3ull) == 0ull) { r_eh = r_qw_4; goto l_join_qm; }
     r_10 = 1u;
     r_kb = 11u;
@@ -4928,42 +5003,42 @@ l_arm_ga:;
     goto l_common_9c;
 l_join_qm:;
     t_c8 = (u32)((u32)r_eh >> 2u);
-    r_ep_2 = (u64)(r_eh >> 32ull);
+    r_ep_1 = (u64)(r_eh >> 32ull);
     r_y6_1 = (u64)(r_eh >> 48ull);
     r_12 = (u32)r_y6_1;
-    r_az_1 = ((u32)r_ep_2 & 65535u);
+    r_az_1 = ((u32)r_ep_1 & 65535u);
     r_68 = (r_az_1 + r_12);
-    r_c0_1 = (u64)t_c8;
-    if (r_ij < ((u64)r_68 * r_c0_1)) { r_10 = 1u; r_kb = 10u; r_n4 = 0u; r_yp = 0ull; goto l_common_9c; }
+    r_c0 = (u64)t_c8;
+    if (r_ij < ((u64)r_68 * r_c0)) { r_10 = 1u; r_kb = 10u; r_n4 = 0u; r_yp = 0ull; goto l_common_9c; }
     if ((u8)((u8)t_pa | (u8)(r_68 != 0u))) goto l_arm_ae;
     if (!(ld8(a_6) == 1u)) goto l_arm_ae;
-    r_rq_3 = away(a_6, 8ull);
-    r_52_3 = ld64(r_rq_3);
-    if (r_52_3 < r_c0_1) { r_10 = 1u; r_kb = 30u; r_n4 = 0u; r_yp = 0ull; goto l_common_9c; }
+    r_rq_2 = away(a_6, 8ull);
+    r_52_2 = ld64(r_rq_2);
+    if (r_52_2 < r_c0) { r_10 = 1u; r_kb = 30u; r_n4 = 0u; r_yp = 0ull; goto l_common_9c; }
     st64(a_6, 1ull);
-    st64(r_rq_3, (r_52_3 - r_c0_1));
+    st64(r_rq_2, (r_52_2 - r_c0));
 l_arm_ae:;
     r_ll = (r_gx + 1u);
-    t_f6_2 = ((u8 *)(uptr)r_27);
+    t_f6_1 = ((u8 *)(uptr)r_27);
     r_4w_1 = (r_5k + 0xffffffffu);
     st64((slot_5 + 56), 0ull);
     st64(slot_5, r_eg);
     stp((slot_5 + 8), r_rv);
     st64((slot_5 + 16), r_qw);
     st64((slot_5 + 24), r_qd);
-    stp((slot_5 + 32), t_f6_2);
+    stp((slot_5 + 32), t_f6_1);
     st64((slot_5 + 40), r_9h);
     st32((slot_5 + 48), r_ll);
     st32((slot_5 + 52), 0u);
     st32((slot_5 + 56), r_4w_1);
-    struct s_i16_i16 r_3y = capnp_copies_copy_lists_kept_widths_5ccc1be374b2e488(slot_5, (u16)r_ep_2, (u16)r_y6_1, t_c8, a_7);
+    struct s_i16_i16 r_3y = capnp_copies_copy_lists_kept_widths_5ccc1be374b2e488(slot_5, (u16)r_ep_1, (u16)r_y6_1, t_c8, a_7);
     r_u2 = r_3y.f0;
     r_ka = r_3y.f1;
     r_00 = (u32)r_u2;
     r_68_1 = ((u32)r_ka + r_00);
     r_v3 = (r_68_1 * t_c8);
     r_ll_1 = (r_v3 + 1u);
-    r_xm_1 = away(a_2, 32ull);
+    r_xm = away(a_2, 32ull);
     r_sz = (a_3 == 0u);
     if (r_sz) goto l_then_ha;
     goto l_else_6q;
@@ -4973,11 +5048,11 @@ l_arm_lc:;
     if (((u64)(r_9h >> 3ull) & 0xffffffffull) < (r_ij + (u64)r_gx)) { r_10 = 1u; r_kb = 23u; r_n4 = 0u; r_yp = 0ull; goto l_common_9c; }
     if (t_pa) goto l_arm_57;
     if (!(ld8(a_6) == 1u)) goto l_arm_57;
-    r_rq_4 = away(a_6, 8ull);
-    r_52_4 = ld64(r_rq_4);
-    if (r_52_4 < r_ij) { r_10 = 1u; r_kb = 30u; r_n4 = 0u; r_yp = 0ull; goto l_common_9c; }
+    r_rq_3 = away(a_6, 8ull);
+    r_52_3 = ld64(r_rq_3);
+    if (r_52_3 < r_ij) { r_10 = 1u; r_kb = 30u; r_n4 = 0u; r_yp = 0ull; goto l_common_9c; }
     st64(a_6, 1ull);
-    st64(r_rq_4, (r_52_4 - r_ij));
+    st64(r_rq_3, (r_52_3 - r_ij));
     goto l_arm_57;
 l_arm_gv_1:;
     if ((i32)r_5k < (i32)1u) { r_10 = 1u; r_kb = 26u; r_n4 = 0u; r_yp = 0ull; goto l_common_9c; }
@@ -4985,10 +5060,10 @@ l_arm_gv_1:;
     if (t_pa) goto l_arm_kb;
     if (!(ld8(a_6) == 1u)) goto l_arm_kb;
     st64(a_6, 1ull);
-    r_rq_5 = away(a_6, 8ull);
-    r_52_5 = ld64(r_rq_5);
-    if (r_52_5 < r_ij) { r_10 = 1u; r_kb = 30u; r_n4 = 0u; r_yp = 0ull; goto l_common_9c; }
-    st64(r_rq_5, (r_52_5 - r_ij));
+    r_rq_4 = away(a_6, 8ull);
+    r_52_4 = ld64(r_rq_4);
+    if (r_52_4 < r_ij) { r_10 = 1u; r_kb = 30u; r_n4 = 0u; r_yp = 0ull; goto l_common_9c; }
+    st64(r_rq_4, (r_52_4 - r_ij));
     goto l_arm_kb;
 l_arm_h9_3:;
     r_v1 = 8ull;
@@ -5007,11 +5082,11 @@ l_capnp_gv:;
     if (((u64)(r_9h >> 3ull) & 0xffffffffull) < (r_c6 + (u64)r_gx)) { r_10 = 1u; r_kb = 23u; r_n4 = 0u; r_yp = 0ull; goto l_common_9c; }
     if (t_pa) goto l_arm_gk_1;
     if (!(ld8(a_6) == 1u)) goto l_arm_gk_1;
-    r_rq_6 = away(a_6, 8ull);
-    r_52_6 = ld64(r_rq_6);
-    if (r_52_6 < r_c6) { r_10 = 1u; r_kb = 30u; r_n4 = 0u; r_yp = 0ull; goto l_common_9c; }
+    r_rq_5 = away(a_6, 8ull);
+    r_52_5 = ld64(r_rq_5);
+    if (r_52_5 < r_c6) { r_10 = 1u; r_kb = 30u; r_n4 = 0u; r_yp = 0ull; goto l_common_9c; }
     st64(a_6, 1ull);
-    st64(r_rq_6, (r_52_6 - r_c6));
+    st64(r_rq_5, (r_52_5 - r_c6));
     goto l_arm_gk_1;
 l_default_e1:;
     UNREACHABLE();
@@ -5033,16 +5108,16 @@ l_capnp_a6:;
     r_yp = 0ull;
     goto l_common_9c;
 l_arm_57:;
-    t_f6_3 = ((u8 *)(uptr)r_27);
+    t_f6_2 = ((u8 *)(uptr)r_27);
     r_4w_2 = (r_5k + 0xffffffffu);
-    r_xm_2 = away(a_2, 32ull);
+    r_xm_1 = away(a_2, 32ull);
     r_sz_1 = (a_3 == 0u);
     if (r_sz_1) goto l_then_1r;
     goto l_else_6q_1;
 l_arm_gt:;
     switch (a_7) {
     case 0u: goto l_arm_n7;
-    case 1u: { r_5k_2 = a_7; r_qp = a_7; r_7u = 0u; r_pz = 0ull; goto l_join_1g; }
+    case 1u: { r_5k_1 = a_7; r_qp = a_7; r_7u = 0u; r_pz = 0ull; goto l_join_1g; }
     case 2u: goto l_arm_qu;
     default: goto l_noarm_e1;
     }
@@ -5055,20 +5130,20 @@ l_common_9c:;
 l_arm_n7:;
     if (!(a_3 == 0u)) goto l_else_6q_2;
     st64(away(ldp(away(a_2, 32ull)), (u64)((u64)a_4 << 3ull)), r_d4);
-    r_5k_2 = 0u;
+    r_5k_1 = 0u;
     r_qp = 0u;
     r_7u = 0u;
     r_pz = 0ull;
     goto l_join_1g;
 l_else_6q_2:;
     capnp_arena_arena_rows_put_word_in_4426f83c3c99ca57(ldp(away(a_2, 80ull)), ((u64)a_3 + 0xffffffffffffffffull), a_4, r_d4);
-    r_5k_2 = 0u;
+    r_5k_1 = 0u;
     r_qp = 0u;
     r_7u = 0u;
     r_pz = 0ull;
     goto l_join_1g;
 l_arm_qu:;
-    r_5k_2 = 1u;
+    r_5k_1 = 1u;
     r_qp = 34u;
     r_7u = 0u;
     r_pz = 0ull;
@@ -5076,89 +5151,89 @@ l_arm_qu:;
 l_noarm_e1:;
     UNREACHABLE();
 l_arm_e4:;
-    u64 r_24_6 = (u64)r_gx;
-    r_q7_1 = (r_ep & 65535ull);
-    r_lc_6 = (r_q7_1 + r_24_6);
-    r_z6_3 = (u64)(r_q7_1 << 3ull);
-    r_c0_2 = away(t_f6, (u64)(r_24_6 << 3ull));
-    if (r_az < 32u) { r_nm = r_q7_1; goto l_loop_jc; }
+    u64 r_24_2 = (u64)r_gx;
+    r_q7 = (r_ep & 65535ull);
+    r_lc_2 = (r_q7 + r_24_2);
+    r_z6 = (u64)(r_q7 << 3ull);
+    r_c0_1 = away(t_f6, (u64)(r_24_2 << 3ull));
+    if (r_az < 32u) { r_nm = r_q7; goto l_loop_jc; }
     goto l_else_wj;
 l_loop_jc:;
     if (r_nm == 0ull) { r_ev = 0ull; goto l_capnp_fc; }
-    u64 r_0f_1 = (r_nm + 0xffffffffffffffffull);
-    if (ld64(away(r_c0_2, (u64)(r_0f_1 << 3ull))) == 0ull) { r_nm = r_0f_1; goto l_loop_jc; }
+    u64 r_0f = (r_nm + 0xffffffffffffffffull);
+    if (ld64(away(r_c0_1, (u64)(r_0f << 3ull))) == 0ull) { r_nm = r_0f; goto l_loop_jc; }
     r_ev = r_nm;
     goto l_capnp_fc;
 l_else_wj:;
-    if (!(ld64(away(away(r_c0_2, r_z6_3), 0xfffffffffffffff8ull)) == 0ull)) { r_ev = r_q7_1; goto l_capnp_fc; }
-    u64 r_g1 = capnp_words_lanes_used_words_bound(r_c0_2, r_z6_3);
+    if (!(ld64(away(away(r_c0_1, r_z6), 0xfffffffffffffff8ull)) == 0ull)) { r_ev = r_q7; goto l_capnp_fc; }
+    u64 r_g1 = capnp_words_lanes_used_words_bound(r_c0_1, r_z6);
     r_nm_1 = r_g1;
 l_loop_jc_1:;
     if (r_nm_1 == 0ull) { r_ev = 0ull; goto l_capnp_fc; }
-    u64 r_0f_2 = (r_nm_1 + 0xffffffffffffffffull);
-    if (ld64(away(r_c0_2, (u64)(r_0f_2 << 3ull))) == 0ull) { r_nm_1 = r_0f_2; goto l_loop_jc_1; }
+    u64 r_0f_1 = (r_nm_1 + 0xffffffffffffffffull);
+    if (ld64(away(r_c0_1, (u64)(r_0f_1 << 3ull))) == 0ull) { r_nm_1 = r_0f_1; goto l_loop_jc_1; }
     r_ev = r_nm_1;
 l_capnp_fc:;
-    r_z6_6 = (u64)(r_y6 << 3ull);
-    r_c0_3 = away(t_f6, (u64)(r_lc_6 << 3ull));
+    r_z6_1 = (u64)(r_y6 << 3ull);
+    r_c0_2 = away(t_f6, (u64)(r_lc_2 << 3ull));
     if (r_d4 < 0x20000000000000ull) { r_nm_2 = r_y6; goto l_loop_jc_2; }
     goto l_else_wj_1;
 l_loop_jc_2:;
-    if (r_nm_2 == 0ull) { r_e9_6 = 0ull; goto l_capnp_dt; }
-    u64 r_0f_3 = (r_nm_2 + 0xffffffffffffffffull);
-    if (ld64(away(r_c0_3, (u64)(r_0f_3 << 3ull))) == 0ull) { r_nm_2 = r_0f_3; goto l_loop_jc_2; }
-    r_e9_6 = r_nm_2;
+    if (r_nm_2 == 0ull) { r_e9 = 0ull; goto l_capnp_dt; }
+    u64 r_0f_2 = (r_nm_2 + 0xffffffffffffffffull);
+    if (ld64(away(r_c0_2, (u64)(r_0f_2 << 3ull))) == 0ull) { r_nm_2 = r_0f_2; goto l_loop_jc_2; }
+    r_e9 = r_nm_2;
     goto l_capnp_dt;
 l_else_wj_1:;
-    if (!(ld64(away(away(r_c0_3, r_z6_6), 0xfffffffffffffff8ull)) == 0ull)) { r_e9_6 = r_y6; goto l_capnp_dt; }
-    u64 r_g1_1 = capnp_words_lanes_used_words_bound(r_c0_3, r_z6_6);
+    if (!(ld64(away(away(r_c0_2, r_z6_1), 0xfffffffffffffff8ull)) == 0ull)) { r_e9 = r_y6; goto l_capnp_dt; }
+    u64 r_g1_1 = capnp_words_lanes_used_words_bound(r_c0_2, r_z6_1);
     r_nm_3 = r_g1_1;
 l_loop_jc_3:;
-    if (r_nm_3 == 0ull) { r_e9_6 = 0ull; goto l_capnp_dt; }
-    u64 r_0f_4 = (r_nm_3 + 0xffffffffffffffffull);
-    if (ld64(away(r_c0_3, (u64)(r_0f_4 << 3ull))) == 0ull) { r_nm_3 = r_0f_4; goto l_loop_jc_3; }
-    r_e9_6 = r_nm_3;
+    if (r_nm_3 == 0ull) { r_e9 = 0ull; goto l_capnp_dt; }
+    u64 r_0f_3 = (r_nm_3 + 0xffffffffffffffffull);
+    if (ld64(away(r_c0_2, (u64)(r_0f_3 << 3ull))) == 0ull) { r_nm_3 = r_0f_3; goto l_loop_jc_3; }
+    r_e9 = r_nm_3;
 l_capnp_dt:;
     r_ag = r_ev;
-    r_ib = ((u32)r_e9_6 & 65535u);
+    r_ib = ((u32)r_e9 & 65535u);
     goto l_capnp_ed;
 l_arm_ps:;
     r_ag = r_ep;
     r_ib = (u32)r_y6;
 l_capnp_ed:;
-    r_xg_1 = (u16)r_ag;
+    r_xg = (u16)r_ag;
     r_29 = ((u32)r_ag & 65535u);
     r_68_2 = (r_ib + r_29);
     if (!(r_68_2 == 0u)) goto l_join_3p;
     if (!(a_3 == 0u)) goto l_else_6q_3;
-    u64 r_7l_2 = (u64)a_4;
-    st64(away(ldp(away(a_2, 32ull)), (u64)(r_7l_2 << 3ull)), 0xfffffffcull);
+    u64 r_7l = (u64)a_4;
+    st64(away(ldp(away(a_2, 32ull)), (u64)(r_7l << 3ull)), 0xfffffffcull);
     r_ro = 0ull;
-    r_xg_2 = r_7l_2;
+    r_xg_1 = r_7l;
     goto l_capnp_sg;
 l_else_6q_3:;
-    u64 r_7l_3 = (u64)a_3;
-    capnp_arena_arena_rows_put_word_in_4426f83c3c99ca57(ldp(away(a_2, 80ull)), (r_7l_3 + 0xffffffffffffffffull), a_4, 0xfffffffcull);
-    r_ro = r_7l_3;
-    r_xg_2 = (u64)a_4;
+    u64 r_7l_1 = (u64)a_3;
+    capnp_arena_arena_rows_put_word_in_4426f83c3c99ca57(ldp(away(a_2, 80ull)), (r_7l_1 + 0xffffffffffffffffull), a_4, 0xfffffffcull);
+    r_ro = r_7l_1;
+    r_xg_1 = (u64)a_4;
 l_capnp_sg:;
-    r_nu = ((u64)(r_xg_2 << 32ull) | r_ro);
+    r_nu = ((u64)(r_xg_1 << 32ull) | r_ro);
     goto l_arm_zo;
 l_join_3p:;
-    r_xm_5 = away(a_2, 32ull);
+    r_xm_2 = away(a_2, 32ull);
     if (!(a_3 == 0u)) goto l_else_6q_4;
     r_h6 = away(a_2, 64ull);
-    r_yf_2 = ld32(r_h6);
-    r_52_7 = ld64(away(a_2, 40ull));
-    if (((u64)r_yf_2 + (u64)r_68_2) > (u64)((ld64(away(a_2, 56ull)) + r_52_7) >> 3ull)) { r_kw = 0u; r_re = 0u; goto l_join_ax; }
-    r_w0 = (r_yf_2 + r_68_2);
-    r_z6_10 = (u64)((u64)r_w0 << 3ull);
-    if (!(r_52_7 < r_z6_10)) goto l_capnp_9l;
-    capnp_messages_messages_copy_memory_CopySegment_zero_up_to(r_xm_5, r_z6_10);
+    r_yf = ld32(r_h6);
+    r_52_6 = ld64(away(a_2, 40ull));
+    if (((u64)r_yf + (u64)r_68_2) > (u64)((ld64(away(a_2, 56ull)) + r_52_6) >> 3ull)) { r_kw = 0u; r_re = 0u; goto l_join_ax; }
+    r_w0 = (r_yf + r_68_2);
+    r_z6_2 = (u64)((u64)r_w0 << 3ull);
+    if (!(r_52_6 < r_z6_2)) goto l_capnp_9l;
+    capnp_messages_messages_copy_memory_CopySegment_zero_up_to(r_xm_2, r_z6_2);
 l_capnp_9l:;
     st32(r_h6, r_w0);
     r_kw = 1u;
-    r_re = r_yf_2;
+    r_re = r_yf;
 l_join_ax:;
     struct s_i8_i32 t_9l = (struct s_i8_i32){ 0 };
     t_9l.f0 = r_kw;
@@ -5178,56 +5253,56 @@ l_capnp_c2:;
 l_arm_ua:;
     capnp_arena_arena_builder_arena_impl_BuilderArenaImplB_7b1ceaa0(slot_1, a_2, (r_68_2 + 1u));
     if (!(ld8(slot_1) == 0u)) goto l_arm_x3;
-    u32 r_yf_4 = ld32((slot_1 + 4));
+    u32 r_yf_1 = ld32((slot_1 + 4));
     u32 r_e3 = ld32((slot_1 + 8));
-    capnp_arena_arena_builder_arena_impl_BuilderArenaImplB_24b0f4d4(a_2, r_yf_4, r_e3, ((u64)((u64)r_ib << 48ull) | ((u64)(r_ag << 32ull) & 0xffff00000000ull)));
-    capnp_arena_arena_builder_arena_impl_BuilderArenaImplB_24b0f4d4(a_2, a_3, a_4, (((u64)((u64)r_yf_4 << 32ull) | (u64)((u64)r_e3 << 3ull)) | 2ull));
-    r_nu = ((u64)((u64)(r_e3 + 1u) << 32ull) | (u64)r_yf_4);
+    capnp_arena_arena_builder_arena_impl_BuilderArenaImplB_24b0f4d4(a_2, r_yf_1, r_e3, ((u64)((u64)r_ib << 48ull) | ((u64)(r_ag << 32ull) & 0xffff00000000ull)));
+    capnp_arena_arena_builder_arena_impl_BuilderArenaImplB_24b0f4d4(a_2, a_3, a_4, (((u64)((u64)r_yf_1 << 32ull) | (u64)((u64)r_e3 << 3ull)) | 2ull));
+    r_nu = ((u64)((u64)(r_e3 + 1u) << 32ull) | (u64)r_yf_1);
 l_arm_zo:;
-    r_wt_2 = (u32)r_nu;
-    r_ep_4 = (u64)(r_nu >> 32ull);
-    r_4r_4 = (u32)r_ep_4;
+    r_wt = (u32)r_nu;
+    r_ep_2 = (u64)(r_nu >> 32ull);
+    r_4r = (u32)r_ep_2;
     r_0l = ((u64)(r_ag << 3ull) & 0x7fff8ull);
-    r_c0_4 = away(t_f6, (u64)((u64)r_gx << 3ull));
-    if (r_xg_1 == 0u) goto l_capnp_am;
-    r_xm_6 = away(a_2, 32ull);
-    if (!(r_wt_2 == 0u)) goto l_else_h1;
-    r_al = ldp(r_xm_6);
+    r_c0_3 = away(t_f6, (u64)((u64)r_gx << 3ull));
+    if (r_xg == 0u) goto l_capnp_am;
+    r_xm_3 = away(a_2, 32ull);
+    if (!(r_wt == 0u)) goto l_else_h1;
+    r_al = ldp(r_xm_3);
     goto l_capnp_kr;
 l_else_h1:;
-    u8 *r_x5_5 = capnp_arena_arena_rows_Rows_other_mut_4426f83c3c99ca57(r_xm_6, r_wt_2);
-    r_al = r_x5_5;
+    u8 *r_x5 = capnp_arena_arena_rows_Rows_other_mut_4426f83c3c99ca57(r_xm_3, r_wt);
+    r_al = r_x5;
 l_capnp_kr:;
-    r_2b_7 = away(r_al, (u64)(r_ep_4 << 3ull));
-    if (!(r_xg_1 < 8u)) goto l_else_r3;
-    if (!(r_xg_1 > 3u)) goto l_else_1o;
-    mv32(r_2b_7, r_c0_4);
+    r_2b = away(r_al, (u64)(r_ep_2 << 3ull));
+    if (!(r_xg < 8u)) goto l_else_r3;
+    if (!(r_xg > 3u)) goto l_else_1o;
+    mv32(r_2b, r_c0_3);
     u64 r_bh = (r_0l + 0xffffffffffffffe0ull);
-    mv32((r_2b_7 + (i64)(r_bh)), (r_c0_4 + (i64)(r_bh)));
+    mv32((r_2b + (i64)(r_bh)), (r_c0_3 + (i64)(r_bh)));
     goto l_capnp_am;
 l_else_1o:;
-    if (r_xg_1 == 1u) goto l_then_49;
-    mv16(r_2b_7, r_c0_4);
+    if (r_xg == 1u) goto l_then_49;
+    mv16(r_2b, r_c0_3);
     u64 r_8f = (r_0l + 0xfffffffffffffff0ull);
-    mv16((r_2b_7 + (i64)(r_8f)), (r_c0_4 + (i64)(r_8f)));
+    mv16((r_2b + (i64)(r_8f)), (r_c0_3 + (i64)(r_8f)));
     goto l_capnp_am;
 l_then_49:;
-    mv8(r_2b_7, r_c0_4);
+    mv8(r_2b, r_c0_3);
     u64 r_la = (r_0l + 0xfffffffffffffff8ull);
-    mv8((r_2b_7 + (i64)(r_la)), (r_c0_4 + (i64)(r_la)));
+    mv8((r_2b + (i64)(r_la)), (r_c0_3 + (i64)(r_la)));
     goto l_capnp_am;
 l_else_r3:;
-    if (((u64)(uptr)r_2b_7 - (u64)(uptr)r_c0_4) < r_0l) { r_il = 0ull; goto l_join_fh; }
-    memmove_or_none(r_2b_7, r_c0_4, r_0l);
+    if (((u64)(uptr)r_2b - (u64)(uptr)r_c0_3) < r_0l) { r_il = 0ull; goto l_join_fh; }
+    memmove_or_none(r_2b, r_c0_3, r_0l);
     goto l_capnp_am;
 l_join_fh:;
-    st8((r_2b_7 + (i64)(r_il)), ld8((r_c0_4 + (i64)(r_il))));
-    u64 r_c4_3 = (r_il + 1ull);
-    if (!(r_c4_3 == r_0l)) { r_il = r_c4_3; goto l_join_fh; }
+    st8((r_2b + (i64)(r_il)), ld8((r_c0_3 + (i64)(r_il))));
+    u64 r_c4_1 = (r_il + 1ull);
+    if (!(r_c4_1 == r_0l)) { r_il = r_c4_1; goto l_join_fh; }
 l_capnp_am:;
     memset(slot_1, 0u, 24);
     st64((slot_2 + 56), 0ull);
-    if (r_ib == 0u) { r_t8 = 0u; r_hg = 0u; r_lc_8 = 0u; r_nj = 0ull; goto l_capnp_mp; }
+    if (r_ib == 0u) { r_t8 = 0u; r_hg = 0u; r_lc_3 = 0u; r_nj = 0ull; goto l_capnp_mp; }
     st64(slot_2, r_eg);
     stp((slot_2 + 8), r_rv);
     st64((slot_2 + 16), r_qw);
@@ -5237,19 +5312,19 @@ l_capnp_am:;
     st32((slot_2 + 48), (r_az + r_gx));
     st32((slot_2 + 52), 0u);
     st32((slot_2 + 56), r_4w);
-    capnp_copies_copy_children_copy_children_out_of_line_f_b6070b37(slot_1, a_2, r_wt_2, (r_29 + r_4r_4), slot_2, r_ib, a_6, a_7);
+    capnp_copies_copy_children_copy_children_out_of_line_f_b6070b37(slot_1, a_2, r_wt, (r_29 + r_4r), slot_2, r_ib, a_6, a_7);
     r_t8 = ld8(slot_1);
     r_hg = ld8((slot_1 + 8));
-    r_lc_8 = ld32((slot_1 + 12));
+    r_lc_3 = ld32((slot_1 + 12));
     r_nj = ld64((slot_1 + 16));
 l_capnp_mp:;
-    r_5k_2 = r_t8;
+    r_5k_1 = r_t8;
     r_qp = r_hg;
-    r_7u = r_lc_8;
+    r_7u = r_lc_3;
     r_pz = r_nj;
     goto l_join_1g;
 l_arm_x3:;
-    r_5k_2 = 1u;
+    r_5k_1 = 1u;
     r_qp = ld8((slot_1 + 8));
     r_7u = ld32((slot_1 + 12));
     r_pz = ld64((slot_1 + 16));
@@ -5263,7 +5338,7 @@ l_arm_kb:;
     r_kz = 0ull;
     goto l_capnp_rj;
 l_arm_gk_1:;
-    t_f6_5 = ((u8 *)(uptr)r_27);
+    t_f6_3 = ((u8 *)(uptr)r_27);
     switch (switch_wl) {
     case 5u: goto l_capnp_9l_1;
     case 4u: goto l_capnp_vt;
@@ -5276,7 +5351,7 @@ l_capnp_3m:;
     u64 r_c6_1 = (u64)((r_ij + 63ull) >> 6ull);
     r_yo = 1ull;
     r_tw = switch_wl;
-    r_l2 = away(t_f6_5, (u64)((u64)r_gx << 3ull));
+    r_l2 = away(t_f6_3, (u64)((u64)r_gx << 3ull));
     r_nm_4 = (u64)(r_c6_1 << 3ull);
     r_61 = r_c6_1;
     r_kz = 1ull;
@@ -5285,7 +5360,7 @@ l_capnp_qf:;
     u64 r_c6_2 = (u64)(((u64)(r_ij << 3ull) + 63ull) >> 6ull);
     r_yo = 2ull;
     r_tw = switch_wl;
-    r_l2 = away(t_f6_5, (u64)((u64)r_gx << 3ull));
+    r_l2 = away(t_f6_3, (u64)((u64)r_gx << 3ull));
     r_nm_4 = (u64)(r_c6_2 << 3ull);
     r_61 = r_c6_2;
     r_kz = 8ull;
@@ -5294,7 +5369,7 @@ l_capnp_3x:;
     u64 r_c6_3 = (u64)(((u64)(r_ij << 4ull) + 63ull) >> 6ull);
     r_yo = 3ull;
     r_tw = switch_wl;
-    r_l2 = away(t_f6_5, (u64)((u64)r_gx << 3ull));
+    r_l2 = away(t_f6_3, (u64)((u64)r_gx << 3ull));
     r_nm_4 = (u64)(r_c6_3 << 3ull);
     r_61 = r_c6_3;
     r_kz = 16ull;
@@ -5303,7 +5378,7 @@ l_capnp_vt:;
     u64 r_c6_4 = (u64)(((u64)(r_ij << 5ull) + 63ull) >> 6ull);
     r_yo = 4ull;
     r_tw = switch_wl;
-    r_l2 = away(t_f6_5, (u64)((u64)r_gx << 3ull));
+    r_l2 = away(t_f6_3, (u64)((u64)r_gx << 3ull));
     r_nm_4 = (u64)(r_c6_4 << 3ull);
     r_61 = r_c6_4;
     r_kz = 32ull;
@@ -5311,7 +5386,7 @@ l_capnp_vt:;
 l_capnp_9l_1:;
     r_yo = 5ull;
     r_tw = switch_wl;
-    r_l2 = away(t_f6_5, (u64)((u64)r_gx << 3ull));
+    r_l2 = away(t_f6_3, (u64)((u64)r_gx << 3ull));
     r_nm_4 = (u64)(r_ij << 3ull);
     r_61 = r_ij;
     r_kz = 64ull;
@@ -5320,23 +5395,23 @@ l_noarm_e1_1:;
     UNREACHABLE();
 l_capnp_rj:;
     r_se = (u64)(((r_kz * r_ij) + 63ull) >> 6ull);
-    r_12_3 = (u32)r_se;
+    r_12_2 = (u32)r_se;
     t_0f = (r_61 + 0xffffffffffffffffull);
-    r_xm_7 = away(a_2, 32ull);
-    r_sz_5 = (a_3 == 0u);
-    if (!r_sz_5) goto l_else_6q_5;
+    r_xm_4 = away(a_2, 32ull);
+    r_sz_2 = (a_3 == 0u);
+    if (!r_sz_2) goto l_else_6q_5;
     r_h6_1 = away(a_2, 64ull);
-    r_yf_5 = ld32(r_h6_1);
-    r_52_9 = ld64(away(a_2, 40ull));
-    if ((r_se + (u64)r_yf_5) > (u64)((ld64(away(a_2, 56ull)) + r_52_9) >> 3ull)) { r_kw_1 = 0u; r_re_1 = 0u; goto l_join_ax_1; }
-    r_w0_3 = (r_yf_5 + r_12_3);
-    r_z6_26 = (u64)((u64)r_w0_3 << 3ull);
-    if (!(r_52_9 < r_z6_26)) goto l_capnp_9l_2;
-    capnp_messages_messages_copy_memory_CopySegment_zero_up_to(r_xm_7, r_z6_26);
+    r_yf_2 = ld32(r_h6_1);
+    r_52_7 = ld64(away(a_2, 40ull));
+    if ((r_se + (u64)r_yf_2) > (u64)((ld64(away(a_2, 56ull)) + r_52_7) >> 3ull)) { r_kw_1 = 0u; r_re_1 = 0u; goto l_join_ax_1; }
+    r_w0_1 = (r_yf_2 + r_12_2);
+    r_z6_3 = (u64)((u64)r_w0_1 << 3ull);
+    if (!(r_52_7 < r_z6_3)) goto l_capnp_9l_2;
+    capnp_messages_messages_copy_memory_CopySegment_zero_up_to(r_xm_4, r_z6_3);
 l_capnp_9l_2:;
-    st32(r_h6_1, r_w0_3);
+    st32(r_h6_1, r_w0_1);
     r_kw_1 = 1u;
-    r_re_1 = r_yf_5;
+    r_re_1 = r_yf_2;
 l_join_ax_1:;
     struct s_i8_i32 t_9l_1 = (struct s_i8_i32){ 0 };
     t_9l_1.f0 = r_kw_1;
@@ -5345,14 +5420,14 @@ l_join_ax_1:;
     r_jz_1 = t_3s_1;
     goto l_capnp_c2_1;
 l_else_6q_5:;
-    struct s_i8_i32 r_tu_1 = capnp_arena_arena_rows_allocate_in_4426f83c3c99ca57(ldp(away(a_2, 80ull)), ((u64)a_3 + 0xffffffffffffffffull), r_12_3);
+    struct s_i8_i32 r_tu_1 = capnp_arena_arena_rows_allocate_in_4426f83c3c99ca57(ldp(away(a_2, 80ull)), ((u64)a_3 + 0xffffffffffffffffull), r_12_2);
     r_jz_1 = r_tu_1;
 l_capnp_c2_1:;
     if (!(r_jz_1.f0 == 1u)) goto l_arm_ua_1;
     r_xo_1 = r_jz_1.f1;
     r_wf = ((((r_d4 & 0xfffffff800000000ull) | (u64)((u64)r_tw << 32ull)) | (u64)(u32)((r_xo_1 + (a_4 ^ 0xffffffffu)) << 2u)) | 1ull);
-    if (!r_sz_5) goto l_else_6q_6;
-    st64(away(ldp(r_xm_7), (u64)((u64)a_4 << 3ull)), r_wf);
+    if (!r_sz_2) goto l_else_6q_6;
+    st64(away(ldp(r_xm_4), (u64)((u64)a_4 << 3ull)), r_wf);
     r_5z = r_xo_1;
     r_qb = 0u;
     goto l_switch_tz;
@@ -5362,78 +5437,78 @@ l_else_6q_6:;
     r_qb = a_3;
     goto l_switch_tz;
 l_arm_ua_1:;
-    capnp_arena_arena_builder_arena_impl_BuilderArenaImplB_7b1ceaa0(slot_1, a_2, (r_12_3 + 1u));
+    capnp_arena_arena_builder_arena_impl_BuilderArenaImplB_7b1ceaa0(slot_1, a_2, (r_12_2 + 1u));
     if (!(ld8(slot_1) == 0u)) goto l_arm_x3_1;
-    u32 r_yf_8 = ld32((slot_1 + 4));
+    u32 r_yf_3 = ld32((slot_1 + 4));
     u32 r_e3_1 = ld32((slot_1 + 8));
-    capnp_arena_arena_builder_arena_impl_BuilderArenaImplB_24b0f4d4(a_2, r_yf_8, r_e3_1, (((r_d4 & 0xfffffff800000000ull) | (u64)((u64)r_tw << 32ull)) | 1ull));
-    capnp_arena_arena_builder_arena_impl_BuilderArenaImplB_24b0f4d4(a_2, a_3, a_4, (((u64)((u64)r_yf_8 << 32ull) | (u64)((u64)r_e3_1 << 3ull)) | 2ull));
+    capnp_arena_arena_builder_arena_impl_BuilderArenaImplB_24b0f4d4(a_2, r_yf_3, r_e3_1, (((r_d4 & 0xfffffff800000000ull) | (u64)((u64)r_tw << 32ull)) | 1ull));
+    capnp_arena_arena_builder_arena_impl_BuilderArenaImplB_24b0f4d4(a_2, a_3, a_4, (((u64)((u64)r_yf_3 << 32ull) | (u64)((u64)r_e3_1 << 3ull)) | 2ull));
     r_5z = (r_e3_1 + 1u);
-    r_qb = r_yf_8;
+    r_qb = r_yf_3;
 l_switch_tz:;
     r_1q = (ld64((((u8 *)switch_table_capnp_copies_copy_copy_object_f743e1513b93edc7) + (i64)(8 * r_yo))) * r_ij);
     if (r_nm_4 == 0ull) goto l_capnp_6p;
     if (!(r_qb == 0u)) goto l_else_h1_1;
-    r_rk = ldp(r_xm_7);
+    r_rk = ldp(r_xm_4);
     goto l_capnp_3u;
 l_else_h1_1:;
-    u8 *r_x5_10 = capnp_arena_arena_rows_Rows_other_mut_4426f83c3c99ca57(r_xm_7, r_qb);
-    r_rk = r_x5_10;
+    u8 *r_x5_1 = capnp_arena_arena_rows_Rows_other_mut_4426f83c3c99ca57(r_xm_4, r_qb);
+    r_rk = r_x5_1;
 l_capnp_3u:;
-    r_2b_9 = away(r_rk, (u64)((u64)r_5z << 3ull));
+    r_2b_1 = away(r_rk, (u64)((u64)r_5z << 3ull));
     if (!(r_nm_4 < 64ull)) goto l_else_r3_1;
     if (!(r_nm_4 > 31ull)) goto l_else_dg;
-    mv32(r_2b_9, r_l2);
-    u64 r_bh_2 = (r_nm_4 + 0xffffffffffffffe0ull);
-    mv32((r_2b_9 + (i64)(r_bh_2)), (r_l2 + (i64)(r_bh_2)));
+    mv32(r_2b_1, r_l2);
+    u64 r_bh_1 = (r_nm_4 + 0xffffffffffffffe0ull);
+    mv32((r_2b_1 + (i64)(r_bh_1)), (r_l2 + (i64)(r_bh_1)));
     goto l_capnp_6p;
 l_else_dg:;
     if (!(r_nm_4 > 15ull)) goto l_then_49_1;
-    mv16(r_2b_9, r_l2);
+    mv16(r_2b_1, r_l2);
     u64 r_8f_1 = (r_nm_4 + 0xfffffffffffffff0ull);
-    mv16((r_2b_9 + (i64)(r_8f_1)), (r_l2 + (i64)(r_8f_1)));
+    mv16((r_2b_1 + (i64)(r_8f_1)), (r_l2 + (i64)(r_8f_1)));
     goto l_capnp_6p;
 l_then_49_1:;
-    mv8(r_2b_9, r_l2);
+    mv8(r_2b_1, r_l2);
     u64 r_la_1 = (r_nm_4 + 0xfffffffffffffff8ull);
-    mv8((r_2b_9 + (i64)(r_la_1)), (r_l2 + (i64)(r_la_1)));
+    mv8((r_2b_1 + (i64)(r_la_1)), (r_l2 + (i64)(r_la_1)));
     goto l_capnp_6p;
 l_else_r3_1:;
-    if (((u64)(uptr)r_2b_9 - (u64)(uptr)r_l2) < r_nm_4) { r_il_1 = 0ull; goto l_join_fh_1; }
-    memmove_or_none(r_2b_9, r_l2, r_nm_4);
+    if (((u64)(uptr)r_2b_1 - (u64)(uptr)r_l2) < r_nm_4) { r_il_1 = 0ull; goto l_join_fh_1; }
+    memmove_or_none(r_2b_1, r_l2, r_nm_4);
     goto l_capnp_6p;
 l_join_fh_1:;
-    st8((r_2b_9 + (i64)(r_il_1)), ld8((r_l2 + (i64)(r_il_1))));
-    u64 r_c4_5 = (r_il_1 + 1ull);
-    if (!(r_c4_5 == r_nm_4)) { r_il_1 = r_c4_5; goto l_join_fh_1; }
+    st8((r_2b_1 + (i64)(r_il_1)), ld8((r_l2 + (i64)(r_il_1))));
+    u64 r_c4_2 = (r_il_1 + 1ull);
+    if (!(r_c4_2 == r_nm_4)) { r_il_1 = r_c4_2; goto l_join_fh_1; }
 l_capnp_6p:;
     r_4i = (r_1q & 63ull);
-    if (r_4i == 0ull) { r_5k_2 = 0u; r_qp = 0u; r_7u = 0u; r_pz = 0ull; goto l_join_1g; }
+    if (r_4i == 0ull) { r_5k_1 = 0u; r_qp = 0u; r_7u = 0u; r_pz = 0ull; goto l_join_1g; }
     capnp_arena_arena_builder_arena_impl_BuilderArenaImplB_24b0f4d4(a_2, r_qb, (r_5z + (u32)t_0f), (ld64(away(r_l2, (u64)(t_0f << 3ull))) & ((u64)(0xffffffffffffffffull << (r_4i & 63u)) ^ 0xffffffffffffffffull)));
-    r_5k_2 = 0u;
+    r_5k_1 = 0u;
     r_qp = 0u;
     r_7u = 0u;
     r_pz = 0ull;
     goto l_join_1g;
 l_arm_x3_1:;
-    r_5k_2 = 1u;
+    r_5k_1 = 1u;
     r_qp = ld8((slot_1 + 8));
     r_7u = ld32((slot_1 + 12));
     r_pz = ld64((slot_1 + 16));
     goto l_join_1g;
 l_then_1r:;
     r_h6_2 = away(a_2, 64ull);
-    r_yf_9 = ld32(r_h6_2);
-    r_52_11 = ld64(away(a_2, 40ull));
-    if ((r_ij + (u64)r_yf_9) > (u64)((ld64(away(a_2, 56ull)) + r_52_11) >> 3ull)) { r_kw_2 = 0u; r_re_2 = 0u; goto l_join_ax_2; }
-    r_w0_5 = (r_yf_9 + r_12_1);
-    r_z6_30 = (u64)((u64)r_w0_5 << 3ull);
-    if (!(r_52_11 < r_z6_30)) goto l_capnp_9l_3;
-    capnp_messages_messages_copy_memory_CopySegment_zero_up_to(r_xm_2, r_z6_30);
+    r_yf_4 = ld32(r_h6_2);
+    r_52_8 = ld64(away(a_2, 40ull));
+    if ((r_ij + (u64)r_yf_4) > (u64)((ld64(away(a_2, 56ull)) + r_52_8) >> 3ull)) { r_kw_2 = 0u; r_re_2 = 0u; goto l_join_ax_2; }
+    r_w0_2 = (r_yf_4 + r_12_1);
+    r_z6_4 = (u64)((u64)r_w0_2 << 3ull);
+    if (!(r_52_8 < r_z6_4)) goto l_capnp_9l_3;
+    capnp_messages_messages_copy_memory_CopySegment_zero_up_to(r_xm_1, r_z6_4);
 l_capnp_9l_3:;
-    st32(r_h6_2, r_w0_5);
+    st32(r_h6_2, r_w0_2);
     r_kw_2 = 1u;
-    r_re_2 = r_yf_9;
+    r_re_2 = r_yf_4;
 l_join_ax_2:;
     struct s_i8_i32 t_9l_2 = (struct s_i8_i32){ 0 };
     t_9l_2.f0 = r_kw_2;
@@ -5449,130 +5524,130 @@ l_capnp_c2_2:;
     r_xo_2 = r_jz_2.f1;
     r_bq = (((r_d4 & 0xfffffff800000000ull) | (u64)(u32)((r_xo_2 + (a_4 ^ 0xffffffffu)) << 2u)) | 0x600000001ull);
     if (!r_sz_1) goto l_else_6q_7;
-    st64(away(ldp(r_xm_2), (u64)((u64)a_4 << 3ull)), r_bq);
-    r_es_5 = r_xo_2;
+    st64(away(ldp(r_xm_1), (u64)((u64)a_4 << 3ull)), r_bq);
+    r_es = r_xo_2;
     r_0i = 0u;
     goto l_arm_3e;
 l_else_6q_7:;
     capnp_arena_arena_rows_put_word_in_4426f83c3c99ca57(ldp(away(a_2, 80ull)), ((u64)a_3 + 0xffffffffffffffffull), a_4, r_bq);
-    r_es_5 = r_xo_2;
+    r_es = r_xo_2;
     r_0i = a_3;
     goto l_arm_3e;
 l_arm_ua_2:;
     capnp_arena_arena_builder_arena_impl_BuilderArenaImplB_7b1ceaa0(slot_1, a_2, (r_12_1 + 1u));
     if (!(ld8(slot_1) == 0u)) goto l_arm_x3_2;
-    u32 r_yf_12 = ld32((slot_1 + 4));
+    u32 r_yf_5 = ld32((slot_1 + 4));
     u32 r_e3_2 = ld32((slot_1 + 8));
-    capnp_arena_arena_builder_arena_impl_BuilderArenaImplB_24b0f4d4(a_2, r_yf_12, r_e3_2, ((r_d4 & 0xfffffff800000000ull) | 0x600000001ull));
-    capnp_arena_arena_builder_arena_impl_BuilderArenaImplB_24b0f4d4(a_2, a_3, a_4, (((u64)((u64)r_yf_12 << 32ull) | (u64)((u64)r_e3_2 << 3ull)) | 2ull));
-    r_es_5 = (r_e3_2 + 1u);
-    r_0i = r_yf_12;
+    capnp_arena_arena_builder_arena_impl_BuilderArenaImplB_24b0f4d4(a_2, r_yf_5, r_e3_2, ((r_d4 & 0xfffffff800000000ull) | 0x600000001ull));
+    capnp_arena_arena_builder_arena_impl_BuilderArenaImplB_24b0f4d4(a_2, a_3, a_4, (((u64)((u64)r_yf_5 << 32ull) | (u64)((u64)r_e3_2 << 3ull)) | 2ull));
+    r_es = (r_e3_2 + 1u);
+    r_0i = r_yf_5;
 l_arm_3e:;
-    if (r_ij == 0ull) { r_5k_2 = 0u; r_qp = 0u; r_7u = 0u; r_pz = 0ull; goto l_join_1g; }
-    r_gw_9 = (u64)(r_9h >> 3ull);
-    r_x5_13 = (slot_4 + 8);
-    r_zd_6 = (slot_4 + 16);
-    r_lk_3 = (slot_4 + 24);
-    r_89_3 = (slot_4 + 32);
-    r_a8_3 = (slot_4 + 40);
-    r_c4_6 = (slot_4 + 48);
-    r_6c_2 = (slot_4 + 56);
-    r_08_3 = away(a_6, 16ull);
-    r_nb_7 = (r_gw_9 & 0xffffffffull);
+    if (r_ij == 0ull) { r_5k_1 = 0u; r_qp = 0u; r_7u = 0u; r_pz = 0ull; goto l_join_1g; }
+    r_gw_2 = (u64)(r_9h >> 3ull);
+    r_x5_2 = (slot_4 + 8);
+    r_zd = (slot_4 + 16);
+    r_lk = (slot_4 + 24);
+    r_89 = (slot_4 + 32);
+    r_a8 = (slot_4 + 40);
+    r_c4_3 = (slot_4 + 48);
+    r_6c = (slot_4 + 56);
+    r_08_1 = away(a_6, 16ull);
+    r_nb_1 = (r_gw_2 & 0xffffffffull);
     r_sg = (r_5k == 1u);
-    r_rq_8 = away(a_6, 8ull);
-    r_x5_14 = (slot_3 + 8);
-    r_k0_3 = (slot_3 + 12);
-    r_zd_7 = (slot_3 + 16);
+    r_rq_6 = away(a_6, 8ull);
+    r_x5_3 = (slot_3 + 8);
+    r_k0 = (slot_3 + 12);
+    r_zd_1 = (slot_3 + 16);
     r_s1 = (r_5k + 0xfffffffeu);
-    t_q5_1 = (a_7 == 1u);
-    r_x5_15 = (slot_1 + 8);
-    r_k0_4 = (slot_1 + 12);
-    r_zd_8 = (slot_1 + 16);
-    r_ix_3 = (slot_1 + 4);
-    r_x5_16 = (slot_2 + 8);
-    r_zd_9 = (slot_2 + 16);
-    r_lk_4 = (slot_2 + 24);
-    r_89_4 = (slot_2 + 32);
-    r_a8_4 = (slot_2 + 40);
-    r_c4_7 = (slot_2 + 48);
-    r_bk_2 = (slot_2 + 52);
-    r_6c_3 = (slot_2 + 56);
-    r_x5_17 = (slot_1 + 8);
-    r_k0_5 = (slot_1 + 12);
-    r_zd_10 = (slot_1 + 16);
-    t_0c_4 = (r_dh == 0u);
-    r_2p_4 = (r_0i == 0u);
-    r_yf_13 = away(a_2, 80ull);
-    r_0f_11 = ((u64)r_0i + 0xffffffffffffffffull);
+    t_q5 = (a_7 == 1u);
+    r_x5_4 = (slot_1 + 8);
+    r_k0_1 = (slot_1 + 12);
+    r_zd_2 = (slot_1 + 16);
+    r_ix = (slot_1 + 4);
+    r_x5_5 = (slot_2 + 8);
+    r_zd_3 = (slot_2 + 16);
+    r_lk_1 = (slot_2 + 24);
+    r_89_1 = (slot_2 + 32);
+    r_a8_1 = (slot_2 + 40);
+    r_c4_4 = (slot_2 + 48);
+    r_bk = (slot_2 + 52);
+    r_6c_1 = (slot_2 + 56);
+    r_x5_6 = (slot_1 + 8);
+    r_k0_2 = (slot_1 + 12);
+    r_zd_4 = (slot_1 + 16);
+    t_0c = (r_dh == 0u);
+    r_2p = (r_0i == 0u);
+    r_yf_6 = away(a_2, 80ull);
+    r_0f_4 = ((u64)r_0i + 0xffffffffffffffffull);
     r_h6_3 = away(a_2, 64ull);
-    r_su_4 = away(a_2, 40ull);
-    r_r2_4 = away(a_2, 56ull);
-    r_x5_18 = (slot_1 + 8);
-    r_k0_6 = (slot_1 + 12);
-    r_zd_11 = (slot_1 + 16);
-    r_ix_4 = (slot_1 + 4);
-    t_6c_2 = (slot_4 + 56);
-    t_6c_3 = (slot_2 + 56);
+    r_su = away(a_2, 40ull);
+    r_r2 = away(a_2, 56ull);
+    r_x5_7 = (slot_1 + 8);
+    r_k0_3 = (slot_1 + 12);
+    r_zd_5 = (slot_1 + 16);
+    r_ix_1 = (slot_1 + 4);
+    t_6c = (slot_4 + 56);
+    t_6c_1 = (slot_2 + 56);
     indvars_eg = 0ull;
     goto l_join_1e;
 l_loop_qw:;
     u64 indvars_r7 = (indvars_eg + 1ull);
-    if (indvars_r7 == r_ij) { r_5k_2 = 0u; r_qp = 0u; r_7u = 0u; r_pz = 0ull; goto l_join_1g; }
+    if (indvars_r7 == r_ij) { r_5k_1 = 0u; r_qp = 0u; r_7u = 0u; r_pz = 0ull; goto l_join_1g; }
     indvars_eg = indvars_r7;
 l_join_1e:;
     u32 t_s7 = (u32)indvars_eg;
-    r_sr_3 = (r_es_5 + t_s7);
-    r_24_31 = (u64)(r_gx + t_s7);
+    r_sr = (r_es + t_s7);
+    r_24_3 = (u64)(r_gx + t_s7);
     memset(slot_3, 0u, 24);
-    st64(t_6c_2, 0ull);
-    if (!(r_gw_9 > r_24_31)) goto l_capnp_v7;
-    r_qw_12 = ld64(away(t_f6_3, (u64)(r_24_31 << 3ull)));
-    if (r_qw_12 == 0ull) goto l_capnp_v7;
-    switch_f9_3 = (r_qw_12 & 3ull);
-    r_ep_5 = (u64)(r_qw_12 >> 32ull);
-    if (!((switch_f9_3 == 1ull) ? ((u8)((u8)((u8)r_ep_5 & 7u) + 255u) < 5u) : 0u)) goto l_join_br;
-    r_ij_1 = (u64)(r_qw_12 >> 35ull);
-    r_c6_5 = (u64)(((ld64(away(away(((u8 *)switch_table_capnp_show_show_objects_read_object_5ccc1_1b90c80b), 8 * (r_ep_5 & 7ull)), 0xfffffffffffffff8ull)) * r_ij_1) + 63ull) >> 6ull);
-    if (!t_0c_4) goto l_join_bd_1;
-    st64(r_08_3, uadd_sat64(ld64(r_08_3), 1ull));
+    st64(t_6c, 0ull);
+    if (!(r_gw_2 > r_24_3)) goto l_capnp_v7;
+    r_qw_5 = ld64(away(t_f6_2, (u64)(r_24_3 << 3ull)));
+    if (r_qw_5 == 0ull) goto l_capnp_v7;
+    switch_f9 = (r_qw_5 & 3ull);
+    r_ep_3 = (u64)(r_qw_5 >> 32ull);
+    if (!((switch_f9 == 1ull) ? ((u8)((u8)((u8)r_ep_3 & 7u) + 255u) < 5u) : 0u)) goto l_join_br;
+    r_ij_1 = (u64)(r_qw_5 >> 35ull);
+    r_c6_5 = (u64)(((ld64(away(away(((u8 *)switch_table_capnp_show_show_objects_read_object_5ccc1_1b90c80b), 8 * (r_ep_3 & 7ull)), 0xfffffffffffffff8ull)) * r_ij_1) + 63ull) >> 6ull);
+    if (!t_0c) goto l_join_bd_1;
+    st64(r_08_1, uadd_sat64(ld64(r_08_1), 1ull));
 l_join_bd_1:;
-    u64 r_m6_1 = ((u64)(r_qw_12 >> 2ull) & 0x3fffffffull);
-    r_lc_11 = ((r_24_31 + 1ull) + r_m6_1);
+    u64 r_m6_1 = ((u64)(r_qw_5 >> 2ull) & 0x3fffffffull);
+    r_lc_4 = ((r_24_3 + 1ull) + r_m6_1);
     if (!(r_m6_1 < 0x20000000ull)) goto l_else_70_1;
-    if (r_lc_11 > r_nb_7) { r_t8_1 = 23u; r_hg_1 = 0u; r_lc_12 = 0ull; goto l_capnp_mp_1; }
-    r_gk = r_lc_11;
+    if (r_lc_4 > r_nb_1) { r_t8_1 = 23u; r_hg_1 = 0u; r_lc_5 = 0ull; goto l_capnp_mp_1; }
+    r_gk = r_lc_4;
     goto l_arm_vo;
 l_else_70_1:;
-    u64 r_3o_1 = (r_lc_11 + 0xffffffffc0000000ull);
-    if ((r_lc_11 < 0x40000000ull) ? 1u : (r_3o_1 > r_nb_7)) { r_t8_1 = 23u; r_hg_1 = 0u; r_lc_12 = 0ull; goto l_capnp_mp_1; }
+    u64 r_3o_1 = (r_lc_4 + 0xffffffffc0000000ull);
+    if ((r_lc_4 < 0x40000000ull) ? 1u : (r_3o_1 > r_nb_1)) { r_t8_1 = 23u; r_hg_1 = 0u; r_lc_5 = 0ull; goto l_capnp_mp_1; }
     r_gk = r_3o_1;
 l_arm_vo:;
-    if (r_sg) { r_t8_1 = 26u; r_hg_1 = 0u; r_lc_12 = 0ull; goto l_capnp_mp_1; }
-    if (r_nb_7 < (r_gk + r_c6_5)) { r_t8_1 = 23u; r_hg_1 = 0u; r_lc_12 = 0ull; goto l_capnp_mp_1; }
-    if (!t_0c_4) goto l_arm_p5;
+    if (r_sg) { r_t8_1 = 26u; r_hg_1 = 0u; r_lc_5 = 0ull; goto l_capnp_mp_1; }
+    if (r_nb_1 < (r_gk + r_c6_5)) { r_t8_1 = 23u; r_hg_1 = 0u; r_lc_5 = 0ull; goto l_capnp_mp_1; }
+    if (!t_0c) goto l_arm_p5;
     if (!(ld8(a_6) == 1u)) goto l_arm_p5;
-    r_52_14 = ld64(r_rq_8);
-    if (r_52_14 < r_c6_5) { r_t8_1 = 30u; r_hg_1 = 0u; r_lc_12 = 0ull; goto l_capnp_mp_1; }
+    r_52_9 = ld64(r_rq_6);
+    if (r_52_9 < r_c6_5) { r_t8_1 = 30u; r_hg_1 = 0u; r_lc_5 = 0ull; goto l_capnp_mp_1; }
     st64(a_6, 1ull);
-    st64(r_rq_8, (r_52_14 - r_c6_5));
+    st64(r_rq_6, (r_52_9 - r_c6_5));
 l_arm_p5:;
-    r_z6_34 = (u64)(r_c6_5 << 3ull);
-    r_8a = away(t_f6_3, (u64)(r_gk << 3ull));
-    r_se_1 = (u64)(((ld64(away(away(((u8 *)switch_table_capnp_show_show_objects_read_object_5ccc1_1b90c80b), 8 * (r_ep_5 & 7ull)), 0xfffffffffffffff8ull)) * r_ij_1) + 63ull) >> 6ull);
-    r_12_4 = (u32)r_se_1;
-    if (!r_2p_4) goto l_else_xr;
-    r_yf_14 = ld32(r_h6_3);
-    r_52_15 = ld64(r_su_4);
-    if ((r_se_1 + (u64)r_yf_14) > (u64)((ld64(r_r2_4) + r_52_15) >> 3ull)) { r_kw_3 = 0u; r_re_3 = 0u; goto l_join_ax_3; }
-    r_w0_6 = (r_yf_14 + r_12_4);
-    r_z6_35 = (u64)((u64)r_w0_6 << 3ull);
-    if (!(r_52_15 < r_z6_35)) goto l_capnp_9l_4;
-    capnp_messages_messages_copy_memory_CopySegment_zero_up_to(r_xm_2, r_z6_35);
+    r_z6_5 = (u64)(r_c6_5 << 3ull);
+    r_8a = away(t_f6_2, (u64)(r_gk << 3ull));
+    r_se_1 = (u64)(((ld64(away(away(((u8 *)switch_table_capnp_show_show_objects_read_object_5ccc1_1b90c80b), 8 * (r_ep_3 & 7ull)), 0xfffffffffffffff8ull)) * r_ij_1) + 63ull) >> 6ull);
+    r_12_3 = (u32)r_se_1;
+    if (!r_2p) goto l_else_xr;
+    r_yf_7 = ld32(r_h6_3);
+    r_52_10 = ld64(r_su);
+    if ((r_se_1 + (u64)r_yf_7) > (u64)((ld64(r_r2) + r_52_10) >> 3ull)) { r_kw_3 = 0u; r_re_3 = 0u; goto l_join_ax_3; }
+    r_w0_3 = (r_yf_7 + r_12_3);
+    r_z6_6 = (u64)((u64)r_w0_3 << 3ull);
+    if (!(r_52_10 < r_z6_6)) goto l_capnp_9l_4;
+    capnp_messages_messages_copy_memory_CopySegment_zero_up_to(r_xm_1, r_z6_6);
 l_capnp_9l_4:;
-    st32(r_h6_3, r_w0_6);
+    st32(r_h6_3, r_w0_3);
     r_kw_3 = 1u;
-    r_re_3 = r_yf_14;
+    r_re_3 = r_yf_7;
 l_join_ax_3:;
     struct s_i8_i32 t_9l_3 = (struct s_i8_i32){ 0 };
     t_9l_3.f0 = r_kw_3;
@@ -5581,75 +5656,75 @@ l_join_ax_3:;
     r_pp = t_3s_3;
     goto l_capnp_h1;
 l_else_xr:;
-    struct s_i8_i32 r_tu_3 = capnp_arena_arena_rows_allocate_in_4426f83c3c99ca57(ldp(r_yf_13), r_0f_11, r_12_4);
+    struct s_i8_i32 r_tu_3 = capnp_arena_arena_rows_allocate_in_4426f83c3c99ca57(ldp(r_yf_6), r_0f_4, r_12_3);
     r_pp = r_tu_3;
 l_capnp_h1:;
     if (!(r_pp.f0 == 1u)) goto l_arm_ua_3;
     u32 r_xo_3 = r_pp.f1;
-    capnp_arena_arena_builder_arena_impl_BuilderArenaImplB_24b0f4d4(a_2, r_0i, r_sr_3, ((r_qw_12 & 0xffffffff00000001ull) | (u64)(u32)((r_xo_3 + (r_sr_3 ^ 0xffffffffu)) << 2u)));
+    capnp_arena_arena_builder_arena_impl_BuilderArenaImplB_24b0f4d4(a_2, r_0i, r_sr, ((r_qw_5 & 0xffffffff00000001ull) | (u64)(u32)((r_xo_3 + (r_sr ^ 0xffffffffu)) << 2u)));
     r_7u_1 = r_xo_3;
     r_x9 = r_0i;
     goto l_arm_fv;
 l_arm_ua_3:;
-    capnp_arena_arena_builder_arena_impl_BuilderArenaImplB_7b1ceaa0(slot_1, a_2, (r_12_4 + 1u));
+    capnp_arena_arena_builder_arena_impl_BuilderArenaImplB_7b1ceaa0(slot_1, a_2, (r_12_3 + 1u));
     if (!(ld8(slot_1) == 0u)) goto l_arm_vh;
-    u32 r_yf_15 = ld32(r_ix_4);
-    u32 r_e3_3 = ld32(r_x5_18);
-    capnp_arena_arena_builder_arena_impl_BuilderArenaImplB_24b0f4d4(a_2, r_yf_15, r_e3_3, (r_qw_12 & 0xffffffff00000001ull));
-    capnp_arena_arena_builder_arena_impl_BuilderArenaImplB_24b0f4d4(a_2, r_0i, r_sr_3, (((u64)((u64)r_yf_15 << 32ull) | (u64)((u64)r_e3_3 << 3ull)) | 2ull));
+    u32 r_yf_8 = ld32(r_ix_1);
+    u32 r_e3_3 = ld32(r_x5_7);
+    capnp_arena_arena_builder_arena_impl_BuilderArenaImplB_24b0f4d4(a_2, r_yf_8, r_e3_3, (r_qw_5 & 0xffffffff00000001ull));
+    capnp_arena_arena_builder_arena_impl_BuilderArenaImplB_24b0f4d4(a_2, r_0i, r_sr, (((u64)((u64)r_yf_8 << 32ull) | (u64)((u64)r_e3_3 << 3ull)) | 2ull));
     r_7u_1 = (r_e3_3 + 1u);
-    r_x9 = r_yf_15;
+    r_x9 = r_yf_8;
 l_arm_fv:;
-    u64 r_1q_3 = (ld64(away(away(((u8 *)switch_table_capnp_show_show_objects_read_object_5ccc1_1b90c80b), 8 * (r_ep_5 & 7ull)), 0xfffffffffffffff8ull)) * r_ij_1);
-    capnp_arena_traits_arena_writing_copy_words_4072c0e2a627e5d6(a_2, r_x9, r_7u_1, r_8a, r_z6_34);
-    r_4i_1 = (r_1q_3 & 63ull);
+    u64 r_1q_1 = (ld64(away(away(((u8 *)switch_table_capnp_show_show_objects_read_object_5ccc1_1b90c80b), 8 * (r_ep_3 & 7ull)), 0xfffffffffffffff8ull)) * r_ij_1);
+    capnp_arena_traits_arena_writing_copy_words_4072c0e2a627e5d6(a_2, r_x9, r_7u_1, r_8a, r_z6_5);
+    r_4i_1 = (r_1q_1 & 63ull);
     if (r_4i_1 == 0ull) goto l_capnp_v7;
-    u64 r_0f_12 = (r_c6_5 + 0xffffffffffffffffull);
-    capnp_arena_arena_builder_arena_impl_BuilderArenaImplB_24b0f4d4(a_2, r_x9, (r_7u_1 + (u32)r_0f_12), (ld64(away(r_8a, (u64)(r_0f_12 << 3ull))) & ((u64)(0xffffffffffffffffull << (r_4i_1 & 63u)) ^ 0xffffffffffffffffull)));
+    u64 r_0f_5 = (r_c6_5 + 0xffffffffffffffffull);
+    capnp_arena_arena_builder_arena_impl_BuilderArenaImplB_24b0f4d4(a_2, r_x9, (r_7u_1 + (u32)r_0f_5), (ld64(away(r_8a, (u64)(r_0f_5 << 3ull))) & ((u64)(0xffffffffffffffffull << (r_4i_1 & 63u)) ^ 0xffffffffffffffffull)));
     goto l_capnp_v7;
 l_arm_vh:;
-    r_t8_1 = ld8(r_x5_18);
-    r_hg_1 = ld32(r_k0_6);
-    r_lc_12 = ld64(r_zd_11);
+    r_t8_1 = ld8(r_x5_7);
+    r_hg_1 = ld32(r_k0_3);
+    r_lc_5 = ld64(r_zd_5);
     goto l_capnp_mp_1;
 l_join_br:;
-    if (!(switch_f9_3 == 0ull)) goto l_else_4r;
-    r_y6_2 = (u64)(r_qw_12 >> 48ull);
-    r_q7_2 = (r_ep_5 & 65535ull);
-    r_lc_15 = (r_q7_2 + r_y6_2);
+    if (!(switch_f9 == 0ull)) goto l_else_4r;
+    r_y6_2 = (u64)(r_qw_5 >> 48ull);
+    r_q7_1 = (r_ep_3 & 65535ull);
+    r_lc_6 = (r_q7_1 + r_y6_2);
     if (t_pa) goto l_join_o1;
-    st64(r_08_3, uadd_sat64(ld64(r_08_3), 1ull));
+    st64(r_08_1, uadd_sat64(ld64(r_08_1), 1ull));
 l_join_o1:;
-    u64 r_m6_2 = ((u64)(r_qw_12 >> 2ull) & 0x3fffffffull);
-    r_lc_16 = ((r_24_31 + 1ull) + r_m6_2);
+    u64 r_m6_2 = ((u64)(r_qw_5 >> 2ull) & 0x3fffffffull);
+    r_lc_7 = ((r_24_3 + 1ull) + r_m6_2);
     if (!(r_m6_2 < 0x20000000ull)) goto l_else_70_2;
-    if (r_lc_16 > r_nb_7) { r_t8_2 = 23u; goto l_capnp_mp_2; }
-    r_jm = r_lc_16;
+    if (r_lc_7 > r_nb_1) { r_t8_2 = 23u; goto l_capnp_mp_2; }
+    r_jm = r_lc_7;
     goto l_arm_h8;
 l_else_70_2:;
-    u64 r_3o_2 = (r_lc_16 + 0xffffffffc0000000ull);
-    if ((r_lc_16 < 0x40000000ull) ? 1u : (r_3o_2 > r_nb_7)) { r_t8_2 = 23u; goto l_capnp_mp_2; }
+    u64 r_3o_2 = (r_lc_7 + 0xffffffffc0000000ull);
+    if ((r_lc_7 < 0x40000000ull) ? 1u : (r_3o_2 > r_nb_1)) { r_t8_2 = 23u; goto l_capnp_mp_2; }
     r_jm = r_3o_2;
 l_arm_h8:;
-    r_4r_5 = (u32)r_jm;
+    r_4r_1 = (u32)r_jm;
     if (r_sg) { r_t8_2 = 26u; goto l_capnp_mp_2; }
-    r_8u_7 = (r_nb_7 < (r_jm + r_lc_15));
-    if ((u8)((u8)t_pa | (u8)r_8u_7)) goto l_capnp_li;
-    if (!(ld8(a_6) == 1u)) { r_5b = r_4r_5; goto l_arm_7a; }
-    r_52_18 = ld64(r_rq_8);
-    if (r_52_18 < r_lc_15) { r_t8_2 = 30u; goto l_capnp_mp_2; }
+    r_8u = (r_nb_1 < (r_jm + r_lc_6));
+    if ((u8)((u8)t_pa | (u8)r_8u)) goto l_capnp_li;
+    if (!(ld8(a_6) == 1u)) { r_5b = r_4r_1; goto l_arm_7a; }
+    r_52_11 = ld64(r_rq_6);
+    if (r_52_11 < r_lc_6) { r_t8_2 = 30u; goto l_capnp_mp_2; }
     st64(a_6, 1ull);
-    st64(r_rq_8, (r_52_18 - r_lc_15));
-    r_5b = r_4r_5;
+    st64(r_rq_6, (r_52_11 - r_lc_6));
+    r_5b = r_4r_1;
     goto l_arm_7a;
 l_capnp_li:;
-    if (r_8u_7) { r_t8_2 = 23u; goto l_capnp_mp_2; }
-    r_5b = (r_8u_7 ? 0u : r_4r_5);
+    if (r_8u) { r_t8_2 = 23u; goto l_capnp_mp_2; }
+    r_5b = (r_8u ? 0u : r_4r_1);
 l_arm_7a:;
-    if (!t_q5_1) { r_kx = r_ep_5; r_21 = r_y6_2; goto l_capnp_uz; }
-    u64 r_24_36 = (u64)r_5b;
-    u64 r_ck = capnp_words_words_used_words_in(t_f6_3, r_24_36, r_q7_2);
-    u64 r_ck_1 = capnp_words_words_used_words_in(t_f6_3, (r_q7_2 + r_24_36), r_y6_2);
+    if (!t_q5) { r_kx = r_ep_3; r_21 = r_y6_2; goto l_capnp_uz; }
+    u64 r_24_4 = (u64)r_5b;
+    u64 r_ck = capnp_words_words_used_words_in(t_f6_2, r_24_4, r_q7_1);
+    u64 r_ck_1 = capnp_words_words_used_words_in(t_f6_2, (r_q7_1 + r_24_4), r_y6_2);
     r_kx = r_ck;
     r_21 = r_ck_1;
 l_capnp_uz:;
@@ -5657,113 +5732,113 @@ l_capnp_uz:;
     r_az_3 = ((u32)r_21 & 65535u);
     r_68_3 = (r_az_3 + r_az_2);
     if (!(r_68_3 == 0u)) goto l_join_av;
-    capnp_arena_arena_builder_arena_impl_BuilderArenaImplB_24b0f4d4(a_2, r_0i, r_sr_3, 0xfffffffcull);
-    r_fj = r_sr_3;
+    capnp_arena_arena_builder_arena_impl_BuilderArenaImplB_24b0f4d4(a_2, r_0i, r_sr, 0xfffffffcull);
+    r_fj = r_sr;
     sink_il = r_0i;
     goto l_arm_n3;
 l_join_av:;
     r_fd = capnp_arena_arena_builder_arena_impl_BuilderArenaImplB_87b91857(a_2, r_0i, r_68_3);
     if (!(r_fd.f0 == 1u)) goto l_arm_ua_4;
     u32 r_xo_4 = r_fd.f1;
-    capnp_arena_arena_builder_arena_impl_BuilderArenaImplB_24b0f4d4(a_2, r_0i, r_sr_3, ((((u64)(r_kx << 32ull) & 0xffff00000000ull) | (u64)(r_21 << 48ull)) | (u64)(u32)((r_xo_4 + (r_sr_3 ^ 0xffffffffu)) << 2u)));
+    capnp_arena_arena_builder_arena_impl_BuilderArenaImplB_24b0f4d4(a_2, r_0i, r_sr, ((((u64)(r_kx << 32ull) & 0xffff00000000ull) | (u64)(r_21 << 48ull)) | (u64)(u32)((r_xo_4 + (r_sr ^ 0xffffffffu)) << 2u)));
     r_fj = r_xo_4;
     sink_il = r_0i;
     goto l_arm_n3;
 l_arm_ua_4:;
     capnp_arena_arena_builder_arena_impl_BuilderArenaImplB_7b1ceaa0(slot_1, a_2, (r_68_3 + 1u));
     if (!(ld8(slot_1) == 0u)) goto l_arm_vh_1;
-    u32 r_yf_16 = ld32(r_ix_3);
-    u32 r_e3_4 = ld32(r_x5_15);
-    capnp_arena_arena_builder_arena_impl_BuilderArenaImplB_24b0f4d4(a_2, r_yf_16, r_e3_4, (((u64)(r_kx << 32ull) & 0xffff00000000ull) | (u64)(r_21 << 48ull)));
-    capnp_arena_arena_builder_arena_impl_BuilderArenaImplB_24b0f4d4(a_2, r_0i, r_sr_3, (((u64)((u64)r_yf_16 << 32ull) | (u64)((u64)r_e3_4 << 3ull)) | 2ull));
+    u32 r_yf_9 = ld32(r_ix);
+    u32 r_e3_4 = ld32(r_x5_4);
+    capnp_arena_arena_builder_arena_impl_BuilderArenaImplB_24b0f4d4(a_2, r_yf_9, r_e3_4, (((u64)(r_kx << 32ull) & 0xffff00000000ull) | (u64)(r_21 << 48ull)));
+    capnp_arena_arena_builder_arena_impl_BuilderArenaImplB_24b0f4d4(a_2, r_0i, r_sr, (((u64)((u64)r_yf_9 << 32ull) | (u64)((u64)r_e3_4 << 3ull)) | 2ull));
     r_fj = (r_e3_4 + 1u);
-    sink_il = r_yf_16;
+    sink_il = r_yf_9;
 l_arm_n3:;
-    capnp_copies_copy_elements_put_words_4072c0e2a627e5d6(a_2, sink_il, r_fj, away(t_f6_3, (u64)((u64)r_5b << 3ull)), ((u64)(r_kx << 3ull) & 0x7fff8ull));
+    capnp_copies_copy_elements_put_words_4072c0e2a627e5d6(a_2, sink_il, r_fj, away(t_f6_2, (u64)((u64)r_5b << 3ull)), ((u64)(r_kx << 3ull) & 0x7fff8ull));
     memset(slot_1, 0u, 24);
-    st64(t_6c_3, 0ull);
-    if (r_az_3 == 0u) { r_2b_13 = 0u; r_qh = 0u; r_ip = 0u; r_wq = 0ull; goto l_capnp_no; }
+    st64(t_6c_1, 0ull);
+    if (r_az_3 == 0u) { r_2b_2 = 0u; r_qh = 0u; r_ip = 0u; r_wq = 0ull; goto l_capnp_no; }
     st64(slot_2, r_eg);
-    stp(r_x5_16, r_rv);
-    st64(r_zd_9, r_qw);
-    st64(r_lk_4, r_qd);
-    stp(r_89_4, t_f6_3);
-    st64(r_a8_4, r_9h);
-    st32(r_c4_7, (r_5b + ((u32)r_ep_5 & 65535u)));
-    st32(r_bk_2, 0u);
-    st32(r_6c_3, r_s1);
+    stp(r_x5_5, r_rv);
+    st64(r_zd_3, r_qw);
+    st64(r_lk_1, r_qd);
+    stp(r_89_1, t_f6_2);
+    st64(r_a8_1, r_9h);
+    st32(r_c4_4, (r_5b + ((u32)r_ep_3 & 65535u)));
+    st32(r_bk, 0u);
+    st32(r_6c_1, r_s1);
     capnp_copies_copy_children_copy_children_out_of_line_f_b6070b37(slot_1, a_2, sink_il, (r_az_2 + r_fj), slot_2, r_az_3, a_6, a_7);
-    r_2b_13 = ld8(slot_1);
-    r_qh = ld8(r_x5_17);
-    r_ip = ld32(r_k0_5);
-    r_wq = ld64(r_zd_10);
+    r_2b_2 = ld8(slot_1);
+    r_qh = ld8(r_x5_6);
+    r_ip = ld32(r_k0_2);
+    r_wq = ld64(r_zd_4);
 l_capnp_no:;
     t_pz = r_wq;
     t_fy = r_ip;
     r_1l = r_qh;
-    t_ry = r_2b_13;
+    t_ry = r_2b_2;
     goto l_capnp_rz;
 l_arm_vh_1:;
-    t_pz = ld64(r_zd_8);
-    t_fy = ld32(r_k0_4);
-    r_1l = ld8(r_x5_15);
+    t_pz = ld64(r_zd_2);
+    t_fy = ld32(r_k0_1);
+    r_1l = ld8(r_x5_4);
     t_ry = 1u;
     goto l_capnp_rz;
 l_capnp_mp_2:;
-    r_5k_2 = 1u;
+    r_5k_1 = 1u;
     r_qp = r_t8_2;
     r_7u = 0u;
     r_pz = 0ull;
     goto l_join_1g;
 l_else_4r:;
     st64(slot_4, r_eg);
-    stp(r_x5_13, r_rv);
-    st64(r_zd_6, r_qw);
-    st64(r_lk_3, r_qd);
-    stp(r_89_3, t_f6_3);
-    st64(r_a8_3, r_9h);
-    st64(r_c4_6, r_24_31);
-    st32(r_6c_2, r_4w_2);
-    capnp_copies_copy_copy_object_f91b20a4a575fbcb(slot_3, a_2, r_0i, r_sr_3, slot_4, a_6, a_7);
-    t_pz = ld64(r_zd_7);
-    t_fy = ld32(r_k0_3);
-    r_1l = ld8(r_x5_14);
+    stp(r_x5_2, r_rv);
+    st64(r_zd, r_qw);
+    st64(r_lk, r_qd);
+    stp(r_89, t_f6_2);
+    st64(r_a8, r_9h);
+    st64(r_c4_3, r_24_3);
+    st32(r_6c, r_4w_2);
+    capnp_copies_copy_copy_object_f91b20a4a575fbcb(slot_3, a_2, r_0i, r_sr, slot_4, a_6, a_7);
+    t_pz = ld64(r_zd_1);
+    t_fy = ld32(r_k0);
+    r_1l = ld8(r_x5_3);
     t_ry = ld8(slot_3);
     goto l_capnp_rz;
 l_capnp_v7:;
     goto l_loop_qw;
 l_capnp_mp_1:;
-    r_5k_2 = 1u;
+    r_5k_1 = 1u;
     r_qp = r_t8_1;
     r_7u = r_hg_1;
-    r_pz = r_lc_12;
+    r_pz = r_lc_5;
     goto l_join_1g;
 l_capnp_rz:;
     if (t_ry == 0u) goto l_loop_qw;
-    r_5k_2 = 1u;
+    r_5k_1 = 1u;
     r_qp = r_1l;
     r_7u = t_fy;
     r_pz = t_pz;
     goto l_join_1g;
 l_arm_x3_2:;
-    r_5k_2 = 1u;
+    r_5k_1 = 1u;
     r_qp = ld8((slot_1 + 8));
     r_7u = ld32((slot_1 + 12));
     r_pz = ld64((slot_1 + 16));
     goto l_join_1g;
 l_then_ha:;
     r_h6_4 = away(a_2, 64ull);
-    r_yf_17 = ld32(r_h6_4);
-    r_52_19 = ld64(away(a_2, 40ull));
-    if (((u64)r_yf_17 + (u64)r_ll_1) > (u64)((ld64(away(a_2, 56ull)) + r_52_19) >> 3ull)) { r_kw_4 = 0u; r_re_4 = 0u; goto l_join_ax_4; }
-    r_w0_10 = (r_yf_17 + r_ll_1);
-    r_z6_39 = (u64)((u64)r_w0_10 << 3ull);
-    if (!(r_52_19 < r_z6_39)) goto l_capnp_9l_5;
-    capnp_messages_messages_copy_memory_CopySegment_zero_up_to(r_xm_1, r_z6_39);
+    r_yf_10 = ld32(r_h6_4);
+    r_52_12 = ld64(away(a_2, 40ull));
+    if (((u64)r_yf_10 + (u64)r_ll_1) > (u64)((ld64(away(a_2, 56ull)) + r_52_12) >> 3ull)) { r_kw_4 = 0u; r_re_4 = 0u; goto l_join_ax_4; }
+    r_w0_4 = (r_yf_10 + r_ll_1);
+    r_z6_7 = (u64)((u64)r_w0_4 << 3ull);
+    if (!(r_52_12 < r_z6_7)) goto l_capnp_9l_5;
+    capnp_messages_messages_copy_memory_CopySegment_zero_up_to(r_xm, r_z6_7);
 l_capnp_9l_5:;
-    st32(r_h6_4, r_w0_10);
+    st32(r_h6_4, r_w0_4);
     r_kw_4 = 1u;
-    r_re_4 = r_yf_17;
+    r_re_4 = r_yf_10;
 l_join_ax_4:;
     struct s_i8_i32 t_9l_4 = (struct s_i8_i32){ 0 };
     t_9l_4.f0 = r_kw_4;
@@ -5779,7 +5854,7 @@ l_capnp_c2_3:;
     r_xo_5 = r_jz_3.f1;
     r_mm = (((u64)((u64)r_v3 << 35ull) | (u64)(u32)((r_xo_5 + (a_4 ^ 0xffffffffu)) << 2u)) | 0x700000001ull);
     if (!r_sz) goto l_else_6q_8;
-    st64(away(ldp(r_xm_1), (u64)((u64)a_4 << 3ull)), r_mm);
+    st64(away(ldp(r_xm), (u64)((u64)a_4 << 3ull)), r_mm);
     r_zf = r_xo_5;
     r_21_1 = 0u;
     goto l_arm_dc;
@@ -5791,144 +5866,144 @@ l_else_6q_8:;
 l_arm_mi:;
     capnp_arena_arena_builder_arena_impl_BuilderArenaImplB_7b1ceaa0(slot_1, a_2, (r_v3 + 2u));
     if (!(ld8(slot_1) == 0u)) goto l_arm_x3_3;
-    r_yf_20 = ld32((slot_1 + 4));
+    r_yf_11 = ld32((slot_1 + 4));
     r_e3_5 = ld32((slot_1 + 8));
-    r_ll_7 = (r_e3_5 + 1u);
-    r_z6_41 = ((u64)((u64)r_v3 << 35ull) | 0x700000001ull);
-    if (!(r_yf_20 == 0u)) goto l_else_kj;
-    u64 r_z6_42 = (u64)((u64)r_e3_5 << 3ull);
-    st64(away(ldp(r_xm_1), r_z6_42), r_z6_41);
-    r_59 = r_z6_42;
+    r_ll_2 = (r_e3_5 + 1u);
+    r_z6_8 = ((u64)((u64)r_v3 << 35ull) | 0x700000001ull);
+    if (!(r_yf_11 == 0u)) goto l_else_kj;
+    u64 r_z6_9 = (u64)((u64)r_e3_5 << 3ull);
+    st64(away(ldp(r_xm), r_z6_9), r_z6_8);
+    r_59 = r_z6_9;
     goto l_capnp_9d;
 l_else_kj:;
-    u64 r_24_46 = (u64)r_yf_20;
-    capnp_arena_arena_rows_put_word_in_4426f83c3c99ca57(ldp(away(a_2, 80ull)), (r_24_46 + 0xffffffffffffffffull), r_e3_5, r_z6_41);
-    r_59 = ((u64)((u64)r_e3_5 << 3ull) | (u64)(r_24_46 << 32ull));
+    u64 r_24_5 = (u64)r_yf_11;
+    capnp_arena_arena_rows_put_word_in_4426f83c3c99ca57(ldp(away(a_2, 80ull)), (r_24_5 + 0xffffffffffffffffull), r_e3_5, r_z6_8);
+    r_59 = ((u64)((u64)r_e3_5 << 3ull) | (u64)(r_24_5 << 32ull));
 l_capnp_9d:;
-    r_ni_5 = (r_59 | 2ull);
+    r_ni = (r_59 | 2ull);
     if (!r_sz) goto l_else_6q_9;
-    st64(away(ldp(r_xm_1), (u64)((u64)a_4 << 3ull)), r_ni_5);
+    st64(away(ldp(r_xm), (u64)((u64)a_4 << 3ull)), r_ni);
     goto l_core_5s;
 l_else_6q_9:;
-    capnp_arena_arena_rows_put_word_in_4426f83c3c99ca57(ldp(away(a_2, 80ull)), ((u64)a_3 + 0xffffffffffffffffull), a_4, r_ni_5);
+    capnp_arena_arena_rows_put_word_in_4426f83c3c99ca57(ldp(away(a_2, 80ull)), ((u64)a_3 + 0xffffffffffffffffull), a_4, r_ni);
 l_core_5s:;
-    r_zf = r_ll_7;
-    r_21_1 = r_yf_20;
+    r_zf = r_ll_2;
+    r_21_1 = r_yf_11;
 l_arm_dc:;
-    r_c0_13 = (u64)t_c8;
+    r_c0_4 = (u64)t_c8;
     r_u7 = (u64)r_u2;
-    r_a7_23 = (((u64)((u64)r_ka << 48ull) | (u64)(r_u7 << 32ull)) | (u64)(r_c0_13 << 2ull));
+    r_a7 = (((u64)((u64)r_ka << 48ull) | (u64)(r_u7 << 32ull)) | (u64)(r_c0_4 << 2ull));
     if (!(r_21_1 == 0u)) goto l_else_kj_1;
-    st64(away(ldp(r_xm_1), (u64)((u64)r_zf << 3ull)), r_a7_23);
+    st64(away(ldp(r_xm), (u64)((u64)r_zf << 3ull)), r_a7);
     goto l_arm_5k;
 l_else_kj_1:;
-    capnp_arena_arena_rows_put_word_in_4426f83c3c99ca57(ldp(away(a_2, 80ull)), ((u64)r_21_1 + 0xffffffffffffffffull), r_zf, r_a7_23);
+    capnp_arena_arena_rows_put_word_in_4426f83c3c99ca57(ldp(away(a_2, 80ull)), ((u64)r_21_1 + 0xffffffffffffffffull), r_zf, r_a7);
 l_arm_5k:;
-    r_ll_8 = (r_zf + 1u);
+    r_ll_3 = (r_zf + 1u);
     r_68_4 = (r_az_1 + r_12);
     if ((u8)((u8)(r_68_1 == 0u) | (u8)(t_c8 == 0u))) { r_rh = 0u; r_hg_2 = 0u; r_je = 0u; r_s2 = 0ull; goto l_capnp_nb; }
-    r_z6_45 = (u64)(r_u7 << 3ull);
-    r_hi_1 = (r_u2 == 0u);
-    r_2p_10 = (r_21_1 == 0u);
-    r_u6_1 = (r_u2 < 8u);
+    r_z6_10 = (u64)(r_u7 << 3ull);
+    r_hi = (r_u2 == 0u);
+    r_2p_1 = (r_21_1 == 0u);
+    r_u6 = (r_u2 < 8u);
     r_vw = (r_u2 > 3u);
-    r_bh_3 = (r_u2 == 1u);
-    r_8f_2 = (r_z6_45 + 0xfffffffffffffff0ull);
-    r_la_2 = (r_z6_45 + 0xfffffffffffffff8ull);
-    r_bh_4 = (r_z6_45 + 0xffffffffffffffe0ull);
-    r_hi_2 = (r_ka == 0u);
-    r_gw_12 = (u64)(r_9h >> 3ull);
-    r_x5_21 = (slot_4 + 8);
-    r_zd_13 = (slot_4 + 16);
-    r_lk_5 = (slot_4 + 24);
-    r_89_5 = (slot_4 + 32);
-    r_a8_5 = (slot_4 + 40);
-    r_c4_10 = (slot_4 + 48);
-    r_6c_4 = (slot_4 + 56);
-    r_08_4 = away(a_6, 16ull);
-    r_nb_8 = (r_gw_12 & 0xffffffffull);
+    r_bh_2 = (r_u2 == 1u);
+    r_8f_2 = (r_z6_10 + 0xfffffffffffffff0ull);
+    r_la_2 = (r_z6_10 + 0xfffffffffffffff8ull);
+    r_bh_3 = (r_z6_10 + 0xffffffffffffffe0ull);
+    r_hi_1 = (r_ka == 0u);
+    r_gw_3 = (u64)(r_9h >> 3ull);
+    r_x5_8 = (slot_4 + 8);
+    r_zd_6 = (slot_4 + 16);
+    r_lk_2 = (slot_4 + 24);
+    r_89_2 = (slot_4 + 32);
+    r_a8_2 = (slot_4 + 40);
+    r_c4_5 = (slot_4 + 48);
+    r_6c_2 = (slot_4 + 56);
+    r_08_2 = away(a_6, 16ull);
+    r_nb_2 = (r_gw_3 & 0xffffffffull);
     r_sg_1 = (r_5k == 1u);
-    r_rq_9 = away(a_6, 8ull);
-    r_x5_22 = (slot_3 + 8);
-    r_k0_8 = (slot_3 + 12);
-    r_zd_14 = (slot_3 + 16);
+    r_rq_7 = away(a_6, 8ull);
+    r_x5_9 = (slot_3 + 8);
+    r_k0_4 = (slot_3 + 12);
+    r_zd_7 = (slot_3 + 16);
     r_s1_1 = (r_5k + 0xfffffffeu);
-    t_q5_2 = (a_7 == 1u);
-    r_yf_24 = away(a_2, 80ull);
-    r_24_49 = (u64)r_21_1;
-    r_0f_18 = (r_24_49 + 0xffffffffffffffffull);
+    t_q5_1 = (a_7 == 1u);
+    r_yf_12 = away(a_2, 80ull);
+    r_24_6 = (u64)r_21_1;
+    r_0f_6 = (r_24_6 + 0xffffffffffffffffull);
     r_h6_5 = away(a_2, 64ull);
-    r_su_6 = away(a_2, 40ull);
-    r_r2_6 = away(a_2, 56ull);
-    r_x5_23 = (slot_1 + 8);
-    r_k0_9 = (slot_1 + 12);
-    r_zd_15 = (slot_1 + 16);
-    r_ix_6 = (slot_1 + 4);
-    r_x5_24 = (slot_2 + 8);
-    r_zd_16 = (slot_2 + 16);
-    r_lk_6 = (slot_2 + 24);
-    r_89_6 = (slot_2 + 32);
-    r_a8_6 = (slot_2 + 40);
-    r_c4_11 = (slot_2 + 48);
-    r_bk_3 = (slot_2 + 52);
-    r_6c_5 = (slot_2 + 56);
-    r_x5_25 = (slot_1 + 8);
-    r_k0_10 = (slot_1 + 12);
-    r_zd_17 = (slot_1 + 16);
-    t_0c_8 = (r_dh == 0u);
-    r_x5_26 = (slot_1 + 8);
-    r_k0_11 = (slot_1 + 12);
-    r_zd_18 = (slot_1 + 16);
-    r_ix_7 = (slot_1 + 4);
+    r_su_1 = away(a_2, 40ull);
+    r_r2_1 = away(a_2, 56ull);
+    r_x5_10 = (slot_1 + 8);
+    r_k0_5 = (slot_1 + 12);
+    r_zd_8 = (slot_1 + 16);
+    r_ix_2 = (slot_1 + 4);
+    r_x5_11 = (slot_2 + 8);
+    r_zd_9 = (slot_2 + 16);
+    r_lk_3 = (slot_2 + 24);
+    r_89_3 = (slot_2 + 32);
+    r_a8_3 = (slot_2 + 40);
+    r_c4_6 = (slot_2 + 48);
+    r_bk_1 = (slot_2 + 52);
+    r_6c_3 = (slot_2 + 56);
+    r_x5_12 = (slot_1 + 8);
+    r_k0_6 = (slot_1 + 12);
+    r_zd_10 = (slot_1 + 16);
+    t_0c_1 = (r_dh == 0u);
+    r_x5_13 = (slot_1 + 8);
+    r_k0_7 = (slot_1 + 12);
+    r_zd_11 = (slot_1 + 16);
+    r_ix_3 = (slot_1 + 4);
     wide_u7 = (u64)r_ka;
-    r_24_50 = (u64)r_21_1;
-    t_6c_4 = (slot_2 + 56);
+    r_24_7 = (u64)r_21_1;
+    t_6c_2 = (slot_2 + 56);
     indvars_ff = 0ull;
     goto l_join_hy;
 l_loop_mf:;
     u64 indvars_r7_1 = (indvars_ff + 1ull);
-    if (indvars_r7_1 == r_c0_13) { r_rh = 0u; r_hg_2 = 0u; r_je = 0u; r_s2 = 0ull; goto l_capnp_nb; }
+    if (indvars_r7_1 == r_c0_4) { r_rh = 0u; r_hg_2 = 0u; r_je = 0u; r_s2 = 0ull; goto l_capnp_nb; }
     indvars_ff = indvars_r7_1;
 l_join_hy:;
     u32 t_nk = (u32)indvars_ff;
-    r_w0_11 = ((r_68_4 * t_nk) + r_ll);
-    r_w0_12 = (r_ll_8 + (r_68_1 * t_nk));
-    r_c0_14 = away(t_f6_2, (u64)((u64)r_w0_11 << 3ull));
-    if (r_hi_1) goto l_capnp_j9;
-    if (!r_2p_10) goto l_else_h1_2;
-    r_rw = ldp(r_xm_1);
+    r_w0_5 = ((r_68_4 * t_nk) + r_ll);
+    r_w0_6 = (r_ll_3 + (r_68_1 * t_nk));
+    r_c0_5 = away(t_f6_1, (u64)((u64)r_w0_5 << 3ull));
+    if (r_hi) goto l_capnp_j9;
+    if (!r_2p_1) goto l_else_h1_2;
+    r_rw = ldp(r_xm);
     goto l_capnp_ss;
 l_else_h1_2:;
-    u8 *r_x5_27 = capnp_arena_arena_rows_Rows_other_mut_4426f83c3c99ca57(r_xm_1, r_21_1);
-    r_rw = r_x5_27;
+    u8 *r_x5_14 = capnp_arena_arena_rows_Rows_other_mut_4426f83c3c99ca57(r_xm, r_21_1);
+    r_rw = r_x5_14;
 l_capnp_ss:;
-    r_2b_18 = away(r_rw, (u64)((u64)r_w0_12 << 3ull));
-    if (!r_u6_1) goto l_else_r3_2;
+    r_2b_3 = away(r_rw, (u64)((u64)r_w0_6 << 3ull));
+    if (!r_u6) goto l_else_r3_2;
     if (!r_vw) goto l_else_l8;
-    mv32(r_2b_18, r_c0_14);
-    mv32((r_2b_18 + (i64)(r_bh_4)), (r_c0_14 + (i64)(r_bh_4)));
+    mv32(r_2b_3, r_c0_5);
+    mv32((r_2b_3 + (i64)(r_bh_3)), (r_c0_5 + (i64)(r_bh_3)));
     goto l_capnp_j9;
 l_else_l8:;
-    if (r_bh_3) goto l_then_1s;
-    mv16(r_2b_18, r_c0_14);
-    mv16((r_2b_18 + (i64)(r_8f_2)), (r_c0_14 + (i64)(r_8f_2)));
+    if (r_bh_2) goto l_then_1s;
+    mv16(r_2b_3, r_c0_5);
+    mv16((r_2b_3 + (i64)(r_8f_2)), (r_c0_5 + (i64)(r_8f_2)));
     goto l_capnp_j9;
 l_then_1s:;
-    mv8(r_2b_18, r_c0_14);
-    mv8((r_2b_18 + (i64)(r_la_2)), (r_c0_14 + (i64)(r_la_2)));
+    mv8(r_2b_3, r_c0_5);
+    mv8((r_2b_3 + (i64)(r_la_2)), (r_c0_5 + (i64)(r_la_2)));
     goto l_capnp_j9;
 l_else_r3_2:;
-    if (((u64)(uptr)r_2b_18 - (u64)(uptr)r_c0_14) < r_z6_45) { r_il_2 = 0ull; goto l_join_fh_2; }
-    memmove_or_none(r_2b_18, r_c0_14, r_z6_45);
+    if (((u64)(uptr)r_2b_3 - (u64)(uptr)r_c0_5) < r_z6_10) { r_il_2 = 0ull; goto l_join_fh_2; }
+    memmove_or_none(r_2b_3, r_c0_5, r_z6_10);
     goto l_capnp_j9;
 l_join_fh_2:;
-    st8((r_2b_18 + (i64)(r_il_2)), ld8((r_c0_14 + (i64)(r_il_2))));
-    u64 r_c4_12 = (r_il_2 + 1ull);
-    if (!(r_c4_12 == r_z6_45)) { r_il_2 = r_c4_12; goto l_join_fh_2; }
+    st8((r_2b_3 + (i64)(r_il_2)), ld8((r_c0_5 + (i64)(r_il_2))));
+    u64 r_c4_7 = (r_il_2 + 1ull);
+    if (!(r_c4_7 == r_z6_10)) { r_il_2 = r_c4_7; goto l_join_fh_2; }
 l_capnp_j9:;
-    r_w0_13 = (r_w0_11 + r_az_1);
-    r_w0_14 = (r_w0_12 + r_00);
-    if (r_hi_2) goto l_loop_mf;
+    r_w0_7 = (r_w0_5 + r_az_1);
+    r_w0_8 = (r_w0_6 + r_00);
+    if (r_hi_1) goto l_loop_mf;
     indvars_vm = 0ull;
     goto l_join_iw;
 l_loop_w2:;
@@ -5937,258 +6012,258 @@ l_loop_w2:;
     indvars_vm = indvars_r7_2;
 l_join_iw:;
     u32 t_nk_1 = (u32)indvars_vm;
-    r_sr_8 = (r_w0_14 + t_nk_1);
-    r_24_53 = (u64)(r_w0_13 + t_nk_1);
+    r_sr_1 = (r_w0_8 + t_nk_1);
+    r_24_8 = (u64)(r_w0_7 + t_nk_1);
     memset(slot_3, 0u, 24);
     memset(slot_4, 0u, 64);
-    if (!(r_gw_12 > r_24_53)) goto l_capnp_v7_1;
-    r_qw_14 = ld64(away(t_f6_2, (u64)(r_24_53 << 3ull)));
-    if (r_qw_14 == 0ull) goto l_capnp_v7_1;
-    switch_f9_4 = (r_qw_14 & 3ull);
-    r_ep_6 = (u64)(r_qw_14 >> 32ull);
-    if (!((switch_f9_4 == 1ull) ? ((u8)((u8)((u8)r_ep_6 & 7u) + 255u) < 5u) : 0u)) goto l_join_br_1;
-    r_ij_2 = (u64)(r_qw_14 >> 35ull);
-    r_1q_4 = (ld64(away(away(((u8 *)switch_table_capnp_show_show_objects_read_object_5ccc1_1b90c80b), 8 * (r_ep_6 & 7ull)), 0xfffffffffffffff8ull)) * r_ij_2);
-    r_c6_6 = (u64)((r_1q_4 + 63ull) >> 6ull);
-    if (!t_0c_8) goto l_join_bd_2;
-    st64(r_08_4, uadd_sat64(ld64(r_08_4), 1ull));
+    if (!(r_gw_3 > r_24_8)) goto l_capnp_v7_1;
+    r_qw_6 = ld64(away(t_f6_1, (u64)(r_24_8 << 3ull)));
+    if (r_qw_6 == 0ull) goto l_capnp_v7_1;
+    switch_f9_1 = (r_qw_6 & 3ull);
+    r_ep_4 = (u64)(r_qw_6 >> 32ull);
+    if (!((switch_f9_1 == 1ull) ? ((u8)((u8)((u8)r_ep_4 & 7u) + 255u) < 5u) : 0u)) goto l_join_br_1;
+    r_ij_2 = (u64)(r_qw_6 >> 35ull);
+    r_1q_2 = (ld64(away(away(((u8 *)switch_table_capnp_show_show_objects_read_object_5ccc1_1b90c80b), 8 * (r_ep_4 & 7ull)), 0xfffffffffffffff8ull)) * r_ij_2);
+    r_c6_6 = (u64)((r_1q_2 + 63ull) >> 6ull);
+    if (!t_0c_1) goto l_join_bd_2;
+    st64(r_08_2, uadd_sat64(ld64(r_08_2), 1ull));
 l_join_bd_2:;
-    u64 r_m6_3 = ((u64)(r_qw_14 >> 2ull) & 0x3fffffffull);
-    r_lc_20 = ((r_24_53 + 1ull) + r_m6_3);
+    u64 r_m6_3 = ((u64)(r_qw_6 >> 2ull) & 0x3fffffffull);
+    r_lc_8 = ((r_24_8 + 1ull) + r_m6_3);
     if (!(r_m6_3 < 0x20000000ull)) goto l_else_70_3;
-    if (r_lc_20 > r_nb_8) { r_2b_19 = 23u; r_qh_1 = 0u; r_ip_1 = 0ull; goto l_capnp_no_1; }
-    r_gk_1 = r_lc_20;
+    if (r_lc_8 > r_nb_2) { r_2b_4 = 23u; r_qh_1 = 0u; r_ip_1 = 0ull; goto l_capnp_no_1; }
+    r_gk_1 = r_lc_8;
     goto l_arm_vo_1;
 l_else_70_3:;
-    u64 r_3o_3 = (r_lc_20 + 0xffffffffc0000000ull);
-    if ((r_lc_20 < 0x40000000ull) ? 1u : (r_3o_3 > r_nb_8)) { r_2b_19 = 23u; r_qh_1 = 0u; r_ip_1 = 0ull; goto l_capnp_no_1; }
+    u64 r_3o_3 = (r_lc_8 + 0xffffffffc0000000ull);
+    if ((r_lc_8 < 0x40000000ull) ? 1u : (r_3o_3 > r_nb_2)) { r_2b_4 = 23u; r_qh_1 = 0u; r_ip_1 = 0ull; goto l_capnp_no_1; }
     r_gk_1 = r_3o_3;
 l_arm_vo_1:;
-    if (r_sg_1) { r_2b_19 = 26u; r_qh_1 = 0u; r_ip_1 = 0ull; goto l_capnp_no_1; }
-    if (r_nb_8 < (r_gk_1 + r_c6_6)) { r_2b_19 = 23u; r_qh_1 = 0u; r_ip_1 = 0ull; goto l_capnp_no_1; }
-    if (!t_0c_8) goto l_arm_p5_1;
+    if (r_sg_1) { r_2b_4 = 26u; r_qh_1 = 0u; r_ip_1 = 0ull; goto l_capnp_no_1; }
+    if (r_nb_2 < (r_gk_1 + r_c6_6)) { r_2b_4 = 23u; r_qh_1 = 0u; r_ip_1 = 0ull; goto l_capnp_no_1; }
+    if (!t_0c_1) goto l_arm_p5_1;
     if (!(ld8(a_6) == 1u)) goto l_arm_p5_1;
-    r_52_22 = ld64(r_rq_9);
-    if (r_52_22 < r_c6_6) { r_2b_19 = 30u; r_qh_1 = 0u; r_ip_1 = 0ull; goto l_capnp_no_1; }
+    r_52_13 = ld64(r_rq_7);
+    if (r_52_13 < r_c6_6) { r_2b_4 = 30u; r_qh_1 = 0u; r_ip_1 = 0ull; goto l_capnp_no_1; }
     st64(a_6, 1ull);
-    st64(r_rq_9, (r_52_22 - r_c6_6));
+    st64(r_rq_7, (r_52_13 - r_c6_6));
 l_arm_p5_1:;
-    r_z6_49 = (u64)(r_c6_6 << 3ull);
-    r_8a_1 = away(t_f6_2, (u64)(r_gk_1 << 3ull));
-    r_se_2 = (u64)(((ld64(away(away(((u8 *)switch_table_capnp_show_show_objects_read_object_5ccc1_1b90c80b), 8 * (r_ep_6 & 7ull)), 0xfffffffffffffff8ull)) * r_ij_2) + 63ull) >> 6ull);
-    r_12_5 = (u32)r_se_2;
-    if (!r_2p_10) goto l_capnp_5b;
-    r_yf_25 = ld32(r_h6_5);
-    r_52_23 = ld64(r_su_6);
-    if ((r_se_2 + (u64)r_yf_25) > (u64)((ld64(r_r2_6) + r_52_23) >> 3ull)) goto l_arm_ua_5;
-    r_w0_15 = (r_yf_25 + r_12_5);
-    r_z6_50 = (u64)((u64)r_w0_15 << 3ull);
-    if (!(r_52_23 < r_z6_50)) goto l_then_rx;
-    capnp_messages_messages_copy_memory_CopySegment_zero_up_to(r_xm_1, r_z6_50);
+    r_z6_11 = (u64)(r_c6_6 << 3ull);
+    r_8a_1 = away(t_f6_1, (u64)(r_gk_1 << 3ull));
+    r_se_2 = (u64)(((ld64(away(away(((u8 *)switch_table_capnp_show_show_objects_read_object_5ccc1_1b90c80b), 8 * (r_ep_4 & 7ull)), 0xfffffffffffffff8ull)) * r_ij_2) + 63ull) >> 6ull);
+    r_12_4 = (u32)r_se_2;
+    if (!r_2p_1) goto l_capnp_5b;
+    r_yf_13 = ld32(r_h6_5);
+    r_52_14 = ld64(r_su_1);
+    if ((r_se_2 + (u64)r_yf_13) > (u64)((ld64(r_r2_1) + r_52_14) >> 3ull)) goto l_arm_ua_5;
+    r_w0_9 = (r_yf_13 + r_12_4);
+    r_z6_12 = (u64)((u64)r_w0_9 << 3ull);
+    if (!(r_52_14 < r_z6_12)) goto l_then_rx;
+    capnp_messages_messages_copy_memory_CopySegment_zero_up_to(r_xm, r_z6_12);
     goto l_then_rx;
 l_capnp_5b:;
-    r_tu_5 = capnp_arena_arena_rows_allocate_in_4426f83c3c99ca57(ldp(r_yf_24), r_0f_18, r_12_5);
+    r_tu_5 = capnp_arena_arena_rows_allocate_in_4426f83c3c99ca57(ldp(r_yf_12), r_0f_6, r_12_4);
     if (r_tu_5.f0 == 1u) goto l_else_gb;
     goto l_arm_ua_5;
 l_then_rx:;
-    st32(r_h6_5, r_w0_15);
-    st64(away(ldp(r_xm_1), (u64)((u64)r_sr_8 << 3ull)), ((r_qw_14 & 0xffffffff00000001ull) | (u64)(u32)((r_yf_25 + (r_sr_8 ^ 0xffffffffu)) << 2u)));
-    r_7u_2 = r_yf_25;
+    st32(r_h6_5, r_w0_9);
+    st64(away(ldp(r_xm), (u64)((u64)r_sr_1 << 3ull)), ((r_qw_6 & 0xffffffff00000001ull) | (u64)(u32)((r_yf_13 + (r_sr_1 ^ 0xffffffffu)) << 2u)));
+    r_7u_2 = r_yf_13;
     r_x9_1 = 0u;
     goto l_arm_fv_1;
 l_else_gb:;
     u32 r_xo_6 = r_tu_5.f1;
-    capnp_arena_arena_rows_put_word_in_4426f83c3c99ca57(ldp(r_yf_24), r_0f_18, r_sr_8, ((r_qw_14 & 0xffffffff00000001ull) | (u64)(u32)((r_xo_6 + (r_sr_8 ^ 0xffffffffu)) << 2u)));
+    capnp_arena_arena_rows_put_word_in_4426f83c3c99ca57(ldp(r_yf_12), r_0f_6, r_sr_1, ((r_qw_6 & 0xffffffff00000001ull) | (u64)(u32)((r_xo_6 + (r_sr_1 ^ 0xffffffffu)) << 2u)));
     r_7u_2 = r_xo_6;
     r_x9_1 = r_21_1;
     goto l_arm_fv_1;
 l_arm_ua_5:;
-    capnp_arena_arena_builder_arena_impl_BuilderArenaImplB_7b1ceaa0(slot_1, a_2, (r_12_5 + 1u));
+    capnp_arena_arena_builder_arena_impl_BuilderArenaImplB_7b1ceaa0(slot_1, a_2, (r_12_4 + 1u));
     if (!(ld8(slot_1) == 0u)) goto l_arm_vh_2;
-    r_yf_26 = ld32(r_ix_7);
-    r_e3_6 = ld32(r_x5_26);
-    r_ll_9 = (r_e3_6 + 1u);
-    r_6f_4 = (r_qw_14 & 0xffffffff00000001ull);
-    if (!(r_yf_26 == 0u)) goto l_else_eu;
-    u64 r_z6_52 = (u64)((u64)r_e3_6 << 3ull);
-    st64(away(ldp(r_xm_1), r_z6_52), r_6f_4);
-    r_59_1 = r_z6_52;
+    r_yf_14 = ld32(r_ix_3);
+    r_e3_6 = ld32(r_x5_13);
+    r_ll_4 = (r_e3_6 + 1u);
+    r_6f = (r_qw_6 & 0xffffffff00000001ull);
+    if (!(r_yf_14 == 0u)) goto l_else_eu;
+    u64 r_z6_13 = (u64)((u64)r_e3_6 << 3ull);
+    st64(away(ldp(r_xm), r_z6_13), r_6f);
+    r_59_1 = r_z6_13;
     goto l_capnp_9d_1;
 l_else_eu:;
-    u64 r_24_58 = (u64)r_yf_26;
-    capnp_arena_arena_rows_put_word_in_4426f83c3c99ca57(ldp(r_yf_24), (r_24_58 + 0xffffffffffffffffull), r_e3_6, r_6f_4);
-    r_59_1 = ((u64)(r_24_58 << 32ull) | (u64)((u64)r_e3_6 << 3ull));
+    u64 r_24_9 = (u64)r_yf_14;
+    capnp_arena_arena_rows_put_word_in_4426f83c3c99ca57(ldp(r_yf_12), (r_24_9 + 0xffffffffffffffffull), r_e3_6, r_6f);
+    r_59_1 = ((u64)(r_24_9 << 32ull) | (u64)((u64)r_e3_6 << 3ull));
 l_capnp_9d_1:;
-    r_ni_6 = (r_59_1 | 2ull);
-    if (!r_2p_10) goto l_else_bj;
-    st64(away(ldp(r_xm_1), (u64)((u64)r_sr_8 << 3ull)), r_ni_6);
+    r_ni_1 = (r_59_1 | 2ull);
+    if (!r_2p_1) goto l_else_bj;
+    st64(away(ldp(r_xm), (u64)((u64)r_sr_1 << 3ull)), r_ni_1);
     goto l_core_5s_1;
 l_else_bj:;
-    capnp_arena_arena_rows_put_word_in_4426f83c3c99ca57(ldp(r_yf_24), r_0f_18, r_sr_8, r_ni_6);
+    capnp_arena_arena_rows_put_word_in_4426f83c3c99ca57(ldp(r_yf_12), r_0f_6, r_sr_1, r_ni_1);
 l_core_5s_1:;
-    r_7u_2 = r_ll_9;
-    r_x9_1 = r_yf_26;
+    r_7u_2 = r_ll_4;
+    r_x9_1 = r_yf_14;
 l_arm_fv_1:;
-    r_1q_6 = (ld64(away(away(((u8 *)switch_table_capnp_show_show_objects_read_object_5ccc1_1b90c80b), 8 * (r_ep_6 & 7ull)), 0xfffffffffffffff8ull)) * r_ij_2);
+    r_1q_3 = (ld64(away(away(((u8 *)switch_table_capnp_show_show_objects_read_object_5ccc1_1b90c80b), 8 * (r_ep_4 & 7ull)), 0xfffffffffffffff8ull)) * r_ij_2);
     if (r_c6_6 == 0ull) goto l_capnp_pq;
     if (!(r_x9_1 == 0u)) goto l_else_h1_3;
-    r_u9 = ldp(r_xm_1);
+    r_u9 = ldp(r_xm);
     goto l_capnp_m1;
 l_else_h1_3:;
-    u8 *r_x5_28 = capnp_arena_arena_rows_Rows_other_mut_4426f83c3c99ca57(r_xm_1, r_x9_1);
-    r_u9 = r_x5_28;
+    u8 *r_x5_15 = capnp_arena_arena_rows_Rows_other_mut_4426f83c3c99ca57(r_xm, r_x9_1);
+    r_u9 = r_x5_15;
 l_capnp_m1:;
-    r_2b_23 = away(r_u9, (u64)((u64)r_7u_2 << 3ull));
-    if (!(r_1q_4 < 449ull)) goto l_else_r3_3;
-    if (!(r_1q_4 > 192ull)) goto l_else_9l;
-    mv32(r_2b_23, r_8a_1);
-    u64 r_bh_5 = (r_z6_49 + 0xffffffffffffffe0ull);
-    mv32((r_2b_23 + (i64)(r_bh_5)), (r_8a_1 + (i64)(r_bh_5)));
+    r_2b_5 = away(r_u9, (u64)((u64)r_7u_2 << 3ull));
+    if (!(r_1q_2 < 449ull)) goto l_else_r3_3;
+    if (!(r_1q_2 > 192ull)) goto l_else_9l;
+    mv32(r_2b_5, r_8a_1);
+    u64 r_bh_4 = (r_z6_11 + 0xffffffffffffffe0ull);
+    mv32((r_2b_5 + (i64)(r_bh_4)), (r_8a_1 + (i64)(r_bh_4)));
     goto l_capnp_pq;
 l_else_9l:;
     if (r_c6_6 == 1ull) goto l_then_49_2;
-    mv16(r_2b_23, r_8a_1);
-    u64 r_8f_3 = (r_z6_49 + 0xfffffffffffffff0ull);
-    mv16((r_2b_23 + (i64)(r_8f_3)), (r_8a_1 + (i64)(r_8f_3)));
+    mv16(r_2b_5, r_8a_1);
+    u64 r_8f_3 = (r_z6_11 + 0xfffffffffffffff0ull);
+    mv16((r_2b_5 + (i64)(r_8f_3)), (r_8a_1 + (i64)(r_8f_3)));
     goto l_capnp_pq;
 l_then_49_2:;
-    mv8(r_2b_23, r_8a_1);
-    u64 r_la_3 = (r_z6_49 + 0xfffffffffffffff8ull);
-    mv8((r_2b_23 + (i64)(r_la_3)), (r_8a_1 + (i64)(r_la_3)));
+    mv8(r_2b_5, r_8a_1);
+    u64 r_la_3 = (r_z6_11 + 0xfffffffffffffff8ull);
+    mv8((r_2b_5 + (i64)(r_la_3)), (r_8a_1 + (i64)(r_la_3)));
     goto l_capnp_pq;
 l_else_r3_3:;
-    if (((u64)(uptr)r_2b_23 - (u64)(uptr)r_8a_1) < r_z6_49) { r_il_3 = 0ull; goto l_join_fh_3; }
-    memmove_or_none(r_2b_23, r_8a_1, r_z6_49);
+    if (((u64)(uptr)r_2b_5 - (u64)(uptr)r_8a_1) < r_z6_11) { r_il_3 = 0ull; goto l_join_fh_3; }
+    memmove_or_none(r_2b_5, r_8a_1, r_z6_11);
     goto l_capnp_pq;
 l_join_fh_3:;
-    st8((r_2b_23 + (i64)(r_il_3)), ld8((r_8a_1 + (i64)(r_il_3))));
-    u64 r_c4_14 = (r_il_3 + 1ull);
-    if (!(r_c4_14 == r_z6_49)) { r_il_3 = r_c4_14; goto l_join_fh_3; }
+    st8((r_2b_5 + (i64)(r_il_3)), ld8((r_8a_1 + (i64)(r_il_3))));
+    u64 r_c4_8 = (r_il_3 + 1ull);
+    if (!(r_c4_8 == r_z6_11)) { r_il_3 = r_c4_8; goto l_join_fh_3; }
 l_capnp_pq:;
-    r_4i_2 = (r_1q_6 & 63ull);
+    r_4i_2 = (r_1q_3 & 63ull);
     if (r_4i_2 == 0ull) goto l_capnp_v7_1;
-    u64 r_0f_20 = (r_c6_6 + 0xffffffffffffffffull);
-    r_w0_16 = (r_7u_2 + (u32)r_0f_20);
-    r_a5_2 = (ld64(away(r_8a_1, (u64)(r_0f_20 << 3ull))) & ((u64)(0xffffffffffffffffull << (r_4i_2 & 63u)) ^ 0xffffffffffffffffull));
+    u64 r_0f_7 = (r_c6_6 + 0xffffffffffffffffull);
+    r_w0_10 = (r_7u_2 + (u32)r_0f_7);
+    r_a5 = (ld64(away(r_8a_1, (u64)(r_0f_7 << 3ull))) & ((u64)(0xffffffffffffffffull << (r_4i_2 & 63u)) ^ 0xffffffffffffffffull));
     if (!(r_x9_1 == 0u)) goto l_else_eu_1;
-    st64(away(ldp(r_xm_1), (u64)((u64)r_w0_16 << 3ull)), r_a5_2);
+    st64(away(ldp(r_xm), (u64)((u64)r_w0_10 << 3ull)), r_a5);
     goto l_capnp_v7_1;
 l_else_eu_1:;
-    capnp_arena_arena_rows_put_word_in_4426f83c3c99ca57(ldp(r_yf_24), ((u64)r_x9_1 + 0xffffffffffffffffull), r_w0_16, r_a5_2);
+    capnp_arena_arena_rows_put_word_in_4426f83c3c99ca57(ldp(r_yf_12), ((u64)r_x9_1 + 0xffffffffffffffffull), r_w0_10, r_a5);
     goto l_capnp_v7_1;
 l_arm_vh_2:;
-    r_2b_19 = ld8(r_x5_26);
-    r_qh_1 = ld32(r_k0_11);
-    r_ip_1 = ld64(r_zd_18);
+    r_2b_4 = ld8(r_x5_13);
+    r_qh_1 = ld32(r_k0_7);
+    r_ip_1 = ld64(r_zd_11);
     goto l_capnp_no_1;
 l_join_br_1:;
-    if (!(switch_f9_4 == 0ull)) goto l_else_4r_1;
-    r_y6_3 = (u64)(r_qw_14 >> 48ull);
-    r_q7_3 = (r_ep_6 & 65535ull);
-    r_lc_23 = (r_q7_3 + r_y6_3);
+    if (!(switch_f9_1 == 0ull)) goto l_else_4r_1;
+    r_y6_3 = (u64)(r_qw_6 >> 48ull);
+    r_q7_2 = (r_ep_4 & 65535ull);
+    r_lc_9 = (r_q7_2 + r_y6_3);
     if (t_pa) goto l_join_o1_1;
-    st64(r_08_4, uadd_sat64(ld64(r_08_4), 1ull));
+    st64(r_08_2, uadd_sat64(ld64(r_08_2), 1ull));
 l_join_o1_1:;
-    u64 r_m6_4 = ((u64)(r_qw_14 >> 2ull) & 0x3fffffffull);
-    r_lc_24 = ((r_24_53 + 1ull) + r_m6_4);
+    u64 r_m6_4 = ((u64)(r_qw_6 >> 2ull) & 0x3fffffffull);
+    r_lc_10 = ((r_24_8 + 1ull) + r_m6_4);
     if (!(r_m6_4 < 0x20000000ull)) goto l_else_70_4;
-    if (r_lc_24 > r_nb_8) { r_2b_26 = 23u; goto l_capnp_no_2; }
-    r_jm_1 = r_lc_24;
+    if (r_lc_10 > r_nb_2) { r_2b_6 = 23u; goto l_capnp_no_2; }
+    r_jm_1 = r_lc_10;
     goto l_arm_h8_1;
 l_else_70_4:;
-    u64 r_3o_4 = (r_lc_24 + 0xffffffffc0000000ull);
-    if ((r_lc_24 < 0x40000000ull) ? 1u : (r_3o_4 > r_nb_8)) { r_2b_26 = 23u; goto l_capnp_no_2; }
+    u64 r_3o_4 = (r_lc_10 + 0xffffffffc0000000ull);
+    if ((r_lc_10 < 0x40000000ull) ? 1u : (r_3o_4 > r_nb_2)) { r_2b_6 = 23u; goto l_capnp_no_2; }
     r_jm_1 = r_3o_4;
 l_arm_h8_1:;
-    r_4r_6 = (u32)r_jm_1;
-    if (r_sg_1) { r_2b_26 = 26u; goto l_capnp_no_2; }
-    r_8u_9 = (r_nb_8 < (r_jm_1 + r_lc_23));
-    if ((u8)((u8)t_pa | (u8)r_8u_9)) goto l_capnp_li_1;
-    if (!(ld8(a_6) == 1u)) { r_5b_1 = r_4r_6; goto l_arm_7a_1; }
-    r_52_26 = ld64(r_rq_9);
-    if (r_52_26 < r_lc_23) { r_2b_26 = 30u; goto l_capnp_no_2; }
+    r_4r_2 = (u32)r_jm_1;
+    if (r_sg_1) { r_2b_6 = 26u; goto l_capnp_no_2; }
+    r_8u_1 = (r_nb_2 < (r_jm_1 + r_lc_9));
+    if ((u8)((u8)t_pa | (u8)r_8u_1)) goto l_capnp_li_1;
+    if (!(ld8(a_6) == 1u)) { r_5b_1 = r_4r_2; goto l_arm_7a_1; }
+    r_52_15 = ld64(r_rq_7);
+    if (r_52_15 < r_lc_9) { r_2b_6 = 30u; goto l_capnp_no_2; }
     st64(a_6, 1ull);
-    st64(r_rq_9, (r_52_26 - r_lc_23));
-    r_5b_1 = r_4r_6;
+    st64(r_rq_7, (r_52_15 - r_lc_9));
+    r_5b_1 = r_4r_2;
     goto l_arm_7a_1;
 l_capnp_li_1:;
-    if (r_8u_9) { r_2b_26 = 23u; goto l_capnp_no_2; }
-    r_5b_1 = (r_8u_9 ? 0u : r_4r_6);
+    if (r_8u_1) { r_2b_6 = 23u; goto l_capnp_no_2; }
+    r_5b_1 = (r_8u_1 ? 0u : r_4r_2);
 l_arm_7a_1:;
-    if (!t_q5_2) { r_mz_7 = r_ep_6; r_3h = r_y6_3; goto l_capnp_fl; }
-    u64 r_24_63 = (u64)r_5b_1;
-    r_lc_26 = (r_q7_3 + r_24_63);
-    r_z6_56 = (u64)(r_q7_3 << 3ull);
-    r_c0_16 = away(t_f6_2, (u64)(r_24_63 << 3ull));
-    if (r_q7_3 < 32ull) { r_nm_6 = r_q7_3; goto l_loop_jc_4; }
+    if (!t_q5_1) { r_mz = r_ep_4; r_3h = r_y6_3; goto l_capnp_fl; }
+    u64 r_24_10 = (u64)r_5b_1;
+    r_lc_11 = (r_q7_2 + r_24_10);
+    r_z6_14 = (u64)(r_q7_2 << 3ull);
+    r_c0_6 = away(t_f6_1, (u64)(r_24_10 << 3ull));
+    if (r_q7_2 < 32ull) { r_nm_5 = r_q7_2; goto l_loop_jc_4; }
     goto l_else_wj_2;
 l_loop_jc_4:;
-    if (r_nm_6 == 0ull) { r_ev_1 = 0ull; goto l_capnp_fc_1; }
-    u64 r_0f_22 = (r_nm_6 + 0xffffffffffffffffull);
-    if (ld64(away(r_c0_16, (u64)(r_0f_22 << 3ull))) == 0ull) { r_nm_6 = r_0f_22; goto l_loop_jc_4; }
-    r_ev_1 = r_nm_6;
+    if (r_nm_5 == 0ull) { r_ev_1 = 0ull; goto l_capnp_fc_1; }
+    u64 r_0f_8 = (r_nm_5 + 0xffffffffffffffffull);
+    if (ld64(away(r_c0_6, (u64)(r_0f_8 << 3ull))) == 0ull) { r_nm_5 = r_0f_8; goto l_loop_jc_4; }
+    r_ev_1 = r_nm_5;
     goto l_capnp_fc_1;
 l_else_wj_2:;
-    if (!(ld64(away(away(r_c0_16, r_z6_56), 0xfffffffffffffff8ull)) == 0ull)) { r_ev_1 = r_q7_3; goto l_capnp_fc_1; }
-    u64 r_g1_2 = capnp_words_lanes_used_words_bound(r_c0_16, r_z6_56);
-    r_nm_7 = r_g1_2;
+    if (!(ld64(away(away(r_c0_6, r_z6_14), 0xfffffffffffffff8ull)) == 0ull)) { r_ev_1 = r_q7_2; goto l_capnp_fc_1; }
+    u64 r_g1_2 = capnp_words_lanes_used_words_bound(r_c0_6, r_z6_14);
+    r_nm_6 = r_g1_2;
 l_loop_jc_5:;
-    if (r_nm_7 == 0ull) { r_ev_1 = 0ull; goto l_capnp_fc_1; }
-    u64 r_0f_23 = (r_nm_7 + 0xffffffffffffffffull);
-    if (ld64(away(r_c0_16, (u64)(r_0f_23 << 3ull))) == 0ull) { r_nm_7 = r_0f_23; goto l_loop_jc_5; }
-    r_ev_1 = r_nm_7;
+    if (r_nm_6 == 0ull) { r_ev_1 = 0ull; goto l_capnp_fc_1; }
+    u64 r_0f_9 = (r_nm_6 + 0xffffffffffffffffull);
+    if (ld64(away(r_c0_6, (u64)(r_0f_9 << 3ull))) == 0ull) { r_nm_6 = r_0f_9; goto l_loop_jc_5; }
+    r_ev_1 = r_nm_6;
 l_capnp_fc_1:;
-    r_z6_59 = (u64)(r_y6_3 << 3ull);
-    r_c0_17 = away(t_f6_2, (u64)(r_lc_26 << 3ull));
-    if (r_qw_14 < 0x20000000000000ull) { r_nm_8 = r_y6_3; goto l_loop_jc_6; }
+    r_z6_15 = (u64)(r_y6_3 << 3ull);
+    r_c0_7 = away(t_f6_1, (u64)(r_lc_11 << 3ull));
+    if (r_qw_6 < 0x20000000000000ull) { r_nm_7 = r_y6_3; goto l_loop_jc_6; }
     goto l_else_wj_3;
 l_loop_jc_6:;
-    if (r_nm_8 == 0ull) { r_mz_7 = r_ev_1; r_3h = 0ull; goto l_capnp_fl; }
-    u64 r_0f_24 = (r_nm_8 + 0xffffffffffffffffull);
-    if (ld64(away(r_c0_17, (u64)(r_0f_24 << 3ull))) == 0ull) { r_nm_8 = r_0f_24; goto l_loop_jc_6; }
-    r_mz_7 = r_ev_1;
-    r_3h = r_nm_8;
+    if (r_nm_7 == 0ull) { r_mz = r_ev_1; r_3h = 0ull; goto l_capnp_fl; }
+    u64 r_0f_10 = (r_nm_7 + 0xffffffffffffffffull);
+    if (ld64(away(r_c0_7, (u64)(r_0f_10 << 3ull))) == 0ull) { r_nm_7 = r_0f_10; goto l_loop_jc_6; }
+    r_mz = r_ev_1;
+    r_3h = r_nm_7;
     goto l_capnp_fl;
 l_else_wj_3:;
-    if (!(ld64(away(away(r_c0_17, r_z6_59), 0xfffffffffffffff8ull)) == 0ull)) { r_mz_7 = r_ev_1; r_3h = r_y6_3; goto l_capnp_fl; }
-    u64 r_g1_3 = capnp_words_lanes_used_words_bound(r_c0_17, r_z6_59);
-    r_nm_9 = r_g1_3;
+    if (!(ld64(away(away(r_c0_7, r_z6_15), 0xfffffffffffffff8ull)) == 0ull)) { r_mz = r_ev_1; r_3h = r_y6_3; goto l_capnp_fl; }
+    u64 r_g1_3 = capnp_words_lanes_used_words_bound(r_c0_7, r_z6_15);
+    r_nm_8 = r_g1_3;
 l_loop_jc_7:;
-    if (r_nm_9 == 0ull) { r_mz_7 = r_ev_1; r_3h = 0ull; goto l_capnp_fl; }
-    u64 r_0f_25 = (r_nm_9 + 0xffffffffffffffffull);
-    if (ld64(away(r_c0_17, (u64)(r_0f_25 << 3ull))) == 0ull) { r_nm_9 = r_0f_25; goto l_loop_jc_7; }
-    r_mz_7 = r_ev_1;
-    r_3h = r_nm_9;
+    if (r_nm_8 == 0ull) { r_mz = r_ev_1; r_3h = 0ull; goto l_capnp_fl; }
+    u64 r_0f_11 = (r_nm_8 + 0xffffffffffffffffull);
+    if (ld64(away(r_c0_7, (u64)(r_0f_11 << 3ull))) == 0ull) { r_nm_8 = r_0f_11; goto l_loop_jc_7; }
+    r_mz = r_ev_1;
+    r_3h = r_nm_8;
 l_capnp_fl:;
-    r_xg_3 = (u16)r_mz_7;
-    r_29_2 = ((u32)r_mz_7 & 65535u);
+    r_xg_2 = (u16)r_mz;
+    r_29_1 = ((u32)r_mz & 65535u);
     r_az_4 = ((u32)r_3h & 65535u);
-    r_68_5 = (r_az_4 + r_29_2);
+    r_68_5 = (r_az_4 + r_29_1);
     if (!(r_68_5 == 0u)) goto l_join_lx;
-    if (!r_2p_10) goto l_else_n6;
-    u64 r_24_64 = (u64)r_sr_8;
-    st64(away(ldp(r_xm_1), (u64)(r_24_64 << 3ull)), 0xfffffffcull);
-    r_ro_1 = r_24_64;
+    if (!r_2p_1) goto l_else_n6;
+    u64 r_24_11 = (u64)r_sr_1;
+    st64(away(ldp(r_xm), (u64)(r_24_11 << 3ull)), 0xfffffffcull);
+    r_ro_1 = r_24_11;
     goto l_capnp_sg_1;
 l_else_n6:;
-    capnp_arena_arena_rows_put_word_in_4426f83c3c99ca57(ldp(r_yf_24), r_0f_18, r_sr_8, 0xfffffffcull);
-    r_ro_1 = (u64)r_sr_8;
+    capnp_arena_arena_rows_put_word_in_4426f83c3c99ca57(ldp(r_yf_12), r_0f_6, r_sr_1, 0xfffffffcull);
+    r_ro_1 = (u64)r_sr_1;
 l_capnp_sg_1:;
-    r_nu_1 = ((u64)(r_ro_1 << 32ull) | r_24_49);
+    r_nu_1 = ((u64)(r_ro_1 << 32ull) | r_24_6);
     goto l_arm_zo_1;
 l_join_lx:;
-    if (!r_2p_10) goto l_else_xr_1;
-    r_yf_27 = ld32(r_h6_5);
-    r_52_27 = ld64(r_su_6);
-    if (((u64)r_yf_27 + (u64)r_68_5) > (u64)((ld64(r_r2_6) + r_52_27) >> 3ull)) { r_kw_5 = 0u; r_re_5 = 0u; goto l_join_ax_5; }
-    r_w0_17 = (r_yf_27 + r_68_5);
-    r_z6_63 = (u64)((u64)r_w0_17 << 3ull);
-    if (!(r_52_27 < r_z6_63)) goto l_capnp_9l_6;
-    capnp_messages_messages_copy_memory_CopySegment_zero_up_to(r_xm_1, r_z6_63);
+    if (!r_2p_1) goto l_else_xr_1;
+    r_yf_15 = ld32(r_h6_5);
+    r_52_16 = ld64(r_su_1);
+    if (((u64)r_yf_15 + (u64)r_68_5) > (u64)((ld64(r_r2_1) + r_52_16) >> 3ull)) { r_kw_5 = 0u; r_re_5 = 0u; goto l_join_ax_5; }
+    r_w0_11 = (r_yf_15 + r_68_5);
+    r_z6_16 = (u64)((u64)r_w0_11 << 3ull);
+    if (!(r_52_16 < r_z6_16)) goto l_capnp_9l_6;
+    capnp_messages_messages_copy_memory_CopySegment_zero_up_to(r_xm, r_z6_16);
 l_capnp_9l_6:;
-    st32(r_h6_5, r_w0_17);
+    st32(r_h6_5, r_w0_11);
     r_kw_5 = 1u;
-    r_re_5 = r_yf_27;
+    r_re_5 = r_yf_15;
 l_join_ax_5:;
     struct s_i8_i32 t_9l_5 = (struct s_i8_i32){ 0 };
     t_9l_5.f0 = r_kw_5;
@@ -6197,125 +6272,125 @@ l_join_ax_5:;
     r_jz_4 = t_3s_5;
     goto l_capnp_c2_4;
 l_else_xr_1:;
-    struct s_i8_i32 r_tu_6 = capnp_arena_arena_rows_allocate_in_4426f83c3c99ca57(ldp(r_yf_24), r_0f_18, r_68_5);
+    struct s_i8_i32 r_tu_6 = capnp_arena_arena_rows_allocate_in_4426f83c3c99ca57(ldp(r_yf_12), r_0f_6, r_68_5);
     r_jz_4 = r_tu_6;
 l_capnp_c2_4:;
     if (!(r_jz_4.f0 == 1u)) goto l_arm_ua_6;
     r_xo_7 = r_jz_4.f1;
-    r_a7_43 = ((((u64)(r_mz_7 << 32ull) & 0xffff00000000ull) | (u64)(r_3h << 48ull)) | (u64)(u32)((r_xo_7 + (r_sr_8 ^ 0xffffffffu)) << 2u));
-    if (!r_2p_10) goto l_else_6u;
-    st64(away(ldp(r_xm_1), (u64)((u64)r_sr_8 << 3ull)), r_a7_43);
+    r_a7_1 = ((((u64)(r_mz << 32ull) & 0xffff00000000ull) | (u64)(r_3h << 48ull)) | (u64)(u32)((r_xo_7 + (r_sr_1 ^ 0xffffffffu)) << 2u));
+    if (!r_2p_1) goto l_else_6u;
+    st64(away(ldp(r_xm), (u64)((u64)r_sr_1 << 3ull)), r_a7_1);
     goto l_capnp_qg;
 l_else_6u:;
-    capnp_arena_arena_rows_put_word_in_4426f83c3c99ca57(ldp(r_yf_24), r_0f_18, r_sr_8, r_a7_43);
+    capnp_arena_arena_rows_put_word_in_4426f83c3c99ca57(ldp(r_yf_12), r_0f_6, r_sr_1, r_a7_1);
     goto l_capnp_qg;
 l_arm_ua_6:;
     capnp_arena_arena_builder_arena_impl_BuilderArenaImplB_7b1ceaa0(slot_1, a_2, (r_68_5 + 1u));
     if (!(ld8(slot_1) == 0u)) goto l_arm_vh_3;
-    u32 r_yf_28 = ld32(r_ix_6);
-    u32 r_e3_7 = ld32(r_x5_23);
-    capnp_arena_arena_builder_arena_impl_BuilderArenaImplB_24b0f4d4(a_2, r_yf_28, r_e3_7, (((u64)(r_mz_7 << 32ull) & 0xffff00000000ull) | (u64)(r_3h << 48ull)));
-    capnp_arena_arena_builder_arena_impl_BuilderArenaImplB_24b0f4d4(a_2, r_21_1, r_sr_8, (((u64)((u64)r_yf_28 << 32ull) | (u64)((u64)r_e3_7 << 3ull)) | 2ull));
-    r_nu_1 = ((u64)((u64)(r_e3_7 + 1u) << 32ull) | (u64)r_yf_28);
+    u32 r_yf_16 = ld32(r_ix_2);
+    u32 r_e3_7 = ld32(r_x5_10);
+    capnp_arena_arena_builder_arena_impl_BuilderArenaImplB_24b0f4d4(a_2, r_yf_16, r_e3_7, (((u64)(r_mz << 32ull) & 0xffff00000000ull) | (u64)(r_3h << 48ull)));
+    capnp_arena_arena_builder_arena_impl_BuilderArenaImplB_24b0f4d4(a_2, r_21_1, r_sr_1, (((u64)((u64)r_yf_16 << 32ull) | (u64)((u64)r_e3_7 << 3ull)) | 2ull));
+    r_nu_1 = ((u64)((u64)(r_e3_7 + 1u) << 32ull) | (u64)r_yf_16);
     goto l_arm_zo_1;
 l_capnp_qg:;
-    r_nu_1 = ((u64)((u64)r_xo_7 << 32ull) | r_24_50);
+    r_nu_1 = ((u64)((u64)r_xo_7 << 32ull) | r_24_7);
 l_arm_zo_1:;
-    r_wt_6 = (u32)r_nu_1;
-    r_ep_7 = (u64)(r_nu_1 >> 32ull);
-    r_4r_7 = (u32)r_ep_7;
-    r_0l_2 = ((u64)(r_mz_7 << 3ull) & 0x7fff8ull);
-    r_c0_18 = away(t_f6_2, (u64)((u64)r_5b_1 << 3ull));
-    if (r_xg_3 == 0u) goto l_capnp_5c;
-    if (!(r_wt_6 == 0u)) goto l_else_h1_4;
-    r_al_1 = ldp(r_xm_1);
+    r_wt_1 = (u32)r_nu_1;
+    r_ep_5 = (u64)(r_nu_1 >> 32ull);
+    r_4r_3 = (u32)r_ep_5;
+    r_0l_1 = ((u64)(r_mz << 3ull) & 0x7fff8ull);
+    r_c0_8 = away(t_f6_1, (u64)((u64)r_5b_1 << 3ull));
+    if (r_xg_2 == 0u) goto l_capnp_5c;
+    if (!(r_wt_1 == 0u)) goto l_else_h1_4;
+    r_al_1 = ldp(r_xm);
     goto l_capnp_kr_1;
 l_else_h1_4:;
-    u8 *r_x5_29 = capnp_arena_arena_rows_Rows_other_mut_4426f83c3c99ca57(r_xm_1, r_wt_6);
-    r_al_1 = r_x5_29;
+    u8 *r_x5_16 = capnp_arena_arena_rows_Rows_other_mut_4426f83c3c99ca57(r_xm, r_wt_1);
+    r_al_1 = r_x5_16;
 l_capnp_kr_1:;
-    r_2b_33 = away(r_al_1, (u64)(r_ep_7 << 3ull));
-    if (!(r_xg_3 < 8u)) goto l_else_r3_4;
-    if (!(r_xg_3 > 3u)) goto l_else_1o_1;
-    mv32(r_2b_33, r_c0_18);
-    u64 r_bh_6 = (r_0l_2 + 0xffffffffffffffe0ull);
-    mv32((r_2b_33 + (i64)(r_bh_6)), (r_c0_18 + (i64)(r_bh_6)));
+    r_2b_7 = away(r_al_1, (u64)(r_ep_5 << 3ull));
+    if (!(r_xg_2 < 8u)) goto l_else_r3_4;
+    if (!(r_xg_2 > 3u)) goto l_else_1o_1;
+    mv32(r_2b_7, r_c0_8);
+    u64 r_bh_5 = (r_0l_1 + 0xffffffffffffffe0ull);
+    mv32((r_2b_7 + (i64)(r_bh_5)), (r_c0_8 + (i64)(r_bh_5)));
     goto l_capnp_5c;
 l_else_1o_1:;
-    if (r_xg_3 == 1u) goto l_then_49_3;
-    mv16(r_2b_33, r_c0_18);
-    u64 r_8f_4 = (r_0l_2 + 0xfffffffffffffff0ull);
-    mv16((r_2b_33 + (i64)(r_8f_4)), (r_c0_18 + (i64)(r_8f_4)));
+    if (r_xg_2 == 1u) goto l_then_49_3;
+    mv16(r_2b_7, r_c0_8);
+    u64 r_8f_4 = (r_0l_1 + 0xfffffffffffffff0ull);
+    mv16((r_2b_7 + (i64)(r_8f_4)), (r_c0_8 + (i64)(r_8f_4)));
     goto l_capnp_5c;
 l_then_49_3:;
-    mv8(r_2b_33, r_c0_18);
-    u64 r_la_4 = (r_0l_2 + 0xfffffffffffffff8ull);
-    mv8((r_2b_33 + (i64)(r_la_4)), (r_c0_18 + (i64)(r_la_4)));
+    mv8(r_2b_7, r_c0_8);
+    u64 r_la_4 = (r_0l_1 + 0xfffffffffffffff8ull);
+    mv8((r_2b_7 + (i64)(r_la_4)), (r_c0_8 + (i64)(r_la_4)));
     goto l_capnp_5c;
 l_else_r3_4:;
-    if (((u64)(uptr)r_2b_33 - (u64)(uptr)r_c0_18) < r_0l_2) { r_il_4 = 0ull; goto l_join_fh_4; }
-    memmove_or_none(r_2b_33, r_c0_18, r_0l_2);
+    if (((u64)(uptr)r_2b_7 - (u64)(uptr)r_c0_8) < r_0l_1) { r_il_4 = 0ull; goto l_join_fh_4; }
+    memmove_or_none(r_2b_7, r_c0_8, r_0l_1);
     goto l_capnp_5c;
 l_join_fh_4:;
-    st8((r_2b_33 + (i64)(r_il_4)), ld8((r_c0_18 + (i64)(r_il_4))));
-    u64 r_c4_16 = (r_il_4 + 1ull);
-    if (!(r_c4_16 == r_0l_2)) { r_il_4 = r_c4_16; goto l_join_fh_4; }
+    st8((r_2b_7 + (i64)(r_il_4)), ld8((r_c0_8 + (i64)(r_il_4))));
+    u64 r_c4_9 = (r_il_4 + 1ull);
+    if (!(r_c4_9 == r_0l_1)) { r_il_4 = r_c4_9; goto l_join_fh_4; }
 l_capnp_5c:;
     memset(slot_1, 0u, 24);
-    st64(t_6c_4, 0ull);
-    if (r_az_4 == 0u) { r_2b_34 = 0u; r_qh_2 = 0u; r_ip_2 = 0u; r_wq_1 = 0ull; goto l_capnp_no_3; }
+    st64(t_6c_2, 0ull);
+    if (r_az_4 == 0u) { r_2b_8 = 0u; r_qh_2 = 0u; r_ip_2 = 0u; r_wq_1 = 0ull; goto l_capnp_no_3; }
     st64(slot_2, r_eg);
-    stp(r_x5_24, r_rv);
-    st64(r_zd_16, r_qw);
-    st64(r_lk_6, r_qd);
-    stp(r_89_6, t_f6_2);
-    st64(r_a8_6, r_9h);
-    st32(r_c4_11, (r_5b_1 + ((u32)r_ep_6 & 65535u)));
-    st32(r_bk_3, 0u);
-    st32(r_6c_5, r_s1_1);
-    capnp_copies_copy_children_copy_children_out_of_line_f_b6070b37(slot_1, a_2, r_wt_6, (r_29_2 + r_4r_7), slot_2, r_az_4, a_6, a_7);
-    r_2b_34 = ld8(slot_1);
-    r_qh_2 = ld8(r_x5_25);
-    r_ip_2 = ld32(r_k0_10);
-    r_wq_1 = ld64(r_zd_17);
+    stp(r_x5_11, r_rv);
+    st64(r_zd_9, r_qw);
+    st64(r_lk_3, r_qd);
+    stp(r_89_3, t_f6_1);
+    st64(r_a8_3, r_9h);
+    st32(r_c4_6, (r_5b_1 + ((u32)r_ep_4 & 65535u)));
+    st32(r_bk_1, 0u);
+    st32(r_6c_3, r_s1_1);
+    capnp_copies_copy_children_copy_children_out_of_line_f_b6070b37(slot_1, a_2, r_wt_1, (r_29_1 + r_4r_3), slot_2, r_az_4, a_6, a_7);
+    r_2b_8 = ld8(slot_1);
+    r_qh_2 = ld8(r_x5_12);
+    r_ip_2 = ld32(r_k0_6);
+    r_wq_1 = ld64(r_zd_10);
 l_capnp_no_3:;
     t_ko = r_wq_1;
     t_h6 = r_ip_2;
     r_ex = r_qh_2;
-    t_jr = r_2b_34;
+    t_jr = r_2b_8;
     goto l_capnp_z0;
 l_arm_vh_3:;
-    t_ko = ld64(r_zd_15);
-    t_h6 = ld32(r_k0_9);
-    r_ex = ld8(r_x5_23);
+    t_ko = ld64(r_zd_8);
+    t_h6 = ld32(r_k0_5);
+    r_ex = ld8(r_x5_10);
     t_jr = 1u;
     goto l_capnp_z0;
 l_capnp_no_2:;
     r_rh = 1u;
-    r_hg_2 = r_2b_26;
+    r_hg_2 = r_2b_6;
     r_je = 0u;
     r_s2 = 0ull;
     goto l_capnp_nb;
 l_else_4r_1:;
     st64(slot_4, r_eg);
-    stp(r_x5_21, r_rv);
-    st64(r_zd_13, r_qw);
-    st64(r_lk_5, r_qd);
-    stp(r_89_5, t_f6_2);
-    st64(r_a8_5, r_9h);
-    st64(r_c4_10, r_24_53);
-    st32(r_6c_4, r_4w_1);
-    capnp_copies_copy_copy_object_f91b20a4a575fbcb(slot_3, a_2, r_21_1, r_sr_8, slot_4, a_6, a_7);
-    t_ko = ld64(r_zd_14);
-    t_h6 = ld32(r_k0_8);
-    r_ex = ld8(r_x5_22);
+    stp(r_x5_8, r_rv);
+    st64(r_zd_6, r_qw);
+    st64(r_lk_2, r_qd);
+    stp(r_89_2, t_f6_1);
+    st64(r_a8_2, r_9h);
+    st64(r_c4_5, r_24_8);
+    st32(r_6c_2, r_4w_1);
+    capnp_copies_copy_copy_object_f91b20a4a575fbcb(slot_3, a_2, r_21_1, r_sr_1, slot_4, a_6, a_7);
+    t_ko = ld64(r_zd_7);
+    t_h6 = ld32(r_k0_4);
+    r_ex = ld8(r_x5_9);
     t_jr = ld8(slot_3);
     goto l_capnp_z0;
 l_capnp_v7_1:;
     goto l_loop_w2;
 l_capnp_no_1:;
     r_rh = 1u;
-    r_hg_2 = r_2b_19;
+    r_hg_2 = r_2b_4;
     r_je = r_qh_1;
     r_s2 = r_ip_1;
     goto l_capnp_nb;
@@ -6332,12 +6407,12 @@ l_arm_x3_3:;
     r_je = ld32((slot_1 + 12));
     r_s2 = ld64((slot_1 + 16));
 l_capnp_nb:;
-    r_5k_2 = r_rh;
+    r_5k_1 = r_rh;
     r_qp = r_hg_2;
     r_7u = r_je;
     r_pz = r_s2;
 l_join_1g:;
-    r_10 = r_5k_2;
+    r_10 = r_5k_1;
     r_kb = (u32)r_qp;
     r_n4 = r_7u;
     r_yp = r_pz;
@@ -6494,7 +6569,7 @@ static NEVER struct s_i8_i32 capnp_arena_arena_bounds_first_fit_by_bounds_4426f8
     u64 r_oc;
     u8 r_r3;
     u8 *r_8z;
-    u32 r_yf_1;
+    u32 r_yf;
     u64 r_gw;
     u32 r_da;
     u64 r_36;
@@ -6532,13 +6607,13 @@ l_capnp_ph:;
     r_r3 = (r_oc < a_2);
     if (!r_r3) { r_er = 0u; goto l_return_qi; }
     r_8z = away(a_1, (r_oc * 40ull));
-    r_yf_1 = ld32(away(r_8z, 32ull));
+    r_yf = ld32(away(r_8z, 32ull));
     r_gw = (u64)((ld64(away(r_8z, 24ull)) + ld64(away(r_8z, 8ull))) >> 3ull);
-    if (((u64)r_yf_1 + r_7l) > r_gw) goto l_join_qt;
+    if (((u64)r_yf + r_7l) > r_gw) goto l_join_qt;
     r_er = (u32)r_oc;
     goto l_return_qi;
 l_join_qt:;
-    r_da = ((u32)r_gw - r_yf_1);
+    r_da = ((u32)r_gw - r_yf);
     if (!((r_oc & 1ull) == 0ull)) goto l_join_f2;
     r_0o = (r_oc | 1ull);
     r_cm = r_da;
@@ -6635,17 +6710,17 @@ static struct s_i16_i16 capnp_copies_copy_lists_kept_widths_5ccc1be374b2e488(u8 
     u64 r_ec;
     u16 r_aa;
     u16 r_ma;
-    u64 r_u7_1;
+    u64 r_u7;
     u64 r_z6;
     u8 *r_2b;
     u64 r_nm;
     u64 r_nm_1;
     u64 r_xk;
     u16 r_5f;
-    u64 r_5q_1;
-    u64 r_u7_3;
-    u64 r_z6_2;
-    u8 *r_2b_3;
+    u64 r_5q;
+    u64 r_u7_1;
+    u64 r_z6_1;
+    u8 *r_2b_1;
     u64 r_nm_2;
     u64 r_nm_3;
     u64 r_ie;
@@ -6662,10 +6737,10 @@ static struct s_i16_i16 capnp_copies_copy_lists_kept_widths_5ccc1be374b2e488(u8 
     r_ma = 0u;
 l_join_rn:;
     u16 r_ug = (u16)(a_2 - r_ma);
-    r_u7_1 = (u64)r_ug;
-    r_z6 = (u64)(r_u7_1 << 3ull);
+    r_u7 = (u64)r_ug;
+    r_z6 = (u64)(r_u7 << 3ull);
     r_2b = away(r_rv, (u64)((r_ec + (u64)r_ma) << 3ull));
-    if (r_ug < 32u) { r_nm = r_u7_1; goto l_loop_jc; }
+    if (r_ug < 32u) { r_nm = r_u7; goto l_loop_jc; }
     goto l_else_wj;
 l_loop_jc:;
     if (r_nm == 0ull) { r_xk = 0ull; goto l_capnp_k4; }
@@ -6674,7 +6749,7 @@ l_loop_jc:;
     r_xk = r_nm;
     goto l_capnp_k4;
 l_else_wj:;
-    if (!(ld64(away(away(r_2b, r_z6), 0xfffffffffffffff8ull)) == 0ull)) { r_xk = r_u7_1; goto l_capnp_k4; }
+    if (!(ld64(away(away(r_2b, r_z6), 0xfffffffffffffff8ull)) == 0ull)) { r_xk = r_u7; goto l_capnp_k4; }
     u64 r_g1 = capnp_words_lanes_used_words_bound(r_2b, r_z6);
     r_nm_1 = r_g1;
 l_loop_jc_1:;
@@ -6684,34 +6759,34 @@ l_loop_jc_1:;
     r_xk = r_nm_1;
 l_capnp_k4:;
     r_5f = (u16)(r_ma + (u16)r_xk);
-    r_5q_1 = (r_ec + r_bi);
+    r_5q = (r_ec + r_bi);
     u16 r_ug_1 = (u16)(a_3 - r_aa);
-    r_u7_3 = (u64)r_ug_1;
-    r_z6_2 = (u64)(r_u7_3 << 3ull);
-    r_2b_3 = away(r_rv, (u64)((r_5q_1 + (u64)r_aa) << 3ull));
-    if (r_ug_1 < 32u) { r_nm_2 = r_u7_3; goto l_loop_jc_2; }
+    r_u7_1 = (u64)r_ug_1;
+    r_z6_1 = (u64)(r_u7_1 << 3ull);
+    r_2b_1 = away(r_rv, (u64)((r_5q + (u64)r_aa) << 3ull));
+    if (r_ug_1 < 32u) { r_nm_2 = r_u7_1; goto l_loop_jc_2; }
     goto l_else_wj_1;
 l_loop_jc_2:;
     if (r_nm_2 == 0ull) { r_ie = 0ull; goto l_capnp_6t; }
     u64 r_0f_2 = (r_nm_2 + 0xffffffffffffffffull);
-    if (ld64(away(r_2b_3, (u64)(r_0f_2 << 3ull))) == 0ull) { r_nm_2 = r_0f_2; goto l_loop_jc_2; }
+    if (ld64(away(r_2b_1, (u64)(r_0f_2 << 3ull))) == 0ull) { r_nm_2 = r_0f_2; goto l_loop_jc_2; }
     r_ie = r_nm_2;
     goto l_capnp_6t;
 l_else_wj_1:;
-    if (!(ld64(away(away(r_2b_3, r_z6_2), 0xfffffffffffffff8ull)) == 0ull)) { r_ie = r_u7_3; goto l_capnp_6t; }
-    u64 r_g1_1 = capnp_words_lanes_used_words_bound(r_2b_3, r_z6_2);
+    if (!(ld64(away(away(r_2b_1, r_z6_1), 0xfffffffffffffff8ull)) == 0ull)) { r_ie = r_u7_1; goto l_capnp_6t; }
+    u64 r_g1_1 = capnp_words_lanes_used_words_bound(r_2b_1, r_z6_1);
     r_nm_3 = r_g1_1;
 l_loop_jc_3:;
     if (r_nm_3 == 0ull) { r_ie = 0ull; goto l_capnp_6t; }
     u64 r_0f_3 = (r_nm_3 + 0xffffffffffffffffull);
-    if (ld64(away(r_2b_3, (u64)(r_0f_3 << 3ull))) == 0ull) { r_nm_3 = r_0f_3; goto l_loop_jc_3; }
+    if (ld64(away(r_2b_1, (u64)(r_0f_3 << 3ull))) == 0ull) { r_nm_3 = r_0f_3; goto l_loop_jc_3; }
     r_ie = r_nm_3;
 l_capnp_6t:;
     u16 r_5f_1 = (u16)(r_aa + (u16)r_ie);
     u32 r_7t = (r_ev + 1u);
     if (r_7t == a_4) { r_v9 = r_5f; r_t6 = r_5f_1; goto l_join_wd; }
     r_ev = r_7t;
-    r_ec = (r_5q_1 + r_bi_1);
+    r_ec = (r_5q + r_bi_1);
     r_aa = r_5f_1;
     r_ma = r_5f;
     goto l_join_rn;
@@ -6928,7 +7003,7 @@ static NEVER COLD void capnp_making_landing_follow_far_4072c0e2a627e5d6(u8 *a_1,
     u8 *r_jx;
     u8 *r_ly;
     u64 r_pz;
-    u32 r_x0_1;
+    u32 r_x0;
     u64 r_ra;
     u64 r_6p;
     u32 r_01;
@@ -6939,14 +7014,14 @@ static NEVER COLD void capnp_making_landing_follow_far_4072c0e2a627e5d6(u8 *a_1,
     u8 *r_8j;
     u64 r_t5;
     u64 r_lw;
-    u64 pre_0f_1;
+    u64 pre_0f;
     u8 *r_li;
     u64 r_wm;
     u64 r_lc;
     u64 r_z3;
     u64 r_vt;
     u64 r_8t;
-    u32 r_49_1;
+    u32 r_49;
     u32 r_1t;
     u32 r_a3;
     r_cy = (u64)(a_3 >> 32ull);
@@ -6973,35 +7048,35 @@ l_capnp_87:;
     if ((a_3 & 4ull) == 0ull) goto l_else_y9;
     goto l_then_8r;
 l_capnp_50:;
-    if ((a_3 & 4ull) == 0ull) { r_vt = 0ull; r_8t = 0ull; r_49_1 = 0u; r_1t = 0u; r_a3 = 0u; goto l_join_s8; }
+    if ((a_3 & 4ull) == 0ull) { r_vt = 0ull; r_8t = 0ull; r_49 = 0u; r_1t = 0u; r_a3 = 0u; goto l_join_s8; }
     r_t5 = 0ull;
     r_lw = 0ull;
     goto l_capnp_31;
 l_capnp_8h:;
-    if ((a_3 & 4ull) == 0ull) { r_vt = 0ull; r_8t = 0ull; r_49_1 = 0u; r_1t = 0u; r_a3 = 0u; goto l_join_s8; }
+    if ((a_3 & 4ull) == 0ull) { r_vt = 0ull; r_8t = 0ull; r_49 = 0u; r_1t = 0u; r_a3 = 0u; goto l_join_s8; }
     r_ra = r_0f;
     r_6p = r_52;
     r_01 = (t_ri + 1u);
     r_rh = 0ull;
     goto l_then_pl;
 l_then_8r:;
-    r_x0_1 = (t_ri + 1u);
+    r_x0 = (t_ri + 1u);
     if (r_ts) goto l_join_hy;
     r_ra = (r_cy + 0xffffffffffffffffull);
     r_6p = ld64(away(a_2, 88ull));
-    r_01 = r_x0_1;
+    r_01 = r_x0;
     r_rh = r_pz;
 l_then_pl:;
     if (!(r_ra < r_6p)) { r_t5 = r_rh; r_lw = 0ull; goto l_capnp_31; }
-    u8 *r_2b_2 = away(ldp(away(a_2, 80ull)), (r_ra * 40ull));
+    u8 *r_2b_1 = away(ldp(away(a_2, 80ull)), (r_ra * 40ull));
     r_5s = r_01;
     r_g9 = r_rh;
-    r_jt = away(r_2b_2, 32ull);
-    r_8j = r_2b_2;
+    r_jt = away(r_2b_1, 32ull);
+    r_8j = r_2b_1;
     goto l_arm_hj;
 l_join_hy:;
     if (!(u8)(ld8(away(a_2, 72ull)) & 1)) { r_t5 = r_pz; r_lw = 0ull; goto l_capnp_31; }
-    r_5s = r_x0_1;
+    r_5s = r_x0;
     r_g9 = r_pz;
     r_jt = away(a_2, 64ull);
     r_8j = r_xm;
@@ -7012,15 +7087,15 @@ l_arm_hj:;
 l_capnp_31:;
     r_vt = 1ull;
     r_8t = r_lw;
-    r_49_1 = (u32)(u64)(r_t5 >> 32ull);
+    r_49 = (u32)(u64)(r_t5 >> 32ull);
     r_1t = (u32)((u32)r_t5 >> 3u);
     r_a3 = 2u;
     goto l_join_s8;
 l_else_y9:;
     if (r_ts) goto l_join_hy_1;
-    pre_0f_1 = (r_cy + 0xffffffffffffffffull);
-    if (!(pre_0f_1 < ld64(away(a_2, 88ull)))) { r_wm = 0ull; goto l_capnp_v7; }
-    r_li = away(away(ldp(away(a_2, 80ull)), (pre_0f_1 * 40ull)), 32ull);
+    pre_0f = (r_cy + 0xffffffffffffffffull);
+    if (!(pre_0f < ld64(away(a_2, 88ull)))) { r_wm = 0ull; goto l_capnp_v7; }
+    r_li = away(away(ldp(away(a_2, 80ull)), (pre_0f * 40ull)), 32ull);
     goto l_arm_ef;
 l_join_hy_1:;
     if (!(u8)(ld8(away(a_2, 72ull)) & 1)) { r_wm = 0ull; goto l_capnp_v7; }
@@ -7031,23 +7106,23 @@ l_capnp_v7:;
     u64 r_m6 = ((u64)(r_pz >> 2ull) & 0x3fffffffull);
     r_lc = (r_m6 + (u64)(t_ri + 1u));
     if (!(r_m6 < 0x20000000ull)) goto l_else_70;
-    if (r_lc > r_wm) { r_vt = 0ull; r_8t = 0ull; r_49_1 = 0u; r_1t = 0u; r_a3 = 0u; goto l_join_s8; }
+    if (r_lc > r_wm) { r_vt = 0ull; r_8t = 0ull; r_49 = 0u; r_1t = 0u; r_a3 = 0u; goto l_join_s8; }
     r_z3 = r_lc;
     goto l_arm_eo;
 l_else_70:;
     u64 r_3o = (r_lc + 0xffffffffc0000000ull);
-    if ((r_lc < 0x40000000ull) ? 1u : (r_3o > r_wm)) { r_vt = 0ull; r_8t = 0ull; r_49_1 = 0u; r_1t = 0u; r_a3 = 0u; goto l_join_s8; }
+    if ((r_lc < 0x40000000ull) ? 1u : (r_3o > r_wm)) { r_vt = 0ull; r_8t = 0ull; r_49 = 0u; r_1t = 0u; r_a3 = 0u; goto l_join_s8; }
     r_z3 = r_3o;
 l_arm_eo:;
     r_vt = 1ull;
     r_8t = r_pz;
-    r_49_1 = r_4r;
+    r_49 = r_4r;
     r_1t = (u32)r_z3;
     r_a3 = 1u;
 l_join_s8:;
     st64(a_1, r_vt);
     st64(away(a_1, 8ull), r_8t);
-    st32(away(a_1, 16ull), r_49_1);
+    st32(away(a_1, 16ull), r_49);
     st32(away(a_1, 20ull), r_1t);
     st32(away(a_1, 24ull), r_a3);
     st32(away(a_1, 28ull), 0u);
@@ -7075,18 +7150,18 @@ static NEVER COLD void capnp_making_zeroing_zero_target_4072c0e2a627e5d6(u8 *a_1
     u64 r_0f_1;
     u8 *r_tl;
     u64 r_z6;
-    u8 *r_2b_2;
+    u8 *r_2b;
     u8 *t_2b;
     u64 r_ij;
-    u8 *r_xm_2;
-    u8 r_2p_2;
+    u8 *r_xm;
+    u8 r_2p_1;
     u64 r_0f_2;
     u8 *r_5s;
     u8 *r_g9;
     u64 r_eh;
     u32 t_c8;
     u64 r_y6_1;
-    u32 r_az_1;
+    u32 r_az;
     u32 t_12;
     u64 r_c4;
     u64 r_lc_3;
@@ -7095,14 +7170,14 @@ static NEVER COLD void capnp_making_zeroing_zero_target_4072c0e2a627e5d6(u8 *a_1
     u32 r_bw;
     u32 r_jm;
     u64 r_ic;
-    u64 r_b6_1;
+    u64 r_b6;
     u64 r_se;
-    u64 r_24_7;
+    u64 r_24_1;
     u64 r_lc_4;
     u64 r_0f_4;
     u8 *r_jd;
     u64 r_um;
-    u8 *r_2b_7;
+    u8 *r_2b_2;
     u8 *t_2b_1;
     r_tp = ld64(a_2);
     r_5k = ld32((a_2 + 8));
@@ -7159,23 +7234,23 @@ l_else_0v:;
     r_tl = r_x5;
 l_capnp_w0:;
     r_z6 = (u64)(r_es << 3ull);
-    r_2b_2 = away(r_tl, (u64)(r_24 << 3ull));
+    r_2b = away(r_tl, (u64)(r_24 << 3ull));
     if (r_68 < 8u) goto l_then_5x;
-    memset_or_none(r_2b_2, 0u, r_z6);
+    memset_or_none(r_2b, 0u, r_z6);
     goto l_join_68;
 l_then_5x:;
-    t_2b = away(r_2b_2, r_z6);
+    t_2b = away(r_2b, r_z6);
     if (!(r_68 > 3u)) goto l_else_gn;
-    memset(r_2b_2, 0, 32);
+    memset(r_2b, 0, 32);
     memset(away(t_2b, 0xffffffffffffffe0ull), 0, 32);
     goto l_join_68;
 l_else_gn:;
     if (r_68 == 1u) goto l_then_51;
-    memset(r_2b_2, 0, 16);
+    memset(r_2b, 0, 16);
     memset(away(t_2b, 0xfffffffffffffff0ull), 0, 16);
     goto l_join_68;
 l_then_51:;
-    memset(r_2b_2, 0, 8);
+    memset(r_2b, 0, 8);
     memset(away(t_2b, 0xfffffffffffffff8ull), 0, 8);
     goto l_join_68;
 l_arm_a9:;
@@ -7192,30 +7267,30 @@ l_arm_a9:;
     default: goto l_default_e1;
     }
 l_arm_so:;
-    r_xm_2 = away(a_1, 32ull);
-    r_2p_2 = (r_5k == 0u);
-    if (r_2p_2) goto l_join_c3_1;
+    r_xm = away(a_1, 32ull);
+    r_2p_1 = (r_5k == 0u);
+    if (r_2p_1) goto l_join_c3_1;
     r_0f_2 = ((u64)r_5k + 0xffffffffffffffffull);
     if (!(r_0f_2 < ld64(away(a_1, 88ull)))) { r_eh = 0ull; goto l_capnp_qm; }
-    u8 *r_2b_3 = away(ldp(away(a_1, 80ull)), (r_0f_2 * 40ull));
-    r_5s = away(r_2b_3, 32ull);
-    r_g9 = r_2b_3;
+    u8 *r_2b_1 = away(ldp(away(a_1, 80ull)), (r_0f_2 * 40ull));
+    r_5s = away(r_2b_1, 32ull);
+    r_g9 = r_2b_1;
     goto l_arm_hj;
 l_join_c3_1:;
     if (!(u8)(ld8(away(a_1, 72ull)) & 1)) { r_eh = 0ull; goto l_capnp_qm; }
     r_5s = away(a_1, 64ull);
-    r_g9 = r_xm_2;
+    r_g9 = r_xm;
 l_arm_hj:;
     if (!(ld32(r_5s) > r_5k_1)) { r_eh = 0ull; goto l_capnp_qm; }
     r_eh = ld64(away(ldp(r_g9), (u64)((u64)r_5k_1 << 3ull)));
 l_capnp_qm:;
     t_c8 = (u32)((u32)r_eh >> 2u);
     r_y6_1 = (u64)(r_eh >> 48ull);
-    r_az_1 = ((u32)(u64)(r_eh >> 32ull) & 65535u);
+    r_az = ((u32)(u64)(r_eh >> 32ull) & 65535u);
     t_12 = (u32)r_y6_1;
-    r_c4 = (((u64)(r_az_1 + t_12) * (u64)t_c8) + 1ull);
+    r_c4 = (((u64)(r_az + t_12) * (u64)t_c8) + 1ull);
     r_lc_3 = (r_c4 + (u64)r_5k_1);
-    if (r_2p_2) goto l_join_v8;
+    if (r_2p_1) goto l_join_v8;
     r_0f_3 = ((u64)r_5k + 0xffffffffffffffffull);
     if (!(r_0f_3 < ld64(away(a_1, 88ull)))) goto l_join_68;
     r_8r = away(away(ldp(away(a_1, 80ull)), (r_0f_3 * 40ull)), 32ull);
@@ -7229,7 +7304,7 @@ l_arm_w5:;
     r_bw = (r_5k_1 + 1u);
     r_jm = 0u;
 l_join_v9:;
-    u32 r_w0 = (r_bw + r_az_1);
+    u32 r_w0 = (r_bw + r_az);
     capnp_making_zeroing_zero_pointers_4072c0e2a627e5d6(a_1, r_5k, r_w0, t_12);
     u32 r_ff = (r_jm + 1u);
     if (!(r_ff == t_c8)) { r_bw = (r_w0 + t_12); r_jm = r_ff; goto l_join_v9; }
@@ -7254,11 +7329,11 @@ l_arm_h9_1:;
 l_arm_h9:;
     r_ic = 64ull;
 l_capnp_nc:;
-    r_b6_1 = (r_ic * r_ij);
-    r_se = (u64)((r_b6_1 + 63ull) >> 6ull);
+    r_b6 = (r_ic * r_ij);
+    r_se = (u64)((r_b6 + 63ull) >> 6ull);
     if (r_se == 0ull) goto l_join_68;
-    r_24_7 = (u64)r_5k_1;
-    r_lc_4 = (r_se + r_24_7);
+    r_24_1 = (u64)r_5k_1;
+    r_lc_4 = (r_se + r_24_1);
     if (r_5k == 0u) goto l_join_qp_1;
     r_0f_4 = ((u64)r_5k + 0xffffffffffffffffull);
     if (r_0f_4 < ld64(away(a_1, 88ull))) goto l_capnp_n3_1;
@@ -7278,23 +7353,23 @@ l_else_0v_1:;
     r_jd = r_x5_1;
 l_capnp_w4:;
     r_um = ((u64)(r_se << 3ull) & 0x7fffffff8ull);
-    r_2b_7 = away(r_jd, (u64)(r_24_7 << 3ull));
-    if (r_b6_1 < 449ull) goto l_then_5t;
-    memset_or_none(r_2b_7, 0u, r_um);
+    r_2b_2 = away(r_jd, (u64)(r_24_1 << 3ull));
+    if (r_b6 < 449ull) goto l_then_5t;
+    memset_or_none(r_2b_2, 0u, r_um);
     goto l_join_68;
 l_then_5t:;
-    t_2b_1 = away(r_2b_7, r_um);
-    if (!(r_b6_1 > 192ull)) goto l_else_9l;
-    memset(r_2b_7, 0, 32);
+    t_2b_1 = away(r_2b_2, r_um);
+    if (!(r_b6 > 192ull)) goto l_else_9l;
+    memset(r_2b_2, 0, 32);
     memset(away(t_2b_1, 0xffffffffffffffe0ull), 0, 32);
     goto l_join_68;
 l_else_9l:;
     if (r_se == 1ull) goto l_then_51_1;
-    memset(r_2b_7, 0, 16);
+    memset(r_2b_2, 0, 16);
     memset(away(t_2b_1, 0xfffffffffffffff0ull), 0, 16);
     goto l_join_68;
 l_then_51_1:;
-    memset(r_2b_7, 0, 8);
+    memset(r_2b_2, 0, 8);
     memset(away(t_2b_1, 0xfffffffffffffff8ull), 0, 8);
 l_join_68:;
     return;
@@ -7312,15 +7387,15 @@ static void capnp_making_zeroing_zero_pointers_4072c0e2a627e5d6(u8 *a_1, u32 a_2
     u64 r_0f;
     u8 *r_li;
     u64 r_ap;
-    u8 *r_yf_2;
+    u8 *r_yf;
     u64 r_0f_1;
     u8 *r_xm;
     u8 *r_x5;
     u64 indvars_mo;
     u32 r_7m;
-    u8 *r_2b_1;
+    u8 *r_2b;
     u64 r_qw;
-    u8 *r_lz_2;
+    u8 *r_lz;
     u64 r_sq;
     u64 r_9s;
     r_v1 = (u64)a_4;
@@ -7338,7 +7413,7 @@ l_arm_ef:;
     r_ap = (u64)ld32(r_li);
 l_capnp_ow:;
     if (!(u8)((u8)(r_lc <= r_ap) & (u8)(a_4 != 0u))) goto l_join_68;
-    r_yf_2 = away(a_1, 80ull);
+    r_yf = away(a_1, 80ull);
     r_0f_1 = ((u64)a_2 + 0xffffffffffffffffull);
     r_xm = away(a_1, 32ull);
     r_x5 = (slot_1 + 8);
@@ -7347,23 +7422,23 @@ l_join_xy:;
     r_7m = (a_3 + (u32)indvars_mo);
     memset(slot_1, 0u, 32);
     if (!r_sz) goto l_capnp_2f;
-    r_2b_1 = away(ldp(r_xm), (u64)((u64)r_7m << 3ull));
-    r_qw = ld64(r_2b_1);
+    r_2b = away(ldp(r_xm), (u64)((u64)r_7m << 3ull));
+    r_qw = ld64(r_2b);
     if (r_qw == 0ull) goto l_capnp_o8;
     goto l_then_lb;
 l_capnp_2f:;
-    r_lz_2 = ldp(r_yf_2);
-    r_sq = capnp_arena_arena_rows_word_in_4426f83c3c99ca57(r_lz_2, r_0f_1, r_7m);
+    r_lz = ldp(r_yf);
+    r_sq = capnp_arena_arena_rows_word_in_4426f83c3c99ca57(r_lz, r_0f_1, r_7m);
     if (r_sq == 0ull) goto l_capnp_o8;
     goto l_else_12;
 l_then_lb:;
     capnp_making_landing_follow_4072c0e2a627e5d6(slot_1, a_1, 0u, r_7m);
-    st64(r_2b_1, 0ull);
+    st64(r_2b, 0ull);
     r_9s = r_qw;
     goto l_capnp_2f_1;
 l_else_12:;
     capnp_making_landing_follow_4072c0e2a627e5d6(slot_1, a_1, a_2, r_7m);
-    capnp_arena_arena_rows_put_word_in_4426f83c3c99ca57(r_lz_2, r_0f_1, r_7m, 0ull);
+    capnp_arena_arena_rows_put_word_in_4426f83c3c99ca57(r_lz, r_0f_1, r_7m, 0ull);
     r_9s = r_sq;
 l_capnp_2f_1:;
     if (!(ld8(slot_1) == 1u)) goto l_capnp_o8;
@@ -7389,7 +7464,7 @@ static void capnp_making_zeroing_zero_if_inside_4072c0e2a627e5d6(u8 *a_1, u32 a_
     u8 *r_xm;
     u8 *r_3j;
     u64 r_um;
-    u8 *r_2b_1;
+    u8 *r_2b;
     u8 *t_2b;
     if (a_4 == 0ull) goto l_join_68;
     r_7l = (u64)a_3;
@@ -7416,23 +7491,23 @@ l_else_al:;
     r_3j = r_ph;
 l_capnp_02:;
     r_um = ((u64)(a_4 << 3ull) & 0x7fffffff8ull);
-    r_2b_1 = away(r_3j, (u64)(r_7l << 3ull));
+    r_2b = away(r_3j, (u64)(r_7l << 3ull));
     if (r_73 < 8u) goto l_then_5x;
-    memset_or_none(r_2b_1, 0u, r_um);
+    memset_or_none(r_2b, 0u, r_um);
     goto l_join_68;
 l_then_5x:;
-    t_2b = away(r_2b_1, r_um);
+    t_2b = away(r_2b, r_um);
     if (!(r_73 > 3u)) goto l_else_gn;
-    memset(r_2b_1, 0, 32);
+    memset(r_2b, 0, 32);
     memset(away(t_2b, 0xffffffffffffffe0ull), 0, 32);
     goto l_join_68;
 l_else_gn:;
     if (r_73 == 1u) goto l_then_51;
-    memset(r_2b_1, 0, 16);
+    memset(r_2b, 0, 16);
     memset(away(t_2b, 0xfffffffffffffff0ull), 0, 16);
     goto l_join_68;
 l_then_51:;
-    memset(r_2b_1, 0, 8);
+    memset(r_2b, 0, 8);
     memset(away(t_2b, 0xfffffffffffffff8ull), 0, 8);
 l_join_68:;
     return;
@@ -7449,7 +7524,7 @@ static NEVER COLD void capnp_making_zeroing_zero_far_pads_4072c0e2a627e5d6(u8 *a
     u64 r_79;
     u64 r_0f;
     u8 *r_i6;
-    u8 *r_2b_1;
+    u8 *r_2b;
     u8 *t_2b;
     r_hr = ((a_2 & 4ull) == 0ull);
     t_3h = (r_hr ? 1ull : 2ull);
@@ -7475,14 +7550,14 @@ l_else_ja:;
     u8 *r_x5 = capnp_arena_arena_rows_Rows_other_mut_4426f83c3c99ca57(away(a_1, 32ull), r_4r);
     r_i6 = r_x5;
 l_else_l1:;
-    r_2b_1 = away(r_i6, (u64)(r_ls << 3ull));
-    t_2b = away(r_2b_1, (u64)(t_3h << 3ull));
+    r_2b = away(r_i6, (u64)(r_ls << 3ull));
+    t_2b = away(r_2b, (u64)(t_3h << 3ull));
     if (r_hr) goto l_then_qw;
-    memset(r_2b_1, 0, 16);
+    memset(r_2b, 0, 16);
     memset(away(t_2b, 0xfffffffffffffff0ull), 0, 16);
     goto l_capnp_68;
 l_then_qw:;
-    memset(r_2b_1, 0, 8);
+    memset(r_2b, 0, 8);
     memset(away(t_2b, 0xfffffffffffffff8ull), 0, 8);
 l_capnp_68:;
     return;
@@ -7512,23 +7587,23 @@ static NEVER void capnp_copies_copy_children_copy_children_out_of_line_f_b6070b3
     u8 *r_c4;
     u8 *r_6c;
     u8 t_pa;
-    u8 *r_08_1;
+    u8 *r_08;
     u64 r_nb;
     u8 r_n1;
-    u8 *r_rq_1;
+    u8 *r_rq;
     u8 *r_x5_1;
     u8 *r_k0;
     u8 *r_zd_1;
     u32 r_53;
     u8 t_q5;
-    u8 *r_xm_1;
+    u8 *r_xm;
     u8 r_sz;
     u8 *r_yf;
     u64 r_7l;
     u64 r_0f;
     u8 *r_h6;
-    u8 *r_su_1;
-    u8 *r_r2_1;
+    u8 *r_su;
+    u8 *r_r2;
     u8 *r_x5_2;
     u8 *r_k0_1;
     u8 *r_zd_2;
@@ -7563,51 +7638,51 @@ static NEVER void capnp_copies_copy_children_copy_children_out_of_line_f_b6070b3
     u64 r_c6;
     u64 r_lc;
     u64 r_la;
-    u64 r_52_1;
-    u64 r_z6_1;
+    u64 r_52;
+    u64 r_z6;
     u8 *r_dx;
     u64 r_se;
     u32 r_12;
     u32 r_yf_1;
-    u64 r_52_2;
+    u64 r_52_1;
     u32 r_w0;
-    u64 r_z6_2;
+    u64 r_z6_1;
     struct s_i8_i32 r_tu;
     u32 r_yf_2;
     u32 r_e3;
     u32 r_ll;
-    u64 r_6f_2;
+    u64 r_6f;
     u64 r_59;
     u64 r_ni;
     u32 r_7u;
     u32 r_x9;
-    u64 r_1q_2;
+    u64 r_1q_1;
     u8 *r_u9;
-    u8 *r_2b_4;
+    u8 *r_2b;
     u64 r_il;
     u64 r_4i;
     u32 r_w0_1;
     u64 r_a5;
     u64 r_y6;
     u64 r_q7;
-    u64 r_lc_3;
-    u64 r_lc_4;
+    u64 r_lc_1;
+    u64 r_lc_2;
     u64 r_09;
     u32 r_4r;
-    u8 r_8u_1;
-    u64 r_52_5;
+    u8 r_8u;
+    u64 r_52_2;
     u32 r_5b;
-    u64 r_lc_6;
-    u64 r_z6_8;
-    u8 *r_2b_7;
+    u64 r_lc_3;
+    u64 r_z6_3;
+    u8 *r_2b_1;
+    u64 r_nm;
     u64 r_nm_1;
-    u64 r_nm_2;
     u64 r_p3;
-    u64 r_z6_11;
-    u8 *r_2b_10;
+    u64 r_z6_4;
+    u8 *r_2b_2;
+    u64 r_nm_2;
     u64 r_nm_3;
-    u64 r_nm_4;
-    u64 r_mz_1;
+    u64 r_mz;
     u64 r_3h;
     u16 r_xg;
     u32 r_29;
@@ -7615,30 +7690,30 @@ static NEVER void capnp_copies_copy_children_copy_children_out_of_line_f_b6070b3
     u32 r_68;
     u64 r_ro;
     u32 r_yf_3;
-    u64 r_52_6;
+    u64 r_52_3;
     u32 r_w0_2;
-    u64 r_z6_15;
+    u64 r_z6_5;
     u8 r_kw;
     u32 r_re;
     struct s_i8_i32 r_jz;
     u32 r_xo_1;
-    u64 r_a7_11;
+    u64 r_a7;
     u32 r_yf_4;
     u32 r_e3_1;
     u32 r_ll_1;
-    u64 r_r8_1;
+    u64 r_r8;
     u64 r_59_1;
     u64 r_ni_1;
     u64 r_nu;
-    u32 r_wt_1;
+    u32 r_wt;
     u64 r_ep_1;
     u32 r_4r_1;
     u64 r_0l;
-    u8 *r_2b_17;
+    u8 *r_2b_3;
     u8 *r_al;
-    u8 *r_2b_18;
+    u8 *r_2b_4;
     u64 r_il_1;
-    u8 r_2b_19;
+    u8 r_2b_5;
     u8 r_qh;
     u32 r_ip;
     u64 r_wq;
@@ -7674,23 +7749,23 @@ static NEVER void capnp_copies_copy_children_copy_children_out_of_line_f_b6070b3
     r_c4 = (slot_4 + 48);
     r_6c = (slot_4 + 56);
     t_pa = (r_dh != 0u);
-    r_08_1 = away(a_7, 16ull);
+    r_08 = away(a_7, 16ull);
     r_nb = (r_gw & 0xffffffffull);
     r_n1 = ((i32)r_5k_1 < (i32)1u);
-    r_rq_1 = away(a_7, 8ull);
+    r_rq = away(a_7, 8ull);
     r_x5_1 = (slot_3 + 8);
     r_k0 = (slot_3 + 12);
     r_zd_1 = (slot_3 + 16);
     r_53 = (r_5k_1 + 0xffffffffu);
     t_q5 = (a_8 == 1u);
-    r_xm_1 = away(a_2, 32ull);
+    r_xm = away(a_2, 32ull);
     r_sz = (a_3 == 0u);
     r_yf = away(a_2, 80ull);
     r_7l = (u64)a_3;
     r_0f = (r_7l + 0xffffffffffffffffull);
     r_h6 = away(a_2, 64ull);
-    r_su_1 = away(a_2, 40ull);
-    r_r2_1 = away(a_2, 56ull);
+    r_su = away(a_2, 40ull);
+    r_r2 = away(a_2, 56ull);
     r_x5_2 = (slot_1 + 8);
     r_k0_1 = (slot_1 + 12);
     r_zd_2 = (slot_1 + 16);
@@ -7736,7 +7811,7 @@ l_join_22:;
     r_1q = (ld64(away(away(((u8 *)switch_table_capnp_show_show_objects_read_object_5ccc1_1b90c80b), 8 * (r_ep & 7ull)), 0xfffffffffffffff8ull)) * r_ij);
     r_c6 = (u64)((r_1q + 63ull) >> 6ull);
     if (!t_0c) goto l_join_bd;
-    st64(r_08_1, uadd_sat64(ld64(r_08_1), 1ull));
+    st64(r_08, uadd_sat64(ld64(r_08), 1ull));
 l_join_bd:;
     u64 r_m6 = ((u64)(r_qw_3 >> 2ull) & 0x3fffffffull);
     r_lc = ((r_24 + 1ull) + r_m6);
@@ -7753,23 +7828,23 @@ l_arm_i0_1:;
     if (r_nb < (r_la + r_c6)) { r_7k = 0ull; r_zq = 0u; r_p9 = 23u; goto l_arm_i0; }
     if (!t_0c) goto l_arm_5g;
     if (!(ld8(a_7) == 1u)) goto l_arm_5g;
-    r_52_1 = ld64(r_rq_1);
-    if (r_52_1 < r_c6) { r_7k = 0ull; r_zq = 0u; r_p9 = 30u; goto l_arm_i0; }
+    r_52 = ld64(r_rq);
+    if (r_52 < r_c6) { r_7k = 0ull; r_zq = 0u; r_p9 = 30u; goto l_arm_i0; }
     st64(a_7, 1ull);
-    st64(r_rq_1, (r_52_1 - r_c6));
+    st64(r_rq, (r_52 - r_c6));
 l_arm_5g:;
-    r_z6_1 = (u64)(r_c6 << 3ull);
+    r_z6 = (u64)(r_c6 << 3ull);
     r_dx = away(r_rv_1, (u64)(r_la << 3ull));
     r_se = (u64)(((ld64(away(away(((u8 *)switch_table_capnp_show_show_objects_read_object_5ccc1_1b90c80b), 8 * (r_ep & 7ull)), 0xfffffffffffffff8ull)) * r_ij) + 63ull) >> 6ull);
     r_12 = (u32)r_se;
     if (!r_sz) goto l_capnp_5b;
     r_yf_1 = ld32(r_h6);
-    r_52_2 = ld64(r_su_1);
-    if ((r_se + (u64)r_yf_1) > (u64)((ld64(r_r2_1) + r_52_2) >> 3ull)) goto l_arm_ua;
+    r_52_1 = ld64(r_su);
+    if ((r_se + (u64)r_yf_1) > (u64)((ld64(r_r2) + r_52_1) >> 3ull)) goto l_arm_ua;
     r_w0 = (r_yf_1 + r_12);
-    r_z6_2 = (u64)((u64)r_w0 << 3ull);
-    if (!(r_52_2 < r_z6_2)) goto l_then_rx;
-    capnp_messages_messages_copy_memory_CopySegment_zero_up_to(r_xm_1, r_z6_2);
+    r_z6_1 = (u64)((u64)r_w0 << 3ull);
+    if (!(r_52_1 < r_z6_1)) goto l_then_rx;
+    capnp_messages_messages_copy_memory_CopySegment_zero_up_to(r_xm, r_z6_1);
     goto l_then_rx;
 l_capnp_5b:;
     r_tu = capnp_arena_arena_rows_allocate_in_4426f83c3c99ca57(ldp(r_yf), r_0f, r_12);
@@ -7777,7 +7852,7 @@ l_capnp_5b:;
     goto l_arm_ua;
 l_then_rx:;
     st32(r_h6, r_w0);
-    st64(away(ldp(r_xm_1), (u64)((u64)r_7m << 3ull)), ((r_qw_3 & 0xffffffff00000001ull) | (u64)(u32)((r_yf_1 + (r_7m ^ 0xffffffffu)) << 2u)));
+    st64(away(ldp(r_xm), (u64)((u64)r_7m << 3ull)), ((r_qw_3 & 0xffffffff00000001ull) | (u64)(u32)((r_yf_1 + (r_7m ^ 0xffffffffu)) << 2u)));
     r_7u = r_yf_1;
     r_x9 = 0u;
     goto l_arm_fv;
@@ -7793,20 +7868,20 @@ l_arm_ua:;
     r_yf_2 = ld32(r_ix_1);
     r_e3 = ld32(r_x5_5);
     r_ll = (r_e3 + 1u);
-    r_6f_2 = (r_qw_3 & 0xffffffff00000001ull);
+    r_6f = (r_qw_3 & 0xffffffff00000001ull);
     if (!(r_yf_2 == 0u)) goto l_else_eu;
-    u64 r_z6_4 = (u64)((u64)r_e3 << 3ull);
-    st64(away(ldp(r_xm_1), r_z6_4), r_6f_2);
-    r_59 = r_z6_4;
+    u64 r_z6_2 = (u64)((u64)r_e3 << 3ull);
+    st64(away(ldp(r_xm), r_z6_2), r_6f);
+    r_59 = r_z6_2;
     goto l_capnp_9d;
 l_else_eu:;
-    u64 r_24_5 = (u64)r_yf_2;
-    capnp_arena_arena_rows_put_word_in_4426f83c3c99ca57(ldp(r_yf), (r_24_5 + 0xffffffffffffffffull), r_e3, r_6f_2);
-    r_59 = ((u64)(r_24_5 << 32ull) | (u64)((u64)r_e3 << 3ull));
+    u64 r_24_1 = (u64)r_yf_2;
+    capnp_arena_arena_rows_put_word_in_4426f83c3c99ca57(ldp(r_yf), (r_24_1 + 0xffffffffffffffffull), r_e3, r_6f);
+    r_59 = ((u64)(r_24_1 << 32ull) | (u64)((u64)r_e3 << 3ull));
 l_capnp_9d:;
     r_ni = (r_59 | 2ull);
     if (!r_sz) goto l_else_bj;
-    st64(away(ldp(r_xm_1), (u64)((u64)r_7m << 3ull)), r_ni);
+    st64(away(ldp(r_xm), (u64)((u64)r_7m << 3ull)), r_ni);
     goto l_core_5s;
 l_else_bj:;
     capnp_arena_arena_rows_put_word_in_4426f83c3c99ca57(ldp(r_yf), r_0f, r_7m, r_ni);
@@ -7814,49 +7889,49 @@ l_core_5s:;
     r_7u = r_ll;
     r_x9 = r_yf_2;
 l_arm_fv:;
-    r_1q_2 = (ld64(away(away(((u8 *)switch_table_capnp_show_show_objects_read_object_5ccc1_1b90c80b), 8 * (r_ep & 7ull)), 0xfffffffffffffff8ull)) * r_ij);
+    r_1q_1 = (ld64(away(away(((u8 *)switch_table_capnp_show_show_objects_read_object_5ccc1_1b90c80b), 8 * (r_ep & 7ull)), 0xfffffffffffffff8ull)) * r_ij);
     if (r_c6 == 0ull) goto l_capnp_pq;
     if (!(r_x9 == 0u)) goto l_else_h1;
-    r_u9 = ldp(r_xm_1);
+    r_u9 = ldp(r_xm);
     goto l_capnp_m1;
 l_else_h1:;
-    u8 *r_x5_6 = capnp_arena_arena_rows_Rows_other_mut_4426f83c3c99ca57(r_xm_1, r_x9);
+    u8 *r_x5_6 = capnp_arena_arena_rows_Rows_other_mut_4426f83c3c99ca57(r_xm, r_x9);
     r_u9 = r_x5_6;
 l_capnp_m1:;
-    r_2b_4 = away(r_u9, (u64)((u64)r_7u << 3ull));
+    r_2b = away(r_u9, (u64)((u64)r_7u << 3ull));
     if (!(r_1q < 449ull)) goto l_else_r3;
     if (!(r_1q > 192ull)) goto l_else_9l;
-    mv32(r_2b_4, r_dx);
-    u64 r_bh = (r_z6_1 + 0xffffffffffffffe0ull);
-    mv32((r_2b_4 + (i64)(r_bh)), (r_dx + (i64)(r_bh)));
+    mv32(r_2b, r_dx);
+    u64 r_bh = (r_z6 + 0xffffffffffffffe0ull);
+    mv32((r_2b + (i64)(r_bh)), (r_dx + (i64)(r_bh)));
     goto l_capnp_pq;
 l_else_9l:;
     if (r_c6 == 1ull) goto l_then_49;
-    mv16(r_2b_4, r_dx);
-    u64 r_8f = (r_z6_1 + 0xfffffffffffffff0ull);
-    mv16((r_2b_4 + (i64)(r_8f)), (r_dx + (i64)(r_8f)));
+    mv16(r_2b, r_dx);
+    u64 r_8f = (r_z6 + 0xfffffffffffffff0ull);
+    mv16((r_2b + (i64)(r_8f)), (r_dx + (i64)(r_8f)));
     goto l_capnp_pq;
 l_then_49:;
-    mv8(r_2b_4, r_dx);
-    u64 r_la_1 = (r_z6_1 + 0xfffffffffffffff8ull);
-    mv8((r_2b_4 + (i64)(r_la_1)), (r_dx + (i64)(r_la_1)));
+    mv8(r_2b, r_dx);
+    u64 r_la_1 = (r_z6 + 0xfffffffffffffff8ull);
+    mv8((r_2b + (i64)(r_la_1)), (r_dx + (i64)(r_la_1)));
     goto l_capnp_pq;
 l_else_r3:;
-    if (((u64)(uptr)r_2b_4 - (u64)(uptr)r_dx) < r_z6_1) { r_il = 0ull; goto l_join_fh; }
-    memmove_or_none(r_2b_4, r_dx, r_z6_1);
+    if (((u64)(uptr)r_2b - (u64)(uptr)r_dx) < r_z6) { r_il = 0ull; goto l_join_fh; }
+    memmove_or_none(r_2b, r_dx, r_z6);
     goto l_capnp_pq;
 l_join_fh:;
-    st8((r_2b_4 + (i64)(r_il)), ld8((r_dx + (i64)(r_il))));
-    u64 r_c4_3 = (r_il + 1ull);
-    if (!(r_c4_3 == r_z6_1)) { r_il = r_c4_3; goto l_join_fh; }
+    st8((r_2b + (i64)(r_il)), ld8((r_dx + (i64)(r_il))));
+    u64 r_c4_2 = (r_il + 1ull);
+    if (!(r_c4_2 == r_z6)) { r_il = r_c4_2; goto l_join_fh; }
 l_capnp_pq:;
-    r_4i = (r_1q_2 & 63ull);
+    r_4i = (r_1q_1 & 63ull);
     if (r_4i == 0ull) goto l_capnp_v7;
-    u64 r_0f_2 = (r_c6 + 0xffffffffffffffffull);
-    r_w0_1 = (r_7u + (u32)r_0f_2);
-    r_a5 = (ld64(away(r_dx, (u64)(r_0f_2 << 3ull))) & ((u64)(0xffffffffffffffffull << (r_4i & 63u)) ^ 0xffffffffffffffffull));
+    u64 r_0f_1 = (r_c6 + 0xffffffffffffffffull);
+    r_w0_1 = (r_7u + (u32)r_0f_1);
+    r_a5 = (ld64(away(r_dx, (u64)(r_0f_1 << 3ull))) & ((u64)(0xffffffffffffffffull << (r_4i & 63u)) ^ 0xffffffffffffffffull));
     if (!(r_x9 == 0u)) goto l_else_eu_1;
-    st64(away(ldp(r_xm_1), (u64)((u64)r_w0_1 << 3ull)), r_a5);
+    st64(away(ldp(r_xm), (u64)((u64)r_w0_1 << 3ull)), r_a5);
     goto l_capnp_v7;
 l_else_eu_1:;
     capnp_arena_arena_rows_put_word_in_4426f83c3c99ca57(ldp(r_yf), ((u64)r_x9 + 0xffffffffffffffffull), r_w0_1, r_a5);
@@ -7870,90 +7945,90 @@ l_join_br:;
     if (!(switch_f9 == 0ull)) goto l_else_4r;
     r_y6 = (u64)(r_qw_3 >> 48ull);
     r_q7 = (r_ep & 65535ull);
-    r_lc_3 = (r_q7 + r_y6);
+    r_lc_1 = (r_q7 + r_y6);
     if (t_pa) goto l_join_o1;
-    st64(r_08_1, uadd_sat64(ld64(r_08_1), 1ull));
+    st64(r_08, uadd_sat64(ld64(r_08), 1ull));
 l_join_o1:;
     u64 r_m6_1 = ((u64)(r_qw_3 >> 2ull) & 0x3fffffffull);
-    r_lc_4 = ((r_24 + 1ull) + r_m6_1);
+    r_lc_2 = ((r_24 + 1ull) + r_m6_1);
     if (!(r_m6_1 < 0x20000000ull)) goto l_else_70_1;
-    if (r_lc_4 > r_nb) { r_7k = 0ull; r_zq = 0u; r_p9 = 23u; goto l_arm_i0; }
-    r_09 = r_lc_4;
+    if (r_lc_2 > r_nb) { r_7k = 0ull; r_zq = 0u; r_p9 = 23u; goto l_arm_i0; }
+    r_09 = r_lc_2;
     goto l_arm_f4;
 l_else_70_1:;
-    u64 r_3o_1 = (r_lc_4 + 0xffffffffc0000000ull);
-    if ((r_lc_4 < 0x40000000ull) ? 1u : (r_3o_1 > r_nb)) { r_7k = 0ull; r_zq = 0u; r_p9 = 23u; goto l_arm_i0; }
+    u64 r_3o_1 = (r_lc_2 + 0xffffffffc0000000ull);
+    if ((r_lc_2 < 0x40000000ull) ? 1u : (r_3o_1 > r_nb)) { r_7k = 0ull; r_zq = 0u; r_p9 = 23u; goto l_arm_i0; }
     r_09 = r_3o_1;
 l_arm_f4:;
     r_4r = (u32)r_09;
     if (r_n1) { r_7k = 0ull; r_zq = 0u; r_p9 = 26u; goto l_arm_i0; }
-    r_8u_1 = (r_nb < (r_09 + r_lc_3));
-    if ((u8)((u8)t_pa | (u8)r_8u_1)) goto l_capnp_5r;
+    r_8u = (r_nb < (r_09 + r_lc_1));
+    if ((u8)((u8)t_pa | (u8)r_8u)) goto l_capnp_5r;
     if (!(ld8(a_7) == 1u)) { r_5b = r_4r; goto l_arm_7a; }
-    r_52_5 = ld64(r_rq_1);
-    if (r_52_5 < r_lc_3) { r_7k = 0ull; r_zq = 0u; r_p9 = 30u; goto l_arm_i0; }
+    r_52_2 = ld64(r_rq);
+    if (r_52_2 < r_lc_1) { r_7k = 0ull; r_zq = 0u; r_p9 = 30u; goto l_arm_i0; }
     st64(a_7, 1ull);
-    st64(r_rq_1, (r_52_5 - r_lc_3));
+    st64(r_rq, (r_52_2 - r_lc_1));
     r_5b = r_4r;
     goto l_arm_7a;
 l_capnp_5r:;
-    if (r_8u_1) { r_7k = 0ull; r_zq = 0u; r_p9 = 23u; goto l_arm_i0; }
-    r_5b = (r_8u_1 ? 0u : r_4r);
+    if (r_8u) { r_7k = 0ull; r_zq = 0u; r_p9 = 23u; goto l_arm_i0; }
+    r_5b = (r_8u ? 0u : r_4r);
 l_arm_7a:;
-    if (!t_q5) { r_mz_1 = r_ep; r_3h = r_y6; goto l_capnp_fl; }
-    u64 r_24_10 = (u64)r_5b;
-    r_lc_6 = (r_q7 + r_24_10);
-    r_z6_8 = (u64)(r_q7 << 3ull);
-    r_2b_7 = away(r_rv_1, (u64)(r_24_10 << 3ull));
-    if (r_q7 < 32ull) { r_nm_1 = r_q7; goto l_loop_jc; }
+    if (!t_q5) { r_mz = r_ep; r_3h = r_y6; goto l_capnp_fl; }
+    u64 r_24_2 = (u64)r_5b;
+    r_lc_3 = (r_q7 + r_24_2);
+    r_z6_3 = (u64)(r_q7 << 3ull);
+    r_2b_1 = away(r_rv_1, (u64)(r_24_2 << 3ull));
+    if (r_q7 < 32ull) { r_nm = r_q7; goto l_loop_jc; }
     goto l_else_wj;
 l_loop_jc:;
-    if (r_nm_1 == 0ull) { r_p3 = 0ull; goto l_capnp_bk; }
-    u64 r_0f_4 = (r_nm_1 + 0xffffffffffffffffull);
-    if (ld64(away(r_2b_7, (u64)(r_0f_4 << 3ull))) == 0ull) { r_nm_1 = r_0f_4; goto l_loop_jc; }
-    r_p3 = r_nm_1;
+    if (r_nm == 0ull) { r_p3 = 0ull; goto l_capnp_bk; }
+    u64 r_0f_2 = (r_nm + 0xffffffffffffffffull);
+    if (ld64(away(r_2b_1, (u64)(r_0f_2 << 3ull))) == 0ull) { r_nm = r_0f_2; goto l_loop_jc; }
+    r_p3 = r_nm;
     goto l_capnp_bk;
 l_else_wj:;
-    if (!(ld64(away(away(r_2b_7, r_z6_8), 0xfffffffffffffff8ull)) == 0ull)) { r_p3 = r_q7; goto l_capnp_bk; }
-    u64 r_g1 = capnp_words_lanes_used_words_bound(r_2b_7, r_z6_8);
-    r_nm_2 = r_g1;
+    if (!(ld64(away(away(r_2b_1, r_z6_3), 0xfffffffffffffff8ull)) == 0ull)) { r_p3 = r_q7; goto l_capnp_bk; }
+    u64 r_g1 = capnp_words_lanes_used_words_bound(r_2b_1, r_z6_3);
+    r_nm_1 = r_g1;
 l_loop_jc_1:;
-    if (r_nm_2 == 0ull) { r_p3 = 0ull; goto l_capnp_bk; }
-    u64 r_0f_5 = (r_nm_2 + 0xffffffffffffffffull);
-    if (ld64(away(r_2b_7, (u64)(r_0f_5 << 3ull))) == 0ull) { r_nm_2 = r_0f_5; goto l_loop_jc_1; }
-    r_p3 = r_nm_2;
+    if (r_nm_1 == 0ull) { r_p3 = 0ull; goto l_capnp_bk; }
+    u64 r_0f_3 = (r_nm_1 + 0xffffffffffffffffull);
+    if (ld64(away(r_2b_1, (u64)(r_0f_3 << 3ull))) == 0ull) { r_nm_1 = r_0f_3; goto l_loop_jc_1; }
+    r_p3 = r_nm_1;
 l_capnp_bk:;
-    r_z6_11 = (u64)(r_y6 << 3ull);
-    r_2b_10 = away(r_rv_1, (u64)(r_lc_6 << 3ull));
-    if (r_qw_3 < 0x20000000000000ull) { r_nm_3 = r_y6; goto l_loop_jc_2; }
+    r_z6_4 = (u64)(r_y6 << 3ull);
+    r_2b_2 = away(r_rv_1, (u64)(r_lc_3 << 3ull));
+    if (r_qw_3 < 0x20000000000000ull) { r_nm_2 = r_y6; goto l_loop_jc_2; }
     goto l_else_wj_1;
 l_loop_jc_2:;
-    if (r_nm_3 == 0ull) { r_mz_1 = r_p3; r_3h = 0ull; goto l_capnp_fl; }
-    u64 r_0f_6 = (r_nm_3 + 0xffffffffffffffffull);
-    if (ld64(away(r_2b_10, (u64)(r_0f_6 << 3ull))) == 0ull) { r_nm_3 = r_0f_6; goto l_loop_jc_2; }
-    r_mz_1 = r_p3;
-    r_3h = r_nm_3;
+    if (r_nm_2 == 0ull) { r_mz = r_p3; r_3h = 0ull; goto l_capnp_fl; }
+    u64 r_0f_4 = (r_nm_2 + 0xffffffffffffffffull);
+    if (ld64(away(r_2b_2, (u64)(r_0f_4 << 3ull))) == 0ull) { r_nm_2 = r_0f_4; goto l_loop_jc_2; }
+    r_mz = r_p3;
+    r_3h = r_nm_2;
     goto l_capnp_fl;
 l_else_wj_1:;
-    if (!(ld64(away(away(r_2b_10, r_z6_11), 0xfffffffffffffff8ull)) == 0ull)) { r_mz_1 = r_p3; r_3h = r_y6; goto l_capnp_fl; }
-    u64 r_g1_1 = capnp_words_lanes_used_words_bound(r_2b_10, r_z6_11);
-    r_nm_4 = r_g1_1;
+    if (!(ld64(away(away(r_2b_2, r_z6_4), 0xfffffffffffffff8ull)) == 0ull)) { r_mz = r_p3; r_3h = r_y6; goto l_capnp_fl; }
+    u64 r_g1_1 = capnp_words_lanes_used_words_bound(r_2b_2, r_z6_4);
+    r_nm_3 = r_g1_1;
 l_loop_jc_3:;
-    if (r_nm_4 == 0ull) { r_mz_1 = r_p3; r_3h = 0ull; goto l_capnp_fl; }
-    u64 r_0f_7 = (r_nm_4 + 0xffffffffffffffffull);
-    if (ld64(away(r_2b_10, (u64)(r_0f_7 << 3ull))) == 0ull) { r_nm_4 = r_0f_7; goto l_loop_jc_3; }
-    r_mz_1 = r_p3;
-    r_3h = r_nm_4;
+    if (r_nm_3 == 0ull) { r_mz = r_p3; r_3h = 0ull; goto l_capnp_fl; }
+    u64 r_0f_5 = (r_nm_3 + 0xffffffffffffffffull);
+    if (ld64(away(r_2b_2, (u64)(r_0f_5 << 3ull))) == 0ull) { r_nm_3 = r_0f_5; goto l_loop_jc_3; }
+    r_mz = r_p3;
+    r_3h = r_nm_3;
 l_capnp_fl:;
-    r_xg = (u16)r_mz_1;
-    r_29 = ((u32)r_mz_1 & 65535u);
+    r_xg = (u16)r_mz;
+    r_29 = ((u32)r_mz & 65535u);
     r_az = ((u32)r_3h & 65535u);
     r_68 = (r_az + r_29);
     if (!(r_68 == 0u)) goto l_join_lx;
     if (!r_sz) goto l_else_n6;
-    u64 r_24_11 = (u64)r_7m;
-    st64(away(ldp(r_xm_1), (u64)(r_24_11 << 3ull)), 0xfffffffcull);
-    r_ro = r_24_11;
+    u64 r_24_3 = (u64)r_7m;
+    st64(away(ldp(r_xm), (u64)(r_24_3 << 3ull)), 0xfffffffcull);
+    r_ro = r_24_3;
     goto l_capnp_sg;
 l_else_n6:;
     capnp_arena_arena_rows_put_word_in_4426f83c3c99ca57(ldp(r_yf), r_0f, r_7m, 0xfffffffcull);
@@ -7964,12 +8039,12 @@ l_capnp_sg:;
 l_join_lx:;
     if (!r_sz) goto l_else_xr;
     r_yf_3 = ld32(r_h6);
-    r_52_6 = ld64(r_su_1);
-    if (((u64)r_yf_3 + (u64)r_68) > (u64)((ld64(r_r2_1) + r_52_6) >> 3ull)) { r_kw = 0u; r_re = 0u; goto l_join_ax; }
+    r_52_3 = ld64(r_su);
+    if (((u64)r_yf_3 + (u64)r_68) > (u64)((ld64(r_r2) + r_52_3) >> 3ull)) { r_kw = 0u; r_re = 0u; goto l_join_ax; }
     r_w0_2 = (r_yf_3 + r_68);
-    r_z6_15 = (u64)((u64)r_w0_2 << 3ull);
-    if (!(r_52_6 < r_z6_15)) goto l_capnp_9l;
-    capnp_messages_messages_copy_memory_CopySegment_zero_up_to(r_xm_1, r_z6_15);
+    r_z6_5 = (u64)((u64)r_w0_2 << 3ull);
+    if (!(r_52_3 < r_z6_5)) goto l_capnp_9l;
+    capnp_messages_messages_copy_memory_CopySegment_zero_up_to(r_xm, r_z6_5);
 l_capnp_9l:;
     st32(r_h6, r_w0_2);
     r_kw = 1u;
@@ -7987,12 +8062,12 @@ l_else_xr:;
 l_capnp_c2:;
     if (!(r_jz.f0 == 1u)) goto l_arm_ua_1;
     r_xo_1 = r_jz.f1;
-    r_a7_11 = ((((u64)(r_mz_1 << 32ull) & 0xffff00000000ull) | (u64)(r_3h << 48ull)) | (u64)(u32)((r_xo_1 + (r_7m ^ 0xffffffffu)) << 2u));
+    r_a7 = ((((u64)(r_mz << 32ull) & 0xffff00000000ull) | (u64)(r_3h << 48ull)) | (u64)(u32)((r_xo_1 + (r_7m ^ 0xffffffffu)) << 2u));
     if (!r_sz) goto l_else_6u;
-    st64(away(ldp(r_xm_1), (u64)((u64)r_7m << 3ull)), r_a7_11);
+    st64(away(ldp(r_xm), (u64)((u64)r_7m << 3ull)), r_a7);
     goto l_capnp_qg;
 l_else_6u:;
-    capnp_arena_arena_rows_put_word_in_4426f83c3c99ca57(ldp(r_yf), r_0f, r_7m, r_a7_11);
+    capnp_arena_arena_rows_put_word_in_4426f83c3c99ca57(ldp(r_yf), r_0f, r_7m, r_a7);
     goto l_capnp_qg;
 l_arm_ua_1:;
     capnp_arena_arena_builder_arena_impl_BuilderArenaImplB_7b1ceaa0(slot_1, a_2, (r_68 + 1u));
@@ -8000,20 +8075,20 @@ l_arm_ua_1:;
     r_yf_4 = ld32(r_ix);
     r_e3_1 = ld32(r_x5_2);
     r_ll_1 = (r_e3_1 + 1u);
-    r_r8_1 = (((u64)(r_mz_1 << 32ull) & 0xffff00000000ull) | (u64)(r_3h << 48ull));
+    r_r8 = (((u64)(r_mz << 32ull) & 0xffff00000000ull) | (u64)(r_3h << 48ull));
     if (!(r_yf_4 == 0u)) goto l_else_eu_2;
-    u64 r_z6_17 = (u64)((u64)r_e3_1 << 3ull);
-    st64(away(ldp(r_xm_1), r_z6_17), r_r8_1);
-    r_59_1 = r_z6_17;
+    u64 r_z6_6 = (u64)((u64)r_e3_1 << 3ull);
+    st64(away(ldp(r_xm), r_z6_6), r_r8);
+    r_59_1 = r_z6_6;
     goto l_capnp_9d_1;
 l_else_eu_2:;
-    u64 r_24_16 = (u64)r_yf_4;
-    capnp_arena_arena_rows_put_word_in_4426f83c3c99ca57(ldp(r_yf), (r_24_16 + 0xffffffffffffffffull), r_e3_1, r_r8_1);
-    r_59_1 = ((u64)(r_24_16 << 32ull) | (u64)((u64)r_e3_1 << 3ull));
+    u64 r_24_4 = (u64)r_yf_4;
+    capnp_arena_arena_rows_put_word_in_4426f83c3c99ca57(ldp(r_yf), (r_24_4 + 0xffffffffffffffffull), r_e3_1, r_r8);
+    r_59_1 = ((u64)(r_24_4 << 32ull) | (u64)((u64)r_e3_1 << 3ull));
 l_capnp_9d_1:;
     r_ni_1 = (r_59_1 | 2ull);
     if (!r_sz) goto l_else_6u_1;
-    st64(away(ldp(r_xm_1), (u64)((u64)r_7m << 3ull)), r_ni_1);
+    st64(away(ldp(r_xm), (u64)((u64)r_7m << 3ull)), r_ni_1);
     goto l_capnp_k5;
 l_else_6u_1:;
     capnp_arena_arena_rows_put_word_in_4426f83c3c99ca57(ldp(r_yf), r_0f, r_7m, r_ni_1);
@@ -8024,49 +8099,49 @@ l_capnp_qg:;
 l_capnp_k5:;
     r_nu = ((u64)((u64)r_ll_1 << 32ull) | (u64)r_yf_4);
 l_arm_zo:;
-    r_wt_1 = (u32)r_nu;
+    r_wt = (u32)r_nu;
     r_ep_1 = (u64)(r_nu >> 32ull);
     r_4r_1 = (u32)r_ep_1;
-    r_0l = ((u64)(r_mz_1 << 3ull) & 0x7fff8ull);
-    r_2b_17 = away(r_rv_1, (u64)((u64)r_5b << 3ull));
+    r_0l = ((u64)(r_mz << 3ull) & 0x7fff8ull);
+    r_2b_3 = away(r_rv_1, (u64)((u64)r_5b << 3ull));
     if (r_xg == 0u) goto l_capnp_5c;
-    if (!(r_wt_1 == 0u)) goto l_else_h1_1;
-    r_al = ldp(r_xm_1);
+    if (!(r_wt == 0u)) goto l_else_h1_1;
+    r_al = ldp(r_xm);
     goto l_capnp_kr;
 l_else_h1_1:;
-    u8 *r_x5_7 = capnp_arena_arena_rows_Rows_other_mut_4426f83c3c99ca57(r_xm_1, r_wt_1);
+    u8 *r_x5_7 = capnp_arena_arena_rows_Rows_other_mut_4426f83c3c99ca57(r_xm, r_wt);
     r_al = r_x5_7;
 l_capnp_kr:;
-    r_2b_18 = away(r_al, (u64)(r_ep_1 << 3ull));
+    r_2b_4 = away(r_al, (u64)(r_ep_1 << 3ull));
     if (!(r_xg < 8u)) goto l_else_r3_1;
     if (!(r_xg > 3u)) goto l_else_1o;
-    mv32(r_2b_18, r_2b_17);
+    mv32(r_2b_4, r_2b_3);
     u64 r_bh_1 = (r_0l + 0xffffffffffffffe0ull);
-    mv32((r_2b_18 + (i64)(r_bh_1)), (r_2b_17 + (i64)(r_bh_1)));
+    mv32((r_2b_4 + (i64)(r_bh_1)), (r_2b_3 + (i64)(r_bh_1)));
     goto l_capnp_5c;
 l_else_1o:;
     if (r_xg == 1u) goto l_then_49_1;
-    mv16(r_2b_18, r_2b_17);
+    mv16(r_2b_4, r_2b_3);
     u64 r_8f_1 = (r_0l + 0xfffffffffffffff0ull);
-    mv16((r_2b_18 + (i64)(r_8f_1)), (r_2b_17 + (i64)(r_8f_1)));
+    mv16((r_2b_4 + (i64)(r_8f_1)), (r_2b_3 + (i64)(r_8f_1)));
     goto l_capnp_5c;
 l_then_49_1:;
-    mv8(r_2b_18, r_2b_17);
+    mv8(r_2b_4, r_2b_3);
     u64 r_la_2 = (r_0l + 0xfffffffffffffff8ull);
-    mv8((r_2b_18 + (i64)(r_la_2)), (r_2b_17 + (i64)(r_la_2)));
+    mv8((r_2b_4 + (i64)(r_la_2)), (r_2b_3 + (i64)(r_la_2)));
     goto l_capnp_5c;
 l_else_r3_1:;
-    if (((u64)(uptr)r_2b_18 - (u64)(uptr)r_2b_17) < r_0l) { r_il_1 = 0ull; goto l_join_fh_1; }
-    memmove_or_none(r_2b_18, r_2b_17, r_0l);
+    if (((u64)(uptr)r_2b_4 - (u64)(uptr)r_2b_3) < r_0l) { r_il_1 = 0ull; goto l_join_fh_1; }
+    memmove_or_none(r_2b_4, r_2b_3, r_0l);
     goto l_capnp_5c;
 l_join_fh_1:;
-    st8((r_2b_18 + (i64)(r_il_1)), ld8((r_2b_17 + (i64)(r_il_1))));
-    u64 r_c4_5 = (r_il_1 + 1ull);
-    if (!(r_c4_5 == r_0l)) { r_il_1 = r_c4_5; goto l_join_fh_1; }
+    st8((r_2b_4 + (i64)(r_il_1)), ld8((r_2b_3 + (i64)(r_il_1))));
+    u64 r_c4_3 = (r_il_1 + 1ull);
+    if (!(r_c4_3 == r_0l)) { r_il_1 = r_c4_3; goto l_join_fh_1; }
 l_capnp_5c:;
     memset(slot_1, 0u, 24);
     st64(t_6c, 0ull);
-    if (r_az == 0u) { r_2b_19 = 0u; r_qh = 0u; r_ip = 0u; r_wq = 0ull; goto l_capnp_no; }
+    if (r_az == 0u) { r_2b_5 = 0u; r_qh = 0u; r_ip = 0u; r_wq = 0ull; goto l_capnp_no; }
     st64(slot_2, r_eg);
     stp(r_x5_3, r_rv);
     st64(r_zd_3, r_qw);
@@ -8076,8 +8151,8 @@ l_capnp_5c:;
     st32(r_c4_1, (r_5b + ((u32)r_ep & 65535u)));
     st32(r_bk, 0u);
     st32(r_6c_1, r_53);
-    capnp_copies_copy_children_copy_children_out_of_line_f_b6070b37(slot_1, a_2, r_wt_1, (r_29 + r_4r_1), slot_2, r_az, a_7, a_8);
-    r_2b_19 = ld8(slot_1);
+    capnp_copies_copy_children_copy_children_out_of_line_f_b6070b37(slot_1, a_2, r_wt, (r_29 + r_4r_1), slot_2, r_az, a_7, a_8);
+    r_2b_5 = ld8(slot_1);
     r_qh = ld8(r_x5_4);
     r_ip = ld32(r_k0_2);
     r_wq = ld64(r_zd_4);
@@ -8085,7 +8160,7 @@ l_capnp_no:;
     t_i2 = r_wq;
     t_1i = r_ip;
     r_k7 = r_qh;
-    t_yl = r_2b_19;
+    t_yl = r_2b_5;
     goto l_capnp_6w;
 l_arm_vh_1:;
     t_i2 = ld64(r_zd_2);
@@ -8164,33 +8239,33 @@ static void capnp_messages_messages_copy_size_add_value_5ccc1be374b2e488(u8 *a_1
     u64 r_y6;
     u64 r_lc_1;
     u8 *r_rq_1;
-    u64 r_52_2;
+    u64 r_52_1;
     u64 r_ep_1;
     u8 switch_wl;
     u64 r_ij;
-    u64 r_c4_1;
-    u64 r_24_1;
-    u64 r_gw_2;
+    u64 r_c4;
+    u64 r_24;
+    u64 r_gw_1;
     u8 *r_rq_2;
-    u64 r_52_3;
+    u64 r_52_2;
     u64 r_eh;
     u32 t_c8;
-    u32 r_12_1;
-    u32 r_az_1;
+    u32 r_12;
+    u32 r_az;
     u32 r_68;
     u64 r_c0;
     u8 *r_rq_3;
+    u64 r_52_3;
+    u32 r_12_1;
+    u8 *r_rq_4;
     u64 r_52_4;
     u32 r_12_2;
-    u8 *r_rq_4;
+    u8 *r_rq_5;
     u64 r_52_5;
     u32 r_12_3;
-    u8 *r_rq_5;
-    u64 r_52_6;
-    u32 r_12_4;
     u64 r_c6;
     u8 *r_rq_6;
-    u64 r_52_7;
+    u64 r_52_6;
     u64 r_2g;
     u64 r_jg;
     u64 r_6e;
@@ -8208,43 +8283,43 @@ static void capnp_messages_messages_copy_size_add_value_5ccc1be374b2e488(u8 *a_1
     u32 r_ai;
     u32 r_m0;
     u64 r_ph;
-    u64 r_es_3;
+    u64 r_es;
     u64 r_u7;
-    u64 r_lc_7;
-    u64 r_24_5;
-    u64 r_z6_2;
-    u8 r_c6_2;
+    u64 r_lc_3;
+    u64 r_24_1;
+    u64 r_z6;
+    u8 r_c6_1;
     u32 r_xu;
     u32 r_t2;
     u64 r_4c_1;
-    u8 *r_2b_2;
+    u8 *r_2b;
     u64 r_nm;
     u64 r_nm_1;
     u64 r_7s;
     u32 spec_xy;
-    u64 r_z6_4;
+    u64 r_z6_1;
     u8 r_p1;
     u32 r_q6;
     u32 r_5w;
     u64 r_cx;
-    u8 *r_2b_5;
+    u8 *r_2b_1;
     u64 r_nm_2;
     u64 r_nm_3;
     u64 r_7s_1;
     u32 spec_xy_1;
     u32 r_p0;
-    u32 r_y6_2;
+    u32 r_y6_1;
     u32 r_zi;
     u32 r_3l;
     u64 r_4c;
     u8 *r_tz;
-    u64 r_lc_6;
+    u64 r_lc_2;
     u8 r_kk;
     u16 r_hp;
     u16 r_mw;
     u32 r_y9;
-    u64 r_lc_8;
-    u32 r_12_6;
+    u64 r_lc_4;
+    u32 r_12_4;
     u32 r_mx;
     memset(slot_2, 0u, 64);
     memset(slot_3, 0u, 64);
@@ -8295,11 +8370,11 @@ l_capnp_i5:;
     goto l_arm_wn;
 l_capnp_bt:;
     capnp_objects_source_follow_far_5ccc1be374b2e488(slot_1, r_xw_1, r_qw, a_6);
-    u64 r_38_2 = ld64((slot_1 + 16));
-    u64 r_38_4 = ld64((slot_1 + 8));
-    if (ld8(slot_1) == 0u) { r_gx = ld32((slot_1 + 44)); r_qd = ld32((slot_1 + 40)); r_d4 = r_38_2; r_9h = r_38_4; r_27 = ld64((slot_1 + 32)); r_hv = ((u8 *)(uptr)ld64((slot_1 + 24))); goto l_arm_wn; }
-    r_jg = r_38_2;
-    r_6e = r_38_4;
+    u64 r_38_1 = ld64((slot_1 + 16));
+    u64 r_38_2 = ld64((slot_1 + 8));
+    if (ld8(slot_1) == 0u) { r_gx = ld32((slot_1 + 44)); r_qd = ld32((slot_1 + 40)); r_d4 = r_38_1; r_9h = r_38_2; r_27 = ld64((slot_1 + 32)); r_hv = ((u8 *)(uptr)ld64((slot_1 + 24))); goto l_arm_wn; }
+    r_jg = r_38_1;
+    r_6e = r_38_2;
     goto l_capnp_qu;
 l_arm_wn:;
     switch ((u8)((u8)r_9h & 3u)) {
@@ -8318,10 +8393,10 @@ l_arm_9l:;
     if (t_pa) goto l_arm_mf;
     if (!(ld8(a_6) == 1u)) goto l_arm_mf;
     r_rq_1 = away(a_6, 8ull);
-    r_52_2 = ld64(r_rq_1);
-    if (r_52_2 < r_lc_1) { r_pp = 1u; r_9q = 0u; r_ai = 30u; r_m0 = 0u; r_ph = 0ull; goto l_common_4n; }
+    r_52_1 = ld64(r_rq_1);
+    if (r_52_1 < r_lc_1) { r_pp = 1u; r_9q = 0u; r_ai = 30u; r_m0 = 0u; r_ph = 0ull; goto l_common_4n; }
     st64(a_6, 1ull);
-    st64(r_rq_1, (r_52_2 - r_lc_1));
+    st64(r_rq_1, (r_52_1 - r_lc_1));
 l_arm_mf:;
     r_v1 = r_qd;
     r_pr = r_gx;
@@ -8346,20 +8421,20 @@ l_arm_z2:;
     }
 l_arm_kl:;
     if ((i32)a_4 < (i32)1u) { r_pp = 1u; r_9q = 0u; r_ai = 26u; r_m0 = 0u; r_ph = 0ull; goto l_common_4n; }
-    r_c4_1 = (r_ij + 1ull);
-    r_24_1 = (u64)r_qd;
-    r_gw_2 = (u64)(r_27 >> 3ull);
-    if ((r_gw_2 & 0xffffffffull) < (r_c4_1 + r_24_1)) { r_pp = 1u; r_9q = 0u; r_ai = 23u; r_m0 = 0u; r_ph = 0ull; goto l_common_4n; }
+    r_c4 = (r_ij + 1ull);
+    r_24 = (u64)r_qd;
+    r_gw_1 = (u64)(r_27 >> 3ull);
+    if ((r_gw_1 & 0xffffffffull) < (r_c4 + r_24)) { r_pp = 1u; r_9q = 0u; r_ai = 23u; r_m0 = 0u; r_ph = 0ull; goto l_common_4n; }
     if (t_pa) goto l_arm_ga;
     if (!(ld8(a_6) == 1u)) goto l_arm_ga;
     r_rq_2 = away(a_6, 8ull);
-    r_52_3 = ld64(r_rq_2);
-    if (!(r_52_3 > r_ij)) { r_pp = 1u; r_9q = 0u; r_ai = 30u; r_m0 = 0u; r_ph = 0ull; goto l_common_4n; }
+    r_52_2 = ld64(r_rq_2);
+    if (!(r_52_2 > r_ij)) { r_pp = 1u; r_9q = 0u; r_ai = 30u; r_m0 = 0u; r_ph = 0ull; goto l_common_4n; }
     st64(a_6, 1ull);
-    st64(r_rq_2, (r_52_3 - r_c4_1));
+    st64(r_rq_2, (r_52_2 - r_c4));
 l_arm_ga:;
-    if (!(r_gw_2 > r_24_1)) { r_eh = 0ull; goto l_join_qm; }
-    u64 r_qw_1 = ld64(away(r_hv, (u64)(r_24_1 << 3ull)));
+    if (!(r_gw_1 > r_24)) { r_eh = 0ull; goto l_join_qm; }
+    u64 r_qw_1 = ld64(away(r_hv, (u64)(r_24 << 3ull)));
     if ((r_qw_1 & 3ull) == 0ull) { r_eh = r_qw_1; goto l_join_qm; }
     r_pp = 1u;
     r_9q = 0u;
@@ -8369,77 +8444,77 @@ l_arm_ga:;
     goto l_common_4n;
 l_join_qm:;
     t_c8 = (u32)((u32)r_eh >> 2u);
-    r_12_1 = (u32)(u64)(r_eh >> 48ull);
-    r_az_1 = ((u32)(u64)(r_eh >> 32ull) & 65535u);
-    r_68 = (r_az_1 + r_12_1);
+    r_12 = (u32)(u64)(r_eh >> 48ull);
+    r_az = ((u32)(u64)(r_eh >> 32ull) & 65535u);
+    r_68 = (r_az + r_12);
     r_c0 = (u64)t_c8;
     if (r_ij < ((u64)r_68 * r_c0)) { r_pp = 1u; r_9q = 0u; r_ai = 10u; r_m0 = 0u; r_ph = 0ull; goto l_common_4n; }
     if ((u8)((u8)t_pa | (u8)(r_68 != 0u))) goto l_arm_8v;
     if (!(ld8(a_6) == 1u)) goto l_arm_8v;
     r_rq_3 = away(a_6, 8ull);
-    r_52_4 = ld64(r_rq_3);
-    if (r_52_4 < r_c0) { r_pp = 1u; r_9q = 0u; r_ai = 30u; r_m0 = 0u; r_ph = 0ull; goto l_common_4n; }
+    r_52_3 = ld64(r_rq_3);
+    if (r_52_3 < r_c0) { r_pp = 1u; r_9q = 0u; r_ai = 30u; r_m0 = 0u; r_ph = 0ull; goto l_common_4n; }
     st64(a_6, 1ull);
-    st64(r_rq_3, (r_52_4 - r_c0));
+    st64(r_rq_3, (r_52_3 - r_c0));
 l_arm_8v:;
     r_v1 = (r_qd + 1u);
     r_pr = 0u;
     r_oq = 5u;
-    r_5v = ((u32)(r_12_1 << 16u) | r_az_1);
+    r_5v = ((u32)(r_12 << 16u) | r_az);
     r_2t = t_c8;
     goto l_arm_tt;
 l_arm_oi:;
-    r_12_2 = (u32)r_ij;
+    r_12_1 = (u32)r_ij;
     if ((i32)a_4 < (i32)1u) { r_pp = 1u; r_9q = 0u; r_ai = 26u; r_m0 = 0u; r_ph = 0ull; goto l_common_4n; }
     if (((u64)(r_27 >> 3ull) & 0xffffffffull) < (r_ij + (u64)r_qd)) { r_pp = 1u; r_9q = 0u; r_ai = 23u; r_m0 = 0u; r_ph = 0ull; goto l_common_4n; }
-    if (t_pa) { r_v1 = r_qd; r_pr = r_gx; r_oq = 4u; r_5v = r_12_2; r_2t = 0u; goto l_arm_tt; }
-    if (!(ld8(a_6) == 1u)) { r_v1 = r_qd; r_pr = r_gx; r_oq = 4u; r_5v = r_12_2; r_2t = 0u; goto l_arm_tt; }
+    if (t_pa) { r_v1 = r_qd; r_pr = r_gx; r_oq = 4u; r_5v = r_12_1; r_2t = 0u; goto l_arm_tt; }
+    if (!(ld8(a_6) == 1u)) { r_v1 = r_qd; r_pr = r_gx; r_oq = 4u; r_5v = r_12_1; r_2t = 0u; goto l_arm_tt; }
     r_rq_4 = away(a_6, 8ull);
-    r_52_5 = ld64(r_rq_4);
-    if (r_52_5 < r_ij) { r_pp = 1u; r_9q = 0u; r_ai = 30u; r_m0 = 0u; r_ph = 0ull; goto l_common_4n; }
+    r_52_4 = ld64(r_rq_4);
+    if (r_52_4 < r_ij) { r_pp = 1u; r_9q = 0u; r_ai = 30u; r_m0 = 0u; r_ph = 0ull; goto l_common_4n; }
     st64(a_6, 1ull);
-    st64(r_rq_4, (r_52_5 - r_ij));
+    st64(r_rq_4, (r_52_4 - r_ij));
     r_v1 = r_qd;
     r_pr = r_gx;
     r_oq = 4u;
-    r_5v = r_12_2;
+    r_5v = r_12_1;
     r_2t = 0u;
     goto l_arm_tt;
 l_arm_oi_1:;
-    r_12_3 = (u32)r_ij;
+    r_12_2 = (u32)r_ij;
     if ((i32)a_4 < (i32)1u) { r_pp = 1u; r_9q = 0u; r_ai = 26u; r_m0 = 0u; r_ph = 0ull; goto l_common_4n; }
     if (((u64)(r_27 >> 3ull) & 0xffffffffull) < (u64)r_qd) { r_pp = 1u; r_9q = 0u; r_ai = 23u; r_m0 = 0u; r_ph = 0ull; goto l_common_4n; }
-    if (t_pa) { r_v1 = r_qd; r_pr = r_gx; r_oq = 3u; r_5v = 0u; r_2t = r_12_3; goto l_arm_tt; }
-    if (!(ld8(a_6) == 1u)) { r_v1 = r_qd; r_pr = r_gx; r_oq = 3u; r_5v = 0u; r_2t = r_12_3; goto l_arm_tt; }
+    if (t_pa) { r_v1 = r_qd; r_pr = r_gx; r_oq = 3u; r_5v = 0u; r_2t = r_12_2; goto l_arm_tt; }
+    if (!(ld8(a_6) == 1u)) { r_v1 = r_qd; r_pr = r_gx; r_oq = 3u; r_5v = 0u; r_2t = r_12_2; goto l_arm_tt; }
     st64(a_6, 1ull);
     r_rq_5 = away(a_6, 8ull);
-    r_52_6 = ld64(r_rq_5);
-    if (r_52_6 < r_ij) { r_pp = 1u; r_9q = 0u; r_ai = 30u; r_m0 = 0u; r_ph = 0ull; goto l_common_4n; }
-    st64(r_rq_5, (r_52_6 - r_ij));
+    r_52_5 = ld64(r_rq_5);
+    if (r_52_5 < r_ij) { r_pp = 1u; r_9q = 0u; r_ai = 30u; r_m0 = 0u; r_ph = 0ull; goto l_common_4n; }
+    st64(r_rq_5, (r_52_5 - r_ij));
     r_v1 = r_qd;
     r_pr = r_gx;
     r_oq = 3u;
     r_5v = 0u;
-    r_2t = r_12_3;
+    r_2t = r_12_2;
     goto l_arm_tt;
 l_arm_oi_2:;
-    r_12_4 = (u32)r_ij;
+    r_12_3 = (u32)r_ij;
     if ((i32)a_4 < (i32)1u) { r_pp = 1u; r_9q = 0u; r_ai = 26u; r_m0 = 0u; r_ph = 0ull; goto l_common_4n; }
     r_c6 = (u64)(((ld64(away(away(((u8 *)switch_table_capnp_show_show_objects_read_object_5ccc1_1b90c80b), 8 * (r_ep_1 & 7ull)), 0xfffffffffffffff8ull)) * r_ij) + 63ull) >> 6ull);
     if (((u64)(r_27 >> 3ull) & 0xffffffffull) < (r_c6 + (u64)r_qd)) { r_pp = 1u; r_9q = 0u; r_ai = 23u; r_m0 = 0u; r_ph = 0ull; goto l_common_4n; }
     if (t_pa) goto l_arm_eq;
     if (!(ld8(a_6) == 1u)) goto l_arm_eq;
     r_rq_6 = away(a_6, 8ull);
-    r_52_7 = ld64(r_rq_6);
-    if (r_52_7 < r_c6) { r_pp = 1u; r_9q = 0u; r_ai = 30u; r_m0 = 0u; r_ph = 0ull; goto l_common_4n; }
+    r_52_6 = ld64(r_rq_6);
+    if (r_52_6 < r_c6) { r_pp = 1u; r_9q = 0u; r_ai = 30u; r_m0 = 0u; r_ph = 0ull; goto l_common_4n; }
     st64(a_6, 1ull);
-    st64(r_rq_6, (r_52_7 - r_c6));
+    st64(r_rq_6, (r_52_6 - r_c6));
 l_arm_eq:;
     r_v1 = r_qd;
     r_pr = r_gx;
     r_oq = 3u;
     r_5v = (u32)switch_wl;
-    r_2t = r_12_4;
+    r_2t = r_12_3;
     goto l_arm_tt;
 l_default_e1:;
     UNREACHABLE();
@@ -8455,12 +8530,12 @@ l_capnp_qu:;
     goto l_common_4n;
 l_join_ud:;
     r_p0 = 0u;
-    r_y6_2 = 0u;
+    r_y6_1 = 0u;
     r_zi = 0u;
     r_3l = 0u;
     r_4c = 0ull;
     r_tz = ((u8 *)0);
-    r_lc_6 = 0ull;
+    r_lc_2 = 0ull;
     r_kk = 0u;
     r_hp = 0u;
     r_mw = 0u;
@@ -8473,7 +8548,7 @@ l_arm_tt:;
     r_98 = (u32)(r_5v >> 8u);
     switch (r_oq) {
     case 5u: goto l_arm_6q;
-    case 4u: { r_p0 = r_2t; r_y6_2 = r_5v; r_zi = r_pr; r_3l = r_v1; r_4c = r_27; r_tz = r_hv; r_lc_6 = r_d4; r_kk = r_oq; r_hp = r_t8; r_mw = r_gr; r_y9 = r_5v; goto l_capnp_qq; }
+    case 4u: { r_p0 = r_2t; r_y6_1 = r_5v; r_zi = r_pr; r_3l = r_v1; r_4c = r_27; r_tz = r_hv; r_lc_2 = r_d4; r_kk = r_oq; r_hp = r_t8; r_mw = r_gr; r_y9 = r_5v; goto l_capnp_qq; }
     case 2u: goto l_arm_89;
     case 3u: goto l_arm_6l;
     default: goto l_noarm_e1;
@@ -8499,12 +8574,12 @@ l_arm_89:;
     st32((slot_1 + 28), r_pr);
     u32 r_28 = capnp_messages_messages_copy_size_struct_words(slot_1, (u16)((u16)((u32)(u16)r_98 << 8u) | (u16)(r_t8 & 255u)), r_gr);
     r_p0 = r_2t;
-    r_y6_2 = r_5v;
+    r_y6_1 = r_5v;
     r_zi = r_pr;
     r_3l = r_v1;
     r_4c = r_27;
     r_tz = r_hv;
-    r_lc_6 = r_d4;
+    r_lc_2 = r_d4;
     r_kk = 2u;
     r_hp = r_t8;
     r_mw = r_gr;
@@ -8512,87 +8587,87 @@ l_arm_89:;
     goto l_capnp_qq;
 l_arm_6l:;
     r_p0 = r_2t;
-    r_y6_2 = r_5v;
+    r_y6_1 = r_5v;
     r_zi = r_pr;
     r_3l = r_v1;
     r_4c = r_27;
     r_tz = r_hv;
-    r_lc_6 = r_d4;
+    r_lc_2 = r_d4;
     r_kk = 3u;
     r_hp = r_t8;
     r_mw = r_gr;
     r_y9 = (u32)(u64)(((ld64((((u8 *)switch_table_capnp_objects_pointers_sizes_add_object_5_3d258a4b) + (i64)(8 * (u64)(r_5v & 255u)))) * (u64)r_2t) + 63ull) >> 6ull);
     goto l_capnp_qq;
 l_arm_6q:;
-    if (r_2t == 0u) { r_p0 = 0u; r_y6_2 = r_5v; r_zi = r_pr; r_3l = r_v1; r_4c = r_27; r_tz = r_hv; r_lc_6 = r_d4; r_kk = 5u; r_hp = r_t8; r_mw = r_gr; r_y9 = 1u; goto l_capnp_qq; }
-    u16 r_pz_1 = (u16)((u16)((u32)(u16)r_98 << 8u) | (u16)(r_t8 & 255u));
-    r_es_3 = (u64)r_5d;
-    r_u7 = (u64)r_pz_1;
-    r_lc_7 = (r_u7 + r_es_3);
-    r_24_5 = (u64)r_v1;
-    r_z6_2 = (u64)(r_u7 << 3ull);
-    r_c6_2 = (r_pz_1 < 32u);
+    if (r_2t == 0u) { r_p0 = 0u; r_y6_1 = r_5v; r_zi = r_pr; r_3l = r_v1; r_4c = r_27; r_tz = r_hv; r_lc_2 = r_d4; r_kk = 5u; r_hp = r_t8; r_mw = r_gr; r_y9 = 1u; goto l_capnp_qq; }
+    u16 r_pz = (u16)((u16)((u32)(u16)r_98 << 8u) | (u16)(r_t8 & 255u));
+    r_es = (u64)r_5d;
+    r_u7 = (u64)r_pz;
+    r_lc_3 = (r_u7 + r_es);
+    r_24_1 = (u64)r_v1;
+    r_z6 = (u64)(r_u7 << 3ull);
+    r_c6_1 = (r_pz < 32u);
     r_xu = 0u;
     r_t2 = 0u;
-    r_4c_1 = r_24_5;
+    r_4c_1 = r_24_1;
 l_join_n8:;
-    r_2b_2 = away(r_hv, (u64)(r_4c_1 << 3ull));
-    if (r_c6_2) { r_nm = r_u7; goto l_loop_jc; }
+    r_2b = away(r_hv, (u64)(r_4c_1 << 3ull));
+    if (r_c6_1) { r_nm = r_u7; goto l_loop_jc; }
     goto l_else_wj;
 l_loop_jc:;
     if (r_nm == 0ull) { r_7s = 0ull; goto l_capnp_oc; }
     u64 r_0f = (r_nm + 0xffffffffffffffffull);
-    if (ld64(away(r_2b_2, (u64)(r_0f << 3ull))) == 0ull) { r_nm = r_0f; goto l_loop_jc; }
+    if (ld64(away(r_2b, (u64)(r_0f << 3ull))) == 0ull) { r_nm = r_0f; goto l_loop_jc; }
     r_7s = r_nm;
     goto l_capnp_oc;
 l_else_wj:;
-    if (!(ld64(away(away(r_2b_2, r_z6_2), 0xfffffffffffffff8ull)) == 0ull)) { r_7s = r_u7; goto l_capnp_oc; }
-    u64 r_g1 = capnp_words_lanes_used_words_bound(r_2b_2, r_z6_2);
+    if (!(ld64(away(away(r_2b, r_z6), 0xfffffffffffffff8ull)) == 0ull)) { r_7s = r_u7; goto l_capnp_oc; }
+    u64 r_g1 = capnp_words_lanes_used_words_bound(r_2b, r_z6);
     r_nm_1 = r_g1;
 l_loop_jc_1:;
     if (r_nm_1 == 0ull) { r_7s = 0ull; goto l_capnp_oc; }
     u64 r_0f_1 = (r_nm_1 + 0xffffffffffffffffull);
-    if (ld64(away(r_2b_2, (u64)(r_0f_1 << 3ull))) == 0ull) { r_nm_1 = r_0f_1; goto l_loop_jc_1; }
+    if (ld64(away(r_2b, (u64)(r_0f_1 << 3ull))) == 0ull) { r_nm_1 = r_0f_1; goto l_loop_jc_1; }
     r_7s = r_nm_1;
 l_capnp_oc:;
     spec_xy = umax32((u32)r_7s, r_t2);
     u32 r_ff = (r_xu + 1u);
-    if (!(r_ff == r_2t)) { u32 r_1 = r_ff; u32 r_2 = spec_xy; u64 r_3 = (r_4c_1 + r_lc_7); r_xu = r_1; r_t2 = r_2; r_4c_1 = r_3; goto l_join_n8; }
-    r_z6_4 = (u64)(r_es_3 << 3ull);
+    if (!(r_ff == r_2t)) { u32 r_1 = r_ff; u32 r_2 = spec_xy; u64 r_3 = (r_4c_1 + r_lc_3); r_xu = r_1; r_t2 = r_2; r_4c_1 = r_3; goto l_join_n8; }
+    r_z6_1 = (u64)(r_es << 3ull);
     r_p1 = (r_5v < 0x200000u);
     r_q6 = 0u;
     r_5w = 0u;
-    r_cx = r_24_5;
+    r_cx = r_24_1;
 l_join_my:;
-    r_2b_5 = away(r_hv, (u64)((r_cx + r_u7) << 3ull));
-    if (r_p1) { r_nm_2 = r_es_3; goto l_loop_jc_2; }
+    r_2b_1 = away(r_hv, (u64)((r_cx + r_u7) << 3ull));
+    if (r_p1) { r_nm_2 = r_es; goto l_loop_jc_2; }
     goto l_else_wj_1;
 l_loop_jc_2:;
     if (r_nm_2 == 0ull) { r_7s_1 = 0ull; goto l_capnp_oc_1; }
     u64 r_0f_2 = (r_nm_2 + 0xffffffffffffffffull);
-    if (ld64(away(r_2b_5, (u64)(r_0f_2 << 3ull))) == 0ull) { r_nm_2 = r_0f_2; goto l_loop_jc_2; }
+    if (ld64(away(r_2b_1, (u64)(r_0f_2 << 3ull))) == 0ull) { r_nm_2 = r_0f_2; goto l_loop_jc_2; }
     r_7s_1 = r_nm_2;
     goto l_capnp_oc_1;
 l_else_wj_1:;
-    if (!(ld64(away(away(r_2b_5, r_z6_4), 0xfffffffffffffff8ull)) == 0ull)) { r_7s_1 = r_es_3; goto l_capnp_oc_1; }
-    u64 r_g1_1 = capnp_words_lanes_used_words_bound(r_2b_5, r_z6_4);
+    if (!(ld64(away(away(r_2b_1, r_z6_1), 0xfffffffffffffff8ull)) == 0ull)) { r_7s_1 = r_es; goto l_capnp_oc_1; }
+    u64 r_g1_1 = capnp_words_lanes_used_words_bound(r_2b_1, r_z6_1);
     r_nm_3 = r_g1_1;
 l_loop_jc_3:;
     if (r_nm_3 == 0ull) { r_7s_1 = 0ull; goto l_capnp_oc_1; }
     u64 r_0f_3 = (r_nm_3 + 0xffffffffffffffffull);
-    if (ld64(away(r_2b_5, (u64)(r_0f_3 << 3ull))) == 0ull) { r_nm_3 = r_0f_3; goto l_loop_jc_3; }
+    if (ld64(away(r_2b_1, (u64)(r_0f_3 << 3ull))) == 0ull) { r_nm_3 = r_0f_3; goto l_loop_jc_3; }
     r_7s_1 = r_nm_3;
 l_capnp_oc_1:;
     spec_xy_1 = umax32((u32)r_7s_1, r_5w);
     u32 r_ff_1 = (r_q6 + 1u);
-    if (!(r_ff_1 == r_2t)) { u32 r_4 = r_ff_1; u32 r_5 = spec_xy_1; u64 r_6 = (r_cx + r_lc_7); r_q6 = r_4; r_5w = r_5; r_cx = r_6; goto l_join_my; }
+    if (!(r_ff_1 == r_2t)) { u32 r_4 = r_ff_1; u32 r_5 = spec_xy_1; u64 r_6 = (r_cx + r_lc_3); r_q6 = r_4; r_5w = r_5; r_cx = r_6; goto l_join_my; }
     r_p0 = r_2t;
-    r_y6_2 = r_5v;
+    r_y6_1 = r_5v;
     r_zi = r_pr;
     r_3l = r_v1;
     r_4c = r_27;
     r_tz = r_hv;
-    r_lc_6 = r_d4;
+    r_lc_2 = r_d4;
     r_kk = 5u;
     r_hp = r_t8;
     r_mw = r_gr;
@@ -8601,9 +8676,9 @@ l_capnp_oc_1:;
 l_noarm_e1:;
     UNREACHABLE();
 l_capnp_qq:;
-    r_lc_8 = ((u64)r_y9 + (u64)a_5);
-    if (r_lc_8 > 0x1fffffffull) { r_pp = 1u; r_9q = 0u; r_ai = 27u; r_m0 = 0u; r_ph = 0x1fffffffull; goto l_common_4n; }
-    r_12_6 = (u32)r_lc_8;
+    r_lc_4 = ((u64)r_y9 + (u64)a_5);
+    if (r_lc_4 > 0x1fffffffull) { r_pp = 1u; r_9q = 0u; r_ai = 27u; r_m0 = 0u; r_ph = 0x1fffffffull; goto l_common_4n; }
+    r_12_4 = (u32)r_lc_4;
     r_mx = ((a_4 == 0x80000000u) ? 0x80000000u : (a_4 + 0xffffffffu));
     switch (r_kk) {
     case 0u: goto l_arm_jm;
@@ -8616,48 +8691,48 @@ l_capnp_qq:;
     }
 l_arm_jm:;
     st32(slot_5, 0u);
-    st32((slot_5 + 4), r_12_6);
+    st32((slot_5 + 4), r_12_4);
     goto l_join_v6;
 l_arm_jm_1:;
     st32(slot_5, 0u);
-    st32((slot_5 + 4), r_12_6);
+    st32((slot_5 + 4), r_12_4);
     goto l_join_v6;
 l_arm_jm_2:;
     st32(slot_5, 0u);
-    st32((slot_5 + 4), r_12_6);
+    st32((slot_5 + 4), r_12_4);
     goto l_join_v6;
 l_arm_eo:;
     st64(slot_2, (u64)ld8(a_2));
     mv16((slot_2 + 8), r_rq);
-    st64((slot_2 + 24), r_lc_6);
+    st64((slot_2 + 24), r_lc_2);
     stp((slot_2 + 32), r_tz);
     st64((slot_2 + 40), r_4c);
     st32((slot_2 + 48), r_3l);
     st32((slot_2 + 52), r_zi);
     st32((slot_2 + 56), r_mx);
-    capnp_messages_messages_copy_size_add_elements_5ccc1be374b2e488(slot_5, slot_2, r_hp, r_mw, 1u, r_12_6, a_6);
+    capnp_messages_messages_copy_size_add_elements_5ccc1be374b2e488(slot_5, slot_2, r_hp, r_mw, 1u, r_12_4, a_6);
     goto l_join_v6;
 l_arm_eo_1:;
     st64(slot_3, (u64)ld8(a_2));
     mv16((slot_3 + 8), r_rq);
-    st64((slot_3 + 24), r_lc_6);
+    st64((slot_3 + 24), r_lc_2);
     stp((slot_3 + 32), r_tz);
     st64((slot_3 + 40), r_4c);
     st32((slot_3 + 48), r_3l);
     st32((slot_3 + 52), r_zi);
     st32((slot_3 + 56), r_mx);
-    capnp_messages_messages_copy_size_add_pointers_5ccc1be374b2e488(slot_5, slot_3, r_3l, r_y6_2, r_mx, r_12_6, a_6);
+    capnp_messages_messages_copy_size_add_pointers_5ccc1be374b2e488(slot_5, slot_3, r_3l, r_y6_1, r_mx, r_12_4, a_6);
     goto l_join_v6;
 l_arm_eo_2:;
     st64(slot_4, (u64)ld8(a_2));
     mv16((slot_4 + 8), r_rq);
-    st64((slot_4 + 24), r_lc_6);
+    st64((slot_4 + 24), r_lc_2);
     stp((slot_4 + 32), r_tz);
     st64((slot_4 + 40), r_4c);
     st32((slot_4 + 48), r_3l);
     st32((slot_4 + 52), r_zi);
     st32((slot_4 + 56), r_mx);
-    capnp_messages_messages_copy_size_add_elements_5ccc1be374b2e488(slot_5, slot_4, r_hp, r_mw, r_p0, r_12_6, a_6);
+    capnp_messages_messages_copy_size_add_elements_5ccc1be374b2e488(slot_5, slot_4, r_hp, r_mw, r_p0, r_12_4, a_6);
 l_join_v6:;
     r_pp = (u32)ld8(slot_5);
     r_9q = ld32((slot_5 + 4));
@@ -8703,10 +8778,10 @@ l_join_ux:;
 l_join_qy:;
     capnp_messages_messages_copy_size_add_pointers_5ccc1be374b2e488(slot_1, a_2, (((r_19 * r_68) + r_m2) + ld32(r_t9)), r_m2_1, ld32(r_r2), r_31, a_7);
     if (!(ld8(slot_1) == 0u)) goto l_arm_5d;
-    u32 r_yf_2 = ld32(r_ix);
+    u32 r_yf = ld32(r_ix);
     u32 r_7t = (r_19 + 1u);
-    if (r_7t == a_5) { r_kt = r_yf_2; goto l_after_iz; }
-    r_31 = r_yf_2;
+    if (r_7t == a_5) { r_kt = r_yf; goto l_after_iz; }
+    r_31 = r_yf;
     r_19 = r_7t;
     goto l_join_qy;
 l_arm_5d:;
@@ -8738,8 +8813,8 @@ static u32 capnp_messages_messages_copy_size_struct_words(u8 *a_1, u16 a_2, u16 
     u64 r_nm_1;
     u64 r_w7;
     u64 r_bi_1;
-    u64 r_z6_3;
-    u8 *r_2b_3;
+    u64 r_z6_1;
+    u8 *r_2b_1;
     u64 r_nm_2;
     u64 r_nm_3;
     u64 r_yv;
@@ -8768,24 +8843,24 @@ l_loop_jc_1:;
     r_w7 = r_nm_1;
 l_capnp_yc:;
     r_bi_1 = (u64)a_3;
-    r_z6_3 = (u64)(r_bi_1 << 3ull);
-    r_2b_3 = away(r_rv, (u64)(r_lc << 3ull));
+    r_z6_1 = (u64)(r_bi_1 << 3ull);
+    r_2b_1 = away(r_rv, (u64)(r_lc << 3ull));
     if (a_3 < 32u) { r_nm_2 = r_bi_1; goto l_loop_jc_2; }
     goto l_else_wj_1;
 l_loop_jc_2:;
     if (r_nm_2 == 0ull) { r_yv = 0ull; goto l_capnp_7g; }
     u64 r_0f_2 = (r_nm_2 + 0xffffffffffffffffull);
-    if (ld64(away(r_2b_3, (u64)(r_0f_2 << 3ull))) == 0ull) { r_nm_2 = r_0f_2; goto l_loop_jc_2; }
+    if (ld64(away(r_2b_1, (u64)(r_0f_2 << 3ull))) == 0ull) { r_nm_2 = r_0f_2; goto l_loop_jc_2; }
     r_yv = r_nm_2;
     goto l_capnp_7g;
 l_else_wj_1:;
-    if (!(ld64(away(away(r_2b_3, r_z6_3), 0xfffffffffffffff8ull)) == 0ull)) { r_yv = r_bi_1; goto l_capnp_7g; }
-    u64 r_g1_1 = capnp_words_lanes_used_words_bound(r_2b_3, r_z6_3);
+    if (!(ld64(away(away(r_2b_1, r_z6_1), 0xfffffffffffffff8ull)) == 0ull)) { r_yv = r_bi_1; goto l_capnp_7g; }
+    u64 r_g1_1 = capnp_words_lanes_used_words_bound(r_2b_1, r_z6_1);
     r_nm_3 = r_g1_1;
 l_loop_jc_3:;
     if (r_nm_3 == 0ull) { r_yv = 0ull; goto l_capnp_7g; }
     u64 r_0f_3 = (r_nm_3 + 0xffffffffffffffffull);
-    if (ld64(away(r_2b_3, (u64)(r_0f_3 << 3ull))) == 0ull) { r_nm_3 = r_0f_3; goto l_loop_jc_3; }
+    if (ld64(away(r_2b_1, (u64)(r_0f_3 << 3ull))) == 0ull) { r_nm_3 = r_0f_3; goto l_loop_jc_3; }
     r_yv = r_nm_3;
 l_capnp_7g:;
     return (u32)(r_yv + r_w7);
@@ -8837,9 +8912,9 @@ void capnp_messages_messages_path_read_part_9d3526b9b0726c59(u8 *a_1, u8 *a_2, u
 {
     A(8) u8 slot_1[56];
     u8 *r_fx;
-    u64 r_52_1;
+    u64 r_52;
     u8 *r_rq;
-    u64 r_52_2;
+    u64 r_52_1;
     u8 *r_xp;
     u64 r_wy;
     u8 *r_i2;
@@ -8856,7 +8931,7 @@ void capnp_messages_messages_path_read_part_9d3526b9b0726c59(u8 *a_1, u8 *a_2, u
     u8 *r_89;
     u8 *r_a8;
     u8 *r_x5;
-    u8 *r_rq_2;
+    u8 *r_rq_1;
     u8 r_i9_1;
     u64 r_e3;
     u32 r_eo;
@@ -8866,7 +8941,7 @@ void capnp_messages_messages_path_read_part_9d3526b9b0726c59(u8 *a_1, u8 *a_2, u
     u64 r_c0;
     u8 *r_qk;
     u64 r_nr;
-    u32 r_yf_1;
+    u32 r_yf;
     u64 r_24;
     u64 r_gw;
     u64 r_qw;
@@ -8882,25 +8957,25 @@ void capnp_messages_messages_path_read_part_9d3526b9b0726c59(u8 *a_1, u8 *a_2, u
     u64 r_ep;
     u64 r_y6;
     u64 r_lc_1;
-    u64 r_52_5;
+    u64 r_52_3;
     u64 r_ij;
-    u64 r_c4_1;
-    u64 r_24_2;
-    u64 r_gw_2;
-    u64 r_52_6;
+    u64 r_c4;
+    u64 r_24_1;
+    u64 r_gw_1;
+    u64 r_52_4;
     u64 r_eh;
     u32 t_c8;
     u32 r_12;
     u32 r_az;
     u32 r_68;
-    u64 r_c0_2;
-    u64 r_52_7;
+    u64 r_c0_1;
+    u64 r_52_5;
     u32 r_12_1;
-    u64 r_52_8;
-    u64 r_52_9;
+    u64 r_52_6;
+    u64 r_52_7;
     u64 r_qs;
     u64 r_c6;
-    u64 r_52_10;
+    u64 r_52_8;
     u64 r_r4;
     u64 r_ut;
     u64 r_dj;
@@ -8921,21 +8996,21 @@ void capnp_messages_messages_path_read_part_9d3526b9b0726c59(u8 *a_1, u8 *a_2, u
     u64 r_kf;
     u32 r_r0;
     u32 r_we;
-    u16 r_52_3;
+    u16 r_52_2;
     u16 r_7f;
     u32 r_ob;
     r_fx = ldp(a_2);
     if (ld64(r_fx) == 0ull) { r_ob = 12u; goto l_arm_o9; }
-    r_52_1 = ld64(ldp(away(r_fx, 32ull)));
-    if ((r_52_1 & 0x1fffffffffffffffull) == 0ull) { r_ob = 23u; goto l_arm_o9; }
-    if (!(ld8(a_5) == 1u)) { r_wy = r_52_1; r_i2 = r_fx; goto l_arm_zz; }
+    r_52 = ld64(ldp(away(r_fx, 32ull)));
+    if ((r_52 & 0x1fffffffffffffffull) == 0ull) { r_ob = 23u; goto l_arm_o9; }
+    if (!(ld8(a_5) == 1u)) { r_wy = r_52; r_i2 = r_fx; goto l_arm_zz; }
     r_rq = away(a_5, 8ull);
-    r_52_2 = ld64(r_rq);
-    if (r_52_2 == 0ull) { r_ob = 30u; goto l_arm_o9; }
+    r_52_1 = ld64(r_rq);
+    if (r_52_1 == 0ull) { r_ob = 30u; goto l_arm_o9; }
     st64(a_5, 1ull);
-    st64(r_rq, (r_52_2 + 0xffffffffffffffffull));
+    st64(r_rq, (r_52_1 + 0xffffffffffffffffull));
     r_xp = ldp(a_2);
-    if (ld64(r_xp) == 0ull) { t_5m = 1u; r_jm = 2ull; r_jv = 0ull; r_74 = ((u8 *)g_static_287); r_i9 = 0ull; r_vj = 0x7fffffffu; goto l_arm_ga; }
+    if (ld64(r_xp) == 0ull) { t_5m = 1u; r_jm = 2ull; r_jv = 0ull; r_74 = ((u8 *)g_static_297); r_i9 = 0ull; r_vj = 0x7fffffffu; goto l_arm_ga; }
     r_wy = ld64(ldp(away(r_xp, 32ull)));
     r_i2 = r_xp;
 l_arm_zz:;
@@ -8946,7 +9021,7 @@ l_arm_zz:;
     r_i9 = (u64)(r_wy << 3ull);
     r_vj = ld32(away(a_2, 8ull));
 l_arm_ga:;
-    if (a_4 == 0ull) { r_dh = 0ull; r_zc = 0u; r_x4 = 0u; r_r7 = r_jm; r_cd = r_jv; r_b7 = 0ull; r_rn = r_74; r_kf = r_i9; r_r0 = 0u; r_we = r_vj; r_52_3 = 0u; r_7f = 0u; goto l_capnp_do; }
+    if (a_4 == 0ull) { r_dh = 0ull; r_zc = 0u; r_x4 = 0u; r_r7 = r_jm; r_cd = r_jv; r_b7 = 0ull; r_rn = r_74; r_kf = r_i9; r_r0 = 0u; r_we = r_vj; r_52_2 = 0u; r_7f = 0u; goto l_capnp_do; }
     t_f6 = ((u8 *)(uptr)r_jv);
     r_08 = away(a_5, 16ull);
     r_zd = (slot_1 + 16);
@@ -8954,7 +9029,7 @@ l_arm_ga:;
     r_89 = (slot_1 + 32);
     r_a8 = (slot_1 + 40);
     r_x5 = (slot_1 + 8);
-    r_rq_2 = away(a_5, 8ull);
+    r_rq_1 = away(a_5, 8ull);
     r_i9_1 = 0u;
     r_e3 = 0ull;
     r_eo = r_vj;
@@ -8965,13 +9040,13 @@ l_arm_ga:;
     r_qk = r_74;
     r_nr = 0ull;
 l_join_mi:;
-    r_yf_1 = ld32(away(a_3, (u64)(r_e3 << 2ull)));
+    r_yf = ld32(away(a_3, (u64)(r_e3 << 2ull)));
     if (!(r_i9_1 == 0u)) goto l_arm_gi;
     r_24 = (u64)r_kn;
     r_gw = (u64)(r_c0 >> 3ull);
-    if (!(r_gw > r_24)) { r_dh = 1ull; r_zc = 29u; r_x4 = 0u; r_r7 = 0ull; r_cd = 0ull; r_b7 = 0ull; r_rn = ((u8 *)0); r_kf = 0ull; r_r0 = 0u; r_we = 0u; r_52_3 = 0u; r_7f = 0u; goto l_capnp_do; }
+    if (!(r_gw > r_24)) { r_dh = 1ull; r_zc = 29u; r_x4 = 0u; r_r7 = 0ull; r_cd = 0ull; r_b7 = 0ull; r_rn = ((u8 *)0); r_kf = 0ull; r_r0 = 0u; r_we = 0u; r_52_2 = 0u; r_7f = 0u; goto l_capnp_do; }
     r_qw = ld64(away(r_qk, (u64)(r_24 << 3ull)));
-    if (r_qw == 0ull) { r_dh = 1ull; r_zc = 29u; r_x4 = 0u; r_r7 = 0ull; r_cd = 0ull; r_b7 = 0ull; r_rn = ((u8 *)0); r_kf = 0ull; r_r0 = 0u; r_we = 0u; r_52_3 = 0u; r_7f = 0u; goto l_capnp_do; }
+    if (r_qw == 0ull) { r_dh = 1ull; r_zc = 29u; r_x4 = 0u; r_r7 = 0ull; r_cd = 0ull; r_b7 = 0ull; r_rn = ((u8 *)0); r_kf = 0ull; r_r0 = 0u; r_we = 0u; r_52_2 = 0u; r_7f = 0u; goto l_capnp_do; }
     t_al = (u64)(uptr)r_qk;
     memset(slot_1, 0u, 56);
     if (t_5m) goto l_capnp_sm;
@@ -9004,32 +9079,32 @@ l_capnp_i5:;
     goto l_arm_s6;
 l_capnp_vm:;
     capnp_objects_source_follow_far_5ccc1be374b2e488(slot_1, t_f6, r_qw, a_5);
-    u64 r_38_3 = ld64(r_zd);
-    u64 r_38_4 = ld64(r_x5);
-    if (ld8(slot_1) == 0u) { r_nz = ld32(r_a8); r_tc = r_38_3; r_l8 = r_38_4; r_3g = ld64(r_89); r_n9 = ld64(r_lk); goto l_arm_s6; }
-    r_ut = r_38_3;
-    r_dj = r_38_4;
+    u64 r_38 = ld64(r_zd);
+    u64 r_38_1 = ld64(r_x5);
+    if (ld8(slot_1) == 0u) { r_nz = ld32(r_a8); r_tc = r_38; r_l8 = r_38_1; r_3g = ld64(r_89); r_n9 = ld64(r_lk); goto l_arm_s6; }
+    r_ut = r_38;
+    r_dj = r_38_1;
     goto l_arm_qe;
 l_arm_s6:;
     switch ((u8)((u8)r_l8 & 3u)) {
     case 0u: goto l_arm_xn;
     case 1u: goto l_arm_z2;
-    case 2u: { r_dh = 1ull; r_zc = 13u; r_x4 = 0u; r_r7 = 0ull; r_cd = 0ull; r_b7 = 0ull; r_rn = ((u8 *)0); r_kf = 0ull; r_r0 = 0u; r_we = 0u; r_52_3 = 0u; r_7f = 0u; goto l_capnp_do; }
+    case 2u: { r_dh = 1ull; r_zc = 13u; r_x4 = 0u; r_r7 = 0ull; r_cd = 0ull; r_b7 = 0ull; r_rn = ((u8 *)0); r_kf = 0ull; r_r0 = 0u; r_we = 0u; r_52_2 = 0u; r_7f = 0u; goto l_capnp_do; }
     case 3u: goto l_capnp_rg;
     default: goto l_default_e1;
     }
 l_arm_xn:;
     r_ep = (u64)(r_l8 >> 32ull);
     r_y6 = (u64)(r_l8 >> 48ull);
-    if ((i32)r_eo < (i32)1u) { r_dh = 1ull; r_zc = 26u; r_x4 = 0u; r_r7 = 0ull; r_cd = 0ull; r_b7 = 0ull; r_rn = ((u8 *)0); r_kf = 0ull; r_r0 = 0u; r_we = 0u; r_52_3 = 0u; r_7f = 0u; goto l_capnp_do; }
+    if ((i32)r_eo < (i32)1u) { r_dh = 1ull; r_zc = 26u; r_x4 = 0u; r_r7 = 0ull; r_cd = 0ull; r_b7 = 0ull; r_rn = ((u8 *)0); r_kf = 0ull; r_r0 = 0u; r_we = 0u; r_52_2 = 0u; r_7f = 0u; goto l_capnp_do; }
     r_lc_1 = ((r_ep & 65535ull) + r_y6);
-    if (((u64)(r_3g >> 3ull) & 0xffffffffull) < (r_lc_1 + (u64)r_nz)) { r_dh = 1ull; r_zc = 23u; r_x4 = 0u; r_r7 = 0ull; r_cd = 0ull; r_b7 = 0ull; r_rn = ((u8 *)0); r_kf = 0ull; r_r0 = 0u; r_we = 0u; r_52_3 = 0u; r_7f = 0u; goto l_capnp_do; }
+    if (((u64)(r_3g >> 3ull) & 0xffffffffull) < (r_lc_1 + (u64)r_nz)) { r_dh = 1ull; r_zc = 23u; r_x4 = 0u; r_r7 = 0ull; r_cd = 0ull; r_b7 = 0ull; r_rn = ((u8 *)0); r_kf = 0ull; r_r0 = 0u; r_we = 0u; r_52_2 = 0u; r_7f = 0u; goto l_capnp_do; }
     if (t_5m) goto l_arm_p8;
     if (!(ld8(a_5) == 1u)) goto l_arm_p8;
-    r_52_5 = ld64(r_rq_2);
-    if (r_52_5 < r_lc_1) { r_dh = 1ull; r_zc = 30u; r_x4 = 0u; r_r7 = 0ull; r_cd = 0ull; r_b7 = 0ull; r_rn = ((u8 *)0); r_kf = 0ull; r_r0 = 0u; r_we = 0u; r_52_3 = 0u; r_7f = 0u; goto l_capnp_do; }
+    r_52_3 = ld64(r_rq_1);
+    if (r_52_3 < r_lc_1) { r_dh = 1ull; r_zc = 30u; r_x4 = 0u; r_r7 = 0ull; r_cd = 0ull; r_b7 = 0ull; r_rn = ((u8 *)0); r_kf = 0ull; r_r0 = 0u; r_we = 0u; r_52_2 = 0u; r_7f = 0u; goto l_capnp_do; }
     st64(a_5, 1ull);
-    st64(r_rq_2, (r_52_5 - r_lc_1));
+    st64(r_rq_1, (r_52_3 - r_lc_1));
     goto l_arm_p8;
 l_arm_z2:;
     r_ij = (u64)(r_l8 >> 35ull);
@@ -9045,20 +9120,20 @@ l_arm_z2:;
     default: goto l_default_e1;
     }
 l_arm_xd:;
-    if ((i32)r_eo < (i32)1u) { r_dh = 1ull; r_zc = 26u; r_x4 = 0u; r_r7 = 0ull; r_cd = 0ull; r_b7 = 0ull; r_rn = ((u8 *)0); r_kf = 0ull; r_r0 = 0u; r_we = 0u; r_52_3 = 0u; r_7f = 0u; goto l_capnp_do; }
-    r_c4_1 = (r_ij + 1ull);
-    r_24_2 = (u64)r_nz;
-    r_gw_2 = (u64)(r_3g >> 3ull);
-    if ((r_gw_2 & 0xffffffffull) < (r_c4_1 + r_24_2)) { r_dh = 1ull; r_zc = 23u; r_x4 = 0u; r_r7 = 0ull; r_cd = 0ull; r_b7 = 0ull; r_rn = ((u8 *)0); r_kf = 0ull; r_r0 = 0u; r_we = 0u; r_52_3 = 0u; r_7f = 0u; goto l_capnp_do; }
+    if ((i32)r_eo < (i32)1u) { r_dh = 1ull; r_zc = 26u; r_x4 = 0u; r_r7 = 0ull; r_cd = 0ull; r_b7 = 0ull; r_rn = ((u8 *)0); r_kf = 0ull; r_r0 = 0u; r_we = 0u; r_52_2 = 0u; r_7f = 0u; goto l_capnp_do; }
+    r_c4 = (r_ij + 1ull);
+    r_24_1 = (u64)r_nz;
+    r_gw_1 = (u64)(r_3g >> 3ull);
+    if ((r_gw_1 & 0xffffffffull) < (r_c4 + r_24_1)) { r_dh = 1ull; r_zc = 23u; r_x4 = 0u; r_r7 = 0ull; r_cd = 0ull; r_b7 = 0ull; r_rn = ((u8 *)0); r_kf = 0ull; r_r0 = 0u; r_we = 0u; r_52_2 = 0u; r_7f = 0u; goto l_capnp_do; }
     if (t_5m) goto l_arm_ga_1;
     if (!(ld8(a_5) == 1u)) goto l_arm_ga_1;
-    r_52_6 = ld64(r_rq_2);
-    if (!(r_52_6 > r_ij)) { r_dh = 1ull; r_zc = 30u; r_x4 = 0u; r_r7 = 0ull; r_cd = 0ull; r_b7 = 0ull; r_rn = ((u8 *)0); r_kf = 0ull; r_r0 = 0u; r_we = 0u; r_52_3 = 0u; r_7f = 0u; goto l_capnp_do; }
+    r_52_4 = ld64(r_rq_1);
+    if (!(r_52_4 > r_ij)) { r_dh = 1ull; r_zc = 30u; r_x4 = 0u; r_r7 = 0ull; r_cd = 0ull; r_b7 = 0ull; r_rn = ((u8 *)0); r_kf = 0ull; r_r0 = 0u; r_we = 0u; r_52_2 = 0u; r_7f = 0u; goto l_capnp_do; }
     st64(a_5, 1ull);
-    st64(r_rq_2, (r_52_6 - r_c4_1));
+    st64(r_rq_1, (r_52_4 - r_c4));
 l_arm_ga_1:;
-    if (!(r_gw_2 > r_24_2)) { r_eh = 0ull; goto l_join_qm; }
-    u64 r_qw_1 = ld64(away(((u8 *)(uptr)r_n9), (u64)(r_24_2 << 3ull)));
+    if (!(r_gw_1 > r_24_1)) { r_eh = 0ull; goto l_join_qm; }
+    u64 r_qw_1 = ld64(away(((u8 *)(uptr)r_n9), (u64)(r_24_1 << 3ull)));
     if ((r_qw_1 & 3ull) == 0ull) { r_eh = r_qw_1; goto l_join_qm; }
     r_dh = 1ull;
     r_zc = 11u;
@@ -9070,7 +9145,7 @@ l_arm_ga_1:;
     r_kf = 0ull;
     r_r0 = 0u;
     r_we = 0u;
-    r_52_3 = 0u;
+    r_52_2 = 0u;
     r_7f = 0u;
     goto l_capnp_do;
 l_join_qm:;
@@ -9078,35 +9153,35 @@ l_join_qm:;
     r_12 = (u32)(u64)(r_eh >> 48ull);
     r_az = ((u32)(u64)(r_eh >> 32ull) & 65535u);
     r_68 = (r_az + r_12);
-    r_c0_2 = (u64)t_c8;
-    if (r_ij < ((u64)r_68 * r_c0_2)) { r_dh = 1ull; r_zc = 10u; r_x4 = 0u; r_r7 = 0ull; r_cd = 0ull; r_b7 = 0ull; r_rn = ((u8 *)0); r_kf = 0ull; r_r0 = 0u; r_we = 0u; r_52_3 = 0u; r_7f = 0u; goto l_capnp_do; }
+    r_c0_1 = (u64)t_c8;
+    if (r_ij < ((u64)r_68 * r_c0_1)) { r_dh = 1ull; r_zc = 10u; r_x4 = 0u; r_r7 = 0ull; r_cd = 0ull; r_b7 = 0ull; r_rn = ((u8 *)0); r_kf = 0ull; r_r0 = 0u; r_we = 0u; r_52_2 = 0u; r_7f = 0u; goto l_capnp_do; }
     if ((u8)((u8)t_5m | (u8)(r_68 != 0u))) goto l_arm_rw;
     if (!(ld8(a_5) == 1u)) goto l_arm_rw;
-    r_52_7 = ld64(r_rq_2);
-    if (r_52_7 < r_c0_2) { r_dh = 1ull; r_zc = 30u; r_x4 = 0u; r_r7 = 0ull; r_cd = 0ull; r_b7 = 0ull; r_rn = ((u8 *)0); r_kf = 0ull; r_r0 = 0u; r_we = 0u; r_52_3 = 0u; r_7f = 0u; goto l_capnp_do; }
+    r_52_5 = ld64(r_rq_1);
+    if (r_52_5 < r_c0_1) { r_dh = 1ull; r_zc = 30u; r_x4 = 0u; r_r7 = 0ull; r_cd = 0ull; r_b7 = 0ull; r_rn = ((u8 *)0); r_kf = 0ull; r_r0 = 0u; r_we = 0u; r_52_2 = 0u; r_7f = 0u; goto l_capnp_do; }
     st64(a_5, 1ull);
-    st64(r_rq_2, (r_52_7 - r_c0_2));
+    st64(r_rq_1, (r_52_5 - r_c0_1));
     goto l_arm_rw;
 l_arm_te:;
     r_12_1 = (u32)r_ij;
-    if ((i32)r_eo < (i32)1u) { r_dh = 1ull; r_zc = 26u; r_x4 = 0u; r_r7 = 0ull; r_cd = 0ull; r_b7 = 0ull; r_rn = ((u8 *)0); r_kf = 0ull; r_r0 = 0u; r_we = 0u; r_52_3 = 0u; r_7f = 0u; goto l_capnp_do; }
-    if (((u64)(r_3g >> 3ull) & 0xffffffffull) < (r_ij + (u64)r_nz)) { r_dh = 1ull; r_zc = 23u; r_x4 = 0u; r_r7 = 0ull; r_cd = 0ull; r_b7 = 0ull; r_rn = ((u8 *)0); r_kf = 0ull; r_r0 = 0u; r_we = 0u; r_52_3 = 0u; r_7f = 0u; goto l_capnp_do; }
+    if ((i32)r_eo < (i32)1u) { r_dh = 1ull; r_zc = 26u; r_x4 = 0u; r_r7 = 0ull; r_cd = 0ull; r_b7 = 0ull; r_rn = ((u8 *)0); r_kf = 0ull; r_r0 = 0u; r_we = 0u; r_52_2 = 0u; r_7f = 0u; goto l_capnp_do; }
+    if (((u64)(r_3g >> 3ull) & 0xffffffffull) < (r_ij + (u64)r_nz)) { r_dh = 1ull; r_zc = 23u; r_x4 = 0u; r_r7 = 0ull; r_cd = 0ull; r_b7 = 0ull; r_rn = ((u8 *)0); r_kf = 0ull; r_r0 = 0u; r_we = 0u; r_52_2 = 0u; r_7f = 0u; goto l_capnp_do; }
     if (t_5m) goto l_arm_o4;
     if (!(ld8(a_5) == 1u)) goto l_arm_o4;
-    r_52_8 = ld64(r_rq_2);
-    if (r_52_8 < r_ij) { r_dh = 1ull; r_zc = 30u; r_x4 = 0u; r_r7 = 0ull; r_cd = 0ull; r_b7 = 0ull; r_rn = ((u8 *)0); r_kf = 0ull; r_r0 = 0u; r_we = 0u; r_52_3 = 0u; r_7f = 0u; goto l_capnp_do; }
+    r_52_6 = ld64(r_rq_1);
+    if (r_52_6 < r_ij) { r_dh = 1ull; r_zc = 30u; r_x4 = 0u; r_r7 = 0ull; r_cd = 0ull; r_b7 = 0ull; r_rn = ((u8 *)0); r_kf = 0ull; r_r0 = 0u; r_we = 0u; r_52_2 = 0u; r_7f = 0u; goto l_capnp_do; }
     st64(a_5, 1ull);
-    st64(r_rq_2, (r_52_8 - r_ij));
+    st64(r_rq_1, (r_52_6 - r_ij));
     goto l_arm_o4;
 l_arm_xd_1:;
-    if ((i32)r_eo < (i32)1u) { r_dh = 1ull; r_zc = 26u; r_x4 = 0u; r_r7 = 0ull; r_cd = 0ull; r_b7 = 0ull; r_rn = ((u8 *)0); r_kf = 0ull; r_r0 = 0u; r_we = 0u; r_52_3 = 0u; r_7f = 0u; goto l_capnp_do; }
-    u8 r_8u_4 = (((u64)(r_3g >> 3ull) & 0xffffffffull) < (u64)r_nz);
-    if ((u8)((u8)t_5m | (u8)r_8u_4)) { r_dh = 1ull; r_zc = (r_8u_4 ? 23u : 29u); r_x4 = 0u; r_r7 = 0ull; r_cd = 0ull; r_b7 = 0ull; r_rn = ((u8 *)0); r_kf = 0ull; r_r0 = 0u; r_we = 0u; r_52_3 = 0u; r_7f = 0u; goto l_capnp_do; }
-    if (!(ld8(a_5) == 1u)) { r_dh = 1ull; r_zc = 29u; r_x4 = 0u; r_r7 = 0ull; r_cd = 0ull; r_b7 = 0ull; r_rn = ((u8 *)0); r_kf = 0ull; r_r0 = 0u; r_we = 0u; r_52_3 = 0u; r_7f = 0u; goto l_capnp_do; }
+    if ((i32)r_eo < (i32)1u) { r_dh = 1ull; r_zc = 26u; r_x4 = 0u; r_r7 = 0ull; r_cd = 0ull; r_b7 = 0ull; r_rn = ((u8 *)0); r_kf = 0ull; r_r0 = 0u; r_we = 0u; r_52_2 = 0u; r_7f = 0u; goto l_capnp_do; }
+    u8 r_8u = (((u64)(r_3g >> 3ull) & 0xffffffffull) < (u64)r_nz);
+    if ((u8)((u8)t_5m | (u8)r_8u)) { r_dh = 1ull; r_zc = (r_8u ? 23u : 29u); r_x4 = 0u; r_r7 = 0ull; r_cd = 0ull; r_b7 = 0ull; r_rn = ((u8 *)0); r_kf = 0ull; r_r0 = 0u; r_we = 0u; r_52_2 = 0u; r_7f = 0u; goto l_capnp_do; }
+    if (!(ld8(a_5) == 1u)) { r_dh = 1ull; r_zc = 29u; r_x4 = 0u; r_r7 = 0ull; r_cd = 0ull; r_b7 = 0ull; r_rn = ((u8 *)0); r_kf = 0ull; r_r0 = 0u; r_we = 0u; r_52_2 = 0u; r_7f = 0u; goto l_capnp_do; }
     st64(a_5, 1ull);
-    r_52_9 = ld64(r_rq_2);
-    if (r_52_9 < r_ij) { r_dh = 1ull; r_zc = 30u; r_x4 = 0u; r_r7 = 0ull; r_cd = 0ull; r_b7 = 0ull; r_rn = ((u8 *)0); r_kf = 0ull; r_r0 = 0u; r_we = 0u; r_52_3 = 0u; r_7f = 0u; goto l_capnp_do; }
-    st64(r_rq_2, (r_52_9 - r_ij));
+    r_52_7 = ld64(r_rq_1);
+    if (r_52_7 < r_ij) { r_dh = 1ull; r_zc = 30u; r_x4 = 0u; r_r7 = 0ull; r_cd = 0ull; r_b7 = 0ull; r_rn = ((u8 *)0); r_kf = 0ull; r_r0 = 0u; r_we = 0u; r_52_2 = 0u; r_7f = 0u; goto l_capnp_do; }
+    st64(r_rq_1, (r_52_7 - r_ij));
     r_dh = 1ull;
     r_zc = 29u;
     r_x4 = 0u;
@@ -9117,7 +9192,7 @@ l_arm_xd_1:;
     r_kf = 0ull;
     r_r0 = 0u;
     r_we = 0u;
-    r_52_3 = 0u;
+    r_52_2 = 0u;
     r_7f = 0u;
     goto l_capnp_do;
 l_capnp_h9:;
@@ -9132,15 +9207,15 @@ l_capnp_h9_3:;
 l_capnp_h9_1:;
     r_qs = 16ull;
 l_capnp_xd:;
-    if ((i32)r_eo < (i32)1u) { r_dh = 1ull; r_zc = 26u; r_x4 = 0u; r_r7 = 0ull; r_cd = 0ull; r_b7 = 0ull; r_rn = ((u8 *)0); r_kf = 0ull; r_r0 = 0u; r_we = 0u; r_52_3 = 0u; r_7f = 0u; goto l_capnp_do; }
+    if ((i32)r_eo < (i32)1u) { r_dh = 1ull; r_zc = 26u; r_x4 = 0u; r_r7 = 0ull; r_cd = 0ull; r_b7 = 0ull; r_rn = ((u8 *)0); r_kf = 0ull; r_r0 = 0u; r_we = 0u; r_52_2 = 0u; r_7f = 0u; goto l_capnp_do; }
     r_c6 = (u64)(((r_qs * r_ij) + 63ull) >> 6ull);
-    u8 r_8u_5 = (((u64)(r_3g >> 3ull) & 0xffffffffull) < (r_c6 + (u64)r_nz));
-    if ((u8)((u8)t_5m | (u8)r_8u_5)) { r_dh = 1ull; r_zc = (r_8u_5 ? 23u : 29u); r_x4 = 0u; r_r7 = 0ull; r_cd = 0ull; r_b7 = 0ull; r_rn = ((u8 *)0); r_kf = 0ull; r_r0 = 0u; r_we = 0u; r_52_3 = 0u; r_7f = 0u; goto l_capnp_do; }
-    if (!(ld8(a_5) == 1u)) { r_dh = 1ull; r_zc = 29u; r_x4 = 0u; r_r7 = 0ull; r_cd = 0ull; r_b7 = 0ull; r_rn = ((u8 *)0); r_kf = 0ull; r_r0 = 0u; r_we = 0u; r_52_3 = 0u; r_7f = 0u; goto l_capnp_do; }
-    r_52_10 = ld64(r_rq_2);
-    if (r_52_10 < r_c6) { r_dh = 1ull; r_zc = 30u; r_x4 = 0u; r_r7 = 0ull; r_cd = 0ull; r_b7 = 0ull; r_rn = ((u8 *)0); r_kf = 0ull; r_r0 = 0u; r_we = 0u; r_52_3 = 0u; r_7f = 0u; goto l_capnp_do; }
+    u8 r_8u_1 = (((u64)(r_3g >> 3ull) & 0xffffffffull) < (r_c6 + (u64)r_nz));
+    if ((u8)((u8)t_5m | (u8)r_8u_1)) { r_dh = 1ull; r_zc = (r_8u_1 ? 23u : 29u); r_x4 = 0u; r_r7 = 0ull; r_cd = 0ull; r_b7 = 0ull; r_rn = ((u8 *)0); r_kf = 0ull; r_r0 = 0u; r_we = 0u; r_52_2 = 0u; r_7f = 0u; goto l_capnp_do; }
+    if (!(ld8(a_5) == 1u)) { r_dh = 1ull; r_zc = 29u; r_x4 = 0u; r_r7 = 0ull; r_cd = 0ull; r_b7 = 0ull; r_rn = ((u8 *)0); r_kf = 0ull; r_r0 = 0u; r_we = 0u; r_52_2 = 0u; r_7f = 0u; goto l_capnp_do; }
+    r_52_8 = ld64(r_rq_1);
+    if (r_52_8 < r_c6) { r_dh = 1ull; r_zc = 30u; r_x4 = 0u; r_r7 = 0ull; r_cd = 0ull; r_b7 = 0ull; r_rn = ((u8 *)0); r_kf = 0ull; r_r0 = 0u; r_we = 0u; r_52_2 = 0u; r_7f = 0u; goto l_capnp_do; }
     st64(a_5, 1ull);
-    st64(r_rq_2, (r_52_10 - r_c6));
+    st64(r_rq_1, (r_52_8 - r_c6));
     r_dh = 1ull;
     r_zc = 29u;
     r_x4 = 0u;
@@ -9151,7 +9226,7 @@ l_capnp_xd:;
     r_kf = 0ull;
     r_r0 = 0u;
     r_we = 0u;
-    r_52_3 = 0u;
+    r_52_2 = 0u;
     r_7f = 0u;
     goto l_capnp_do;
 l_default_e1:;
@@ -9170,7 +9245,7 @@ l_arm_qe:;
     r_kf = 0ull;
     r_r0 = 0u;
     r_we = 0u;
-    r_52_3 = 0u;
+    r_52_2 = 0u;
     r_7f = 0u;
     goto l_capnp_do;
 l_capnp_rg:;
@@ -9184,54 +9259,54 @@ l_capnp_rg:;
     r_kf = 0ull;
     r_r0 = 0u;
     r_we = 0u;
-    r_52_3 = 0u;
+    r_52_2 = 0u;
     r_7f = 0u;
     goto l_capnp_do;
 l_arm_p8:;
-    if (!(r_yf_1 < (u32)r_y6)) { r_dh = 1ull; r_zc = 29u; r_x4 = 0u; r_r7 = 0ull; r_cd = 0ull; r_b7 = 0ull; r_rn = ((u8 *)0); r_kf = 0ull; r_r0 = 0u; r_we = 0u; r_52_3 = 0u; r_7f = 0u; goto l_capnp_do; }
+    if (!(r_yf < (u32)r_y6)) { r_dh = 1ull; r_zc = 29u; r_x4 = 0u; r_r7 = 0ull; r_cd = 0ull; r_b7 = 0ull; r_rn = ((u8 *)0); r_kf = 0ull; r_r0 = 0u; r_we = 0u; r_52_2 = 0u; r_7f = 0u; goto l_capnp_do; }
     r_mo = r_n9;
     r_c3 = r_3g;
     r_k8 = 0u;
     r_er = r_tc;
-    r_ry = ((r_nz + r_yf_1) + ((u32)r_ep & 65535u));
+    r_ry = ((r_nz + r_yf) + ((u32)r_ep & 65535u));
     r_sf = (r_eo + 0xffffffffu);
     r_mh = 0ull;
     goto l_arm_9q;
 l_arm_o4:;
-    if (!(r_yf_1 < r_12_1)) { r_dh = 1ull; r_zc = 29u; r_x4 = 0u; r_r7 = 0ull; r_cd = 0ull; r_b7 = 0ull; r_rn = ((u8 *)0); r_kf = 0ull; r_r0 = 0u; r_we = 0u; r_52_3 = 0u; r_7f = 0u; goto l_capnp_do; }
+    if (!(r_yf < r_12_1)) { r_dh = 1ull; r_zc = 29u; r_x4 = 0u; r_r7 = 0ull; r_cd = 0ull; r_b7 = 0ull; r_rn = ((u8 *)0); r_kf = 0ull; r_r0 = 0u; r_we = 0u; r_52_2 = 0u; r_7f = 0u; goto l_capnp_do; }
     r_mo = r_n9;
     r_c3 = r_3g;
     r_k8 = 0u;
     r_er = r_tc;
-    r_ry = (r_nz + r_yf_1);
+    r_ry = (r_nz + r_yf);
     r_sf = (r_eo + 0xffffffffu);
     r_mh = 0ull;
     goto l_arm_9q;
 l_arm_rw:;
-    if (!(t_c8 > r_yf_1)) { r_dh = 1ull; r_zc = 29u; r_x4 = 0u; r_r7 = 0ull; r_cd = 0ull; r_b7 = 0ull; r_rn = ((u8 *)0); r_kf = 0ull; r_r0 = 0u; r_we = 0u; r_52_3 = 0u; r_7f = 0u; goto l_capnp_do; }
+    if (!(t_c8 > r_yf)) { r_dh = 1ull; r_zc = 29u; r_x4 = 0u; r_r7 = 0ull; r_cd = 0ull; r_b7 = 0ull; r_rn = ((u8 *)0); r_kf = 0ull; r_r0 = 0u; r_we = 0u; r_52_2 = 0u; r_7f = 0u; goto l_capnp_do; }
     r_mo = r_n9;
     r_c3 = r_3g;
     r_k8 = 1u;
     r_er = r_tc;
-    r_ry = ((r_nz + 1u) + (r_68 * r_yf_1));
+    r_ry = ((r_nz + 1u) + (r_68 * r_yf));
     r_sf = (r_eo + 0xffffffffu);
     r_mh = (u64)((u64)((u32)(r_12 << 16u) | r_az) << 32ull);
     goto l_arm_9q;
 l_arm_gi:;
-    if (!(r_yf_1 < (u32)r_py)) { r_dh = 1ull; r_zc = 29u; r_x4 = 0u; r_r7 = 0ull; r_cd = 0ull; r_b7 = 0ull; r_rn = ((u8 *)0); r_kf = 0ull; r_r0 = 0u; r_we = 0u; r_52_3 = 0u; r_7f = 0u; goto l_capnp_do; }
+    if (!(r_yf < (u32)r_py)) { r_dh = 1ull; r_zc = 29u; r_x4 = 0u; r_r7 = 0ull; r_cd = 0ull; r_b7 = 0ull; r_rn = ((u8 *)0); r_kf = 0ull; r_r0 = 0u; r_we = 0u; r_52_2 = 0u; r_7f = 0u; goto l_capnp_do; }
     r_mo = (u64)(uptr)r_qk;
     r_c3 = r_c0;
     r_k8 = 0u;
     r_er = r_nr;
-    r_ry = ((r_kn + (u32)r_ix) + r_yf_1);
+    r_ry = ((r_kn + (u32)r_ix) + r_yf);
     r_sf = r_eo;
     r_mh = 0ull;
 l_arm_9q:;
     u16 r_xg = (u16)(u64)(r_mh >> 32ull);
     u16 r_py_1 = (u16)(u64)(r_mh >> 48ull);
-    u8 *t_f6_2 = ((u8 *)(uptr)r_mo);
+    u8 *t_f6_1 = ((u8 *)(uptr)r_mo);
     u64 r_36 = (r_e3 + 1ull);
-    if (r_36 == a_4) { r_dh = 0ull; r_zc = r_k8; r_x4 = 0u; r_r7 = r_jm; r_cd = r_jv; r_b7 = r_er; r_rn = t_f6_2; r_kf = r_c3; r_r0 = r_ry; r_we = r_sf; r_52_3 = r_xg; r_7f = r_py_1; goto l_capnp_do; }
+    if (r_36 == a_4) { r_dh = 0ull; r_zc = r_k8; r_x4 = 0u; r_r7 = r_jm; r_cd = r_jv; r_b7 = r_er; r_rn = t_f6_1; r_kf = r_c3; r_r0 = r_ry; r_we = r_sf; r_52_2 = r_xg; r_7f = r_py_1; goto l_capnp_do; }
     r_i9_1 = r_k8;
     r_e3 = r_36;
     r_eo = r_sf;
@@ -9239,7 +9314,7 @@ l_arm_9q:;
     r_ix = r_xg;
     r_kn = r_ry;
     r_c0 = r_c3;
-    r_qk = t_f6_2;
+    r_qk = t_f6_1;
     r_nr = r_er;
     goto l_join_mi;
 l_capnp_do:;
@@ -9256,7 +9331,7 @@ l_capnp_do:;
     st32(away(a_1, 68ull), 0u);
     st32(away(a_1, 72ull), r_we);
     st32(away(a_1, 76ull), 0u);
-    st16(away(a_1, 80ull), r_52_3);
+    st16(away(a_1, 80ull), r_52_2);
     st16(away(a_1, 82ull), r_7f);
     st32(away(a_1, 84ull), 0u);
 l_common_68:;
@@ -9281,23 +9356,23 @@ struct s_p_i64 capnp_messages_messages_writing_canonical_bytes_369107_aea7980e(u
     struct s_i64_i64 r_1y;
     u8 *r_f6;
     u8 *r_zd;
-    u8 *r_x5_1;
+    u8 *r_x5;
     u8 *r_zd_1;
-    u8 *r_lz_1;
-    u32 r_e3_1;
+    u8 *r_lz;
+    u32 r_e3;
     u32 r_ek;
     u8 *r_zh;
     u8 *r_d2;
     u8 *r_qn;
     u8 *r_9j;
     u64 r_kh;
-    u8 *r_lz_2;
+    u8 *r_lz_1;
     u64 r_52_1;
     u8 *r_um;
     u64 r_lw;
     u64 r_g9;
-    u8 *r_lz_3;
-    u64 r_z6_1;
+    u8 *r_lz_2;
+    u64 r_z6;
     u8 *r_cm;
     u64 r_2k;
     r_r2 = away(a_1, 56ull);
@@ -9332,19 +9407,19 @@ l_capnp_8u:;
     goto l_join_yc;
 l_std_mb:;
     stp(slot_2, slot_1);
-    r_x5_1 = (slot_2 + 8);
+    r_x5 = (slot_2 + 8);
     r_zd_1 = (slot_2 + 16);
-    memset(r_x5_1, 0u, 16);
-    r_lz_1 = ldp(r_r2);
-    r_e3_1 = ld32(away(a_1, 88ull));
+    memset(r_x5, 0u, 16);
+    r_lz = ldp(r_r2);
+    r_e3 = ld32(away(a_1, 88ull));
     u8 r_gt = std_alloc_vec_Vec_grow_amortized_0e5e43add44bc681(slot_2);
     if (!r_gt) goto l_then_g4;
-    r_ek = r_e3_1;
-    r_zh = r_lz_1;
-    r_d2 = r_x5_1;
+    r_ek = r_e3;
+    r_zh = r_lz;
+    r_d2 = r_x5;
     r_qn = r_zd_1;
     r_9j = ldp(slot_2);
-    r_kh = ld64(r_x5_1);
+    r_kh = ld64(r_x5);
     goto l_join_yc;
 l_then_g4:;
     if (ld64(r_zd_1) == 0ull) goto l_after_64;
@@ -9355,16 +9430,16 @@ l_join_yc:;
     st64((r_a7 + 8), (u64)((u64)r_ek << 3ull));
     u64 r_7n_1 = (r_kh + 1ull);
     st64(r_d2, r_7n_1);
-    r_lz_2 = ldp(away(a_1, 104ull));
+    r_lz_1 = ldp(away(a_1, 104ull));
     r_52_1 = ld64(r_vp);
     if (r_52_1 == 0ull) goto l_after_64;
     r_um = r_9j;
     r_lw = r_7n_1;
     r_g9 = 0ull;
 l_join_f9:;
-    u8 *r_2b = away(r_lz_2, (r_g9 * 40ull));
-    r_lz_3 = ldp(r_2b);
-    r_z6_1 = (u64)((u64)ld32(away(r_2b, 32ull)) << 3ull);
+    u8 *r_2b = away(r_lz_1, (r_g9 * 40ull));
+    r_lz_2 = ldp(r_2b);
+    r_z6 = (u64)((u64)ld32(away(r_2b, 32ull)) << 3ull);
     if (!(ld64(r_qn) == r_lw)) { r_cm = r_um; r_2k = r_lw; goto l_after_6r; }
     u8 r_gt_1 = std_alloc_vec_Vec_grow_amortized_0e5e43add44bc681(slot_2);
     if (!r_gt_1) goto l_arm_g4;
@@ -9372,8 +9447,8 @@ l_join_f9:;
     r_2k = ld64(r_d2);
 l_after_6r:;
     u8 *r_a7_1 = (r_cm + (i64)((u64)(r_2k << 4ull)));
-    stp(r_a7_1, r_lz_3);
-    st64((r_a7_1 + 8), r_z6_1);
+    stp(r_a7_1, r_lz_2);
+    st64((r_a7_1 + 8), r_z6);
     u64 r_7n_2 = (r_2k + 1ull);
     st64(r_d2, r_7n_2);
     u64 r_36 = (r_g9 + 1ull);
@@ -9449,36 +9524,36 @@ NEVER u8 core_cmp_slices_groups_equal_i8_31_core_cmp_numbers_U8PartialEq(u8 *a_1
     u8 r_g1_1;
     u8 r_ta_1;
     u64 r_u9_1;
-    u8 r_g1_3;
+    u8 r_g1_2;
     u64 r_t8;
     u64 a_g7;
     u8 r_97;
     u64 r_4r;
-    u8 r_g1_4;
+    u8 r_g1_3;
     u64 a_wx;
     u8 r_97_1;
     u64 r_4r_1;
-    u8 r_g1_5;
+    u8 r_g1_4;
     u8 r_qg_1;
     u64 r_g8_1;
-    u8 r_g1_6;
+    u8 r_g1_5;
     u8 r_ta_2;
     u64 r_u9_2;
-    u8 r_g1_10;
+    u8 r_g1_6;
     u64 r_l6;
     u8 r_cc;
     u64 r_79;
-    u8 r_g1_11;
+    u8 r_g1_7;
     u64 r_bk;
     u8 r_qg_2;
     u64 r_g8_2;
-    u8 r_g1_13;
+    u8 r_g1_8;
     u64 r_1j;
     u64 r_xa;
     u64 r_bk_1;
     u8 r_ls;
     u64 r_v8;
-    u8 r_g1_14;
+    u8 r_g1_9;
     u64 r_gu;
     u8 r_ls_1;
     u64 r_v8_1;
@@ -9503,63 +9578,63 @@ l_join_gi:;
     if (a_2 < 33ull) { r_ta_1 = 0u; r_u9_1 = 0ull; goto l_join_tf_1; }
     goto l_join_8z;
 l_join_tf_1:;
-    r_g1_3 = (u8)((u8)r_ta_1 | (u8)(ld8(away(a_1, r_u9_1)) != ld8(away(a_3, r_u9_1))));
+    r_g1_2 = (u8)((u8)r_ta_1 | (u8)(ld8(away(a_1, r_u9_1)) != ld8(away(a_3, r_u9_1))));
     u64 r_c4_2 = (r_u9_1 + 1ull);
-    if (!(r_c4_2 == 8ull)) { r_ta_1 = r_g1_3; r_u9_1 = r_c4_2; goto l_join_tf_1; }
+    if (!(r_c4_2 == 8ull)) { r_ta_1 = r_g1_2; r_u9_1 = r_c4_2; goto l_join_tf_1; }
     r_t8 = (a_2 + 0xfffffffffffffff8ull);
     a_g7 = umin64(r_t8, 8ull);
     r_97 = 0u;
     r_4r = 0ull;
 l_join_dw:;
     u64 r_vp = (r_4r + a_g7);
-    r_g1_4 = (u8)((u8)r_97 | (u8)(ld8(away(a_1, r_vp)) != ld8(away(a_3, r_vp))));
+    r_g1_3 = (u8)((u8)r_97 | (u8)(ld8(away(a_1, r_vp)) != ld8(away(a_3, r_vp))));
     u64 r_c4_3 = (r_4r + 1ull);
-    if (!(r_c4_3 == 8ull)) { r_97 = r_g1_4; r_4r = r_c4_3; goto l_join_dw; }
+    if (!(r_c4_3 == 8ull)) { r_97 = r_g1_3; r_4r = r_c4_3; goto l_join_dw; }
     a_wx = umin64(r_t8, 16ull);
     r_97_1 = 0u;
     r_4r_1 = 0ull;
 l_join_dw_1:;
     u64 r_vp_1 = (r_4r_1 + a_wx);
-    r_g1_5 = (u8)((u8)r_97_1 | (u8)(ld8(away(a_1, r_vp_1)) != ld8(away(a_3, r_vp_1))));
+    r_g1_4 = (u8)((u8)r_97_1 | (u8)(ld8(away(a_1, r_vp_1)) != ld8(away(a_3, r_vp_1))));
     u64 r_c4_4 = (r_4r_1 + 1ull);
     if (r_c4_4 == 8ull) { r_qg_1 = 0u; r_g8_1 = 0ull; goto l_join_6e_1; }
-    r_97_1 = r_g1_5;
+    r_97_1 = r_g1_4;
     r_4r_1 = r_c4_4;
     goto l_join_dw_1;
 l_join_6e_1:;
     u64 r_lc_1 = (r_g8_1 + r_t8);
-    r_g1_6 = (u8)((u8)r_qg_1 | (u8)(ld8(away(a_1, r_lc_1)) != ld8(away(a_3, r_lc_1))));
+    r_g1_5 = (u8)((u8)r_qg_1 | (u8)(ld8(away(a_1, r_lc_1)) != ld8(away(a_3, r_lc_1))));
     u64 r_c4_5 = (r_g8_1 + 1ull);
-    if (!(r_c4_5 == 8ull)) { r_qg_1 = r_g1_6; r_g8_1 = r_c4_5; goto l_join_6e_1; }
-    common_76 = (u8)((u8)(u8)((u8)(u8)((u8)r_g1_3 | (u8)r_g1_4) | (u8)r_g1_5) | (u8)r_g1_6);
+    if (!(r_c4_5 == 8ull)) { r_qg_1 = r_g1_5; r_g8_1 = r_c4_5; goto l_join_6e_1; }
+    common_76 = (u8)((u8)(u8)((u8)(u8)((u8)r_g1_2 | (u8)r_g1_3) | (u8)r_g1_4) | (u8)r_g1_5);
     goto l_core_2k;
 l_join_8z:;
     if (a_2 < 65ull) { r_ta_2 = 0u; r_u9_2 = 0ull; goto l_join_tf_2; }
     r_bk = 0ull;
     goto l_then_qu;
 l_join_tf_2:;
-    r_g1_10 = (u8)((u8)r_ta_2 | (u8)(ld8(away(a_1, r_u9_2)) != ld8(away(a_3, r_u9_2))));
+    r_g1_6 = (u8)((u8)r_ta_2 | (u8)(ld8(away(a_1, r_u9_2)) != ld8(away(a_3, r_u9_2))));
     u64 r_c4_6 = (r_u9_2 + 1ull);
-    if (!(r_c4_6 == 32ull)) { r_ta_2 = r_g1_10; r_u9_2 = r_c4_6; goto l_join_tf_2; }
+    if (!(r_c4_6 == 32ull)) { r_ta_2 = r_g1_6; r_u9_2 = r_c4_6; goto l_join_tf_2; }
     r_l6 = (a_2 + 0xffffffffffffffe0ull);
     r_cc = 0u;
     r_79 = 0ull;
 l_join_s6:;
     u64 r_de = (r_l6 + r_79);
-    r_g1_11 = (u8)((u8)r_cc | (u8)(ld8(away(a_1, r_de)) != ld8(away(a_3, r_de))));
+    r_g1_7 = (u8)((u8)r_cc | (u8)(ld8(away(a_1, r_de)) != ld8(away(a_3, r_de))));
     u64 r_c4_7 = (r_79 + 1ull);
-    if (!(r_c4_7 == 32ull)) { r_cc = r_g1_11; r_79 = r_c4_7; goto l_join_s6; }
-    common_76 = (u8)((u8)r_g1_10 | (u8)r_g1_11);
+    if (!(r_c4_7 == 32ull)) { r_cc = r_g1_7; r_79 = r_c4_7; goto l_join_s6; }
+    common_76 = (u8)((u8)r_g1_6 | (u8)r_g1_7);
     goto l_core_2k;
 l_then_qu:;
     r_qg_2 = 0u;
     r_g8_2 = 0ull;
 l_join_6e_2:;
     u64 r_lc_2 = (r_g8_2 + r_bk);
-    r_g1_13 = (u8)((u8)r_qg_2 | (u8)(ld8(away(a_1, r_lc_2)) != ld8(away(a_3, r_lc_2))));
+    r_g1_8 = (u8)((u8)r_qg_2 | (u8)(ld8(away(a_1, r_lc_2)) != ld8(away(a_3, r_lc_2))));
     u64 r_c4_8 = (r_g8_2 + 1ull);
-    if (!(r_c4_8 == 64ull)) { r_qg_2 = r_g1_13; r_g8_2 = r_c4_8; goto l_join_6e_2; }
-    if (!r_g1_13) goto l_join_tl;
+    if (!(r_c4_8 == 64ull)) { r_qg_2 = r_g1_8; r_g8_2 = r_c4_8; goto l_join_6e_2; }
+    if (!r_g1_8) goto l_join_tl;
     r_1j = (a_2 - r_bk);
     r_xa = r_bk;
     goto l_core_gc;
@@ -9577,10 +9652,10 @@ l_then_qu_1:;
     r_v8 = 0ull;
 l_join_ln:;
     u64 r_5q = (r_v8 + r_bk_1);
-    r_g1_14 = (u8)((u8)r_ls | (u8)(ld8(away(a_1, r_5q)) != ld8(away(a_3, r_5q))));
+    r_g1_9 = (u8)((u8)r_ls | (u8)(ld8(away(a_1, r_5q)) != ld8(away(a_3, r_5q))));
     u64 r_c4_9 = (r_v8 + 1ull);
-    if (!(r_c4_9 == 32ull)) { r_ls = r_g1_14; r_v8 = r_c4_9; goto l_join_ln; }
-    if (r_g1_14) goto l_core_yn;
+    if (!(r_c4_9 == 32ull)) { r_ls = r_g1_9; r_v8 = r_c4_9; goto l_join_ln; }
+    if (r_g1_9) goto l_core_yn;
     u64 r_fw = (r_bk_1 + 32ull);
     if ((a_2 - r_fw) < 32ull) goto l_join_jx;
     r_bk_1 = r_fw;
@@ -9593,10 +9668,10 @@ l_join_jx:;
     r_v8_1 = 0ull;
 l_join_ln_1:;
     u64 r_5q_1 = (r_gu + r_v8_1);
-    u8 r_g1_15 = (u8)((u8)r_ls_1 | (u8)(ld8(away(a_1, r_5q_1)) != ld8(away(a_3, r_5q_1))));
+    u8 r_g1_10 = (u8)((u8)r_ls_1 | (u8)(ld8(away(a_1, r_5q_1)) != ld8(away(a_3, r_5q_1))));
     u64 r_c4_10 = (r_v8_1 + 1ull);
-    if (r_c4_10 == 32ull) { common_76 = r_g1_15; goto l_core_2k; }
-    r_ls_1 = r_g1_15;
+    if (r_c4_10 == 32ull) { common_76 = r_g1_10; goto l_core_2k; }
+    r_ls_1 = r_g1_10;
     r_v8_1 = r_c4_10;
     goto l_join_ln_1;
 l_core_2k:;
@@ -9614,7 +9689,7 @@ NEVER void capnp_arena_arena_builder_arena_impl_deallocate_others_74e7ad04(u8 *a
     u64 r_ax;
     u64 r_du;
     u64 r_zn;
-    u8 *r_ud_1;
+    u8 *r_ud;
     u64 r_i5;
     u64 r_zn_1;
     u8 *r_mb_1;
@@ -9658,12 +9733,12 @@ l_else_7d:;
 l_core_e6:;
     if (!(r_ax == t_gg)) { u64 r_1 = (r_ax + 1ull); u64 r_2 = r_zn; r_ax = r_1; r_du = r_2; goto l_join_73; }
 l_join_4d:;
-    r_ud_1 = (a_1 + 16);
+    r_ud = (a_1 + 16);
     r_i5 = r_qw;
 l_arm_bj:;
     r_zn_1 = (r_i5 + 0xffffffffffffffffull);
     r_mb_1 = ldp(a_1);
-    u64 r_qw_2 = ld64(r_ud_1);
+    u64 r_qw_2 = ld64(r_ud);
     mv24(a_1, (r_mb + (i64)((r_zn_1 * 40ull))));
     if (r_qw_2 == 0ull) goto l_capnp_jj;
     rattle_dealloc(r_mb_1);
@@ -9739,7 +9814,7 @@ NEVER u8 capnp_objects_pointers_sizes_add_object_5ccc1be374b2e488(u8 *a_1, u32 a
     A(8) u8 slot_3[24];
     A(8) u8 slot_4[32];
     u8 *r_rq;
-    u8 *r_xm_1;
+    u8 *r_xm;
     u8 r_r5;
     u8 *r_zd;
     u32 r_z4;
@@ -9748,7 +9823,7 @@ NEVER u8 capnp_objects_pointers_sizes_add_object_5ccc1be374b2e488(u8 *a_1, u32 a
     u64 r_yz;
     u8 *r_rq_1;
     u32 r_yf;
-    u32 r_5d_2;
+    u32 r_5d;
     u32 r_bq;
     u32 r_tw;
     u32 r_wu;
@@ -9756,9 +9831,9 @@ NEVER u8 capnp_objects_pointers_sizes_add_object_5ccc1be374b2e488(u8 *a_1, u32 a
     u32 r_w0;
     u8 *r_t9;
     u8 *r_su;
-    u8 *r_08_3;
-    u8 *r_m3_3;
-    u8 *r_xz_4;
+    u8 *r_08;
+    u8 *r_m3;
+    u8 *r_xz;
     u64 wide_24;
     u32 r_e3;
     u32 invariant_w0;
@@ -9766,7 +9841,7 @@ NEVER u8 capnp_objects_pointers_sizes_add_object_5ccc1be374b2e488(u8 *a_1, u32 a
     u32 r_53;
     u64 r_gw;
     u8 *r_xw;
-    u8 t_0c_1;
+    u8 t_0c;
     u64 r_nb;
     u8 t_pa;
     u64 r_nb_1;
@@ -9774,27 +9849,27 @@ NEVER u8 capnp_objects_pointers_sizes_add_object_5ccc1be374b2e488(u8 *a_1, u32 a
     u32 r_rp;
     u64 indvars_rh;
     u32 r_sr;
-    u64 r_24_3;
+    u64 r_24;
     u64 r_qw;
     u64 r_y6;
     u32 r_12;
-    u32 r_az_4;
-    u32 r_68_2;
+    u32 r_az;
+    u32 r_68;
     u64 r_lc;
     u64 r_o3;
-    u32 r_4r_1;
-    u64 r_es_2;
+    u32 r_4r;
+    u64 r_es;
     u8 r_8u;
-    u64 r_52_2;
+    u64 r_52_1;
     u32 r_6l;
-    u64 r_es_3;
+    u64 r_es_1;
     u64 r_yz_1;
     u32 r_dq;
-    u64 r_ep_1;
-    u64 r_c6_1;
-    u64 r_lc_2;
+    u64 r_ep;
+    u64 r_c6;
+    u64 r_lc_1;
     u64 r_0e;
-    u64 r_52_4;
+    u64 r_52_2;
     u64 r_yz_2;
     u32 r_dq_1;
     u8 r_hf;
@@ -9809,8 +9884,8 @@ NEVER u8 capnp_objects_pointers_sizes_add_object_5ccc1be374b2e488(u8 *a_1, u32 a
     st64(slot_4, r_52);
     st32((slot_4 + 24), a_2);
     st32((slot_4 + 28), 0u);
-    r_xm_1 = away(a_4, 32ull);
-    capnp_objects_source_Source_measure_object_5ccc1be374b2e488(slot_2, slot_3, slot_4, a_3, r_xm_1);
+    r_xm = away(a_4, 32ull);
+    capnp_objects_source_Source_measure_object_5ccc1be374b2e488(slot_2, slot_3, slot_4, a_3, r_xm);
     r_r5 = ld8((slot_2 + 8));
     if (!(ld8(slot_2) == 0u)) goto l_arm_e5;
     r_zd = (slot_2 + 16);
@@ -9875,7 +9950,7 @@ l_arm_4f_1:;
     r_fk = 1u;
     goto l_return_ri;
 l_join_c1:;
-    r_5d_2 = (u32)(r_z4 >> 16u);
+    r_5d = (u32)(r_z4 >> 16u);
     switch (r_r5) {
     case 0u: { r_fk = 0u; goto l_return_ri; }
     case 5u: goto l_arm_si;
@@ -9886,12 +9961,12 @@ l_join_c1:;
     }
 l_arm_si_1:;
     r_bq = (r_z4 & 65535u);
-    r_tw = r_5d_2;
+    r_tw = r_5d;
     r_wu = 1u;
     goto l_arm_7h;
 l_arm_si:;
     r_bq = (r_z4 & 65535u);
-    r_tw = r_5d_2;
+    r_tw = r_5d;
     r_wu = r_uq;
     goto l_arm_7h;
 l_noarm_e1_1:;
@@ -9907,9 +9982,9 @@ l_arm_7h:;
     if (r_wu == 0u) { r_fk = 0u; goto l_return_ri; }
     r_t9 = away(a_4, 48ull);
     r_su = away(a_4, 40ull);
-    r_08_3 = away(a_4, 16ull);
-    r_m3_3 = away(a_4, 20ull);
-    r_xz_4 = away(a_4, 24ull);
+    r_08 = away(a_4, 16ull);
+    r_m3 = away(a_4, 20ull);
+    r_xz = away(a_4, 24ull);
     wide_24 = (u64)r_tw;
     r_e3 = ld32(r_6c);
     invariant_w0 = (r_bq + ld32((slot_1 + 48)));
@@ -9917,7 +9992,7 @@ l_arm_7h:;
     r_53 = (r_e3 + 0xffffffffu);
     r_gw = (u64)(ld64((slot_1 + 40)) >> 3ull);
     r_xw = ldp((slot_1 + 32));
-    t_0c_1 = (ld8(slot_1) == 0u);
+    t_0c = (ld8(slot_1) == 0u);
     r_nb = (r_gw & 0xffffffffull);
     t_pa = (ld8(slot_1) != 0u);
     r_nb_1 = (r_gw & 0xffffffffull);
@@ -9932,9 +10007,9 @@ l_loop_aa:;
     indvars_rh = indvars_r7;
 l_join_x4:;
     r_sr = (r_rp + (u32)indvars_rh);
-    r_24_3 = (u64)r_sr;
-    if (!(r_gw > r_24_3)) goto l_loop_aa;
-    r_qw = ld64(away(r_xw, (u64)(r_24_3 << 3ull)));
+    r_24 = (u64)r_sr;
+    if (!(r_gw > r_24)) goto l_loop_aa;
+    r_qw = ld64(away(r_xw, (u64)(r_24 << 3ull)));
     if (r_qw == 0ull) goto l_loop_aa;
     switch ((u8)((u8)r_qw & 3u)) {
     case 0u: goto l_arm_vb;
@@ -9946,14 +10021,14 @@ l_join_x4:;
 l_arm_vb:;
     r_y6 = (u64)(r_qw >> 48ull);
     r_12 = (u32)r_y6;
-    r_az_4 = ((u32)(u64)(r_qw >> 32ull) & 65535u);
-    r_68_2 = (r_az_4 + r_12);
+    r_az = ((u32)(u64)(r_qw >> 32ull) & 65535u);
+    r_68 = (r_az + r_12);
     if (r_n1) { r_dq = 25u; goto l_arm_h4; }
     if (t_pa) goto l_join_bd;
     st64(r_t9, uadd_sat64(ld64(r_t9), 1ull));
 l_join_bd:;
     u64 r_m6 = ((u64)(r_qw >> 2ull) & 0x3fffffffull);
-    r_lc = ((r_24_3 + 1ull) + r_m6);
+    r_lc = ((r_24 + 1ull) + r_m6);
     if (!(r_m6 < 0x20000000ull)) goto l_else_70;
     if (r_lc > r_nb_1) { r_dq = 23u; goto l_arm_h4; }
     r_o3 = r_lc;
@@ -9963,86 +10038,86 @@ l_else_70:;
     if ((r_lc < 0x40000000ull) ? 1u : (r_3o > r_nb_1)) { r_dq = 23u; goto l_arm_h4; }
     r_o3 = r_3o;
 l_join_45:;
-    r_4r_1 = (u32)r_o3;
-    r_es_2 = (u64)r_68_2;
-    r_8u = (r_nb_1 < (r_o3 + r_es_2));
+    r_4r = (u32)r_o3;
+    r_es = (u64)r_68;
+    r_8u = (r_nb_1 < (r_o3 + r_es));
     if ((u8)((u8)t_pa | (u8)r_8u)) goto l_capnp_5r;
-    if (!(ld8(r_xm_1) == 1u)) { r_6l = r_4r_1; goto l_arm_up; }
-    r_52_2 = ld64(r_su);
-    if (r_52_2 < r_es_2) { r_dq = 30u; goto l_arm_h4; }
-    st64(r_xm_1, 1ull);
-    st64(r_su, (r_52_2 - r_es_2));
-    r_6l = r_4r_1;
+    if (!(ld8(r_xm) == 1u)) { r_6l = r_4r; goto l_arm_up; }
+    r_52_1 = ld64(r_su);
+    if (r_52_1 < r_es) { r_dq = 30u; goto l_arm_h4; }
+    st64(r_xm, 1ull);
+    st64(r_su, (r_52_1 - r_es));
+    r_6l = r_4r;
     goto l_arm_up;
 l_capnp_5r:;
     if (r_8u) { r_dq = 23u; goto l_arm_h4; }
-    r_6l = (r_8u ? 0u : r_4r_1);
+    r_6l = (r_8u ? 0u : r_4r);
 l_arm_up:;
-    r_es_3 = (u64)r_68_2;
+    r_es_1 = (u64)r_68;
     r_yz_1 = ld64(a_4);
-    if (r_yz_1 > (r_es_3 ^ 0xffffffffffffffffull)) goto l_arm_0l;
+    if (r_yz_1 > (r_es_1 ^ 0xffffffffffffffffull)) goto l_arm_0l;
     goto l_arm_dt;
 l_arm_h4:;
-    st32(r_08_3, r_dq);
-    st32(r_m3_3, 0u);
-    st64(r_xz_4, 0ull);
+    st32(r_08, r_dq);
+    st32(r_m3, 0u);
+    st64(r_xz, 0ull);
     r_fk = 1u;
     goto l_return_ri;
 l_arm_dt:;
-    st64(a_4, (r_yz_1 + r_es_3));
+    st64(a_4, (r_yz_1 + r_es_1));
     if (r_y6 == 0ull) goto l_loop_aa;
     goto l_join_g1;
 l_arm_0l:;
-    st32(r_08_3, 27u);
-    st32(r_m3_3, 0u);
-    st64(r_xz_4, 0xffffffffffffffffull);
+    st32(r_08, 27u);
+    st32(r_m3, 0u);
+    st64(r_xz, 0xffffffffffffffffull);
     r_fk = 1u;
     goto l_return_ri;
 l_join_g1:;
-    u8 r_eh = capnp_objects_pointers_sizes_add_pointers_5ccc1be374b2e488(slot_1, (r_6l + r_az_4), r_12, r_53, a_4);
+    u8 r_eh = capnp_objects_pointers_sizes_add_pointers_5ccc1be374b2e488(slot_1, (r_6l + r_az), r_12, r_53, a_4);
     r_hf = r_eh;
     goto l_capnp_5o;
 l_arm_ui:;
-    r_ep_1 = (u64)(r_qw >> 32ull);
-    if (!((u8)((u8)((u8)r_ep_1 & 7u) + 255u) < 5u)) goto l_after_e9;
-    r_c6_1 = (u64)(((ld64(away(away(((u8 *)switch_table_capnp_show_show_objects_read_object_5ccc1_1b90c80b), 8 * (r_ep_1 & 7ull)), 0xfffffffffffffff8ull)) * (u64)(r_qw >> 35ull)) + 63ull) >> 6ull);
+    r_ep = (u64)(r_qw >> 32ull);
+    if (!((u8)((u8)((u8)r_ep & 7u) + 255u) < 5u)) goto l_after_e9;
+    r_c6 = (u64)(((ld64(away(away(((u8 *)switch_table_capnp_show_show_objects_read_object_5ccc1_1b90c80b), 8 * (r_ep & 7ull)), 0xfffffffffffffff8ull)) * (u64)(r_qw >> 35ull)) + 63ull) >> 6ull);
     if (r_n1) { r_dq_1 = 25u; goto l_arm_h4_1; }
-    if (!t_0c_1) goto l_join_bd_1;
+    if (!t_0c) goto l_join_bd_1;
     st64(r_t9, uadd_sat64(ld64(r_t9), 1ull));
 l_join_bd_1:;
     u64 r_m6_1 = ((u64)(r_qw >> 2ull) & 0x3fffffffull);
-    r_lc_2 = ((r_24_3 + 1ull) + r_m6_1);
+    r_lc_1 = ((r_24 + 1ull) + r_m6_1);
     if (!(r_m6_1 < 0x20000000ull)) goto l_else_70_1;
-    if (r_lc_2 > r_nb) { r_dq_1 = 23u; goto l_arm_h4_1; }
-    r_0e = r_lc_2;
+    if (r_lc_1 > r_nb) { r_dq_1 = 23u; goto l_arm_h4_1; }
+    r_0e = r_lc_1;
     goto l_join_z7;
 l_else_70_1:;
-    u64 r_3o_1 = (r_lc_2 + 0xffffffffc0000000ull);
-    if ((r_lc_2 < 0x40000000ull) ? 1u : (r_3o_1 > r_nb)) { r_dq_1 = 23u; goto l_arm_h4_1; }
+    u64 r_3o_1 = (r_lc_1 + 0xffffffffc0000000ull);
+    if ((r_lc_1 < 0x40000000ull) ? 1u : (r_3o_1 > r_nb)) { r_dq_1 = 23u; goto l_arm_h4_1; }
     r_0e = r_3o_1;
 l_join_z7:;
-    if (r_nb < (r_0e + r_c6_1)) { r_dq_1 = 23u; goto l_arm_h4_1; }
-    if (!t_0c_1) goto l_arm_my;
-    if (!(ld8(r_xm_1) == 1u)) goto l_arm_my;
-    r_52_4 = ld64(r_su);
-    if (r_52_4 < r_c6_1) { r_dq_1 = 30u; goto l_arm_h4_1; }
-    st64(r_xm_1, 1ull);
-    st64(r_su, (r_52_4 - r_c6_1));
+    if (r_nb < (r_0e + r_c6)) { r_dq_1 = 23u; goto l_arm_h4_1; }
+    if (!t_0c) goto l_arm_my;
+    if (!(ld8(r_xm) == 1u)) goto l_arm_my;
+    r_52_2 = ld64(r_su);
+    if (r_52_2 < r_c6) { r_dq_1 = 30u; goto l_arm_h4_1; }
+    st64(r_xm, 1ull);
+    st64(r_su, (r_52_2 - r_c6));
 l_arm_my:;
     r_yz_2 = ld64(a_4);
-    if (r_yz_2 > (r_c6_1 ^ 0xffffffffffffffffull)) goto l_arm_0l_1;
-    st64(a_4, (r_yz_2 + r_c6_1));
+    if (r_yz_2 > (r_c6 ^ 0xffffffffffffffffull)) goto l_arm_0l_1;
+    st64(a_4, (r_yz_2 + r_c6));
     goto l_loop_aa;
 l_arm_0l_1:;
-    st32(r_08_3, 27u);
-    st32(r_m3_3, 0u);
-    st64(r_xz_4, 0xffffffffffffffffull);
+    st32(r_08, 27u);
+    st32(r_m3, 0u);
+    st64(r_xz, 0xffffffffffffffffull);
     r_fk = 1u;
     goto l_return_ri;
 l_arm_h4_1:;
-    st32(r_08_3, r_dq_1);
-    st32(r_m3_3, 0u);
-    st64(r_xz_4, 0ull);
+    st32(r_08, r_dq_1);
+    st32(r_m3, 0u);
+    st64(r_xz, 0ull);
     r_fk = 1u;
     goto l_return_ri;
 l_after_e9:;
@@ -10055,9 +10130,9 @@ l_capnp_5o:;
     if ((u8)(r_hf & 1)) { r_fk = 1u; goto l_return_ri; }
     goto l_loop_aa;
 l_arm_ki:;
-    u32 r_7t_1 = (r_zt + 1u);
-    if (r_7t_1 == r_wu) { r_fk = 0u; goto l_return_ri; }
-    r_zt = r_7t_1;
+    u32 r_7t = (r_zt + 1u);
+    if (r_7t == r_wu) { r_fk = 0u; goto l_return_ri; }
+    r_zt = r_7t;
     goto l_join_85;
 l_return_ri:;
     return r_fk;
@@ -10089,27 +10164,27 @@ static NEVER void capnp_objects_source_Source_measure_object_5ccc1be374b2e488(u8
     u64 r_ep;
     u64 r_y6;
     u64 r_lc_1;
-    u8 *r_rq_1;
-    u64 r_52_1;
+    u8 *r_rq;
+    u64 r_52;
     u64 r_ep_1;
     u8 switch_wl;
     u64 r_ij;
-    u64 r_c4_1;
-    u64 r_24_2;
-    u64 r_gw_2;
-    u8 *r_rq_2;
-    u64 r_52_2;
+    u64 r_c4;
+    u64 r_24_1;
+    u64 r_gw_1;
+    u8 *r_rq_1;
+    u64 r_52_1;
     u64 r_o0;
     u32 t_c8;
     u64 r_ep_2;
     u64 r_y6_1;
-    u32 r_12_2;
+    u32 r_12;
+    u8 *r_rq_2;
+    u64 r_52_2;
+    u32 r_12_1;
+    u64 r_c6;
     u8 *r_rq_3;
     u64 r_52_3;
-    u32 r_12_4;
-    u64 r_c6;
-    u8 *r_rq_4;
-    u64 r_52_4;
     u64 r_r4;
     u64 r_9r;
     u64 r_xy;
@@ -10169,11 +10244,11 @@ l_capnp_i5:;
     goto l_arm_xs;
 l_capnp_bt:;
     capnp_objects_source_follow_far_5ccc1be374b2e488(slot_1, r_rv, r_qw_1, a_5);
-    u64 r_38_1 = ld64((slot_1 + 16));
-    u64 r_38_2 = ld64((slot_1 + 8));
-    if (ld8(slot_1) == 0u) { r_mk = ld32((slot_1 + 44)); r_qj = ld32((slot_1 + 40)); r_vj = r_38_1; r_at = r_38_2; r_nl = ld64((slot_1 + 32)); r_b2 = ld64((slot_1 + 24)); goto l_arm_xs; }
-    r_9r = r_38_1;
-    r_xy = r_38_2;
+    u64 r_38 = ld64((slot_1 + 16));
+    u64 r_38_1 = ld64((slot_1 + 8));
+    if (ld8(slot_1) == 0u) { r_mk = ld32((slot_1 + 44)); r_qj = ld32((slot_1 + 40)); r_vj = r_38; r_at = r_38_1; r_nl = ld64((slot_1 + 32)); r_b2 = ld64((slot_1 + 24)); goto l_arm_xs; }
+    r_9r = r_38;
+    r_xy = r_38_1;
     goto l_arm_i4;
 l_arm_xs:;
     switch ((u8)((u8)r_at & 3u)) {
@@ -10190,11 +10265,11 @@ l_join_yh:;
     if (((u64)(r_nl >> 3ull) & 0xffffffffull) < (r_lc_1 + (u64)r_qj)) { r_6f = 0ull; r_3l = 0ull; r_rk = 0u; r_7q = 0u; r_yr = 0ull; r_c1 = 1ull; r_g3 = 23u; r_vx = 0u; r_7j = 0u; r_p8 = 0u; goto l_capnp_6f; }
     if (!t_0c) goto l_arm_mf;
     if (!(ld8(a_5) == 1u)) goto l_arm_mf;
-    r_rq_1 = away(a_5, 8ull);
-    r_52_1 = ld64(r_rq_1);
-    if (r_52_1 < r_lc_1) { r_6f = 0ull; r_3l = 0ull; r_rk = 0u; r_7q = 0u; r_yr = 0ull; r_c1 = 1ull; r_g3 = 30u; r_vx = 0u; r_7j = 0u; r_p8 = 0u; goto l_capnp_6f; }
+    r_rq = away(a_5, 8ull);
+    r_52 = ld64(r_rq);
+    if (r_52 < r_lc_1) { r_6f = 0ull; r_3l = 0ull; r_rk = 0u; r_7q = 0u; r_yr = 0ull; r_c1 = 1ull; r_g3 = 30u; r_vx = 0u; r_7j = 0u; r_p8 = 0u; goto l_capnp_6f; }
     st64(a_5, 1ull);
-    st64(r_rq_1, (r_52_1 - r_lc_1));
+    st64(r_rq, (r_52 - r_lc_1));
 l_arm_mf:;
     r_6f = r_b2;
     r_3l = r_nl;
@@ -10223,20 +10298,20 @@ l_arm_z2:;
     default: goto l_default_e1;
     }
 l_join_vn:;
-    r_c4_1 = (r_ij + 1ull);
-    r_24_2 = (u64)r_qj;
-    r_gw_2 = (u64)(r_nl >> 3ull);
-    if ((r_gw_2 & 0xffffffffull) < (r_c4_1 + r_24_2)) { r_6f = 0ull; r_3l = 0ull; r_rk = 0u; r_7q = 0u; r_yr = 0ull; r_c1 = 1ull; r_g3 = 23u; r_vx = 0u; r_7j = 0u; r_p8 = 0u; goto l_capnp_6f; }
+    r_c4 = (r_ij + 1ull);
+    r_24_1 = (u64)r_qj;
+    r_gw_1 = (u64)(r_nl >> 3ull);
+    if ((r_gw_1 & 0xffffffffull) < (r_c4 + r_24_1)) { r_6f = 0ull; r_3l = 0ull; r_rk = 0u; r_7q = 0u; r_yr = 0ull; r_c1 = 1ull; r_g3 = 23u; r_vx = 0u; r_7j = 0u; r_p8 = 0u; goto l_capnp_6f; }
     if (!t_0c) goto l_arm_ga;
     if (!(ld8(a_5) == 1u)) goto l_arm_ga;
-    r_rq_2 = away(a_5, 8ull);
-    r_52_2 = ld64(r_rq_2);
-    if (!(r_52_2 > r_ij)) { r_6f = 0ull; r_3l = 0ull; r_rk = 0u; r_7q = 0u; r_yr = 0ull; r_c1 = 1ull; r_g3 = 30u; r_vx = 0u; r_7j = 0u; r_p8 = 0u; goto l_capnp_6f; }
+    r_rq_1 = away(a_5, 8ull);
+    r_52_1 = ld64(r_rq_1);
+    if (!(r_52_1 > r_ij)) { r_6f = 0ull; r_3l = 0ull; r_rk = 0u; r_7q = 0u; r_yr = 0ull; r_c1 = 1ull; r_g3 = 30u; r_vx = 0u; r_7j = 0u; r_p8 = 0u; goto l_capnp_6f; }
     st64(a_5, 1ull);
-    st64(r_rq_2, (r_52_2 - r_c4_1));
+    st64(r_rq_1, (r_52_1 - r_c4));
 l_arm_ga:;
-    if (!(r_gw_2 > r_24_2)) { r_o0 = 0ull; goto l_join_8m; }
-    u64 r_qw_2 = ld64(away(((u8 *)(uptr)r_b2), (u64)(r_24_2 << 3ull)));
+    if (!(r_gw_1 > r_24_1)) { r_o0 = 0ull; goto l_join_8m; }
+    u64 r_qw_2 = ld64(away(((u8 *)(uptr)r_b2), (u64)(r_24_1 << 3ull)));
     if ((r_qw_2 & 3ull) == 0ull) { r_o0 = r_qw_2; goto l_join_8m; }
     r_6f = 0ull;
     r_3l = 0ull;
@@ -10266,15 +10341,15 @@ l_join_8m:;
     r_p8 = t_c8;
     goto l_capnp_6f;
 l_join_10:;
-    r_12_2 = (u32)r_ij;
+    r_12 = (u32)r_ij;
     if (((u64)(r_nl >> 3ull) & 0xffffffffull) < (r_ij + (u64)r_qj)) { r_6f = 0ull; r_3l = 0ull; r_rk = 0u; r_7q = 0u; r_yr = 0ull; r_c1 = 1ull; r_g3 = 23u; r_vx = 0u; r_7j = 0u; r_p8 = 0u; goto l_capnp_6f; }
-    if (!t_0c) { r_6f = r_b2; r_3l = r_nl; r_rk = r_qj; r_7q = r_mk; r_yr = r_vj; r_c1 = 0ull; r_g3 = 4u; r_vx = 0u; r_7j = r_12_2; r_p8 = 0u; goto l_capnp_6f; }
-    if (!(ld8(a_5) == 1u)) { r_6f = r_b2; r_3l = r_nl; r_rk = r_qj; r_7q = r_mk; r_yr = r_vj; r_c1 = 0ull; r_g3 = 4u; r_vx = 0u; r_7j = r_12_2; r_p8 = 0u; goto l_capnp_6f; }
-    r_rq_3 = away(a_5, 8ull);
-    r_52_3 = ld64(r_rq_3);
-    if (r_52_3 < r_ij) { r_6f = 0ull; r_3l = 0ull; r_rk = 0u; r_7q = 0u; r_yr = 0ull; r_c1 = 1ull; r_g3 = 30u; r_vx = 0u; r_7j = 0u; r_p8 = 0u; goto l_capnp_6f; }
+    if (!t_0c) { r_6f = r_b2; r_3l = r_nl; r_rk = r_qj; r_7q = r_mk; r_yr = r_vj; r_c1 = 0ull; r_g3 = 4u; r_vx = 0u; r_7j = r_12; r_p8 = 0u; goto l_capnp_6f; }
+    if (!(ld8(a_5) == 1u)) { r_6f = r_b2; r_3l = r_nl; r_rk = r_qj; r_7q = r_mk; r_yr = r_vj; r_c1 = 0ull; r_g3 = 4u; r_vx = 0u; r_7j = r_12; r_p8 = 0u; goto l_capnp_6f; }
+    r_rq_2 = away(a_5, 8ull);
+    r_52_2 = ld64(r_rq_2);
+    if (r_52_2 < r_ij) { r_6f = 0ull; r_3l = 0ull; r_rk = 0u; r_7q = 0u; r_yr = 0ull; r_c1 = 1ull; r_g3 = 30u; r_vx = 0u; r_7j = 0u; r_p8 = 0u; goto l_capnp_6f; }
     st64(a_5, 1ull);
-    st64(r_rq_3, (r_52_3 - r_ij));
+    st64(r_rq_2, (r_52_2 - r_ij));
     r_6f = r_b2;
     r_3l = r_nl;
     r_rk = r_qj;
@@ -10283,7 +10358,7 @@ l_join_10:;
     r_c1 = 0ull;
     r_g3 = 4u;
     r_vx = 0u;
-    r_7j = r_12_2;
+    r_7j = r_12;
     r_p8 = 0u;
     goto l_capnp_6f;
 l_arm_ps:;
@@ -10299,16 +10374,16 @@ l_arm_ps:;
     r_p8 = (u32)r_ij;
     goto l_capnp_6f;
 l_arm_gl:;
-    r_12_4 = (u32)r_ij;
+    r_12_1 = (u32)r_ij;
     r_c6 = (u64)(((ld64(away(away(((u8 *)switch_table_capnp_show_show_objects_read_object_5ccc1_1b90c80b), 8 * (r_ep_1 & 7ull)), 0xfffffffffffffff8ull)) * r_ij) + 63ull) >> 6ull);
     if (((u64)(r_nl >> 3ull) & 0xffffffffull) < (r_c6 + (u64)r_qj)) { r_6f = 0ull; r_3l = 0ull; r_rk = 0u; r_7q = 0u; r_yr = 0ull; r_c1 = 1ull; r_g3 = 23u; r_vx = 0u; r_7j = 0u; r_p8 = 0u; goto l_capnp_6f; }
     if (!t_0c) goto l_arm_zg;
     if (!(ld8(a_5) == 1u)) goto l_arm_zg;
-    r_rq_4 = away(a_5, 8ull);
-    r_52_4 = ld64(r_rq_4);
-    if (r_52_4 < r_c6) { r_6f = 0ull; r_3l = 0ull; r_rk = 0u; r_7q = 0u; r_yr = 0ull; r_c1 = 1ull; r_g3 = 30u; r_vx = 0u; r_7j = 0u; r_p8 = 0u; goto l_capnp_6f; }
+    r_rq_3 = away(a_5, 8ull);
+    r_52_3 = ld64(r_rq_3);
+    if (r_52_3 < r_c6) { r_6f = 0ull; r_3l = 0ull; r_rk = 0u; r_7q = 0u; r_yr = 0ull; r_c1 = 1ull; r_g3 = 30u; r_vx = 0u; r_7j = 0u; r_p8 = 0u; goto l_capnp_6f; }
     st64(a_5, 1ull);
-    st64(r_rq_4, (r_52_4 - r_c6));
+    st64(r_rq_3, (r_52_3 - r_c6));
 l_arm_zg:;
     r_6f = r_b2;
     r_3l = r_nl;
@@ -10319,7 +10394,7 @@ l_arm_zg:;
     r_g3 = 3u;
     r_vx = 0u;
     r_7j = (u32)switch_wl;
-    r_p8 = r_12_4;
+    r_p8 = r_12_1;
     goto l_capnp_6f;
 l_arm_37:;
     u8 r_ml = ((r_at & 0xffffffffull) != 3ull);
@@ -10382,7 +10457,7 @@ NEVER u8 capnp_objects_pointers_sizes_add_pointers_5ccc1be374b2e488(u8 *a_1, u32
     u32 r_7m;
     u64 r_24;
     u64 r_gw;
-    u64 r_qw_1;
+    u64 r_qw;
     u64 r_y6;
     u32 r_12;
     u32 r_az;
@@ -10391,20 +10466,20 @@ NEVER u8 capnp_objects_pointers_sizes_add_pointers_5ccc1be374b2e488(u8 *a_1, u32
     u64 r_lc;
     u64 r_nb;
     u64 r_o3;
-    u32 r_4r_1;
+    u32 r_4r;
     u64 r_es;
     u8 r_8u;
-    u64 r_52_1;
+    u64 r_52;
     u32 r_6l;
     u64 r_es_1;
     u64 r_yz;
-    u64 r_ep_1;
+    u64 r_ep;
     u64 r_c6;
     u8 t_0c;
-    u64 r_lc_2;
+    u64 r_lc_1;
     u64 r_nb_1;
     u64 r_1m;
-    u64 r_52_3;
+    u64 r_52_1;
     u64 r_yz_1;
     u8 r_t4;
     u32 sink_qh;
@@ -10433,9 +10508,9 @@ l_join_7l:;
     r_24 = (u64)r_7m;
     r_gw = (u64)(ld64(r_su) >> 3ull);
     if (!(r_gw > r_24)) goto l_loop_da;
-    r_qw_1 = ld64(away(ldp(r_xm), (u64)(r_24 << 3ull)));
-    if (r_qw_1 == 0ull) goto l_loop_da;
-    switch ((u8)((u8)r_qw_1 & 3u)) {
+    r_qw = ld64(away(ldp(r_xm), (u64)(r_24 << 3ull)));
+    if (r_qw == 0ull) goto l_loop_da;
+    switch ((u8)((u8)r_qw & 3u)) {
     case 0u: goto l_arm_vb;
     case 1u: goto l_arm_ui;
     case 2u: goto l_after_ti;
@@ -10443,16 +10518,16 @@ l_join_7l:;
     default: goto l_default_e1;
     }
 l_arm_vb:;
-    r_y6 = (u64)(r_qw_1 >> 48ull);
+    r_y6 = (u64)(r_qw >> 48ull);
     r_12 = (u32)r_y6;
-    r_az = ((u32)(u64)(r_qw_1 >> 32ull) & 65535u);
+    r_az = ((u32)(u64)(r_qw >> 32ull) & 65535u);
     r_68 = (r_az + r_12);
     if (r_30) { sink_qh = 25u; sink_dw = 0ull; goto l_capnp_y7; }
     t_pa = (ld8(a_1) != 0u);
     if (t_pa) goto l_join_bd;
     st64(r_t9, uadd_sat64(ld64(r_t9), 1ull));
 l_join_bd:;
-    u64 r_m6 = ((u64)(r_qw_1 >> 2ull) & 0x3fffffffull);
+    u64 r_m6 = ((u64)(r_qw >> 2ull) & 0x3fffffffull);
     r_lc = ((r_24 + 1ull) + r_m6);
     r_nb = (r_gw & 0xffffffffull);
     if (!(r_m6 < 0x20000000ull)) goto l_else_70;
@@ -10464,20 +10539,20 @@ l_else_70:;
     if ((r_lc < 0x40000000ull) ? 1u : (r_3o > r_nb)) { sink_qh = 23u; sink_dw = 0ull; goto l_capnp_y7; }
     r_o3 = r_3o;
 l_join_45:;
-    r_4r_1 = (u32)r_o3;
+    r_4r = (u32)r_o3;
     r_es = (u64)r_68;
     r_8u = (r_nb < (r_o3 + r_es));
     if ((u8)((u8)t_pa | (u8)r_8u)) goto l_capnp_li;
-    if (!(ld8(r_xm_1) == 1u)) { r_6l = r_4r_1; goto l_arm_up; }
-    r_52_1 = ld64(r_su_1);
-    if (r_52_1 < r_es) { sink_qh = 30u; sink_dw = 0ull; goto l_capnp_y7; }
+    if (!(ld8(r_xm_1) == 1u)) { r_6l = r_4r; goto l_arm_up; }
+    r_52 = ld64(r_su_1);
+    if (r_52 < r_es) { sink_qh = 30u; sink_dw = 0ull; goto l_capnp_y7; }
     st64(r_xm_1, 1ull);
-    st64(r_su_1, (r_52_1 - r_es));
-    r_6l = r_4r_1;
+    st64(r_su_1, (r_52 - r_es));
+    r_6l = r_4r;
     goto l_arm_up;
 l_capnp_li:;
     if (r_8u) { sink_qh = 23u; sink_dw = 0ull; goto l_capnp_y7; }
-    r_6l = (r_8u ? 0u : r_4r_1);
+    r_6l = (r_8u ? 0u : r_4r);
 l_arm_up:;
     r_es_1 = (u64)r_68;
     r_yz = ld64(a_5);
@@ -10488,33 +10563,33 @@ l_arm_up:;
     r_t4 = r_x6;
     goto l_capnp_qq;
 l_arm_ui:;
-    r_ep_1 = (u64)(r_qw_1 >> 32ull);
-    if (!((u8)((u8)((u8)r_ep_1 & 7u) + 255u) < 5u)) goto l_after_ti;
-    r_c6 = (u64)(((ld64(away(away(((u8 *)switch_table_capnp_show_show_objects_read_object_5ccc1_1b90c80b), 8 * (r_ep_1 & 7ull)), 0xfffffffffffffff8ull)) * (u64)(r_qw_1 >> 35ull)) + 63ull) >> 6ull);
+    r_ep = (u64)(r_qw >> 32ull);
+    if (!((u8)((u8)((u8)r_ep & 7u) + 255u) < 5u)) goto l_after_ti;
+    r_c6 = (u64)(((ld64(away(away(((u8 *)switch_table_capnp_show_show_objects_read_object_5ccc1_1b90c80b), 8 * (r_ep & 7ull)), 0xfffffffffffffff8ull)) * (u64)(r_qw >> 35ull)) + 63ull) >> 6ull);
     if (r_30) { sink_qh = 25u; sink_dw = 0ull; goto l_capnp_y7; }
     t_0c = (ld8(a_1) == 0u);
     if (!t_0c) goto l_join_bd_1;
     st64(r_t9, uadd_sat64(ld64(r_t9), 1ull));
 l_join_bd_1:;
-    u64 r_m6_1 = ((u64)(r_qw_1 >> 2ull) & 0x3fffffffull);
-    r_lc_2 = ((r_24 + 1ull) + r_m6_1);
+    u64 r_m6_1 = ((u64)(r_qw >> 2ull) & 0x3fffffffull);
+    r_lc_1 = ((r_24 + 1ull) + r_m6_1);
     r_nb_1 = (r_gw & 0xffffffffull);
     if (!(r_m6_1 < 0x20000000ull)) goto l_else_70_1;
-    if (r_lc_2 > r_nb_1) { sink_qh = 23u; sink_dw = 0ull; goto l_capnp_y7; }
-    r_1m = r_lc_2;
+    if (r_lc_1 > r_nb_1) { sink_qh = 23u; sink_dw = 0ull; goto l_capnp_y7; }
+    r_1m = r_lc_1;
     goto l_join_4v;
 l_else_70_1:;
-    u64 r_3o_1 = (r_lc_2 + 0xffffffffc0000000ull);
-    if ((r_lc_2 < 0x40000000ull) ? 1u : (r_3o_1 > r_nb_1)) { sink_qh = 23u; sink_dw = 0ull; goto l_capnp_y7; }
+    u64 r_3o_1 = (r_lc_1 + 0xffffffffc0000000ull);
+    if ((r_lc_1 < 0x40000000ull) ? 1u : (r_3o_1 > r_nb_1)) { sink_qh = 23u; sink_dw = 0ull; goto l_capnp_y7; }
     r_1m = r_3o_1;
 l_join_4v:;
     if (r_nb_1 < (r_1m + r_c6)) { sink_qh = 23u; sink_dw = 0ull; goto l_capnp_y7; }
     if (!t_0c) goto l_arm_8q;
     if (!(ld8(r_xm_1) == 1u)) goto l_arm_8q;
-    r_52_3 = ld64(r_su_1);
-    if (r_52_3 < r_c6) { sink_qh = 30u; sink_dw = 0ull; goto l_capnp_y7; }
+    r_52_1 = ld64(r_su_1);
+    if (r_52_1 < r_c6) { sink_qh = 30u; sink_dw = 0ull; goto l_capnp_y7; }
     st64(r_xm_1, 1ull);
-    st64(r_su_1, (r_52_3 - r_c6));
+    st64(r_su_1, (r_52_1 - r_c6));
 l_arm_8q:;
     r_yz_1 = ld64(a_5);
     if (r_yz_1 > (r_c6 ^ 0xffffffffffffffffull)) { sink_qh = 27u; sink_dw = 0xffffffffffffffffull; goto l_capnp_y7; }
@@ -10558,11 +10633,11 @@ void capnp_messages_messages_canonical_copy_canonicalize_re_6a62b637(u8 *a_1, u8
     u16 r_br_1;
     u8 *r_yf;
     u8 r_mp;
-    u8 *r_rq_1;
+    u8 *r_rq;
     u8 *r_rv_1;
     u8 *r_o8;
     u8 *r_xz_1;
-    u8 *r_lg_1;
+    u8 *r_lg;
     u64 r_ym;
     u64 r_ai;
     u64 r_2e;
@@ -10571,14 +10646,14 @@ void capnp_messages_messages_canonical_copy_canonicalize_re_6a62b637(u8 *a_1, u8
     u64 r_eg;
     u8 r_r5;
     u32 r_uq;
-    u64 r_38_2;
+    u64 r_38_1;
     u8 r_r5_1;
-    u8 *r_lz_1;
+    u8 *r_lz;
     u64 r_qw_2;
     u8 r_2b;
     u32 r_qh;
     u64 r_ip;
-    u8 *t_b9_1;
+    u8 *t_b9;
     u64 r_u7;
     u64 r_lc;
     u64 r_z6;
@@ -10587,32 +10662,32 @@ void capnp_messages_messages_canonical_copy_canonicalize_re_6a62b637(u8 *a_1, u8
     u64 r_nm_1;
     u64 r_hk;
     u64 r_u7_1;
-    u64 r_z6_3;
-    u8 *r_2b_4;
+    u64 r_z6_1;
+    u8 *r_2b_2;
     u64 r_nm_2;
     u64 r_nm_3;
     u64 r_6o;
     u32 r_29;
     u32 r_az;
     u32 r_68;
-    u64 r_24_2;
+    u64 r_24_1;
     u32 r_yf_1;
     u32 r_e3;
     u32 r_ll_1;
-    u64 r_3v_1;
+    u64 r_3v;
     u64 r_ou;
     u64 r_d0;
     u64 r_j7;
-    u32 r_wt_1;
+    u32 r_wt;
     u64 r_ep;
     u32 r_4r;
     u64 r_0l;
-    u8 *r_r2_7;
+    u8 *r_r2;
     u8 *r_hd;
-    u8 *r_2b_8;
+    u8 *r_2b_3;
     u64 r_il;
     u8 *t_6c_1;
-    u8 r_2b_9;
+    u8 r_2b_4;
     u8 r_qh_1;
     u32 r_ip_1;
     u64 r_wq;
@@ -10644,7 +10719,7 @@ void capnp_messages_messages_canonical_copy_canonicalize_re_6a62b637(u8 *a_1, u8
     if (!r_mp) goto l_join_qw;
     if ((ld64(away(a_2, 96ull)) + 0xffffffff00000002ull) < 0xffffffff00000001ull) goto l_then_yd;
 l_join_qw:;
-    r_rq_1 = away(a_2, 8ull);
+    r_rq = away(a_2, 8ull);
     if (!(ld8(a_2) == 1u)) goto l_arm_5h;
     if (!(ld64(away(a_2, 16ull)) < 512ull)) goto l_arm_ai;
 l_arm_5h:;
@@ -10652,7 +10727,7 @@ l_arm_5h:;
     st64(r_xz, uadd_sat64(ld64(r_xz), 1ull));
     goto l_then_yd;
 l_arm_ai:;
-    r_rv_1 = ldp(r_rq_1);
+    r_rv_1 = ldp(r_rq);
     memset(a_2, 0u, 24);
     if (r_mp) goto l_join_xu;
     stp(away(a_2, 56ull), r_rv_1);
@@ -10667,22 +10742,22 @@ l_arm_ai:;
 l_join_xu:;
     r_o8 = away(a_2, 88ull);
     r_xz_1 = away(a_2, 24ull);
-    r_lg_1 = away(a_2, 96ull);
-    u64 r_52_3 = ld64(r_lg_1);
-    if (!(ld64(away(a_2, 104ull)) == r_52_3)) { r_ym = r_52_3; goto l_capnp_r2; }
+    r_lg = away(a_2, 96ull);
+    u64 r_52 = ld64(r_lg);
+    if (!(ld64(away(a_2, 104ull)) == r_52)) { r_ym = r_52; goto l_capnp_r2; }
     u8 r_8a = std_alloc_vec_Vec_grow_amortized_aae383c1cebb016e(r_o8);
     if (!r_8a) goto l_arm_fw;
-    r_ym = ld64(r_lg_1);
+    r_ym = ld64(r_lg);
 l_capnp_r2:;
     u8 *r_a7 = (ldp(r_o8) + (i64)((r_ym * 24ull)));
     stp(r_a7, r_rv_1);
     st64((r_a7 + 8), 512ull);
     st32((r_a7 + 16), 0u);
     st32((r_a7 + 20), 0x1fffffffu);
-    st64(r_lg_1, (r_ym + 1ull));
-    u64 r_38_1 = ld64(away(a_2, 64ull));
-    r_ai = (u64)(r_38_1 >> 3ull);
-    r_2e = (u64)(r_38_1 >> 3ull);
+    st64(r_lg, (r_ym + 1ull));
+    u64 r_38 = ld64(away(a_2, 64ull));
+    r_ai = (u64)(r_38 >> 3ull);
+    r_2e = (u64)(r_38 >> 3ull);
     r_bu = ld32(away(a_2, 72ull));
     goto l_arm_g0;
 l_arm_fw:;
@@ -10721,14 +10796,14 @@ l_join_zk:;
     capnp_copies_copy_copy_object_f743e1513b93edc7(slot_2, a_2, 0u, 0u, slot_3, slot_4, 1u);
     r_r5 = ld8(slot_2);
     r_uq = ld32((slot_2 + 12));
-    r_38_2 = ld64((slot_2 + 16));
+    r_38_1 = ld64((slot_2 + 16));
     if (r_r5 == 0u) { r_2b = 0u; r_qh = 0u; r_ip = 0ull; goto l_capnp_no; }
     r_r5_1 = ld8((slot_2 + 8));
-    r_lz_1 = ldp(away(a_2, 56ull));
-    r_qw_2 = ld64(r_lz_1);
+    r_lz = ldp(away(a_2, 56ull));
+    r_qw_2 = ld64(r_lz);
     if (r_qw_2 == 0ull) goto l_capnp_8g;
     capnp_making_landing_follow_22521b95e02b6c38(slot_1, a_2, 0u, 0u);
-    st64(r_lz_1, 0ull);
+    st64(r_lz, 0ull);
     if (!(ld8(slot_1) == 1u)) goto l_capnp_8g;
     capnp_making_zeroing_zero_target_22521b95e02b6c38(a_2, (slot_1 + 8));
     if (!((r_qw_2 & 3ull) == 2ull)) goto l_capnp_8g;
@@ -10736,7 +10811,7 @@ l_join_zk:;
 l_capnp_8g:;
     r_2b = r_r5_1;
     r_qh = r_uq;
-    r_ip = r_38_2;
+    r_ip = r_38_1;
 l_capnp_no:;
     r_3i = r_r5;
     r_45 = r_2b;
@@ -10744,12 +10819,12 @@ l_capnp_no:;
     r_r1 = r_ip;
     goto l_capnp_x6;
 l_arm_q5:;
-    t_b9_1 = (slot_5 + 7);
-    u64 r_24_1 = (u64)r_5k;
+    t_b9 = (slot_5 + 7);
+    u64 r_24 = (u64)r_5k;
     r_u7 = (u64)r_br;
-    r_lc = (r_u7 + r_24_1);
+    r_lc = (r_u7 + r_24);
     r_z6 = (u64)(r_u7 << 3ull);
-    r_2b_1 = away(r_rv, (u64)(r_24_1 << 3ull));
+    r_2b_1 = away(r_rv, (u64)(r_24 << 3ull));
     if (r_br < 32u) { r_nm = r_u7; goto l_loop_jc; }
     goto l_else_wj;
 l_loop_jc:;
@@ -10769,24 +10844,24 @@ l_loop_jc_1:;
     r_hk = r_nm_1;
 l_capnp_ev:;
     r_u7_1 = (u64)r_br_1;
-    r_z6_3 = (u64)(r_u7_1 << 3ull);
-    r_2b_4 = away(r_rv, (u64)(r_lc << 3ull));
+    r_z6_1 = (u64)(r_u7_1 << 3ull);
+    r_2b_2 = away(r_rv, (u64)(r_lc << 3ull));
     if (r_br_1 < 32u) { r_nm_2 = r_u7_1; goto l_loop_jc_2; }
     goto l_else_wj_1;
 l_loop_jc_2:;
     if (r_nm_2 == 0ull) { r_6o = 0ull; goto l_capnp_dw; }
     u64 r_0f_2 = (r_nm_2 + 0xffffffffffffffffull);
-    if (ld64(away(r_2b_4, (u64)(r_0f_2 << 3ull))) == 0ull) { r_nm_2 = r_0f_2; goto l_loop_jc_2; }
+    if (ld64(away(r_2b_2, (u64)(r_0f_2 << 3ull))) == 0ull) { r_nm_2 = r_0f_2; goto l_loop_jc_2; }
     r_6o = r_nm_2;
     goto l_capnp_dw;
 l_else_wj_1:;
-    if (!(ld64(away(away(r_2b_4, r_z6_3), 0xfffffffffffffff8ull)) == 0ull)) { r_6o = r_u7_1; goto l_capnp_dw; }
-    u64 r_g1_1 = capnp_words_lanes_used_words_bound(r_2b_4, r_z6_3);
+    if (!(ld64(away(away(r_2b_2, r_z6_1), 0xfffffffffffffff8ull)) == 0ull)) { r_6o = r_u7_1; goto l_capnp_dw; }
+    u64 r_g1_1 = capnp_words_lanes_used_words_bound(r_2b_2, r_z6_1);
     r_nm_3 = r_g1_1;
 l_loop_jc_3:;
     if (r_nm_3 == 0ull) { r_6o = 0ull; goto l_capnp_dw; }
     u64 r_0f_3 = (r_nm_3 + 0xffffffffffffffffull);
-    if (ld64(away(r_2b_4, (u64)(r_0f_3 << 3ull))) == 0ull) { r_nm_3 = r_0f_3; goto l_loop_jc_3; }
+    if (ld64(away(r_2b_2, (u64)(r_0f_3 << 3ull))) == 0ull) { r_nm_3 = r_0f_3; goto l_loop_jc_3; }
     r_6o = r_nm_3;
 l_capnp_dw:;
     r_29 = ((u32)r_hk & 65535u);
@@ -10797,11 +10872,11 @@ l_capnp_dw:;
     r_j7 = 0ull;
     goto l_arm_e8;
 l_then_zw:;
-    r_24_2 = (u64)r_pj;
-    if ((r_24_2 + (u64)r_68) > r_ai) goto l_arm_4u;
+    r_24_1 = (u64)r_pj;
+    if ((r_24_1 + (u64)r_68) > r_ai) goto l_arm_4u;
     st32(away(a_2, 72ull), (r_pj + r_68));
     st64(ldp(away(a_2, 56ull)), (((u64)(r_6o << 48ull) | ((u64)(r_hk << 32ull) & 0xffff00000000ull)) | (u64)((u32)(r_pj << 2u) + 0xfffffffcu)));
-    r_j7 = (u64)(r_24_2 << 32ull);
+    r_j7 = (u64)(r_24_1 << 32ull);
     goto l_arm_e8;
 l_arm_4u:;
     capnp_arena_arena_builder_arena_impl_BuilderArenaImplB_a1412319(slot_1, a_2, (r_68 + 1u));
@@ -10809,81 +10884,81 @@ l_arm_4u:;
     r_yf_1 = ld32((slot_1 + 4));
     r_e3 = ld32((slot_1 + 8));
     r_ll_1 = (r_e3 + 1u);
-    r_3v_1 = ((u64)(r_6o << 48ull) | ((u64)(r_hk << 32ull) & 0xffff00000000ull));
+    r_3v = ((u64)(r_6o << 48ull) | ((u64)(r_hk << 32ull) & 0xffff00000000ull));
     if (!(r_yf_1 == 0u)) goto l_else_o7;
-    u64 r_z6_6 = (u64)((u64)r_e3 << 3ull);
-    st64(away(ldp(away(a_2, 56ull)), r_z6_6), r_3v_1);
+    u64 r_z6_2 = (u64)((u64)r_e3 << 3ull);
+    st64(away(ldp(away(a_2, 56ull)), r_z6_2), r_3v);
     r_ou = 0ull;
-    r_d0 = r_z6_6;
+    r_d0 = r_z6_2;
     goto l_capnp_cp;
 l_else_o7:;
-    u64 r_24_4 = (u64)r_yf_1;
-    capnp_arena_arena_rows_put_word_in_96bc33dd2dacd45a(ldp(away(a_2, 88ull)), (r_24_4 + 0xffffffffffffffffull), r_e3, r_3v_1);
-    r_ou = r_24_4;
+    u64 r_24_2 = (u64)r_yf_1;
+    capnp_arena_arena_rows_put_word_in_96bc33dd2dacd45a(ldp(away(a_2, 88ull)), (r_24_2 + 0xffffffffffffffffull), r_e3, r_3v);
+    r_ou = r_24_2;
     r_d0 = (u64)((u64)r_e3 << 3ull);
 l_capnp_cp:;
     st64(ldp(away(a_2, 56ull)), ((r_d0 | (u64)(r_ou << 32ull)) | 2ull));
     r_j7 = (r_ou | (u64)((u64)r_ll_1 << 32ull));
 l_arm_e8:;
-    r_wt_1 = (u32)r_j7;
+    r_wt = (u32)r_j7;
     r_ep = (u64)(r_j7 >> 32ull);
     r_4r = (u32)r_ep;
     r_0l = ((u64)(r_hk << 3ull) & 0x7fff8ull);
     if (r_0l == 0ull) goto l_capnp_am;
-    r_r2_7 = away(a_2, 56ull);
-    if (!(r_wt_1 == 0u)) goto l_else_az;
-    r_hd = ldp(r_r2_7);
+    r_r2 = away(a_2, 56ull);
+    if (!(r_wt == 0u)) goto l_else_az;
+    r_hd = ldp(r_r2);
     goto l_capnp_x6_1;
 l_else_az:;
-    u8 *r_6s = capnp_arena_arena_rows_Rows_other_mut_96bc33dd2dacd45a(r_r2_7, r_wt_1);
+    u8 *r_6s = capnp_arena_arena_rows_Rows_other_mut_96bc33dd2dacd45a(r_r2, r_wt);
     r_hd = r_6s;
 l_capnp_x6_1:;
-    r_2b_8 = away(r_hd, (u64)(r_ep << 3ull));
+    r_2b_3 = away(r_hd, (u64)(r_ep << 3ull));
     if (!(r_0l < 64ull)) goto l_else_r3;
     if (!(r_0l > 31ull)) goto l_else_dg;
-    mv32(r_2b_8, r_2b_1);
+    mv32(r_2b_3, r_2b_1);
     u64 r_bh = (r_0l + 0xffffffffffffffe0ull);
-    mv32((r_2b_8 + (i64)(r_bh)), (r_2b_1 + (i64)(r_bh)));
+    mv32((r_2b_3 + (i64)(r_bh)), (r_2b_1 + (i64)(r_bh)));
     goto l_capnp_am;
 l_else_dg:;
     if (!(r_0l > 15ull)) goto l_then_49;
-    mv16(r_2b_8, r_2b_1);
+    mv16(r_2b_3, r_2b_1);
     u64 r_8f = (r_0l + 0xfffffffffffffff0ull);
-    mv16((r_2b_8 + (i64)(r_8f)), (r_2b_1 + (i64)(r_8f)));
+    mv16((r_2b_3 + (i64)(r_8f)), (r_2b_1 + (i64)(r_8f)));
     goto l_capnp_am;
 l_then_49:;
-    mv8(r_2b_8, r_2b_1);
+    mv8(r_2b_3, r_2b_1);
     u64 r_la = (r_0l + 0xfffffffffffffff8ull);
-    mv8((r_2b_8 + (i64)(r_la)), (r_2b_1 + (i64)(r_la)));
+    mv8((r_2b_3 + (i64)(r_la)), (r_2b_1 + (i64)(r_la)));
     goto l_capnp_am;
 l_else_r3:;
-    if (((u64)(uptr)r_2b_8 - (u64)(uptr)r_2b_1) < r_0l) { r_il = 0ull; goto l_join_fh; }
-    memmove_or_none(r_2b_8, r_2b_1, r_0l);
+    if (((u64)(uptr)r_2b_3 - (u64)(uptr)r_2b_1) < r_0l) { r_il = 0ull; goto l_join_fh; }
+    memmove_or_none(r_2b_3, r_2b_1, r_0l);
     goto l_capnp_am;
 l_join_fh:;
-    st8((r_2b_8 + (i64)(r_il)), ld8((r_2b_1 + (i64)(r_il))));
-    u64 r_c4_1 = (r_il + 1ull);
-    if (!(r_c4_1 == r_0l)) { r_il = r_c4_1; goto l_join_fh; }
+    st8((r_2b_3 + (i64)(r_il)), ld8((r_2b_1 + (i64)(r_il))));
+    u64 r_c4 = (r_il + 1ull);
+    if (!(r_c4 == r_0l)) { r_il = r_c4; goto l_join_fh; }
 l_capnp_am:;
     memset(slot_1, 0u, 24);
     t_6c_1 = (slot_2 + 56);
     st64(t_6c_1, 0ull);
-    if (r_az == 0u) { r_2b_9 = 0u; r_qh_1 = 0u; r_ip_1 = 0u; r_wq = 0ull; goto l_capnp_no_1; }
+    if (r_az == 0u) { r_2b_4 = 0u; r_qh_1 = 0u; r_ip_1 = 0u; r_wq = 0ull; goto l_capnp_no_1; }
     st64(slot_2, r_eg);
-    mv16((slot_2 + 8), t_b9_1);
+    mv16((slot_2 + 8), t_b9);
     st64((slot_2 + 24), r_qw);
     stp((slot_2 + 32), r_rv);
     st64((slot_2 + 40), r_qw_1);
     st32((slot_2 + 48), (r_5k + (u32)r_br));
     st32((slot_2 + 52), 0u);
     st32(t_6c_1, r_5k_2);
-    capnp_copies_copy_children_copy_children_out_of_line_f_f51e9aad(slot_1, a_2, r_wt_1, (r_29 + r_4r), slot_2, r_az, slot_4, 1u);
-    r_2b_9 = ld8(slot_1);
+    capnp_copies_copy_children_copy_children_out_of_line_f_f51e9aad(slot_1, a_2, r_wt, (r_29 + r_4r), slot_2, r_az, slot_4, 1u);
+    r_2b_4 = ld8(slot_1);
     r_qh_1 = ld8((slot_1 + 8));
     r_ip_1 = ld32((slot_1 + 12));
     r_wq = ld64((slot_1 + 16));
 l_capnp_no_1:;
-    r_3i = r_2b_9;
+    r_3i = r_2b_4;
     r_45 = r_qh_1;
     r_h0 = r_ip_1;
     r_r1 = r_wq;
@@ -11086,30 +11161,30 @@ static NEVER void capnp_copies_copy_copy_object_f743e1513b93edc7(u8 *a_1, u8 *a_
     u64 r_ep;
     u64 r_y6;
     u64 r_lc_1;
-    u8 *r_rq_1;
-    u64 r_52_1;
+    u8 *r_rq;
+    u64 r_52;
     u32 r_az;
     u8 *t_f6;
     u32 r_4w;
     u8 switch_wl;
     u64 r_ij;
-    u64 r_c4_1;
-    u64 r_24_2;
-    u64 r_gw_2;
-    u8 *r_rq_2;
-    u64 r_52_2;
+    u64 r_c4;
+    u64 r_24_1;
+    u64 r_gw_1;
+    u8 *r_rq_1;
+    u64 r_52_1;
     u64 r_eh;
     u32 t_c8;
-    u64 r_ep_2;
+    u64 r_ep_1;
     u64 r_y6_1;
     u32 r_12;
     u32 r_az_1;
     u32 r_68;
-    u64 r_c0_1;
-    u8 *r_rq_3;
-    u64 r_52_3;
+    u64 r_c0;
+    u8 *r_rq_2;
+    u64 r_52_2;
     u32 r_ll;
-    u8 *t_f6_2;
+    u8 *t_f6_1;
     u32 r_4w_1;
     u16 r_u2;
     u16 r_ka;
@@ -11119,64 +11194,64 @@ static NEVER void capnp_copies_copy_copy_object_f743e1513b93edc7(u8 *a_1, u8 *a_
     u32 r_ll_1;
     u8 r_sz;
     u32 r_12_1;
+    u8 *r_rq_3;
+    u64 r_52_3;
     u8 *r_rq_4;
     u64 r_52_4;
-    u8 *r_rq_5;
-    u64 r_52_5;
     u64 r_v1;
     u64 r_c6;
-    u8 *r_rq_6;
-    u64 r_52_6;
+    u8 *r_rq_5;
+    u64 r_52_5;
     u64 r_2g;
     u64 r_jg;
     u64 r_6e;
-    u8 *t_f6_3;
+    u8 *t_f6_2;
     u32 r_4w_2;
     u8 r_sz_1;
     u8 r_10;
     u32 r_kb;
     u32 r_n4;
     u64 r_yp;
-    u64 r_q7_1;
-    u64 r_lc_6;
-    u64 r_z6_3;
-    u8 *r_c0_2;
+    u64 r_q7;
+    u64 r_lc_2;
+    u64 r_z6;
+    u8 *r_c0_1;
     u64 r_nm;
     u64 r_nm_1;
     u64 r_ev;
-    u64 r_z6_6;
-    u8 *r_c0_3;
+    u64 r_z6_1;
+    u8 *r_c0_2;
     u64 r_nm_2;
     u64 r_nm_3;
-    u64 r_e9_6;
+    u64 r_e9;
     u64 r_ag;
     u32 r_ib;
-    u16 r_xg_1;
+    u16 r_xg;
     u32 r_29;
     u32 r_68_2;
-    u8 r_sz_3;
+    u8 r_sz_2;
     u64 r_ro;
-    u64 r_xg_2;
+    u64 r_xg_1;
     u8 *r_2g_1;
     u32 r_yf;
     u8 r_kw;
     u32 r_re;
     struct s_i8_i32 r_jz;
     u64 r_nu;
-    u32 r_wt_2;
-    u64 r_ep_4;
-    u32 r_4r_4;
+    u32 r_wt;
+    u64 r_ep_2;
+    u32 r_4r;
     u64 r_0l;
-    u8 *r_c0_4;
-    u8 *r_r2_3;
+    u8 *r_c0_3;
+    u8 *r_r2;
     u8 *r_al;
-    u8 *r_2b_7;
+    u8 *r_2b;
     u64 r_il;
     u8 r_t8;
     u8 r_hg;
-    u32 r_lc_8;
+    u32 r_lc_3;
     u64 r_nj;
-    u8 *t_f6_5;
+    u8 *t_f6_3;
     u64 r_yo;
     u8 r_tw;
     u8 *r_l2;
@@ -11184,9 +11259,9 @@ static NEVER void capnp_copies_copy_copy_object_f743e1513b93edc7(u8 *a_1, u8 *a_
     u64 r_61;
     u64 r_kz;
     u64 r_se;
-    u32 r_12_3;
+    u32 r_12_2;
     u64 t_0f;
-    u8 r_sz_4;
+    u8 r_sz_3;
     u8 *r_2g_2;
     u32 r_yf_2;
     u8 r_kw_1;
@@ -11197,9 +11272,9 @@ static NEVER void capnp_copies_copy_copy_object_f743e1513b93edc7(u8 *a_1, u8 *a_
     u32 r_5z;
     u32 r_qb;
     u64 r_1q;
-    u8 *r_r2_5;
+    u8 *r_r2_1;
     u8 *r_rk;
-    u8 *r_2b_9;
+    u8 *r_2b_1;
     u64 r_il_1;
     u64 r_4i;
     u8 *r_2g_3;
@@ -11209,67 +11284,67 @@ static NEVER void capnp_copies_copy_copy_object_f743e1513b93edc7(u8 *a_1, u8 *a_
     struct s_i8_i32 r_jz_2;
     u32 r_xo_2;
     u64 r_bq;
-    u32 r_es_5;
+    u32 r_es;
     u32 r_0i;
-    u64 r_gw_9;
-    u8 *r_x5_11;
-    u8 *r_zd_6;
-    u8 *r_lk_3;
-    u8 *r_89_3;
-    u8 *r_a8_3;
-    u8 *r_c4_6;
-    u8 *r_6c_2;
-    u8 *r_08_3;
-    u64 r_nb_7;
+    u64 r_gw_2;
+    u8 *r_x5;
+    u8 *r_zd;
+    u8 *r_lk;
+    u8 *r_89;
+    u8 *r_a8;
+    u8 *r_c4_3;
+    u8 *r_6c;
+    u8 *r_08_1;
+    u64 r_nb_1;
     u8 r_sg;
-    u8 *r_rq_8;
-    u8 *r_x5_12;
-    u8 *r_k0_3;
-    u8 *r_zd_7;
+    u8 *r_rq_6;
+    u8 *r_x5_1;
+    u8 *r_k0;
+    u8 *r_zd_1;
     u32 r_s1;
-    u8 t_q5_1;
-    u8 *r_x5_13;
-    u8 *r_k0_4;
-    u8 *r_zd_8;
-    u8 *r_ix_3;
-    u8 *r_x5_14;
-    u8 *r_zd_9;
-    u8 *r_lk_4;
-    u8 *r_89_4;
-    u8 *r_a8_4;
-    u8 *r_c4_7;
-    u8 *r_bk_2;
-    u8 *r_6c_3;
-    u8 *r_x5_15;
-    u8 *r_k0_5;
-    u8 *r_zd_10;
-    u8 t_0c_4;
-    u8 r_2p_4;
-    u8 *r_o8_7;
-    u64 r_0f_11;
+    u8 t_q5;
+    u8 *r_x5_2;
+    u8 *r_k0_1;
+    u8 *r_zd_2;
+    u8 *r_ix;
+    u8 *r_x5_3;
+    u8 *r_zd_3;
+    u8 *r_lk_1;
+    u8 *r_89_1;
+    u8 *r_a8_1;
+    u8 *r_c4_4;
+    u8 *r_bk;
+    u8 *r_6c_1;
+    u8 *r_x5_4;
+    u8 *r_k0_2;
+    u8 *r_zd_4;
+    u8 t_0c;
+    u8 r_2p;
+    u8 *r_o8;
+    u64 r_0f_4;
     u8 *r_2g_4;
-    u8 *r_h6_3;
-    u8 *r_x5_16;
-    u8 *r_k0_6;
-    u8 *r_zd_11;
-    u8 *r_ix_4;
-    u8 *t_6c_2;
-    u8 *t_6c_3;
+    u8 *r_h6;
+    u8 *r_x5_5;
+    u8 *r_k0_3;
+    u8 *r_zd_5;
+    u8 *r_ix_1;
+    u8 *t_6c;
+    u8 *t_6c_1;
     u64 indvars_eg;
-    u32 r_sr_3;
-    u64 r_24_28;
-    u64 r_qw_12;
-    u64 switch_f9_3;
-    u64 r_ep_5;
+    u32 r_sr;
+    u64 r_24_3;
+    u64 r_qw_5;
+    u64 switch_f9;
+    u64 r_ep_3;
     u64 r_ij_1;
     u64 r_c6_5;
-    u64 r_lc_11;
+    u64 r_lc_4;
     u64 r_gk;
-    u64 r_52_11;
-    u64 r_z6_31;
+    u64 r_52_6;
+    u64 r_z6_2;
     u8 *r_8a;
     u64 r_se_1;
-    u32 r_12_4;
+    u32 r_12_3;
     u32 r_yf_6;
     u8 r_kw_3;
     u32 r_re_3;
@@ -11278,13 +11353,13 @@ static NEVER void capnp_copies_copy_copy_object_f743e1513b93edc7(u8 *a_1, u8 *a_
     u32 r_x9;
     u64 r_4i_1;
     u64 r_y6_2;
-    u64 r_q7_2;
-    u64 r_lc_15;
-    u64 r_lc_16;
+    u64 r_q7_1;
+    u64 r_lc_6;
+    u64 r_lc_7;
     u64 r_jm;
-    u32 r_4r_5;
-    u8 r_8u_7;
-    u64 r_52_14;
+    u32 r_4r_1;
+    u8 r_8u;
+    u64 r_52_7;
     u32 r_5b;
     u64 r_kx;
     u64 r_21;
@@ -11294,14 +11369,14 @@ static NEVER void capnp_copies_copy_copy_object_f743e1513b93edc7(u8 *a_1, u8 *a_
     struct s_i8_i32 r_sv;
     u32 r_fj;
     u32 sink_il;
-    u8 r_2b_13;
+    u8 r_2b_2;
     u8 r_qh;
     u32 r_ip;
     u64 r_wq;
     u8 r_t8_2;
     u8 r_t8_1;
     u32 r_hg_1;
-    u64 r_lc_12;
+    u64 r_lc_5;
     u64 t_pz;
     u32 t_fy;
     u8 r_1l;
@@ -11315,138 +11390,138 @@ static NEVER void capnp_copies_copy_copy_object_f743e1513b93edc7(u8 *a_1, u8 *a_
     u64 r_mm;
     u32 r_yf_10;
     u32 r_e3_5;
-    u32 r_ll_7;
-    u64 r_z6_36;
+    u32 r_ll_2;
+    u64 r_z6_3;
     u64 r_59;
-    u64 r_ni_5;
+    u64 r_ni;
     u32 r_zf;
     u32 r_21_1;
-    u64 r_c0_13;
+    u64 r_c0_4;
     u64 r_u7;
-    u64 r_a7_23;
-    u32 r_ll_8;
+    u64 r_a7;
+    u32 r_ll_3;
     u32 r_68_4;
-    u64 r_z6_40;
-    u8 r_hi_1;
-    u8 *r_r2_11;
-    u8 r_2p_10;
-    u8 r_u6_1;
+    u64 r_z6_5;
+    u8 r_hi;
+    u8 *r_r2_2;
+    u8 r_2p_1;
+    u8 r_u6;
     u8 r_vw;
-    u8 r_bh_3;
+    u8 r_bh_2;
     u64 r_8f_2;
     u64 r_la_2;
-    u64 r_bh_4;
-    u8 r_hi_2;
-    u64 r_gw_12;
-    u8 *r_x5_19;
-    u8 *r_zd_13;
-    u8 *r_lk_5;
-    u8 *r_89_5;
-    u8 *r_a8_5;
-    u8 *r_c4_10;
-    u8 *r_6c_4;
-    u8 *r_08_4;
-    u64 r_nb_8;
+    u64 r_bh_3;
+    u8 r_hi_1;
+    u64 r_gw_3;
+    u8 *r_x5_6;
+    u8 *r_zd_6;
+    u8 *r_lk_2;
+    u8 *r_89_2;
+    u8 *r_a8_2;
+    u8 *r_c4_5;
+    u8 *r_6c_2;
+    u8 *r_08_2;
+    u64 r_nb_2;
     u8 r_sg_1;
-    u8 *r_rq_9;
-    u8 *r_x5_20;
-    u8 *r_k0_8;
-    u8 *r_zd_14;
+    u8 *r_rq_7;
+    u8 *r_x5_7;
+    u8 *r_k0_4;
+    u8 *r_zd_7;
     u32 r_s1_1;
-    u8 t_q5_2;
-    u8 *r_o8_13;
-    u64 r_24_44;
-    u64 r_0f_18;
+    u8 t_q5_1;
+    u8 *r_o8_1;
+    u64 r_24_6;
+    u64 r_0f_6;
     u8 *r_2g_6;
-    u8 *r_h6_5;
-    u8 *r_x5_21;
-    u8 *r_k0_9;
-    u8 *r_zd_15;
-    u8 *r_ix_6;
-    u8 *r_x5_22;
-    u8 *r_zd_16;
-    u8 *r_lk_6;
-    u8 *r_89_6;
-    u8 *r_a8_6;
-    u8 *r_c4_11;
-    u8 *r_bk_3;
-    u8 *r_6c_5;
-    u8 *r_x5_23;
-    u8 *r_k0_10;
-    u8 *r_zd_17;
-    u8 t_0c_8;
-    u8 *r_x5_24;
-    u8 *r_k0_11;
-    u8 *r_zd_18;
-    u8 *r_ix_7;
+    u8 *r_h6_1;
+    u8 *r_x5_8;
+    u8 *r_k0_5;
+    u8 *r_zd_8;
+    u8 *r_ix_2;
+    u8 *r_x5_9;
+    u8 *r_zd_9;
+    u8 *r_lk_3;
+    u8 *r_89_3;
+    u8 *r_a8_3;
+    u8 *r_c4_6;
+    u8 *r_bk_1;
+    u8 *r_6c_3;
+    u8 *r_x5_10;
+    u8 *r_k0_6;
+    u8 *r_zd_10;
+    u8 t_0c_1;
+    u8 *r_x5_11;
+    u8 *r_k0_7;
+    u8 *r_zd_11;
+    u8 *r_ix_3;
     u64 wide_u7;
-    u64 r_24_45;
-    u8 *t_6c_4;
+    u64 r_24_7;
+    u8 *t_6c_2;
     u64 indvars_ff;
-    u32 r_w0_11;
-    u32 r_w0_12;
-    u8 *r_c0_14;
+    u32 r_w0;
+    u32 r_w0_1;
+    u8 *r_c0_5;
     u8 *r_rw;
-    u8 *r_2b_18;
+    u8 *r_2b_3;
     u64 r_il_2;
-    u32 r_w0_13;
-    u32 r_w0_14;
+    u32 r_w0_2;
+    u32 r_w0_3;
     u64 indvars_vm;
-    u32 r_sr_8;
-    u64 r_24_48;
-    u64 r_qw_14;
-    u64 switch_f9_4;
-    u64 r_ep_6;
+    u32 r_sr_1;
+    u64 r_24_8;
+    u64 r_qw_6;
+    u64 switch_f9_1;
+    u64 r_ep_4;
     u64 r_ij_2;
-    u64 r_1q_4;
+    u64 r_1q_2;
     u64 r_c6_6;
-    u64 r_lc_20;
+    u64 r_lc_8;
     u64 r_gk_1;
-    u64 r_52_17;
-    u64 r_z6_44;
+    u64 r_52_8;
+    u64 r_z6_6;
     u8 *r_8a_1;
     u64 r_se_2;
-    u32 r_12_5;
+    u32 r_12_4;
     u32 r_yf_11;
     struct s_i8_i32 r_39_5;
     u32 r_yf_12;
     u32 r_e3_6;
-    u32 r_ll_9;
-    u64 r_6f_4;
+    u32 r_ll_4;
+    u64 r_6f;
     u64 r_59_1;
-    u64 r_ni_6;
+    u64 r_ni_1;
     u32 r_7u_2;
     u32 r_x9_1;
-    u64 r_1q_6;
+    u64 r_1q_3;
     u8 *r_u9;
-    u8 *r_2b_23;
+    u8 *r_2b_5;
     u64 r_il_3;
     u64 r_4i_2;
-    u32 r_w0_16;
-    u64 r_a5_2;
+    u32 r_w0_4;
+    u64 r_a5;
     u64 r_y6_3;
-    u64 r_q7_3;
-    u64 r_lc_23;
-    u64 r_lc_24;
+    u64 r_q7_2;
+    u64 r_lc_9;
+    u64 r_lc_10;
     u64 r_jm_1;
-    u32 r_4r_6;
-    u8 r_8u_9;
-    u64 r_52_20;
+    u32 r_4r_2;
+    u8 r_8u_1;
+    u64 r_52_9;
     u32 r_5b_1;
-    u64 r_lc_26;
-    u64 r_z6_50;
-    u8 *r_c0_16;
+    u64 r_lc_11;
+    u64 r_z6_8;
+    u8 *r_c0_6;
+    u64 r_nm_5;
     u64 r_nm_6;
-    u64 r_nm_7;
     u64 r_ev_1;
-    u64 r_z6_53;
-    u8 *r_c0_17;
+    u64 r_z6_9;
+    u8 *r_c0_7;
+    u64 r_nm_7;
     u64 r_nm_8;
-    u64 r_nm_9;
-    u64 r_mz_7;
+    u64 r_mz;
     u64 r_3h;
-    u16 r_xg_3;
-    u32 r_29_2;
+    u16 r_xg_2;
+    u32 r_29_1;
     u32 r_az_4;
     u32 r_68_5;
     u64 r_ro_1;
@@ -11455,22 +11530,22 @@ static NEVER void capnp_copies_copy_copy_object_f743e1513b93edc7(u8 *a_1, u8 *a_
     u32 r_re_5;
     struct s_i8_i32 r_jz_4;
     u32 r_xo_7;
-    u64 r_a7_43;
+    u64 r_a7_1;
     u64 r_nu_1;
-    u32 r_wt_6;
-    u64 r_ep_7;
-    u32 r_4r_7;
-    u64 r_0l_2;
-    u8 *r_c0_18;
+    u32 r_wt_1;
+    u64 r_ep_5;
+    u32 r_4r_3;
+    u64 r_0l_1;
+    u8 *r_c0_8;
     u8 *r_al_1;
-    u8 *r_2b_33;
+    u8 *r_2b_7;
     u64 r_il_4;
-    u8 r_2b_34;
+    u8 r_2b_8;
     u8 r_qh_2;
     u32 r_ip_2;
     u64 r_wq_1;
-    u8 r_2b_26;
-    u8 r_2b_19;
+    u8 r_2b_6;
+    u8 r_2b_4;
     u32 r_qh_1;
     u64 r_ip_1;
     u64 t_ko;
@@ -11481,7 +11556,7 @@ static NEVER void capnp_copies_copy_copy_object_f743e1513b93edc7(u8 *a_1, u8 *a_
     u8 r_hg_2;
     u32 r_je;
     u64 r_s2;
-    u8 r_5k_2;
+    u8 r_5k_1;
     u8 r_qp;
     u32 r_7u;
     u64 r_pz;
@@ -11495,15 +11570,15 @@ static NEVER void capnp_copies_copy_copy_object_f743e1513b93edc7(u8 *a_1, u8 *a_
     r_5k = ld32(away(a_5, 56ull));
     r_24 = (u64)ld32(away(a_5, 48ull));
     r_gw = (u64)(r_qw_2 >> 3ull);
-    if (!(r_gw > r_24)) { r_5k_2 = 0u; r_qp = 0u; r_7u = 0u; r_pz = 0ull; goto l_join_1g; }
+    if (!(r_gw > r_24)) { r_5k_1 = 0u; r_qp = 0u; r_7u = 0u; r_pz = 0ull; goto l_join_1g; }
     r_qw_3 = ld64(away(r_rv_1, (u64)(r_24 << 3ull)));
-    if (r_qw_3 == 0ull) { r_5k_2 = 0u; r_qp = 0u; r_7u = 0u; r_pz = 0ull; goto l_join_1g; }
+    if (r_qw_3 == 0ull) { r_5k_1 = 0u; r_qp = 0u; r_7u = 0u; r_pz = 0ull; goto l_join_1g; }
     t_al = (u64)(uptr)r_rv_1;
     memset(slot_1, 0u, 56);
     t_pa = (r_dh != 0u);
     if (t_pa) goto l_capnp_sm;
-    u8 *r_08_1 = away(a_6, 16ull);
-    st64(r_08_1, uadd_sat64(ld64(r_08_1), 1ull));
+    u8 *r_08 = away(a_6, 16ull);
+    st64(r_08, uadd_sat64(ld64(r_08), 1ull));
     if ((r_qw_3 & 3ull) == 2ull) goto l_capnp_bt;
     goto l_join_bd;
 l_capnp_sm:;
@@ -11532,11 +11607,11 @@ l_capnp_i5:;
     goto l_arm_wn;
 l_capnp_bt:;
     capnp_objects_source_follow_far_5ccc1be374b2e488(slot_1, r_rv, r_qw_3, a_6);
-    u64 r_38_1 = ld64((slot_1 + 16));
-    u64 r_38_2 = ld64((slot_1 + 8));
-    if (ld8(slot_1) == 0u) { r_gx = ld32((slot_1 + 40)); r_qd = r_38_1; r_d4 = r_38_2; r_9h = ld64((slot_1 + 32)); r_27 = ld64((slot_1 + 24)); goto l_arm_wn; }
-    r_jg = r_38_1;
-    r_6e = r_38_2;
+    u64 r_38 = ld64((slot_1 + 16));
+    u64 r_38_1 = ld64((slot_1 + 8));
+    if (ld8(slot_1) == 0u) { r_gx = ld32((slot_1 + 40)); r_qd = r_38; r_d4 = r_38_1; r_9h = ld64((slot_1 + 32)); r_27 = ld64((slot_1 + 24)); goto l_arm_wn; }
+    r_jg = r_38;
+    r_6e = r_38_1;
     goto l_capnp_qu;
 l_arm_wn:;
     switch ((u8)((u8)r_d4 & 3u)) {
@@ -11554,11 +11629,11 @@ l_arm_sz:;
     if (((u64)(r_9h >> 3ull) & 0xffffffffull) < (r_lc_1 + (u64)r_gx)) { r_10 = 1u; r_kb = 23u; r_n4 = 0u; r_yp = 0ull; goto l_common_9c; }
     if (t_pa) goto l_arm_gk;
     if (!(ld8(a_6) == 1u)) goto l_arm_gk;
-    r_rq_1 = away(a_6, 8ull);
-    r_52_1 = ld64(r_rq_1);
-    if (r_52_1 < r_lc_1) { r_10 = 1u; r_kb = 30u; r_n4 = 0u; r_yp = 0ull; goto l_common_9c; }
+    r_rq = away(a_6, 8ull);
+    r_52 = ld64(r_rq);
+    if (r_52 < r_lc_1) { r_10 = 1u; r_kb = 30u; r_n4 = 0u; r_yp = 0ull; goto l_common_9c; }
     st64(a_6, 1ull);
-    st64(r_rq_1, (r_52_1 - r_lc_1));
+    st64(r_rq, (r_52 - r_lc_1));
 l_arm_gk:;
     r_az = ((u32)r_ep & 65535u);
     t_f6 = ((u8 *)(uptr)r_27);
@@ -11581,20 +11656,20 @@ l_arm_z2:;
     }
 l_arm_gv:;
     if ((i32)r_5k < (i32)1u) { r_10 = 1u; r_kb = 26u; r_n4 = 0u; r_yp = 0ull; goto l_common_9c; }
-    r_c4_1 = (r_ij + 1ull);
-    r_24_2 = (u64)r_gx;
-    r_gw_2 = (u64)(r_9h >> 3ull);
-    if ((r_gw_2 & 0xffffffffull) < (r_c4_1 + r_24_2)) { r_10 = 1u; r_kb = 23u; r_n4 = 0u; r_yp = 0ull; goto l_common_9c; }
+    r_c4 = (r_ij + 1ull);
+    r_24_1 = (u64)r_gx;
+    r_gw_1 = (u64)(r_9h >> 3ull);
+    if ((r_gw_1 & 0xffffffffull) < (r_c4 + r_24_1)) { r_10 = 1u; r_kb = 23u; r_n4 = 0u; r_yp = 0ull; goto l_common_9c; }
     if (t_pa) goto l_arm_ga;
     if (!(ld8(a_6) == 1u)) goto l_arm_ga;
-    r_rq_2 = away(a_6, 8ull);
-    r_52_2 = ld64(r_rq_2);
-    if (!(r_52_2 > r_ij)) { r_10 = 1u; r_kb = 30u; r_n4 = 0u; r_yp = 0ull; goto l_common_9c; }
+    r_rq_1 = away(a_6, 8ull);
+    r_52_1 = ld64(r_rq_1);
+    if (!(r_52_1 > r_ij)) { r_10 = 1u; r_kb = 30u; r_n4 = 0u; r_yp = 0ull; goto l_common_9c; }
     st64(a_6, 1ull);
-    st64(r_rq_2, (r_52_2 - r_c4_1));
+    st64(r_rq_1, (r_52_1 - r_c4));
 l_arm_ga:;
-    if (!(r_gw_2 > r_24_2)) { r_eh = 0ull; goto l_join_qm; }
-    u64 r_qw_4 = ld64(away(((u8 *)(uptr)r_27), (u64)(r_24_2 << 3ull)));
+    if (!(r_gw_1 > r_24_1)) { r_eh = 0ull; goto l_join_qm; }
+    u64 r_qw_4 = ld64(away(((u8 *)(uptr)r_27), (u64)(r_24_1 << 3ull)));
     if ((r_qw_4 & 3ull) == 0ull) { r_eh = r_qw_4; goto l_join_qm; }
     r_10 = 1u;
     r_kb = 11u;
@@ -11603,35 +11678,35 @@ l_arm_ga:;
     goto l_common_9c;
 l_join_qm:;
     t_c8 = (u32)((u32)r_eh >> 2u);
-    r_ep_2 = (u64)(r_eh >> 32ull);
+    r_ep_1 = (u64)(r_eh >> 32ull);
     r_y6_1 = (u64)(r_eh >> 48ull);
     r_12 = (u32)r_y6_1;
-    r_az_1 = ((u32)r_ep_2 & 65535u);
+    r_az_1 = ((u32)r_ep_1 & 65535u);
     r_68 = (r_az_1 + r_12);
-    r_c0_1 = (u64)t_c8;
-    if (r_ij < ((u64)r_68 * r_c0_1)) { r_10 = 1u; r_kb = 10u; r_n4 = 0u; r_yp = 0ull; goto l_common_9c; }
+    r_c0 = (u64)t_c8;
+    if (r_ij < ((u64)r_68 * r_c0)) { r_10 = 1u; r_kb = 10u; r_n4 = 0u; r_yp = 0ull; goto l_common_9c; }
     if ((u8)((u8)t_pa | (u8)(r_68 != 0u))) goto l_arm_ae;
     if (!(ld8(a_6) == 1u)) goto l_arm_ae;
-    r_rq_3 = away(a_6, 8ull);
-    r_52_3 = ld64(r_rq_3);
-    if (r_52_3 < r_c0_1) { r_10 = 1u; r_kb = 30u; r_n4 = 0u; r_yp = 0ull; goto l_common_9c; }
+    r_rq_2 = away(a_6, 8ull);
+    r_52_2 = ld64(r_rq_2);
+    if (r_52_2 < r_c0) { r_10 = 1u; r_kb = 30u; r_n4 = 0u; r_yp = 0ull; goto l_common_9c; }
     st64(a_6, 1ull);
-    st64(r_rq_3, (r_52_3 - r_c0_1));
+    st64(r_rq_2, (r_52_2 - r_c0));
 l_arm_ae:;
     r_ll = (r_gx + 1u);
-    t_f6_2 = ((u8 *)(uptr)r_27);
+    t_f6_1 = ((u8 *)(uptr)r_27);
     r_4w_1 = (r_5k + 0xffffffffu);
     st64((slot_5 + 56), 0ull);
     st64(slot_5, r_eg);
     stp((slot_5 + 8), r_rv);
     st64((slot_5 + 16), r_qw);
     st64((slot_5 + 24), r_qd);
-    stp((slot_5 + 32), t_f6_2);
+    stp((slot_5 + 32), t_f6_1);
     st64((slot_5 + 40), r_9h);
     st32((slot_5 + 48), r_ll);
     st32((slot_5 + 52), 0u);
     st32((slot_5 + 56), r_4w_1);
-    struct s_i16_i16 r_3y = capnp_copies_copy_lists_kept_widths_5ccc1be374b2e488(slot_5, (u16)r_ep_2, (u16)r_y6_1, t_c8, a_7);
+    struct s_i16_i16 r_3y = capnp_copies_copy_lists_kept_widths_5ccc1be374b2e488(slot_5, (u16)r_ep_1, (u16)r_y6_1, t_c8, a_7);
     r_u2 = r_3y.f0;
     r_ka = r_3y.f1;
     r_00 = (u32)r_u2;
@@ -11647,11 +11722,11 @@ l_arm_lc:;
     if (((u64)(r_9h >> 3ull) & 0xffffffffull) < (r_ij + (u64)r_gx)) { r_10 = 1u; r_kb = 23u; r_n4 = 0u; r_yp = 0ull; goto l_common_9c; }
     if (t_pa) goto l_arm_kb;
     if (!(ld8(a_6) == 1u)) goto l_arm_kb;
-    r_rq_4 = away(a_6, 8ull);
-    r_52_4 = ld64(r_rq_4);
-    if (r_52_4 < r_ij) { r_10 = 1u; r_kb = 30u; r_n4 = 0u; r_yp = 0ull; goto l_common_9c; }
+    r_rq_3 = away(a_6, 8ull);
+    r_52_3 = ld64(r_rq_3);
+    if (r_52_3 < r_ij) { r_10 = 1u; r_kb = 30u; r_n4 = 0u; r_yp = 0ull; goto l_common_9c; }
     st64(a_6, 1ull);
-    st64(r_rq_4, (r_52_4 - r_ij));
+    st64(r_rq_3, (r_52_3 - r_ij));
     goto l_arm_kb;
 l_arm_gv_1:;
     if ((i32)r_5k < (i32)1u) { r_10 = 1u; r_kb = 26u; r_n4 = 0u; r_yp = 0ull; goto l_common_9c; }
@@ -11659,10 +11734,10 @@ l_arm_gv_1:;
     if (t_pa) goto l_arm_kb_1;
     if (!(ld8(a_6) == 1u)) goto l_arm_kb_1;
     st64(a_6, 1ull);
-    r_rq_5 = away(a_6, 8ull);
-    r_52_5 = ld64(r_rq_5);
-    if (r_52_5 < r_ij) { r_10 = 1u; r_kb = 30u; r_n4 = 0u; r_yp = 0ull; goto l_common_9c; }
-    st64(r_rq_5, (r_52_5 - r_ij));
+    r_rq_4 = away(a_6, 8ull);
+    r_52_4 = ld64(r_rq_4);
+    if (r_52_4 < r_ij) { r_10 = 1u; r_kb = 30u; r_n4 = 0u; r_yp = 0ull; goto l_common_9c; }
+    st64(r_rq_4, (r_52_4 - r_ij));
     goto l_arm_kb_1;
 l_arm_h9_3:;
     r_v1 = 8ull;
@@ -11681,11 +11756,11 @@ l_capnp_gv:;
     if (((u64)(r_9h >> 3ull) & 0xffffffffull) < (r_c6 + (u64)r_gx)) { r_10 = 1u; r_kb = 23u; r_n4 = 0u; r_yp = 0ull; goto l_common_9c; }
     if (t_pa) goto l_arm_gk_1;
     if (!(ld8(a_6) == 1u)) goto l_arm_gk_1;
-    r_rq_6 = away(a_6, 8ull);
-    r_52_6 = ld64(r_rq_6);
-    if (r_52_6 < r_c6) { r_10 = 1u; r_kb = 30u; r_n4 = 0u; r_yp = 0ull; goto l_common_9c; }
+    r_rq_5 = away(a_6, 8ull);
+    r_52_5 = ld64(r_rq_5);
+    if (r_52_5 < r_c6) { r_10 = 1u; r_kb = 30u; r_n4 = 0u; r_yp = 0ull; goto l_common_9c; }
     st64(a_6, 1ull);
-    st64(r_rq_6, (r_52_6 - r_c6));
+    st64(r_rq_5, (r_52_5 - r_c6));
     goto l_arm_gk_1;
 l_default_e1:;
     UNREACHABLE();
@@ -11707,7 +11782,7 @@ l_capnp_a6:;
     r_yp = 0ull;
     goto l_common_9c;
 l_arm_kb:;
-    t_f6_3 = ((u8 *)(uptr)r_27);
+    t_f6_2 = ((u8 *)(uptr)r_27);
     r_4w_2 = (r_5k + 0xffffffffu);
     r_sz_1 = (a_3 == 0u);
     if (r_sz_1) goto l_then_um;
@@ -11715,7 +11790,7 @@ l_arm_kb:;
 l_arm_gt:;
     switch (a_7) {
     case 0u: goto l_arm_n7;
-    case 1u: { r_5k_2 = a_7; r_qp = a_7; r_7u = 0u; r_pz = 0ull; goto l_join_1g; }
+    case 1u: { r_5k_1 = a_7; r_qp = a_7; r_7u = 0u; r_pz = 0ull; goto l_join_1g; }
     case 2u: goto l_arm_qu;
     default: goto l_noarm_e1;
     }
@@ -11728,20 +11803,20 @@ l_common_9c:;
 l_arm_n7:;
     if (!(a_3 == 0u)) goto l_else_w1_2;
     st64(away(ldp(away(a_2, 56ull)), (u64)((u64)a_4 << 3ull)), r_d4);
-    r_5k_2 = 0u;
+    r_5k_1 = 0u;
     r_qp = 0u;
     r_7u = 0u;
     r_pz = 0ull;
     goto l_join_1g;
 l_else_w1_2:;
     capnp_arena_arena_rows_put_word_in_96bc33dd2dacd45a(ldp(away(a_2, 88ull)), ((u64)a_3 + 0xffffffffffffffffull), a_4, r_d4);
-    r_5k_2 = 0u;
+    r_5k_1 = 0u;
     r_qp = 0u;
     r_7u = 0u;
     r_pz = 0ull;
     goto l_join_1g;
 l_arm_qu:;
-    r_5k_2 = 1u;
+    r_5k_1 = 1u;
     r_qp = 34u;
     r_7u = 0u;
     r_pz = 0ull;
@@ -11749,77 +11824,77 @@ l_arm_qu:;
 l_noarm_e1:;
     UNREACHABLE();
 l_arm_e4:;
-    u64 r_24_6 = (u64)r_gx;
-    r_q7_1 = (r_ep & 65535ull);
-    r_lc_6 = (r_q7_1 + r_24_6);
-    r_z6_3 = (u64)(r_q7_1 << 3ull);
-    r_c0_2 = away(t_f6, (u64)(r_24_6 << 3ull));
-    if (r_az < 32u) { r_nm = r_q7_1; goto l_loop_jc; }
+    u64 r_24_2 = (u64)r_gx;
+    r_q7 = (r_ep & 65535ull);
+    r_lc_2 = (r_q7 + r_24_2);
+    r_z6 = (u64)(r_q7 << 3ull);
+    r_c0_1 = away(t_f6, (u64)(r_24_2 << 3ull));
+    if (r_az < 32u) { r_nm = r_q7; goto l_loop_jc; }
     goto l_else_wj;
 l_loop_jc:;
     if (r_nm == 0ull) { r_ev = 0ull; goto l_capnp_fc; }
-    u64 r_0f_1 = (r_nm + 0xffffffffffffffffull);
-    if (ld64(away(r_c0_2, (u64)(r_0f_1 << 3ull))) == 0ull) { r_nm = r_0f_1; goto l_loop_jc; }
+    u64 r_0f = (r_nm + 0xffffffffffffffffull);
+    if (ld64(away(r_c0_1, (u64)(r_0f << 3ull))) == 0ull) { r_nm = r_0f; goto l_loop_jc; }
     r_ev = r_nm;
     goto l_capnp_fc;
 l_else_wj:;
-    if (!(ld64(away(away(r_c0_2, r_z6_3), 0xfffffffffffffff8ull)) == 0ull)) { r_ev = r_q7_1; goto l_capnp_fc; }
-    u64 r_g1 = capnp_words_lanes_used_words_bound(r_c0_2, r_z6_3);
+    if (!(ld64(away(away(r_c0_1, r_z6), 0xfffffffffffffff8ull)) == 0ull)) { r_ev = r_q7; goto l_capnp_fc; }
+    u64 r_g1 = capnp_words_lanes_used_words_bound(r_c0_1, r_z6);
     r_nm_1 = r_g1;
 l_loop_jc_1:;
     if (r_nm_1 == 0ull) { r_ev = 0ull; goto l_capnp_fc; }
-    u64 r_0f_2 = (r_nm_1 + 0xffffffffffffffffull);
-    if (ld64(away(r_c0_2, (u64)(r_0f_2 << 3ull))) == 0ull) { r_nm_1 = r_0f_2; goto l_loop_jc_1; }
+    u64 r_0f_1 = (r_nm_1 + 0xffffffffffffffffull);
+    if (ld64(away(r_c0_1, (u64)(r_0f_1 << 3ull))) == 0ull) { r_nm_1 = r_0f_1; goto l_loop_jc_1; }
     r_ev = r_nm_1;
 l_capnp_fc:;
-    r_z6_6 = (u64)(r_y6 << 3ull);
-    r_c0_3 = away(t_f6, (u64)(r_lc_6 << 3ull));
+    r_z6_1 = (u64)(r_y6 << 3ull);
+    r_c0_2 = away(t_f6, (u64)(r_lc_2 << 3ull));
     if (r_d4 < 0x20000000000000ull) { r_nm_2 = r_y6; goto l_loop_jc_2; }
     goto l_else_wj_1;
 l_loop_jc_2:;
-    if (r_nm_2 == 0ull) { r_e9_6 = 0ull; goto l_capnp_dt; }
-    u64 r_0f_3 = (r_nm_2 + 0xffffffffffffffffull);
-    if (ld64(away(r_c0_3, (u64)(r_0f_3 << 3ull))) == 0ull) { r_nm_2 = r_0f_3; goto l_loop_jc_2; }
-    r_e9_6 = r_nm_2;
+    if (r_nm_2 == 0ull) { r_e9 = 0ull; goto l_capnp_dt; }
+    u64 r_0f_2 = (r_nm_2 + 0xffffffffffffffffull);
+    if (ld64(away(r_c0_2, (u64)(r_0f_2 << 3ull))) == 0ull) { r_nm_2 = r_0f_2; goto l_loop_jc_2; }
+    r_e9 = r_nm_2;
     goto l_capnp_dt;
 l_else_wj_1:;
-    if (!(ld64(away(away(r_c0_3, r_z6_6), 0xfffffffffffffff8ull)) == 0ull)) { r_e9_6 = r_y6; goto l_capnp_dt; }
-    u64 r_g1_1 = capnp_words_lanes_used_words_bound(r_c0_3, r_z6_6);
+    if (!(ld64(away(away(r_c0_2, r_z6_1), 0xfffffffffffffff8ull)) == 0ull)) { r_e9 = r_y6; goto l_capnp_dt; }
+    u64 r_g1_1 = capnp_words_lanes_used_words_bound(r_c0_2, r_z6_1);
     r_nm_3 = r_g1_1;
 l_loop_jc_3:;
-    if (r_nm_3 == 0ull) { r_e9_6 = 0ull; goto l_capnp_dt; }
-    u64 r_0f_4 = (r_nm_3 + 0xffffffffffffffffull);
-    if (ld64(away(r_c0_3, (u64)(r_0f_4 << 3ull))) == 0ull) { r_nm_3 = r_0f_4; goto l_loop_jc_3; }
-    r_e9_6 = r_nm_3;
+    if (r_nm_3 == 0ull) { r_e9 = 0ull; goto l_capnp_dt; }
+    u64 r_0f_3 = (r_nm_3 + 0xffffffffffffffffull);
+    if (ld64(away(r_c0_2, (u64)(r_0f_3 << 3ull))) == 0ull) { r_nm_3 = r_0f_3; goto l_loop_jc_3; }
+    r_e9 = r_nm_3;
 l_capnp_dt:;
     r_ag = r_ev;
-    r_ib = ((u32)r_e9_6 & 65535u);
+    r_ib = ((u32)r_e9 & 65535u);
     goto l_capnp_ed;
 l_arm_ps:;
     r_ag = r_ep;
     r_ib = (u32)r_y6;
 l_capnp_ed:;
-    r_xg_1 = (u16)r_ag;
+    r_xg = (u16)r_ag;
     r_29 = ((u32)r_ag & 65535u);
     r_68_2 = (r_ib + r_29);
-    r_sz_3 = (a_3 == 0u);
+    r_sz_2 = (a_3 == 0u);
     if (!(r_68_2 == 0u)) goto l_join_lx;
-    if (!r_sz_3) goto l_else_w1_3;
-    u64 r_7l_2 = (u64)a_4;
-    st64(away(ldp(away(a_2, 56ull)), (u64)(r_7l_2 << 3ull)), 0xfffffffcull);
+    if (!r_sz_2) goto l_else_w1_3;
+    u64 r_7l = (u64)a_4;
+    st64(away(ldp(away(a_2, 56ull)), (u64)(r_7l << 3ull)), 0xfffffffcull);
     r_ro = 0ull;
-    r_xg_2 = r_7l_2;
+    r_xg_1 = r_7l;
     goto l_capnp_sg;
 l_else_w1_3:;
-    u64 r_7l_3 = (u64)a_3;
-    capnp_arena_arena_rows_put_word_in_96bc33dd2dacd45a(ldp(away(a_2, 88ull)), (r_7l_3 + 0xffffffffffffffffull), a_4, 0xfffffffcull);
-    r_ro = r_7l_3;
-    r_xg_2 = (u64)a_4;
+    u64 r_7l_1 = (u64)a_3;
+    capnp_arena_arena_rows_put_word_in_96bc33dd2dacd45a(ldp(away(a_2, 88ull)), (r_7l_1 + 0xffffffffffffffffull), a_4, 0xfffffffcull);
+    r_ro = r_7l_1;
+    r_xg_1 = (u64)a_4;
 l_capnp_sg:;
-    r_nu = ((u64)(r_xg_2 << 32ull) | r_ro);
+    r_nu = ((u64)(r_xg_1 << 32ull) | r_ro);
     goto l_arm_zo;
 l_join_lx:;
-    if (!r_sz_3) goto l_else_w1_4;
+    if (!r_sz_2) goto l_else_w1_4;
     r_2g_1 = away(a_2, 72ull);
     r_yf = ld32(r_2g_1);
     if (((u64)r_yf + (u64)r_68_2) > (u64)(ld64(away(a_2, 64ull)) >> 3ull)) { r_kw = 0u; r_re = 0u; goto l_join_ax; }
@@ -11851,50 +11926,50 @@ l_arm_4u:;
     capnp_arena_arena_builder_arena_impl_BuilderArenaImplB_baa973df(a_2, a_3, a_4, (((u64)((u64)r_yf_1 << 32ull) | (u64)((u64)r_e3 << 3ull)) | 2ull));
     r_nu = ((u64)((u64)(r_e3 + 1u) << 32ull) | (u64)r_yf_1);
 l_arm_zo:;
-    r_wt_2 = (u32)r_nu;
-    r_ep_4 = (u64)(r_nu >> 32ull);
-    r_4r_4 = (u32)r_ep_4;
+    r_wt = (u32)r_nu;
+    r_ep_2 = (u64)(r_nu >> 32ull);
+    r_4r = (u32)r_ep_2;
     r_0l = ((u64)(r_ag << 3ull) & 0x7fff8ull);
-    r_c0_4 = away(t_f6, (u64)((u64)r_gx << 3ull));
-    if (r_xg_1 == 0u) goto l_capnp_am;
-    r_r2_3 = away(a_2, 56ull);
-    if (!(r_wt_2 == 0u)) goto l_else_az;
-    r_al = ldp(r_r2_3);
+    r_c0_3 = away(t_f6, (u64)((u64)r_gx << 3ull));
+    if (r_xg == 0u) goto l_capnp_am;
+    r_r2 = away(a_2, 56ull);
+    if (!(r_wt == 0u)) goto l_else_az;
+    r_al = ldp(r_r2);
     goto l_capnp_kr;
 l_else_az:;
-    u8 *r_6s_1 = capnp_arena_arena_rows_Rows_other_mut_96bc33dd2dacd45a(r_r2_3, r_wt_2);
-    r_al = r_6s_1;
+    u8 *r_6s = capnp_arena_arena_rows_Rows_other_mut_96bc33dd2dacd45a(r_r2, r_wt);
+    r_al = r_6s;
 l_capnp_kr:;
-    r_2b_7 = away(r_al, (u64)(r_ep_4 << 3ull));
-    if (!(r_xg_1 < 8u)) goto l_else_r3;
-    if (!(r_xg_1 > 3u)) goto l_else_1o;
-    mv32(r_2b_7, r_c0_4);
+    r_2b = away(r_al, (u64)(r_ep_2 << 3ull));
+    if (!(r_xg < 8u)) goto l_else_r3;
+    if (!(r_xg > 3u)) goto l_else_1o;
+    mv32(r_2b, r_c0_3);
     u64 r_bh = (r_0l + 0xffffffffffffffe0ull);
-    mv32((r_2b_7 + (i64)(r_bh)), (r_c0_4 + (i64)(r_bh)));
+    mv32((r_2b + (i64)(r_bh)), (r_c0_3 + (i64)(r_bh)));
     goto l_capnp_am;
 l_else_1o:;
-    if (r_xg_1 == 1u) goto l_then_49;
-    mv16(r_2b_7, r_c0_4);
+    if (r_xg == 1u) goto l_then_49;
+    mv16(r_2b, r_c0_3);
     u64 r_8f = (r_0l + 0xfffffffffffffff0ull);
-    mv16((r_2b_7 + (i64)(r_8f)), (r_c0_4 + (i64)(r_8f)));
+    mv16((r_2b + (i64)(r_8f)), (r_c0_3 + (i64)(r_8f)));
     goto l_capnp_am;
 l_then_49:;
-    mv8(r_2b_7, r_c0_4);
+    mv8(r_2b, r_c0_3);
     u64 r_la = (r_0l + 0xfffffffffffffff8ull);
-    mv8((r_2b_7 + (i64)(r_la)), (r_c0_4 + (i64)(r_la)));
+    mv8((r_2b + (i64)(r_la)), (r_c0_3 + (i64)(r_la)));
     goto l_capnp_am;
 l_else_r3:;
-    if (((u64)(uptr)r_2b_7 - (u64)(uptr)r_c0_4) < r_0l) { r_il = 0ull; goto l_join_fh; }
-    memmove_or_none(r_2b_7, r_c0_4, r_0l);
+    if (((u64)(uptr)r_2b - (u64)(uptr)r_c0_3) < r_0l) { r_il = 0ull; goto l_join_fh; }
+    memmove_or_none(r_2b, r_c0_3, r_0l);
     goto l_capnp_am;
 l_join_fh:;
-    st8((r_2b_7 + (i64)(r_il)), ld8((r_c0_4 + (i64)(r_il))));
-    u64 r_c4_3 = (r_il + 1ull);
-    if (!(r_c4_3 == r_0l)) { r_il = r_c4_3; goto l_join_fh; }
+    st8((r_2b + (i64)(r_il)), ld8((r_c0_3 + (i64)(r_il))));
+    u64 r_c4_1 = (r_il + 1ull);
+    if (!(r_c4_1 == r_0l)) { r_il = r_c4_1; goto l_join_fh; }
 l_capnp_am:;
     memset(slot_1, 0u, 24);
     st64((slot_2 + 56), 0ull);
-    if (r_ib == 0u) { r_t8 = 0u; r_hg = 0u; r_lc_8 = 0u; r_nj = 0ull; goto l_capnp_mp; }
+    if (r_ib == 0u) { r_t8 = 0u; r_hg = 0u; r_lc_3 = 0u; r_nj = 0ull; goto l_capnp_mp; }
     st64(slot_2, r_eg);
     stp((slot_2 + 8), r_rv);
     st64((slot_2 + 16), r_qw);
@@ -11904,19 +11979,19 @@ l_capnp_am:;
     st32((slot_2 + 48), (r_az + r_gx));
     st32((slot_2 + 52), 0u);
     st32((slot_2 + 56), r_4w);
-    capnp_copies_copy_children_copy_children_out_of_line_f_f51e9aad(slot_1, a_2, r_wt_2, (r_29 + r_4r_4), slot_2, r_ib, a_6, a_7);
+    capnp_copies_copy_children_copy_children_out_of_line_f_f51e9aad(slot_1, a_2, r_wt, (r_29 + r_4r), slot_2, r_ib, a_6, a_7);
     r_t8 = ld8(slot_1);
     r_hg = ld8((slot_1 + 8));
-    r_lc_8 = ld32((slot_1 + 12));
+    r_lc_3 = ld32((slot_1 + 12));
     r_nj = ld64((slot_1 + 16));
 l_capnp_mp:;
-    r_5k_2 = r_t8;
+    r_5k_1 = r_t8;
     r_qp = r_hg;
-    r_7u = r_lc_8;
+    r_7u = r_lc_3;
     r_pz = r_nj;
     goto l_join_1g;
 l_arm_x3:;
-    r_5k_2 = 1u;
+    r_5k_1 = 1u;
     r_qp = ld8((slot_1 + 8));
     r_7u = ld32((slot_1 + 12));
     r_pz = ld64((slot_1 + 16));
@@ -11930,7 +12005,7 @@ l_arm_kb_1:;
     r_kz = 0ull;
     goto l_capnp_rj;
 l_arm_gk_1:;
-    t_f6_5 = ((u8 *)(uptr)r_27);
+    t_f6_3 = ((u8 *)(uptr)r_27);
     switch (switch_wl) {
     case 5u: goto l_capnp_9l;
     case 4u: goto l_capnp_vt;
@@ -11943,7 +12018,7 @@ l_capnp_3m:;
     u64 r_c6_1 = (u64)((r_ij + 63ull) >> 6ull);
     r_yo = 1ull;
     r_tw = switch_wl;
-    r_l2 = away(t_f6_5, (u64)((u64)r_gx << 3ull));
+    r_l2 = away(t_f6_3, (u64)((u64)r_gx << 3ull));
     r_nm_4 = (u64)(r_c6_1 << 3ull);
     r_61 = r_c6_1;
     r_kz = 1ull;
@@ -11952,7 +12027,7 @@ l_capnp_qf:;
     u64 r_c6_2 = (u64)(((u64)(r_ij << 3ull) + 63ull) >> 6ull);
     r_yo = 2ull;
     r_tw = switch_wl;
-    r_l2 = away(t_f6_5, (u64)((u64)r_gx << 3ull));
+    r_l2 = away(t_f6_3, (u64)((u64)r_gx << 3ull));
     r_nm_4 = (u64)(r_c6_2 << 3ull);
     r_61 = r_c6_2;
     r_kz = 8ull;
@@ -11961,7 +12036,7 @@ l_capnp_3x:;
     u64 r_c6_3 = (u64)(((u64)(r_ij << 4ull) + 63ull) >> 6ull);
     r_yo = 3ull;
     r_tw = switch_wl;
-    r_l2 = away(t_f6_5, (u64)((u64)r_gx << 3ull));
+    r_l2 = away(t_f6_3, (u64)((u64)r_gx << 3ull));
     r_nm_4 = (u64)(r_c6_3 << 3ull);
     r_61 = r_c6_3;
     r_kz = 16ull;
@@ -11970,7 +12045,7 @@ l_capnp_vt:;
     u64 r_c6_4 = (u64)(((u64)(r_ij << 5ull) + 63ull) >> 6ull);
     r_yo = 4ull;
     r_tw = switch_wl;
-    r_l2 = away(t_f6_5, (u64)((u64)r_gx << 3ull));
+    r_l2 = away(t_f6_3, (u64)((u64)r_gx << 3ull));
     r_nm_4 = (u64)(r_c6_4 << 3ull);
     r_61 = r_c6_4;
     r_kz = 32ull;
@@ -11978,7 +12053,7 @@ l_capnp_vt:;
 l_capnp_9l:;
     r_yo = 5ull;
     r_tw = switch_wl;
-    r_l2 = away(t_f6_5, (u64)((u64)r_gx << 3ull));
+    r_l2 = away(t_f6_3, (u64)((u64)r_gx << 3ull));
     r_nm_4 = (u64)(r_ij << 3ull);
     r_61 = r_ij;
     r_kz = 64ull;
@@ -11987,14 +12062,14 @@ l_noarm_e1_1:;
     UNREACHABLE();
 l_capnp_rj:;
     r_se = (u64)(((r_kz * r_ij) + 63ull) >> 6ull);
-    r_12_3 = (u32)r_se;
+    r_12_2 = (u32)r_se;
     t_0f = (r_61 + 0xffffffffffffffffull);
-    r_sz_4 = (a_3 == 0u);
-    if (!r_sz_4) goto l_else_w1_5;
+    r_sz_3 = (a_3 == 0u);
+    if (!r_sz_3) goto l_else_w1_5;
     r_2g_2 = away(a_2, 72ull);
     r_yf_2 = ld32(r_2g_2);
     if ((r_se + (u64)r_yf_2) > (u64)(ld64(away(a_2, 64ull)) >> 3ull)) { r_kw_1 = 0u; r_re_1 = 0u; goto l_join_ax_1; }
-    st32(r_2g_2, (r_yf_2 + r_12_3));
+    st32(r_2g_2, (r_yf_2 + r_12_2));
     r_kw_1 = 1u;
     r_re_1 = r_yf_2;
 l_join_ax_1:;
@@ -12005,13 +12080,13 @@ l_join_ax_1:;
     r_jz_1 = t_3s_1;
     goto l_capnp_c2_1;
 l_else_w1_5:;
-    struct s_i8_i32 r_39_1 = capnp_arena_arena_rows_allocate_in_96bc33dd2dacd45a(ldp(away(a_2, 88ull)), ((u64)a_3 + 0xffffffffffffffffull), r_12_3);
+    struct s_i8_i32 r_39_1 = capnp_arena_arena_rows_allocate_in_96bc33dd2dacd45a(ldp(away(a_2, 88ull)), ((u64)a_3 + 0xffffffffffffffffull), r_12_2);
     r_jz_1 = r_39_1;
 l_capnp_c2_1:;
     if (!(r_jz_1.f0 == 1u)) goto l_arm_4u_1;
     r_xo_1 = r_jz_1.f1;
     r_wf = ((((r_d4 & 0xfffffff800000000ull) | (u64)((u64)r_tw << 32ull)) | (u64)(u32)((r_xo_1 + (a_4 ^ 0xffffffffu)) << 2u)) | 1ull);
-    if (!r_sz_4) goto l_else_w1_6;
+    if (!r_sz_3) goto l_else_w1_6;
     st64(away(ldp(away(a_2, 56ull)), (u64)((u64)a_4 << 3ull)), r_wf);
     r_5z = r_xo_1;
     r_qb = 0u;
@@ -12022,7 +12097,7 @@ l_else_w1_6:;
     r_qb = a_3;
     goto l_switch_tz;
 l_arm_4u_1:;
-    capnp_arena_arena_builder_arena_impl_BuilderArenaImplB_a1412319(slot_1, a_2, (r_12_3 + 1u));
+    capnp_arena_arena_builder_arena_impl_BuilderArenaImplB_a1412319(slot_1, a_2, (r_12_2 + 1u));
     if (!(ld8(slot_1) == 0u)) goto l_arm_x3_1;
     u32 r_yf_3 = ld32((slot_1 + 4));
     u32 r_e3_1 = ld32((slot_1 + 8));
@@ -12033,51 +12108,51 @@ l_arm_4u_1:;
 l_switch_tz:;
     r_1q = (ld64((((u8 *)switch_table_capnp_copies_copy_copy_object_f743e1513b93edc7) + (i64)(8 * r_yo))) * r_ij);
     if (r_nm_4 == 0ull) goto l_capnp_6p;
-    r_r2_5 = away(a_2, 56ull);
+    r_r2_1 = away(a_2, 56ull);
     if (!(r_qb == 0u)) goto l_else_az_1;
-    r_rk = ldp(r_r2_5);
+    r_rk = ldp(r_r2_1);
     goto l_capnp_3u;
 l_else_az_1:;
-    u8 *r_6s_2 = capnp_arena_arena_rows_Rows_other_mut_96bc33dd2dacd45a(r_r2_5, r_qb);
-    r_rk = r_6s_2;
+    u8 *r_6s_1 = capnp_arena_arena_rows_Rows_other_mut_96bc33dd2dacd45a(r_r2_1, r_qb);
+    r_rk = r_6s_1;
 l_capnp_3u:;
-    r_2b_9 = away(r_rk, (u64)((u64)r_5z << 3ull));
+    r_2b_1 = away(r_rk, (u64)((u64)r_5z << 3ull));
     if (!(r_nm_4 < 64ull)) goto l_else_r3_1;
     if (!(r_nm_4 > 31ull)) goto l_else_dg;
-    mv32(r_2b_9, r_l2);
-    u64 r_bh_2 = (r_nm_4 + 0xffffffffffffffe0ull);
-    mv32((r_2b_9 + (i64)(r_bh_2)), (r_l2 + (i64)(r_bh_2)));
+    mv32(r_2b_1, r_l2);
+    u64 r_bh_1 = (r_nm_4 + 0xffffffffffffffe0ull);
+    mv32((r_2b_1 + (i64)(r_bh_1)), (r_l2 + (i64)(r_bh_1)));
     goto l_capnp_6p;
 l_else_dg:;
     if (!(r_nm_4 > 15ull)) goto l_then_49_1;
-    mv16(r_2b_9, r_l2);
+    mv16(r_2b_1, r_l2);
     u64 r_8f_1 = (r_nm_4 + 0xfffffffffffffff0ull);
-    mv16((r_2b_9 + (i64)(r_8f_1)), (r_l2 + (i64)(r_8f_1)));
+    mv16((r_2b_1 + (i64)(r_8f_1)), (r_l2 + (i64)(r_8f_1)));
     goto l_capnp_6p;
 l_then_49_1:;
-    mv8(r_2b_9, r_l2);
+    mv8(r_2b_1, r_l2);
     u64 r_la_1 = (r_nm_4 + 0xfffffffffffffff8ull);
-    mv8((r_2b_9 + (i64)(r_la_1)), (r_l2 + (i64)(r_la_1)));
+    mv8((r_2b_1 + (i64)(r_la_1)), (r_l2 + (i64)(r_la_1)));
     goto l_capnp_6p;
 l_else_r3_1:;
-    if (((u64)(uptr)r_2b_9 - (u64)(uptr)r_l2) < r_nm_4) { r_il_1 = 0ull; goto l_join_fh_1; }
-    memmove_or_none(r_2b_9, r_l2, r_nm_4);
+    if (((u64)(uptr)r_2b_1 - (u64)(uptr)r_l2) < r_nm_4) { r_il_1 = 0ull; goto l_join_fh_1; }
+    memmove_or_none(r_2b_1, r_l2, r_nm_4);
     goto l_capnp_6p;
 l_join_fh_1:;
-    st8((r_2b_9 + (i64)(r_il_1)), ld8((r_l2 + (i64)(r_il_1))));
-    u64 r_c4_5 = (r_il_1 + 1ull);
-    if (!(r_c4_5 == r_nm_4)) { r_il_1 = r_c4_5; goto l_join_fh_1; }
+    st8((r_2b_1 + (i64)(r_il_1)), ld8((r_l2 + (i64)(r_il_1))));
+    u64 r_c4_2 = (r_il_1 + 1ull);
+    if (!(r_c4_2 == r_nm_4)) { r_il_1 = r_c4_2; goto l_join_fh_1; }
 l_capnp_6p:;
     r_4i = (r_1q & 63ull);
-    if (r_4i == 0ull) { r_5k_2 = 0u; r_qp = 0u; r_7u = 0u; r_pz = 0ull; goto l_join_1g; }
+    if (r_4i == 0ull) { r_5k_1 = 0u; r_qp = 0u; r_7u = 0u; r_pz = 0ull; goto l_join_1g; }
     capnp_arena_arena_builder_arena_impl_BuilderArenaImplB_baa973df(a_2, r_qb, (r_5z + (u32)t_0f), (ld64(away(r_l2, (u64)(t_0f << 3ull))) & ((u64)(0xffffffffffffffffull << (r_4i & 63u)) ^ 0xffffffffffffffffull)));
-    r_5k_2 = 0u;
+    r_5k_1 = 0u;
     r_qp = 0u;
     r_7u = 0u;
     r_pz = 0ull;
     goto l_join_1g;
 l_arm_x3_1:;
-    r_5k_2 = 1u;
+    r_5k_1 = 1u;
     r_qp = ld8((slot_1 + 8));
     r_7u = ld32((slot_1 + 12));
     r_pz = ld64((slot_1 + 16));
@@ -12105,12 +12180,12 @@ l_capnp_c2_2:;
     r_bq = (((r_d4 & 0xfffffff800000000ull) | (u64)(u32)((r_xo_2 + (a_4 ^ 0xffffffffu)) << 2u)) | 0x600000001ull);
     if (!r_sz_1) goto l_else_w1_7;
     st64(away(ldp(away(a_2, 56ull)), (u64)((u64)a_4 << 3ull)), r_bq);
-    r_es_5 = r_xo_2;
+    r_es = r_xo_2;
     r_0i = 0u;
     goto l_arm_3e;
 l_else_w1_7:;
     capnp_arena_arena_rows_put_word_in_96bc33dd2dacd45a(ldp(away(a_2, 88ull)), ((u64)a_3 + 0xffffffffffffffffull), a_4, r_bq);
-    r_es_5 = r_xo_2;
+    r_es = r_xo_2;
     r_0i = a_3;
     goto l_arm_3e;
 l_arm_4u_2:;
@@ -12120,105 +12195,105 @@ l_arm_4u_2:;
     u32 r_e3_2 = ld32((slot_1 + 8));
     capnp_arena_arena_builder_arena_impl_BuilderArenaImplB_baa973df(a_2, r_yf_5, r_e3_2, ((r_d4 & 0xfffffff800000000ull) | 0x600000001ull));
     capnp_arena_arena_builder_arena_impl_BuilderArenaImplB_baa973df(a_2, a_3, a_4, (((u64)((u64)r_yf_5 << 32ull) | (u64)((u64)r_e3_2 << 3ull)) | 2ull));
-    r_es_5 = (r_e3_2 + 1u);
+    r_es = (r_e3_2 + 1u);
     r_0i = r_yf_5;
 l_arm_3e:;
-    if (r_ij == 0ull) { r_5k_2 = 0u; r_qp = 0u; r_7u = 0u; r_pz = 0ull; goto l_join_1g; }
-    r_gw_9 = (u64)(r_9h >> 3ull);
-    r_x5_11 = (slot_4 + 8);
-    r_zd_6 = (slot_4 + 16);
-    r_lk_3 = (slot_4 + 24);
-    r_89_3 = (slot_4 + 32);
-    r_a8_3 = (slot_4 + 40);
-    r_c4_6 = (slot_4 + 48);
-    r_6c_2 = (slot_4 + 56);
-    r_08_3 = away(a_6, 16ull);
-    r_nb_7 = (r_gw_9 & 0xffffffffull);
+    if (r_ij == 0ull) { r_5k_1 = 0u; r_qp = 0u; r_7u = 0u; r_pz = 0ull; goto l_join_1g; }
+    r_gw_2 = (u64)(r_9h >> 3ull);
+    r_x5 = (slot_4 + 8);
+    r_zd = (slot_4 + 16);
+    r_lk = (slot_4 + 24);
+    r_89 = (slot_4 + 32);
+    r_a8 = (slot_4 + 40);
+    r_c4_3 = (slot_4 + 48);
+    r_6c = (slot_4 + 56);
+    r_08_1 = away(a_6, 16ull);
+    r_nb_1 = (r_gw_2 & 0xffffffffull);
     r_sg = (r_5k == 1u);
-    r_rq_8 = away(a_6, 8ull);
-    r_x5_12 = (slot_3 + 8);
-    r_k0_3 = (slot_3 + 12);
-    r_zd_7 = (slot_3 + 16);
+    r_rq_6 = away(a_6, 8ull);
+    r_x5_1 = (slot_3 + 8);
+    r_k0 = (slot_3 + 12);
+    r_zd_1 = (slot_3 + 16);
     r_s1 = (r_5k + 0xfffffffeu);
-    t_q5_1 = (a_7 == 1u);
-    r_x5_13 = (slot_1 + 8);
-    r_k0_4 = (slot_1 + 12);
-    r_zd_8 = (slot_1 + 16);
-    r_ix_3 = (slot_1 + 4);
-    r_x5_14 = (slot_2 + 8);
-    r_zd_9 = (slot_2 + 16);
-    r_lk_4 = (slot_2 + 24);
-    r_89_4 = (slot_2 + 32);
-    r_a8_4 = (slot_2 + 40);
-    r_c4_7 = (slot_2 + 48);
-    r_bk_2 = (slot_2 + 52);
-    r_6c_3 = (slot_2 + 56);
-    r_x5_15 = (slot_1 + 8);
-    r_k0_5 = (slot_1 + 12);
-    r_zd_10 = (slot_1 + 16);
-    t_0c_4 = (r_dh == 0u);
-    r_2p_4 = (r_0i == 0u);
-    r_o8_7 = away(a_2, 88ull);
-    r_0f_11 = ((u64)r_0i + 0xffffffffffffffffull);
+    t_q5 = (a_7 == 1u);
+    r_x5_2 = (slot_1 + 8);
+    r_k0_1 = (slot_1 + 12);
+    r_zd_2 = (slot_1 + 16);
+    r_ix = (slot_1 + 4);
+    r_x5_3 = (slot_2 + 8);
+    r_zd_3 = (slot_2 + 16);
+    r_lk_1 = (slot_2 + 24);
+    r_89_1 = (slot_2 + 32);
+    r_a8_1 = (slot_2 + 40);
+    r_c4_4 = (slot_2 + 48);
+    r_bk = (slot_2 + 52);
+    r_6c_1 = (slot_2 + 56);
+    r_x5_4 = (slot_1 + 8);
+    r_k0_2 = (slot_1 + 12);
+    r_zd_4 = (slot_1 + 16);
+    t_0c = (r_dh == 0u);
+    r_2p = (r_0i == 0u);
+    r_o8 = away(a_2, 88ull);
+    r_0f_4 = ((u64)r_0i + 0xffffffffffffffffull);
     r_2g_4 = away(a_2, 72ull);
-    r_h6_3 = away(a_2, 64ull);
-    r_x5_16 = (slot_1 + 8);
-    r_k0_6 = (slot_1 + 12);
-    r_zd_11 = (slot_1 + 16);
-    r_ix_4 = (slot_1 + 4);
-    t_6c_2 = (slot_4 + 56);
-    t_6c_3 = (slot_2 + 56);
+    r_h6 = away(a_2, 64ull);
+    r_x5_5 = (slot_1 + 8);
+    r_k0_3 = (slot_1 + 12);
+    r_zd_5 = (slot_1 + 16);
+    r_ix_1 = (slot_1 + 4);
+    t_6c = (slot_4 + 56);
+    t_6c_1 = (slot_2 + 56);
     indvars_eg = 0ull;
     goto l_join_1e;
 l_loop_qw:;
     u64 indvars_r7 = (indvars_eg + 1ull);
-    if (indvars_r7 == r_ij) { r_5k_2 = 0u; r_qp = 0u; r_7u = 0u; r_pz = 0ull; goto l_join_1g; }
+    if (indvars_r7 == r_ij) { r_5k_1 = 0u; r_qp = 0u; r_7u = 0u; r_pz = 0ull; goto l_join_1g; }
     indvars_eg = indvars_r7;
 l_join_1e:;
     u32 t_s7 = (u32)indvars_eg;
-    r_sr_3 = (r_es_5 + t_s7);
-    r_24_28 = (u64)(r_gx + t_s7);
+    r_sr = (r_es + t_s7);
+    r_24_3 = (u64)(r_gx + t_s7);
     memset(slot_3, 0u, 24);
-    st64(t_6c_2, 0ull);
-    if (!(r_gw_9 > r_24_28)) goto l_capnp_v7;
-    r_qw_12 = ld64(away(t_f6_3, (u64)(r_24_28 << 3ull)));
-    if (r_qw_12 == 0ull) goto l_capnp_v7;
-    switch_f9_3 = (r_qw_12 & 3ull);
-    r_ep_5 = (u64)(r_qw_12 >> 32ull);
-    if (!((switch_f9_3 == 1ull) ? ((u8)((u8)((u8)r_ep_5 & 7u) + 255u) < 5u) : 0u)) goto l_join_br;
-    r_ij_1 = (u64)(r_qw_12 >> 35ull);
-    r_c6_5 = (u64)(((ld64(away(away(((u8 *)switch_table_capnp_show_show_objects_read_object_5ccc1_1b90c80b), 8 * (r_ep_5 & 7ull)), 0xfffffffffffffff8ull)) * r_ij_1) + 63ull) >> 6ull);
-    if (!t_0c_4) goto l_join_bd_1;
-    st64(r_08_3, uadd_sat64(ld64(r_08_3), 1ull));
+    st64(t_6c, 0ull);
+    if (!(r_gw_2 > r_24_3)) goto l_capnp_v7;
+    r_qw_5 = ld64(away(t_f6_2, (u64)(r_24_3 << 3ull)));
+    if (r_qw_5 == 0ull) goto l_capnp_v7;
+    switch_f9 = (r_qw_5 & 3ull);
+    r_ep_3 = (u64)(r_qw_5 >> 32ull);
+    if (!((switch_f9 == 1ull) ? ((u8)((u8)((u8)r_ep_3 & 7u) + 255u) < 5u) : 0u)) goto l_join_br;
+    r_ij_1 = (u64)(r_qw_5 >> 35ull);
+    r_c6_5 = (u64)(((ld64(away(away(((u8 *)switch_table_capnp_show_show_objects_read_object_5ccc1_1b90c80b), 8 * (r_ep_3 & 7ull)), 0xfffffffffffffff8ull)) * r_ij_1) + 63ull) >> 6ull);
+    if (!t_0c) goto l_join_bd_1;
+    st64(r_08_1, uadd_sat64(ld64(r_08_1), 1ull));
 l_join_bd_1:;
-    u64 r_m6_1 = ((u64)(r_qw_12 >> 2ull) & 0x3fffffffull);
-    r_lc_11 = ((r_24_28 + 1ull) + r_m6_1);
+    u64 r_m6_1 = ((u64)(r_qw_5 >> 2ull) & 0x3fffffffull);
+    r_lc_4 = ((r_24_3 + 1ull) + r_m6_1);
     if (!(r_m6_1 < 0x20000000ull)) goto l_else_70_1;
-    if (r_lc_11 > r_nb_7) { r_t8_1 = 23u; r_hg_1 = 0u; r_lc_12 = 0ull; goto l_capnp_mp_1; }
-    r_gk = r_lc_11;
+    if (r_lc_4 > r_nb_1) { r_t8_1 = 23u; r_hg_1 = 0u; r_lc_5 = 0ull; goto l_capnp_mp_1; }
+    r_gk = r_lc_4;
     goto l_arm_vo;
 l_else_70_1:;
-    u64 r_3o_1 = (r_lc_11 + 0xffffffffc0000000ull);
-    if ((r_lc_11 < 0x40000000ull) ? 1u : (r_3o_1 > r_nb_7)) { r_t8_1 = 23u; r_hg_1 = 0u; r_lc_12 = 0ull; goto l_capnp_mp_1; }
+    u64 r_3o_1 = (r_lc_4 + 0xffffffffc0000000ull);
+    if ((r_lc_4 < 0x40000000ull) ? 1u : (r_3o_1 > r_nb_1)) { r_t8_1 = 23u; r_hg_1 = 0u; r_lc_5 = 0ull; goto l_capnp_mp_1; }
     r_gk = r_3o_1;
 l_arm_vo:;
-    if (r_sg) { r_t8_1 = 26u; r_hg_1 = 0u; r_lc_12 = 0ull; goto l_capnp_mp_1; }
-    if (r_nb_7 < (r_gk + r_c6_5)) { r_t8_1 = 23u; r_hg_1 = 0u; r_lc_12 = 0ull; goto l_capnp_mp_1; }
-    if (!t_0c_4) goto l_arm_p5;
+    if (r_sg) { r_t8_1 = 26u; r_hg_1 = 0u; r_lc_5 = 0ull; goto l_capnp_mp_1; }
+    if (r_nb_1 < (r_gk + r_c6_5)) { r_t8_1 = 23u; r_hg_1 = 0u; r_lc_5 = 0ull; goto l_capnp_mp_1; }
+    if (!t_0c) goto l_arm_p5;
     if (!(ld8(a_6) == 1u)) goto l_arm_p5;
-    r_52_11 = ld64(r_rq_8);
-    if (r_52_11 < r_c6_5) { r_t8_1 = 30u; r_hg_1 = 0u; r_lc_12 = 0ull; goto l_capnp_mp_1; }
+    r_52_6 = ld64(r_rq_6);
+    if (r_52_6 < r_c6_5) { r_t8_1 = 30u; r_hg_1 = 0u; r_lc_5 = 0ull; goto l_capnp_mp_1; }
     st64(a_6, 1ull);
-    st64(r_rq_8, (r_52_11 - r_c6_5));
+    st64(r_rq_6, (r_52_6 - r_c6_5));
 l_arm_p5:;
-    r_z6_31 = (u64)(r_c6_5 << 3ull);
-    r_8a = away(t_f6_3, (u64)(r_gk << 3ull));
-    r_se_1 = (u64)(((ld64(away(away(((u8 *)switch_table_capnp_show_show_objects_read_object_5ccc1_1b90c80b), 8 * (r_ep_5 & 7ull)), 0xfffffffffffffff8ull)) * r_ij_1) + 63ull) >> 6ull);
-    r_12_4 = (u32)r_se_1;
-    if (!r_2p_4) goto l_else_5k;
+    r_z6_2 = (u64)(r_c6_5 << 3ull);
+    r_8a = away(t_f6_2, (u64)(r_gk << 3ull));
+    r_se_1 = (u64)(((ld64(away(away(((u8 *)switch_table_capnp_show_show_objects_read_object_5ccc1_1b90c80b), 8 * (r_ep_3 & 7ull)), 0xfffffffffffffff8ull)) * r_ij_1) + 63ull) >> 6ull);
+    r_12_3 = (u32)r_se_1;
+    if (!r_2p) goto l_else_5k;
     r_yf_6 = ld32(r_2g_4);
-    if ((r_se_1 + (u64)r_yf_6) > (u64)(ld64(r_h6_3) >> 3ull)) { r_kw_3 = 0u; r_re_3 = 0u; goto l_join_ax_3; }
-    st32(r_2g_4, (r_yf_6 + r_12_4));
+    if ((r_se_1 + (u64)r_yf_6) > (u64)(ld64(r_h6) >> 3ull)) { r_kw_3 = 0u; r_re_3 = 0u; goto l_join_ax_3; }
+    st32(r_2g_4, (r_yf_6 + r_12_3));
     r_kw_3 = 1u;
     r_re_3 = r_yf_6;
 l_join_ax_3:;
@@ -12229,75 +12304,75 @@ l_join_ax_3:;
     r_pp = t_3s_3;
     goto l_capnp_h1;
 l_else_5k:;
-    struct s_i8_i32 r_39_3 = capnp_arena_arena_rows_allocate_in_96bc33dd2dacd45a(ldp(r_o8_7), r_0f_11, r_12_4);
+    struct s_i8_i32 r_39_3 = capnp_arena_arena_rows_allocate_in_96bc33dd2dacd45a(ldp(r_o8), r_0f_4, r_12_3);
     r_pp = r_39_3;
 l_capnp_h1:;
     if (!(r_pp.f0 == 1u)) goto l_arm_4u_3;
     u32 r_xo_3 = r_pp.f1;
-    capnp_arena_arena_builder_arena_impl_BuilderArenaImplB_baa973df(a_2, r_0i, r_sr_3, ((r_qw_12 & 0xffffffff00000001ull) | (u64)(u32)((r_xo_3 + (r_sr_3 ^ 0xffffffffu)) << 2u)));
+    capnp_arena_arena_builder_arena_impl_BuilderArenaImplB_baa973df(a_2, r_0i, r_sr, ((r_qw_5 & 0xffffffff00000001ull) | (u64)(u32)((r_xo_3 + (r_sr ^ 0xffffffffu)) << 2u)));
     r_7u_1 = r_xo_3;
     r_x9 = r_0i;
     goto l_arm_fv;
 l_arm_4u_3:;
-    capnp_arena_arena_builder_arena_impl_BuilderArenaImplB_a1412319(slot_1, a_2, (r_12_4 + 1u));
+    capnp_arena_arena_builder_arena_impl_BuilderArenaImplB_a1412319(slot_1, a_2, (r_12_3 + 1u));
     if (!(ld8(slot_1) == 0u)) goto l_arm_vh;
-    u32 r_yf_7 = ld32(r_ix_4);
-    u32 r_e3_3 = ld32(r_x5_16);
-    capnp_arena_arena_builder_arena_impl_BuilderArenaImplB_baa973df(a_2, r_yf_7, r_e3_3, (r_qw_12 & 0xffffffff00000001ull));
-    capnp_arena_arena_builder_arena_impl_BuilderArenaImplB_baa973df(a_2, r_0i, r_sr_3, (((u64)((u64)r_yf_7 << 32ull) | (u64)((u64)r_e3_3 << 3ull)) | 2ull));
+    u32 r_yf_7 = ld32(r_ix_1);
+    u32 r_e3_3 = ld32(r_x5_5);
+    capnp_arena_arena_builder_arena_impl_BuilderArenaImplB_baa973df(a_2, r_yf_7, r_e3_3, (r_qw_5 & 0xffffffff00000001ull));
+    capnp_arena_arena_builder_arena_impl_BuilderArenaImplB_baa973df(a_2, r_0i, r_sr, (((u64)((u64)r_yf_7 << 32ull) | (u64)((u64)r_e3_3 << 3ull)) | 2ull));
     r_7u_1 = (r_e3_3 + 1u);
     r_x9 = r_yf_7;
 l_arm_fv:;
-    u64 r_1q_3 = (ld64(away(away(((u8 *)switch_table_capnp_show_show_objects_read_object_5ccc1_1b90c80b), 8 * (r_ep_5 & 7ull)), 0xfffffffffffffff8ull)) * r_ij_1);
-    capnp_arena_traits_arena_writing_copy_words_22521b95e02b6c38(a_2, r_x9, r_7u_1, r_8a, r_z6_31);
-    r_4i_1 = (r_1q_3 & 63ull);
+    u64 r_1q_1 = (ld64(away(away(((u8 *)switch_table_capnp_show_show_objects_read_object_5ccc1_1b90c80b), 8 * (r_ep_3 & 7ull)), 0xfffffffffffffff8ull)) * r_ij_1);
+    capnp_arena_traits_arena_writing_copy_words_22521b95e02b6c38(a_2, r_x9, r_7u_1, r_8a, r_z6_2);
+    r_4i_1 = (r_1q_1 & 63ull);
     if (r_4i_1 == 0ull) goto l_capnp_v7;
-    u64 r_0f_12 = (r_c6_5 + 0xffffffffffffffffull);
-    capnp_arena_arena_builder_arena_impl_BuilderArenaImplB_baa973df(a_2, r_x9, (r_7u_1 + (u32)r_0f_12), (ld64(away(r_8a, (u64)(r_0f_12 << 3ull))) & ((u64)(0xffffffffffffffffull << (r_4i_1 & 63u)) ^ 0xffffffffffffffffull)));
+    u64 r_0f_5 = (r_c6_5 + 0xffffffffffffffffull);
+    capnp_arena_arena_builder_arena_impl_BuilderArenaImplB_baa973df(a_2, r_x9, (r_7u_1 + (u32)r_0f_5), (ld64(away(r_8a, (u64)(r_0f_5 << 3ull))) & ((u64)(0xffffffffffffffffull << (r_4i_1 & 63u)) ^ 0xffffffffffffffffull)));
     goto l_capnp_v7;
 l_arm_vh:;
-    r_t8_1 = ld8(r_x5_16);
-    r_hg_1 = ld32(r_k0_6);
-    r_lc_12 = ld64(r_zd_11);
+    r_t8_1 = ld8(r_x5_5);
+    r_hg_1 = ld32(r_k0_3);
+    r_lc_5 = ld64(r_zd_5);
     goto l_capnp_mp_1;
 l_join_br:;
-    if (!(switch_f9_3 == 0ull)) goto l_else_4r;
-    r_y6_2 = (u64)(r_qw_12 >> 48ull);
-    r_q7_2 = (r_ep_5 & 65535ull);
-    r_lc_15 = (r_q7_2 + r_y6_2);
+    if (!(switch_f9 == 0ull)) goto l_else_4r;
+    r_y6_2 = (u64)(r_qw_5 >> 48ull);
+    r_q7_1 = (r_ep_3 & 65535ull);
+    r_lc_6 = (r_q7_1 + r_y6_2);
     if (t_pa) goto l_join_o1;
-    st64(r_08_3, uadd_sat64(ld64(r_08_3), 1ull));
+    st64(r_08_1, uadd_sat64(ld64(r_08_1), 1ull));
 l_join_o1:;
-    u64 r_m6_2 = ((u64)(r_qw_12 >> 2ull) & 0x3fffffffull);
-    r_lc_16 = ((r_24_28 + 1ull) + r_m6_2);
+    u64 r_m6_2 = ((u64)(r_qw_5 >> 2ull) & 0x3fffffffull);
+    r_lc_7 = ((r_24_3 + 1ull) + r_m6_2);
     if (!(r_m6_2 < 0x20000000ull)) goto l_else_70_2;
-    if (r_lc_16 > r_nb_7) { r_t8_2 = 23u; goto l_capnp_mp_2; }
-    r_jm = r_lc_16;
+    if (r_lc_7 > r_nb_1) { r_t8_2 = 23u; goto l_capnp_mp_2; }
+    r_jm = r_lc_7;
     goto l_arm_h8;
 l_else_70_2:;
-    u64 r_3o_2 = (r_lc_16 + 0xffffffffc0000000ull);
-    if ((r_lc_16 < 0x40000000ull) ? 1u : (r_3o_2 > r_nb_7)) { r_t8_2 = 23u; goto l_capnp_mp_2; }
+    u64 r_3o_2 = (r_lc_7 + 0xffffffffc0000000ull);
+    if ((r_lc_7 < 0x40000000ull) ? 1u : (r_3o_2 > r_nb_1)) { r_t8_2 = 23u; goto l_capnp_mp_2; }
     r_jm = r_3o_2;
 l_arm_h8:;
-    r_4r_5 = (u32)r_jm;
+    r_4r_1 = (u32)r_jm;
     if (r_sg) { r_t8_2 = 26u; goto l_capnp_mp_2; }
-    r_8u_7 = (r_nb_7 < (r_jm + r_lc_15));
-    if ((u8)((u8)t_pa | (u8)r_8u_7)) goto l_capnp_li;
-    if (!(ld8(a_6) == 1u)) { r_5b = r_4r_5; goto l_arm_7a; }
-    r_52_14 = ld64(r_rq_8);
-    if (r_52_14 < r_lc_15) { r_t8_2 = 30u; goto l_capnp_mp_2; }
+    r_8u = (r_nb_1 < (r_jm + r_lc_6));
+    if ((u8)((u8)t_pa | (u8)r_8u)) goto l_capnp_li;
+    if (!(ld8(a_6) == 1u)) { r_5b = r_4r_1; goto l_arm_7a; }
+    r_52_7 = ld64(r_rq_6);
+    if (r_52_7 < r_lc_6) { r_t8_2 = 30u; goto l_capnp_mp_2; }
     st64(a_6, 1ull);
-    st64(r_rq_8, (r_52_14 - r_lc_15));
-    r_5b = r_4r_5;
+    st64(r_rq_6, (r_52_7 - r_lc_6));
+    r_5b = r_4r_1;
     goto l_arm_7a;
 l_capnp_li:;
-    if (r_8u_7) { r_t8_2 = 23u; goto l_capnp_mp_2; }
-    r_5b = (r_8u_7 ? 0u : r_4r_5);
+    if (r_8u) { r_t8_2 = 23u; goto l_capnp_mp_2; }
+    r_5b = (r_8u ? 0u : r_4r_1);
 l_arm_7a:;
-    if (!t_q5_1) { r_kx = r_ep_5; r_21 = r_y6_2; goto l_capnp_uz; }
-    u64 r_24_32 = (u64)r_5b;
-    u64 r_ck = capnp_words_words_used_words_in(t_f6_3, r_24_32, r_q7_2);
-    u64 r_ck_1 = capnp_words_words_used_words_in(t_f6_3, (r_q7_2 + r_24_32), r_y6_2);
+    if (!t_q5) { r_kx = r_ep_3; r_21 = r_y6_2; goto l_capnp_uz; }
+    u64 r_24_4 = (u64)r_5b;
+    u64 r_ck = capnp_words_words_used_words_in(t_f6_2, r_24_4, r_q7_1);
+    u64 r_ck_1 = capnp_words_words_used_words_in(t_f6_2, (r_q7_1 + r_24_4), r_y6_2);
     r_kx = r_ck;
     r_21 = r_ck_1;
 l_capnp_uz:;
@@ -12305,96 +12380,96 @@ l_capnp_uz:;
     r_az_3 = ((u32)r_21 & 65535u);
     r_68_3 = (r_az_3 + r_az_2);
     if (!(r_68_3 == 0u)) goto l_join_d3;
-    capnp_arena_arena_builder_arena_impl_BuilderArenaImplB_baa973df(a_2, r_0i, r_sr_3, 0xfffffffcull);
-    r_fj = r_sr_3;
+    capnp_arena_arena_builder_arena_impl_BuilderArenaImplB_baa973df(a_2, r_0i, r_sr, 0xfffffffcull);
+    r_fj = r_sr;
     sink_il = r_0i;
     goto l_arm_n3;
 l_join_d3:;
     r_sv = capnp_arena_arena_builder_arena_impl_BuilderArenaImplB_8d7f3a67(a_2, r_0i, r_68_3);
     if (!(r_sv.f0 == 1u)) goto l_arm_4u_4;
     u32 r_xo_4 = r_sv.f1;
-    capnp_arena_arena_builder_arena_impl_BuilderArenaImplB_baa973df(a_2, r_0i, r_sr_3, ((((u64)(r_kx << 32ull) & 0xffff00000000ull) | (u64)(r_21 << 48ull)) | (u64)(u32)((r_xo_4 + (r_sr_3 ^ 0xffffffffu)) << 2u)));
+    capnp_arena_arena_builder_arena_impl_BuilderArenaImplB_baa973df(a_2, r_0i, r_sr, ((((u64)(r_kx << 32ull) & 0xffff00000000ull) | (u64)(r_21 << 48ull)) | (u64)(u32)((r_xo_4 + (r_sr ^ 0xffffffffu)) << 2u)));
     r_fj = r_xo_4;
     sink_il = r_0i;
     goto l_arm_n3;
 l_arm_4u_4:;
     capnp_arena_arena_builder_arena_impl_BuilderArenaImplB_a1412319(slot_1, a_2, (r_68_3 + 1u));
     if (!(ld8(slot_1) == 0u)) goto l_arm_vh_1;
-    u32 r_yf_8 = ld32(r_ix_3);
-    u32 r_e3_4 = ld32(r_x5_13);
+    u32 r_yf_8 = ld32(r_ix);
+    u32 r_e3_4 = ld32(r_x5_2);
     capnp_arena_arena_builder_arena_impl_BuilderArenaImplB_baa973df(a_2, r_yf_8, r_e3_4, (((u64)(r_kx << 32ull) & 0xffff00000000ull) | (u64)(r_21 << 48ull)));
-    capnp_arena_arena_builder_arena_impl_BuilderArenaImplB_baa973df(a_2, r_0i, r_sr_3, (((u64)((u64)r_yf_8 << 32ull) | (u64)((u64)r_e3_4 << 3ull)) | 2ull));
+    capnp_arena_arena_builder_arena_impl_BuilderArenaImplB_baa973df(a_2, r_0i, r_sr, (((u64)((u64)r_yf_8 << 32ull) | (u64)((u64)r_e3_4 << 3ull)) | 2ull));
     r_fj = (r_e3_4 + 1u);
     sink_il = r_yf_8;
 l_arm_n3:;
-    capnp_copies_copy_elements_put_words_22521b95e02b6c38(a_2, sink_il, r_fj, away(t_f6_3, (u64)((u64)r_5b << 3ull)), ((u64)(r_kx << 3ull) & 0x7fff8ull));
+    capnp_copies_copy_elements_put_words_22521b95e02b6c38(a_2, sink_il, r_fj, away(t_f6_2, (u64)((u64)r_5b << 3ull)), ((u64)(r_kx << 3ull) & 0x7fff8ull));
     memset(slot_1, 0u, 24);
-    st64(t_6c_3, 0ull);
-    if (r_az_3 == 0u) { r_2b_13 = 0u; r_qh = 0u; r_ip = 0u; r_wq = 0ull; goto l_capnp_no; }
+    st64(t_6c_1, 0ull);
+    if (r_az_3 == 0u) { r_2b_2 = 0u; r_qh = 0u; r_ip = 0u; r_wq = 0ull; goto l_capnp_no; }
     st64(slot_2, r_eg);
-    stp(r_x5_14, r_rv);
-    st64(r_zd_9, r_qw);
-    st64(r_lk_4, r_qd);
-    stp(r_89_4, t_f6_3);
-    st64(r_a8_4, r_9h);
-    st32(r_c4_7, (r_5b + ((u32)r_ep_5 & 65535u)));
-    st32(r_bk_2, 0u);
-    st32(r_6c_3, r_s1);
+    stp(r_x5_3, r_rv);
+    st64(r_zd_3, r_qw);
+    st64(r_lk_1, r_qd);
+    stp(r_89_1, t_f6_2);
+    st64(r_a8_1, r_9h);
+    st32(r_c4_4, (r_5b + ((u32)r_ep_3 & 65535u)));
+    st32(r_bk, 0u);
+    st32(r_6c_1, r_s1);
     capnp_copies_copy_children_copy_children_out_of_line_f_f51e9aad(slot_1, a_2, sink_il, (r_az_2 + r_fj), slot_2, r_az_3, a_6, a_7);
-    r_2b_13 = ld8(slot_1);
-    r_qh = ld8(r_x5_15);
-    r_ip = ld32(r_k0_5);
-    r_wq = ld64(r_zd_10);
+    r_2b_2 = ld8(slot_1);
+    r_qh = ld8(r_x5_4);
+    r_ip = ld32(r_k0_2);
+    r_wq = ld64(r_zd_4);
 l_capnp_no:;
     t_pz = r_wq;
     t_fy = r_ip;
     r_1l = r_qh;
-    t_ry = r_2b_13;
+    t_ry = r_2b_2;
     goto l_capnp_rz;
 l_arm_vh_1:;
-    t_pz = ld64(r_zd_8);
-    t_fy = ld32(r_k0_4);
-    r_1l = ld8(r_x5_13);
+    t_pz = ld64(r_zd_2);
+    t_fy = ld32(r_k0_1);
+    r_1l = ld8(r_x5_2);
     t_ry = 1u;
     goto l_capnp_rz;
 l_capnp_mp_2:;
-    r_5k_2 = 1u;
+    r_5k_1 = 1u;
     r_qp = r_t8_2;
     r_7u = 0u;
     r_pz = 0ull;
     goto l_join_1g;
 l_else_4r:;
     st64(slot_4, r_eg);
-    stp(r_x5_11, r_rv);
-    st64(r_zd_6, r_qw);
-    st64(r_lk_3, r_qd);
-    stp(r_89_3, t_f6_3);
-    st64(r_a8_3, r_9h);
-    st64(r_c4_6, r_24_28);
-    st32(r_6c_2, r_4w_2);
-    capnp_copies_copy_copy_object_f743e1513b93edc7(slot_3, a_2, r_0i, r_sr_3, slot_4, a_6, a_7);
-    t_pz = ld64(r_zd_7);
-    t_fy = ld32(r_k0_3);
-    r_1l = ld8(r_x5_12);
+    stp(r_x5, r_rv);
+    st64(r_zd, r_qw);
+    st64(r_lk, r_qd);
+    stp(r_89, t_f6_2);
+    st64(r_a8, r_9h);
+    st64(r_c4_3, r_24_3);
+    st32(r_6c, r_4w_2);
+    capnp_copies_copy_copy_object_f743e1513b93edc7(slot_3, a_2, r_0i, r_sr, slot_4, a_6, a_7);
+    t_pz = ld64(r_zd_1);
+    t_fy = ld32(r_k0);
+    r_1l = ld8(r_x5_1);
     t_ry = ld8(slot_3);
     goto l_capnp_rz;
 l_capnp_v7:;
     goto l_loop_qw;
 l_capnp_mp_1:;
-    r_5k_2 = 1u;
+    r_5k_1 = 1u;
     r_qp = r_t8_1;
     r_7u = r_hg_1;
-    r_pz = r_lc_12;
+    r_pz = r_lc_5;
     goto l_join_1g;
 l_capnp_rz:;
     if (t_ry == 0u) goto l_loop_qw;
-    r_5k_2 = 1u;
+    r_5k_1 = 1u;
     r_qp = r_1l;
     r_7u = t_fy;
     r_pz = t_pz;
     goto l_join_1g;
 l_arm_x3_2:;
-    r_5k_2 = 1u;
+    r_5k_1 = 1u;
     r_qp = ld8((slot_1 + 8));
     r_7u = ld32((slot_1 + 12));
     r_pz = ld64((slot_1 + 16));
@@ -12435,142 +12510,142 @@ l_arm_zn:;
     if (!(ld8(slot_1) == 0u)) goto l_arm_x3_3;
     r_yf_10 = ld32((slot_1 + 4));
     r_e3_5 = ld32((slot_1 + 8));
-    r_ll_7 = (r_e3_5 + 1u);
-    r_z6_36 = ((u64)((u64)r_v3 << 35ull) | 0x700000001ull);
+    r_ll_2 = (r_e3_5 + 1u);
+    r_z6_3 = ((u64)((u64)r_v3 << 35ull) | 0x700000001ull);
     if (!(r_yf_10 == 0u)) goto l_else_o7;
-    u64 r_z6_37 = (u64)((u64)r_e3_5 << 3ull);
-    st64(away(ldp(away(a_2, 56ull)), r_z6_37), r_z6_36);
-    r_59 = r_z6_37;
+    u64 r_z6_4 = (u64)((u64)r_e3_5 << 3ull);
+    st64(away(ldp(away(a_2, 56ull)), r_z6_4), r_z6_3);
+    r_59 = r_z6_4;
     goto l_capnp_9d;
 l_else_o7:;
-    u64 r_24_41 = (u64)r_yf_10;
-    capnp_arena_arena_rows_put_word_in_96bc33dd2dacd45a(ldp(away(a_2, 88ull)), (r_24_41 + 0xffffffffffffffffull), r_e3_5, r_z6_36);
-    r_59 = ((u64)((u64)r_e3_5 << 3ull) | (u64)(r_24_41 << 32ull));
+    u64 r_24_5 = (u64)r_yf_10;
+    capnp_arena_arena_rows_put_word_in_96bc33dd2dacd45a(ldp(away(a_2, 88ull)), (r_24_5 + 0xffffffffffffffffull), r_e3_5, r_z6_3);
+    r_59 = ((u64)((u64)r_e3_5 << 3ull) | (u64)(r_24_5 << 32ull));
 l_capnp_9d:;
-    r_ni_5 = (r_59 | 2ull);
+    r_ni = (r_59 | 2ull);
     if (!r_sz) goto l_else_w1_9;
-    st64(away(ldp(away(a_2, 56ull)), (u64)((u64)a_4 << 3ull)), r_ni_5);
+    st64(away(ldp(away(a_2, 56ull)), (u64)((u64)a_4 << 3ull)), r_ni);
     goto l_core_5s;
 l_else_w1_9:;
-    capnp_arena_arena_rows_put_word_in_96bc33dd2dacd45a(ldp(away(a_2, 88ull)), ((u64)a_3 + 0xffffffffffffffffull), a_4, r_ni_5);
+    capnp_arena_arena_rows_put_word_in_96bc33dd2dacd45a(ldp(away(a_2, 88ull)), ((u64)a_3 + 0xffffffffffffffffull), a_4, r_ni);
 l_core_5s:;
-    r_zf = r_ll_7;
+    r_zf = r_ll_2;
     r_21_1 = r_yf_10;
 l_arm_dc:;
-    r_c0_13 = (u64)t_c8;
+    r_c0_4 = (u64)t_c8;
     r_u7 = (u64)r_u2;
-    r_a7_23 = (((u64)((u64)r_ka << 48ull) | (u64)(r_u7 << 32ull)) | (u64)(r_c0_13 << 2ull));
+    r_a7 = (((u64)((u64)r_ka << 48ull) | (u64)(r_u7 << 32ull)) | (u64)(r_c0_4 << 2ull));
     if (!(r_21_1 == 0u)) goto l_else_o7_1;
-    st64(away(ldp(away(a_2, 56ull)), (u64)((u64)r_zf << 3ull)), r_a7_23);
+    st64(away(ldp(away(a_2, 56ull)), (u64)((u64)r_zf << 3ull)), r_a7);
     goto l_arm_5k;
 l_else_o7_1:;
-    capnp_arena_arena_rows_put_word_in_96bc33dd2dacd45a(ldp(away(a_2, 88ull)), ((u64)r_21_1 + 0xffffffffffffffffull), r_zf, r_a7_23);
+    capnp_arena_arena_rows_put_word_in_96bc33dd2dacd45a(ldp(away(a_2, 88ull)), ((u64)r_21_1 + 0xffffffffffffffffull), r_zf, r_a7);
 l_arm_5k:;
-    r_ll_8 = (r_zf + 1u);
+    r_ll_3 = (r_zf + 1u);
     r_68_4 = (r_az_1 + r_12);
     if ((u8)((u8)(r_68_1 == 0u) | (u8)(t_c8 == 0u))) { r_rh = 0u; r_hg_2 = 0u; r_je = 0u; r_s2 = 0ull; goto l_capnp_nb; }
-    r_z6_40 = (u64)(r_u7 << 3ull);
-    r_hi_1 = (r_u2 == 0u);
-    r_r2_11 = away(a_2, 56ull);
-    r_2p_10 = (r_21_1 == 0u);
-    r_u6_1 = (r_u2 < 8u);
+    r_z6_5 = (u64)(r_u7 << 3ull);
+    r_hi = (r_u2 == 0u);
+    r_r2_2 = away(a_2, 56ull);
+    r_2p_1 = (r_21_1 == 0u);
+    r_u6 = (r_u2 < 8u);
     r_vw = (r_u2 > 3u);
-    r_bh_3 = (r_u2 == 1u);
-    r_8f_2 = (r_z6_40 + 0xfffffffffffffff0ull);
-    r_la_2 = (r_z6_40 + 0xfffffffffffffff8ull);
-    r_bh_4 = (r_z6_40 + 0xffffffffffffffe0ull);
-    r_hi_2 = (r_ka == 0u);
-    r_gw_12 = (u64)(r_9h >> 3ull);
-    r_x5_19 = (slot_4 + 8);
-    r_zd_13 = (slot_4 + 16);
-    r_lk_5 = (slot_4 + 24);
-    r_89_5 = (slot_4 + 32);
-    r_a8_5 = (slot_4 + 40);
-    r_c4_10 = (slot_4 + 48);
-    r_6c_4 = (slot_4 + 56);
-    r_08_4 = away(a_6, 16ull);
-    r_nb_8 = (r_gw_12 & 0xffffffffull);
+    r_bh_2 = (r_u2 == 1u);
+    r_8f_2 = (r_z6_5 + 0xfffffffffffffff0ull);
+    r_la_2 = (r_z6_5 + 0xfffffffffffffff8ull);
+    r_bh_3 = (r_z6_5 + 0xffffffffffffffe0ull);
+    r_hi_1 = (r_ka == 0u);
+    r_gw_3 = (u64)(r_9h >> 3ull);
+    r_x5_6 = (slot_4 + 8);
+    r_zd_6 = (slot_4 + 16);
+    r_lk_2 = (slot_4 + 24);
+    r_89_2 = (slot_4 + 32);
+    r_a8_2 = (slot_4 + 40);
+    r_c4_5 = (slot_4 + 48);
+    r_6c_2 = (slot_4 + 56);
+    r_08_2 = away(a_6, 16ull);
+    r_nb_2 = (r_gw_3 & 0xffffffffull);
     r_sg_1 = (r_5k == 1u);
-    r_rq_9 = away(a_6, 8ull);
-    r_x5_20 = (slot_3 + 8);
-    r_k0_8 = (slot_3 + 12);
-    r_zd_14 = (slot_3 + 16);
+    r_rq_7 = away(a_6, 8ull);
+    r_x5_7 = (slot_3 + 8);
+    r_k0_4 = (slot_3 + 12);
+    r_zd_7 = (slot_3 + 16);
     r_s1_1 = (r_5k + 0xfffffffeu);
-    t_q5_2 = (a_7 == 1u);
-    r_o8_13 = away(a_2, 88ull);
-    r_24_44 = (u64)r_21_1;
-    r_0f_18 = (r_24_44 + 0xffffffffffffffffull);
+    t_q5_1 = (a_7 == 1u);
+    r_o8_1 = away(a_2, 88ull);
+    r_24_6 = (u64)r_21_1;
+    r_0f_6 = (r_24_6 + 0xffffffffffffffffull);
     r_2g_6 = away(a_2, 72ull);
-    r_h6_5 = away(a_2, 64ull);
-    r_x5_21 = (slot_1 + 8);
-    r_k0_9 = (slot_1 + 12);
-    r_zd_15 = (slot_1 + 16);
-    r_ix_6 = (slot_1 + 4);
-    r_x5_22 = (slot_2 + 8);
-    r_zd_16 = (slot_2 + 16);
-    r_lk_6 = (slot_2 + 24);
-    r_89_6 = (slot_2 + 32);
-    r_a8_6 = (slot_2 + 40);
-    r_c4_11 = (slot_2 + 48);
-    r_bk_3 = (slot_2 + 52);
-    r_6c_5 = (slot_2 + 56);
-    r_x5_23 = (slot_1 + 8);
-    r_k0_10 = (slot_1 + 12);
-    r_zd_17 = (slot_1 + 16);
-    t_0c_8 = (r_dh == 0u);
-    r_x5_24 = (slot_1 + 8);
-    r_k0_11 = (slot_1 + 12);
-    r_zd_18 = (slot_1 + 16);
-    r_ix_7 = (slot_1 + 4);
+    r_h6_1 = away(a_2, 64ull);
+    r_x5_8 = (slot_1 + 8);
+    r_k0_5 = (slot_1 + 12);
+    r_zd_8 = (slot_1 + 16);
+    r_ix_2 = (slot_1 + 4);
+    r_x5_9 = (slot_2 + 8);
+    r_zd_9 = (slot_2 + 16);
+    r_lk_3 = (slot_2 + 24);
+    r_89_3 = (slot_2 + 32);
+    r_a8_3 = (slot_2 + 40);
+    r_c4_6 = (slot_2 + 48);
+    r_bk_1 = (slot_2 + 52);
+    r_6c_3 = (slot_2 + 56);
+    r_x5_10 = (slot_1 + 8);
+    r_k0_6 = (slot_1 + 12);
+    r_zd_10 = (slot_1 + 16);
+    t_0c_1 = (r_dh == 0u);
+    r_x5_11 = (slot_1 + 8);
+    r_k0_7 = (slot_1 + 12);
+    r_zd_11 = (slot_1 + 16);
+    r_ix_3 = (slot_1 + 4);
     wide_u7 = (u64)r_ka;
-    r_24_45 = (u64)r_21_1;
-    t_6c_4 = (slot_2 + 56);
+    r_24_7 = (u64)r_21_1;
+    t_6c_2 = (slot_2 + 56);
     indvars_ff = 0ull;
     goto l_join_hy;
 l_loop_mf:;
     u64 indvars_r7_1 = (indvars_ff + 1ull);
-    if (indvars_r7_1 == r_c0_13) { r_rh = 0u; r_hg_2 = 0u; r_je = 0u; r_s2 = 0ull; goto l_capnp_nb; }
+    if (indvars_r7_1 == r_c0_4) { r_rh = 0u; r_hg_2 = 0u; r_je = 0u; r_s2 = 0ull; goto l_capnp_nb; }
     indvars_ff = indvars_r7_1;
 l_join_hy:;
     u32 t_nk = (u32)indvars_ff;
-    r_w0_11 = ((r_68_4 * t_nk) + r_ll);
-    r_w0_12 = (r_ll_8 + (r_68_1 * t_nk));
-    r_c0_14 = away(t_f6_2, (u64)((u64)r_w0_11 << 3ull));
-    if (r_hi_1) goto l_capnp_j9;
-    if (!r_2p_10) goto l_else_az_2;
-    r_rw = ldp(r_r2_11);
+    r_w0 = ((r_68_4 * t_nk) + r_ll);
+    r_w0_1 = (r_ll_3 + (r_68_1 * t_nk));
+    r_c0_5 = away(t_f6_1, (u64)((u64)r_w0 << 3ull));
+    if (r_hi) goto l_capnp_j9;
+    if (!r_2p_1) goto l_else_az_2;
+    r_rw = ldp(r_r2_2);
     goto l_capnp_ss;
 l_else_az_2:;
-    u8 *r_6s_5 = capnp_arena_arena_rows_Rows_other_mut_96bc33dd2dacd45a(r_r2_11, r_21_1);
-    r_rw = r_6s_5;
+    u8 *r_6s_2 = capnp_arena_arena_rows_Rows_other_mut_96bc33dd2dacd45a(r_r2_2, r_21_1);
+    r_rw = r_6s_2;
 l_capnp_ss:;
-    r_2b_18 = away(r_rw, (u64)((u64)r_w0_12 << 3ull));
-    if (!r_u6_1) goto l_else_r3_2;
+    r_2b_3 = away(r_rw, (u64)((u64)r_w0_1 << 3ull));
+    if (!r_u6) goto l_else_r3_2;
     if (!r_vw) goto l_else_l8;
-    mv32(r_2b_18, r_c0_14);
-    mv32((r_2b_18 + (i64)(r_bh_4)), (r_c0_14 + (i64)(r_bh_4)));
+    mv32(r_2b_3, r_c0_5);
+    mv32((r_2b_3 + (i64)(r_bh_3)), (r_c0_5 + (i64)(r_bh_3)));
     goto l_capnp_j9;
 l_else_l8:;
-    if (r_bh_3) goto l_then_1s;
-    mv16(r_2b_18, r_c0_14);
-    mv16((r_2b_18 + (i64)(r_8f_2)), (r_c0_14 + (i64)(r_8f_2)));
+    if (r_bh_2) goto l_then_1s;
+    mv16(r_2b_3, r_c0_5);
+    mv16((r_2b_3 + (i64)(r_8f_2)), (r_c0_5 + (i64)(r_8f_2)));
     goto l_capnp_j9;
 l_then_1s:;
-    mv8(r_2b_18, r_c0_14);
-    mv8((r_2b_18 + (i64)(r_la_2)), (r_c0_14 + (i64)(r_la_2)));
+    mv8(r_2b_3, r_c0_5);
+    mv8((r_2b_3 + (i64)(r_la_2)), (r_c0_5 + (i64)(r_la_2)));
     goto l_capnp_j9;
 l_else_r3_2:;
-    if (((u64)(uptr)r_2b_18 - (u64)(uptr)r_c0_14) < r_z6_40) { r_il_2 = 0ull; goto l_join_fh_2; }
-    memmove_or_none(r_2b_18, r_c0_14, r_z6_40);
+    if (((u64)(uptr)r_2b_3 - (u64)(uptr)r_c0_5) < r_z6_5) { r_il_2 = 0ull; goto l_join_fh_2; }
+    memmove_or_none(r_2b_3, r_c0_5, r_z6_5);
     goto l_capnp_j9;
 l_join_fh_2:;
-    st8((r_2b_18 + (i64)(r_il_2)), ld8((r_c0_14 + (i64)(r_il_2))));
-    u64 r_c4_12 = (r_il_2 + 1ull);
-    if (!(r_c4_12 == r_z6_40)) { r_il_2 = r_c4_12; goto l_join_fh_2; }
+    st8((r_2b_3 + (i64)(r_il_2)), ld8((r_c0_5 + (i64)(r_il_2))));
+    u64 r_c4_7 = (r_il_2 + 1ull);
+    if (!(r_c4_7 == r_z6_5)) { r_il_2 = r_c4_7; goto l_join_fh_2; }
 l_capnp_j9:;
-    r_w0_13 = (r_w0_11 + r_az_1);
-    r_w0_14 = (r_w0_12 + r_00);
-    if (r_hi_2) goto l_loop_mf;
+    r_w0_2 = (r_w0 + r_az_1);
+    r_w0_3 = (r_w0_1 + r_00);
+    if (r_hi_1) goto l_loop_mf;
     indvars_vm = 0ull;
     goto l_join_iw;
 l_loop_w2:;
@@ -12579,244 +12654,244 @@ l_loop_w2:;
     indvars_vm = indvars_r7_2;
 l_join_iw:;
     u32 t_nk_1 = (u32)indvars_vm;
-    r_sr_8 = (r_w0_14 + t_nk_1);
-    r_24_48 = (u64)(r_w0_13 + t_nk_1);
+    r_sr_1 = (r_w0_3 + t_nk_1);
+    r_24_8 = (u64)(r_w0_2 + t_nk_1);
     memset(slot_3, 0u, 24);
     memset(slot_4, 0u, 64);
-    if (!(r_gw_12 > r_24_48)) goto l_capnp_v7_1;
-    r_qw_14 = ld64(away(t_f6_2, (u64)(r_24_48 << 3ull)));
-    if (r_qw_14 == 0ull) goto l_capnp_v7_1;
-    switch_f9_4 = (r_qw_14 & 3ull);
-    r_ep_6 = (u64)(r_qw_14 >> 32ull);
-    if (!((switch_f9_4 == 1ull) ? ((u8)((u8)((u8)r_ep_6 & 7u) + 255u) < 5u) : 0u)) goto l_join_br_1;
-    r_ij_2 = (u64)(r_qw_14 >> 35ull);
-    r_1q_4 = (ld64(away(away(((u8 *)switch_table_capnp_show_show_objects_read_object_5ccc1_1b90c80b), 8 * (r_ep_6 & 7ull)), 0xfffffffffffffff8ull)) * r_ij_2);
-    r_c6_6 = (u64)((r_1q_4 + 63ull) >> 6ull);
-    if (!t_0c_8) goto l_join_bd_2;
-    st64(r_08_4, uadd_sat64(ld64(r_08_4), 1ull));
+    if (!(r_gw_3 > r_24_8)) goto l_capnp_v7_1;
+    r_qw_6 = ld64(away(t_f6_1, (u64)(r_24_8 << 3ull)));
+    if (r_qw_6 == 0ull) goto l_capnp_v7_1;
+    switch_f9_1 = (r_qw_6 & 3ull);
+    r_ep_4 = (u64)(r_qw_6 >> 32ull);
+    if (!((switch_f9_1 == 1ull) ? ((u8)((u8)((u8)r_ep_4 & 7u) + 255u) < 5u) : 0u)) goto l_join_br_1;
+    r_ij_2 = (u64)(r_qw_6 >> 35ull);
+    r_1q_2 = (ld64(away(away(((u8 *)switch_table_capnp_show_show_objects_read_object_5ccc1_1b90c80b), 8 * (r_ep_4 & 7ull)), 0xfffffffffffffff8ull)) * r_ij_2);
+    r_c6_6 = (u64)((r_1q_2 + 63ull) >> 6ull);
+    if (!t_0c_1) goto l_join_bd_2;
+    st64(r_08_2, uadd_sat64(ld64(r_08_2), 1ull));
 l_join_bd_2:;
-    u64 r_m6_3 = ((u64)(r_qw_14 >> 2ull) & 0x3fffffffull);
-    r_lc_20 = ((r_24_48 + 1ull) + r_m6_3);
+    u64 r_m6_3 = ((u64)(r_qw_6 >> 2ull) & 0x3fffffffull);
+    r_lc_8 = ((r_24_8 + 1ull) + r_m6_3);
     if (!(r_m6_3 < 0x20000000ull)) goto l_else_70_3;
-    if (r_lc_20 > r_nb_8) { r_2b_19 = 23u; r_qh_1 = 0u; r_ip_1 = 0ull; goto l_capnp_no_1; }
-    r_gk_1 = r_lc_20;
+    if (r_lc_8 > r_nb_2) { r_2b_4 = 23u; r_qh_1 = 0u; r_ip_1 = 0ull; goto l_capnp_no_1; }
+    r_gk_1 = r_lc_8;
     goto l_arm_vo_1;
 l_else_70_3:;
-    u64 r_3o_3 = (r_lc_20 + 0xffffffffc0000000ull);
-    if ((r_lc_20 < 0x40000000ull) ? 1u : (r_3o_3 > r_nb_8)) { r_2b_19 = 23u; r_qh_1 = 0u; r_ip_1 = 0ull; goto l_capnp_no_1; }
+    u64 r_3o_3 = (r_lc_8 + 0xffffffffc0000000ull);
+    if ((r_lc_8 < 0x40000000ull) ? 1u : (r_3o_3 > r_nb_2)) { r_2b_4 = 23u; r_qh_1 = 0u; r_ip_1 = 0ull; goto l_capnp_no_1; }
     r_gk_1 = r_3o_3;
 l_arm_vo_1:;
-    if (r_sg_1) { r_2b_19 = 26u; r_qh_1 = 0u; r_ip_1 = 0ull; goto l_capnp_no_1; }
-    if (r_nb_8 < (r_gk_1 + r_c6_6)) { r_2b_19 = 23u; r_qh_1 = 0u; r_ip_1 = 0ull; goto l_capnp_no_1; }
-    if (!t_0c_8) goto l_arm_p5_1;
+    if (r_sg_1) { r_2b_4 = 26u; r_qh_1 = 0u; r_ip_1 = 0ull; goto l_capnp_no_1; }
+    if (r_nb_2 < (r_gk_1 + r_c6_6)) { r_2b_4 = 23u; r_qh_1 = 0u; r_ip_1 = 0ull; goto l_capnp_no_1; }
+    if (!t_0c_1) goto l_arm_p5_1;
     if (!(ld8(a_6) == 1u)) goto l_arm_p5_1;
-    r_52_17 = ld64(r_rq_9);
-    if (r_52_17 < r_c6_6) { r_2b_19 = 30u; r_qh_1 = 0u; r_ip_1 = 0ull; goto l_capnp_no_1; }
+    r_52_8 = ld64(r_rq_7);
+    if (r_52_8 < r_c6_6) { r_2b_4 = 30u; r_qh_1 = 0u; r_ip_1 = 0ull; goto l_capnp_no_1; }
     st64(a_6, 1ull);
-    st64(r_rq_9, (r_52_17 - r_c6_6));
+    st64(r_rq_7, (r_52_8 - r_c6_6));
 l_arm_p5_1:;
-    r_z6_44 = (u64)(r_c6_6 << 3ull);
-    r_8a_1 = away(t_f6_2, (u64)(r_gk_1 << 3ull));
-    r_se_2 = (u64)(((ld64(away(away(((u8 *)switch_table_capnp_show_show_objects_read_object_5ccc1_1b90c80b), 8 * (r_ep_6 & 7ull)), 0xfffffffffffffff8ull)) * r_ij_2) + 63ull) >> 6ull);
-    r_12_5 = (u32)r_se_2;
-    if (!r_2p_10) goto l_capnp_q5;
+    r_z6_6 = (u64)(r_c6_6 << 3ull);
+    r_8a_1 = away(t_f6_1, (u64)(r_gk_1 << 3ull));
+    r_se_2 = (u64)(((ld64(away(away(((u8 *)switch_table_capnp_show_show_objects_read_object_5ccc1_1b90c80b), 8 * (r_ep_4 & 7ull)), 0xfffffffffffffff8ull)) * r_ij_2) + 63ull) >> 6ull);
+    r_12_4 = (u32)r_se_2;
+    if (!r_2p_1) goto l_capnp_q5;
     r_yf_11 = ld32(r_2g_6);
-    if ((r_se_2 + (u64)r_yf_11) > (u64)(ld64(r_h6_5) >> 3ull)) goto l_arm_4u_5;
+    if ((r_se_2 + (u64)r_yf_11) > (u64)(ld64(r_h6_1) >> 3ull)) goto l_arm_4u_5;
     goto l_then_kl;
 l_capnp_q5:;
-    r_39_5 = capnp_arena_arena_rows_allocate_in_96bc33dd2dacd45a(ldp(r_o8_13), r_0f_18, r_12_5);
+    r_39_5 = capnp_arena_arena_rows_allocate_in_96bc33dd2dacd45a(ldp(r_o8_1), r_0f_6, r_12_4);
     if (r_39_5.f0 == 1u) goto l_else_gb;
     goto l_arm_4u_5;
 l_then_kl:;
-    st32(r_2g_6, (r_yf_11 + r_12_5));
-    st64(away(ldp(r_r2_11), (u64)((u64)r_sr_8 << 3ull)), ((r_qw_14 & 0xffffffff00000001ull) | (u64)(u32)((r_yf_11 + (r_sr_8 ^ 0xffffffffu)) << 2u)));
+    st32(r_2g_6, (r_yf_11 + r_12_4));
+    st64(away(ldp(r_r2_2), (u64)((u64)r_sr_1 << 3ull)), ((r_qw_6 & 0xffffffff00000001ull) | (u64)(u32)((r_yf_11 + (r_sr_1 ^ 0xffffffffu)) << 2u)));
     r_7u_2 = r_yf_11;
     r_x9_1 = 0u;
     goto l_arm_fv_1;
 l_else_gb:;
     u32 r_xo_6 = r_39_5.f1;
-    capnp_arena_arena_rows_put_word_in_96bc33dd2dacd45a(ldp(r_o8_13), r_0f_18, r_sr_8, ((r_qw_14 & 0xffffffff00000001ull) | (u64)(u32)((r_xo_6 + (r_sr_8 ^ 0xffffffffu)) << 2u)));
+    capnp_arena_arena_rows_put_word_in_96bc33dd2dacd45a(ldp(r_o8_1), r_0f_6, r_sr_1, ((r_qw_6 & 0xffffffff00000001ull) | (u64)(u32)((r_xo_6 + (r_sr_1 ^ 0xffffffffu)) << 2u)));
     r_7u_2 = r_xo_6;
     r_x9_1 = r_21_1;
     goto l_arm_fv_1;
 l_arm_4u_5:;
-    capnp_arena_arena_builder_arena_impl_BuilderArenaImplB_a1412319(slot_1, a_2, (r_12_5 + 1u));
+    capnp_arena_arena_builder_arena_impl_BuilderArenaImplB_a1412319(slot_1, a_2, (r_12_4 + 1u));
     if (!(ld8(slot_1) == 0u)) goto l_arm_vh_2;
-    r_yf_12 = ld32(r_ix_7);
-    r_e3_6 = ld32(r_x5_24);
-    r_ll_9 = (r_e3_6 + 1u);
-    r_6f_4 = (r_qw_14 & 0xffffffff00000001ull);
+    r_yf_12 = ld32(r_ix_3);
+    r_e3_6 = ld32(r_x5_11);
+    r_ll_4 = (r_e3_6 + 1u);
+    r_6f = (r_qw_6 & 0xffffffff00000001ull);
     if (!(r_yf_12 == 0u)) goto l_else_fi;
-    u64 r_z6_46 = (u64)((u64)r_e3_6 << 3ull);
-    st64(away(ldp(r_r2_11), r_z6_46), r_6f_4);
-    r_59_1 = r_z6_46;
+    u64 r_z6_7 = (u64)((u64)r_e3_6 << 3ull);
+    st64(away(ldp(r_r2_2), r_z6_7), r_6f);
+    r_59_1 = r_z6_7;
     goto l_capnp_9d_1;
 l_else_fi:;
-    u64 r_24_52 = (u64)r_yf_12;
-    capnp_arena_arena_rows_put_word_in_96bc33dd2dacd45a(ldp(r_o8_13), (r_24_52 + 0xffffffffffffffffull), r_e3_6, r_6f_4);
-    r_59_1 = ((u64)(r_24_52 << 32ull) | (u64)((u64)r_e3_6 << 3ull));
+    u64 r_24_9 = (u64)r_yf_12;
+    capnp_arena_arena_rows_put_word_in_96bc33dd2dacd45a(ldp(r_o8_1), (r_24_9 + 0xffffffffffffffffull), r_e3_6, r_6f);
+    r_59_1 = ((u64)(r_24_9 << 32ull) | (u64)((u64)r_e3_6 << 3ull));
 l_capnp_9d_1:;
-    r_ni_6 = (r_59_1 | 2ull);
-    if (!r_2p_10) goto l_else_kf;
-    st64(away(ldp(r_r2_11), (u64)((u64)r_sr_8 << 3ull)), r_ni_6);
+    r_ni_1 = (r_59_1 | 2ull);
+    if (!r_2p_1) goto l_else_kf;
+    st64(away(ldp(r_r2_2), (u64)((u64)r_sr_1 << 3ull)), r_ni_1);
     goto l_core_5s_1;
 l_else_kf:;
-    capnp_arena_arena_rows_put_word_in_96bc33dd2dacd45a(ldp(r_o8_13), r_0f_18, r_sr_8, r_ni_6);
+    capnp_arena_arena_rows_put_word_in_96bc33dd2dacd45a(ldp(r_o8_1), r_0f_6, r_sr_1, r_ni_1);
 l_core_5s_1:;
-    r_7u_2 = r_ll_9;
+    r_7u_2 = r_ll_4;
     r_x9_1 = r_yf_12;
 l_arm_fv_1:;
-    r_1q_6 = (ld64(away(away(((u8 *)switch_table_capnp_show_show_objects_read_object_5ccc1_1b90c80b), 8 * (r_ep_6 & 7ull)), 0xfffffffffffffff8ull)) * r_ij_2);
+    r_1q_3 = (ld64(away(away(((u8 *)switch_table_capnp_show_show_objects_read_object_5ccc1_1b90c80b), 8 * (r_ep_4 & 7ull)), 0xfffffffffffffff8ull)) * r_ij_2);
     if (r_c6_6 == 0ull) goto l_capnp_pq;
     if (!(r_x9_1 == 0u)) goto l_else_az_3;
-    r_u9 = ldp(r_r2_11);
+    r_u9 = ldp(r_r2_2);
     goto l_capnp_m1;
 l_else_az_3:;
-    u8 *r_6s_7 = capnp_arena_arena_rows_Rows_other_mut_96bc33dd2dacd45a(r_r2_11, r_x9_1);
-    r_u9 = r_6s_7;
+    u8 *r_6s_3 = capnp_arena_arena_rows_Rows_other_mut_96bc33dd2dacd45a(r_r2_2, r_x9_1);
+    r_u9 = r_6s_3;
 l_capnp_m1:;
-    r_2b_23 = away(r_u9, (u64)((u64)r_7u_2 << 3ull));
-    if (!(r_1q_4 < 449ull)) goto l_else_r3_3;
-    if (!(r_1q_4 > 192ull)) goto l_else_9l;
-    mv32(r_2b_23, r_8a_1);
-    u64 r_bh_5 = (r_z6_44 + 0xffffffffffffffe0ull);
-    mv32((r_2b_23 + (i64)(r_bh_5)), (r_8a_1 + (i64)(r_bh_5)));
+    r_2b_5 = away(r_u9, (u64)((u64)r_7u_2 << 3ull));
+    if (!(r_1q_2 < 449ull)) goto l_else_r3_3;
+    if (!(r_1q_2 > 192ull)) goto l_else_9l;
+    mv32(r_2b_5, r_8a_1);
+    u64 r_bh_4 = (r_z6_6 + 0xffffffffffffffe0ull);
+    mv32((r_2b_5 + (i64)(r_bh_4)), (r_8a_1 + (i64)(r_bh_4)));
     goto l_capnp_pq;
 l_else_9l:;
     if (r_c6_6 == 1ull) goto l_then_49_2;
-    mv16(r_2b_23, r_8a_1);
-    u64 r_8f_3 = (r_z6_44 + 0xfffffffffffffff0ull);
-    mv16((r_2b_23 + (i64)(r_8f_3)), (r_8a_1 + (i64)(r_8f_3)));
+    mv16(r_2b_5, r_8a_1);
+    u64 r_8f_3 = (r_z6_6 + 0xfffffffffffffff0ull);
+    mv16((r_2b_5 + (i64)(r_8f_3)), (r_8a_1 + (i64)(r_8f_3)));
     goto l_capnp_pq;
 l_then_49_2:;
-    mv8(r_2b_23, r_8a_1);
-    u64 r_la_3 = (r_z6_44 + 0xfffffffffffffff8ull);
-    mv8((r_2b_23 + (i64)(r_la_3)), (r_8a_1 + (i64)(r_la_3)));
+    mv8(r_2b_5, r_8a_1);
+    u64 r_la_3 = (r_z6_6 + 0xfffffffffffffff8ull);
+    mv8((r_2b_5 + (i64)(r_la_3)), (r_8a_1 + (i64)(r_la_3)));
     goto l_capnp_pq;
 l_else_r3_3:;
-    if (((u64)(uptr)r_2b_23 - (u64)(uptr)r_8a_1) < r_z6_44) { r_il_3 = 0ull; goto l_join_fh_3; }
-    memmove_or_none(r_2b_23, r_8a_1, r_z6_44);
+    if (((u64)(uptr)r_2b_5 - (u64)(uptr)r_8a_1) < r_z6_6) { r_il_3 = 0ull; goto l_join_fh_3; }
+    memmove_or_none(r_2b_5, r_8a_1, r_z6_6);
     goto l_capnp_pq;
 l_join_fh_3:;
-    st8((r_2b_23 + (i64)(r_il_3)), ld8((r_8a_1 + (i64)(r_il_3))));
-    u64 r_c4_14 = (r_il_3 + 1ull);
-    if (!(r_c4_14 == r_z6_44)) { r_il_3 = r_c4_14; goto l_join_fh_3; }
+    st8((r_2b_5 + (i64)(r_il_3)), ld8((r_8a_1 + (i64)(r_il_3))));
+    u64 r_c4_8 = (r_il_3 + 1ull);
+    if (!(r_c4_8 == r_z6_6)) { r_il_3 = r_c4_8; goto l_join_fh_3; }
 l_capnp_pq:;
-    r_4i_2 = (r_1q_6 & 63ull);
+    r_4i_2 = (r_1q_3 & 63ull);
     if (r_4i_2 == 0ull) goto l_capnp_v7_1;
-    u64 r_0f_20 = (r_c6_6 + 0xffffffffffffffffull);
-    r_w0_16 = (r_7u_2 + (u32)r_0f_20);
-    r_a5_2 = (ld64(away(r_8a_1, (u64)(r_0f_20 << 3ull))) & ((u64)(0xffffffffffffffffull << (r_4i_2 & 63u)) ^ 0xffffffffffffffffull));
+    u64 r_0f_7 = (r_c6_6 + 0xffffffffffffffffull);
+    r_w0_4 = (r_7u_2 + (u32)r_0f_7);
+    r_a5 = (ld64(away(r_8a_1, (u64)(r_0f_7 << 3ull))) & ((u64)(0xffffffffffffffffull << (r_4i_2 & 63u)) ^ 0xffffffffffffffffull));
     if (!(r_x9_1 == 0u)) goto l_else_fi_1;
-    st64(away(ldp(r_r2_11), (u64)((u64)r_w0_16 << 3ull)), r_a5_2);
+    st64(away(ldp(r_r2_2), (u64)((u64)r_w0_4 << 3ull)), r_a5);
     goto l_capnp_v7_1;
 l_else_fi_1:;
-    capnp_arena_arena_rows_put_word_in_96bc33dd2dacd45a(ldp(r_o8_13), ((u64)r_x9_1 + 0xffffffffffffffffull), r_w0_16, r_a5_2);
+    capnp_arena_arena_rows_put_word_in_96bc33dd2dacd45a(ldp(r_o8_1), ((u64)r_x9_1 + 0xffffffffffffffffull), r_w0_4, r_a5);
     goto l_capnp_v7_1;
 l_arm_vh_2:;
-    r_2b_19 = ld8(r_x5_24);
-    r_qh_1 = ld32(r_k0_11);
-    r_ip_1 = ld64(r_zd_18);
+    r_2b_4 = ld8(r_x5_11);
+    r_qh_1 = ld32(r_k0_7);
+    r_ip_1 = ld64(r_zd_11);
     goto l_capnp_no_1;
 l_join_br_1:;
-    if (!(switch_f9_4 == 0ull)) goto l_else_4r_1;
-    r_y6_3 = (u64)(r_qw_14 >> 48ull);
-    r_q7_3 = (r_ep_6 & 65535ull);
-    r_lc_23 = (r_q7_3 + r_y6_3);
+    if (!(switch_f9_1 == 0ull)) goto l_else_4r_1;
+    r_y6_3 = (u64)(r_qw_6 >> 48ull);
+    r_q7_2 = (r_ep_4 & 65535ull);
+    r_lc_9 = (r_q7_2 + r_y6_3);
     if (t_pa) goto l_join_o1_1;
-    st64(r_08_4, uadd_sat64(ld64(r_08_4), 1ull));
+    st64(r_08_2, uadd_sat64(ld64(r_08_2), 1ull));
 l_join_o1_1:;
-    u64 r_m6_4 = ((u64)(r_qw_14 >> 2ull) & 0x3fffffffull);
-    r_lc_24 = ((r_24_48 + 1ull) + r_m6_4);
+    u64 r_m6_4 = ((u64)(r_qw_6 >> 2ull) & 0x3fffffffull);
+    r_lc_10 = ((r_24_8 + 1ull) + r_m6_4);
     if (!(r_m6_4 < 0x20000000ull)) goto l_else_70_4;
-    if (r_lc_24 > r_nb_8) { r_2b_26 = 23u; goto l_capnp_no_2; }
-    r_jm_1 = r_lc_24;
+    if (r_lc_10 > r_nb_2) { r_2b_6 = 23u; goto l_capnp_no_2; }
+    r_jm_1 = r_lc_10;
     goto l_arm_h8_1;
 l_else_70_4:;
-    u64 r_3o_4 = (r_lc_24 + 0xffffffffc0000000ull);
-    if ((r_lc_24 < 0x40000000ull) ? 1u : (r_3o_4 > r_nb_8)) { r_2b_26 = 23u; goto l_capnp_no_2; }
+    u64 r_3o_4 = (r_lc_10 + 0xffffffffc0000000ull);
+    if ((r_lc_10 < 0x40000000ull) ? 1u : (r_3o_4 > r_nb_2)) { r_2b_6 = 23u; goto l_capnp_no_2; }
     r_jm_1 = r_3o_4;
 l_arm_h8_1:;
-    r_4r_6 = (u32)r_jm_1;
-    if (r_sg_1) { r_2b_26 = 26u; goto l_capnp_no_2; }
-    r_8u_9 = (r_nb_8 < (r_jm_1 + r_lc_23));
-    if ((u8)((u8)t_pa | (u8)r_8u_9)) goto l_capnp_li_1;
-    if (!(ld8(a_6) == 1u)) { r_5b_1 = r_4r_6; goto l_arm_7a_1; }
-    r_52_20 = ld64(r_rq_9);
-    if (r_52_20 < r_lc_23) { r_2b_26 = 30u; goto l_capnp_no_2; }
+    r_4r_2 = (u32)r_jm_1;
+    if (r_sg_1) { r_2b_6 = 26u; goto l_capnp_no_2; }
+    r_8u_1 = (r_nb_2 < (r_jm_1 + r_lc_9));
+    if ((u8)((u8)t_pa | (u8)r_8u_1)) goto l_capnp_li_1;
+    if (!(ld8(a_6) == 1u)) { r_5b_1 = r_4r_2; goto l_arm_7a_1; }
+    r_52_9 = ld64(r_rq_7);
+    if (r_52_9 < r_lc_9) { r_2b_6 = 30u; goto l_capnp_no_2; }
     st64(a_6, 1ull);
-    st64(r_rq_9, (r_52_20 - r_lc_23));
-    r_5b_1 = r_4r_6;
+    st64(r_rq_7, (r_52_9 - r_lc_9));
+    r_5b_1 = r_4r_2;
     goto l_arm_7a_1;
 l_capnp_li_1:;
-    if (r_8u_9) { r_2b_26 = 23u; goto l_capnp_no_2; }
-    r_5b_1 = (r_8u_9 ? 0u : r_4r_6);
+    if (r_8u_1) { r_2b_6 = 23u; goto l_capnp_no_2; }
+    r_5b_1 = (r_8u_1 ? 0u : r_4r_2);
 l_arm_7a_1:;
-    if (!t_q5_2) { r_mz_7 = r_ep_6; r_3h = r_y6_3; goto l_capnp_fl; }
-    u64 r_24_57 = (u64)r_5b_1;
-    r_lc_26 = (r_q7_3 + r_24_57);
-    r_z6_50 = (u64)(r_q7_3 << 3ull);
-    r_c0_16 = away(t_f6_2, (u64)(r_24_57 << 3ull));
-    if (r_q7_3 < 32ull) { r_nm_6 = r_q7_3; goto l_loop_jc_4; }
+    if (!t_q5_1) { r_mz = r_ep_4; r_3h = r_y6_3; goto l_capnp_fl; }
+    u64 r_24_10 = (u64)r_5b_1;
+    r_lc_11 = (r_q7_2 + r_24_10);
+    r_z6_8 = (u64)(r_q7_2 << 3ull);
+    r_c0_6 = away(t_f6_1, (u64)(r_24_10 << 3ull));
+    if (r_q7_2 < 32ull) { r_nm_5 = r_q7_2; goto l_loop_jc_4; }
     goto l_else_wj_2;
 l_loop_jc_4:;
-    if (r_nm_6 == 0ull) { r_ev_1 = 0ull; goto l_capnp_fc_1; }
-    u64 r_0f_22 = (r_nm_6 + 0xffffffffffffffffull);
-    if (ld64(away(r_c0_16, (u64)(r_0f_22 << 3ull))) == 0ull) { r_nm_6 = r_0f_22; goto l_loop_jc_4; }
-    r_ev_1 = r_nm_6;
+    if (r_nm_5 == 0ull) { r_ev_1 = 0ull; goto l_capnp_fc_1; }
+    u64 r_0f_8 = (r_nm_5 + 0xffffffffffffffffull);
+    if (ld64(away(r_c0_6, (u64)(r_0f_8 << 3ull))) == 0ull) { r_nm_5 = r_0f_8; goto l_loop_jc_4; }
+    r_ev_1 = r_nm_5;
     goto l_capnp_fc_1;
 l_else_wj_2:;
-    if (!(ld64(away(away(r_c0_16, r_z6_50), 0xfffffffffffffff8ull)) == 0ull)) { r_ev_1 = r_q7_3; goto l_capnp_fc_1; }
-    u64 r_g1_2 = capnp_words_lanes_used_words_bound(r_c0_16, r_z6_50);
-    r_nm_7 = r_g1_2;
+    if (!(ld64(away(away(r_c0_6, r_z6_8), 0xfffffffffffffff8ull)) == 0ull)) { r_ev_1 = r_q7_2; goto l_capnp_fc_1; }
+    u64 r_g1_2 = capnp_words_lanes_used_words_bound(r_c0_6, r_z6_8);
+    r_nm_6 = r_g1_2;
 l_loop_jc_5:;
-    if (r_nm_7 == 0ull) { r_ev_1 = 0ull; goto l_capnp_fc_1; }
-    u64 r_0f_23 = (r_nm_7 + 0xffffffffffffffffull);
-    if (ld64(away(r_c0_16, (u64)(r_0f_23 << 3ull))) == 0ull) { r_nm_7 = r_0f_23; goto l_loop_jc_5; }
-    r_ev_1 = r_nm_7;
+    if (r_nm_6 == 0ull) { r_ev_1 = 0ull; goto l_capnp_fc_1; }
+    u64 r_0f_9 = (r_nm_6 + 0xffffffffffffffffull);
+    if (ld64(away(r_c0_6, (u64)(r_0f_9 << 3ull))) == 0ull) { r_nm_6 = r_0f_9; goto l_loop_jc_5; }
+    r_ev_1 = r_nm_6;
 l_capnp_fc_1:;
-    r_z6_53 = (u64)(r_y6_3 << 3ull);
-    r_c0_17 = away(t_f6_2, (u64)(r_lc_26 << 3ull));
-    if (r_qw_14 < 0x20000000000000ull) { r_nm_8 = r_y6_3; goto l_loop_jc_6; }
+    r_z6_9 = (u64)(r_y6_3 << 3ull);
+    r_c0_7 = away(t_f6_1, (u64)(r_lc_11 << 3ull));
+    if (r_qw_6 < 0x20000000000000ull) { r_nm_7 = r_y6_3; goto l_loop_jc_6; }
     goto l_else_wj_3;
 l_loop_jc_6:;
-    if (r_nm_8 == 0ull) { r_mz_7 = r_ev_1; r_3h = 0ull; goto l_capnp_fl; }
-    u64 r_0f_24 = (r_nm_8 + 0xffffffffffffffffull);
-    if (ld64(away(r_c0_17, (u64)(r_0f_24 << 3ull))) == 0ull) { r_nm_8 = r_0f_24; goto l_loop_jc_6; }
-    r_mz_7 = r_ev_1;
-    r_3h = r_nm_8;
+    if (r_nm_7 == 0ull) { r_mz = r_ev_1; r_3h = 0ull; goto l_capnp_fl; }
+    u64 r_0f_10 = (r_nm_7 + 0xffffffffffffffffull);
+    if (ld64(away(r_c0_7, (u64)(r_0f_10 << 3ull))) == 0ull) { r_nm_7 = r_0f_10; goto l_loop_jc_6; }
+    r_mz = r_ev_1;
+    r_3h = r_nm_7;
     goto l_capnp_fl;
 l_else_wj_3:;
-    if (!(ld64(away(away(r_c0_17, r_z6_53), 0xfffffffffffffff8ull)) == 0ull)) { r_mz_7 = r_ev_1; r_3h = r_y6_3; goto l_capnp_fl; }
-    u64 r_g1_3 = capnp_words_lanes_used_words_bound(r_c0_17, r_z6_53);
-    r_nm_9 = r_g1_3;
+    if (!(ld64(away(away(r_c0_7, r_z6_9), 0xfffffffffffffff8ull)) == 0ull)) { r_mz = r_ev_1; r_3h = r_y6_3; goto l_capnp_fl; }
+    u64 r_g1_3 = capnp_words_lanes_used_words_bound(r_c0_7, r_z6_9);
+    r_nm_8 = r_g1_3;
 l_loop_jc_7:;
-    if (r_nm_9 == 0ull) { r_mz_7 = r_ev_1; r_3h = 0ull; goto l_capnp_fl; }
-    u64 r_0f_25 = (r_nm_9 + 0xffffffffffffffffull);
-    if (ld64(away(r_c0_17, (u64)(r_0f_25 << 3ull))) == 0ull) { r_nm_9 = r_0f_25; goto l_loop_jc_7; }
-    r_mz_7 = r_ev_1;
-    r_3h = r_nm_9;
+    if (r_nm_8 == 0ull) { r_mz = r_ev_1; r_3h = 0ull; goto l_capnp_fl; }
+    u64 r_0f_11 = (r_nm_8 + 0xffffffffffffffffull);
+    if (ld64(away(r_c0_7, (u64)(r_0f_11 << 3ull))) == 0ull) { r_nm_8 = r_0f_11; goto l_loop_jc_7; }
+    r_mz = r_ev_1;
+    r_3h = r_nm_8;
 l_capnp_fl:;
-    r_xg_3 = (u16)r_mz_7;
-    r_29_2 = ((u32)r_mz_7 & 65535u);
+    r_xg_2 = (u16)r_mz;
+    r_29_1 = ((u32)r_mz & 65535u);
     r_az_4 = ((u32)r_3h & 65535u);
-    r_68_5 = (r_az_4 + r_29_2);
+    r_68_5 = (r_az_4 + r_29_1);
     if (!(r_68_5 == 0u)) goto l_join_lx_1;
-    if (!r_2p_10) goto l_else_xv;
-    u64 r_24_58 = (u64)r_sr_8;
-    st64(away(ldp(r_r2_11), (u64)(r_24_58 << 3ull)), 0xfffffffcull);
-    r_ro_1 = r_24_58;
+    if (!r_2p_1) goto l_else_xv;
+    u64 r_24_11 = (u64)r_sr_1;
+    st64(away(ldp(r_r2_2), (u64)(r_24_11 << 3ull)), 0xfffffffcull);
+    r_ro_1 = r_24_11;
     goto l_capnp_sg_1;
 l_else_xv:;
-    capnp_arena_arena_rows_put_word_in_96bc33dd2dacd45a(ldp(r_o8_13), r_0f_18, r_sr_8, 0xfffffffcull);
-    r_ro_1 = (u64)r_sr_8;
+    capnp_arena_arena_rows_put_word_in_96bc33dd2dacd45a(ldp(r_o8_1), r_0f_6, r_sr_1, 0xfffffffcull);
+    r_ro_1 = (u64)r_sr_1;
 l_capnp_sg_1:;
-    r_nu_1 = ((u64)(r_ro_1 << 32ull) | r_24_44);
+    r_nu_1 = ((u64)(r_ro_1 << 32ull) | r_24_6);
     goto l_arm_zo_1;
 l_join_lx_1:;
-    if (!r_2p_10) goto l_else_5k_1;
+    if (!r_2p_1) goto l_else_5k_1;
     r_yf_13 = ld32(r_2g_6);
-    if (((u64)r_yf_13 + (u64)r_68_5) > (u64)(ld64(r_h6_5) >> 3ull)) { r_kw_5 = 0u; r_re_5 = 0u; goto l_join_ax_5; }
+    if (((u64)r_yf_13 + (u64)r_68_5) > (u64)(ld64(r_h6_1) >> 3ull)) { r_kw_5 = 0u; r_re_5 = 0u; goto l_join_ax_5; }
     st32(r_2g_6, (r_yf_13 + r_68_5));
     r_kw_5 = 1u;
     r_re_5 = r_yf_13;
@@ -12828,125 +12903,125 @@ l_join_ax_5:;
     r_jz_4 = t_3s_5;
     goto l_capnp_c2_4;
 l_else_5k_1:;
-    struct s_i8_i32 r_39_6 = capnp_arena_arena_rows_allocate_in_96bc33dd2dacd45a(ldp(r_o8_13), r_0f_18, r_68_5);
+    struct s_i8_i32 r_39_6 = capnp_arena_arena_rows_allocate_in_96bc33dd2dacd45a(ldp(r_o8_1), r_0f_6, r_68_5);
     r_jz_4 = r_39_6;
 l_capnp_c2_4:;
     if (!(r_jz_4.f0 == 1u)) goto l_arm_4u_6;
     r_xo_7 = r_jz_4.f1;
-    r_a7_43 = ((((u64)(r_mz_7 << 32ull) & 0xffff00000000ull) | (u64)(r_3h << 48ull)) | (u64)(u32)((r_xo_7 + (r_sr_8 ^ 0xffffffffu)) << 2u));
-    if (!r_2p_10) goto l_else_iy;
-    st64(away(ldp(r_r2_11), (u64)((u64)r_sr_8 << 3ull)), r_a7_43);
+    r_a7_1 = ((((u64)(r_mz << 32ull) & 0xffff00000000ull) | (u64)(r_3h << 48ull)) | (u64)(u32)((r_xo_7 + (r_sr_1 ^ 0xffffffffu)) << 2u));
+    if (!r_2p_1) goto l_else_iy;
+    st64(away(ldp(r_r2_2), (u64)((u64)r_sr_1 << 3ull)), r_a7_1);
     goto l_capnp_qg;
 l_else_iy:;
-    capnp_arena_arena_rows_put_word_in_96bc33dd2dacd45a(ldp(r_o8_13), r_0f_18, r_sr_8, r_a7_43);
+    capnp_arena_arena_rows_put_word_in_96bc33dd2dacd45a(ldp(r_o8_1), r_0f_6, r_sr_1, r_a7_1);
     goto l_capnp_qg;
 l_arm_4u_6:;
     capnp_arena_arena_builder_arena_impl_BuilderArenaImplB_a1412319(slot_1, a_2, (r_68_5 + 1u));
     if (!(ld8(slot_1) == 0u)) goto l_arm_vh_3;
-    u32 r_yf_14 = ld32(r_ix_6);
-    u32 r_e3_7 = ld32(r_x5_21);
-    capnp_arena_arena_builder_arena_impl_BuilderArenaImplB_baa973df(a_2, r_yf_14, r_e3_7, (((u64)(r_mz_7 << 32ull) & 0xffff00000000ull) | (u64)(r_3h << 48ull)));
-    capnp_arena_arena_builder_arena_impl_BuilderArenaImplB_baa973df(a_2, r_21_1, r_sr_8, (((u64)((u64)r_yf_14 << 32ull) | (u64)((u64)r_e3_7 << 3ull)) | 2ull));
+    u32 r_yf_14 = ld32(r_ix_2);
+    u32 r_e3_7 = ld32(r_x5_8);
+    capnp_arena_arena_builder_arena_impl_BuilderArenaImplB_baa973df(a_2, r_yf_14, r_e3_7, (((u64)(r_mz << 32ull) & 0xffff00000000ull) | (u64)(r_3h << 48ull)));
+    capnp_arena_arena_builder_arena_impl_BuilderArenaImplB_baa973df(a_2, r_21_1, r_sr_1, (((u64)((u64)r_yf_14 << 32ull) | (u64)((u64)r_e3_7 << 3ull)) | 2ull));
     r_nu_1 = ((u64)((u64)(r_e3_7 + 1u) << 32ull) | (u64)r_yf_14);
     goto l_arm_zo_1;
 l_capnp_qg:;
-    r_nu_1 = ((u64)((u64)r_xo_7 << 32ull) | r_24_45);
+    r_nu_1 = ((u64)((u64)r_xo_7 << 32ull) | r_24_7);
 l_arm_zo_1:;
-    r_wt_6 = (u32)r_nu_1;
-    r_ep_7 = (u64)(r_nu_1 >> 32ull);
-    r_4r_7 = (u32)r_ep_7;
-    r_0l_2 = ((u64)(r_mz_7 << 3ull) & 0x7fff8ull);
-    r_c0_18 = away(t_f6_2, (u64)((u64)r_5b_1 << 3ull));
-    if (r_xg_3 == 0u) goto l_capnp_5c;
-    if (!(r_wt_6 == 0u)) goto l_else_az_4;
-    r_al_1 = ldp(r_r2_11);
+    r_wt_1 = (u32)r_nu_1;
+    r_ep_5 = (u64)(r_nu_1 >> 32ull);
+    r_4r_3 = (u32)r_ep_5;
+    r_0l_1 = ((u64)(r_mz << 3ull) & 0x7fff8ull);
+    r_c0_8 = away(t_f6_1, (u64)((u64)r_5b_1 << 3ull));
+    if (r_xg_2 == 0u) goto l_capnp_5c;
+    if (!(r_wt_1 == 0u)) goto l_else_az_4;
+    r_al_1 = ldp(r_r2_2);
     goto l_capnp_kr_1;
 l_else_az_4:;
-    u8 *r_6s_9 = capnp_arena_arena_rows_Rows_other_mut_96bc33dd2dacd45a(r_r2_11, r_wt_6);
-    r_al_1 = r_6s_9;
+    u8 *r_6s_4 = capnp_arena_arena_rows_Rows_other_mut_96bc33dd2dacd45a(r_r2_2, r_wt_1);
+    r_al_1 = r_6s_4;
 l_capnp_kr_1:;
-    r_2b_33 = away(r_al_1, (u64)(r_ep_7 << 3ull));
-    if (!(r_xg_3 < 8u)) goto l_else_r3_4;
-    if (!(r_xg_3 > 3u)) goto l_else_1o_1;
-    mv32(r_2b_33, r_c0_18);
-    u64 r_bh_6 = (r_0l_2 + 0xffffffffffffffe0ull);
-    mv32((r_2b_33 + (i64)(r_bh_6)), (r_c0_18 + (i64)(r_bh_6)));
+    r_2b_7 = away(r_al_1, (u64)(r_ep_5 << 3ull));
+    if (!(r_xg_2 < 8u)) goto l_else_r3_4;
+    if (!(r_xg_2 > 3u)) goto l_else_1o_1;
+    mv32(r_2b_7, r_c0_8);
+    u64 r_bh_5 = (r_0l_1 + 0xffffffffffffffe0ull);
+    mv32((r_2b_7 + (i64)(r_bh_5)), (r_c0_8 + (i64)(r_bh_5)));
     goto l_capnp_5c;
 l_else_1o_1:;
-    if (r_xg_3 == 1u) goto l_then_49_3;
-    mv16(r_2b_33, r_c0_18);
-    u64 r_8f_4 = (r_0l_2 + 0xfffffffffffffff0ull);
-    mv16((r_2b_33 + (i64)(r_8f_4)), (r_c0_18 + (i64)(r_8f_4)));
+    if (r_xg_2 == 1u) goto l_then_49_3;
+    mv16(r_2b_7, r_c0_8);
+    u64 r_8f_4 = (r_0l_1 + 0xfffffffffffffff0ull);
+    mv16((r_2b_7 + (i64)(r_8f_4)), (r_c0_8 + (i64)(r_8f_4)));
     goto l_capnp_5c;
 l_then_49_3:;
-    mv8(r_2b_33, r_c0_18);
-    u64 r_la_4 = (r_0l_2 + 0xfffffffffffffff8ull);
-    mv8((r_2b_33 + (i64)(r_la_4)), (r_c0_18 + (i64)(r_la_4)));
+    mv8(r_2b_7, r_c0_8);
+    u64 r_la_4 = (r_0l_1 + 0xfffffffffffffff8ull);
+    mv8((r_2b_7 + (i64)(r_la_4)), (r_c0_8 + (i64)(r_la_4)));
     goto l_capnp_5c;
 l_else_r3_4:;
-    if (((u64)(uptr)r_2b_33 - (u64)(uptr)r_c0_18) < r_0l_2) { r_il_4 = 0ull; goto l_join_fh_4; }
-    memmove_or_none(r_2b_33, r_c0_18, r_0l_2);
+    if (((u64)(uptr)r_2b_7 - (u64)(uptr)r_c0_8) < r_0l_1) { r_il_4 = 0ull; goto l_join_fh_4; }
+    memmove_or_none(r_2b_7, r_c0_8, r_0l_1);
     goto l_capnp_5c;
 l_join_fh_4:;
-    st8((r_2b_33 + (i64)(r_il_4)), ld8((r_c0_18 + (i64)(r_il_4))));
-    u64 r_c4_16 = (r_il_4 + 1ull);
-    if (!(r_c4_16 == r_0l_2)) { r_il_4 = r_c4_16; goto l_join_fh_4; }
+    st8((r_2b_7 + (i64)(r_il_4)), ld8((r_c0_8 + (i64)(r_il_4))));
+    u64 r_c4_9 = (r_il_4 + 1ull);
+    if (!(r_c4_9 == r_0l_1)) { r_il_4 = r_c4_9; goto l_join_fh_4; }
 l_capnp_5c:;
     memset(slot_1, 0u, 24);
-    st64(t_6c_4, 0ull);
-    if (r_az_4 == 0u) { r_2b_34 = 0u; r_qh_2 = 0u; r_ip_2 = 0u; r_wq_1 = 0ull; goto l_capnp_no_3; }
+    st64(t_6c_2, 0ull);
+    if (r_az_4 == 0u) { r_2b_8 = 0u; r_qh_2 = 0u; r_ip_2 = 0u; r_wq_1 = 0ull; goto l_capnp_no_3; }
     st64(slot_2, r_eg);
-    stp(r_x5_22, r_rv);
-    st64(r_zd_16, r_qw);
-    st64(r_lk_6, r_qd);
-    stp(r_89_6, t_f6_2);
-    st64(r_a8_6, r_9h);
-    st32(r_c4_11, (r_5b_1 + ((u32)r_ep_6 & 65535u)));
-    st32(r_bk_3, 0u);
-    st32(r_6c_5, r_s1_1);
-    capnp_copies_copy_children_copy_children_out_of_line_f_f51e9aad(slot_1, a_2, r_wt_6, (r_29_2 + r_4r_7), slot_2, r_az_4, a_6, a_7);
-    r_2b_34 = ld8(slot_1);
-    r_qh_2 = ld8(r_x5_23);
-    r_ip_2 = ld32(r_k0_10);
-    r_wq_1 = ld64(r_zd_17);
+    stp(r_x5_9, r_rv);
+    st64(r_zd_9, r_qw);
+    st64(r_lk_3, r_qd);
+    stp(r_89_3, t_f6_1);
+    st64(r_a8_3, r_9h);
+    st32(r_c4_6, (r_5b_1 + ((u32)r_ep_4 & 65535u)));
+    st32(r_bk_1, 0u);
+    st32(r_6c_3, r_s1_1);
+    capnp_copies_copy_children_copy_children_out_of_line_f_f51e9aad(slot_1, a_2, r_wt_1, (r_29_1 + r_4r_3), slot_2, r_az_4, a_6, a_7);
+    r_2b_8 = ld8(slot_1);
+    r_qh_2 = ld8(r_x5_10);
+    r_ip_2 = ld32(r_k0_6);
+    r_wq_1 = ld64(r_zd_10);
 l_capnp_no_3:;
     t_ko = r_wq_1;
     t_h6 = r_ip_2;
     r_ex = r_qh_2;
-    t_jr = r_2b_34;
+    t_jr = r_2b_8;
     goto l_capnp_z0;
 l_arm_vh_3:;
-    t_ko = ld64(r_zd_15);
-    t_h6 = ld32(r_k0_9);
-    r_ex = ld8(r_x5_21);
+    t_ko = ld64(r_zd_8);
+    t_h6 = ld32(r_k0_5);
+    r_ex = ld8(r_x5_8);
     t_jr = 1u;
     goto l_capnp_z0;
 l_capnp_no_2:;
     r_rh = 1u;
-    r_hg_2 = r_2b_26;
+    r_hg_2 = r_2b_6;
     r_je = 0u;
     r_s2 = 0ull;
     goto l_capnp_nb;
 l_else_4r_1:;
     st64(slot_4, r_eg);
-    stp(r_x5_19, r_rv);
-    st64(r_zd_13, r_qw);
-    st64(r_lk_5, r_qd);
-    stp(r_89_5, t_f6_2);
-    st64(r_a8_5, r_9h);
-    st64(r_c4_10, r_24_48);
-    st32(r_6c_4, r_4w_1);
-    capnp_copies_copy_copy_object_f743e1513b93edc7(slot_3, a_2, r_21_1, r_sr_8, slot_4, a_6, a_7);
-    t_ko = ld64(r_zd_14);
-    t_h6 = ld32(r_k0_8);
-    r_ex = ld8(r_x5_20);
+    stp(r_x5_6, r_rv);
+    st64(r_zd_6, r_qw);
+    st64(r_lk_2, r_qd);
+    stp(r_89_2, t_f6_1);
+    st64(r_a8_2, r_9h);
+    st64(r_c4_5, r_24_8);
+    st32(r_6c_2, r_4w_1);
+    capnp_copies_copy_copy_object_f743e1513b93edc7(slot_3, a_2, r_21_1, r_sr_1, slot_4, a_6, a_7);
+    t_ko = ld64(r_zd_7);
+    t_h6 = ld32(r_k0_4);
+    r_ex = ld8(r_x5_7);
     t_jr = ld8(slot_3);
     goto l_capnp_z0;
 l_capnp_v7_1:;
     goto l_loop_w2;
 l_capnp_no_1:;
     r_rh = 1u;
-    r_hg_2 = r_2b_19;
+    r_hg_2 = r_2b_4;
     r_je = r_qh_1;
     r_s2 = r_ip_1;
     goto l_capnp_nb;
@@ -12963,12 +13038,12 @@ l_arm_x3_3:;
     r_je = ld32((slot_1 + 12));
     r_s2 = ld64((slot_1 + 16));
 l_capnp_nb:;
-    r_5k_2 = r_rh;
+    r_5k_1 = r_rh;
     r_qp = r_hg_2;
     r_7u = r_je;
     r_pz = r_s2;
 l_join_1g:;
-    r_10 = r_5k_2;
+    r_10 = r_5k_1;
     r_kb = (u32)r_qp;
     r_n4 = r_7u;
     r_yp = r_pz;
@@ -13003,13 +13078,13 @@ static void capnp_arena_arena_builder_arena_impl_BuilderArenaImplB_a1412319(u8 *
     u32 r_ll;
     u32 r_zv;
     u8 r_zm;
-    u64 r_fq_1;
+    u64 r_fq;
     u8 *r_rq;
     u64 r_r5;
     u8 *r_rv;
     u8 *r_o8_1;
     u8 *r_xz_1;
-    u8 *r_lg_2;
+    u8 *r_lg;
     u64 r_ym;
     u32 r_wt;
     u64 sink_zz;
@@ -13018,7 +13093,7 @@ static void capnp_arena_arena_builder_arena_impl_BuilderArenaImplB_a1412319(u8 *
     u32 r_oh;
     u32 r_yv;
     r_yf = away(a_2, 80ull);
-    if (!(u8)(ld8(r_yf) & 1)) { r_zm = 0u; r_fq_1 = 0ull; goto l_join_el; }
+    if (!(u8)(ld8(r_yf) & 1)) { r_zm = 0u; r_fq = 0ull; goto l_join_el; }
     r_2g = away(a_2, 72ull);
     u32 r_yf_1 = ld32(r_2g);
     if (!(((u64)r_yf_1 + (u64)a_3) > (u64)(ld64(away(a_2, 64ull)) >> 3ull))) { r_zv = r_yf_1; goto l_then_pp; }
@@ -13039,11 +13114,11 @@ l_else_35:;
     r_yv = r_sd;
     goto l_join_iz;
 l_arm_90:;
-    if (!(u8)(ld8(r_yf) & 1)) { r_zm = 0u; r_fq_1 = 0ull; goto l_join_el; }
-    u64 r_52_2 = ld64(away(a_2, 96ull));
-    if ((r_52_2 + 0xffffffff00000002ull) < 0xffffffff00000001ull) { r_i4 = 0x1b00000000ull; r_8d = 0xffffffffffffffffull; goto l_arm_7n; }
+    if (!(u8)(ld8(r_yf) & 1)) { r_zm = 0u; r_fq = 0ull; goto l_join_el; }
+    u64 r_52 = ld64(away(a_2, 96ull));
+    if ((r_52 + 0xffffffff00000002ull) < 0xffffffff00000001ull) { r_i4 = 0x1b00000000ull; r_8d = 0xffffffffffffffffull; goto l_arm_7n; }
     r_zm = 1u;
-    r_fq_1 = (r_52_2 + 1ull);
+    r_fq = (r_52 + 1ull);
 l_join_el:;
     if (!(a_3 > 0x1fffffffu)) goto l_join_qw;
     r_i4 = 0x1b00000000ull;
@@ -13073,19 +13148,19 @@ l_arm_ai:;
 l_join_xu:;
     r_o8_1 = away(a_2, 88ull);
     r_xz_1 = away(a_2, 24ull);
-    r_lg_2 = away(a_2, 96ull);
-    u64 r_52_5 = ld64(r_lg_2);
-    if (!(ld64(away(a_2, 104ull)) == r_52_5)) { r_ym = r_52_5; goto l_capnp_r2; }
+    r_lg = away(a_2, 96ull);
+    u64 r_52_1 = ld64(r_lg);
+    if (!(ld64(away(a_2, 104ull)) == r_52_1)) { r_ym = r_52_1; goto l_capnp_r2; }
     u8 r_8a = std_alloc_vec_Vec_grow_amortized_aae383c1cebb016e(r_o8_1);
     if (!r_8a) goto l_arm_gc;
-    r_ym = ld64(r_lg_2);
+    r_ym = ld64(r_lg);
 l_capnp_r2:;
     u8 *r_a7 = (ldp(r_o8_1) + (i64)((r_ym * 24ull)));
     stp(r_a7, r_rv);
     st64((r_a7 + 8), r_r5);
     st32((r_a7 + 16), 0u);
     st32((r_a7 + 20), 0x1fffffffu);
-    st64(r_lg_2, (r_ym + 1ull));
+    st64(r_lg, (r_ym + 1ull));
     goto l_arm_7m;
 l_arm_gc:;
     st64(r_xz_1, uadd_sat64(ld64(r_xz_1), 1ull));
@@ -13093,15 +13168,15 @@ l_arm_gc:;
     r_8d = 0ull;
     goto l_arm_7n;
 l_arm_7m:;
-    r_wt = (u32)r_fq_1;
+    r_wt = (u32)r_fq;
     if (!(r_wt == 0u)) goto l_else_91;
-    u8 *r_2g_2 = away(a_2, 72ull);
-    st32(r_2g_2, (ld32(r_2g_2) + a_3));
+    u8 *r_2g_1 = away(a_2, 72ull);
+    st32(r_2g_1, (ld32(r_2g_1) + a_3));
     r_oh = 0u;
     r_yv = 0u;
     goto l_join_iz;
 l_else_91:;
-    capnp_arena_arena_rows_allocate_fitting_in_96bc33dd2dacd45a(ldp(away(a_2, 88ull)), ((r_fq_1 & 0xffffffffull) + 0xffffffffffffffffull), a_3);
+    capnp_arena_arena_rows_allocate_fitting_in_96bc33dd2dacd45a(ldp(away(a_2, 88ull)), ((r_fq & 0xffffffffull) + 0xffffffffffffffffull), a_3);
     r_oh = r_wt;
     r_yv = 0u;
     goto l_join_iz;
@@ -13137,7 +13212,7 @@ static NEVER struct s_i8_i32 capnp_arena_arena_bounds_first_fit_by_bounds_96bc33
     u64 r_oc;
     u8 r_r3;
     u8 *r_8z;
-    u32 r_yf_1;
+    u32 r_yf;
     u64 r_gw;
     u32 r_da;
     u64 r_36;
@@ -13175,13 +13250,13 @@ l_capnp_ph:;
     r_r3 = (r_oc < a_2);
     if (!r_r3) { r_er = 0u; goto l_return_qi; }
     r_8z = away(a_1, (r_oc * 24ull));
-    r_yf_1 = ld32(away(r_8z, 16ull));
+    r_yf = ld32(away(r_8z, 16ull));
     r_gw = (u64)(ld64(away(r_8z, 8ull)) >> 3ull);
-    if (((u64)r_yf_1 + r_7l) > r_gw) goto l_join_qt;
+    if (((u64)r_yf + r_7l) > r_gw) goto l_join_qt;
     r_er = (u32)r_oc;
     goto l_return_qi;
 l_join_qt:;
-    r_da = ((u32)r_gw - r_yf_1);
+    r_da = ((u32)r_gw - r_yf);
     if (!((r_oc & 1ull) == 0ull)) goto l_join_f2;
     r_ky = (r_oc | 1ull);
     r_wg = r_da;
@@ -13424,7 +13499,7 @@ static NEVER COLD void capnp_making_landing_follow_far_22521b95e02b6c38(u8 *a_1,
     u8 *r_jx;
     u8 *r_ly;
     u64 r_pz;
-    u32 r_x0_1;
+    u32 r_x0;
     u64 r_ra;
     u64 r_6p;
     u32 r_01;
@@ -13435,7 +13510,7 @@ static NEVER COLD void capnp_making_landing_follow_far_22521b95e02b6c38(u8 *a_1,
     u8 *r_8j;
     u64 r_t5;
     u64 r_lw;
-    u64 pre_0f_1;
+    u64 pre_0f;
     u8 *r_li;
     u64 r_wm;
     u64 r_lc;
@@ -13481,23 +13556,23 @@ l_capnp_8h:;
     r_rh = 0ull;
     goto l_then_pl;
 l_then_8r:;
-    r_x0_1 = (t_ri + 1u);
+    r_x0 = (t_ri + 1u);
     if (r_ts) goto l_join_un;
     r_ra = (r_cy + 0xffffffffffffffffull);
     r_6p = ld64(away(a_2, 96ull));
-    r_01 = r_x0_1;
+    r_01 = r_x0;
     r_rh = r_pz;
 l_then_pl:;
     if (!(r_ra < r_6p)) { r_t5 = r_rh; r_lw = 0ull; goto l_capnp_31; }
-    u8 *r_2b_2 = away(ldp(away(a_2, 88ull)), (r_ra * 24ull));
+    u8 *r_2b_1 = away(ldp(away(a_2, 88ull)), (r_ra * 24ull));
     r_5s = r_01;
     r_g9 = r_rh;
-    r_jt = away(r_2b_2, 16ull);
-    r_8j = r_2b_2;
+    r_jt = away(r_2b_1, 16ull);
+    r_8j = r_2b_1;
     goto l_arm_hj;
 l_join_un:;
     if (!(u8)(ld8(away(a_2, 80ull)) & 1)) { r_t5 = r_pz; r_lw = 0ull; goto l_capnp_31; }
-    r_5s = r_x0_1;
+    r_5s = r_x0;
     r_g9 = r_pz;
     r_jt = away(a_2, 72ull);
     r_8j = r_r2;
@@ -13514,9 +13589,9 @@ l_capnp_31:;
     goto l_join_s8;
 l_else_y9:;
     if (r_ts) goto l_join_un_1;
-    pre_0f_1 = (r_cy + 0xffffffffffffffffull);
-    if (!(pre_0f_1 < ld64(away(a_2, 96ull)))) { r_wm = 0ull; goto l_capnp_v7; }
-    r_li = away(away(ldp(away(a_2, 88ull)), (pre_0f_1 * 24ull)), 16ull);
+    pre_0f = (r_cy + 0xffffffffffffffffull);
+    if (!(pre_0f < ld64(away(a_2, 96ull)))) { r_wm = 0ull; goto l_capnp_v7; }
+    r_li = away(away(ldp(away(a_2, 88ull)), (pre_0f * 24ull)), 16ull);
     goto l_arm_ef;
 l_join_un_1:;
     if (!(u8)(ld8(away(a_2, 80ull)) & 1)) { r_wm = 0ull; goto l_capnp_v7; }
@@ -13571,18 +13646,18 @@ static NEVER COLD void capnp_making_zeroing_zero_target_22521b95e02b6c38(u8 *a_1
     u64 r_0f_1;
     u8 *r_tl;
     u64 r_z6;
-    u8 *r_2b_2;
+    u8 *r_2b;
     u8 *t_2b;
     u64 r_ij;
-    u8 *r_r2_2;
-    u8 r_2p_2;
+    u8 *r_r2;
+    u8 r_2p_1;
     u64 r_0f_2;
     u8 *r_5s;
     u8 *r_g9;
     u64 r_eh;
     u32 t_c8;
     u64 r_y6_1;
-    u32 r_az_1;
+    u32 r_az;
     u32 t_12;
     u64 r_c4;
     u64 r_lc_3;
@@ -13591,14 +13666,14 @@ static NEVER COLD void capnp_making_zeroing_zero_target_22521b95e02b6c38(u8 *a_1
     u32 r_zz;
     u32 r_2f;
     u64 r_ic;
-    u64 r_b6_1;
+    u64 r_b6;
     u64 r_se;
-    u64 r_24_7;
+    u64 r_24_1;
     u64 r_lc_4;
     u64 r_0f_4;
     u8 *r_jd;
     u64 r_um;
-    u8 *r_2b_7;
+    u8 *r_2b_2;
     u8 *t_2b_1;
     r_tp = ld64(a_2);
     r_5k = ld32((a_2 + 8));
@@ -13655,23 +13730,23 @@ l_else_fs:;
     r_tl = r_6s;
 l_capnp_w0:;
     r_z6 = (u64)(r_es << 3ull);
-    r_2b_2 = away(r_tl, (u64)(r_24 << 3ull));
+    r_2b = away(r_tl, (u64)(r_24 << 3ull));
     if (r_68 < 8u) goto l_then_5x;
-    memset_or_none(r_2b_2, 0u, r_z6);
+    memset_or_none(r_2b, 0u, r_z6);
     goto l_join_68;
 l_then_5x:;
-    t_2b = away(r_2b_2, r_z6);
+    t_2b = away(r_2b, r_z6);
     if (!(r_68 > 3u)) goto l_else_gn;
-    memset(r_2b_2, 0, 32);
+    memset(r_2b, 0, 32);
     memset(away(t_2b, 0xffffffffffffffe0ull), 0, 32);
     goto l_join_68;
 l_else_gn:;
     if (r_68 == 1u) goto l_then_51;
-    memset(r_2b_2, 0, 16);
+    memset(r_2b, 0, 16);
     memset(away(t_2b, 0xfffffffffffffff0ull), 0, 16);
     goto l_join_68;
 l_then_51:;
-    memset(r_2b_2, 0, 8);
+    memset(r_2b, 0, 8);
     memset(away(t_2b, 0xfffffffffffffff8ull), 0, 8);
     goto l_join_68;
 l_arm_a9:;
@@ -13688,30 +13763,30 @@ l_arm_a9:;
     default: goto l_default_e1;
     }
 l_arm_84:;
-    r_r2_2 = away(a_1, 56ull);
-    r_2p_2 = (r_5k == 0u);
-    if (r_2p_2) goto l_join_7h_1;
+    r_r2 = away(a_1, 56ull);
+    r_2p_1 = (r_5k == 0u);
+    if (r_2p_1) goto l_join_7h_1;
     r_0f_2 = ((u64)r_5k + 0xffffffffffffffffull);
     if (!(r_0f_2 < ld64(away(a_1, 96ull)))) { r_eh = 0ull; goto l_capnp_qm; }
-    u8 *r_2b_3 = away(ldp(away(a_1, 88ull)), (r_0f_2 * 24ull));
-    r_5s = away(r_2b_3, 16ull);
-    r_g9 = r_2b_3;
+    u8 *r_2b_1 = away(ldp(away(a_1, 88ull)), (r_0f_2 * 24ull));
+    r_5s = away(r_2b_1, 16ull);
+    r_g9 = r_2b_1;
     goto l_arm_hj;
 l_join_7h_1:;
     if (!(u8)(ld8(away(a_1, 80ull)) & 1)) { r_eh = 0ull; goto l_capnp_qm; }
     r_5s = away(a_1, 72ull);
-    r_g9 = r_r2_2;
+    r_g9 = r_r2;
 l_arm_hj:;
     if (!(ld32(r_5s) > r_5k_1)) { r_eh = 0ull; goto l_capnp_qm; }
     r_eh = ld64(away(ldp(r_g9), (u64)((u64)r_5k_1 << 3ull)));
 l_capnp_qm:;
     t_c8 = (u32)((u32)r_eh >> 2u);
     r_y6_1 = (u64)(r_eh >> 48ull);
-    r_az_1 = ((u32)(u64)(r_eh >> 32ull) & 65535u);
+    r_az = ((u32)(u64)(r_eh >> 32ull) & 65535u);
     t_12 = (u32)r_y6_1;
-    r_c4 = (((u64)(r_az_1 + t_12) * (u64)t_c8) + 1ull);
+    r_c4 = (((u64)(r_az + t_12) * (u64)t_c8) + 1ull);
     r_lc_3 = (r_c4 + (u64)r_5k_1);
-    if (r_2p_2) goto l_join_if;
+    if (r_2p_1) goto l_join_if;
     r_0f_3 = ((u64)r_5k + 0xffffffffffffffffull);
     if (!(r_0f_3 < ld64(away(a_1, 96ull)))) goto l_join_68;
     r_8r = away(away(ldp(away(a_1, 88ull)), (r_0f_3 * 24ull)), 16ull);
@@ -13725,7 +13800,7 @@ l_arm_w5:;
     r_zz = (r_5k_1 + 1u);
     r_2f = 0u;
 l_join_mh:;
-    u32 r_w0 = (r_zz + r_az_1);
+    u32 r_w0 = (r_zz + r_az);
     capnp_making_zeroing_zero_pointers_22521b95e02b6c38(a_1, r_5k, r_w0, t_12);
     u32 r_ff = (r_2f + 1u);
     if (!(r_ff == t_c8)) { r_zz = (r_w0 + t_12); r_2f = r_ff; goto l_join_mh; }
@@ -13750,11 +13825,11 @@ l_arm_h9_1:;
 l_arm_h9:;
     r_ic = 64ull;
 l_capnp_nc:;
-    r_b6_1 = (r_ic * r_ij);
-    r_se = (u64)((r_b6_1 + 63ull) >> 6ull);
+    r_b6 = (r_ic * r_ij);
+    r_se = (u64)((r_b6 + 63ull) >> 6ull);
     if (r_se == 0ull) goto l_join_68;
-    r_24_7 = (u64)r_5k_1;
-    r_lc_4 = (r_se + r_24_7);
+    r_24_1 = (u64)r_5k_1;
+    r_lc_4 = (r_se + r_24_1);
     if (r_5k == 0u) goto l_join_5m_1;
     r_0f_4 = ((u64)r_5k + 0xffffffffffffffffull);
     if (r_0f_4 < ld64(away(a_1, 96ull))) goto l_capnp_8l_1;
@@ -13774,23 +13849,23 @@ l_else_fs_1:;
     r_jd = r_6s_1;
 l_capnp_w4:;
     r_um = ((u64)(r_se << 3ull) & 0x7fffffff8ull);
-    r_2b_7 = away(r_jd, (u64)(r_24_7 << 3ull));
-    if (r_b6_1 < 449ull) goto l_then_5t;
-    memset_or_none(r_2b_7, 0u, r_um);
+    r_2b_2 = away(r_jd, (u64)(r_24_1 << 3ull));
+    if (r_b6 < 449ull) goto l_then_5t;
+    memset_or_none(r_2b_2, 0u, r_um);
     goto l_join_68;
 l_then_5t:;
-    t_2b_1 = away(r_2b_7, r_um);
-    if (!(r_b6_1 > 192ull)) goto l_else_9l;
-    memset(r_2b_7, 0, 32);
+    t_2b_1 = away(r_2b_2, r_um);
+    if (!(r_b6 > 192ull)) goto l_else_9l;
+    memset(r_2b_2, 0, 32);
     memset(away(t_2b_1, 0xffffffffffffffe0ull), 0, 32);
     goto l_join_68;
 l_else_9l:;
     if (r_se == 1ull) goto l_then_51_1;
-    memset(r_2b_7, 0, 16);
+    memset(r_2b_2, 0, 16);
     memset(away(t_2b_1, 0xfffffffffffffff0ull), 0, 16);
     goto l_join_68;
 l_then_51_1:;
-    memset(r_2b_7, 0, 8);
+    memset(r_2b_2, 0, 8);
     memset(away(t_2b_1, 0xfffffffffffffff8ull), 0, 8);
 l_join_68:;
     return;
@@ -13808,15 +13883,15 @@ static void capnp_making_zeroing_zero_pointers_22521b95e02b6c38(u8 *a_1, u32 a_2
     u64 r_0f;
     u8 *r_li;
     u64 r_ap;
-    u8 *r_o8_1;
+    u8 *r_o8;
     u64 r_0f_1;
     u8 *r_r2;
     u8 *r_x5;
     u64 indvars_mo;
     u32 r_7m;
-    u8 *r_2b_1;
+    u8 *r_2b;
     u64 r_qw;
-    u8 *r_lz_2;
+    u8 *r_lz;
     u64 r_uj;
     u64 r_9s;
     r_v1 = (u64)a_4;
@@ -13834,7 +13909,7 @@ l_arm_ef:;
     r_ap = (u64)ld32(r_li);
 l_capnp_ow:;
     if (!(u8)((u8)(r_lc <= r_ap) & (u8)(a_4 != 0u))) goto l_join_68;
-    r_o8_1 = away(a_1, 88ull);
+    r_o8 = away(a_1, 88ull);
     r_0f_1 = ((u64)a_2 + 0xffffffffffffffffull);
     r_r2 = away(a_1, 56ull);
     r_x5 = (slot_1 + 8);
@@ -13843,23 +13918,23 @@ l_join_xy:;
     r_7m = (a_3 + (u32)indvars_mo);
     memset(slot_1, 0u, 32);
     if (!r_sz) goto l_capnp_ph;
-    r_2b_1 = away(ldp(r_r2), (u64)((u64)r_7m << 3ull));
-    r_qw = ld64(r_2b_1);
+    r_2b = away(ldp(r_r2), (u64)((u64)r_7m << 3ull));
+    r_qw = ld64(r_2b);
     if (r_qw == 0ull) goto l_capnp_o8;
     goto l_then_tf;
 l_capnp_ph:;
-    r_lz_2 = ldp(r_o8_1);
-    r_uj = capnp_arena_arena_rows_word_in_96bc33dd2dacd45a(r_lz_2, r_0f_1, r_7m);
+    r_lz = ldp(r_o8);
+    r_uj = capnp_arena_arena_rows_word_in_96bc33dd2dacd45a(r_lz, r_0f_1, r_7m);
     if (r_uj == 0ull) goto l_capnp_o8;
     goto l_else_so;
 l_then_tf:;
     capnp_making_landing_follow_22521b95e02b6c38(slot_1, a_1, 0u, r_7m);
-    st64(r_2b_1, 0ull);
+    st64(r_2b, 0ull);
     r_9s = r_qw;
     goto l_capnp_2f;
 l_else_so:;
     capnp_making_landing_follow_22521b95e02b6c38(slot_1, a_1, a_2, r_7m);
-    capnp_arena_arena_rows_put_word_in_96bc33dd2dacd45a(r_lz_2, r_0f_1, r_7m, 0ull);
+    capnp_arena_arena_rows_put_word_in_96bc33dd2dacd45a(r_lz, r_0f_1, r_7m, 0ull);
     r_9s = r_uj;
 l_capnp_2f:;
     if (!(ld8(slot_1) == 1u)) goto l_capnp_o8;
@@ -13885,7 +13960,7 @@ static void capnp_making_zeroing_zero_if_inside_22521b95e02b6c38(u8 *a_1, u32 a_
     u8 *r_r2;
     u8 *r_3j;
     u64 r_um;
-    u8 *r_2b_1;
+    u8 *r_2b;
     u8 *t_2b;
     if (a_4 == 0ull) goto l_join_68;
     r_7l = (u64)a_3;
@@ -13912,23 +13987,23 @@ l_else_wt:;
     r_3j = r_pi;
 l_capnp_02:;
     r_um = ((u64)(a_4 << 3ull) & 0x7fffffff8ull);
-    r_2b_1 = away(r_3j, (u64)(r_7l << 3ull));
+    r_2b = away(r_3j, (u64)(r_7l << 3ull));
     if (r_73 < 8u) goto l_then_5x;
-    memset_or_none(r_2b_1, 0u, r_um);
+    memset_or_none(r_2b, 0u, r_um);
     goto l_join_68;
 l_then_5x:;
-    t_2b = away(r_2b_1, r_um);
+    t_2b = away(r_2b, r_um);
     if (!(r_73 > 3u)) goto l_else_gn;
-    memset(r_2b_1, 0, 32);
+    memset(r_2b, 0, 32);
     memset(away(t_2b, 0xffffffffffffffe0ull), 0, 32);
     goto l_join_68;
 l_else_gn:;
     if (r_73 == 1u) goto l_then_51;
-    memset(r_2b_1, 0, 16);
+    memset(r_2b, 0, 16);
     memset(away(t_2b, 0xfffffffffffffff0ull), 0, 16);
     goto l_join_68;
 l_then_51:;
-    memset(r_2b_1, 0, 8);
+    memset(r_2b, 0, 8);
     memset(away(t_2b, 0xfffffffffffffff8ull), 0, 8);
 l_join_68:;
     return;
@@ -13945,7 +14020,7 @@ static NEVER COLD void capnp_making_zeroing_zero_far_pads_22521b95e02b6c38(u8 *a
     u64 r_79;
     u64 r_0f;
     u8 *r_i6;
-    u8 *r_2b_1;
+    u8 *r_2b;
     u8 *t_2b;
     r_hr = ((a_2 & 4ull) == 0ull);
     t_3h = (r_hr ? 1ull : 2ull);
@@ -13971,14 +14046,14 @@ l_else_bc:;
     u8 *r_6s = capnp_arena_arena_rows_Rows_other_mut_96bc33dd2dacd45a(away(a_1, 56ull), r_4r);
     r_i6 = r_6s;
 l_else_l1:;
-    r_2b_1 = away(r_i6, (u64)(r_ls << 3ull));
-    t_2b = away(r_2b_1, (u64)(t_3h << 3ull));
+    r_2b = away(r_i6, (u64)(r_ls << 3ull));
+    t_2b = away(r_2b, (u64)(t_3h << 3ull));
     if (r_hr) goto l_then_qw;
-    memset(r_2b_1, 0, 16);
+    memset(r_2b, 0, 16);
     memset(away(t_2b, 0xfffffffffffffff0ull), 0, 16);
     goto l_capnp_68;
 l_then_qw:;
-    memset(r_2b_1, 0, 8);
+    memset(r_2b, 0, 8);
     memset(away(t_2b, 0xfffffffffffffff8ull), 0, 8);
 l_capnp_68:;
     return;
@@ -14008,10 +14083,10 @@ static NEVER void capnp_copies_copy_children_copy_children_out_of_line_f_f51e9aa
     u8 *r_c4;
     u8 *r_6c;
     u8 t_pa;
-    u8 *r_08_1;
+    u8 *r_08;
     u64 r_nb;
     u8 r_n1;
-    u8 *r_rq_1;
+    u8 *r_rq;
     u8 *r_x5_1;
     u8 *r_k0;
     u8 *r_zd_1;
@@ -14027,7 +14102,7 @@ static NEVER void capnp_copies_copy_children_copy_children_out_of_line_f_f51e9aa
     u8 *r_k0_1;
     u8 *r_zd_2;
     u8 *r_ix;
-    u8 *r_r2_1;
+    u8 *r_r2;
     u8 *r_x5_3;
     u8 *r_zd_3;
     u8 *r_lk_1;
@@ -14058,8 +14133,8 @@ static NEVER void capnp_copies_copy_children_copy_children_out_of_line_f_f51e9aa
     u64 r_c6;
     u64 r_lc;
     u64 r_la;
-    u64 r_52_1;
-    u64 r_z6_1;
+    u64 r_52;
+    u64 r_z6;
     u8 *r_dx;
     u64 r_se;
     u32 r_12;
@@ -14068,38 +14143,38 @@ static NEVER void capnp_copies_copy_children_copy_children_out_of_line_f_f51e9aa
     u32 r_yf_1;
     u32 r_e3;
     u32 r_ll;
-    u64 r_6f_2;
+    u64 r_6f;
     u64 r_59;
     u64 r_ni;
     u32 r_7u;
     u32 r_x9;
-    u64 r_1q_2;
+    u64 r_1q_1;
     u8 *r_u9;
-    u8 *r_2b_4;
+    u8 *r_2b;
     u64 r_il;
     u64 r_4i;
-    u32 r_w0_1;
+    u32 r_w0;
     u64 r_a5;
     u64 r_y6;
     u64 r_q7;
-    u64 r_lc_3;
-    u64 r_lc_4;
+    u64 r_lc_1;
+    u64 r_lc_2;
     u64 r_09;
     u32 r_4r;
-    u8 r_8u_1;
-    u64 r_52_4;
+    u8 r_8u;
+    u64 r_52_1;
     u32 r_5b;
-    u64 r_lc_6;
-    u64 r_z6_7;
-    u8 *r_2b_7;
+    u64 r_lc_3;
+    u64 r_z6_2;
+    u8 *r_2b_1;
+    u64 r_nm;
     u64 r_nm_1;
-    u64 r_nm_2;
     u64 r_p3;
-    u64 r_z6_10;
-    u8 *r_2b_10;
+    u64 r_z6_3;
+    u8 *r_2b_2;
+    u64 r_nm_2;
     u64 r_nm_3;
-    u64 r_nm_4;
-    u64 r_mz_1;
+    u64 r_mz;
     u64 r_3h;
     u16 r_xg;
     u32 r_29;
@@ -14111,23 +14186,23 @@ static NEVER void capnp_copies_copy_children_copy_children_out_of_line_f_f51e9aa
     u32 r_re;
     struct s_i8_i32 r_jz;
     u32 r_xo_1;
-    u64 r_a7_11;
+    u64 r_a7;
     u32 r_yf_3;
     u32 r_e3_1;
     u32 r_ll_1;
-    u64 r_r8_1;
+    u64 r_r8;
     u64 r_59_1;
     u64 r_ni_1;
     u64 r_nu;
-    u32 r_wt_1;
+    u32 r_wt;
     u64 r_ep_1;
     u32 r_4r_1;
     u64 r_0l;
-    u8 *r_2b_17;
+    u8 *r_2b_3;
     u8 *r_al;
-    u8 *r_2b_18;
+    u8 *r_2b_4;
     u64 r_il_1;
-    u8 r_2b_19;
+    u8 r_2b_5;
     u8 r_qh;
     u32 r_ip;
     u64 r_wq;
@@ -14163,10 +14238,10 @@ static NEVER void capnp_copies_copy_children_copy_children_out_of_line_f_f51e9aa
     r_c4 = (slot_4 + 48);
     r_6c = (slot_4 + 56);
     t_pa = (r_dh != 0u);
-    r_08_1 = away(a_7, 16ull);
+    r_08 = away(a_7, 16ull);
     r_nb = (r_gw & 0xffffffffull);
     r_n1 = ((i32)r_5k_1 < (i32)1u);
-    r_rq_1 = away(a_7, 8ull);
+    r_rq = away(a_7, 8ull);
     r_x5_1 = (slot_3 + 8);
     r_k0 = (slot_3 + 12);
     r_zd_1 = (slot_3 + 16);
@@ -14182,7 +14257,7 @@ static NEVER void capnp_copies_copy_children_copy_children_out_of_line_f_f51e9aa
     r_k0_1 = (slot_1 + 12);
     r_zd_2 = (slot_1 + 16);
     r_ix = (slot_1 + 4);
-    r_r2_1 = away(a_2, 56ull);
+    r_r2 = away(a_2, 56ull);
     r_x5_3 = (slot_2 + 8);
     r_zd_3 = (slot_2 + 16);
     r_lk_1 = (slot_2 + 24);
@@ -14224,7 +14299,7 @@ l_join_22:;
     r_1q = (ld64(away(away(((u8 *)switch_table_capnp_show_show_objects_read_object_5ccc1_1b90c80b), 8 * (r_ep & 7ull)), 0xfffffffffffffff8ull)) * r_ij);
     r_c6 = (u64)((r_1q + 63ull) >> 6ull);
     if (!t_0c) goto l_join_bd;
-    st64(r_08_1, uadd_sat64(ld64(r_08_1), 1ull));
+    st64(r_08, uadd_sat64(ld64(r_08), 1ull));
 l_join_bd:;
     u64 r_m6 = ((u64)(r_qw_3 >> 2ull) & 0x3fffffffull);
     r_lc = ((r_24 + 1ull) + r_m6);
@@ -14241,12 +14316,12 @@ l_arm_i0_1:;
     if (r_nb < (r_la + r_c6)) { r_7k = 0ull; r_zq = 0u; r_p9 = 23u; goto l_arm_i0; }
     if (!t_0c) goto l_arm_5g;
     if (!(ld8(a_7) == 1u)) goto l_arm_5g;
-    r_52_1 = ld64(r_rq_1);
-    if (r_52_1 < r_c6) { r_7k = 0ull; r_zq = 0u; r_p9 = 30u; goto l_arm_i0; }
+    r_52 = ld64(r_rq);
+    if (r_52 < r_c6) { r_7k = 0ull; r_zq = 0u; r_p9 = 30u; goto l_arm_i0; }
     st64(a_7, 1ull);
-    st64(r_rq_1, (r_52_1 - r_c6));
+    st64(r_rq, (r_52 - r_c6));
 l_arm_5g:;
-    r_z6_1 = (u64)(r_c6 << 3ull);
+    r_z6 = (u64)(r_c6 << 3ull);
     r_dx = away(r_rv_1, (u64)(r_la << 3ull));
     r_se = (u64)(((ld64(away(away(((u8 *)switch_table_capnp_show_show_objects_read_object_5ccc1_1b90c80b), 8 * (r_ep & 7ull)), 0xfffffffffffffff8ull)) * r_ij) + 63ull) >> 6ull);
     r_12 = (u32)r_se;
@@ -14260,7 +14335,7 @@ l_capnp_q5:;
     goto l_arm_4u;
 l_then_kl:;
     st32(r_2g, (r_yf + r_12));
-    st64(away(ldp(r_r2_1), (u64)((u64)r_7m << 3ull)), ((r_qw_3 & 0xffffffff00000001ull) | (u64)(u32)((r_yf + (r_7m ^ 0xffffffffu)) << 2u)));
+    st64(away(ldp(r_r2), (u64)((u64)r_7m << 3ull)), ((r_qw_3 & 0xffffffff00000001ull) | (u64)(u32)((r_yf + (r_7m ^ 0xffffffffu)) << 2u)));
     r_7u = r_yf;
     r_x9 = 0u;
     goto l_arm_fv;
@@ -14276,20 +14351,20 @@ l_arm_4u:;
     r_yf_1 = ld32(r_ix_1);
     r_e3 = ld32(r_x5_5);
     r_ll = (r_e3 + 1u);
-    r_6f_2 = (r_qw_3 & 0xffffffff00000001ull);
+    r_6f = (r_qw_3 & 0xffffffff00000001ull);
     if (!(r_yf_1 == 0u)) goto l_else_fi;
-    u64 r_z6_3 = (u64)((u64)r_e3 << 3ull);
-    st64(away(ldp(r_r2_1), r_z6_3), r_6f_2);
-    r_59 = r_z6_3;
+    u64 r_z6_1 = (u64)((u64)r_e3 << 3ull);
+    st64(away(ldp(r_r2), r_z6_1), r_6f);
+    r_59 = r_z6_1;
     goto l_capnp_9d;
 l_else_fi:;
-    u64 r_24_4 = (u64)r_yf_1;
-    capnp_arena_arena_rows_put_word_in_96bc33dd2dacd45a(ldp(r_o8), (r_24_4 + 0xffffffffffffffffull), r_e3, r_6f_2);
-    r_59 = ((u64)(r_24_4 << 32ull) | (u64)((u64)r_e3 << 3ull));
+    u64 r_24_1 = (u64)r_yf_1;
+    capnp_arena_arena_rows_put_word_in_96bc33dd2dacd45a(ldp(r_o8), (r_24_1 + 0xffffffffffffffffull), r_e3, r_6f);
+    r_59 = ((u64)(r_24_1 << 32ull) | (u64)((u64)r_e3 << 3ull));
 l_capnp_9d:;
     r_ni = (r_59 | 2ull);
     if (!r_sz) goto l_else_kf;
-    st64(away(ldp(r_r2_1), (u64)((u64)r_7m << 3ull)), r_ni);
+    st64(away(ldp(r_r2), (u64)((u64)r_7m << 3ull)), r_ni);
     goto l_core_5s;
 l_else_kf:;
     capnp_arena_arena_rows_put_word_in_96bc33dd2dacd45a(ldp(r_o8), r_0f, r_7m, r_ni);
@@ -14297,52 +14372,52 @@ l_core_5s:;
     r_7u = r_ll;
     r_x9 = r_yf_1;
 l_arm_fv:;
-    r_1q_2 = (ld64(away(away(((u8 *)switch_table_capnp_show_show_objects_read_object_5ccc1_1b90c80b), 8 * (r_ep & 7ull)), 0xfffffffffffffff8ull)) * r_ij);
+    r_1q_1 = (ld64(away(away(((u8 *)switch_table_capnp_show_show_objects_read_object_5ccc1_1b90c80b), 8 * (r_ep & 7ull)), 0xfffffffffffffff8ull)) * r_ij);
     if (r_c6 == 0ull) goto l_capnp_pq;
     if (!(r_x9 == 0u)) goto l_else_az;
-    r_u9 = ldp(r_r2_1);
+    r_u9 = ldp(r_r2);
     goto l_capnp_m1;
 l_else_az:;
-    u8 *r_6s_1 = capnp_arena_arena_rows_Rows_other_mut_96bc33dd2dacd45a(r_r2_1, r_x9);
-    r_u9 = r_6s_1;
+    u8 *r_6s = capnp_arena_arena_rows_Rows_other_mut_96bc33dd2dacd45a(r_r2, r_x9);
+    r_u9 = r_6s;
 l_capnp_m1:;
-    r_2b_4 = away(r_u9, (u64)((u64)r_7u << 3ull));
+    r_2b = away(r_u9, (u64)((u64)r_7u << 3ull));
     if (!(r_1q < 449ull)) goto l_else_r3;
     if (!(r_1q > 192ull)) goto l_else_9l;
-    mv32(r_2b_4, r_dx);
-    u64 r_bh = (r_z6_1 + 0xffffffffffffffe0ull);
-    mv32((r_2b_4 + (i64)(r_bh)), (r_dx + (i64)(r_bh)));
+    mv32(r_2b, r_dx);
+    u64 r_bh = (r_z6 + 0xffffffffffffffe0ull);
+    mv32((r_2b + (i64)(r_bh)), (r_dx + (i64)(r_bh)));
     goto l_capnp_pq;
 l_else_9l:;
     if (r_c6 == 1ull) goto l_then_49;
-    mv16(r_2b_4, r_dx);
-    u64 r_8f = (r_z6_1 + 0xfffffffffffffff0ull);
-    mv16((r_2b_4 + (i64)(r_8f)), (r_dx + (i64)(r_8f)));
+    mv16(r_2b, r_dx);
+    u64 r_8f = (r_z6 + 0xfffffffffffffff0ull);
+    mv16((r_2b + (i64)(r_8f)), (r_dx + (i64)(r_8f)));
     goto l_capnp_pq;
 l_then_49:;
-    mv8(r_2b_4, r_dx);
-    u64 r_la_1 = (r_z6_1 + 0xfffffffffffffff8ull);
-    mv8((r_2b_4 + (i64)(r_la_1)), (r_dx + (i64)(r_la_1)));
+    mv8(r_2b, r_dx);
+    u64 r_la_1 = (r_z6 + 0xfffffffffffffff8ull);
+    mv8((r_2b + (i64)(r_la_1)), (r_dx + (i64)(r_la_1)));
     goto l_capnp_pq;
 l_else_r3:;
-    if (((u64)(uptr)r_2b_4 - (u64)(uptr)r_dx) < r_z6_1) { r_il = 0ull; goto l_join_fh; }
-    memmove_or_none(r_2b_4, r_dx, r_z6_1);
+    if (((u64)(uptr)r_2b - (u64)(uptr)r_dx) < r_z6) { r_il = 0ull; goto l_join_fh; }
+    memmove_or_none(r_2b, r_dx, r_z6);
     goto l_capnp_pq;
 l_join_fh:;
-    st8((r_2b_4 + (i64)(r_il)), ld8((r_dx + (i64)(r_il))));
-    u64 r_c4_3 = (r_il + 1ull);
-    if (!(r_c4_3 == r_z6_1)) { r_il = r_c4_3; goto l_join_fh; }
+    st8((r_2b + (i64)(r_il)), ld8((r_dx + (i64)(r_il))));
+    u64 r_c4_2 = (r_il + 1ull);
+    if (!(r_c4_2 == r_z6)) { r_il = r_c4_2; goto l_join_fh; }
 l_capnp_pq:;
-    r_4i = (r_1q_2 & 63ull);
+    r_4i = (r_1q_1 & 63ull);
     if (r_4i == 0ull) goto l_capnp_v7;
-    u64 r_0f_2 = (r_c6 + 0xffffffffffffffffull);
-    r_w0_1 = (r_7u + (u32)r_0f_2);
-    r_a5 = (ld64(away(r_dx, (u64)(r_0f_2 << 3ull))) & ((u64)(0xffffffffffffffffull << (r_4i & 63u)) ^ 0xffffffffffffffffull));
+    u64 r_0f_1 = (r_c6 + 0xffffffffffffffffull);
+    r_w0 = (r_7u + (u32)r_0f_1);
+    r_a5 = (ld64(away(r_dx, (u64)(r_0f_1 << 3ull))) & ((u64)(0xffffffffffffffffull << (r_4i & 63u)) ^ 0xffffffffffffffffull));
     if (!(r_x9 == 0u)) goto l_else_fi_1;
-    st64(away(ldp(r_r2_1), (u64)((u64)r_w0_1 << 3ull)), r_a5);
+    st64(away(ldp(r_r2), (u64)((u64)r_w0 << 3ull)), r_a5);
     goto l_capnp_v7;
 l_else_fi_1:;
-    capnp_arena_arena_rows_put_word_in_96bc33dd2dacd45a(ldp(r_o8), ((u64)r_x9 + 0xffffffffffffffffull), r_w0_1, r_a5);
+    capnp_arena_arena_rows_put_word_in_96bc33dd2dacd45a(ldp(r_o8), ((u64)r_x9 + 0xffffffffffffffffull), r_w0, r_a5);
     goto l_capnp_v7;
 l_arm_vh:;
     r_7k = ld64(r_zd_5);
@@ -14353,90 +14428,90 @@ l_join_br:;
     if (!(switch_f9 == 0ull)) goto l_else_4r;
     r_y6 = (u64)(r_qw_3 >> 48ull);
     r_q7 = (r_ep & 65535ull);
-    r_lc_3 = (r_q7 + r_y6);
+    r_lc_1 = (r_q7 + r_y6);
     if (t_pa) goto l_join_o1;
-    st64(r_08_1, uadd_sat64(ld64(r_08_1), 1ull));
+    st64(r_08, uadd_sat64(ld64(r_08), 1ull));
 l_join_o1:;
     u64 r_m6_1 = ((u64)(r_qw_3 >> 2ull) & 0x3fffffffull);
-    r_lc_4 = ((r_24 + 1ull) + r_m6_1);
+    r_lc_2 = ((r_24 + 1ull) + r_m6_1);
     if (!(r_m6_1 < 0x20000000ull)) goto l_else_70_1;
-    if (r_lc_4 > r_nb) { r_7k = 0ull; r_zq = 0u; r_p9 = 23u; goto l_arm_i0; }
-    r_09 = r_lc_4;
+    if (r_lc_2 > r_nb) { r_7k = 0ull; r_zq = 0u; r_p9 = 23u; goto l_arm_i0; }
+    r_09 = r_lc_2;
     goto l_arm_f4;
 l_else_70_1:;
-    u64 r_3o_1 = (r_lc_4 + 0xffffffffc0000000ull);
-    if ((r_lc_4 < 0x40000000ull) ? 1u : (r_3o_1 > r_nb)) { r_7k = 0ull; r_zq = 0u; r_p9 = 23u; goto l_arm_i0; }
+    u64 r_3o_1 = (r_lc_2 + 0xffffffffc0000000ull);
+    if ((r_lc_2 < 0x40000000ull) ? 1u : (r_3o_1 > r_nb)) { r_7k = 0ull; r_zq = 0u; r_p9 = 23u; goto l_arm_i0; }
     r_09 = r_3o_1;
 l_arm_f4:;
     r_4r = (u32)r_09;
     if (r_n1) { r_7k = 0ull; r_zq = 0u; r_p9 = 26u; goto l_arm_i0; }
-    r_8u_1 = (r_nb < (r_09 + r_lc_3));
-    if ((u8)((u8)t_pa | (u8)r_8u_1)) goto l_capnp_5r;
+    r_8u = (r_nb < (r_09 + r_lc_1));
+    if ((u8)((u8)t_pa | (u8)r_8u)) goto l_capnp_5r;
     if (!(ld8(a_7) == 1u)) { r_5b = r_4r; goto l_arm_7a; }
-    r_52_4 = ld64(r_rq_1);
-    if (r_52_4 < r_lc_3) { r_7k = 0ull; r_zq = 0u; r_p9 = 30u; goto l_arm_i0; }
+    r_52_1 = ld64(r_rq);
+    if (r_52_1 < r_lc_1) { r_7k = 0ull; r_zq = 0u; r_p9 = 30u; goto l_arm_i0; }
     st64(a_7, 1ull);
-    st64(r_rq_1, (r_52_4 - r_lc_3));
+    st64(r_rq, (r_52_1 - r_lc_1));
     r_5b = r_4r;
     goto l_arm_7a;
 l_capnp_5r:;
-    if (r_8u_1) { r_7k = 0ull; r_zq = 0u; r_p9 = 23u; goto l_arm_i0; }
-    r_5b = (r_8u_1 ? 0u : r_4r);
+    if (r_8u) { r_7k = 0ull; r_zq = 0u; r_p9 = 23u; goto l_arm_i0; }
+    r_5b = (r_8u ? 0u : r_4r);
 l_arm_7a:;
-    if (!t_q5) { r_mz_1 = r_ep; r_3h = r_y6; goto l_capnp_fl; }
-    u64 r_24_9 = (u64)r_5b;
-    r_lc_6 = (r_q7 + r_24_9);
-    r_z6_7 = (u64)(r_q7 << 3ull);
-    r_2b_7 = away(r_rv_1, (u64)(r_24_9 << 3ull));
-    if (r_q7 < 32ull) { r_nm_1 = r_q7; goto l_loop_jc; }
+    if (!t_q5) { r_mz = r_ep; r_3h = r_y6; goto l_capnp_fl; }
+    u64 r_24_2 = (u64)r_5b;
+    r_lc_3 = (r_q7 + r_24_2);
+    r_z6_2 = (u64)(r_q7 << 3ull);
+    r_2b_1 = away(r_rv_1, (u64)(r_24_2 << 3ull));
+    if (r_q7 < 32ull) { r_nm = r_q7; goto l_loop_jc; }
     goto l_else_wj;
 l_loop_jc:;
-    if (r_nm_1 == 0ull) { r_p3 = 0ull; goto l_capnp_bk; }
-    u64 r_0f_4 = (r_nm_1 + 0xffffffffffffffffull);
-    if (ld64(away(r_2b_7, (u64)(r_0f_4 << 3ull))) == 0ull) { r_nm_1 = r_0f_4; goto l_loop_jc; }
-    r_p3 = r_nm_1;
+    if (r_nm == 0ull) { r_p3 = 0ull; goto l_capnp_bk; }
+    u64 r_0f_2 = (r_nm + 0xffffffffffffffffull);
+    if (ld64(away(r_2b_1, (u64)(r_0f_2 << 3ull))) == 0ull) { r_nm = r_0f_2; goto l_loop_jc; }
+    r_p3 = r_nm;
     goto l_capnp_bk;
 l_else_wj:;
-    if (!(ld64(away(away(r_2b_7, r_z6_7), 0xfffffffffffffff8ull)) == 0ull)) { r_p3 = r_q7; goto l_capnp_bk; }
-    u64 r_g1 = capnp_words_lanes_used_words_bound(r_2b_7, r_z6_7);
-    r_nm_2 = r_g1;
+    if (!(ld64(away(away(r_2b_1, r_z6_2), 0xfffffffffffffff8ull)) == 0ull)) { r_p3 = r_q7; goto l_capnp_bk; }
+    u64 r_g1 = capnp_words_lanes_used_words_bound(r_2b_1, r_z6_2);
+    r_nm_1 = r_g1;
 l_loop_jc_1:;
-    if (r_nm_2 == 0ull) { r_p3 = 0ull; goto l_capnp_bk; }
-    u64 r_0f_5 = (r_nm_2 + 0xffffffffffffffffull);
-    if (ld64(away(r_2b_7, (u64)(r_0f_5 << 3ull))) == 0ull) { r_nm_2 = r_0f_5; goto l_loop_jc_1; }
-    r_p3 = r_nm_2;
+    if (r_nm_1 == 0ull) { r_p3 = 0ull; goto l_capnp_bk; }
+    u64 r_0f_3 = (r_nm_1 + 0xffffffffffffffffull);
+    if (ld64(away(r_2b_1, (u64)(r_0f_3 << 3ull))) == 0ull) { r_nm_1 = r_0f_3; goto l_loop_jc_1; }
+    r_p3 = r_nm_1;
 l_capnp_bk:;
-    r_z6_10 = (u64)(r_y6 << 3ull);
-    r_2b_10 = away(r_rv_1, (u64)(r_lc_6 << 3ull));
-    if (r_qw_3 < 0x20000000000000ull) { r_nm_3 = r_y6; goto l_loop_jc_2; }
+    r_z6_3 = (u64)(r_y6 << 3ull);
+    r_2b_2 = away(r_rv_1, (u64)(r_lc_3 << 3ull));
+    if (r_qw_3 < 0x20000000000000ull) { r_nm_2 = r_y6; goto l_loop_jc_2; }
     goto l_else_wj_1;
 l_loop_jc_2:;
-    if (r_nm_3 == 0ull) { r_mz_1 = r_p3; r_3h = 0ull; goto l_capnp_fl; }
-    u64 r_0f_6 = (r_nm_3 + 0xffffffffffffffffull);
-    if (ld64(away(r_2b_10, (u64)(r_0f_6 << 3ull))) == 0ull) { r_nm_3 = r_0f_6; goto l_loop_jc_2; }
-    r_mz_1 = r_p3;
-    r_3h = r_nm_3;
+    if (r_nm_2 == 0ull) { r_mz = r_p3; r_3h = 0ull; goto l_capnp_fl; }
+    u64 r_0f_4 = (r_nm_2 + 0xffffffffffffffffull);
+    if (ld64(away(r_2b_2, (u64)(r_0f_4 << 3ull))) == 0ull) { r_nm_2 = r_0f_4; goto l_loop_jc_2; }
+    r_mz = r_p3;
+    r_3h = r_nm_2;
     goto l_capnp_fl;
 l_else_wj_1:;
-    if (!(ld64(away(away(r_2b_10, r_z6_10), 0xfffffffffffffff8ull)) == 0ull)) { r_mz_1 = r_p3; r_3h = r_y6; goto l_capnp_fl; }
-    u64 r_g1_1 = capnp_words_lanes_used_words_bound(r_2b_10, r_z6_10);
-    r_nm_4 = r_g1_1;
+    if (!(ld64(away(away(r_2b_2, r_z6_3), 0xfffffffffffffff8ull)) == 0ull)) { r_mz = r_p3; r_3h = r_y6; goto l_capnp_fl; }
+    u64 r_g1_1 = capnp_words_lanes_used_words_bound(r_2b_2, r_z6_3);
+    r_nm_3 = r_g1_1;
 l_loop_jc_3:;
-    if (r_nm_4 == 0ull) { r_mz_1 = r_p3; r_3h = 0ull; goto l_capnp_fl; }
-    u64 r_0f_7 = (r_nm_4 + 0xffffffffffffffffull);
-    if (ld64(away(r_2b_10, (u64)(r_0f_7 << 3ull))) == 0ull) { r_nm_4 = r_0f_7; goto l_loop_jc_3; }
-    r_mz_1 = r_p3;
-    r_3h = r_nm_4;
+    if (r_nm_3 == 0ull) { r_mz = r_p3; r_3h = 0ull; goto l_capnp_fl; }
+    u64 r_0f_5 = (r_nm_3 + 0xffffffffffffffffull);
+    if (ld64(away(r_2b_2, (u64)(r_0f_5 << 3ull))) == 0ull) { r_nm_3 = r_0f_5; goto l_loop_jc_3; }
+    r_mz = r_p3;
+    r_3h = r_nm_3;
 l_capnp_fl:;
-    r_xg = (u16)r_mz_1;
-    r_29 = ((u32)r_mz_1 & 65535u);
+    r_xg = (u16)r_mz;
+    r_29 = ((u32)r_mz & 65535u);
     r_az = ((u32)r_3h & 65535u);
     r_68 = (r_az + r_29);
     if (!(r_68 == 0u)) goto l_join_lx;
     if (!r_sz) goto l_else_xv;
-    u64 r_24_10 = (u64)r_7m;
-    st64(away(ldp(r_r2_1), (u64)(r_24_10 << 3ull)), 0xfffffffcull);
-    r_ro = r_24_10;
+    u64 r_24_3 = (u64)r_7m;
+    st64(away(ldp(r_r2), (u64)(r_24_3 << 3ull)), 0xfffffffcull);
+    r_ro = r_24_3;
     goto l_capnp_sg;
 l_else_xv:;
     capnp_arena_arena_rows_put_word_in_96bc33dd2dacd45a(ldp(r_o8), r_0f, r_7m, 0xfffffffcull);
@@ -14464,12 +14539,12 @@ l_else_5k:;
 l_capnp_c2:;
     if (!(r_jz.f0 == 1u)) goto l_arm_4u_1;
     r_xo_1 = r_jz.f1;
-    r_a7_11 = ((((u64)(r_mz_1 << 32ull) & 0xffff00000000ull) | (u64)(r_3h << 48ull)) | (u64)(u32)((r_xo_1 + (r_7m ^ 0xffffffffu)) << 2u));
+    r_a7 = ((((u64)(r_mz << 32ull) & 0xffff00000000ull) | (u64)(r_3h << 48ull)) | (u64)(u32)((r_xo_1 + (r_7m ^ 0xffffffffu)) << 2u));
     if (!r_sz) goto l_else_iy;
-    st64(away(ldp(r_r2_1), (u64)((u64)r_7m << 3ull)), r_a7_11);
+    st64(away(ldp(r_r2), (u64)((u64)r_7m << 3ull)), r_a7);
     goto l_capnp_qg;
 l_else_iy:;
-    capnp_arena_arena_rows_put_word_in_96bc33dd2dacd45a(ldp(r_o8), r_0f, r_7m, r_a7_11);
+    capnp_arena_arena_rows_put_word_in_96bc33dd2dacd45a(ldp(r_o8), r_0f, r_7m, r_a7);
     goto l_capnp_qg;
 l_arm_4u_1:;
     capnp_arena_arena_builder_arena_impl_BuilderArenaImplB_a1412319(slot_1, a_2, (r_68 + 1u));
@@ -14477,20 +14552,20 @@ l_arm_4u_1:;
     r_yf_3 = ld32(r_ix);
     r_e3_1 = ld32(r_x5_2);
     r_ll_1 = (r_e3_1 + 1u);
-    r_r8_1 = (((u64)(r_mz_1 << 32ull) & 0xffff00000000ull) | (u64)(r_3h << 48ull));
+    r_r8 = (((u64)(r_mz << 32ull) & 0xffff00000000ull) | (u64)(r_3h << 48ull));
     if (!(r_yf_3 == 0u)) goto l_else_fi_2;
-    u64 r_z6_15 = (u64)((u64)r_e3_1 << 3ull);
-    st64(away(ldp(r_r2_1), r_z6_15), r_r8_1);
-    r_59_1 = r_z6_15;
+    u64 r_z6_4 = (u64)((u64)r_e3_1 << 3ull);
+    st64(away(ldp(r_r2), r_z6_4), r_r8);
+    r_59_1 = r_z6_4;
     goto l_capnp_9d_1;
 l_else_fi_2:;
-    u64 r_24_14 = (u64)r_yf_3;
-    capnp_arena_arena_rows_put_word_in_96bc33dd2dacd45a(ldp(r_o8), (r_24_14 + 0xffffffffffffffffull), r_e3_1, r_r8_1);
-    r_59_1 = ((u64)(r_24_14 << 32ull) | (u64)((u64)r_e3_1 << 3ull));
+    u64 r_24_4 = (u64)r_yf_3;
+    capnp_arena_arena_rows_put_word_in_96bc33dd2dacd45a(ldp(r_o8), (r_24_4 + 0xffffffffffffffffull), r_e3_1, r_r8);
+    r_59_1 = ((u64)(r_24_4 << 32ull) | (u64)((u64)r_e3_1 << 3ull));
 l_capnp_9d_1:;
     r_ni_1 = (r_59_1 | 2ull);
     if (!r_sz) goto l_else_iy_1;
-    st64(away(ldp(r_r2_1), (u64)((u64)r_7m << 3ull)), r_ni_1);
+    st64(away(ldp(r_r2), (u64)((u64)r_7m << 3ull)), r_ni_1);
     goto l_capnp_k5;
 l_else_iy_1:;
     capnp_arena_arena_rows_put_word_in_96bc33dd2dacd45a(ldp(r_o8), r_0f, r_7m, r_ni_1);
@@ -14501,49 +14576,49 @@ l_capnp_qg:;
 l_capnp_k5:;
     r_nu = ((u64)((u64)r_ll_1 << 32ull) | (u64)r_yf_3);
 l_arm_zo:;
-    r_wt_1 = (u32)r_nu;
+    r_wt = (u32)r_nu;
     r_ep_1 = (u64)(r_nu >> 32ull);
     r_4r_1 = (u32)r_ep_1;
-    r_0l = ((u64)(r_mz_1 << 3ull) & 0x7fff8ull);
-    r_2b_17 = away(r_rv_1, (u64)((u64)r_5b << 3ull));
+    r_0l = ((u64)(r_mz << 3ull) & 0x7fff8ull);
+    r_2b_3 = away(r_rv_1, (u64)((u64)r_5b << 3ull));
     if (r_xg == 0u) goto l_capnp_5c;
-    if (!(r_wt_1 == 0u)) goto l_else_az_1;
-    r_al = ldp(r_r2_1);
+    if (!(r_wt == 0u)) goto l_else_az_1;
+    r_al = ldp(r_r2);
     goto l_capnp_kr;
 l_else_az_1:;
-    u8 *r_6s_3 = capnp_arena_arena_rows_Rows_other_mut_96bc33dd2dacd45a(r_r2_1, r_wt_1);
-    r_al = r_6s_3;
+    u8 *r_6s_1 = capnp_arena_arena_rows_Rows_other_mut_96bc33dd2dacd45a(r_r2, r_wt);
+    r_al = r_6s_1;
 l_capnp_kr:;
-    r_2b_18 = away(r_al, (u64)(r_ep_1 << 3ull));
+    r_2b_4 = away(r_al, (u64)(r_ep_1 << 3ull));
     if (!(r_xg < 8u)) goto l_else_r3_1;
     if (!(r_xg > 3u)) goto l_else_1o;
-    mv32(r_2b_18, r_2b_17);
+    mv32(r_2b_4, r_2b_3);
     u64 r_bh_1 = (r_0l + 0xffffffffffffffe0ull);
-    mv32((r_2b_18 + (i64)(r_bh_1)), (r_2b_17 + (i64)(r_bh_1)));
+    mv32((r_2b_4 + (i64)(r_bh_1)), (r_2b_3 + (i64)(r_bh_1)));
     goto l_capnp_5c;
 l_else_1o:;
     if (r_xg == 1u) goto l_then_49_1;
-    mv16(r_2b_18, r_2b_17);
+    mv16(r_2b_4, r_2b_3);
     u64 r_8f_1 = (r_0l + 0xfffffffffffffff0ull);
-    mv16((r_2b_18 + (i64)(r_8f_1)), (r_2b_17 + (i64)(r_8f_1)));
+    mv16((r_2b_4 + (i64)(r_8f_1)), (r_2b_3 + (i64)(r_8f_1)));
     goto l_capnp_5c;
 l_then_49_1:;
-    mv8(r_2b_18, r_2b_17);
+    mv8(r_2b_4, r_2b_3);
     u64 r_la_2 = (r_0l + 0xfffffffffffffff8ull);
-    mv8((r_2b_18 + (i64)(r_la_2)), (r_2b_17 + (i64)(r_la_2)));
+    mv8((r_2b_4 + (i64)(r_la_2)), (r_2b_3 + (i64)(r_la_2)));
     goto l_capnp_5c;
 l_else_r3_1:;
-    if (((u64)(uptr)r_2b_18 - (u64)(uptr)r_2b_17) < r_0l) { r_il_1 = 0ull; goto l_join_fh_1; }
-    memmove_or_none(r_2b_18, r_2b_17, r_0l);
+    if (((u64)(uptr)r_2b_4 - (u64)(uptr)r_2b_3) < r_0l) { r_il_1 = 0ull; goto l_join_fh_1; }
+    memmove_or_none(r_2b_4, r_2b_3, r_0l);
     goto l_capnp_5c;
 l_join_fh_1:;
-    st8((r_2b_18 + (i64)(r_il_1)), ld8((r_2b_17 + (i64)(r_il_1))));
-    u64 r_c4_5 = (r_il_1 + 1ull);
-    if (!(r_c4_5 == r_0l)) { r_il_1 = r_c4_5; goto l_join_fh_1; }
+    st8((r_2b_4 + (i64)(r_il_1)), ld8((r_2b_3 + (i64)(r_il_1))));
+    u64 r_c4_3 = (r_il_1 + 1ull);
+    if (!(r_c4_3 == r_0l)) { r_il_1 = r_c4_3; goto l_join_fh_1; }
 l_capnp_5c:;
     memset(slot_1, 0u, 24);
     st64(t_6c, 0ull);
-    if (r_az == 0u) { r_2b_19 = 0u; r_qh = 0u; r_ip = 0u; r_wq = 0ull; goto l_capnp_no; }
+    if (r_az == 0u) { r_2b_5 = 0u; r_qh = 0u; r_ip = 0u; r_wq = 0ull; goto l_capnp_no; }
     st64(slot_2, r_eg);
     stp(r_x5_3, r_rv);
     st64(r_zd_3, r_qw);
@@ -14553,8 +14628,8 @@ l_capnp_5c:;
     st32(r_c4_1, (r_5b + ((u32)r_ep & 65535u)));
     st32(r_bk, 0u);
     st32(r_6c_1, r_53);
-    capnp_copies_copy_children_copy_children_out_of_line_f_f51e9aad(slot_1, a_2, r_wt_1, (r_29 + r_4r_1), slot_2, r_az, a_7, a_8);
-    r_2b_19 = ld8(slot_1);
+    capnp_copies_copy_children_copy_children_out_of_line_f_f51e9aad(slot_1, a_2, r_wt, (r_29 + r_4r_1), slot_2, r_az, a_7, a_8);
+    r_2b_5 = ld8(slot_1);
     r_qh = ld8(r_x5_4);
     r_ip = ld32(r_k0_2);
     r_wq = ld64(r_zd_4);
@@ -14562,7 +14637,7 @@ l_capnp_no:;
     t_i2 = r_wq;
     t_1i = r_ip;
     r_k7 = r_qh;
-    t_yl = r_2b_19;
+    t_yl = r_2b_5;
     goto l_capnp_6w;
 l_arm_vh_1:;
     t_i2 = ld64(r_zd_2);
@@ -14623,23 +14698,23 @@ struct s_p_i64 capnp_messages_messages_writing_canonical_bytes_bd7e3d_4a746b72(u
     struct s_i64_i64 r_1y;
     u8 *r_f6;
     u8 *r_zd;
-    u8 *r_x5_1;
+    u8 *r_x5;
     u8 *r_zd_1;
-    u8 *r_lz_1;
-    u32 r_e3_1;
+    u8 *r_lz;
+    u32 r_e3;
     u32 r_ek;
     u8 *r_zh;
     u8 *r_d2;
     u8 *r_qn;
     u8 *r_9j;
     u64 r_kh;
-    u8 *r_lz_2;
+    u8 *r_lz_1;
     u64 r_52_1;
     u8 *r_he;
     u64 r_z5;
     u64 r_jx;
-    u8 *r_lz_3;
-    u64 r_z6_1;
+    u8 *r_lz_2;
+    u64 r_z6;
     u8 *r_cm;
     u64 r_2k;
     r_r2 = away(a_1, 56ull);
@@ -14674,19 +14749,19 @@ l_capnp_8u:;
     goto l_join_yc;
 l_std_mb:;
     stp(slot_2, slot_1);
-    r_x5_1 = (slot_2 + 8);
+    r_x5 = (slot_2 + 8);
     r_zd_1 = (slot_2 + 16);
-    memset(r_x5_1, 0u, 16);
-    r_lz_1 = ldp(r_r2);
-    r_e3_1 = ld32(away(a_1, 72ull));
+    memset(r_x5, 0u, 16);
+    r_lz = ldp(r_r2);
+    r_e3 = ld32(away(a_1, 72ull));
     u8 r_gt = std_alloc_vec_Vec_grow_amortized_0e5e43add44bc681(slot_2);
     if (!r_gt) goto l_then_g4;
-    r_ek = r_e3_1;
-    r_zh = r_lz_1;
-    r_d2 = r_x5_1;
+    r_ek = r_e3;
+    r_zh = r_lz;
+    r_d2 = r_x5;
     r_qn = r_zd_1;
     r_9j = ldp(slot_2);
-    r_kh = ld64(r_x5_1);
+    r_kh = ld64(r_x5);
     goto l_join_yc;
 l_then_g4:;
     if (ld64(r_zd_1) == 0ull) goto l_after_64;
@@ -14697,16 +14772,16 @@ l_join_yc:;
     st64((r_a7 + 8), (u64)((u64)r_ek << 3ull));
     u64 r_7n_1 = (r_kh + 1ull);
     st64(r_d2, r_7n_1);
-    r_lz_2 = ldp(away(a_1, 88ull));
+    r_lz_1 = ldp(away(a_1, 88ull));
     r_52_1 = ld64(r_lg);
     if (r_52_1 == 0ull) goto l_after_64;
     r_he = r_9j;
     r_z5 = r_7n_1;
     r_jx = 0ull;
 l_join_zt:;
-    u8 *r_2b = away(r_lz_2, (r_jx * 24ull));
-    r_lz_3 = ldp(r_2b);
-    r_z6_1 = (u64)((u64)ld32(away(r_2b, 16ull)) << 3ull);
+    u8 *r_2b = away(r_lz_1, (r_jx * 24ull));
+    r_lz_2 = ldp(r_2b);
+    r_z6 = (u64)((u64)ld32(away(r_2b, 16ull)) << 3ull);
     if (!(ld64(r_qn) == r_z5)) { r_cm = r_he; r_2k = r_z5; goto l_after_6r; }
     u8 r_gt_1 = std_alloc_vec_Vec_grow_amortized_0e5e43add44bc681(slot_2);
     if (!r_gt_1) goto l_arm_g4;
@@ -14714,8 +14789,8 @@ l_join_zt:;
     r_2k = ld64(r_d2);
 l_after_6r:;
     u8 *r_a7_1 = (r_cm + (i64)((u64)(r_2k << 4ull)));
-    stp(r_a7_1, r_lz_3);
-    st64((r_a7_1 + 8), r_z6_1);
+    stp(r_a7_1, r_lz_2);
+    st64((r_a7_1 + 8), r_z6);
     u64 r_7n_2 = (r_2k + 1ull);
     st64(r_d2, r_7n_2);
     u64 r_36 = (r_jx + 1ull);
@@ -14761,7 +14836,7 @@ void sha2_Digest_digest_8314f5c2d9589b12(u8 *a_1, u8 *a_2, u64 a_3)
     memcpy(slot_1, slot_5, 104);
     u64 r_52 = ld64((slot_1 + 96));
     u64 r_44 = (u64)(r_52 << 3ull);
-    sha2_block256_Core256_update(slot_1, ((u8 *)g_static_140), (((55ull - r_52) & 63ull) + 1ull));
+    sha2_block256_Core256_update(slot_1, ((u8 *)g_static_150), (((55ull - r_52) & 63ull) + 1ull));
     st64(slot_4, (((((((((u64)(r_52 << 43ull) & 0xff000000000000ull) | (u64)(r_52 << 59ull)) | ((u64)(r_52 << 27ull) & 0xff0000000000ull)) | ((u64)(r_52 << 11ull) & 0xff00000000ull)) | ((u64)(r_44 >> 8ull) & 0xff000000ull)) | ((u64)(r_44 >> 24ull) & 0xff0000ull)) | ((u64)(r_44 >> 40ull) & 65280ull)) | (u64)(r_44 >> 56ull)));
     sha2_block256_Core256_update(slot_1, slot_4, 8ull);
     mv32(slot_2, slot_1);
@@ -14770,8 +14845,8 @@ void sha2_Digest_digest_8314f5c2d9589b12(u8 *a_1, u8 *a_2, u64 a_3)
 l_join_o3:;
     u64 t_vo = (u64)(r_we << 2ull);
     st32(away(slot_3, t_vo), bswap32(ld32((slot_2 + (i64)(t_vo)))));
-    u64 r_c4_1 = (r_we + 1ull);
-    if (!(r_c4_1 == 8ull)) { r_we = r_c4_1; goto l_join_o3; }
+    u64 r_c4 = (r_we + 1ull);
+    if (!(r_c4 == 8ull)) { r_we = r_c4; goto l_join_o3; }
     mv32(a_1, slot_3);
     return;
 }
@@ -14862,19 +14937,19 @@ static void sha2_block256_compress(u8 *a_1, u8 *a_2)
     u64 r_ay;
     u32 r_ru;
     u8 *r_sl;
-    u32 r_5k_1;
+    u32 r_5k;
     u8 *r_e7;
-    u32 r_5k_2;
+    u32 r_5k_1;
     u8 *r_a4;
-    u32 r_5k_3;
+    u32 r_5k_2;
     u8 *r_ud;
-    u32 r_5k_4;
+    u32 r_5k_3;
     u8 *r_hf;
-    u32 r_5k_5;
+    u32 r_5k_4;
     u8 *r_ng;
-    u32 r_5k_6;
+    u32 r_5k_5;
     u8 *r_zh;
-    u32 r_5k_7;
+    u32 r_5k_6;
     u64 r_2h;
     u32 r_f7;
     u32 r_gp;
@@ -14891,7 +14966,7 @@ static void sha2_block256_compress(u8 *a_1, u8 *a_2)
     u32 r_h8;
     u32 r_ra;
     u32 r_8e;
-    u32 r_nj_16;
+    u32 r_nj;
     u32 r_3x;
     u32 r_1k;
     u32 r_hx;
@@ -14900,14 +14975,14 @@ static void sha2_block256_compress(u8 *a_1, u8 *a_2)
     u32 r_up;
     u32 r_m4;
     u32 r_9q;
-    u32 r_w0_224;
-    u32 r_w0_225;
-    u32 r_w0_234;
-    u32 r_w0_235;
-    u32 r_w0_244;
-    u32 r_w0_245;
-    u32 r_w0_254;
-    u32 r_w0_255;
+    u32 r_w0_96;
+    u32 r_w0_97;
+    u32 r_w0_100;
+    u32 r_w0_101;
+    u32 r_w0_104;
+    u32 r_w0_105;
+    u32 r_w0_108;
+    u32 r_w0_109;
     memset(slot_1, 0u, 64);
     r_ay = 0ull;
 l_join_a7:;
@@ -14917,371 +14992,371 @@ l_join_a7:;
     if (!(r_c4 == 16ull)) { r_ay = r_c4; goto l_join_a7; }
     r_ru = ld32(a_1);
     r_sl = (a_1 + 4);
-    r_5k_1 = ld32(r_sl);
+    r_5k = ld32(r_sl);
     r_e7 = (a_1 + 8);
-    r_5k_2 = ld32(r_e7);
+    r_5k_1 = ld32(r_e7);
     r_a4 = (a_1 + 12);
-    r_5k_3 = ld32(r_a4);
+    r_5k_2 = ld32(r_a4);
     r_ud = (a_1 + 16);
-    r_5k_4 = ld32(r_ud);
+    r_5k_3 = ld32(r_ud);
     r_hf = (a_1 + 20);
-    r_5k_5 = ld32(r_hf);
+    r_5k_4 = ld32(r_hf);
     r_ng = (a_1 + 24);
-    r_5k_6 = ld32(r_ng);
+    r_5k_5 = ld32(r_ng);
     r_zh = (a_1 + 28);
-    r_5k_7 = ld32(r_zh);
-    u32 r_n6 = (fshl32(r_5k_4, r_5k_4, 18u) ^ r_5k_4);
-    u32 r_n6_1 = (fshl32(r_n6, r_n6, 27u) ^ r_5k_4);
-    u32 r_w0_2 = ((((r_5k_7 + 0x428a2f98u) + ld32(slot_1)) + fshl32(r_n6_1, r_n6_1, 26u)) + (((r_5k_6 ^ r_5k_5) & r_5k_4) ^ r_5k_6));
-    u32 r_n6_4 = (fshl32(r_ru, r_ru, 23u) ^ r_ru);
-    u32 r_n6_5 = (fshl32(r_n6_4, r_n6_4, 21u) ^ r_ru);
-    u32 r_n6_6 = (r_5k_1 ^ r_ru);
-    u32 r_w0_4 = ((fshl32(r_n6_5, r_n6_5, 30u) + (((r_5k_2 ^ r_5k_1) & r_n6_6) ^ r_5k_1)) + r_w0_2);
-    u32 r_w0_5 = (r_w0_2 + r_5k_3);
+    r_5k_6 = ld32(r_zh);
+    u32 r_n6 = (fshl32(r_5k_3, r_5k_3, 18u) ^ r_5k_3);
+    u32 r_n6_1 = (fshl32(r_n6, r_n6, 27u) ^ r_5k_3);
+    u32 r_w0 = ((((r_5k_6 + 0x428a2f98u) + ld32(slot_1)) + fshl32(r_n6_1, r_n6_1, 26u)) + (((r_5k_5 ^ r_5k_4) & r_5k_3) ^ r_5k_5));
+    u32 r_n6_2 = (fshl32(r_ru, r_ru, 23u) ^ r_ru);
+    u32 r_n6_3 = (fshl32(r_n6_2, r_n6_2, 21u) ^ r_ru);
+    u32 r_n6_4 = (r_5k ^ r_ru);
+    u32 r_w0_1 = ((fshl32(r_n6_3, r_n6_3, 30u) + (((r_5k_1 ^ r_5k) & r_n6_4) ^ r_5k)) + r_w0);
+    u32 r_w0_2 = (r_w0 + r_5k_2);
     u8 *r_ix = (slot_1 + 4);
-    u32 r_n6_9 = (fshl32(r_w0_5, r_w0_5, 18u) ^ r_w0_5);
-    u32 r_n6_10 = (fshl32(r_n6_9, r_n6_9, 27u) ^ r_w0_5);
-    u32 r_w0_8 = ((((r_5k_6 + 0x71374491u) + ld32(r_ix)) + ((r_w0_5 & (r_5k_5 ^ r_5k_4)) ^ r_5k_5)) + fshl32(r_n6_10, r_n6_10, 26u));
-    u32 r_n6_13 = (fshl32(r_w0_4, r_w0_4, 23u) ^ r_w0_4);
-    u32 r_n6_14 = (fshl32(r_n6_13, r_n6_13, 21u) ^ r_w0_4);
-    u32 r_n6_15 = (r_w0_4 ^ r_ru);
-    u32 r_w0_10 = ((fshl32(r_n6_14, r_n6_14, 30u) + ((r_n6_15 & r_n6_6) ^ r_ru)) + r_w0_8);
-    u32 r_w0_11 = (r_w0_8 + r_5k_2);
+    u32 r_n6_5 = (fshl32(r_w0_2, r_w0_2, 18u) ^ r_w0_2);
+    u32 r_n6_6 = (fshl32(r_n6_5, r_n6_5, 27u) ^ r_w0_2);
+    u32 r_w0_3 = ((((r_5k_5 + 0x71374491u) + ld32(r_ix)) + ((r_w0_2 & (r_5k_4 ^ r_5k_3)) ^ r_5k_4)) + fshl32(r_n6_6, r_n6_6, 26u));
+    u32 r_n6_7 = (fshl32(r_w0_1, r_w0_1, 23u) ^ r_w0_1);
+    u32 r_n6_8 = (fshl32(r_n6_7, r_n6_7, 21u) ^ r_w0_1);
+    u32 r_n6_9 = (r_w0_1 ^ r_ru);
+    u32 r_w0_4 = ((fshl32(r_n6_8, r_n6_8, 30u) + ((r_n6_9 & r_n6_4) ^ r_ru)) + r_w0_3);
+    u32 r_w0_5 = (r_w0_3 + r_5k_1);
     u8 *r_x5 = (slot_1 + 8);
-    u32 r_n6_17 = (fshl32(r_w0_11, r_w0_11, 18u) ^ r_w0_11);
-    u32 r_n6_18 = (fshl32(r_n6_17, r_n6_17, 27u) ^ r_w0_11);
-    u32 r_w0_14 = ((((r_5k_5 + 0xb5c0fbcfu) + ld32(r_x5)) + ((r_w0_11 & (r_w0_5 ^ r_5k_4)) ^ r_5k_4)) + fshl32(r_n6_18, r_n6_18, 26u));
-    u32 r_n6_21 = (fshl32(r_w0_10, r_w0_10, 23u) ^ r_w0_10);
-    u32 r_n6_22 = (fshl32(r_n6_21, r_n6_21, 21u) ^ r_w0_10);
-    u32 r_n6_23 = (r_w0_10 ^ r_w0_4);
-    u32 r_w0_16 = ((fshl32(r_n6_22, r_n6_22, 30u) + ((r_n6_23 & r_n6_15) ^ r_w0_4)) + r_w0_14);
-    u32 r_w0_17 = (r_w0_14 + r_5k_1);
+    u32 r_n6_10 = (fshl32(r_w0_5, r_w0_5, 18u) ^ r_w0_5);
+    u32 r_n6_11 = (fshl32(r_n6_10, r_n6_10, 27u) ^ r_w0_5);
+    u32 r_w0_6 = ((((r_5k_4 + 0xb5c0fbcfu) + ld32(r_x5)) + ((r_w0_5 & (r_w0_2 ^ r_5k_3)) ^ r_5k_3)) + fshl32(r_n6_11, r_n6_11, 26u));
+    u32 r_n6_12 = (fshl32(r_w0_4, r_w0_4, 23u) ^ r_w0_4);
+    u32 r_n6_13 = (fshl32(r_n6_12, r_n6_12, 21u) ^ r_w0_4);
+    u32 r_n6_14 = (r_w0_4 ^ r_w0_1);
+    u32 r_w0_7 = ((fshl32(r_n6_13, r_n6_13, 30u) + ((r_n6_14 & r_n6_9) ^ r_w0_1)) + r_w0_6);
+    u32 r_w0_8 = (r_w0_6 + r_5k);
     u8 *r_k0 = (slot_1 + 12);
-    u32 r_n6_25 = (fshl32(r_w0_17, r_w0_17, 18u) ^ r_w0_17);
-    u32 r_n6_26 = (fshl32(r_n6_25, r_n6_25, 27u) ^ r_w0_17);
-    u32 r_w0_20 = ((((r_5k_4 + 0xe9b5dba5u) + ld32(r_k0)) + ((r_w0_17 & (r_w0_11 ^ r_w0_5)) ^ r_w0_5)) + fshl32(r_n6_26, r_n6_26, 26u));
-    u32 r_n6_29 = (fshl32(r_w0_16, r_w0_16, 23u) ^ r_w0_16);
-    u32 r_n6_30 = (fshl32(r_n6_29, r_n6_29, 21u) ^ r_w0_16);
-    u32 r_n6_31 = (r_w0_16 ^ r_w0_10);
-    u32 r_w0_22 = ((fshl32(r_n6_30, r_n6_30, 30u) + ((r_n6_31 & r_n6_23) ^ r_w0_10)) + r_w0_20);
-    u32 r_w0_23 = (r_w0_20 + r_ru);
-    u8 *r_zd_4 = (slot_1 + 16);
-    u32 r_n6_33 = (fshl32(r_w0_23, r_w0_23, 18u) ^ r_w0_23);
-    u32 r_n6_34 = (fshl32(r_n6_33, r_n6_33, 27u) ^ r_w0_23);
-    u32 r_w0_26 = ((((ld32(r_zd_4) + 0x3956c25bu) + r_w0_5) + ((r_w0_23 & (r_w0_17 ^ r_w0_11)) ^ r_w0_11)) + fshl32(r_n6_34, r_n6_34, 26u));
-    u32 r_n6_37 = (fshl32(r_w0_22, r_w0_22, 23u) ^ r_w0_22);
-    u32 r_n6_38 = (fshl32(r_n6_37, r_n6_37, 21u) ^ r_w0_22);
-    u32 r_n6_39 = (r_w0_22 ^ r_w0_16);
-    u32 r_w0_28 = ((fshl32(r_n6_38, r_n6_38, 30u) + ((r_n6_39 & r_n6_31) ^ r_w0_16)) + r_w0_26);
-    u32 r_w0_29 = (r_w0_26 + r_w0_4);
+    u32 r_n6_15 = (fshl32(r_w0_8, r_w0_8, 18u) ^ r_w0_8);
+    u32 r_n6_16 = (fshl32(r_n6_15, r_n6_15, 27u) ^ r_w0_8);
+    u32 r_w0_9 = ((((r_5k_3 + 0xe9b5dba5u) + ld32(r_k0)) + ((r_w0_8 & (r_w0_5 ^ r_w0_2)) ^ r_w0_2)) + fshl32(r_n6_16, r_n6_16, 26u));
+    u32 r_n6_17 = (fshl32(r_w0_7, r_w0_7, 23u) ^ r_w0_7);
+    u32 r_n6_18 = (fshl32(r_n6_17, r_n6_17, 21u) ^ r_w0_7);
+    u32 r_n6_19 = (r_w0_7 ^ r_w0_4);
+    u32 r_w0_10 = ((fshl32(r_n6_18, r_n6_18, 30u) + ((r_n6_19 & r_n6_14) ^ r_w0_4)) + r_w0_9);
+    u32 r_w0_11 = (r_w0_9 + r_ru);
+    u8 *r_zd = (slot_1 + 16);
+    u32 r_n6_20 = (fshl32(r_w0_11, r_w0_11, 18u) ^ r_w0_11);
+    u32 r_n6_21 = (fshl32(r_n6_20, r_n6_20, 27u) ^ r_w0_11);
+    u32 r_w0_12 = ((((ld32(r_zd) + 0x3956c25bu) + r_w0_2) + ((r_w0_11 & (r_w0_8 ^ r_w0_5)) ^ r_w0_5)) + fshl32(r_n6_21, r_n6_21, 26u));
+    u32 r_n6_22 = (fshl32(r_w0_10, r_w0_10, 23u) ^ r_w0_10);
+    u32 r_n6_23 = (fshl32(r_n6_22, r_n6_22, 21u) ^ r_w0_10);
+    u32 r_n6_24 = (r_w0_10 ^ r_w0_7);
+    u32 r_w0_13 = ((fshl32(r_n6_23, r_n6_23, 30u) + ((r_n6_24 & r_n6_19) ^ r_w0_7)) + r_w0_12);
+    u32 r_w0_14 = (r_w0_12 + r_w0_1);
     u8 *r_zo = (slot_1 + 20);
-    u32 r_n6_41 = (fshl32(r_w0_29, r_w0_29, 18u) ^ r_w0_29);
-    u32 r_n6_42 = (fshl32(r_n6_41, r_n6_41, 27u) ^ r_w0_29);
-    u32 r_w0_32 = ((((ld32(r_zo) + 0x59f111f1u) + r_w0_11) + ((r_w0_29 & (r_w0_23 ^ r_w0_17)) ^ r_w0_17)) + fshl32(r_n6_42, r_n6_42, 26u));
-    u32 r_n6_45 = (fshl32(r_w0_28, r_w0_28, 23u) ^ r_w0_28);
-    u32 r_n6_46 = (fshl32(r_n6_45, r_n6_45, 21u) ^ r_w0_28);
-    u32 r_n6_47 = (r_w0_28 ^ r_w0_22);
-    u32 r_w0_34 = ((fshl32(r_n6_46, r_n6_46, 30u) + ((r_n6_47 & r_n6_39) ^ r_w0_22)) + r_w0_32);
-    u32 r_w0_35 = (r_w0_32 + r_w0_10);
+    u32 r_n6_25 = (fshl32(r_w0_14, r_w0_14, 18u) ^ r_w0_14);
+    u32 r_n6_26 = (fshl32(r_n6_25, r_n6_25, 27u) ^ r_w0_14);
+    u32 r_w0_15 = ((((ld32(r_zo) + 0x59f111f1u) + r_w0_5) + ((r_w0_14 & (r_w0_11 ^ r_w0_8)) ^ r_w0_8)) + fshl32(r_n6_26, r_n6_26, 26u));
+    u32 r_n6_27 = (fshl32(r_w0_13, r_w0_13, 23u) ^ r_w0_13);
+    u32 r_n6_28 = (fshl32(r_n6_27, r_n6_27, 21u) ^ r_w0_13);
+    u32 r_n6_29 = (r_w0_13 ^ r_w0_10);
+    u32 r_w0_16 = ((fshl32(r_n6_28, r_n6_28, 30u) + ((r_n6_29 & r_n6_24) ^ r_w0_10)) + r_w0_15);
+    u32 r_w0_17 = (r_w0_15 + r_w0_4);
     u8 *r_lk = (slot_1 + 24);
-    u32 r_n6_49 = (fshl32(r_w0_35, r_w0_35, 18u) ^ r_w0_35);
-    u32 r_n6_50 = (fshl32(r_n6_49, r_n6_49, 27u) ^ r_w0_35);
-    u32 r_w0_38 = ((((ld32(r_lk) + 0x923f82a4u) + r_w0_17) + ((r_w0_35 & (r_w0_29 ^ r_w0_23)) ^ r_w0_23)) + fshl32(r_n6_50, r_n6_50, 26u));
-    u32 r_n6_53 = (fshl32(r_w0_34, r_w0_34, 23u) ^ r_w0_34);
-    u32 r_n6_54 = (fshl32(r_n6_53, r_n6_53, 21u) ^ r_w0_34);
-    u32 r_n6_55 = (r_w0_34 ^ r_w0_28);
-    u32 r_w0_40 = ((fshl32(r_n6_54, r_n6_54, 30u) + ((r_n6_55 & r_n6_47) ^ r_w0_28)) + r_w0_38);
-    u32 r_w0_41 = (r_w0_38 + r_w0_16);
+    u32 r_n6_30 = (fshl32(r_w0_17, r_w0_17, 18u) ^ r_w0_17);
+    u32 r_n6_31 = (fshl32(r_n6_30, r_n6_30, 27u) ^ r_w0_17);
+    u32 r_w0_18 = ((((ld32(r_lk) + 0x923f82a4u) + r_w0_8) + ((r_w0_17 & (r_w0_14 ^ r_w0_11)) ^ r_w0_11)) + fshl32(r_n6_31, r_n6_31, 26u));
+    u32 r_n6_32 = (fshl32(r_w0_16, r_w0_16, 23u) ^ r_w0_16);
+    u32 r_n6_33 = (fshl32(r_n6_32, r_n6_32, 21u) ^ r_w0_16);
+    u32 r_n6_34 = (r_w0_16 ^ r_w0_13);
+    u32 r_w0_19 = ((fshl32(r_n6_33, r_n6_33, 30u) + ((r_n6_34 & r_n6_29) ^ r_w0_13)) + r_w0_18);
+    u32 r_w0_20 = (r_w0_18 + r_w0_7);
     u8 *r_nk = (slot_1 + 28);
-    u32 r_n6_57 = (fshl32(r_w0_41, r_w0_41, 18u) ^ r_w0_41);
-    u32 r_n6_58 = (fshl32(r_n6_57, r_n6_57, 27u) ^ r_w0_41);
-    u32 r_w0_44 = ((((ld32(r_nk) + 0xab1c5ed5u) + r_w0_23) + ((r_w0_41 & (r_w0_35 ^ r_w0_29)) ^ r_w0_29)) + fshl32(r_n6_58, r_n6_58, 26u));
-    u32 r_n6_61 = (fshl32(r_w0_40, r_w0_40, 23u) ^ r_w0_40);
-    u32 r_n6_62 = (fshl32(r_n6_61, r_n6_61, 21u) ^ r_w0_40);
-    u32 r_n6_63 = (r_w0_40 ^ r_w0_34);
-    u32 r_w0_46 = ((fshl32(r_n6_62, r_n6_62, 30u) + ((r_n6_63 & r_n6_55) ^ r_w0_34)) + r_w0_44);
-    u32 r_w0_47 = (r_w0_44 + r_w0_22);
+    u32 r_n6_35 = (fshl32(r_w0_20, r_w0_20, 18u) ^ r_w0_20);
+    u32 r_n6_36 = (fshl32(r_n6_35, r_n6_35, 27u) ^ r_w0_20);
+    u32 r_w0_21 = ((((ld32(r_nk) + 0xab1c5ed5u) + r_w0_11) + ((r_w0_20 & (r_w0_17 ^ r_w0_14)) ^ r_w0_14)) + fshl32(r_n6_36, r_n6_36, 26u));
+    u32 r_n6_37 = (fshl32(r_w0_19, r_w0_19, 23u) ^ r_w0_19);
+    u32 r_n6_38 = (fshl32(r_n6_37, r_n6_37, 21u) ^ r_w0_19);
+    u32 r_n6_39 = (r_w0_19 ^ r_w0_16);
+    u32 r_w0_22 = ((fshl32(r_n6_38, r_n6_38, 30u) + ((r_n6_39 & r_n6_34) ^ r_w0_16)) + r_w0_21);
+    u32 r_w0_23 = (r_w0_21 + r_w0_10);
     u8 *r_89 = (slot_1 + 32);
-    u32 r_n6_65 = (fshl32(r_w0_47, r_w0_47, 18u) ^ r_w0_47);
-    u32 r_n6_66 = (fshl32(r_n6_65, r_n6_65, 27u) ^ r_w0_47);
-    u32 r_w0_50 = ((((ld32(r_89) + 0xd807aa98u) + r_w0_29) + ((r_w0_47 & (r_w0_41 ^ r_w0_35)) ^ r_w0_35)) + fshl32(r_n6_66, r_n6_66, 26u));
-    u32 r_n6_69 = (fshl32(r_w0_46, r_w0_46, 23u) ^ r_w0_46);
-    u32 r_n6_70 = (fshl32(r_n6_69, r_n6_69, 21u) ^ r_w0_46);
-    u32 r_n6_71 = (r_w0_46 ^ r_w0_40);
-    u32 r_w0_52 = ((fshl32(r_n6_70, r_n6_70, 30u) + ((r_n6_71 & r_n6_63) ^ r_w0_40)) + r_w0_50);
-    u32 r_w0_53 = (r_w0_50 + r_w0_28);
+    u32 r_n6_40 = (fshl32(r_w0_23, r_w0_23, 18u) ^ r_w0_23);
+    u32 r_n6_41 = (fshl32(r_n6_40, r_n6_40, 27u) ^ r_w0_23);
+    u32 r_w0_24 = ((((ld32(r_89) + 0xd807aa98u) + r_w0_14) + ((r_w0_23 & (r_w0_20 ^ r_w0_17)) ^ r_w0_17)) + fshl32(r_n6_41, r_n6_41, 26u));
+    u32 r_n6_42 = (fshl32(r_w0_22, r_w0_22, 23u) ^ r_w0_22);
+    u32 r_n6_43 = (fshl32(r_n6_42, r_n6_42, 21u) ^ r_w0_22);
+    u32 r_n6_44 = (r_w0_22 ^ r_w0_19);
+    u32 r_w0_25 = ((fshl32(r_n6_43, r_n6_43, 30u) + ((r_n6_44 & r_n6_39) ^ r_w0_19)) + r_w0_24);
+    u32 r_w0_26 = (r_w0_24 + r_w0_13);
     u8 *r_gs = (slot_1 + 36);
-    u32 r_n6_73 = (fshl32(r_w0_53, r_w0_53, 18u) ^ r_w0_53);
-    u32 r_n6_74 = (fshl32(r_n6_73, r_n6_73, 27u) ^ r_w0_53);
-    u32 r_w0_56 = ((((ld32(r_gs) + 0x12835b01u) + r_w0_35) + ((r_w0_53 & (r_w0_47 ^ r_w0_41)) ^ r_w0_41)) + fshl32(r_n6_74, r_n6_74, 26u));
-    u32 r_n6_77 = (fshl32(r_w0_52, r_w0_52, 23u) ^ r_w0_52);
-    u32 r_n6_78 = (fshl32(r_n6_77, r_n6_77, 21u) ^ r_w0_52);
-    u32 r_n6_79 = (r_w0_52 ^ r_w0_46);
-    u32 r_w0_58 = ((fshl32(r_n6_78, r_n6_78, 30u) + ((r_n6_79 & r_n6_71) ^ r_w0_46)) + r_w0_56);
-    u32 r_w0_59 = (r_w0_56 + r_w0_34);
+    u32 r_n6_45 = (fshl32(r_w0_26, r_w0_26, 18u) ^ r_w0_26);
+    u32 r_n6_46 = (fshl32(r_n6_45, r_n6_45, 27u) ^ r_w0_26);
+    u32 r_w0_27 = ((((ld32(r_gs) + 0x12835b01u) + r_w0_17) + ((r_w0_26 & (r_w0_23 ^ r_w0_20)) ^ r_w0_20)) + fshl32(r_n6_46, r_n6_46, 26u));
+    u32 r_n6_47 = (fshl32(r_w0_25, r_w0_25, 23u) ^ r_w0_25);
+    u32 r_n6_48 = (fshl32(r_n6_47, r_n6_47, 21u) ^ r_w0_25);
+    u32 r_n6_49 = (r_w0_25 ^ r_w0_22);
+    u32 r_w0_28 = ((fshl32(r_n6_48, r_n6_48, 30u) + ((r_n6_49 & r_n6_44) ^ r_w0_22)) + r_w0_27);
+    u32 r_w0_29 = (r_w0_27 + r_w0_16);
     u8 *r_a8 = (slot_1 + 40);
-    u32 r_n6_81 = (fshl32(r_w0_59, r_w0_59, 18u) ^ r_w0_59);
-    u32 r_n6_82 = (fshl32(r_n6_81, r_n6_81, 27u) ^ r_w0_59);
-    u32 r_w0_62 = ((((ld32(r_a8) + 0x243185beu) + r_w0_41) + ((r_w0_59 & (r_w0_53 ^ r_w0_47)) ^ r_w0_47)) + fshl32(r_n6_82, r_n6_82, 26u));
-    u32 r_n6_85 = (fshl32(r_w0_58, r_w0_58, 23u) ^ r_w0_58);
-    u32 r_n6_86 = (fshl32(r_n6_85, r_n6_85, 21u) ^ r_w0_58);
-    u32 r_n6_87 = (r_w0_58 ^ r_w0_52);
-    u32 r_w0_64 = ((fshl32(r_n6_86, r_n6_86, 30u) + ((r_n6_87 & r_n6_79) ^ r_w0_52)) + r_w0_62);
-    u32 r_w0_65 = (r_w0_62 + r_w0_40);
+    u32 r_n6_50 = (fshl32(r_w0_29, r_w0_29, 18u) ^ r_w0_29);
+    u32 r_n6_51 = (fshl32(r_n6_50, r_n6_50, 27u) ^ r_w0_29);
+    u32 r_w0_30 = ((((ld32(r_a8) + 0x243185beu) + r_w0_20) + ((r_w0_29 & (r_w0_26 ^ r_w0_23)) ^ r_w0_23)) + fshl32(r_n6_51, r_n6_51, 26u));
+    u32 r_n6_52 = (fshl32(r_w0_28, r_w0_28, 23u) ^ r_w0_28);
+    u32 r_n6_53 = (fshl32(r_n6_52, r_n6_52, 21u) ^ r_w0_28);
+    u32 r_n6_54 = (r_w0_28 ^ r_w0_25);
+    u32 r_w0_31 = ((fshl32(r_n6_53, r_n6_53, 30u) + ((r_n6_54 & r_n6_49) ^ r_w0_25)) + r_w0_30);
+    u32 r_w0_32 = (r_w0_30 + r_w0_19);
     u8 *r_f3 = (slot_1 + 44);
-    u32 r_n6_89 = (fshl32(r_w0_65, r_w0_65, 18u) ^ r_w0_65);
-    u32 r_n6_90 = (fshl32(r_n6_89, r_n6_89, 27u) ^ r_w0_65);
-    u32 r_w0_68 = ((((ld32(r_f3) + 0x550c7dc3u) + r_w0_47) + ((r_w0_65 & (r_w0_59 ^ r_w0_53)) ^ r_w0_53)) + fshl32(r_n6_90, r_n6_90, 26u));
-    u32 r_n6_93 = (fshl32(r_w0_64, r_w0_64, 23u) ^ r_w0_64);
-    u32 r_n6_94 = (fshl32(r_n6_93, r_n6_93, 21u) ^ r_w0_64);
-    u32 r_n6_95 = (r_w0_64 ^ r_w0_58);
-    u32 r_w0_70 = ((fshl32(r_n6_94, r_n6_94, 30u) + ((r_n6_95 & r_n6_87) ^ r_w0_58)) + r_w0_68);
-    u32 r_w0_71 = (r_w0_68 + r_w0_46);
+    u32 r_n6_55 = (fshl32(r_w0_32, r_w0_32, 18u) ^ r_w0_32);
+    u32 r_n6_56 = (fshl32(r_n6_55, r_n6_55, 27u) ^ r_w0_32);
+    u32 r_w0_33 = ((((ld32(r_f3) + 0x550c7dc3u) + r_w0_23) + ((r_w0_32 & (r_w0_29 ^ r_w0_26)) ^ r_w0_26)) + fshl32(r_n6_56, r_n6_56, 26u));
+    u32 r_n6_57 = (fshl32(r_w0_31, r_w0_31, 23u) ^ r_w0_31);
+    u32 r_n6_58 = (fshl32(r_n6_57, r_n6_57, 21u) ^ r_w0_31);
+    u32 r_n6_59 = (r_w0_31 ^ r_w0_28);
+    u32 r_w0_34 = ((fshl32(r_n6_58, r_n6_58, 30u) + ((r_n6_59 & r_n6_54) ^ r_w0_28)) + r_w0_33);
+    u32 r_w0_35 = (r_w0_33 + r_w0_22);
     u8 *r_c4_1 = (slot_1 + 48);
-    u32 r_n6_97 = (fshl32(r_w0_71, r_w0_71, 18u) ^ r_w0_71);
-    u32 r_n6_98 = (fshl32(r_n6_97, r_n6_97, 27u) ^ r_w0_71);
-    u32 r_w0_74 = ((((ld32(r_c4_1) + 0x72be5d74u) + r_w0_53) + ((r_w0_71 & (r_w0_65 ^ r_w0_59)) ^ r_w0_59)) + fshl32(r_n6_98, r_n6_98, 26u));
-    u32 r_n6_101 = (fshl32(r_w0_70, r_w0_70, 23u) ^ r_w0_70);
-    u32 r_n6_102 = (fshl32(r_n6_101, r_n6_101, 21u) ^ r_w0_70);
-    u32 r_n6_103 = (r_w0_70 ^ r_w0_64);
-    u32 r_w0_76 = ((fshl32(r_n6_102, r_n6_102, 30u) + ((r_n6_103 & r_n6_95) ^ r_w0_64)) + r_w0_74);
-    u32 r_w0_77 = (r_w0_74 + r_w0_52);
-    u32 r_yf_14 = ld32((slot_1 + 52));
-    u32 r_n6_105 = (fshl32(r_w0_77, r_w0_77, 18u) ^ r_w0_77);
-    u32 r_n6_106 = (fshl32(r_n6_105, r_n6_105, 27u) ^ r_w0_77);
-    u32 r_w0_80 = ((((r_yf_14 + 0x80deb1feu) + r_w0_59) + ((r_w0_77 & (r_w0_71 ^ r_w0_65)) ^ r_w0_65)) + fshl32(r_n6_106, r_n6_106, 26u));
-    u32 r_n6_109 = (fshl32(r_w0_76, r_w0_76, 23u) ^ r_w0_76);
-    u32 r_n6_110 = (fshl32(r_n6_109, r_n6_109, 21u) ^ r_w0_76);
-    u32 r_n6_111 = (r_w0_76 ^ r_w0_70);
-    u32 r_w0_82 = ((fshl32(r_n6_110, r_n6_110, 30u) + ((r_n6_111 & r_n6_103) ^ r_w0_70)) + r_w0_80);
-    u32 r_w0_83 = (r_w0_80 + r_w0_58);
-    u32 r_yf_15 = ld32((slot_1 + 56));
-    u32 r_n6_113 = (fshl32(r_w0_83, r_w0_83, 18u) ^ r_w0_83);
-    u32 r_n6_114 = (fshl32(r_n6_113, r_n6_113, 27u) ^ r_w0_83);
-    u32 r_w0_86 = ((((r_yf_15 + 0x9bdc06a7u) + r_w0_65) + ((r_w0_83 & (r_w0_77 ^ r_w0_71)) ^ r_w0_71)) + fshl32(r_n6_114, r_n6_114, 26u));
-    u32 r_n6_117 = (fshl32(r_w0_82, r_w0_82, 23u) ^ r_w0_82);
-    u32 r_n6_118 = (fshl32(r_n6_117, r_n6_117, 21u) ^ r_w0_82);
-    u32 r_n6_119 = (r_w0_82 ^ r_w0_76);
-    u32 r_w0_88 = ((fshl32(r_n6_118, r_n6_118, 30u) + ((r_n6_119 & r_n6_111) ^ r_w0_76)) + r_w0_86);
-    u32 r_w0_89 = (r_w0_86 + r_w0_64);
-    u32 r_yf_16 = ld32((slot_1 + 60));
-    u32 r_n6_121 = (fshl32(r_w0_89, r_w0_89, 18u) ^ r_w0_89);
-    u32 r_n6_122 = (fshl32(r_n6_121, r_n6_121, 27u) ^ r_w0_89);
-    u32 r_w0_92 = ((((r_yf_16 + 0xc19bf174u) + r_w0_71) + ((r_w0_89 & (r_w0_83 ^ r_w0_77)) ^ r_w0_77)) + fshl32(r_n6_122, r_n6_122, 26u));
-    u32 r_n6_125 = (fshl32(r_w0_88, r_w0_88, 23u) ^ r_w0_88);
-    u32 r_n6_126 = (fshl32(r_n6_125, r_n6_125, 21u) ^ r_w0_88);
+    u32 r_n6_60 = (fshl32(r_w0_35, r_w0_35, 18u) ^ r_w0_35);
+    u32 r_n6_61 = (fshl32(r_n6_60, r_n6_60, 27u) ^ r_w0_35);
+    u32 r_w0_36 = ((((ld32(r_c4_1) + 0x72be5d74u) + r_w0_26) + ((r_w0_35 & (r_w0_32 ^ r_w0_29)) ^ r_w0_29)) + fshl32(r_n6_61, r_n6_61, 26u));
+    u32 r_n6_62 = (fshl32(r_w0_34, r_w0_34, 23u) ^ r_w0_34);
+    u32 r_n6_63 = (fshl32(r_n6_62, r_n6_62, 21u) ^ r_w0_34);
+    u32 r_n6_64 = (r_w0_34 ^ r_w0_31);
+    u32 r_w0_37 = ((fshl32(r_n6_63, r_n6_63, 30u) + ((r_n6_64 & r_n6_59) ^ r_w0_31)) + r_w0_36);
+    u32 r_w0_38 = (r_w0_36 + r_w0_25);
+    u32 r_yf = ld32((slot_1 + 52));
+    u32 r_n6_65 = (fshl32(r_w0_38, r_w0_38, 18u) ^ r_w0_38);
+    u32 r_n6_66 = (fshl32(r_n6_65, r_n6_65, 27u) ^ r_w0_38);
+    u32 r_w0_39 = ((((r_yf + 0x80deb1feu) + r_w0_29) + ((r_w0_38 & (r_w0_35 ^ r_w0_32)) ^ r_w0_32)) + fshl32(r_n6_66, r_n6_66, 26u));
+    u32 r_n6_67 = (fshl32(r_w0_37, r_w0_37, 23u) ^ r_w0_37);
+    u32 r_n6_68 = (fshl32(r_n6_67, r_n6_67, 21u) ^ r_w0_37);
+    u32 r_n6_69 = (r_w0_37 ^ r_w0_34);
+    u32 r_w0_40 = ((fshl32(r_n6_68, r_n6_68, 30u) + ((r_n6_69 & r_n6_64) ^ r_w0_34)) + r_w0_39);
+    u32 r_w0_41 = (r_w0_39 + r_w0_28);
+    u32 r_yf_1 = ld32((slot_1 + 56));
+    u32 r_n6_70 = (fshl32(r_w0_41, r_w0_41, 18u) ^ r_w0_41);
+    u32 r_n6_71 = (fshl32(r_n6_70, r_n6_70, 27u) ^ r_w0_41);
+    u32 r_w0_42 = ((((r_yf_1 + 0x9bdc06a7u) + r_w0_32) + ((r_w0_41 & (r_w0_38 ^ r_w0_35)) ^ r_w0_35)) + fshl32(r_n6_71, r_n6_71, 26u));
+    u32 r_n6_72 = (fshl32(r_w0_40, r_w0_40, 23u) ^ r_w0_40);
+    u32 r_n6_73 = (fshl32(r_n6_72, r_n6_72, 21u) ^ r_w0_40);
+    u32 r_n6_74 = (r_w0_40 ^ r_w0_37);
+    u32 r_w0_43 = ((fshl32(r_n6_73, r_n6_73, 30u) + ((r_n6_74 & r_n6_69) ^ r_w0_37)) + r_w0_42);
+    u32 r_w0_44 = (r_w0_42 + r_w0_31);
+    u32 r_yf_2 = ld32((slot_1 + 60));
+    u32 r_n6_75 = (fshl32(r_w0_44, r_w0_44, 18u) ^ r_w0_44);
+    u32 r_n6_76 = (fshl32(r_n6_75, r_n6_75, 27u) ^ r_w0_44);
+    u32 r_w0_45 = ((((r_yf_2 + 0xc19bf174u) + r_w0_35) + ((r_w0_44 & (r_w0_41 ^ r_w0_38)) ^ r_w0_38)) + fshl32(r_n6_76, r_n6_76, 26u));
+    u32 r_n6_77 = (fshl32(r_w0_43, r_w0_43, 23u) ^ r_w0_43);
+    u32 r_n6_78 = (fshl32(r_n6_77, r_n6_77, 21u) ^ r_w0_43);
     r_2h = 1ull;
-    r_f7 = r_w0_77;
-    r_gp = r_w0_83;
-    r_q1 = r_w0_89;
-    r_vo_1 = (r_w0_92 + r_w0_70);
-    r_1h = r_w0_76;
-    r_58 = r_w0_82;
-    r_v0 = r_w0_88;
-    r_vw = ((fshl32(r_n6_126, r_n6_126, 30u) + (((r_w0_88 ^ r_w0_82) & r_n6_119) ^ r_w0_82)) + r_w0_92);
-    r_49 = r_yf_15;
+    r_f7 = r_w0_38;
+    r_gp = r_w0_41;
+    r_q1 = r_w0_44;
+    r_vo_1 = (r_w0_45 + r_w0_34);
+    r_1h = r_w0_37;
+    r_58 = r_w0_40;
+    r_v0 = r_w0_43;
+    r_vw = ((fshl32(r_n6_78, r_n6_78, 30u) + (((r_w0_43 ^ r_w0_40) & r_n6_74) ^ r_w0_40)) + r_w0_45);
+    r_49 = r_yf_1;
     r_pc = ld32(r_gs);
     r_mk = ld32(r_ix);
     r_fy = ld32(slot_1);
-    r_h8 = r_yf_16;
+    r_h8 = r_yf_2;
     r_ra = ld32(r_a8);
     r_8e = ld32(r_x5);
-    r_nj_16 = ld32(r_f3);
+    r_nj = ld32(r_f3);
     r_3x = ld32(r_k0);
     r_1k = ld32(r_c4_1);
-    r_hx = ld32(r_zd_4);
-    r_dg = r_yf_14;
+    r_hx = ld32(r_zd);
+    r_dg = r_yf;
     r_y1 = ld32(r_zo);
     r_up = ld32(r_lk);
     r_m4 = ld32(r_nk);
     r_9q = ld32(r_89);
 l_join_7b:;
-    u32 r_n6_129 = (fshl32(r_49, r_49, 30u) ^ r_49);
-    u32 r_n6_130 = (fshl32(r_mk, r_mk, 21u) ^ r_mk);
-    u32 r_w0_98 = (((r_fy + r_pc) + (fshl32(r_n6_129, r_n6_129, 15u) ^ (u32)(r_49 >> 10u))) + (fshl32(r_n6_130, r_n6_130, 25u) ^ (u32)(r_mk >> 3u)));
-    u8 *t_wl = (((u8 *)g_static_139) + (i64)((u64)(r_2h << 6ull)));
-    u32 r_n6_133 = (fshl32(r_vo_1, r_vo_1, 18u) ^ r_vo_1);
-    u32 r_n6_134 = (fshl32(r_n6_133, r_n6_133, 27u) ^ r_vo_1);
-    u32 r_w0_102 = ((((fshl32(r_n6_134, r_n6_134, 26u) + r_f7) + (((r_gp ^ r_q1) & r_vo_1) ^ r_gp)) + ld32(t_wl)) + r_w0_98);
-    u32 r_n6_137 = (fshl32(r_vw, r_vw, 23u) ^ r_vw);
-    u32 r_n6_138 = (fshl32(r_n6_137, r_n6_137, 21u) ^ r_vw);
-    u32 r_n6_139 = (r_v0 ^ r_vw);
-    u32 r_w0_104 = ((fshl32(r_n6_138, r_n6_138, 30u) + (((r_58 ^ r_v0) & r_n6_139) ^ r_v0)) + r_w0_102);
-    u32 r_w0_105 = (r_w0_102 + r_1h);
-    u32 r_n6_142 = (fshl32(r_h8, r_h8, 30u) ^ r_h8);
-    u32 r_n6_143 = (fshl32(r_8e, r_8e, 21u) ^ r_8e);
-    u32 r_w0_108 = (((r_ra + r_mk) + (fshl32(r_n6_142, r_n6_142, 15u) ^ (u32)(r_h8 >> 10u))) + (fshl32(r_n6_143, r_n6_143, 25u) ^ (u32)(r_8e >> 3u)));
-    u32 r_n6_146 = (fshl32(r_w0_105, r_w0_105, 18u) ^ r_w0_105);
-    u32 r_n6_147 = (fshl32(r_n6_146, r_n6_146, 27u) ^ r_w0_105);
-    u32 r_w0_112 = ((((ld32((t_wl + 4)) + r_gp) + ((r_w0_105 & (r_q1 ^ r_vo_1)) ^ r_q1)) + r_w0_108) + fshl32(r_n6_147, r_n6_147, 26u));
-    u32 r_n6_150 = (fshl32(r_w0_104, r_w0_104, 23u) ^ r_w0_104);
-    u32 r_n6_151 = (fshl32(r_n6_150, r_n6_150, 21u) ^ r_w0_104);
-    u32 r_n6_152 = (r_w0_104 ^ r_vw);
-    u32 r_w0_114 = ((fshl32(r_n6_151, r_n6_151, 30u) + ((r_n6_152 & r_n6_139) ^ r_vw)) + r_w0_112);
-    u32 r_w0_115 = (r_w0_112 + r_58);
-    u32 r_n6_154 = (fshl32(r_w0_98, r_w0_98, 30u) ^ r_w0_98);
-    u32 r_n6_155 = (fshl32(r_3x, r_3x, 21u) ^ r_3x);
-    u32 r_w0_118 = (((r_nj_16 + r_8e) + (fshl32(r_n6_154, r_n6_154, 15u) ^ (u32)(r_w0_98 >> 10u))) + (fshl32(r_n6_155, r_n6_155, 25u) ^ (u32)(r_3x >> 3u)));
-    u32 r_n6_158 = (fshl32(r_w0_115, r_w0_115, 18u) ^ r_w0_115);
-    u32 r_n6_159 = (fshl32(r_n6_158, r_n6_158, 27u) ^ r_w0_115);
-    u32 r_w0_122 = ((((ld32((t_wl + 8)) + r_q1) + r_w0_118) + ((r_w0_115 & (r_w0_105 ^ r_vo_1)) ^ r_vo_1)) + fshl32(r_n6_159, r_n6_159, 26u));
-    u32 r_n6_162 = (fshl32(r_w0_114, r_w0_114, 23u) ^ r_w0_114);
-    u32 r_n6_163 = (fshl32(r_n6_162, r_n6_162, 21u) ^ r_w0_114);
-    u32 r_n6_164 = (r_w0_114 ^ r_w0_104);
-    u32 r_w0_124 = ((fshl32(r_n6_163, r_n6_163, 30u) + ((r_n6_164 & r_n6_152) ^ r_w0_104)) + r_w0_122);
-    u32 r_w0_125 = (r_w0_122 + r_v0);
-    u32 r_n6_166 = (fshl32(r_w0_108, r_w0_108, 30u) ^ r_w0_108);
-    u32 r_n6_167 = (fshl32(r_hx, r_hx, 21u) ^ r_hx);
-    u32 r_w0_128 = (((r_1k + r_3x) + (fshl32(r_n6_166, r_n6_166, 15u) ^ (u32)(r_w0_108 >> 10u))) + (fshl32(r_n6_167, r_n6_167, 25u) ^ (u32)(r_hx >> 3u)));
-    u32 r_n6_170 = (fshl32(r_w0_125, r_w0_125, 18u) ^ r_w0_125);
-    u32 r_n6_171 = (fshl32(r_n6_170, r_n6_170, 27u) ^ r_w0_125);
-    u32 r_w0_132 = ((((ld32((t_wl + 12)) + r_vo_1) + r_w0_128) + ((r_w0_125 & (r_w0_115 ^ r_w0_105)) ^ r_w0_105)) + fshl32(r_n6_171, r_n6_171, 26u));
-    u32 r_n6_174 = (fshl32(r_w0_124, r_w0_124, 23u) ^ r_w0_124);
-    u32 r_n6_175 = (fshl32(r_n6_174, r_n6_174, 21u) ^ r_w0_124);
-    u32 r_n6_176 = (r_w0_124 ^ r_w0_114);
-    u32 r_w0_134 = ((fshl32(r_n6_175, r_n6_175, 30u) + ((r_n6_176 & r_n6_164) ^ r_w0_114)) + r_w0_132);
-    u32 r_w0_135 = (r_w0_132 + r_vw);
-    u32 r_n6_178 = (fshl32(r_w0_118, r_w0_118, 30u) ^ r_w0_118);
-    u32 r_n6_179 = (fshl32(r_y1, r_y1, 21u) ^ r_y1);
-    u32 r_w0_138 = (((r_dg + r_hx) + (fshl32(r_n6_178, r_n6_178, 15u) ^ (u32)(r_w0_118 >> 10u))) + (fshl32(r_n6_179, r_n6_179, 25u) ^ (u32)(r_y1 >> 3u)));
-    u32 r_n6_182 = (fshl32(r_w0_135, r_w0_135, 18u) ^ r_w0_135);
-    u32 r_n6_183 = (fshl32(r_n6_182, r_n6_182, 27u) ^ r_w0_135);
-    u32 r_w0_142 = ((((ld32((t_wl + 16)) + r_w0_105) + r_w0_138) + ((r_w0_135 & (r_w0_125 ^ r_w0_115)) ^ r_w0_115)) + fshl32(r_n6_183, r_n6_183, 26u));
-    u32 r_n6_186 = (fshl32(r_w0_134, r_w0_134, 23u) ^ r_w0_134);
-    u32 r_n6_187 = (fshl32(r_n6_186, r_n6_186, 21u) ^ r_w0_134);
-    u32 r_n6_188 = (r_w0_134 ^ r_w0_124);
-    u32 r_w0_144 = ((fshl32(r_n6_187, r_n6_187, 30u) + ((r_n6_188 & r_n6_176) ^ r_w0_124)) + r_w0_142);
-    u32 r_w0_145 = (r_w0_142 + r_w0_104);
-    u32 r_n6_190 = (fshl32(r_w0_128, r_w0_128, 30u) ^ r_w0_128);
-    u32 r_n6_191 = (fshl32(r_up, r_up, 21u) ^ r_up);
-    u32 r_w0_148 = (((r_y1 + r_49) + (fshl32(r_n6_190, r_n6_190, 15u) ^ (u32)(r_w0_128 >> 10u))) + (fshl32(r_n6_191, r_n6_191, 25u) ^ (u32)(r_up >> 3u)));
-    u32 r_n6_194 = (fshl32(r_w0_145, r_w0_145, 18u) ^ r_w0_145);
-    u32 r_n6_195 = (fshl32(r_n6_194, r_n6_194, 27u) ^ r_w0_145);
-    u32 r_w0_152 = ((((ld32((t_wl + 20)) + r_w0_115) + r_w0_148) + ((r_w0_145 & (r_w0_135 ^ r_w0_125)) ^ r_w0_125)) + fshl32(r_n6_195, r_n6_195, 26u));
-    u32 r_n6_198 = (fshl32(r_w0_144, r_w0_144, 23u) ^ r_w0_144);
-    u32 r_n6_199 = (fshl32(r_n6_198, r_n6_198, 21u) ^ r_w0_144);
-    u32 r_n6_200 = (r_w0_144 ^ r_w0_134);
-    u32 r_w0_154 = ((fshl32(r_n6_199, r_n6_199, 30u) + ((r_n6_200 & r_n6_188) ^ r_w0_134)) + r_w0_152);
-    u32 r_w0_155 = (r_w0_152 + r_w0_114);
-    u32 r_n6_202 = (fshl32(r_w0_138, r_w0_138, 30u) ^ r_w0_138);
-    u32 r_n6_203 = (fshl32(r_m4, r_m4, 21u) ^ r_m4);
-    u32 r_w0_158 = (((r_up + r_h8) + (fshl32(r_n6_202, r_n6_202, 15u) ^ (u32)(r_w0_138 >> 10u))) + (fshl32(r_n6_203, r_n6_203, 25u) ^ (u32)(r_m4 >> 3u)));
-    u32 r_n6_206 = (fshl32(r_w0_155, r_w0_155, 18u) ^ r_w0_155);
-    u32 r_n6_207 = (fshl32(r_n6_206, r_n6_206, 27u) ^ r_w0_155);
-    u32 r_w0_162 = ((((r_w0_125 + ld32((t_wl + 24))) + r_w0_158) + ((r_w0_155 & (r_w0_145 ^ r_w0_135)) ^ r_w0_135)) + fshl32(r_n6_207, r_n6_207, 26u));
-    u32 r_n6_210 = (fshl32(r_w0_154, r_w0_154, 23u) ^ r_w0_154);
-    u32 r_n6_211 = (fshl32(r_n6_210, r_n6_210, 21u) ^ r_w0_154);
-    u32 r_n6_212 = (r_w0_154 ^ r_w0_144);
-    u32 r_w0_164 = ((fshl32(r_n6_211, r_n6_211, 30u) + ((r_n6_212 & r_n6_200) ^ r_w0_144)) + r_w0_162);
-    u32 r_w0_165 = (r_w0_162 + r_w0_124);
-    u32 r_n6_214 = (fshl32(r_w0_148, r_w0_148, 30u) ^ r_w0_148);
-    u32 r_n6_215 = (fshl32(r_9q, r_9q, 21u) ^ r_9q);
-    u32 r_w0_168 = (((r_m4 + r_w0_98) + (fshl32(r_n6_214, r_n6_214, 15u) ^ (u32)(r_w0_148 >> 10u))) + (fshl32(r_n6_215, r_n6_215, 25u) ^ (u32)(r_9q >> 3u)));
-    u32 r_n6_218 = (fshl32(r_w0_165, r_w0_165, 18u) ^ r_w0_165);
-    u32 r_n6_219 = (fshl32(r_n6_218, r_n6_218, 27u) ^ r_w0_165);
-    u32 r_w0_172 = ((((r_w0_168 + ld32((t_wl + 28))) + r_w0_135) + ((r_w0_165 & (r_w0_155 ^ r_w0_145)) ^ r_w0_145)) + fshl32(r_n6_219, r_n6_219, 26u));
-    u32 r_n6_222 = (fshl32(r_w0_164, r_w0_164, 23u) ^ r_w0_164);
-    u32 r_n6_223 = (fshl32(r_n6_222, r_n6_222, 21u) ^ r_w0_164);
-    u32 r_n6_224 = (r_w0_164 ^ r_w0_154);
-    u32 r_w0_174 = ((fshl32(r_n6_223, r_n6_223, 30u) + ((r_n6_224 & r_n6_212) ^ r_w0_154)) + r_w0_172);
-    u32 r_w0_175 = (r_w0_172 + r_w0_134);
-    u32 r_n6_226 = (fshl32(r_w0_158, r_w0_158, 30u) ^ r_w0_158);
-    u32 r_n6_227 = (fshl32(r_pc, r_pc, 21u) ^ r_pc);
-    u32 r_w0_178 = (((r_w0_108 + (fshl32(r_n6_227, r_n6_227, 25u) ^ (u32)(r_pc >> 3u))) + r_9q) + (fshl32(r_n6_226, r_n6_226, 15u) ^ (u32)(r_w0_158 >> 10u)));
-    u32 r_n6_230 = (fshl32(r_w0_175, r_w0_175, 18u) ^ r_w0_175);
-    u32 r_n6_231 = (fshl32(r_n6_230, r_n6_230, 27u) ^ r_w0_175);
-    u32 r_w0_182 = ((((r_w0_178 + ld32((t_wl + 32))) + r_w0_145) + ((r_w0_175 & (r_w0_165 ^ r_w0_155)) ^ r_w0_155)) + fshl32(r_n6_231, r_n6_231, 26u));
-    u32 r_n6_234 = (fshl32(r_w0_174, r_w0_174, 23u) ^ r_w0_174);
-    u32 r_n6_235 = (fshl32(r_n6_234, r_n6_234, 21u) ^ r_w0_174);
-    u32 r_n6_236 = (r_w0_174 ^ r_w0_164);
-    u32 r_w0_184 = ((fshl32(r_n6_235, r_n6_235, 30u) + ((r_n6_236 & r_n6_224) ^ r_w0_164)) + r_w0_182);
-    u32 r_w0_185 = (r_w0_182 + r_w0_144);
-    u32 r_n6_238 = (fshl32(r_w0_168, r_w0_168, 30u) ^ r_w0_168);
-    u32 r_n6_239 = (fshl32(r_ra, r_ra, 21u) ^ r_ra);
-    u32 r_w0_188 = ((((fshl32(r_n6_239, r_n6_239, 25u) ^ (u32)(r_ra >> 3u)) + r_pc) + r_w0_118) + (fshl32(r_n6_238, r_n6_238, 15u) ^ (u32)(r_w0_168 >> 10u)));
-    u32 r_n6_242 = (fshl32(r_w0_185, r_w0_185, 18u) ^ r_w0_185);
-    u32 r_n6_243 = (fshl32(r_n6_242, r_n6_242, 27u) ^ r_w0_185);
-    u32 r_w0_192 = ((((r_w0_188 + ld32((t_wl + 36))) + r_w0_155) + ((r_w0_185 & (r_w0_175 ^ r_w0_165)) ^ r_w0_165)) + fshl32(r_n6_243, r_n6_243, 26u));
-    u32 r_n6_246 = (fshl32(r_w0_184, r_w0_184, 23u) ^ r_w0_184);
-    u32 r_n6_247 = (fshl32(r_n6_246, r_n6_246, 21u) ^ r_w0_184);
-    u32 r_n6_248 = (r_w0_184 ^ r_w0_174);
-    u32 r_w0_194 = ((fshl32(r_n6_247, r_n6_247, 30u) + ((r_n6_248 & r_n6_236) ^ r_w0_174)) + r_w0_192);
-    u32 r_w0_195 = (r_w0_192 + r_w0_154);
-    u32 r_n6_250 = (fshl32(r_w0_178, r_w0_178, 30u) ^ r_w0_178);
-    u32 r_n6_251 = (fshl32(r_nj_16, r_nj_16, 21u) ^ r_nj_16);
-    u32 r_w0_198 = ((((fshl32(r_n6_251, r_n6_251, 25u) ^ (u32)(r_nj_16 >> 3u)) + r_ra) + r_w0_128) + (fshl32(r_n6_250, r_n6_250, 15u) ^ (u32)(r_w0_178 >> 10u)));
-    u32 r_n6_254 = (fshl32(r_w0_195, r_w0_195, 18u) ^ r_w0_195);
-    u32 r_n6_255 = (fshl32(r_n6_254, r_n6_254, 27u) ^ r_w0_195);
-    u32 r_w0_202 = ((((r_w0_198 + ld32((t_wl + 40))) + r_w0_165) + ((r_w0_195 & (r_w0_185 ^ r_w0_175)) ^ r_w0_175)) + fshl32(r_n6_255, r_n6_255, 26u));
-    u32 r_n6_258 = (fshl32(r_w0_194, r_w0_194, 23u) ^ r_w0_194);
-    u32 r_n6_259 = (fshl32(r_n6_258, r_n6_258, 21u) ^ r_w0_194);
-    u32 r_n6_260 = (r_w0_194 ^ r_w0_184);
-    u32 r_w0_204 = ((fshl32(r_n6_259, r_n6_259, 30u) + ((r_n6_260 & r_n6_248) ^ r_w0_184)) + r_w0_202);
-    u32 r_w0_205 = (r_w0_202 + r_w0_164);
-    u32 r_n6_262 = (fshl32(r_w0_188, r_w0_188, 30u) ^ r_w0_188);
-    u32 r_n6_263 = (fshl32(r_1k, r_1k, 21u) ^ r_1k);
-    u32 r_w0_208 = ((((fshl32(r_n6_263, r_n6_263, 25u) ^ (u32)(r_1k >> 3u)) + r_nj_16) + r_w0_138) + (fshl32(r_n6_262, r_n6_262, 15u) ^ (u32)(r_w0_188 >> 10u)));
-    u32 r_n6_266 = (fshl32(r_w0_205, r_w0_205, 18u) ^ r_w0_205);
-    u32 r_n6_267 = (fshl32(r_n6_266, r_n6_266, 27u) ^ r_w0_205);
-    u32 r_w0_212 = ((((r_w0_208 + ld32((t_wl + 44))) + r_w0_175) + ((r_w0_205 & (r_w0_195 ^ r_w0_185)) ^ r_w0_185)) + fshl32(r_n6_267, r_n6_267, 26u));
-    u32 r_n6_270 = (fshl32(r_w0_204, r_w0_204, 23u) ^ r_w0_204);
-    u32 r_n6_271 = (fshl32(r_n6_270, r_n6_270, 21u) ^ r_w0_204);
-    u32 r_n6_272 = (r_w0_204 ^ r_w0_194);
-    u32 r_w0_214 = ((fshl32(r_n6_271, r_n6_271, 30u) + ((r_n6_272 & r_n6_260) ^ r_w0_194)) + r_w0_212);
-    u32 r_w0_215 = (r_w0_212 + r_w0_174);
-    u32 r_n6_274 = (fshl32(r_w0_198, r_w0_198, 30u) ^ r_w0_198);
-    u32 r_n6_275 = (fshl32(r_dg, r_dg, 21u) ^ r_dg);
-    u32 r_w0_218 = ((((fshl32(r_n6_275, r_n6_275, 25u) ^ (u32)(r_dg >> 3u)) + r_1k) + r_w0_148) + (fshl32(r_n6_274, r_n6_274, 15u) ^ (u32)(r_w0_198 >> 10u)));
-    u32 r_n6_278 = (fshl32(r_w0_215, r_w0_215, 18u) ^ r_w0_215);
-    u32 r_n6_279 = (fshl32(r_n6_278, r_n6_278, 27u) ^ r_w0_215);
-    u32 r_w0_222 = ((((r_w0_218 + ld32((t_wl + 48))) + r_w0_185) + ((r_w0_215 & (r_w0_205 ^ r_w0_195)) ^ r_w0_195)) + fshl32(r_n6_279, r_n6_279, 26u));
-    u32 r_n6_282 = (fshl32(r_w0_214, r_w0_214, 23u) ^ r_w0_214);
-    u32 r_n6_283 = (fshl32(r_n6_282, r_n6_282, 21u) ^ r_w0_214);
-    u32 r_n6_284 = (r_w0_214 ^ r_w0_204);
-    r_w0_224 = ((fshl32(r_n6_283, r_n6_283, 30u) + ((r_n6_284 & r_n6_272) ^ r_w0_204)) + r_w0_222);
-    r_w0_225 = (r_w0_222 + r_w0_184);
-    u32 r_n6_286 = (fshl32(r_w0_208, r_w0_208, 30u) ^ r_w0_208);
-    u32 r_n6_287 = (fshl32(r_49, r_49, 21u) ^ r_49);
-    u32 r_w0_228 = (((r_dg + (fshl32(r_n6_287, r_n6_287, 25u) ^ (u32)(r_49 >> 3u))) + r_w0_158) + (fshl32(r_n6_286, r_n6_286, 15u) ^ (u32)(r_w0_208 >> 10u)));
-    u32 r_n6_290 = (fshl32(r_w0_225, r_w0_225, 18u) ^ r_w0_225);
-    u32 r_n6_291 = (fshl32(r_n6_290, r_n6_290, 27u) ^ r_w0_225);
-    u32 r_w0_232 = ((((r_w0_228 + ld32((t_wl + 52))) + r_w0_195) + ((r_w0_225 & (r_w0_215 ^ r_w0_205)) ^ r_w0_205)) + fshl32(r_n6_291, r_n6_291, 26u));
-    u32 r_n6_294 = (fshl32(r_w0_224, r_w0_224, 23u) ^ r_w0_224);
-    u32 r_n6_295 = (fshl32(r_n6_294, r_n6_294, 21u) ^ r_w0_224);
-    u32 r_n6_296 = (r_w0_224 ^ r_w0_214);
-    r_w0_234 = ((fshl32(r_n6_295, r_n6_295, 30u) + ((r_n6_296 & r_n6_284) ^ r_w0_214)) + r_w0_232);
-    r_w0_235 = (r_w0_232 + r_w0_194);
-    u32 r_n6_298 = (fshl32(r_w0_218, r_w0_218, 30u) ^ r_w0_218);
-    u32 r_n6_299 = (fshl32(r_h8, r_h8, 21u) ^ r_h8);
-    u32 r_w0_238 = ((((fshl32(r_n6_299, r_n6_299, 25u) ^ (u32)(r_h8 >> 3u)) + r_49) + r_w0_168) + (fshl32(r_n6_298, r_n6_298, 15u) ^ (u32)(r_w0_218 >> 10u)));
-    u32 r_n6_302 = (fshl32(r_w0_235, r_w0_235, 18u) ^ r_w0_235);
-    u32 r_n6_303 = (fshl32(r_n6_302, r_n6_302, 27u) ^ r_w0_235);
-    u32 r_w0_242 = ((((r_w0_238 + ld32((t_wl + 56))) + r_w0_205) + ((r_w0_235 & (r_w0_225 ^ r_w0_215)) ^ r_w0_215)) + fshl32(r_n6_303, r_n6_303, 26u));
-    u32 r_n6_306 = (fshl32(r_w0_234, r_w0_234, 23u) ^ r_w0_234);
-    u32 r_n6_307 = (fshl32(r_n6_306, r_n6_306, 21u) ^ r_w0_234);
-    u32 r_n6_308 = (r_w0_234 ^ r_w0_224);
-    r_w0_244 = ((fshl32(r_n6_307, r_n6_307, 30u) + ((r_n6_308 & r_n6_296) ^ r_w0_224)) + r_w0_242);
-    r_w0_245 = (r_w0_242 + r_w0_204);
-    u32 r_n6_310 = (fshl32(r_w0_228, r_w0_228, 30u) ^ r_w0_228);
-    u32 r_n6_311 = (fshl32(r_w0_98, r_w0_98, 21u) ^ r_w0_98);
-    u32 r_w0_248 = ((((fshl32(r_n6_311, r_n6_311, 25u) ^ (u32)(r_w0_98 >> 3u)) + r_h8) + r_w0_178) + (fshl32(r_n6_310, r_n6_310, 15u) ^ (u32)(r_w0_228 >> 10u)));
-    u32 r_n6_314 = (fshl32(r_w0_245, r_w0_245, 18u) ^ r_w0_245);
-    u32 r_n6_315 = (fshl32(r_n6_314, r_n6_314, 27u) ^ r_w0_245);
-    u32 r_w0_252 = ((((r_w0_248 + ld32((t_wl + 60))) + r_w0_215) + ((r_w0_245 & (r_w0_235 ^ r_w0_225)) ^ r_w0_225)) + fshl32(r_n6_315, r_n6_315, 26u));
-    u32 r_n6_318 = (fshl32(r_w0_244, r_w0_244, 23u) ^ r_w0_244);
-    u32 r_n6_319 = (fshl32(r_n6_318, r_n6_318, 21u) ^ r_w0_244);
-    r_w0_254 = ((fshl32(r_n6_319, r_n6_319, 30u) + (((r_w0_244 ^ r_w0_234) & r_n6_308) ^ r_w0_234)) + r_w0_252);
-    r_w0_255 = (r_w0_252 + r_w0_214);
-    u64 r_c4_19 = (r_2h + 1ull);
-    if (!(r_c4_19 == 4ull)) { r_2h = r_c4_19; r_f7 = r_w0_225; r_gp = r_w0_235; r_q1 = r_w0_245; r_vo_1 = r_w0_255; r_1h = r_w0_224; r_58 = r_w0_234; r_v0 = r_w0_244; r_vw = r_w0_254; r_49 = r_w0_238; r_pc = r_w0_188; r_mk = r_w0_108; r_fy = r_w0_98; r_h8 = r_w0_248; r_ra = r_w0_198; r_8e = r_w0_118; r_nj_16 = r_w0_208; r_3x = r_w0_128; r_1k = r_w0_218; r_hx = r_w0_138; r_dg = r_w0_228; r_y1 = r_w0_148; r_up = r_w0_158; r_m4 = r_w0_168; r_9q = r_w0_178; goto l_join_7b; }
-    st32(a_1, (r_w0_254 + r_ru));
-    st32(r_sl, (r_w0_244 + r_5k_1));
-    st32(r_e7, (r_w0_234 + r_5k_2));
-    st32(r_a4, (r_w0_224 + r_5k_3));
-    st32(r_ud, (r_w0_255 + r_5k_4));
-    st32(r_hf, (r_w0_245 + r_5k_5));
-    st32(r_ng, (r_w0_235 + r_5k_6));
-    st32(r_zh, (r_w0_225 + r_5k_7));
+    u32 r_n6_79 = (fshl32(r_49, r_49, 30u) ^ r_49);
+    u32 r_n6_80 = (fshl32(r_mk, r_mk, 21u) ^ r_mk);
+    u32 r_w0_46 = (((r_fy + r_pc) + (fshl32(r_n6_79, r_n6_79, 15u) ^ (u32)(r_49 >> 10u))) + (fshl32(r_n6_80, r_n6_80, 25u) ^ (u32)(r_mk >> 3u)));
+    u8 *t_mg = (((u8 *)g_static_149) + (i64)((u64)(r_2h << 6ull)));
+    u32 r_n6_81 = (fshl32(r_vo_1, r_vo_1, 18u) ^ r_vo_1);
+    u32 r_n6_82 = (fshl32(r_n6_81, r_n6_81, 27u) ^ r_vo_1);
+    u32 r_w0_47 = ((((fshl32(r_n6_82, r_n6_82, 26u) + r_f7) + (((r_gp ^ r_q1) & r_vo_1) ^ r_gp)) + ld32(t_mg)) + r_w0_46);
+    u32 r_n6_83 = (fshl32(r_vw, r_vw, 23u) ^ r_vw);
+    u32 r_n6_84 = (fshl32(r_n6_83, r_n6_83, 21u) ^ r_vw);
+    u32 r_n6_85 = (r_v0 ^ r_vw);
+    u32 r_w0_48 = ((fshl32(r_n6_84, r_n6_84, 30u) + (((r_58 ^ r_v0) & r_n6_85) ^ r_v0)) + r_w0_47);
+    u32 r_w0_49 = (r_w0_47 + r_1h);
+    u32 r_n6_86 = (fshl32(r_h8, r_h8, 30u) ^ r_h8);
+    u32 r_n6_87 = (fshl32(r_8e, r_8e, 21u) ^ r_8e);
+    u32 r_w0_50 = (((r_ra + r_mk) + (fshl32(r_n6_86, r_n6_86, 15u) ^ (u32)(r_h8 >> 10u))) + (fshl32(r_n6_87, r_n6_87, 25u) ^ (u32)(r_8e >> 3u)));
+    u32 r_n6_88 = (fshl32(r_w0_49, r_w0_49, 18u) ^ r_w0_49);
+    u32 r_n6_89 = (fshl32(r_n6_88, r_n6_88, 27u) ^ r_w0_49);
+    u32 r_w0_51 = ((((ld32((t_mg + 4)) + r_gp) + ((r_w0_49 & (r_q1 ^ r_vo_1)) ^ r_q1)) + r_w0_50) + fshl32(r_n6_89, r_n6_89, 26u));
+    u32 r_n6_90 = (fshl32(r_w0_48, r_w0_48, 23u) ^ r_w0_48);
+    u32 r_n6_91 = (fshl32(r_n6_90, r_n6_90, 21u) ^ r_w0_48);
+    u32 r_n6_92 = (r_w0_48 ^ r_vw);
+    u32 r_w0_52 = ((fshl32(r_n6_91, r_n6_91, 30u) + ((r_n6_92 & r_n6_85) ^ r_vw)) + r_w0_51);
+    u32 r_w0_53 = (r_w0_51 + r_58);
+    u32 r_n6_93 = (fshl32(r_w0_46, r_w0_46, 30u) ^ r_w0_46);
+    u32 r_n6_94 = (fshl32(r_3x, r_3x, 21u) ^ r_3x);
+    u32 r_w0_54 = (((r_nj + r_8e) + (fshl32(r_n6_93, r_n6_93, 15u) ^ (u32)(r_w0_46 >> 10u))) + (fshl32(r_n6_94, r_n6_94, 25u) ^ (u32)(r_3x >> 3u)));
+    u32 r_n6_95 = (fshl32(r_w0_53, r_w0_53, 18u) ^ r_w0_53);
+    u32 r_n6_96 = (fshl32(r_n6_95, r_n6_95, 27u) ^ r_w0_53);
+    u32 r_w0_55 = ((((ld32((t_mg + 8)) + r_q1) + r_w0_54) + ((r_w0_53 & (r_w0_49 ^ r_vo_1)) ^ r_vo_1)) + fshl32(r_n6_96, r_n6_96, 26u));
+    u32 r_n6_97 = (fshl32(r_w0_52, r_w0_52, 23u) ^ r_w0_52);
+    u32 r_n6_98 = (fshl32(r_n6_97, r_n6_97, 21u) ^ r_w0_52);
+    u32 r_n6_99 = (r_w0_52 ^ r_w0_48);
+    u32 r_w0_56 = ((fshl32(r_n6_98, r_n6_98, 30u) + ((r_n6_99 & r_n6_92) ^ r_w0_48)) + r_w0_55);
+    u32 r_w0_57 = (r_w0_55 + r_v0);
+    u32 r_n6_100 = (fshl32(r_w0_50, r_w0_50, 30u) ^ r_w0_50);
+    u32 r_n6_101 = (fshl32(r_hx, r_hx, 21u) ^ r_hx);
+    u32 r_w0_58 = (((r_1k + r_3x) + (fshl32(r_n6_100, r_n6_100, 15u) ^ (u32)(r_w0_50 >> 10u))) + (fshl32(r_n6_101, r_n6_101, 25u) ^ (u32)(r_hx >> 3u)));
+    u32 r_n6_102 = (fshl32(r_w0_57, r_w0_57, 18u) ^ r_w0_57);
+    u32 r_n6_103 = (fshl32(r_n6_102, r_n6_102, 27u) ^ r_w0_57);
+    u32 r_w0_59 = ((((ld32((t_mg + 12)) + r_vo_1) + r_w0_58) + ((r_w0_57 & (r_w0_53 ^ r_w0_49)) ^ r_w0_49)) + fshl32(r_n6_103, r_n6_103, 26u));
+    u32 r_n6_104 = (fshl32(r_w0_56, r_w0_56, 23u) ^ r_w0_56);
+    u32 r_n6_105 = (fshl32(r_n6_104, r_n6_104, 21u) ^ r_w0_56);
+    u32 r_n6_106 = (r_w0_56 ^ r_w0_52);
+    u32 r_w0_60 = ((fshl32(r_n6_105, r_n6_105, 30u) + ((r_n6_106 & r_n6_99) ^ r_w0_52)) + r_w0_59);
+    u32 r_w0_61 = (r_w0_59 + r_vw);
+    u32 r_n6_107 = (fshl32(r_w0_54, r_w0_54, 30u) ^ r_w0_54);
+    u32 r_n6_108 = (fshl32(r_y1, r_y1, 21u) ^ r_y1);
+    u32 r_w0_62 = (((r_dg + r_hx) + (fshl32(r_n6_107, r_n6_107, 15u) ^ (u32)(r_w0_54 >> 10u))) + (fshl32(r_n6_108, r_n6_108, 25u) ^ (u32)(r_y1 >> 3u)));
+    u32 r_n6_109 = (fshl32(r_w0_61, r_w0_61, 18u) ^ r_w0_61);
+    u32 r_n6_110 = (fshl32(r_n6_109, r_n6_109, 27u) ^ r_w0_61);
+    u32 r_w0_63 = ((((ld32((t_mg + 16)) + r_w0_49) + r_w0_62) + ((r_w0_61 & (r_w0_57 ^ r_w0_53)) ^ r_w0_53)) + fshl32(r_n6_110, r_n6_110, 26u));
+    u32 r_n6_111 = (fshl32(r_w0_60, r_w0_60, 23u) ^ r_w0_60);
+    u32 r_n6_112 = (fshl32(r_n6_111, r_n6_111, 21u) ^ r_w0_60);
+    u32 r_n6_113 = (r_w0_60 ^ r_w0_56);
+    u32 r_w0_64 = ((fshl32(r_n6_112, r_n6_112, 30u) + ((r_n6_113 & r_n6_106) ^ r_w0_56)) + r_w0_63);
+    u32 r_w0_65 = (r_w0_63 + r_w0_48);
+    u32 r_n6_114 = (fshl32(r_w0_58, r_w0_58, 30u) ^ r_w0_58);
+    u32 r_n6_115 = (fshl32(r_up, r_up, 21u) ^ r_up);
+    u32 r_w0_66 = (((r_y1 + r_49) + (fshl32(r_n6_114, r_n6_114, 15u) ^ (u32)(r_w0_58 >> 10u))) + (fshl32(r_n6_115, r_n6_115, 25u) ^ (u32)(r_up >> 3u)));
+    u32 r_n6_116 = (fshl32(r_w0_65, r_w0_65, 18u) ^ r_w0_65);
+    u32 r_n6_117 = (fshl32(r_n6_116, r_n6_116, 27u) ^ r_w0_65);
+    u32 r_w0_67 = ((((ld32((t_mg + 20)) + r_w0_53) + r_w0_66) + ((r_w0_65 & (r_w0_61 ^ r_w0_57)) ^ r_w0_57)) + fshl32(r_n6_117, r_n6_117, 26u));
+    u32 r_n6_118 = (fshl32(r_w0_64, r_w0_64, 23u) ^ r_w0_64);
+    u32 r_n6_119 = (fshl32(r_n6_118, r_n6_118, 21u) ^ r_w0_64);
+    u32 r_n6_120 = (r_w0_64 ^ r_w0_60);
+    u32 r_w0_68 = ((fshl32(r_n6_119, r_n6_119, 30u) + ((r_n6_120 & r_n6_113) ^ r_w0_60)) + r_w0_67);
+    u32 r_w0_69 = (r_w0_67 + r_w0_52);
+    u32 r_n6_121 = (fshl32(r_w0_62, r_w0_62, 30u) ^ r_w0_62);
+    u32 r_n6_122 = (fshl32(r_m4, r_m4, 21u) ^ r_m4);
+    u32 r_w0_70 = (((r_up + r_h8) + (fshl32(r_n6_121, r_n6_121, 15u) ^ (u32)(r_w0_62 >> 10u))) + (fshl32(r_n6_122, r_n6_122, 25u) ^ (u32)(r_m4 >> 3u)));
+    u32 r_n6_123 = (fshl32(r_w0_69, r_w0_69, 18u) ^ r_w0_69);
+    u32 r_n6_124 = (fshl32(r_n6_123, r_n6_123, 27u) ^ r_w0_69);
+    u32 r_w0_71 = ((((r_w0_57 + ld32((t_mg + 24))) + r_w0_70) + ((r_w0_69 & (r_w0_65 ^ r_w0_61)) ^ r_w0_61)) + fshl32(r_n6_124, r_n6_124, 26u));
+    u32 r_n6_125 = (fshl32(r_w0_68, r_w0_68, 23u) ^ r_w0_68);
+    u32 r_n6_126 = (fshl32(r_n6_125, r_n6_125, 21u) ^ r_w0_68);
+    u32 r_n6_127 = (r_w0_68 ^ r_w0_64);
+    u32 r_w0_72 = ((fshl32(r_n6_126, r_n6_126, 30u) + ((r_n6_127 & r_n6_120) ^ r_w0_64)) + r_w0_71);
+    u32 r_w0_73 = (r_w0_71 + r_w0_56);
+    u32 r_n6_128 = (fshl32(r_w0_66, r_w0_66, 30u) ^ r_w0_66);
+    u32 r_n6_129 = (fshl32(r_9q, r_9q, 21u) ^ r_9q);
+    u32 r_w0_74 = (((r_m4 + r_w0_46) + (fshl32(r_n6_128, r_n6_128, 15u) ^ (u32)(r_w0_66 >> 10u))) + (fshl32(r_n6_129, r_n6_129, 25u) ^ (u32)(r_9q >> 3u)));
+    u32 r_n6_130 = (fshl32(r_w0_73, r_w0_73, 18u) ^ r_w0_73);
+    u32 r_n6_131 = (fshl32(r_n6_130, r_n6_130, 27u) ^ r_w0_73);
+    u32 r_w0_75 = ((((r_w0_74 + ld32((t_mg + 28))) + r_w0_61) + ((r_w0_73 & (r_w0_69 ^ r_w0_65)) ^ r_w0_65)) + fshl32(r_n6_131, r_n6_131, 26u));
+    u32 r_n6_132 = (fshl32(r_w0_72, r_w0_72, 23u) ^ r_w0_72);
+    u32 r_n6_133 = (fshl32(r_n6_132, r_n6_132, 21u) ^ r_w0_72);
+    u32 r_n6_134 = (r_w0_72 ^ r_w0_68);
+    u32 r_w0_76 = ((fshl32(r_n6_133, r_n6_133, 30u) + ((r_n6_134 & r_n6_127) ^ r_w0_68)) + r_w0_75);
+    u32 r_w0_77 = (r_w0_75 + r_w0_60);
+    u32 r_n6_135 = (fshl32(r_w0_70, r_w0_70, 30u) ^ r_w0_70);
+    u32 r_n6_136 = (fshl32(r_pc, r_pc, 21u) ^ r_pc);
+    u32 r_w0_78 = (((r_w0_50 + (fshl32(r_n6_136, r_n6_136, 25u) ^ (u32)(r_pc >> 3u))) + r_9q) + (fshl32(r_n6_135, r_n6_135, 15u) ^ (u32)(r_w0_70 >> 10u)));
+    u32 r_n6_137 = (fshl32(r_w0_77, r_w0_77, 18u) ^ r_w0_77);
+    u32 r_n6_138 = (fshl32(r_n6_137, r_n6_137, 27u) ^ r_w0_77);
+    u32 r_w0_79 = ((((r_w0_78 + ld32((t_mg + 32))) + r_w0_65) + ((r_w0_77 & (r_w0_73 ^ r_w0_69)) ^ r_w0_69)) + fshl32(r_n6_138, r_n6_138, 26u));
+    u32 r_n6_139 = (fshl32(r_w0_76, r_w0_76, 23u) ^ r_w0_76);
+    u32 r_n6_140 = (fshl32(r_n6_139, r_n6_139, 21u) ^ r_w0_76);
+    u32 r_n6_141 = (r_w0_76 ^ r_w0_72);
+    u32 r_w0_80 = ((fshl32(r_n6_140, r_n6_140, 30u) + ((r_n6_141 & r_n6_134) ^ r_w0_72)) + r_w0_79);
+    u32 r_w0_81 = (r_w0_79 + r_w0_64);
+    u32 r_n6_142 = (fshl32(r_w0_74, r_w0_74, 30u) ^ r_w0_74);
+    u32 r_n6_143 = (fshl32(r_ra, r_ra, 21u) ^ r_ra);
+    u32 r_w0_82 = ((((fshl32(r_n6_143, r_n6_143, 25u) ^ (u32)(r_ra >> 3u)) + r_pc) + r_w0_54) + (fshl32(r_n6_142, r_n6_142, 15u) ^ (u32)(r_w0_74 >> 10u)));
+    u32 r_n6_144 = (fshl32(r_w0_81, r_w0_81, 18u) ^ r_w0_81);
+    u32 r_n6_145 = (fshl32(r_n6_144, r_n6_144, 27u) ^ r_w0_81);
+    u32 r_w0_83 = ((((r_w0_82 + ld32((t_mg + 36))) + r_w0_69) + ((r_w0_81 & (r_w0_77 ^ r_w0_73)) ^ r_w0_73)) + fshl32(r_n6_145, r_n6_145, 26u));
+    u32 r_n6_146 = (fshl32(r_w0_80, r_w0_80, 23u) ^ r_w0_80);
+    u32 r_n6_147 = (fshl32(r_n6_146, r_n6_146, 21u) ^ r_w0_80);
+    u32 r_n6_148 = (r_w0_80 ^ r_w0_76);
+    u32 r_w0_84 = ((fshl32(r_n6_147, r_n6_147, 30u) + ((r_n6_148 & r_n6_141) ^ r_w0_76)) + r_w0_83);
+    u32 r_w0_85 = (r_w0_83 + r_w0_68);
+    u32 r_n6_149 = (fshl32(r_w0_78, r_w0_78, 30u) ^ r_w0_78);
+    u32 r_n6_150 = (fshl32(r_nj, r_nj, 21u) ^ r_nj);
+    u32 r_w0_86 = ((((fshl32(r_n6_150, r_n6_150, 25u) ^ (u32)(r_nj >> 3u)) + r_ra) + r_w0_58) + (fshl32(r_n6_149, r_n6_149, 15u) ^ (u32)(r_w0_78 >> 10u)));
+    u32 r_n6_151 = (fshl32(r_w0_85, r_w0_85, 18u) ^ r_w0_85);
+    u32 r_n6_152 = (fshl32(r_n6_151, r_n6_151, 27u) ^ r_w0_85);
+    u32 r_w0_87 = ((((r_w0_86 + ld32((t_mg + 40))) + r_w0_73) + ((r_w0_85 & (r_w0_81 ^ r_w0_77)) ^ r_w0_77)) + fshl32(r_n6_152, r_n6_152, 26u));
+    u32 r_n6_153 = (fshl32(r_w0_84, r_w0_84, 23u) ^ r_w0_84);
+    u32 r_n6_154 = (fshl32(r_n6_153, r_n6_153, 21u) ^ r_w0_84);
+    u32 r_n6_155 = (r_w0_84 ^ r_w0_80);
+    u32 r_w0_88 = ((fshl32(r_n6_154, r_n6_154, 30u) + ((r_n6_155 & r_n6_148) ^ r_w0_80)) + r_w0_87);
+    u32 r_w0_89 = (r_w0_87 + r_w0_72);
+    u32 r_n6_156 = (fshl32(r_w0_82, r_w0_82, 30u) ^ r_w0_82);
+    u32 r_n6_157 = (fshl32(r_1k, r_1k, 21u) ^ r_1k);
+    u32 r_w0_90 = ((((fshl32(r_n6_157, r_n6_157, 25u) ^ (u32)(r_1k >> 3u)) + r_nj) + r_w0_62) + (fshl32(r_n6_156, r_n6_156, 15u) ^ (u32)(r_w0_82 >> 10u)));
+    u32 r_n6_158 = (fshl32(r_w0_89, r_w0_89, 18u) ^ r_w0_89);
+    u32 r_n6_159 = (fshl32(r_n6_158, r_n6_158, 27u) ^ r_w0_89);
+    u32 r_w0_91 = ((((r_w0_90 + ld32((t_mg + 44))) + r_w0_77) + ((r_w0_89 & (r_w0_85 ^ r_w0_81)) ^ r_w0_81)) + fshl32(r_n6_159, r_n6_159, 26u));
+    u32 r_n6_160 = (fshl32(r_w0_88, r_w0_88, 23u) ^ r_w0_88);
+    u32 r_n6_161 = (fshl32(r_n6_160, r_n6_160, 21u) ^ r_w0_88);
+    u32 r_n6_162 = (r_w0_88 ^ r_w0_84);
+    u32 r_w0_92 = ((fshl32(r_n6_161, r_n6_161, 30u) + ((r_n6_162 & r_n6_155) ^ r_w0_84)) + r_w0_91);
+    u32 r_w0_93 = (r_w0_91 + r_w0_76);
+    u32 r_n6_163 = (fshl32(r_w0_86, r_w0_86, 30u) ^ r_w0_86);
+    u32 r_n6_164 = (fshl32(r_dg, r_dg, 21u) ^ r_dg);
+    u32 r_w0_94 = ((((fshl32(r_n6_164, r_n6_164, 25u) ^ (u32)(r_dg >> 3u)) + r_1k) + r_w0_66) + (fshl32(r_n6_163, r_n6_163, 15u) ^ (u32)(r_w0_86 >> 10u)));
+    u32 r_n6_165 = (fshl32(r_w0_93, r_w0_93, 18u) ^ r_w0_93);
+    u32 r_n6_166 = (fshl32(r_n6_165, r_n6_165, 27u) ^ r_w0_93);
+    u32 r_w0_95 = ((((r_w0_94 + ld32((t_mg + 48))) + r_w0_81) + ((r_w0_93 & (r_w0_89 ^ r_w0_85)) ^ r_w0_85)) + fshl32(r_n6_166, r_n6_166, 26u));
+    u32 r_n6_167 = (fshl32(r_w0_92, r_w0_92, 23u) ^ r_w0_92);
+    u32 r_n6_168 = (fshl32(r_n6_167, r_n6_167, 21u) ^ r_w0_92);
+    u32 r_n6_169 = (r_w0_92 ^ r_w0_88);
+    r_w0_96 = ((fshl32(r_n6_168, r_n6_168, 30u) + ((r_n6_169 & r_n6_162) ^ r_w0_88)) + r_w0_95);
+    r_w0_97 = (r_w0_95 + r_w0_80);
+    u32 r_n6_170 = (fshl32(r_w0_90, r_w0_90, 30u) ^ r_w0_90);
+    u32 r_n6_171 = (fshl32(r_49, r_49, 21u) ^ r_49);
+    u32 r_w0_98 = (((r_dg + (fshl32(r_n6_171, r_n6_171, 25u) ^ (u32)(r_49 >> 3u))) + r_w0_70) + (fshl32(r_n6_170, r_n6_170, 15u) ^ (u32)(r_w0_90 >> 10u)));
+    u32 r_n6_172 = (fshl32(r_w0_97, r_w0_97, 18u) ^ r_w0_97);
+    u32 r_n6_173 = (fshl32(r_n6_172, r_n6_172, 27u) ^ r_w0_97);
+    u32 r_w0_99 = ((((r_w0_98 + ld32((t_mg + 52))) + r_w0_85) + ((r_w0_97 & (r_w0_93 ^ r_w0_89)) ^ r_w0_89)) + fshl32(r_n6_173, r_n6_173, 26u));
+    u32 r_n6_174 = (fshl32(r_w0_96, r_w0_96, 23u) ^ r_w0_96);
+    u32 r_n6_175 = (fshl32(r_n6_174, r_n6_174, 21u) ^ r_w0_96);
+    u32 r_n6_176 = (r_w0_96 ^ r_w0_92);
+    r_w0_100 = ((fshl32(r_n6_175, r_n6_175, 30u) + ((r_n6_176 & r_n6_169) ^ r_w0_92)) + r_w0_99);
+    r_w0_101 = (r_w0_99 + r_w0_84);
+    u32 r_n6_177 = (fshl32(r_w0_94, r_w0_94, 30u) ^ r_w0_94);
+    u32 r_n6_178 = (fshl32(r_h8, r_h8, 21u) ^ r_h8);
+    u32 r_w0_102 = ((((fshl32(r_n6_178, r_n6_178, 25u) ^ (u32)(r_h8 >> 3u)) + r_49) + r_w0_74) + (fshl32(r_n6_177, r_n6_177, 15u) ^ (u32)(r_w0_94 >> 10u)));
+    u32 r_n6_179 = (fshl32(r_w0_101, r_w0_101, 18u) ^ r_w0_101);
+    u32 r_n6_180 = (fshl32(r_n6_179, r_n6_179, 27u) ^ r_w0_101);
+    u32 r_w0_103 = ((((r_w0_102 + ld32((t_mg + 56))) + r_w0_89) + ((r_w0_101 & (r_w0_97 ^ r_w0_93)) ^ r_w0_93)) + fshl32(r_n6_180, r_n6_180, 26u));
+    u32 r_n6_181 = (fshl32(r_w0_100, r_w0_100, 23u) ^ r_w0_100);
+    u32 r_n6_182 = (fshl32(r_n6_181, r_n6_181, 21u) ^ r_w0_100);
+    u32 r_n6_183 = (r_w0_100 ^ r_w0_96);
+    r_w0_104 = ((fshl32(r_n6_182, r_n6_182, 30u) + ((r_n6_183 & r_n6_176) ^ r_w0_96)) + r_w0_103);
+    r_w0_105 = (r_w0_103 + r_w0_88);
+    u32 r_n6_184 = (fshl32(r_w0_98, r_w0_98, 30u) ^ r_w0_98);
+    u32 r_n6_185 = (fshl32(r_w0_46, r_w0_46, 21u) ^ r_w0_46);
+    u32 r_w0_106 = ((((fshl32(r_n6_185, r_n6_185, 25u) ^ (u32)(r_w0_46 >> 3u)) + r_h8) + r_w0_78) + (fshl32(r_n6_184, r_n6_184, 15u) ^ (u32)(r_w0_98 >> 10u)));
+    u32 r_n6_186 = (fshl32(r_w0_105, r_w0_105, 18u) ^ r_w0_105);
+    u32 r_n6_187 = (fshl32(r_n6_186, r_n6_186, 27u) ^ r_w0_105);
+    u32 r_w0_107 = ((((r_w0_106 + ld32((t_mg + 60))) + r_w0_93) + ((r_w0_105 & (r_w0_101 ^ r_w0_97)) ^ r_w0_97)) + fshl32(r_n6_187, r_n6_187, 26u));
+    u32 r_n6_188 = (fshl32(r_w0_104, r_w0_104, 23u) ^ r_w0_104);
+    u32 r_n6_189 = (fshl32(r_n6_188, r_n6_188, 21u) ^ r_w0_104);
+    r_w0_108 = ((fshl32(r_n6_189, r_n6_189, 30u) + (((r_w0_104 ^ r_w0_100) & r_n6_183) ^ r_w0_100)) + r_w0_107);
+    r_w0_109 = (r_w0_107 + r_w0_92);
+    u64 r_c4_2 = (r_2h + 1ull);
+    if (!(r_c4_2 == 4ull)) { r_2h = r_c4_2; r_f7 = r_w0_97; r_gp = r_w0_101; r_q1 = r_w0_105; r_vo_1 = r_w0_109; r_1h = r_w0_96; r_58 = r_w0_100; r_v0 = r_w0_104; r_vw = r_w0_108; r_49 = r_w0_102; r_pc = r_w0_82; r_mk = r_w0_50; r_fy = r_w0_46; r_h8 = r_w0_106; r_ra = r_w0_86; r_8e = r_w0_54; r_nj = r_w0_90; r_3x = r_w0_58; r_1k = r_w0_94; r_hx = r_w0_62; r_dg = r_w0_98; r_y1 = r_w0_66; r_up = r_w0_70; r_m4 = r_w0_74; r_9q = r_w0_78; goto l_join_7b; }
+    st32(a_1, (r_w0_108 + r_ru));
+    st32(r_sl, (r_w0_104 + r_5k));
+    st32(r_e7, (r_w0_100 + r_5k_1));
+    st32(r_a4, (r_w0_96 + r_5k_2));
+    st32(r_ud, (r_w0_109 + r_5k_3));
+    st32(r_hf, (r_w0_105 + r_5k_4));
+    st32(r_ng, (r_w0_101 + r_5k_5));
+    st32(r_zh, (r_w0_97 + r_5k_6));
     return;
 }
 
@@ -15318,7 +15393,7 @@ NEVER void capnp_messages_messages_whole_digest_digest_of_copy_ad_90329eb6(u8 *a
     u64 r_ax;
     u64 r_du;
     u64 r_zn;
-    u8 *r_zd_2;
+    u8 *r_zd_1;
     u64 r_o3;
     u64 r_zn_1;
     u8 *r_xw_4;
@@ -15405,12 +15480,12 @@ l_core_e6:;
 l_join_jj:;
     if (r_38 == 0ull) goto l_capnp_p4;
 l_arm_yi:;
-    r_zd_2 = (slot_2 + 16);
+    r_zd_1 = (slot_2 + 16);
     r_o3 = r_38;
 l_arm_zl:;
     r_zn_1 = (r_o3 + 0xffffffffffffffffull);
     r_xw_4 = ldp(slot_2);
-    u64 r_38_7 = ld64(r_zd_2);
+    u64 r_38_7 = ld64(r_zd_1);
     mv24(slot_2, (r_xw + (i64)((r_zn_1 * 40ull))));
     if (r_38_7 == 0ull) goto l_capnp_jj;
     rattle_dealloc(r_xw_4);
@@ -15618,20 +15693,20 @@ NEVER void capnp_messages_messages_part_digest_digest_of_part_cop_bd8dbb16(u8 *a
     u32 r_5k_1;
     u64 r_qw;
     u8 *r_xw;
+    u64 r_38_1;
     u64 r_38_2;
-    u64 r_38_3;
     u8 *r_xw_1;
+    u64 r_38_3;
     u64 r_38_4;
-    u64 r_38_5;
     u8 *r_xw_2;
+    u64 r_38_5;
     u64 r_38_6;
-    u64 r_38_7;
     u8 *r_xw_3;
     u64 t_gg;
     u64 r_ax;
     u64 r_du;
     u64 r_zn;
-    u8 *r_zd_7;
+    u8 *r_zd_1;
     u64 r_o3;
     u64 r_zn_1;
     u8 *r_xw_4;
@@ -15668,12 +15743,12 @@ NEVER void capnp_messages_messages_part_digest_digest_of_part_cop_bd8dbb16(u8 *a
     r_54 = ld8(slot_4);
     goto l_capnp_r1;
 l_arm_e5:;
-    u32 r_uq_1 = ld32((slot_3 + 12));
-    u64 r_38_1 = ld64((slot_3 + 16));
+    u32 r_uq = ld32((slot_3 + 12));
+    u64 r_38 = ld64((slot_3 + 16));
     st32((slot_4 + 8), (u32)r_r5);
     mv32((slot_4 + 24), slot_1);
-    r_n8 = r_38_1;
-    r_ov = r_uq_1;
+    r_n8 = r_38;
+    r_ov = r_uq;
     r_qo = r_r5;
     r_54 = 1u;
 l_capnp_r1:;
@@ -15696,47 +15771,47 @@ l_capnp_r1:;
     r_qw = ld64((slot_7 + 15));
     mv9(slot_15, (slot_7 + 23));
     r_xw = ldp((slot_6 + 32));
-    r_38_2 = ld64((slot_6 + 40));
-    r_38_3 = ld64(r_c4);
+    r_38_1 = ld64((slot_6 + 40));
+    r_38_2 = ld64(r_c4);
     r_xw_1 = ldp((slot_6 + 56));
-    r_38_4 = ld64((slot_6 + 64));
-    r_38_5 = ld64((slot_6 + 72));
+    r_38_3 = ld64((slot_6 + 64));
+    r_38_4 = ld64((slot_6 + 72));
     r_xw_2 = ldp((slot_6 + 104));
-    r_38_6 = ld64((slot_6 + 112));
-    r_38_7 = ld64((slot_6 + 120));
-    u8 r_r5_3 = ld8((slot_6 + 96));
+    r_38_5 = ld64((slot_6 + 112));
+    r_38_6 = ld64((slot_6 + 120));
+    u8 r_r5_1 = ld8((slot_6 + 96));
     mv32(slot_2, slot_6);
-    if (!(u8)(r_r5_3 & 1)) goto l_else_r8;
+    if (!(u8)(r_r5_1 & 1)) goto l_else_r8;
     r_xw_3 = ldp(slot_2);
-    u8 *r_zd_5 = (slot_2 + 16);
-    u64 r_38_8 = ld64(r_zd_5);
+    u8 *r_zd = (slot_2 + 16);
+    u64 r_38_7 = ld64(r_zd);
     stp(slot_2, r_xw_1);
-    st64((slot_2 + 8), r_38_4);
-    st64(r_zd_5, r_38_5);
-    if (r_38_8 == 0ull) goto l_capnp_4o;
+    st64((slot_2 + 8), r_38_3);
+    st64(r_zd, r_38_4);
+    if (r_38_7 == 0ull) goto l_capnp_4o;
     rattle_dealloc(r_xw_3);
 l_capnp_4o:;
     stp(slot_1, r_xw_2);
-    st64((slot_1 + 8), r_38_6);
-    st64((slot_1 + 16), r_38_7);
+    st64((slot_1 + 8), r_38_5);
+    st64((slot_1 + 16), r_38_6);
     capnp_arena_arena_builder_arena_impl_deallocate_others_74e7ad04(slot_2, slot_1);
     goto l_capnp_f6;
 l_else_r8:;
-    if (r_38_5 == 0ull) goto l_core_at;
+    if (r_38_4 == 0ull) goto l_core_at;
     rattle_dealloc(r_xw_1);
 l_core_at:;
-    if (r_38_7 == 0ull) goto l_capnp_f6;
+    if (r_38_6 == 0ull) goto l_capnp_f6;
     rattle_dealloc(r_xw_2);
 l_capnp_f6:;
-    if (!(r_38_2 > 1ull)) goto l_join_jj;
-    if (r_38_2 > 15ull) goto l_join_ys;
-    t_gg = (u64)((r_38_2 + 0xfffffffffffffffeull) >> 1ull);
+    if (!(r_38_1 > 1ull)) goto l_join_jj;
+    if (r_38_1 > 15ull) goto l_join_ys;
+    t_gg = (u64)((r_38_1 + 0xfffffffffffffffeull) >> 1ull);
     r_ax = 0ull;
-    r_du = r_38_2;
+    r_du = r_38_1;
     goto l_join_73;
 l_join_ys:;
-    u64 r_dt = (u64)(r_38_2 >> 1ull);
-    core_slice_edits_mirror_e0f4f6844e27f7b4(r_xw, away(r_xw, ((r_38_2 - r_dt) * 40ull)), r_dt);
+    u64 r_dt = (u64)(r_38_1 >> 1ull);
+    core_slice_edits_mirror_e0f4f6844e27f7b4(r_xw, away(r_xw, ((r_38_1 - r_dt) * 40ull)), r_dt);
     goto l_arm_yi;
 l_join_73:;
     r_zn = (r_du + 0xffffffffffffffffull);
@@ -15757,21 +15832,21 @@ l_else_7d:;
 l_core_e6:;
     if (!(r_ax == t_gg)) { u64 r_1 = (r_ax + 1ull); u64 r_2 = r_zn; r_ax = r_1; r_du = r_2; goto l_join_73; }
 l_join_jj:;
-    if (r_38_2 == 0ull) goto l_capnp_p4;
+    if (r_38_1 == 0ull) goto l_capnp_p4;
 l_arm_yi:;
-    r_zd_7 = (slot_2 + 16);
-    r_o3 = r_38_2;
+    r_zd_1 = (slot_2 + 16);
+    r_o3 = r_38_1;
 l_arm_zl:;
     r_zn_1 = (r_o3 + 0xffffffffffffffffull);
     r_xw_4 = ldp(slot_2);
-    u64 r_38_9 = ld64(r_zd_7);
+    u64 r_38_8 = ld64(r_zd_1);
     mv24(slot_2, (r_xw + (i64)((r_zn_1 * 40ull))));
-    if (r_38_9 == 0ull) goto l_capnp_jj;
+    if (r_38_8 == 0ull) goto l_capnp_jj;
     rattle_dealloc(r_xw_4);
 l_capnp_jj:;
     if (!(r_zn_1 == 0ull)) { r_o3 = r_zn_1; goto l_arm_zl; }
 l_capnp_p4:;
-    if (r_38_3 == 0ull) goto l_std_qd;
+    if (r_38_2 == 0ull) goto l_std_qd;
     rattle_dealloc(r_xw);
 l_std_qd:;
     mv32(slot_16, slot_2);
@@ -15813,7 +15888,7 @@ NEVER u8 capnp_objects_pointers_validate_validate_object_5ccc1b_507f75cf(u8 *a_1
     u8 *r_rq;
     u8 *r_xw_1;
     u8 *r_08;
-    u8 *r_su_1;
+    u8 *r_su;
     u64 r_7l;
     u64 r_gw;
     u64 r_qw;
@@ -15823,7 +15898,7 @@ NEVER u8 capnp_objects_pointers_validate_validate_object_5ccc1b_507f75cf(u8 *a_1
     u64 r_nb;
     u64 r_yz;
     u32 r_ag;
-    u32 r_38_2;
+    u32 r_38_1;
     u64 r_7w;
     u64 r_un;
     u64 r_o2;
@@ -15832,35 +15907,35 @@ NEVER u8 capnp_objects_pointers_validate_validate_object_5ccc1b_507f75cf(u8 *a_1
     u64 r_y6;
     u64 r_lc_1;
     u8 *r_t9;
-    u64 r_52_2;
+    u64 r_52_1;
     u8 switch_wl;
     u64 r_ij_1;
-    u64 r_c4_1;
-    u64 r_24_1;
-    u64 r_gw_2;
+    u64 r_c4;
+    u64 r_24;
+    u64 r_gw_1;
     u8 *r_t9_1;
-    u64 r_52_3;
+    u64 r_52_2;
     u64 r_eh;
     u32 t_c8;
     u32 r_12_1;
     u32 r_az_1;
-    u32 r_68_1;
-    u64 r_c0_1;
+    u32 r_68;
+    u64 r_c0;
     u8 *r_t9_2;
-    u64 r_52_4;
+    u64 r_52_3;
     u32 r_12_2;
     u8 *r_t9_3;
-    u64 r_52_5;
+    u64 r_52_4;
     u8 *r_t9_4;
-    u64 r_52_6;
+    u64 r_52_5;
     u64 r_hn;
     u64 r_c6;
     u8 *r_t9_5;
-    u64 r_52_7;
+    u64 r_52_6;
     u64 r_2g;
     u64 r_jg;
     u64 r_6e;
-    u32 t_h6_1;
+    u32 t_h6;
     u32 a_op;
     u64 r_tq;
     u32 r_hc;
@@ -15874,11 +15949,11 @@ NEVER u8 capnp_objects_pointers_validate_validate_object_5ccc1b_507f75cf(u8 *a_1
     u32 r_ae;
     u32 r_3i;
     u32 r_ij;
-    u8 *r_c4_2;
+    u8 *r_c4_1;
     u8 *r_6c;
-    u32 r_68_3;
+    u32 r_68_1;
     u32 invariant_w0;
-    u32 r_e3_1;
+    u32 r_e3;
     u32 r_7o;
     u8 r_fk;
     memset(slot_2, 0u, 64);
@@ -15889,7 +15964,7 @@ NEVER u8 capnp_objects_pointers_validate_validate_object_5ccc1b_507f75cf(u8 *a_1
     r_rq = away(a_1, 8ull);
     r_xw_1 = ldp(r_rq);
     r_08 = away(a_1, 16ull);
-    r_su_1 = away(a_4, 40ull);
+    r_su = away(a_4, 40ull);
     r_7l = (u64)a_2;
     r_gw = (u64)(r_38 >> 3ull);
     if (!(r_gw > r_7l)) { r_fk = 0u; goto l_return_ri; }
@@ -15922,19 +15997,19 @@ l_else_70:;
     r_yz = r_3o;
 l_capnp_i5:;
     r_ag = 0u;
-    r_38_2 = (u32)r_yz;
+    r_38_1 = (u32)r_yz;
     r_7w = r_52;
     r_un = r_qw;
     r_o2 = r_38;
     r_hq = t_al;
     goto l_arm_gc;
 l_capnp_dn:;
-    capnp_objects_source_follow_far_5ccc1be374b2e488(slot_1, r_xw_1, r_qw, r_su_1);
-    u64 r_38_3 = ld64((slot_1 + 16));
-    u64 r_38_4 = ld64((slot_1 + 8));
-    if (ld8(slot_1) == 0u) { r_ag = ld32((slot_1 + 44)); r_38_2 = ld32((slot_1 + 40)); r_7w = r_38_3; r_un = r_38_4; r_o2 = ld64((slot_1 + 32)); r_hq = ld64((slot_1 + 24)); goto l_arm_gc; }
-    r_jg = r_38_3;
-    r_6e = r_38_4;
+    capnp_objects_source_follow_far_5ccc1be374b2e488(slot_1, r_xw_1, r_qw, r_su);
+    u64 r_38_2 = ld64((slot_1 + 16));
+    u64 r_38_3 = ld64((slot_1 + 8));
+    if (ld8(slot_1) == 0u) { r_ag = ld32((slot_1 + 44)); r_38_1 = ld32((slot_1 + 40)); r_7w = r_38_2; r_un = r_38_3; r_o2 = ld64((slot_1 + 32)); r_hq = ld64((slot_1 + 24)); goto l_arm_gc; }
+    r_jg = r_38_2;
+    r_6e = r_38_3;
     goto l_capnp_qu;
 l_arm_gc:;
     switch ((u8)((u8)r_un & 3u)) {
@@ -15949,14 +16024,14 @@ l_arm_4l:;
     r_y6 = (u64)(r_un >> 48ull);
     if ((i32)a_3 < (i32)1u) { r_hc = 26u; r_vo = 0ull; r_k1 = 0u; goto l_arm_zi; }
     r_lc_1 = ((r_ep & 65535ull) + r_y6);
-    if (((u64)(r_o2 >> 3ull) & 0xffffffffull) < (r_lc_1 + (u64)r_38_2)) { r_hc = 23u; r_vo = 0ull; r_k1 = 0u; goto l_arm_zi; }
+    if (((u64)(r_o2 >> 3ull) & 0xffffffffull) < (r_lc_1 + (u64)r_38_1)) { r_hc = 23u; r_vo = 0ull; r_k1 = 0u; goto l_arm_zi; }
     if (t_pa) goto l_arm_67;
-    if (!(ld8(r_su_1) == 1u)) goto l_arm_67;
+    if (!(ld8(r_su) == 1u)) goto l_arm_67;
     r_t9 = away(a_4, 48ull);
-    r_52_2 = ld64(r_t9);
-    if (r_52_2 < r_lc_1) { r_hc = 30u; r_vo = 0ull; r_k1 = 0u; goto l_arm_zi; }
-    st64(r_su_1, 1ull);
-    st64(r_t9, (r_52_2 - r_lc_1));
+    r_52_1 = ld64(r_t9);
+    if (r_52_1 < r_lc_1) { r_hc = 30u; r_vo = 0ull; r_k1 = 0u; goto l_arm_zi; }
+    st64(r_su, 1ull);
+    st64(r_t9, (r_52_1 - r_lc_1));
 l_arm_67:;
     u32 r_12 = (u32)r_y6;
     u32 r_az = ((u32)r_ep & 65535u);
@@ -15964,7 +16039,7 @@ l_arm_67:;
     a_8q = smax32(r_y0, 0u);
     r_nx = (r_az + r_12);
     r_b0 = r_y0;
-    r_ub = r_38_2;
+    r_ub = r_38_1;
     r_7c = r_ag;
     r_ae = r_az;
     r_3i = r_12;
@@ -15986,20 +16061,20 @@ l_arm_z2:;
     }
 l_arm_ot:;
     if ((i32)a_3 < (i32)1u) { r_hc = 26u; r_vo = 0ull; r_k1 = 0u; goto l_arm_zi; }
-    r_c4_1 = (r_ij_1 + 1ull);
-    r_24_1 = (u64)r_38_2;
-    r_gw_2 = (u64)(r_o2 >> 3ull);
-    if ((r_gw_2 & 0xffffffffull) < (r_c4_1 + r_24_1)) { r_hc = 23u; r_vo = 0ull; r_k1 = 0u; goto l_arm_zi; }
+    r_c4 = (r_ij_1 + 1ull);
+    r_24 = (u64)r_38_1;
+    r_gw_1 = (u64)(r_o2 >> 3ull);
+    if ((r_gw_1 & 0xffffffffull) < (r_c4 + r_24)) { r_hc = 23u; r_vo = 0ull; r_k1 = 0u; goto l_arm_zi; }
     if (t_pa) goto l_arm_ga;
-    if (!(ld8(r_su_1) == 1u)) goto l_arm_ga;
+    if (!(ld8(r_su) == 1u)) goto l_arm_ga;
     r_t9_1 = away(a_4, 48ull);
-    r_52_3 = ld64(r_t9_1);
-    if (!(r_52_3 > r_ij_1)) { r_hc = 30u; r_vo = 0ull; r_k1 = 0u; goto l_arm_zi; }
-    st64(r_su_1, 1ull);
-    st64(r_t9_1, (r_52_3 - r_c4_1));
+    r_52_2 = ld64(r_t9_1);
+    if (!(r_52_2 > r_ij_1)) { r_hc = 30u; r_vo = 0ull; r_k1 = 0u; goto l_arm_zi; }
+    st64(r_su, 1ull);
+    st64(r_t9_1, (r_52_2 - r_c4));
 l_arm_ga:;
-    if (!(r_gw_2 > r_24_1)) { r_eh = 0ull; goto l_join_qm; }
-    u64 r_qw_1 = ld64(away(((u8 *)(uptr)r_hq), (u64)(r_24_1 << 3ull)));
+    if (!(r_gw_1 > r_24)) { r_eh = 0ull; goto l_join_qm; }
+    u64 r_qw_1 = ld64(away(((u8 *)(uptr)r_hq), (u64)(r_24 << 3ull)));
     if ((r_qw_1 & 3ull) == 0ull) { r_eh = r_qw_1; goto l_join_qm; }
     r_hc = 11u;
     r_vo = 0ull;
@@ -16009,22 +16084,22 @@ l_join_qm:;
     t_c8 = (u32)((u32)r_eh >> 2u);
     r_12_1 = (u32)(u64)(r_eh >> 48ull);
     r_az_1 = ((u32)(u64)(r_eh >> 32ull) & 65535u);
-    r_68_1 = (r_az_1 + r_12_1);
-    r_c0_1 = (u64)t_c8;
-    if (r_ij_1 < ((u64)r_68_1 * r_c0_1)) { r_hc = 10u; r_vo = 0ull; r_k1 = 0u; goto l_arm_zi; }
-    if ((u8)((u8)t_pa | (u8)(r_68_1 != 0u))) goto l_arm_gu;
-    if (!(ld8(r_su_1) == 1u)) goto l_arm_gu;
+    r_68 = (r_az_1 + r_12_1);
+    r_c0 = (u64)t_c8;
+    if (r_ij_1 < ((u64)r_68 * r_c0)) { r_hc = 10u; r_vo = 0ull; r_k1 = 0u; goto l_arm_zi; }
+    if ((u8)((u8)t_pa | (u8)(r_68 != 0u))) goto l_arm_gu;
+    if (!(ld8(r_su) == 1u)) goto l_arm_gu;
     r_t9_2 = away(a_4, 48ull);
-    r_52_4 = ld64(r_t9_2);
-    if (r_52_4 < r_c0_1) { r_hc = 30u; r_vo = 0ull; r_k1 = 0u; goto l_arm_zi; }
-    st64(r_su_1, 1ull);
-    st64(r_t9_2, (r_52_4 - r_c0_1));
+    r_52_3 = ld64(r_t9_2);
+    if (r_52_3 < r_c0) { r_hc = 30u; r_vo = 0ull; r_k1 = 0u; goto l_arm_zi; }
+    st64(r_su, 1ull);
+    st64(r_t9_2, (r_52_3 - r_c0));
 l_arm_gu:;
     u32 r_y0_1 = (a_3 + 0xffffffffu);
     a_8q = smax32(r_y0_1, 0u);
     r_nx = (((r_az_1 + r_12_1) * t_c8) + 1u);
     r_b0 = r_y0_1;
-    r_ub = (r_38_2 + 1u);
+    r_ub = (r_38_1 + 1u);
     r_7c = 0u;
     r_ae = r_az_1;
     r_3i = r_12_1;
@@ -16033,25 +16108,25 @@ l_arm_gu:;
 l_arm_3a:;
     r_12_2 = (u32)r_ij_1;
     if ((i32)a_3 < (i32)1u) { r_hc = 26u; r_vo = 0ull; r_k1 = 0u; goto l_arm_zi; }
-    if (((u64)(r_o2 >> 3ull) & 0xffffffffull) < (r_ij_1 + (u64)r_38_2)) { r_hc = 23u; r_vo = 0ull; r_k1 = 0u; goto l_arm_zi; }
+    if (((u64)(r_o2 >> 3ull) & 0xffffffffull) < (r_ij_1 + (u64)r_38_1)) { r_hc = 23u; r_vo = 0ull; r_k1 = 0u; goto l_arm_zi; }
     if (t_pa) goto l_arm_vk;
-    if (!(ld8(r_su_1) == 1u)) goto l_arm_vk;
+    if (!(ld8(r_su) == 1u)) goto l_arm_vk;
     r_t9_3 = away(a_4, 48ull);
-    r_52_5 = ld64(r_t9_3);
-    if (r_52_5 < r_ij_1) { r_hc = 30u; r_vo = 0ull; r_k1 = 0u; goto l_arm_zi; }
-    st64(r_su_1, 1ull);
-    st64(r_t9_3, (r_52_5 - r_ij_1));
+    r_52_4 = ld64(r_t9_3);
+    if (r_52_4 < r_ij_1) { r_hc = 30u; r_vo = 0ull; r_k1 = 0u; goto l_arm_zi; }
+    st64(r_su, 1ull);
+    st64(r_t9_3, (r_52_4 - r_ij_1));
     goto l_arm_vk;
 l_arm_ot_1:;
     if ((i32)a_3 < (i32)1u) { r_hc = 26u; r_vo = 0ull; r_k1 = 0u; goto l_arm_zi; }
-    if (((u64)(r_o2 >> 3ull) & 0xffffffffull) < (u64)r_38_2) { r_hc = 23u; r_vo = 0ull; r_k1 = 0u; goto l_arm_zi; }
+    if (((u64)(r_o2 >> 3ull) & 0xffffffffull) < (u64)r_38_1) { r_hc = 23u; r_vo = 0ull; r_k1 = 0u; goto l_arm_zi; }
     if (t_pa) goto l_arm_x2;
-    if (!(ld8(r_su_1) == 1u)) goto l_arm_x2;
-    st64(r_su_1, 1ull);
+    if (!(ld8(r_su) == 1u)) goto l_arm_x2;
+    st64(r_su, 1ull);
     r_t9_4 = away(a_4, 48ull);
-    r_52_6 = ld64(r_t9_4);
-    if (r_52_6 < r_ij_1) { r_hc = 30u; r_vo = 0ull; r_k1 = 0u; goto l_arm_zi; }
-    st64(r_t9_4, (r_52_6 - r_ij_1));
+    r_52_5 = ld64(r_t9_4);
+    if (r_52_5 < r_ij_1) { r_hc = 30u; r_vo = 0ull; r_k1 = 0u; goto l_arm_zi; }
+    st64(r_t9_4, (r_52_5 - r_ij_1));
     goto l_arm_x2;
 l_arm_h9_3:;
     r_hn = 8ull;
@@ -16067,14 +16142,14 @@ l_arm_h9:;
 l_capnp_ot:;
     if ((i32)a_3 < (i32)1u) { r_hc = 26u; r_vo = 0ull; r_k1 = 0u; goto l_arm_zi; }
     r_c6 = (u64)(((r_hn * r_ij_1) + 63ull) >> 6ull);
-    if (((u64)(r_o2 >> 3ull) & 0xffffffffull) < (r_c6 + (u64)r_38_2)) { r_hc = 23u; r_vo = 0ull; r_k1 = 0u; goto l_arm_zi; }
+    if (((u64)(r_o2 >> 3ull) & 0xffffffffull) < (r_c6 + (u64)r_38_1)) { r_hc = 23u; r_vo = 0ull; r_k1 = 0u; goto l_arm_zi; }
     if (t_pa) goto l_arm_j5;
-    if (!(ld8(r_su_1) == 1u)) goto l_arm_j5;
+    if (!(ld8(r_su) == 1u)) goto l_arm_j5;
     r_t9_5 = away(a_4, 48ull);
-    r_52_7 = ld64(r_t9_5);
-    if (r_52_7 < r_c6) { r_hc = 30u; r_vo = 0ull; r_k1 = 0u; goto l_arm_zi; }
-    st64(r_su_1, 1ull);
-    st64(r_t9_5, (r_52_7 - r_c6));
+    r_52_6 = ld64(r_t9_5);
+    if (r_52_6 < r_c6) { r_hc = 30u; r_vo = 0ull; r_k1 = 0u; goto l_arm_zi; }
+    st64(r_su, 1ull);
+    st64(r_t9_5, (r_52_6 - r_c6));
     goto l_arm_j5;
 l_default_e1:;
     UNREACHABLE();
@@ -16098,7 +16173,7 @@ l_arm_vk:;
     a_8q = smax32(r_y0_2, 0u);
     r_nx = r_12_2;
     r_b0 = r_y0_2;
-    r_ub = r_38_2;
+    r_ub = r_38_1;
     r_7c = r_ag;
     r_ae = 0u;
     r_3i = r_12_2;
@@ -16114,29 +16189,29 @@ l_arm_x2:;
     r_tq = 0ull;
     goto l_capnp_bx;
 l_arm_j5:;
-    t_h6_1 = smax32(a_3, 1u);
+    t_h6 = smax32(a_3, 1u);
     switch (switch_wl) {
     case 5u: goto l_arm_h9_4;
     case 4u: goto l_arm_h9_5;
     case 3u: goto l_arm_h9_6;
-    case 1u: { a_op = t_h6_1; r_tq = 1ull; goto l_capnp_bx; }
+    case 1u: { a_op = t_h6; r_tq = 1ull; goto l_capnp_bx; }
     case 2u: goto l_arm_h9_7;
     default: goto l_noarm_e1;
     }
 l_arm_h9_7:;
-    a_op = t_h6_1;
+    a_op = t_h6;
     r_tq = 8ull;
     goto l_capnp_bx;
 l_arm_h9_6:;
-    a_op = t_h6_1;
+    a_op = t_h6;
     r_tq = 16ull;
     goto l_capnp_bx;
 l_arm_h9_5:;
-    a_op = t_h6_1;
+    a_op = t_h6;
     r_tq = 32ull;
     goto l_capnp_bx;
 l_arm_h9_4:;
-    a_op = t_h6_1;
+    a_op = t_h6;
     r_tq = 64ull;
     goto l_capnp_bx;
 l_noarm_e1:;
@@ -16165,16 +16240,16 @@ l_arm_2c:;
     st64((slot_2 + 24), r_7w);
     st64((slot_2 + 32), r_hq);
     st64((slot_2 + 40), r_o2);
-    r_c4_2 = (slot_2 + 48);
-    st32(r_c4_2, r_ub);
+    r_c4_1 = (slot_2 + 48);
+    st32(r_c4_1, r_ub);
     st32((slot_2 + 52), r_7c);
     r_6c = (slot_2 + 56);
     st32(r_6c, r_b0);
     if (r_3i == 0u) { r_fk = 0u; goto l_return_ri; }
-    r_68_3 = (r_3i + r_ae);
+    r_68_1 = (r_3i + r_ae);
     if (r_ij == 0u) { r_fk = 0u; goto l_return_ri; }
-    invariant_w0 = (r_ae + ld32(r_c4_2));
-    r_e3_1 = ld32(r_6c);
+    invariant_w0 = (r_ae + ld32(r_c4_1));
+    r_e3 = ld32(r_6c);
     r_7o = 0u;
     goto l_join_17;
 l_loop_i4:;
@@ -16182,7 +16257,7 @@ l_loop_i4:;
     if (r_ff == r_ij) { r_fk = 0u; goto l_return_ri; }
     r_7o = r_ff;
 l_join_17:;
-    u8 r_vo_1 = capnp_objects_pointers_validate_validate_pointers_5ccc_6252bdf3(slot_2, ((r_7o * r_68_3) + invariant_w0), r_3i, r_e3_1, a_4);
+    u8 r_vo_1 = capnp_objects_pointers_validate_validate_pointers_5ccc_6252bdf3(slot_2, ((r_7o * r_68_1) + invariant_w0), r_3i, r_e3, a_4);
     if ((u8)(r_vo_1 & 1)) { r_fk = 1u; goto l_return_ri; }
     goto l_loop_i4;
 l_return_ri:;
@@ -16210,7 +16285,7 @@ static NEVER u8 capnp_objects_pointers_validate_validate_pointers_5ccc_6252bdf3(
     u32 r_7m;
     u64 r_24;
     u64 r_gw;
-    u64 r_qw_1;
+    u64 r_qw;
     u64 r_ep;
     u64 r_y6;
     u64 r_lc;
@@ -16220,17 +16295,17 @@ static NEVER u8 capnp_objects_pointers_validate_validate_pointers_5ccc_6252bdf3(
     u64 r_9v;
     u32 r_4r;
     u8 r_8u;
-    u64 r_52_1;
+    u64 r_52;
     u32 r_ae;
     u32 r_12;
     u32 r_az;
     u64 r_ep_1;
     u64 r_c6;
     u8 t_0c;
-    u64 r_lc_3;
+    u64 r_lc_2;
     u64 r_nb_1;
     u64 r_n2;
-    u64 r_52_4;
+    u64 r_52_1;
     u8 r_hf;
     u32 r_dq;
     u8 r_fk;
@@ -16259,9 +16334,9 @@ l_join_7l:;
     r_24 = (u64)r_7m;
     r_gw = (u64)(ld64(r_su) >> 3ull);
     if (!(r_gw > r_24)) goto l_loop_2y;
-    r_qw_1 = ld64(away(ldp(r_xm), (u64)(r_24 << 3ull)));
-    if (r_qw_1 == 0ull) goto l_loop_2y;
-    switch ((u8)((u8)r_qw_1 & 3u)) {
+    r_qw = ld64(away(ldp(r_xm), (u64)(r_24 << 3ull)));
+    if (r_qw == 0ull) goto l_loop_2y;
+    switch ((u8)((u8)r_qw & 3u)) {
     case 0u: goto l_arm_kb;
     case 1u: goto l_arm_ui;
     case 2u: goto l_after_q8;
@@ -16269,14 +16344,14 @@ l_join_7l:;
     default: goto l_default_e1;
     }
 l_arm_kb:;
-    r_ep = (u64)(r_qw_1 >> 32ull);
-    r_y6 = (u64)(r_qw_1 >> 48ull);
+    r_ep = (u64)(r_qw >> 32ull);
+    r_y6 = (u64)(r_qw >> 48ull);
     r_lc = ((r_ep & 65535ull) + r_y6);
     t_pa = (ld8(a_1) != 0u);
     if (t_pa) goto l_join_bd;
     st64(r_r2, uadd_sat64(ld64(r_r2), 1ull));
 l_join_bd:;
-    u64 r_m6 = ((u64)(r_qw_1 >> 2ull) & 0x3fffffffull);
+    u64 r_m6 = ((u64)(r_qw >> 2ull) & 0x3fffffffull);
     r_lc_1 = ((r_24 + 1ull) + r_m6);
     r_nb = (r_gw & 0xffffffffull);
     if (!(r_m6 < 0x20000000ull)) goto l_else_70;
@@ -16293,10 +16368,10 @@ l_arm_g3:;
     r_8u = (r_nb < (r_9v + r_lc));
     if ((u8)((u8)t_pa | (u8)r_8u)) goto l_capnp_uj;
     if (!(ld8(r_su_1) == 1u)) { r_ae = r_4r; goto l_arm_0g; }
-    r_52_1 = ld64(r_t9);
-    if (r_52_1 < r_lc) { r_dq = 30u; goto l_return_h4; }
+    r_52 = ld64(r_t9);
+    if (r_52 < r_lc) { r_dq = 30u; goto l_return_h4; }
     st64(r_su_1, 1ull);
-    st64(r_t9, (r_52_1 - r_lc));
+    st64(r_t9, (r_52 - r_lc));
     r_ae = r_4r;
     goto l_arm_0g;
 l_capnp_uj:;
@@ -16312,33 +16387,33 @@ l_arm_0g:;
     r_hf = r_f7;
     goto l_capnp_5o;
 l_arm_ui:;
-    r_ep_1 = (u64)(r_qw_1 >> 32ull);
+    r_ep_1 = (u64)(r_qw >> 32ull);
     if (!((u8)((u8)((u8)r_ep_1 & 7u) + 255u) < 5u)) goto l_after_q8;
-    r_c6 = (u64)(((ld64(away(away(((u8 *)switch_table_capnp_show_show_objects_read_object_5ccc1_1b90c80b), 8 * (r_ep_1 & 7ull)), 0xfffffffffffffff8ull)) * (u64)(r_qw_1 >> 35ull)) + 63ull) >> 6ull);
+    r_c6 = (u64)(((ld64(away(away(((u8 *)switch_table_capnp_show_show_objects_read_object_5ccc1_1b90c80b), 8 * (r_ep_1 & 7ull)), 0xfffffffffffffff8ull)) * (u64)(r_qw >> 35ull)) + 63ull) >> 6ull);
     t_0c = (ld8(a_1) == 0u);
     if (!t_0c) goto l_join_bd_1;
     st64(r_r2, uadd_sat64(ld64(r_r2), 1ull));
 l_join_bd_1:;
-    u64 r_m6_1 = ((u64)(r_qw_1 >> 2ull) & 0x3fffffffull);
-    r_lc_3 = ((r_24 + 1ull) + r_m6_1);
+    u64 r_m6_1 = ((u64)(r_qw >> 2ull) & 0x3fffffffull);
+    r_lc_2 = ((r_24 + 1ull) + r_m6_1);
     r_nb_1 = (r_gw & 0xffffffffull);
     if (!(r_m6_1 < 0x20000000ull)) goto l_else_70_1;
-    if (r_lc_3 > r_nb_1) { r_dq = 23u; goto l_return_h4; }
-    r_n2 = r_lc_3;
+    if (r_lc_2 > r_nb_1) { r_dq = 23u; goto l_return_h4; }
+    r_n2 = r_lc_2;
     goto l_arm_l9;
 l_else_70_1:;
-    u64 r_3o_1 = (r_lc_3 + 0xffffffffc0000000ull);
-    if ((r_lc_3 < 0x40000000ull) ? 1u : (r_3o_1 > r_nb_1)) { r_dq = 23u; goto l_return_h4; }
+    u64 r_3o_1 = (r_lc_2 + 0xffffffffc0000000ull);
+    if ((r_lc_2 < 0x40000000ull) ? 1u : (r_3o_1 > r_nb_1)) { r_dq = 23u; goto l_return_h4; }
     r_n2 = r_3o_1;
 l_arm_l9:;
     if (r_30) { r_dq = 26u; goto l_return_h4; }
     if (r_nb_1 < (r_n2 + r_c6)) { r_dq = 23u; goto l_return_h4; }
     if (!t_0c) goto l_arm_z5;
     if (!(ld8(r_su_1) == 1u)) goto l_arm_z5;
-    r_52_4 = ld64(r_t9);
-    if (r_52_4 < r_c6) { r_dq = 30u; goto l_return_h4; }
+    r_52_1 = ld64(r_t9);
+    if (r_52_1 < r_c6) { r_dq = 30u; goto l_return_h4; }
     st64(r_su_1, 1ull);
-    st64(r_t9, (r_52_4 - r_c6));
+    st64(r_t9, (r_52_1 - r_c6));
 l_arm_z5:;
     st32(a_5, umin32(t_y0, ld32(a_5)));
     st64(r_rq, uadd_sat64(r_c6, ld64(r_rq)));
@@ -16381,8 +16456,8 @@ void capnp_refusals_refusals_pointer_of_refusal_a3cb57cd4b1504b3(u8 *a_1, u8 *a_
     u64 r_l3;
     u64 r_h3;
     u64 r_r6;
-    u8 *r_x5_1;
-    u64 r_52_2;
+    u8 *r_x5;
+    u64 r_52;
     u64 r_c1;
     u64 r_0o;
     u32 r_dm;
@@ -16468,23 +16543,23 @@ l_capnp_t3:;
     st32((slot_2 + 12), 0u);
     st64((slot_2 + 16), r_r6);
     st64(slot_3, r_eg);
-    r_x5_1 = (slot_3 + 8);
-    st64(r_x5_1, t_qw);
+    r_x5 = (slot_3 + 8);
+    st64(r_x5, t_qw);
     st64((slot_3 + 16), 0ull);
     if (r_ts) { r_c1 = 1ull; r_0o = 0ull; r_dm = 0u; r_pz = 0u; r_1v = 12u; sink_4n = 0u; sink_gz = 0ull; goto l_capnp_4t; }
-    r_52_2 = ld64(ldp(away(a_4, 32ull)));
-    if ((r_52_2 & 0x1fffffffffffffffull) == 0ull) { r_c1 = 1ull; r_0o = 0ull; r_dm = 0u; r_pz = 0u; r_1v = 23u; sink_4n = 0u; sink_gz = 0ull; goto l_capnp_4t; }
+    r_52 = ld64(ldp(away(a_4, 32ull)));
+    if ((r_52 & 0x1fffffffffffffffull) == 0ull) { r_c1 = 1ull; r_0o = 0ull; r_dm = 0u; r_pz = 0u; r_1v = 23u; sink_4n = 0u; sink_gz = 0ull; goto l_capnp_4t; }
     if (!(r_dh == 1u)) goto l_arm_eu;
     if (t_qw == 0ull) { r_c1 = 1ull; r_0o = 0ull; r_dm = 0u; r_pz = 0u; r_1v = 30u; sink_4n = 0u; sink_gz = 0ull; goto l_capnp_4t; }
     st64(slot_3, 1ull);
-    st64(r_x5_1, (t_qw + 0xffffffffffffffffull));
+    st64(r_x5, (t_qw + 0xffffffffffffffffull));
 l_arm_eu:;
     u8 *r_lz = ldp(away(a_4, 56ull));
     st64(slot_4, 0ull);
     st64((slot_4 + 8), (u64)(uptr)slot_2);
     memset((slot_4 + 16), 0u, 16);
     stp((slot_4 + 32), r_lz);
-    st64((slot_4 + 40), (u64)(r_52_2 << 3ull));
+    st64((slot_4 + 40), (u64)(r_52 << 3ull));
     st32((slot_4 + 48), 0u);
     st32((slot_4 + 52), 0u);
     st32(t_6c, t_5k);
@@ -16553,33 +16628,33 @@ static void capnp_refusals_refusals_search_search_object_5ccc1be374b2e488(u8 *a_
     u64 r_y6;
     u64 r_lc_1;
     u8 *r_rq_1;
-    u64 r_52_2;
+    u64 r_52_1;
     u64 r_ep_1;
     u8 switch_wl;
     u64 r_ij;
-    u64 r_c4_1;
-    u64 r_24_1;
-    u64 r_gw_2;
+    u64 r_c4;
+    u64 r_24;
+    u64 r_gw_1;
     u8 *r_rq_2;
-    u64 r_52_3;
+    u64 r_52_2;
     u64 r_eh;
     u32 t_c8;
-    u32 r_12_1;
-    u32 r_az_1;
+    u32 r_12;
+    u32 r_az;
     u32 r_68;
-    u64 r_c0_1;
+    u64 r_c0;
     u8 *r_rq_3;
+    u64 r_52_3;
+    u32 r_12_1;
+    u8 *r_rq_4;
     u64 r_52_4;
     u32 r_12_2;
-    u8 *r_rq_4;
+    u8 *r_rq_5;
     u64 r_52_5;
     u32 r_12_3;
-    u8 *r_rq_5;
-    u64 r_52_6;
-    u32 r_12_4;
     u64 r_c6;
     u8 *r_rq_6;
-    u64 r_52_7;
+    u64 r_52_6;
     u64 r_r4;
     u64 r_ut;
     u64 r_dj;
@@ -16597,14 +16672,14 @@ static void capnp_refusals_refusals_search_search_object_5ccc1be374b2e488(u8 *a_
     u32 r_fj;
     u64 r_k5;
     u32 r_q1;
-    u8 r_ll_1;
+    u8 r_ll;
     u8 r_h2;
     u32 r_5d;
     u64 r_vt;
     u64 r_8t;
     u32 r_49;
     u32 r_1t;
-    u32 r_a3_1;
+    u32 r_a3;
     u32 r_wr;
     u64 r_hb;
     u32 r_mx;
@@ -16631,8 +16706,8 @@ static void capnp_refusals_refusals_search_search_object_5ccc1be374b2e488(u8 *a_
     memset(slot_1, 0u, 56);
     t_pa = (r_y8 != 0u);
     if (t_pa) goto l_capnp_sm;
-    u8 *r_08_1 = away(a_7, 16ull);
-    st64(r_08_1, uadd_sat64(ld64(r_08_1), 1ull));
+    u8 *r_08 = away(a_7, 16ull);
+    st64(r_08, uadd_sat64(ld64(r_08), 1ull));
     if ((r_qw & 3ull) == 2ull) goto l_capnp_bt;
     goto l_join_bd;
 l_capnp_sm:;
@@ -16662,11 +16737,11 @@ l_capnp_i5:;
     goto l_arm_nn;
 l_capnp_bt:;
     capnp_objects_source_follow_far_5ccc1be374b2e488(slot_1, r_xw_1, r_qw, a_7);
-    u64 r_38_3 = ld64((slot_1 + 16));
-    u64 r_38_4 = ld64((slot_1 + 8));
-    if (ld8(slot_1) == 0u) { r_7d = ld32((slot_1 + 44)); r_2w = ld32((slot_1 + 40)); r_7a = r_38_3; r_0m = r_38_4; r_v8 = ld64((slot_1 + 32)); r_t9 = ld64((slot_1 + 24)); goto l_arm_nn; }
-    r_ut = r_38_3;
-    r_dj = r_38_4;
+    u64 r_38_2 = ld64((slot_1 + 16));
+    u64 r_38_3 = ld64((slot_1 + 8));
+    if (ld8(slot_1) == 0u) { r_7d = ld32((slot_1 + 44)); r_2w = ld32((slot_1 + 40)); r_7a = r_38_2; r_0m = r_38_3; r_v8 = ld64((slot_1 + 32)); r_t9 = ld64((slot_1 + 24)); goto l_arm_nn; }
+    r_ut = r_38_2;
+    r_dj = r_38_3;
     goto l_arm_qe;
 l_arm_nn:;
     switch ((u8)((u8)r_0m & 3u)) {
@@ -16685,10 +16760,10 @@ l_arm_62:;
     if (t_pa) goto l_arm_mf;
     if (!(ld8(a_7) == 1u)) goto l_arm_mf;
     r_rq_1 = away(a_7, 8ull);
-    r_52_2 = ld64(r_rq_1);
-    if (r_52_2 < r_lc_1) { r_xv = 0ull; r_qr = 0ull; r_b6 = 0u; r_r6 = 0u; r_ka = 0ull; r_28 = 1u; r_5g = 30u; r_59 = 0u; r_14 = 0u; r_yp = 0u; goto l_capnp_gh; }
+    r_52_1 = ld64(r_rq_1);
+    if (r_52_1 < r_lc_1) { r_xv = 0ull; r_qr = 0ull; r_b6 = 0u; r_r6 = 0u; r_ka = 0ull; r_28 = 1u; r_5g = 30u; r_59 = 0u; r_14 = 0u; r_yp = 0u; goto l_capnp_gh; }
     st64(a_7, 1ull);
-    st64(r_rq_1, (r_52_2 - r_lc_1));
+    st64(r_rq_1, (r_52_1 - r_lc_1));
 l_arm_mf:;
     r_xv = r_t9;
     r_qr = r_v8;
@@ -16718,20 +16793,20 @@ l_arm_z2:;
     }
 l_arm_gg:;
     if ((i32)a_6 < (i32)1u) { r_xv = 0ull; r_qr = 0ull; r_b6 = 0u; r_r6 = 0u; r_ka = 0ull; r_28 = 1u; r_5g = 26u; r_59 = 0u; r_14 = 0u; r_yp = 0u; goto l_capnp_gh; }
-    r_c4_1 = (r_ij + 1ull);
-    r_24_1 = (u64)r_2w;
-    r_gw_2 = (u64)(r_v8 >> 3ull);
-    if ((r_gw_2 & 0xffffffffull) < (r_c4_1 + r_24_1)) { r_xv = 0ull; r_qr = 0ull; r_b6 = 0u; r_r6 = 0u; r_ka = 0ull; r_28 = 1u; r_5g = 23u; r_59 = 0u; r_14 = 0u; r_yp = 0u; goto l_capnp_gh; }
+    r_c4 = (r_ij + 1ull);
+    r_24 = (u64)r_2w;
+    r_gw_1 = (u64)(r_v8 >> 3ull);
+    if ((r_gw_1 & 0xffffffffull) < (r_c4 + r_24)) { r_xv = 0ull; r_qr = 0ull; r_b6 = 0u; r_r6 = 0u; r_ka = 0ull; r_28 = 1u; r_5g = 23u; r_59 = 0u; r_14 = 0u; r_yp = 0u; goto l_capnp_gh; }
     if (t_pa) goto l_arm_ga;
     if (!(ld8(a_7) == 1u)) goto l_arm_ga;
     r_rq_2 = away(a_7, 8ull);
-    r_52_3 = ld64(r_rq_2);
-    if (!(r_52_3 > r_ij)) { r_xv = 0ull; r_qr = 0ull; r_b6 = 0u; r_r6 = 0u; r_ka = 0ull; r_28 = 1u; r_5g = 30u; r_59 = 0u; r_14 = 0u; r_yp = 0u; goto l_capnp_gh; }
+    r_52_2 = ld64(r_rq_2);
+    if (!(r_52_2 > r_ij)) { r_xv = 0ull; r_qr = 0ull; r_b6 = 0u; r_r6 = 0u; r_ka = 0ull; r_28 = 1u; r_5g = 30u; r_59 = 0u; r_14 = 0u; r_yp = 0u; goto l_capnp_gh; }
     st64(a_7, 1ull);
-    st64(r_rq_2, (r_52_3 - r_c4_1));
+    st64(r_rq_2, (r_52_2 - r_c4));
 l_arm_ga:;
-    if (!(r_gw_2 > r_24_1)) { r_eh = 0ull; goto l_join_qm; }
-    u64 r_qw_1 = ld64(away(((u8 *)(uptr)r_t9), (u64)(r_24_1 << 3ull)));
+    if (!(r_gw_1 > r_24)) { r_eh = 0ull; goto l_join_qm; }
+    u64 r_qw_1 = ld64(away(((u8 *)(uptr)r_t9), (u64)(r_24 << 3ull)));
     if ((r_qw_1 & 3ull) == 0ull) { r_eh = r_qw_1; goto l_join_qm; }
     r_xv = 0ull;
     r_qr = 0ull;
@@ -16746,18 +16821,18 @@ l_arm_ga:;
     goto l_capnp_gh;
 l_join_qm:;
     t_c8 = (u32)((u32)r_eh >> 2u);
-    r_12_1 = (u32)(u64)(r_eh >> 48ull);
-    r_az_1 = ((u32)(u64)(r_eh >> 32ull) & 65535u);
-    r_68 = (r_az_1 + r_12_1);
-    r_c0_1 = (u64)t_c8;
-    if (r_ij < ((u64)r_68 * r_c0_1)) { r_xv = 0ull; r_qr = 0ull; r_b6 = 0u; r_r6 = 0u; r_ka = 0ull; r_28 = 1u; r_5g = 10u; r_59 = 0u; r_14 = 0u; r_yp = 0u; goto l_capnp_gh; }
+    r_12 = (u32)(u64)(r_eh >> 48ull);
+    r_az = ((u32)(u64)(r_eh >> 32ull) & 65535u);
+    r_68 = (r_az + r_12);
+    r_c0 = (u64)t_c8;
+    if (r_ij < ((u64)r_68 * r_c0)) { r_xv = 0ull; r_qr = 0ull; r_b6 = 0u; r_r6 = 0u; r_ka = 0ull; r_28 = 1u; r_5g = 10u; r_59 = 0u; r_14 = 0u; r_yp = 0u; goto l_capnp_gh; }
     if ((u8)((u8)t_pa | (u8)(r_68 != 0u))) goto l_arm_o2;
     if (!(ld8(a_7) == 1u)) goto l_arm_o2;
     r_rq_3 = away(a_7, 8ull);
-    r_52_4 = ld64(r_rq_3);
-    if (r_52_4 < r_c0_1) { r_xv = 0ull; r_qr = 0ull; r_b6 = 0u; r_r6 = 0u; r_ka = 0ull; r_28 = 1u; r_5g = 30u; r_59 = 0u; r_14 = 0u; r_yp = 0u; goto l_capnp_gh; }
+    r_52_3 = ld64(r_rq_3);
+    if (r_52_3 < r_c0) { r_xv = 0ull; r_qr = 0ull; r_b6 = 0u; r_r6 = 0u; r_ka = 0ull; r_28 = 1u; r_5g = 30u; r_59 = 0u; r_14 = 0u; r_yp = 0u; goto l_capnp_gh; }
     st64(a_7, 1ull);
-    st64(r_rq_3, (r_52_4 - r_c0_1));
+    st64(r_rq_3, (r_52_3 - r_c0));
 l_arm_o2:;
     r_xv = r_t9;
     r_qr = r_v8;
@@ -16767,20 +16842,20 @@ l_arm_o2:;
     r_28 = 0u;
     r_5g = 5u;
     r_59 = 0u;
-    r_14 = ((u32)(r_12_1 << 16u) | r_az_1);
+    r_14 = ((u32)(r_12 << 16u) | r_az);
     r_yp = t_c8;
     goto l_capnp_gh;
 l_arm_0w:;
-    r_12_2 = (u32)r_ij;
+    r_12_1 = (u32)r_ij;
     if ((i32)a_6 < (i32)1u) { r_xv = 0ull; r_qr = 0ull; r_b6 = 0u; r_r6 = 0u; r_ka = 0ull; r_28 = 1u; r_5g = 26u; r_59 = 0u; r_14 = 0u; r_yp = 0u; goto l_capnp_gh; }
     if (((u64)(r_v8 >> 3ull) & 0xffffffffull) < (r_ij + (u64)r_2w)) { r_xv = 0ull; r_qr = 0ull; r_b6 = 0u; r_r6 = 0u; r_ka = 0ull; r_28 = 1u; r_5g = 23u; r_59 = 0u; r_14 = 0u; r_yp = 0u; goto l_capnp_gh; }
-    if (t_pa) { r_xv = r_t9; r_qr = r_v8; r_b6 = r_2w; r_r6 = r_7d; r_ka = r_7a; r_28 = 0u; r_5g = 4u; r_59 = 0u; r_14 = r_12_2; r_yp = 0u; goto l_capnp_gh; }
-    if (!(ld8(a_7) == 1u)) { r_xv = r_t9; r_qr = r_v8; r_b6 = r_2w; r_r6 = r_7d; r_ka = r_7a; r_28 = 0u; r_5g = 4u; r_59 = 0u; r_14 = r_12_2; r_yp = 0u; goto l_capnp_gh; }
+    if (t_pa) { r_xv = r_t9; r_qr = r_v8; r_b6 = r_2w; r_r6 = r_7d; r_ka = r_7a; r_28 = 0u; r_5g = 4u; r_59 = 0u; r_14 = r_12_1; r_yp = 0u; goto l_capnp_gh; }
+    if (!(ld8(a_7) == 1u)) { r_xv = r_t9; r_qr = r_v8; r_b6 = r_2w; r_r6 = r_7d; r_ka = r_7a; r_28 = 0u; r_5g = 4u; r_59 = 0u; r_14 = r_12_1; r_yp = 0u; goto l_capnp_gh; }
     r_rq_4 = away(a_7, 8ull);
-    r_52_5 = ld64(r_rq_4);
-    if (r_52_5 < r_ij) { r_xv = 0ull; r_qr = 0ull; r_b6 = 0u; r_r6 = 0u; r_ka = 0ull; r_28 = 1u; r_5g = 30u; r_59 = 0u; r_14 = 0u; r_yp = 0u; goto l_capnp_gh; }
+    r_52_4 = ld64(r_rq_4);
+    if (r_52_4 < r_ij) { r_xv = 0ull; r_qr = 0ull; r_b6 = 0u; r_r6 = 0u; r_ka = 0ull; r_28 = 1u; r_5g = 30u; r_59 = 0u; r_14 = 0u; r_yp = 0u; goto l_capnp_gh; }
     st64(a_7, 1ull);
-    st64(r_rq_4, (r_52_5 - r_ij));
+    st64(r_rq_4, (r_52_4 - r_ij));
     r_xv = r_t9;
     r_qr = r_v8;
     r_b6 = r_2w;
@@ -16789,20 +16864,20 @@ l_arm_0w:;
     r_28 = 0u;
     r_5g = 4u;
     r_59 = 0u;
-    r_14 = r_12_2;
+    r_14 = r_12_1;
     r_yp = 0u;
     goto l_capnp_gh;
 l_arm_0w_1:;
-    r_12_3 = (u32)r_ij;
+    r_12_2 = (u32)r_ij;
     if ((i32)a_6 < (i32)1u) { r_xv = 0ull; r_qr = 0ull; r_b6 = 0u; r_r6 = 0u; r_ka = 0ull; r_28 = 1u; r_5g = 26u; r_59 = 0u; r_14 = 0u; r_yp = 0u; goto l_capnp_gh; }
     if (((u64)(r_v8 >> 3ull) & 0xffffffffull) < (u64)r_2w) { r_xv = 0ull; r_qr = 0ull; r_b6 = 0u; r_r6 = 0u; r_ka = 0ull; r_28 = 1u; r_5g = 23u; r_59 = 0u; r_14 = 0u; r_yp = 0u; goto l_capnp_gh; }
-    if (t_pa) { r_xv = r_t9; r_qr = r_v8; r_b6 = r_2w; r_r6 = r_7d; r_ka = r_7a; r_28 = 0u; r_5g = 3u; r_59 = 0u; r_14 = 0u; r_yp = r_12_3; goto l_capnp_gh; }
-    if (!(ld8(a_7) == 1u)) { r_xv = r_t9; r_qr = r_v8; r_b6 = r_2w; r_r6 = r_7d; r_ka = r_7a; r_28 = 0u; r_5g = 3u; r_59 = 0u; r_14 = 0u; r_yp = r_12_3; goto l_capnp_gh; }
+    if (t_pa) { r_xv = r_t9; r_qr = r_v8; r_b6 = r_2w; r_r6 = r_7d; r_ka = r_7a; r_28 = 0u; r_5g = 3u; r_59 = 0u; r_14 = 0u; r_yp = r_12_2; goto l_capnp_gh; }
+    if (!(ld8(a_7) == 1u)) { r_xv = r_t9; r_qr = r_v8; r_b6 = r_2w; r_r6 = r_7d; r_ka = r_7a; r_28 = 0u; r_5g = 3u; r_59 = 0u; r_14 = 0u; r_yp = r_12_2; goto l_capnp_gh; }
     st64(a_7, 1ull);
     r_rq_5 = away(a_7, 8ull);
-    r_52_6 = ld64(r_rq_5);
-    if (r_52_6 < r_ij) { r_xv = 0ull; r_qr = 0ull; r_b6 = 0u; r_r6 = 0u; r_ka = 0ull; r_28 = 1u; r_5g = 30u; r_59 = 0u; r_14 = 0u; r_yp = 0u; goto l_capnp_gh; }
-    st64(r_rq_5, (r_52_6 - r_ij));
+    r_52_5 = ld64(r_rq_5);
+    if (r_52_5 < r_ij) { r_xv = 0ull; r_qr = 0ull; r_b6 = 0u; r_r6 = 0u; r_ka = 0ull; r_28 = 1u; r_5g = 30u; r_59 = 0u; r_14 = 0u; r_yp = 0u; goto l_capnp_gh; }
+    st64(r_rq_5, (r_52_5 - r_ij));
     r_xv = r_t9;
     r_qr = r_v8;
     r_b6 = r_2w;
@@ -16812,20 +16887,20 @@ l_arm_0w_1:;
     r_5g = 3u;
     r_59 = 0u;
     r_14 = 0u;
-    r_yp = r_12_3;
+    r_yp = r_12_2;
     goto l_capnp_gh;
 l_arm_0w_2:;
-    r_12_4 = (u32)r_ij;
+    r_12_3 = (u32)r_ij;
     if ((i32)a_6 < (i32)1u) { r_xv = 0ull; r_qr = 0ull; r_b6 = 0u; r_r6 = 0u; r_ka = 0ull; r_28 = 1u; r_5g = 26u; r_59 = 0u; r_14 = 0u; r_yp = 0u; goto l_capnp_gh; }
     r_c6 = (u64)(((ld64(away(away(((u8 *)switch_table_capnp_show_show_objects_read_object_5ccc1_1b90c80b), 8 * (r_ep_1 & 7ull)), 0xfffffffffffffff8ull)) * r_ij) + 63ull) >> 6ull);
     if (((u64)(r_v8 >> 3ull) & 0xffffffffull) < (r_c6 + (u64)r_2w)) { r_xv = 0ull; r_qr = 0ull; r_b6 = 0u; r_r6 = 0u; r_ka = 0ull; r_28 = 1u; r_5g = 23u; r_59 = 0u; r_14 = 0u; r_yp = 0u; goto l_capnp_gh; }
     if (t_pa) goto l_arm_zg;
     if (!(ld8(a_7) == 1u)) goto l_arm_zg;
     r_rq_6 = away(a_7, 8ull);
-    r_52_7 = ld64(r_rq_6);
-    if (r_52_7 < r_c6) { r_xv = 0ull; r_qr = 0ull; r_b6 = 0u; r_r6 = 0u; r_ka = 0ull; r_28 = 1u; r_5g = 30u; r_59 = 0u; r_14 = 0u; r_yp = 0u; goto l_capnp_gh; }
+    r_52_6 = ld64(r_rq_6);
+    if (r_52_6 < r_c6) { r_xv = 0ull; r_qr = 0ull; r_b6 = 0u; r_r6 = 0u; r_ka = 0ull; r_28 = 1u; r_5g = 30u; r_59 = 0u; r_14 = 0u; r_yp = 0u; goto l_capnp_gh; }
     st64(a_7, 1ull);
-    st64(r_rq_6, (r_52_7 - r_c6));
+    st64(r_rq_6, (r_52_6 - r_c6));
 l_arm_zg:;
     r_xv = r_t9;
     r_qr = r_v8;
@@ -16836,7 +16911,7 @@ l_arm_zg:;
     r_5g = 3u;
     r_59 = 0u;
     r_14 = (u32)switch_wl;
-    r_yp = r_12_4;
+    r_yp = r_12_3;
     goto l_capnp_gh;
 l_arm_37:;
     u8 r_ml = ((r_0m & 0xffffffffull) != 3ull);
@@ -16876,7 +16951,7 @@ l_capnp_gh:;
     r_fj = r_14;
     r_k5 = r_ka;
     r_q1 = r_59;
-    r_ll_1 = r_5g;
+    r_ll = r_5g;
     r_h2 = r_28;
     goto l_capnp_09;
 l_arm_xm:;
@@ -16893,18 +16968,18 @@ l_arm_xm:;
     r_fj = ld32((slot_2 + 48));
     r_k5 = ld64((slot_2 + 16));
     r_q1 = ld32((slot_2 + 12));
-    r_ll_1 = ld8((slot_2 + 8));
+    r_ll = ld8((slot_2 + 8));
     r_h2 = ld8(slot_2);
 l_capnp_09:;
     mv24(slot_8, (slot_2 + 24));
     if (!(r_h2 == 0u)) goto l_arm_1g;
     r_5d = (u32)(r_fj >> 16u);
-    if ((u8)((u8)(r_ll_1 != 1u) | (u8)(u8)(a_3 & 1))) goto l_join_gz;
+    if ((u8)((u8)(r_ll != 1u) | (u8)(u8)(a_3 & 1))) goto l_join_gz;
     r_vt = 1ull;
     r_8t = r_52;
     r_49 = a_5;
     r_1t = 0u;
-    r_a3_1 = 1u;
+    r_a3 = 1u;
     r_wr = 0u;
     r_hb = 0ull;
 l_common_s8:;
@@ -16912,7 +16987,7 @@ l_common_s8:;
     st64(away(a_1, 8ull), r_8t);
     st32(away(a_1, 16ull), r_49);
     st32(away(a_1, 20ull), r_1t);
-    st32(away(a_1, 24ull), r_a3_1);
+    st32(away(a_1, 24ull), r_a3);
     st32(away(a_1, 28ull), r_wr);
     st64(away(a_1, 32ull), r_hb);
     return;
@@ -16921,13 +16996,13 @@ l_arm_1g:;
     r_8t = r_52;
     r_49 = a_5;
     r_1t = 0u;
-    r_a3_1 = (u32)r_ll_1;
+    r_a3 = (u32)r_ll;
     r_wr = r_q1;
     r_hb = r_k5;
     goto l_common_s8;
 l_join_gz:;
     r_mx = ((a_6 == 0x80000000u) ? 0x80000000u : (a_6 + 0xffffffffu));
-    switch (r_ll_1) {
+    switch (r_ll) {
     case 0u: goto l_arm_c3;
     case 1u: goto l_arm_c3_1;
     case 3u: goto l_arm_c3_2;
@@ -16973,7 +17048,7 @@ l_join_c0:;
     r_8t = ld64((slot_9 + 8));
     r_49 = ld32((slot_9 + 16));
     r_1t = ld32((slot_9 + 20));
-    r_a3_1 = ld32((slot_9 + 24));
+    r_a3 = ld32((slot_9 + 24));
     r_wr = ld32((slot_9 + 28));
     r_hb = ld64((slot_9 + 32));
     goto l_common_s8;
@@ -17046,13 +17121,13 @@ l_after_h9:;
     goto l_common_68;
 }
 
-/* capnp_framing::framing::reading::read_into_with::<#44e4abcb1d136ff1> */
-void capnp_framing_framing_reading_read_into_with_44e4abcb1d136ff1(u8 *a_1, u8 *a_2, u8 *a_3, u64 a_4, u8 *a_5)
+/* capnp_framing::framing::reading::read_into_with::<#5cb56d56ea2a3fa0> */
+void capnp_framing_framing_reading_read_into_with_5cb56d56ea2a3fa0(u8 *a_1, u8 *a_2, u8 *a_3, u64 a_4, u8 *a_5)
 {
     A(8) u8 slot_1[24];
     A(4) u8 slot_2[4];
-    u64 r_r1;
-    struct s_i8_i64 r_zg;
+    u64 r_0k;
+    struct s_i8_i64 r_cb;
     u64 r_h9;
     u64 r_vv;
     u64 r_r5;
@@ -17060,8 +17135,8 @@ void capnp_framing_framing_reading_read_into_with_44e4abcb1d136ff1(u8 *a_1, u8 *
     u64 r_7e;
     u64 r_ix;
     u64 r_lc;
-    u8 *r_rq_1;
-    u8 *r_08_1;
+    u8 *r_rq;
+    u8 *r_08;
     u8 *r_xz;
     u8 *r_x5;
     u8 *r_zd;
@@ -17073,19 +17148,19 @@ void capnp_framing_framing_reading_read_into_with_44e4abcb1d136ff1(u8 *a_1, u8 *
     u64 r_5q_1;
     u8 *r_lz;
     u8 r_r5_1;
-    u64 r_38_2;
+    u64 r_38;
     u64 r_xz_1;
     u64 a_9c;
-    u8 *r_2b_1;
+    u8 *r_2b;
     u64 r_l3;
-    u64 r_ms;
-    struct s_i8_i64 r_zg_1;
+    u64 r_9w;
+    struct s_i8_i64 r_cb_1;
     u64 r_h9_1;
     u64 r_8h;
-    u8 *r_lz_2;
+    u8 *r_lz_1;
     u8 *r_xm;
     u8 *r_su;
-    u8 *r_t9_1;
+    u8 *r_t9;
     u64 r_l5;
     u64 r_rx;
     u64 r_wy;
@@ -17094,46 +17169,46 @@ void capnp_framing_framing_reading_read_into_with_44e4abcb1d136ff1(u8 *a_1, u8 *
     u64 r_7e_1;
     u64 r_ix_1;
     u8 *r_r2;
-    u64 r_44_1;
+    u64 r_44;
     u8 *r_h6;
     u8 *r_2g;
     u8 *r_x5_1;
     u8 *r_zd_1;
     u64 r_lj;
-    u64 r_52_5;
+    u64 r_52_2;
     u64 r_vz;
-    u64 r_e9_2;
+    u64 r_e9;
     u64 r_ph_1;
     u64 r_az_1;
     u64 r_5q_4;
-    u8 *r_lz_4;
+    u8 *r_lz_2;
     u64 r_r4;
-    u8 r_r5_3;
-    u64 r_38_7;
+    u8 r_r5_2;
+    u64 r_38_1;
     u64 r_dv;
     u64 a_9c_1;
-    u8 *r_2b_3;
+    u8 *r_2b_1;
     u64 r_0j;
-    u64 r_ms_1;
-    struct s_i8_i64 r_zg_2;
+    u64 r_9w_1;
+    struct s_i8_i64 r_cb_2;
     u64 r_h9_2;
     u64 r_8h_1;
     u64 r_7e_2;
     u64 r_ix_2;
     st64(a_5, 0ull);
     st32(slot_2, 0u);
-    r_r1 = 0ull;
-    goto l_join_8m;
+    r_0k = 0ull;
+    goto l_join_8e;
 l_loop_yc:;
-    u64 r_5q = (r_h9 + r_r1);
-    if (r_5q < 4ull) { r_r1 = r_5q; goto l_join_8m; }
+    u64 r_5q = (r_h9 + r_0k);
+    if (r_5q < 4ull) { r_0k = r_5q; goto l_join_8e; }
     r_vv = r_5q;
     goto l_arm_0x;
-l_join_8m:;
-    r_zg = capnp_packing_packing_unpacking_input_UnpackingInput_u_72a9f082(a_3, away(slot_2, r_r1), (4ull - r_r1));
-    if (!(r_zg.f0 == 0u)) { r_7e = 4ull; r_ix = 0ull; goto l_arm_tl; }
-    r_h9 = r_zg.f1;
-    if (r_h9 == 0ull) { r_vv = r_r1; goto l_arm_0x; }
+l_join_8e:;
+    r_cb = capnp_packing_packing_unpacking_input_UnpackingInput_u_1b6843d3(a_3, away(slot_2, r_0k), (4ull - r_0k));
+    if (!(r_cb.f0 == 0u)) { r_7e = 4ull; r_ix = 0ull; goto l_arm_tl; }
+    r_h9 = r_cb.f1;
+    if (r_h9 == 0ull) { r_vv = r_0k; goto l_arm_0x; }
     goto l_loop_yc;
 l_arm_0x:;
     switch (r_vv) {
@@ -17158,8 +17233,8 @@ l_arm_tl:;
 l_arm_lv:;
     u64 r_vo = (u64)(r_c4 << 2ull);
     r_lc = (((r_vo & 4ull) ^ 4ull) + r_vo);
-    r_rq_1 = away(a_5, 8ull);
-    r_08_1 = away(a_5, 16ull);
+    r_rq = away(a_5, 8ull);
+    r_08 = away(a_5, 16ull);
     r_xz = away(a_5, 24ull);
     r_x5 = (slot_1 + 8);
     r_zd = (slot_1 + 16);
@@ -17167,7 +17242,7 @@ l_arm_lv:;
 l_loop_t9:;
     if (!(r_09 < r_lc)) goto l_arm_9w;
     memset(slot_1, 0u, 24);
-    r_52 = ld64(r_08_1);
+    r_52 = ld64(r_08);
     if (!(r_09 < r_52)) goto l_join_8s;
     r_xz_1 = r_52;
     goto l_arm_gi;
@@ -17175,44 +17250,44 @@ l_join_8s:;
     r_5p = (r_lc - r_52);
     u64 r_52_1 = ld64(r_xz);
     if (!(r_5p > (r_52_1 - r_52))) { r_ph = r_52_1; r_az = r_52; goto l_join_kx; }
-    u8 r_qy = std_alloc_vec_Vec_grow_amortized_ffd95af9aab10bcd(r_rq_1, r_5p);
+    u8 r_qy = std_alloc_vec_Vec_grow_amortized_ffd95af9aab10bcd(r_rq, r_5p);
     if (!r_qy) goto l_capnp_iz;
     r_ph = ld64(r_xz);
-    r_az = ld64(r_08_1);
+    r_az = ld64(r_08);
 l_join_kx:;
     r_5q_1 = (r_az + r_5p);
-    r_lz = ldp(r_rq_1);
+    r_lz = ldp(r_rq);
     if (!(r_az < r_5q_1)) goto l_std_5b;
     memset_or_none(away(r_lz, r_az), 0u, r_5p);
 l_std_5b:;
-    stp(r_rq_1, r_lz);
-    st64(r_08_1, r_5q_1);
+    stp(r_rq, r_lz);
+    st64(r_08, r_5q_1);
     st64(r_xz, r_ph);
     r_xz_1 = r_5q_1;
     goto l_arm_gi;
 l_capnp_iz:;
-    capnp_framing_framing_reading_grow_3691078bae5dd839(slot_1, a_2, r_rq_1);
+    capnp_framing_framing_reading_grow_3691078bae5dd839(slot_1, a_2, r_rq);
     r_r5_1 = ld8(r_x5);
-    r_38_2 = ld64(r_zd);
+    r_38 = ld64(r_zd);
     if (!(ld8(slot_1) == 0u)) goto l_arm_of;
-    r_xz_1 = ld64(r_08_1);
+    r_xz_1 = ld64(r_08);
 l_arm_gi:;
     a_9c = umin64(r_xz_1, r_lc);
-    r_2b_1 = away(ldp(r_rq_1), r_09);
+    r_2b = away(ldp(r_rq), r_09);
     r_l3 = (a_9c - r_09);
     if (a_9c == r_09) { r_8h = 0ull; goto l_capnp_v8; }
-    r_ms = 0ull;
-    goto l_join_3s;
+    r_9w = 0ull;
+    goto l_join_hf;
 l_loop_lw:;
-    u64 r_5q_2 = (r_h9_1 + r_ms);
-    if (r_5q_2 < r_l3) { r_ms = r_5q_2; goto l_join_3s; }
+    u64 r_5q_2 = (r_h9_1 + r_9w);
+    if (r_5q_2 < r_l3) { r_9w = r_5q_2; goto l_join_hf; }
     r_8h = r_5q_2;
     goto l_capnp_v8;
-l_join_3s:;
-    r_zg_1 = capnp_packing_packing_unpacking_input_UnpackingInput_u_72a9f082(a_3, away(r_2b_1, r_ms), (r_l3 - r_ms));
-    if (!(r_zg_1.f0 == 0u)) { r_7e_1 = 4ull; r_ix_1 = 0ull; goto l_arm_tl_1; }
-    r_h9_1 = r_zg_1.f1;
-    if (r_h9_1 == 0ull) { r_8h = r_ms; goto l_capnp_v8; }
+l_join_hf:;
+    r_cb_1 = capnp_packing_packing_unpacking_input_UnpackingInput_u_1b6843d3(a_3, away(r_2b, r_9w), (r_l3 - r_9w));
+    if (!(r_cb_1.f0 == 0u)) { r_7e_1 = 4ull; r_ix_1 = 0ull; goto l_arm_tl_1; }
+    r_h9_1 = r_cb_1.f1;
+    if (r_h9_1 == 0ull) { r_8h = r_9w; goto l_capnp_v8; }
     goto l_loop_lw;
 l_capnp_v8:;
     if (r_8h == r_l3) { r_09 = a_9c; goto l_loop_t9; }
@@ -17225,19 +17300,19 @@ l_arm_yd:;
     memset(away(a_1, 8ull), 0u, 16);
     goto l_common_68;
 l_arm_9w:;
-    r_lz_2 = ldp(r_rq_1);
+    r_lz_1 = ldp(r_rq);
     r_xm = away(a_5, 32ull);
     r_su = away(a_5, 40ull);
     if (ld64(r_su) == 0ull) goto l_join_mh;
     st64(r_su, 0ull);
 l_join_mh:;
-    r_t9_1 = away(a_5, 48ull);
+    r_t9 = away(a_5, 48ull);
     r_l5 = 0ull;
     r_rx = 0ull;
     r_wy = 0ull;
 l_join_rl:;
-    r_5q_3 = (r_rx + (u64)ld32((r_lz_2 + (i64)((u64)(r_wy << 2ull)))));
-    if (!(ld64(r_t9_1) == r_l5)) { r_le = r_l5; goto l_std_28; }
+    r_5q_3 = (r_rx + (u64)ld32((r_lz_1 + (i64)((u64)(r_wy << 2ull)))));
+    if (!(ld64(r_t9) == r_l5)) { r_le = r_l5; goto l_std_28; }
     u8 r_db = std_alloc_vec_Vec_grow_amortized_5e63141f0e39c5e0(r_xm);
     if (!r_db) goto l_arm_is;
     r_le = ld64(r_su);
@@ -17255,7 +17330,7 @@ l_std_28:;
     goto l_join_rl;
 l_arm_of:;
     r_7e_1 = (u64)r_r5_1;
-    r_ix_1 = r_38_2;
+    r_ix_1 = r_38;
 l_arm_tl_1:;
     st8(a_1, 1u);
     st8(away(a_1, 1ull), 0u);
@@ -17281,41 +17356,41 @@ l_then_tl:;
     goto l_common_68;
 l_join_zs:;
     r_r2 = away(a_5, 56ull);
-    r_44_1 = (u64)(r_5q_3 << 3ull);
+    r_44 = (u64)(r_5q_3 << 3ull);
     r_h6 = away(a_5, 64ull);
     r_2g = away(a_5, 72ull);
     r_x5_1 = (slot_1 + 8);
     r_zd_1 = (slot_1 + 16);
     r_lj = 0ull;
 l_loop_hb:;
-    if (!(r_lj < r_44_1)) goto l_arm_es;
+    if (!(r_lj < r_44)) goto l_arm_es;
     memset(slot_1, 0u, 24);
-    r_52_5 = ld64(r_h6);
-    if (!(r_lj < r_52_5)) goto l_join_c5;
-    r_dv = r_52_5;
+    r_52_2 = ld64(r_h6);
+    if (!(r_lj < r_52_2)) goto l_join_c5;
+    r_dv = r_52_2;
     goto l_arm_df;
 l_join_c5:;
-    r_vz = (umin64((r_44_1 - r_lj), 0x40000ull) + r_lj);
-    if (r_vz > r_52_5) goto l_join_q6;
-    if (!(r_52_5 > r_vz)) { r_r4 = r_52_5; goto l_capnp_5s; }
+    r_vz = (umin64((r_44 - r_lj), 0x40000ull) + r_lj);
+    if (r_vz > r_52_2) goto l_join_q6;
+    if (!(r_52_2 > r_vz)) { r_r4 = r_52_2; goto l_capnp_5s; }
     st64(r_h6, r_vz);
     r_r4 = r_vz;
     goto l_capnp_5s;
 l_join_q6:;
-    r_e9_2 = (r_vz - r_52_5);
-    u64 r_52_6 = ld64(r_2g);
-    if (!(r_e9_2 > (r_52_6 - r_52_5))) { r_ph_1 = r_52_6; r_az_1 = r_52_5; goto l_join_kx_1; }
-    u8 r_qy_1 = std_alloc_vec_Vec_grow_amortized_ffd95af9aab10bcd(r_r2, r_e9_2);
+    r_e9 = (r_vz - r_52_2);
+    u64 r_52_3 = ld64(r_2g);
+    if (!(r_e9 > (r_52_3 - r_52_2))) { r_ph_1 = r_52_3; r_az_1 = r_52_2; goto l_join_kx_1; }
+    u8 r_qy_1 = std_alloc_vec_Vec_grow_amortized_ffd95af9aab10bcd(r_r2, r_e9);
     if (!r_qy_1) goto l_capnp_iz_1;
     r_ph_1 = ld64(r_2g);
     r_az_1 = ld64(r_h6);
 l_join_kx_1:;
-    r_5q_4 = (r_az_1 + r_e9_2);
-    r_lz_4 = ldp(r_r2);
+    r_5q_4 = (r_az_1 + r_e9);
+    r_lz_2 = ldp(r_r2);
     if (!(r_az_1 < r_5q_4)) goto l_std_re;
-    memset_or_none(away(r_lz_4, r_az_1), 0u, r_e9_2);
+    memset_or_none(away(r_lz_2, r_az_1), 0u, r_e9);
 l_std_re:;
-    stp(r_r2, r_lz_4);
+    stp(r_r2, r_lz_2);
     st64(r_h6, r_5q_4);
     st64(r_2g, r_ph_1);
     r_r4 = r_5q_4;
@@ -17324,27 +17399,27 @@ l_capnp_5s:;
     goto l_arm_df;
 l_capnp_iz_1:;
     capnp_framing_framing_reading_grow_3691078bae5dd839(slot_1, a_2, r_r2);
-    r_r5_3 = ld8(r_x5_1);
-    r_38_7 = ld64(r_zd_1);
+    r_r5_2 = ld8(r_x5_1);
+    r_38_1 = ld64(r_zd_1);
     if (!(ld8(slot_1) == 0u)) goto l_arm_of_1;
     r_dv = ld64(r_h6);
 l_arm_df:;
-    a_9c_1 = umin64(r_dv, r_44_1);
-    r_2b_3 = away(ldp(r_r2), r_lj);
+    a_9c_1 = umin64(r_dv, r_44);
+    r_2b_1 = away(ldp(r_r2), r_lj);
     r_0j = (a_9c_1 - r_lj);
     if (a_9c_1 == r_lj) { r_8h_1 = 0ull; goto l_capnp_v8_1; }
-    r_ms_1 = 0ull;
-    goto l_join_3s_1;
+    r_9w_1 = 0ull;
+    goto l_join_hf_1;
 l_loop_lw_1:;
-    u64 r_5q_5 = (r_h9_2 + r_ms_1);
-    if (r_5q_5 < r_0j) { r_ms_1 = r_5q_5; goto l_join_3s_1; }
+    u64 r_5q_5 = (r_h9_2 + r_9w_1);
+    if (r_5q_5 < r_0j) { r_9w_1 = r_5q_5; goto l_join_hf_1; }
     r_8h_1 = r_5q_5;
     goto l_capnp_v8_1;
-l_join_3s_1:;
-    r_zg_2 = capnp_packing_packing_unpacking_input_UnpackingInput_u_72a9f082(a_3, away(r_2b_3, r_ms_1), (r_0j - r_ms_1));
-    if (!(r_zg_2.f0 == 0u)) { r_7e_2 = 4ull; r_ix_2 = 0ull; goto l_arm_tl_2; }
-    r_h9_2 = r_zg_2.f1;
-    if (r_h9_2 == 0ull) { r_8h_1 = r_ms_1; goto l_capnp_v8_1; }
+l_join_hf_1:;
+    r_cb_2 = capnp_packing_packing_unpacking_input_UnpackingInput_u_1b6843d3(a_3, away(r_2b_1, r_9w_1), (r_0j - r_9w_1));
+    if (!(r_cb_2.f0 == 0u)) { r_7e_2 = 4ull; r_ix_2 = 0ull; goto l_arm_tl_2; }
+    r_h9_2 = r_cb_2.f1;
+    if (r_h9_2 == 0ull) { r_8h_1 = r_9w_1; goto l_capnp_v8_1; }
     goto l_loop_lw_1;
 l_capnp_v8_1:;
     if (r_8h_1 == r_0j) { r_lj = a_9c_1; goto l_loop_hb; }
@@ -17358,8 +17433,8 @@ l_arm_es:;
     memset(away(a_1, 8ull), 0u, 16);
     goto l_common_68;
 l_arm_of_1:;
-    r_7e_2 = (u64)r_r5_3;
-    r_ix_2 = r_38_7;
+    r_7e_2 = (u64)r_r5_2;
+    r_ix_2 = r_38_1;
 l_arm_tl_2:;
     st8(a_1, 1u);
     st8(away(a_1, 1ull), 0u);
@@ -17368,21 +17443,21 @@ l_arm_tl_2:;
     goto l_common_68;
 }
 
-/* capnp_packing::packing::unpacking_input::UnpackingInput::unpack::<#61a3388d22bc77d2> */
-struct s_i8_i64 capnp_packing_packing_unpacking_input_UnpackingInput_u_72a9f082(u8 *a_1, u8 *a_2, u64 a_3)
+/* capnp_packing::packing::unpacking_input::UnpackingInput::unpack::<#5c1e7eb3de607c93> */
+struct s_i8_i64 capnp_packing_packing_unpacking_input_UnpackingInput_u_1b6843d3(u8 *a_1, u8 *a_2, u64 a_3)
 {
     A(8) u8 slot_1[24];
     A(8) u8 slot_2[8];
     A(2) u8 slot_3[4];
-    u8 *r_ts;
+    u8 *r_7x;
+    u8 *r_wy;
     u8 *r_t1;
-    u8 *r_4t;
-    u8 *r_1o;
-    u8 *r_4z;
+    u8 *r_65;
+    u8 *r_8e;
     u8 *r_p9;
-    u8 *r_kb;
+    u8 *r_wq;
     u8 *r_u0;
-    u8 *r_39;
+    u8 *r_3e;
     u8 *r_ix;
     u8 *r_0v;
     u8 *r_g0;
@@ -17410,12 +17485,12 @@ struct s_i8_i64 capnp_packing_packing_unpacking_input_UnpackingInput_u_72a9f082(
     struct s_i8_i64 r_7h;
     u8 r_fz;
     u64 r_h9;
-    struct s_i8_i64 r_mj;
+    struct s_i8_i64 r_13;
     u64 r_h9_1;
     u64 r_14;
     u64 r_o6;
     u8 pre_dm;
-    u64 r_t9_2;
+    u64 r_t9;
     u8 pre_r7;
     u64 r_pv;
     u64 r_qt;
@@ -17423,17 +17498,17 @@ struct s_i8_i64 capnp_packing_packing_unpacking_input_UnpackingInput_u_72a9f082(
     u64 r_4j;
     u64 r_4w;
     u8 r_x4;
-    if ((u8)(ld8(away(a_1, 8264ull)) & 1)) goto l_then_o4;
+    if ((u8)(ld8(away(a_1, 8272ull)) & 1)) goto l_then_fc;
     if (a_3 == 0ull) { r_4w = 0ull; r_x4 = 0u; goto l_return_7d; }
-    r_ts = away(a_1, 16484ull);
+    r_7x = away(a_1, 16500ull);
+    r_wy = away(a_1, 16496ull);
     r_t1 = away(a_1, 16480ull);
-    r_4t = away(a_1, 16464ull);
-    r_1o = away(a_1, 16472ull);
-    r_4z = away(a_1, 8272ull);
+    r_65 = away(a_1, 16488ull);
+    r_8e = away(a_1, 8288ull);
     r_p9 = (slot_3 + 1);
-    r_kb = away(a_1, 16481ull);
+    r_wq = away(a_1, 16497ull);
     r_u0 = (slot_3 + 2);
-    r_39 = away(a_1, 16482ull);
+    r_3e = away(a_1, 16498ull);
     r_ix = (slot_2 + 4);
     r_0v = (slot_2 + 5);
     r_g0 = (slot_2 + 6);
@@ -17446,8 +17521,8 @@ struct s_i8_i64 capnp_packing_packing_unpacking_input_UnpackingInput_u_72a9f082(
     r_x5 = (slot_1 + 8);
     r_86 = 0ull;
     goto l_join_73;
-l_then_o4:;
-    st8(away(a_1, 16486ull), 1u);
+l_then_fc:;
+    st8(away(a_1, 16502ull), 1u);
     r_4w = 0ull;
     r_x4 = 1u;
     goto l_return_7d;
@@ -17456,32 +17531,32 @@ l_join_73:;
     r_17 = (a_3 - r_86);
     st64(slot_2, 0ull);
     r_er = (r_17 > 7ull);
-    r_as = ld16(r_ts);
+    r_as = ld16(r_7x);
 l_loop_io:;
     if (!(r_as == 0u)) goto l_after_8b;
-    r_47 = ld8(r_t1);
+    r_47 = ld8(r_wy);
     if (!(r_47 == 5u)) goto l_join_mh;
-    r_15 = ld16(r_39);
+    r_15 = ld16(r_3e);
     r_u7 = (u64)r_15;
     a_f1 = umin64((r_u7 + 1ull), r_17);
-    r_52 = ld64(r_4t);
-    r_52_1 = ld64(r_1o);
+    r_52 = ld64(r_t1);
+    r_52_1 = ld64(r_65);
     if (!(r_52 == r_52_1)) goto l_join_qj;
-    struct s_i8_i64 r_mm = capnp_packing_buffered_standard_BufReaderInputInput_re_82fb4ceb(a_1, r_8z, a_f1);
-    r_7h = r_mm;
+    struct s_i8_i64 r_rv = capnp_packing_buffered_standard_BufReaderInputInput_re_81b4ff93(a_1, r_8z, a_f1);
+    r_7h = r_rv;
     goto l_capnp_wz;
 l_join_qj:;
     a_cg = umin64((r_52_1 - r_52), a_f1);
-    r_2b = away(r_4z, r_52);
+    r_2b = away(r_8e, r_52);
     if (((u64)(uptr)r_8z - (u64)(uptr)r_2b) < a_cg) { r_il = 0ull; goto l_join_fh; }
     memmove_or_none(r_8z, r_2b, a_cg);
     goto l_core_bq;
 l_join_fh:;
     st8((r_8z + (i64)(r_il)), ld8((r_2b + (i64)(r_il))));
-    u64 r_c4_1 = (r_il + 1ull);
-    if (!(r_c4_1 == a_cg)) { r_il = r_c4_1; goto l_join_fh; }
+    u64 r_c4 = (r_il + 1ull);
+    if (!(r_c4 == a_cg)) { r_il = r_c4; goto l_join_fh; }
 l_core_bq:;
-    st64(r_4t, (ld64(r_4t) + a_cg));
+    st64(r_t1, (ld64(r_t1) + a_cg));
     struct s_i8_i64 t_sr = (struct s_i8_i64){ 0u, 0ull };
     t_sr.f1 = a_cg;
     r_7h = t_sr;
@@ -17490,62 +17565,62 @@ l_capnp_wz:;
     r_h9 = r_7h.f1;
     if ((r_fz != 0u) ? 1u : (r_h9 == 0ull)) goto l_capnp_3c;
     u8 r_qc = (r_h9 > r_u7);
-    st8(r_t1, (r_qc ? 0u : 5u));
-    st8(r_kb, 0u);
-    st16(r_39, (r_qc ? 0u : (u16)(r_15 - (u16)r_h9)));
+    st8(r_wy, (r_qc ? 0u : 5u));
+    st8(r_wq, 0u);
+    st16(r_3e, (r_qc ? 0u : (u16)(r_15 - (u16)r_h9)));
     r_qt = r_h9;
     goto l_arm_65;
 l_join_mh:;
-    u64 r_52_3 = ld64(r_4t);
-    u64 r_52_4 = ld64(r_1o);
-    if (r_52_3 < r_52_4) { r_14 = r_52_3; r_o6 = r_52_4; pre_dm = r_47; goto l_capnp_bb; }
-    memset(r_4t, 0u, 16);
-    r_mj = capnp_packing_buffered_standard_BufReaderInputInput_re_82fb4ceb(a_1, r_4z, 8192ull);
-    if (r_mj.f0 == 0u) goto l_arm_oo;
-    goto l_arm_57;
+    u64 r_52_2 = ld64(r_t1);
+    u64 r_52_3 = ld64(r_65);
+    if (r_52_2 < r_52_3) { r_14 = r_52_2; r_o6 = r_52_3; pre_dm = r_47; goto l_capnp_bb; }
+    memset(r_t1, 0u, 16);
+    r_13 = capnp_packing_buffered_standard_BufReaderInputInput_re_81b4ff93(a_1, r_8e, 8192ull);
+    if (r_13.f0 == 0u) goto l_arm_oo;
+    goto l_arm_w5;
 l_arm_oo:;
-    r_h9_1 = r_mj.f1;
-    st64(r_1o, r_h9_1);
+    r_h9_1 = r_13.f1;
+    st64(r_65, r_h9_1);
     if (!(r_h9_1 == 0ull)) goto l_join_ro;
     r_4w = r_86;
     r_x4 = 0u;
     goto l_return_7d;
 l_join_ro:;
-    u8 pre_sw = ld8(r_t1);
-    u64 r_38 = ld64(r_4t);
-    if (ld16(r_ts) == 0u) { r_14 = r_38; r_o6 = r_h9_1; pre_dm = pre_sw; goto l_capnp_bb; }
+    u8 pre_sw = ld8(r_wy);
+    u64 r_38 = ld64(r_t1);
+    if (ld16(r_7x) == 0u) { r_14 = r_38; r_o6 = r_h9_1; pre_dm = pre_sw; goto l_capnp_bb; }
     pre_r7 = pre_sw;
     r_pv = r_38;
     goto l_after_2t;
 l_capnp_bb:;
     if (!(u8)((u8)r_er & (u8)(pre_dm == 0u))) { pre_r7 = pre_dm; r_pv = r_14; goto l_after_2t; }
-    r_t9_2 = (r_o6 - r_14);
-    if (!(r_t9_2 > 9ull)) { pre_r7 = 0u; r_pv = r_14; goto l_after_2t; }
+    r_t9 = (r_o6 - r_14);
+    if (!(r_t9 > 9ull)) { pre_r7 = 0u; r_pv = r_14; goto l_after_2t; }
     memset(slot_1, 0u, 24);
-    capnp_packing_packing_unpacking_unpack_words(slot_1, away(r_4z, r_14), r_t9_2, r_8z, r_17);
-    st64(r_4t, (ld64(r_4t) + ld64(slot_1)));
+    capnp_packing_packing_unpacking_unpack_words(slot_1, away(r_8e, r_14), r_t9, r_8z, r_17);
+    st64(r_t1, (ld64(r_t1) + ld64(slot_1)));
     u8 r_dd = ld8(r_p9_2);
     u16 r_8l = ld16(r_zo);
-    st8(r_t1, ld8(r_3o));
-    st8(r_kb, r_dd);
-    st16(r_39, r_8l);
-    st16(r_ts, ld16(r_zd));
+    st8(r_wy, ld8(r_3o));
+    st8(r_wq, r_dd);
+    st16(r_3e, r_8l);
+    st16(r_7x, ld16(r_zd));
     r_4q = ld64(r_x5);
     goto l_arm_rr;
 l_after_2t:;
     st8(slot_3, pre_r7);
-    st8(r_p9, ld8(r_kb));
-    st16(r_u0, ld16(r_39));
-    u8 r_47_2 = ld8((r_4z + (i64)(r_pv)));
-    st64(r_4t, (r_pv + 1ull));
-    capnp_packing_packing_place_step(slot_2, slot_3, r_47_2);
+    st8(r_p9, ld8(r_wq));
+    st16(r_u0, ld16(r_3e));
+    u8 r_47_1 = ld8((r_8e + (i64)(r_pv)));
+    st64(r_t1, (r_pv + 1ull));
+    capnp_packing_packing_place_step(slot_2, slot_3, r_47_1);
     u8 r_dd_1 = ld8(r_0v);
-    u16 r_f4_2 = ld16(r_g0);
-    st8(r_t1, ld8(r_ix));
-    st8(r_kb, r_dd_1);
-    st16(r_39, r_f4_2);
+    u16 r_f4 = ld16(r_g0);
+    st8(r_wy, ld8(r_ix));
+    st8(r_wq, r_dd_1);
+    st16(r_3e, r_f4);
     u16 r_15_1 = ld16(r_u0_1);
-    st16(r_ts, r_15_1);
+    st16(r_7x, r_15_1);
     if (!(ld8(slot_2) == 1u)) { r_as = r_15_1; goto l_loop_io; }
     st8(r_8z, ld8(r_p9_1));
     r_qt = 1ull;
@@ -17553,12 +17628,12 @@ l_after_2t:;
 l_after_8b:;
     u64 a_f1_1 = umin64((u64)r_as, r_17);
     memset_or_none(r_8z, 0u, a_f1_1);
-    st16(r_ts, (u16)(ld16(r_ts) - (u16)a_f1_1));
+    st16(r_7x, (u16)(ld16(r_7x) - (u16)a_f1_1));
     r_4q = a_f1_1;
     goto l_arm_rr;
 l_capnp_3c:;
     if (r_fz == 0u) { r_4w = r_86; r_x4 = 0u; goto l_return_7d; }
-    goto l_arm_57;
+    goto l_arm_w5;
 l_arm_65:;
     r_4j = r_qt;
     goto l_default_1x;
@@ -17566,14 +17641,14 @@ l_arm_rr:;
     if (r_4q == 0ull) { r_4w = r_86; r_x4 = 0u; goto l_return_7d; }
     r_4j = r_4q;
 l_default_1x:;
-    u64 r_5q_1 = (r_4j + r_86);
-    if (r_5q_1 < a_3) { r_86 = r_5q_1; goto l_join_73; }
-    r_4w = r_5q_1;
+    u64 r_5q = (r_4j + r_86);
+    if (r_5q < a_3) { r_86 = r_5q; goto l_join_73; }
+    r_4w = r_5q;
     r_x4 = 0u;
     goto l_return_7d;
-l_arm_57:;
+l_arm_w5:;
     u8 r_wv = (u8)(r_86 == 0ull);
-    st8(away(a_1, 16486ull), r_wv);
+    st8(away(a_1, 16502ull), r_wv);
     r_4w = r_86;
     r_x4 = r_wv;
 l_return_7d:;
@@ -17601,13 +17676,13 @@ void capnp_packing_packing_unpacking_unpack_words(u8 *a_1, u8 *a_2, u64 a_3, u8 
     u64 r_x4;
     u64 r_vz;
     u64 r_il;
-    u64 r_z6_1;
+    u64 r_z6;
     u64 r_4k_1;
     u8 *r_ps;
     u64 r_1d;
     u8 *r_a2;
     u64 r_il_1;
-    u8 *r_bb_1;
+    u8 *r_bb;
     u8 *r_2b;
     u32 t_8m;
     u64 r_d2;
@@ -17663,39 +17738,39 @@ l_join_fh:;
     u64 r_c4 = (r_il + 1ull);
     if (!(r_c4 == 8ull)) { r_il = r_c4; goto l_join_fh; }
 l_core_v5:;
-    u8 r_47_3 = ld8((r_8z + 9));
-    r_z6_1 = (u64)((u64)r_47_3 << 3ull);
-    if (r_47_3 == 0u) { r_d2 = 10ull; r_ag = 8ull; goto l_else_rw; }
-    if ((u8)((u8)((r_g5 + 0xfffffffffffffff6ull) < r_z6_1) | (u8)((r_0j + 0xfffffffffffffff8ull) < r_z6_1))) goto l_thread_pw;
-    r_4k_1 = (r_z6_1 + 8ull);
+    u8 r_47_2 = ld8((r_8z + 9));
+    r_z6 = (u64)((u64)r_47_2 << 3ull);
+    if (r_47_2 == 0u) { r_d2 = 10ull; r_ag = 8ull; goto l_else_rw; }
+    if ((u8)((u8)((r_g5 + 0xfffffffffffffff6ull) < r_z6) | (u8)((r_0j + 0xfffffffffffffff8ull) < r_z6))) goto l_thread_pw;
+    r_4k_1 = (r_z6 + 8ull);
     r_ps = away(r_8z_1, 8ull);
-    r_1d = (r_z6_1 + 10ull);
+    r_1d = (r_z6 + 10ull);
     r_a2 = away(r_8z, 10ull);
-    if (((u64)(uptr)r_ps - (u64)(uptr)r_a2) < r_z6_1) { r_il_1 = 0ull; goto l_join_fh_1; }
-    memmove_or_none(r_ps, r_a2, r_z6_1);
+    if (((u64)(uptr)r_ps - (u64)(uptr)r_a2) < r_z6) { r_il_1 = 0ull; goto l_join_fh_1; }
+    memmove_or_none(r_ps, r_a2, r_z6);
     r_d2 = r_1d;
     r_ag = r_4k_1;
     goto l_else_rw;
 l_join_fh_1:;
     st8((r_ps + (i64)(r_il_1)), ld8((r_a2 + (i64)(r_il_1))));
     u64 r_c4_1 = (r_il_1 + 1ull);
-    if (r_c4_1 == r_z6_1) { r_d2 = r_1d; r_ag = r_4k_1; goto l_else_rw; }
+    if (r_c4_1 == r_z6) { r_d2 = r_1d; r_ag = r_4k_1; goto l_else_rw; }
     r_il_1 = r_c4_1;
     goto l_join_fh_1;
 l_else_x1:;
     u8 r_aj = (u8)(r_47 & 15u);
-    u8 *r_mh_1 = away(((u8 *)g_static_144), (u64)(u8)((u32)r_aj << 4u));
-    st32(r_8z_1, ((((ld32((r_mh_1 + 4)) * (u32)ld8(away(r_8z, 2ull))) + (ld32(r_mh_1) * (u32)ld8(r_62))) + (ld32((r_mh_1 + 8)) * (u32)ld8(away(r_8z, 3ull)))) + (ld32((r_mh_1 + 12)) * (u32)ld8(away(r_8z, 4ull)))));
-    r_bb_1 = away(r_8z_1, 4ull);
+    u8 *r_2w = away(((u8 *)g_static_154), (u64)(u8)((u32)r_aj << 4u));
+    st32(r_8z_1, ((((ld32((r_2w + 4)) * (u32)ld8(away(r_8z, 2ull))) + (ld32(r_2w) * (u32)ld8(r_62))) + (ld32((r_2w + 8)) * (u32)ld8(away(r_8z, 3ull)))) + (ld32((r_2w + 12)) * (u32)ld8(away(r_8z, 4ull)))));
+    r_bb = away(r_8z_1, 4ull);
     r_2b = away(r_62, (u64)ctpop8(r_aj));
-    if (!(r_47 < 32u)) goto l_join_qt;
+    if (!(r_47 < 32u)) goto l_join_ic;
     t_8m = (u32)(u8)((u32)ld8(r_2b) * (u8)((u32)r_47 >> 4u));
     goto l_capnp_q3;
-l_join_qt:;
-    u8 *r_mh_2 = away(((u8 *)g_static_144), (u64)(u8)(r_47 & 240u));
-    t_8m = ((((ld32((r_mh_2 + 4)) * (u32)ld8((r_2b + 1))) + (ld32(r_mh_2) * (u32)ld8(r_2b))) + (ld32((r_mh_2 + 8)) * (u32)ld8((r_2b + 2)))) + (ld32((r_mh_2 + 12)) * (u32)ld8((r_2b + 3))));
+l_join_ic:;
+    u8 *r_2w_1 = away(((u8 *)g_static_154), (u64)(u8)(r_47 & 240u));
+    t_8m = ((((ld32((r_2w_1 + 4)) * (u32)ld8((r_2b + 1))) + (ld32(r_2w_1) * (u32)ld8(r_2b))) + (ld32((r_2w_1 + 8)) * (u32)ld8((r_2b + 2)))) + (ld32((r_2w_1 + 12)) * (u32)ld8((r_2b + 3))));
 l_capnp_q3:;
-    st32(r_bb_1, t_8m);
+    st32(r_bb, t_8m);
     r_d2 = (u64)(u8)(ctpop8(r_47) + 1u);
     r_ag = 8ull;
 l_else_rw:;
@@ -17705,7 +17780,7 @@ l_else_rw:;
 l_thread_pw:;
     r_1i_1 = (r_95 + 8ull);
     r_53_1 = (r_xg + 10ull);
-    r_6i = (u16)((u16)r_z6_1 + 65535u);
+    r_6i = (u16)((u16)r_z6 + 65535u);
     r_1f = 5u;
     r_en = 0u;
     goto l_join_iu;
@@ -17879,8 +17954,8 @@ l_join_yh:;
     goto l_common_a2;
 }
 
-/* capnp_framing::framing::segment::read_segment_into_with::<#c88b2d21daea49a4> */
-void capnp_framing_framing_segment_read_segment_into_with_c_64cba36e(u8 *a_1, u8 *a_2, u8 *a_3, u64 a_4, u8 *a_5)
+/* capnp_framing::framing::segment::read_segment_into_with::<#19875b826fd89623> */
+void capnp_framing_framing_segment_read_segment_into_with_1_428f1d9b(u8 *a_1, u8 *a_2, u8 *a_3, u64 a_4, u8 *a_5)
 {
     A(8) u8 slot_1[24];
     A(8) u8 slot_2[24];
@@ -17894,20 +17969,20 @@ void capnp_framing_framing_segment_read_segment_into_with_c_64cba36e(u8 *a_1, u8
     u64 r_lj;
     u64 r_52;
     u64 r_mj;
-    u64 r_5p_1;
+    u64 r_5p;
     u64 r_ph;
     u64 r_az;
     u64 r_5q;
     u8 *r_lz;
     u64 r_r4;
     u8 r_r5;
-    u64 r_38_2;
+    u64 r_38;
     u64 r_jw;
     u64 a_fq;
     u8 *r_2b;
     u64 r_l3;
-    u64 r_zz;
-    struct s_i8_i64 r_x7;
+    u64 r_ll;
+    struct s_i8_i64 r_rz;
     u64 r_h9;
     u64 r_8a;
     u64 r_sv;
@@ -17933,18 +18008,18 @@ l_loop_hb:;
 l_join_98:;
     r_mj = (umin64(umin64(umax64(r_lj, 4096ull), (r_4k - r_lj)), 0x40000ull) + r_lj);
     if (!(r_mj > r_52)) { r_r4 = r_52; goto l_capnp_5s; }
-    r_5p_1 = (r_mj - r_52);
+    r_5p = (r_mj - r_52);
     u64 r_52_1 = ld64(r_2g);
-    if (!(r_5p_1 > (r_52_1 - r_52))) { r_ph = r_52_1; r_az = r_52; goto l_join_kx; }
-    u8 r_hi = std_alloc_vec_Vec_grow_amortized_ffd95af9aab10bcd(r_r2, r_5p_1);
+    if (!(r_5p > (r_52_1 - r_52))) { r_ph = r_52_1; r_az = r_52; goto l_join_kx; }
+    u8 r_hi = std_alloc_vec_Vec_grow_amortized_ffd95af9aab10bcd(r_r2, r_5p);
     if (!r_hi) goto l_capnp_9v;
     r_ph = ld64(r_2g);
     r_az = ld64(r_h6);
 l_join_kx:;
-    r_5q = (r_az + r_5p_1);
+    r_5q = (r_az + r_5p);
     r_lz = ldp(r_r2);
     if (!(r_az < r_5q)) goto l_std_re;
-    memset_or_none(away(r_lz, r_az), 0u, r_5p_1);
+    memset_or_none(away(r_lz, r_az), 0u, r_5p);
 l_std_re:;
     stp(r_r2, r_lz);
     st64(r_h6, r_5q);
@@ -17956,7 +18031,7 @@ l_capnp_5s:;
 l_capnp_9v:;
     capnp_framing_framing_reading_grow_3691078bae5dd839(slot_1, a_2, r_r2);
     r_r5 = ld8(r_x5);
-    r_38_2 = ld64(r_zd);
+    r_38 = ld64(r_zd);
     if (!(ld8(slot_1) == 0u)) goto l_arm_of;
     r_jw = ld64(r_h6);
 l_arm_m6:;
@@ -17964,22 +18039,22 @@ l_arm_m6:;
     r_2b = away(ldp(r_r2), r_lj);
     r_l3 = (a_fq - r_lj);
     if (a_fq == r_lj) { r_8a = 0ull; goto l_arm_72; }
-    r_zz = 0ull;
-    goto l_join_yf;
+    r_ll = 0ull;
+    goto l_join_ap;
 l_loop_dw:;
-    u64 r_5q_1 = (r_h9 + r_zz);
-    if (r_5q_1 < r_l3) { r_zz = r_5q_1; goto l_join_yf; }
+    u64 r_5q_1 = (r_h9 + r_ll);
+    if (r_5q_1 < r_l3) { r_ll = r_5q_1; goto l_join_ap; }
     r_8a = r_5q_1;
     goto l_arm_72;
-l_join_yf:;
-    r_x7 = capnp_packing_buffered_standard_BufReaderInputInput_re_82fb4ceb(a_3, away(r_2b, r_zz), (r_l3 - r_zz));
-    if (!(r_x7.f0 == 0u)) { r_ba = 4ull; sink_ia = 0ull; goto l_arm_nd; }
-    r_h9 = r_x7.f1;
-    if (r_h9 == 0ull) { r_8a = r_zz; goto l_arm_72; }
+l_join_ap:;
+    r_rz = capnp_packing_buffered_standard_BufReaderInputInput_re_81b4ff93(a_3, away(r_2b, r_ll), (r_l3 - r_ll));
+    if (!(r_rz.f0 == 0u)) { r_ba = 4ull; sink_ia = 0ull; goto l_arm_nd; }
+    r_h9 = r_rz.f1;
+    if (r_h9 == 0ull) { r_8a = r_ll; goto l_arm_72; }
     goto l_loop_dw;
 l_arm_of:;
     r_ba = (u64)r_r5;
-    sink_ia = r_38_2;
+    sink_ia = r_38;
     goto l_arm_nd;
 l_arm_72:;
     u64 r_5q_2 = (r_8a + r_lj);
@@ -18015,11 +18090,11 @@ l_join_80:;
     memset(away(a_1, 8ull), 0u, 16);
     goto l_common_68;
 l_arm_qr:;
-    u64 r_38_4 = ld64((slot_2 + 16));
+    u64 r_38_1 = ld64((slot_2 + 16));
     u64 r_eg = (u64)ld8((slot_2 + 8));
     st8(a_1, 1u);
     st64(away(a_1, 8ull), r_eg);
-    st64(away(a_1, 16ull), r_38_4);
+    st64(away(a_1, 16ull), r_38_1);
     goto l_common_68;
 }
 
@@ -18065,8 +18140,8 @@ l_std_5v:;
     if (!(r_c4 == 4ull)) { r_hh = r_7n; r_cg = r_c4; goto l_join_ye; }
     r_7l = (u64)a_3;
     r_xz = away(a_2, 24ull);
-    u64 r_52_3 = ld64(r_rq_1);
-    if (!(ld64(away(a_5, 16ull)) == r_52_3)) { r_q1 = r_52_3; goto l_std_6g; }
+    u64 r_52 = ld64(r_rq_1);
+    if (!(ld64(away(a_5, 16ull)) == r_52)) { r_q1 = r_52; goto l_std_6g; }
     u8 r_us = std_alloc_vec_Vec_grow_amortized_5e63141f0e39c5e0(a_5);
     if (!r_us) goto l_arm_k7;
     r_q1 = ld64(r_rq_1);
@@ -18092,15 +18167,15 @@ l_arm_5h:;
     goto l_common_68;
 }
 
-/* capnp_framing::framing::reading::read_into::<#61a3388d22bc77d2> */
-void capnp_framing_framing_reading_read_into_61a3388d22bc77d2(u8 *a_1, u8 *a_2, u64 a_3, u8 *a_4)
+/* capnp_framing::framing::reading::read_into::<#5c1e7eb3de607c93> */
+void capnp_framing_framing_reading_read_into_5c1e7eb3de607c93(u8 *a_1, u8 *a_2, u64 a_3, u8 *a_4)
 {
     A(8) u8 slot_1[24];
     A(4) u8 slot_2[4];
     A(8) u8 slot_3[16];
     u8 *r_r2;
-    u64 r_ug;
-    struct s_i8_i64 r_yi;
+    u64 r_50;
+    struct s_i8_i64 r_d0;
     u64 r_h9;
     u64 r_98;
     u64 r_r5;
@@ -18120,41 +18195,41 @@ void capnp_framing_framing_reading_read_into_61a3388d22bc77d2(u8 *a_1, u8 *a_2, 
     u8 *r_lz;
     u64 r_xz_1;
     u64 a_9c;
-    u8 *r_2b_1;
+    u8 *r_2b;
     u64 r_l3;
-    u64 r_fs;
-    struct s_i8_i64 r_yi_1;
+    u64 r_j7;
+    struct s_i8_i64 r_d0_1;
     u64 r_h9_1;
     u64 r_9o;
-    u8 *r_lz_2;
+    u8 *r_lz_1;
     u8 *r_xm;
     u8 *r_su;
-    u8 *r_t9_1;
+    u8 *r_t9;
     u64 r_l5;
     u64 r_rx;
     u64 r_wy;
     u64 r_5q_3;
     u64 r_le;
-    u64 r_44_1;
+    u64 r_44;
     u8 *r_h6;
     u8 *r_2g;
     u8 *r_x5_1;
     u8 *r_zd_1;
     u64 r_lj;
-    u64 r_52_4;
+    u64 r_52_2;
     u64 r_vz;
-    u64 r_e9_2;
+    u64 r_e9;
     u64 r_ph_1;
     u64 r_az_1;
     u64 r_5q_4;
-    u8 *r_lz_4;
+    u8 *r_lz_2;
     u64 r_r4;
     u64 r_dv;
     u64 a_9c_1;
-    u8 *r_2b_3;
+    u8 *r_2b_1;
     u64 r_0j;
-    u64 r_fs_1;
-    struct s_i8_i64 r_yi_2;
+    u64 r_j7_1;
+    struct s_i8_i64 r_d0_2;
     u64 r_h9_2;
     u64 r_9o_1;
     u8 r_b4;
@@ -18165,18 +18240,18 @@ void capnp_framing_framing_reading_read_into_61a3388d22bc77d2(u8 *a_1, u8 *a_2, 
     memset(slot_3, 0u, 16);
     st64(a_4, 0ull);
     st32(slot_2, 0u);
-    r_ug = 0ull;
-    goto l_join_xa;
+    r_50 = 0ull;
+    goto l_join_4v;
 l_loop_yc:;
-    u64 r_5q = (r_h9 + r_ug);
-    if (r_5q < 4ull) { r_ug = r_5q; goto l_join_xa; }
+    u64 r_5q = (r_h9 + r_50);
+    if (r_5q < 4ull) { r_50 = r_5q; goto l_join_4v; }
     r_98 = r_5q;
     goto l_arm_94;
-l_join_xa:;
-    r_yi = capnp_packing_buffered_standard_BufReaderInputInput_re_82fb4ceb(a_2, away(slot_2, r_ug), (4ull - r_ug));
-    if (!(r_yi.f0 == 0u)) { r_b4 = 1u; r_e6 = 0u; r_dt = 4u; r_83 = 0ull; goto l_capnp_oq; }
-    r_h9 = r_yi.f1;
-    if (r_h9 == 0ull) { r_98 = r_ug; goto l_arm_94; }
+l_join_4v:;
+    r_d0 = capnp_packing_buffered_standard_BufReaderInputInput_re_81b4ff93(a_2, away(slot_2, r_50), (4ull - r_50));
+    if (!(r_d0.f0 == 0u)) { r_b4 = 1u; r_e6 = 0u; r_dt = 4u; r_83 = 0ull; goto l_capnp_oq; }
+    r_h9 = r_d0.f1;
+    if (r_h9 == 0ull) { r_98 = r_50; goto l_arm_94; }
     goto l_loop_yc;
 l_arm_94:;
     switch (r_98) {
@@ -18237,21 +18312,21 @@ l_capnp_pn:;
     r_xz_1 = ld64(r_08);
 l_arm_gi:;
     a_9c = umin64(r_xz_1, r_lc);
-    r_2b_1 = away(ldp(r_rq), r_09);
+    r_2b = away(ldp(r_rq), r_09);
     r_l3 = (a_9c - r_09);
     if (a_9c == r_09) { r_9o = 0ull; goto l_capnp_ud; }
-    r_fs = 0ull;
-    goto l_join_0m;
+    r_j7 = 0ull;
+    goto l_join_r2;
 l_loop_lw:;
-    u64 r_5q_2 = (r_h9_1 + r_fs);
-    if (r_5q_2 < r_l3) { r_fs = r_5q_2; goto l_join_0m; }
+    u64 r_5q_2 = (r_h9_1 + r_j7);
+    if (r_5q_2 < r_l3) { r_j7 = r_5q_2; goto l_join_r2; }
     r_9o = r_5q_2;
     goto l_capnp_ud;
-l_join_0m:;
-    r_yi_1 = capnp_packing_buffered_standard_BufReaderInputInput_re_82fb4ceb(a_2, away(r_2b_1, r_fs), (r_l3 - r_fs));
-    if (!(r_yi_1.f0 == 0u)) { r_b4 = 1u; r_e6 = 0u; r_dt = 4u; r_83 = 0ull; goto l_capnp_oq; }
-    r_h9_1 = r_yi_1.f1;
-    if (r_h9_1 == 0ull) { r_9o = r_fs; goto l_capnp_ud; }
+l_join_r2:;
+    r_d0_1 = capnp_packing_buffered_standard_BufReaderInputInput_re_81b4ff93(a_2, away(r_2b, r_j7), (r_l3 - r_j7));
+    if (!(r_d0_1.f0 == 0u)) { r_b4 = 1u; r_e6 = 0u; r_dt = 4u; r_83 = 0ull; goto l_capnp_oq; }
+    r_h9_1 = r_d0_1.f1;
+    if (r_h9_1 == 0ull) { r_9o = r_j7; goto l_capnp_ud; }
     goto l_loop_lw;
 l_capnp_ud:;
     if (r_9o == r_l3) { r_09 = a_9c; goto l_loop_t9; }
@@ -18261,19 +18336,19 @@ l_capnp_ud:;
     r_83 = 0ull;
     goto l_capnp_oq;
 l_arm_9w:;
-    r_lz_2 = ldp(r_rq);
+    r_lz_1 = ldp(r_rq);
     r_xm = away(a_4, 32ull);
     r_su = away(a_4, 40ull);
     if (ld64(r_su) == 0ull) goto l_join_mh;
     st64(r_su, 0ull);
 l_join_mh:;
-    r_t9_1 = away(a_4, 48ull);
+    r_t9 = away(a_4, 48ull);
     r_l5 = 0ull;
     r_rx = 0ull;
     r_wy = 0ull;
 l_join_rl:;
-    r_5q_3 = (r_rx + (u64)ld32((r_lz_2 + (i64)((u64)(r_wy << 2ull)))));
-    if (!(ld64(r_t9_1) == r_l5)) { r_le = r_l5; goto l_std_28; }
+    r_5q_3 = (r_rx + (u64)ld32((r_lz_1 + (i64)((u64)(r_wy << 2ull)))));
+    if (!(ld64(r_t9) == r_l5)) { r_le = r_l5; goto l_std_28; }
     u8 r_db = std_alloc_vec_Vec_grow_amortized_5e63141f0e39c5e0(r_xm);
     if (!r_db) { r_b4 = 1u; r_e6 = 0u; r_dt = 6u; r_83 = 0ull; goto l_capnp_oq; }
     r_le = ld64(r_su);
@@ -18283,41 +18358,41 @@ l_std_28:;
     st64(r_su, r_7n);
     if (!(r_wy == r_r5)) { u64 r_1 = r_7n; u64 r_2 = r_5q_3; u64 r_3 = (r_wy + 1ull); r_l5 = r_1; r_rx = r_2; r_wy = r_3; goto l_join_rl; }
     if (a_3 < r_5q_3) { r_b4 = 1u; r_e6 = 0u; r_dt = 2u; r_83 = r_5q_3; goto l_capnp_oq; }
-    r_44_1 = (u64)(r_5q_3 << 3ull);
+    r_44 = (u64)(r_5q_3 << 3ull);
     r_h6 = away(a_4, 64ull);
     r_2g = away(a_4, 72ull);
     r_x5_1 = (slot_1 + 8);
     r_zd_1 = (slot_1 + 16);
     r_lj = 0ull;
 l_loop_hb:;
-    if (!(r_lj < r_44_1)) goto l_arm_hg;
+    if (!(r_lj < r_44)) goto l_arm_hg;
     memset(slot_1, 0u, 24);
-    r_52_4 = ld64(r_h6);
-    if (!(r_lj < r_52_4)) goto l_join_c5;
-    r_dv = r_52_4;
+    r_52_2 = ld64(r_h6);
+    if (!(r_lj < r_52_2)) goto l_join_c5;
+    r_dv = r_52_2;
     goto l_arm_df;
 l_join_c5:;
-    r_vz = (umin64((r_44_1 - r_lj), 0x40000ull) + r_lj);
-    if (r_vz > r_52_4) goto l_join_q6;
-    if (!(r_52_4 > r_vz)) { r_r4 = r_52_4; goto l_capnp_5s; }
+    r_vz = (umin64((r_44 - r_lj), 0x40000ull) + r_lj);
+    if (r_vz > r_52_2) goto l_join_q6;
+    if (!(r_52_2 > r_vz)) { r_r4 = r_52_2; goto l_capnp_5s; }
     st64(r_h6, r_vz);
     r_r4 = r_vz;
     goto l_capnp_5s;
 l_join_q6:;
-    r_e9_2 = (r_vz - r_52_4);
-    u64 r_52_5 = ld64(r_2g);
-    if (!(r_e9_2 > (r_52_5 - r_52_4))) { r_ph_1 = r_52_5; r_az_1 = r_52_4; goto l_join_kx_1; }
-    u8 r_qy_1 = std_alloc_vec_Vec_grow_amortized_ffd95af9aab10bcd(r_r2, r_e9_2);
+    r_e9 = (r_vz - r_52_2);
+    u64 r_52_3 = ld64(r_2g);
+    if (!(r_e9 > (r_52_3 - r_52_2))) { r_ph_1 = r_52_3; r_az_1 = r_52_2; goto l_join_kx_1; }
+    u8 r_qy_1 = std_alloc_vec_Vec_grow_amortized_ffd95af9aab10bcd(r_r2, r_e9);
     if (!r_qy_1) goto l_capnp_pn_1;
     r_ph_1 = ld64(r_2g);
     r_az_1 = ld64(r_h6);
 l_join_kx_1:;
-    r_5q_4 = (r_az_1 + r_e9_2);
-    r_lz_4 = ldp(r_r2);
+    r_5q_4 = (r_az_1 + r_e9);
+    r_lz_2 = ldp(r_r2);
     if (!(r_az_1 < r_5q_4)) goto l_std_re;
-    memset_or_none(away(r_lz_4, r_az_1), 0u, r_e9_2);
+    memset_or_none(away(r_lz_2, r_az_1), 0u, r_e9);
 l_std_re:;
-    stp(r_r2, r_lz_4);
+    stp(r_r2, r_lz_2);
     st64(r_h6, r_5q_4);
     st64(r_2g, r_ph_1);
     r_r4 = r_5q_4;
@@ -18329,22 +18404,22 @@ l_capnp_pn_1:;
     if (!(ld8(slot_1) == 0u)) { r_b4 = 1u; r_e6 = 0u; r_dt = ld8(r_x5_1); r_83 = ld64(r_zd_1); goto l_capnp_oq; }
     r_dv = ld64(r_h6);
 l_arm_df:;
-    a_9c_1 = umin64(r_dv, r_44_1);
-    r_2b_3 = away(ldp(r_r2), r_lj);
+    a_9c_1 = umin64(r_dv, r_44);
+    r_2b_1 = away(ldp(r_r2), r_lj);
     r_0j = (a_9c_1 - r_lj);
     if (a_9c_1 == r_lj) { r_9o_1 = 0ull; goto l_capnp_ud_1; }
-    r_fs_1 = 0ull;
-    goto l_join_0m_1;
+    r_j7_1 = 0ull;
+    goto l_join_r2_1;
 l_loop_lw_1:;
-    u64 r_5q_5 = (r_h9_2 + r_fs_1);
-    if (r_5q_5 < r_0j) { r_fs_1 = r_5q_5; goto l_join_0m_1; }
+    u64 r_5q_5 = (r_h9_2 + r_j7_1);
+    if (r_5q_5 < r_0j) { r_j7_1 = r_5q_5; goto l_join_r2_1; }
     r_9o_1 = r_5q_5;
     goto l_capnp_ud_1;
-l_join_0m_1:;
-    r_yi_2 = capnp_packing_buffered_standard_BufReaderInputInput_re_82fb4ceb(a_2, away(r_2b_3, r_fs_1), (r_0j - r_fs_1));
-    if (!(r_yi_2.f0 == 0u)) { r_b4 = 1u; r_e6 = 0u; r_dt = 4u; r_83 = 0ull; goto l_capnp_oq; }
-    r_h9_2 = r_yi_2.f1;
-    if (r_h9_2 == 0ull) { r_9o_1 = r_fs_1; goto l_capnp_ud_1; }
+l_join_r2_1:;
+    r_d0_2 = capnp_packing_buffered_standard_BufReaderInputInput_re_81b4ff93(a_2, away(r_2b_1, r_j7_1), (r_0j - r_j7_1));
+    if (!(r_d0_2.f0 == 0u)) { r_b4 = 1u; r_e6 = 0u; r_dt = 4u; r_83 = 0ull; goto l_capnp_oq; }
+    r_h9_2 = r_d0_2.f1;
+    if (r_h9_2 == 0ull) { r_9o_1 = r_j7_1; goto l_capnp_ud_1; }
     goto l_loop_lw_1;
 l_capnp_ud_1:;
     if (r_9o_1 == r_0j) { r_lj = a_9c_1; goto l_loop_hb; }
@@ -18368,14 +18443,14 @@ l_capnp_oq:;
 }
 
 /* capnp_framing::framing::reading::grow::<#7f7dbdafe4478eeb> */
-static NEVER COLD void capnp_framing_framing_reading_grow_7f7dbdafe4478eeb(u8 *a_1, u8 *a_2, u8 *a_3)
+NEVER COLD void capnp_framing_framing_reading_grow_7f7dbdafe4478eeb(u8 *a_1, u8 *a_2, u8 *a_3)
 {
     u8 *r_rq;
     u8 *r_08;
     u8 *r_rq_1;
     u64 r_vp;
     u64 r_7n;
-    u64 r_52_2;
+    u64 r_52_1;
     r_rq = away(a_2, 8ull);
     r_08 = away(a_3, 16ull);
     r_rq_1 = away(a_3, 8ull);
@@ -18388,8 +18463,8 @@ l_std_bs:;
     st8((ldp(a_3) + (i64)(r_vp)), 0u);
     r_7n = (r_vp + 1ull);
     st64(r_rq_1, r_7n);
-    r_52_2 = ld64(r_08);
-    if (r_52_2 > r_7n) goto l_join_re;
+    r_52_1 = ld64(r_08);
+    if (r_52_1 > r_7n) goto l_join_re;
     goto l_then_z5;
 l_arm_k7:;
     st64(r_rq, uadd_sat64(ld64(r_rq), 1ull));
@@ -18399,15 +18474,15 @@ l_arm_k7:;
 l_common_68:;
     return;
 l_then_z5:;
-    if (!(r_7n > r_52_2)) goto l_std_k2;
-    st64(r_rq_1, r_52_2);
+    if (!(r_7n > r_52_1)) goto l_std_k2;
+    st64(r_rq_1, r_52_1);
     goto l_std_k2;
 l_join_re:;
-    u8 *r_fx_1 = ldp(a_3);
-    memset_or_none(away(r_fx_1, r_7n), 0u, (r_52_2 - r_7n));
-    stp(a_3, r_fx_1);
-    st64(r_rq_1, r_52_2);
-    st64(r_08, r_52_2);
+    u8 *r_fx = ldp(a_3);
+    memset_or_none(away(r_fx, r_7n), 0u, (r_52_1 - r_7n));
+    stp(a_3, r_fx);
+    st64(r_rq_1, r_52_1);
+    st64(r_08, r_52_1);
 l_std_k2:;
     st8(a_1, 0u);
     memset(away(a_1, 8ull), 0u, 16);
@@ -18494,15 +18569,15 @@ l_arm_m7:;
     goto l_common_57;
 }
 
-/* capnp_framing::framing::reading::read_into::<#628cbfaff155ed13> */
-void capnp_framing_framing_reading_read_into_628cbfaff155ed13(u8 *a_1, u8 *a_2, u64 a_3, u8 *a_4)
+/* capnp_framing::framing::reading::read_into::<#769bb4569b8d536c> */
+void capnp_framing_framing_reading_read_into_769bb4569b8d536c(u8 *a_1, u8 *a_2, u64 a_3, u8 *a_4)
 {
     A(8) u8 slot_1[24];
     A(4) u8 slot_2[4];
     A(8) u8 slot_3[16];
     u8 *r_r2;
-    u64 r_r1;
-    struct s_i8_i64 r_zg;
+    u64 r_0k;
+    struct s_i8_i64 r_cb;
     u64 r_h9;
     u64 r_98;
     u64 r_r5;
@@ -18522,41 +18597,41 @@ void capnp_framing_framing_reading_read_into_628cbfaff155ed13(u8 *a_1, u8 *a_2, 
     u8 *r_lz;
     u64 r_xz_1;
     u64 a_9c;
-    u8 *r_2b_1;
+    u8 *r_2b;
     u64 r_l3;
-    u64 r_ms;
-    struct s_i8_i64 r_zg_1;
+    u64 r_9w;
+    struct s_i8_i64 r_cb_1;
     u64 r_h9_1;
     u64 r_9o;
-    u8 *r_lz_2;
+    u8 *r_lz_1;
     u8 *r_xm;
     u8 *r_su;
-    u8 *r_t9_1;
+    u8 *r_t9;
     u64 r_l5;
     u64 r_rx;
     u64 r_wy;
     u64 r_5q_3;
     u64 r_le;
-    u64 r_44_1;
+    u64 r_44;
     u8 *r_h6;
     u8 *r_2g;
     u8 *r_x5_1;
     u8 *r_zd_1;
     u64 r_lj;
-    u64 r_52_4;
+    u64 r_52_2;
     u64 r_vz;
-    u64 r_e9_2;
+    u64 r_e9;
     u64 r_ph_1;
     u64 r_az_1;
     u64 r_5q_4;
-    u8 *r_lz_4;
+    u8 *r_lz_2;
     u64 r_r4;
     u64 r_dv;
     u64 a_9c_1;
-    u8 *r_2b_3;
+    u8 *r_2b_1;
     u64 r_0j;
-    u64 r_ms_1;
-    struct s_i8_i64 r_zg_2;
+    u64 r_9w_1;
+    struct s_i8_i64 r_cb_2;
     u64 r_h9_2;
     u64 r_9o_1;
     u8 r_b4;
@@ -18567,18 +18642,18 @@ void capnp_framing_framing_reading_read_into_628cbfaff155ed13(u8 *a_1, u8 *a_2, 
     memset(slot_3, 0u, 16);
     st64(a_4, 0ull);
     st32(slot_2, 0u);
-    r_r1 = 0ull;
-    goto l_join_8m;
+    r_0k = 0ull;
+    goto l_join_8e;
 l_loop_yc:;
-    u64 r_5q = (r_h9 + r_r1);
-    if (r_5q < 4ull) { r_r1 = r_5q; goto l_join_8m; }
+    u64 r_5q = (r_h9 + r_0k);
+    if (r_5q < 4ull) { r_0k = r_5q; goto l_join_8e; }
     r_98 = r_5q;
     goto l_arm_94;
-l_join_8m:;
-    r_zg = capnp_packing_packing_unpacking_input_UnpackingInput_u_72a9f082(a_2, away(slot_2, r_r1), (4ull - r_r1));
-    if (!(r_zg.f0 == 0u)) { r_b4 = 1u; r_e6 = 0u; r_dt = 4u; r_83 = 0ull; goto l_capnp_oq; }
-    r_h9 = r_zg.f1;
-    if (r_h9 == 0ull) { r_98 = r_r1; goto l_arm_94; }
+l_join_8e:;
+    r_cb = capnp_packing_packing_unpacking_input_UnpackingInput_u_1b6843d3(a_2, away(slot_2, r_0k), (4ull - r_0k));
+    if (!(r_cb.f0 == 0u)) { r_b4 = 1u; r_e6 = 0u; r_dt = 4u; r_83 = 0ull; goto l_capnp_oq; }
+    r_h9 = r_cb.f1;
+    if (r_h9 == 0ull) { r_98 = r_0k; goto l_arm_94; }
     goto l_loop_yc;
 l_arm_94:;
     switch (r_98) {
@@ -18639,21 +18714,21 @@ l_capnp_pn:;
     r_xz_1 = ld64(r_08);
 l_arm_gi:;
     a_9c = umin64(r_xz_1, r_lc);
-    r_2b_1 = away(ldp(r_rq), r_09);
+    r_2b = away(ldp(r_rq), r_09);
     r_l3 = (a_9c - r_09);
     if (a_9c == r_09) { r_9o = 0ull; goto l_capnp_ud; }
-    r_ms = 0ull;
-    goto l_join_3s;
+    r_9w = 0ull;
+    goto l_join_hf;
 l_loop_lw:;
-    u64 r_5q_2 = (r_h9_1 + r_ms);
-    if (r_5q_2 < r_l3) { r_ms = r_5q_2; goto l_join_3s; }
+    u64 r_5q_2 = (r_h9_1 + r_9w);
+    if (r_5q_2 < r_l3) { r_9w = r_5q_2; goto l_join_hf; }
     r_9o = r_5q_2;
     goto l_capnp_ud;
-l_join_3s:;
-    r_zg_1 = capnp_packing_packing_unpacking_input_UnpackingInput_u_72a9f082(a_2, away(r_2b_1, r_ms), (r_l3 - r_ms));
-    if (!(r_zg_1.f0 == 0u)) { r_b4 = 1u; r_e6 = 0u; r_dt = 4u; r_83 = 0ull; goto l_capnp_oq; }
-    r_h9_1 = r_zg_1.f1;
-    if (r_h9_1 == 0ull) { r_9o = r_ms; goto l_capnp_ud; }
+l_join_hf:;
+    r_cb_1 = capnp_packing_packing_unpacking_input_UnpackingInput_u_1b6843d3(a_2, away(r_2b, r_9w), (r_l3 - r_9w));
+    if (!(r_cb_1.f0 == 0u)) { r_b4 = 1u; r_e6 = 0u; r_dt = 4u; r_83 = 0ull; goto l_capnp_oq; }
+    r_h9_1 = r_cb_1.f1;
+    if (r_h9_1 == 0ull) { r_9o = r_9w; goto l_capnp_ud; }
     goto l_loop_lw;
 l_capnp_ud:;
     if (r_9o == r_l3) { r_09 = a_9c; goto l_loop_t9; }
@@ -18663,19 +18738,19 @@ l_capnp_ud:;
     r_83 = 0ull;
     goto l_capnp_oq;
 l_arm_9w:;
-    r_lz_2 = ldp(r_rq);
+    r_lz_1 = ldp(r_rq);
     r_xm = away(a_4, 32ull);
     r_su = away(a_4, 40ull);
     if (ld64(r_su) == 0ull) goto l_join_mh;
     st64(r_su, 0ull);
 l_join_mh:;
-    r_t9_1 = away(a_4, 48ull);
+    r_t9 = away(a_4, 48ull);
     r_l5 = 0ull;
     r_rx = 0ull;
     r_wy = 0ull;
 l_join_rl:;
-    r_5q_3 = (r_rx + (u64)ld32((r_lz_2 + (i64)((u64)(r_wy << 2ull)))));
-    if (!(ld64(r_t9_1) == r_l5)) { r_le = r_l5; goto l_std_28; }
+    r_5q_3 = (r_rx + (u64)ld32((r_lz_1 + (i64)((u64)(r_wy << 2ull)))));
+    if (!(ld64(r_t9) == r_l5)) { r_le = r_l5; goto l_std_28; }
     u8 r_db = std_alloc_vec_Vec_grow_amortized_5e63141f0e39c5e0(r_xm);
     if (!r_db) { r_b4 = 1u; r_e6 = 0u; r_dt = 6u; r_83 = 0ull; goto l_capnp_oq; }
     r_le = ld64(r_su);
@@ -18685,41 +18760,41 @@ l_std_28:;
     st64(r_su, r_7n);
     if (!(r_wy == r_r5)) { u64 r_1 = r_7n; u64 r_2 = r_5q_3; u64 r_3 = (r_wy + 1ull); r_l5 = r_1; r_rx = r_2; r_wy = r_3; goto l_join_rl; }
     if (a_3 < r_5q_3) { r_b4 = 1u; r_e6 = 0u; r_dt = 2u; r_83 = r_5q_3; goto l_capnp_oq; }
-    r_44_1 = (u64)(r_5q_3 << 3ull);
+    r_44 = (u64)(r_5q_3 << 3ull);
     r_h6 = away(a_4, 64ull);
     r_2g = away(a_4, 72ull);
     r_x5_1 = (slot_1 + 8);
     r_zd_1 = (slot_1 + 16);
     r_lj = 0ull;
 l_loop_hb:;
-    if (!(r_lj < r_44_1)) goto l_arm_hg;
+    if (!(r_lj < r_44)) goto l_arm_hg;
     memset(slot_1, 0u, 24);
-    r_52_4 = ld64(r_h6);
-    if (!(r_lj < r_52_4)) goto l_join_c5;
-    r_dv = r_52_4;
+    r_52_2 = ld64(r_h6);
+    if (!(r_lj < r_52_2)) goto l_join_c5;
+    r_dv = r_52_2;
     goto l_arm_df;
 l_join_c5:;
-    r_vz = (umin64((r_44_1 - r_lj), 0x40000ull) + r_lj);
-    if (r_vz > r_52_4) goto l_join_q6;
-    if (!(r_52_4 > r_vz)) { r_r4 = r_52_4; goto l_capnp_5s; }
+    r_vz = (umin64((r_44 - r_lj), 0x40000ull) + r_lj);
+    if (r_vz > r_52_2) goto l_join_q6;
+    if (!(r_52_2 > r_vz)) { r_r4 = r_52_2; goto l_capnp_5s; }
     st64(r_h6, r_vz);
     r_r4 = r_vz;
     goto l_capnp_5s;
 l_join_q6:;
-    r_e9_2 = (r_vz - r_52_4);
-    u64 r_52_5 = ld64(r_2g);
-    if (!(r_e9_2 > (r_52_5 - r_52_4))) { r_ph_1 = r_52_5; r_az_1 = r_52_4; goto l_join_kx_1; }
-    u8 r_qy_1 = std_alloc_vec_Vec_grow_amortized_ffd95af9aab10bcd(r_r2, r_e9_2);
+    r_e9 = (r_vz - r_52_2);
+    u64 r_52_3 = ld64(r_2g);
+    if (!(r_e9 > (r_52_3 - r_52_2))) { r_ph_1 = r_52_3; r_az_1 = r_52_2; goto l_join_kx_1; }
+    u8 r_qy_1 = std_alloc_vec_Vec_grow_amortized_ffd95af9aab10bcd(r_r2, r_e9);
     if (!r_qy_1) goto l_capnp_pn_1;
     r_ph_1 = ld64(r_2g);
     r_az_1 = ld64(r_h6);
 l_join_kx_1:;
-    r_5q_4 = (r_az_1 + r_e9_2);
-    r_lz_4 = ldp(r_r2);
+    r_5q_4 = (r_az_1 + r_e9);
+    r_lz_2 = ldp(r_r2);
     if (!(r_az_1 < r_5q_4)) goto l_std_re;
-    memset_or_none(away(r_lz_4, r_az_1), 0u, r_e9_2);
+    memset_or_none(away(r_lz_2, r_az_1), 0u, r_e9);
 l_std_re:;
-    stp(r_r2, r_lz_4);
+    stp(r_r2, r_lz_2);
     st64(r_h6, r_5q_4);
     st64(r_2g, r_ph_1);
     r_r4 = r_5q_4;
@@ -18731,22 +18806,22 @@ l_capnp_pn_1:;
     if (!(ld8(slot_1) == 0u)) { r_b4 = 1u; r_e6 = 0u; r_dt = ld8(r_x5_1); r_83 = ld64(r_zd_1); goto l_capnp_oq; }
     r_dv = ld64(r_h6);
 l_arm_df:;
-    a_9c_1 = umin64(r_dv, r_44_1);
-    r_2b_3 = away(ldp(r_r2), r_lj);
+    a_9c_1 = umin64(r_dv, r_44);
+    r_2b_1 = away(ldp(r_r2), r_lj);
     r_0j = (a_9c_1 - r_lj);
     if (a_9c_1 == r_lj) { r_9o_1 = 0ull; goto l_capnp_ud_1; }
-    r_ms_1 = 0ull;
-    goto l_join_3s_1;
+    r_9w_1 = 0ull;
+    goto l_join_hf_1;
 l_loop_lw_1:;
-    u64 r_5q_5 = (r_h9_2 + r_ms_1);
-    if (r_5q_5 < r_0j) { r_ms_1 = r_5q_5; goto l_join_3s_1; }
+    u64 r_5q_5 = (r_h9_2 + r_9w_1);
+    if (r_5q_5 < r_0j) { r_9w_1 = r_5q_5; goto l_join_hf_1; }
     r_9o_1 = r_5q_5;
     goto l_capnp_ud_1;
-l_join_3s_1:;
-    r_zg_2 = capnp_packing_packing_unpacking_input_UnpackingInput_u_72a9f082(a_2, away(r_2b_3, r_ms_1), (r_0j - r_ms_1));
-    if (!(r_zg_2.f0 == 0u)) { r_b4 = 1u; r_e6 = 0u; r_dt = 4u; r_83 = 0ull; goto l_capnp_oq; }
-    r_h9_2 = r_zg_2.f1;
-    if (r_h9_2 == 0ull) { r_9o_1 = r_ms_1; goto l_capnp_ud_1; }
+l_join_hf_1:;
+    r_cb_2 = capnp_packing_packing_unpacking_input_UnpackingInput_u_1b6843d3(a_2, away(r_2b_1, r_9w_1), (r_0j - r_9w_1));
+    if (!(r_cb_2.f0 == 0u)) { r_b4 = 1u; r_e6 = 0u; r_dt = 4u; r_83 = 0ull; goto l_capnp_oq; }
+    r_h9_2 = r_cb_2.f1;
+    if (r_h9_2 == 0ull) { r_9o_1 = r_9w_1; goto l_capnp_ud_1; }
     goto l_loop_lw_1;
 l_capnp_ud_1:;
     if (r_9o_1 == r_0j) { r_lj = a_9c_1; goto l_loop_hb; }
@@ -18769,8 +18844,8 @@ l_capnp_oq:;
     return;
 }
 
-/* capnp_framing::framing::segment::read_segment_into::<#61a3388d22bc77d2> */
-void capnp_framing_framing_segment_read_segment_into_61a338_7308874a(u8 *a_1, u8 *a_2, u64 a_3, u8 *a_4)
+/* capnp_framing::framing::segment::read_segment_into::<#5c1e7eb3de607c93> */
+void capnp_framing_framing_segment_read_segment_into_5c1e7e_e31dbfcd(u8 *a_1, u8 *a_2, u64 a_3, u8 *a_4)
 {
     A(8) u8 slot_1[24];
     A(8) u8 slot_2[16];
@@ -18784,20 +18859,20 @@ void capnp_framing_framing_segment_read_segment_into_61a338_7308874a(u8 *a_1, u8
     u64 r_lj;
     u64 r_52;
     u64 r_mj;
-    u64 r_5p_1;
+    u64 r_5p;
     u64 r_ph;
     u64 r_az;
     u64 r_5q;
     u8 *r_lz;
     u64 r_r4;
     u8 r_r5;
-    u64 r_38_2;
+    u64 r_38;
     u64 r_jw;
     u64 a_fq;
     u8 *r_2b;
     u64 r_l3;
-    u64 r_zz;
-    struct s_i8_i64 r_x7;
+    u64 r_ll;
+    struct s_i8_i64 r_rz;
     u64 r_h9;
     u64 r_8a;
     u64 r_sv;
@@ -18837,18 +18912,18 @@ l_loop_hb:;
 l_join_98:;
     r_mj = (umin64(umin64(umax64(r_lj, 4096ull), (r_4k - r_lj)), 0x40000ull) + r_lj);
     if (!(r_mj > r_52)) { r_r4 = r_52; goto l_capnp_5s; }
-    r_5p_1 = (r_mj - r_52);
+    r_5p = (r_mj - r_52);
     u64 r_52_1 = ld64(r_2g);
-    if (!(r_5p_1 > (r_52_1 - r_52))) { r_ph = r_52_1; r_az = r_52; goto l_join_kx; }
-    u8 r_hi = std_alloc_vec_Vec_grow_amortized_ffd95af9aab10bcd(r_r2, r_5p_1);
+    if (!(r_5p > (r_52_1 - r_52))) { r_ph = r_52_1; r_az = r_52; goto l_join_kx; }
+    u8 r_hi = std_alloc_vec_Vec_grow_amortized_ffd95af9aab10bcd(r_r2, r_5p);
     if (!r_hi) goto l_capnp_pn;
     r_ph = ld64(r_2g);
     r_az = ld64(r_h6);
 l_join_kx:;
-    r_5q = (r_az + r_5p_1);
+    r_5q = (r_az + r_5p);
     r_lz = ldp(r_r2);
     if (!(r_az < r_5q)) goto l_std_re;
-    memset_or_none(away(r_lz, r_az), 0u, r_5p_1);
+    memset_or_none(away(r_lz, r_az), 0u, r_5p);
 l_std_re:;
     stp(r_r2, r_lz);
     st64(r_h6, r_5q);
@@ -18860,7 +18935,7 @@ l_capnp_5s:;
 l_capnp_pn:;
     capnp_framing_framing_reading_grow_7f7dbdafe4478eeb(slot_1, slot_2, r_r2);
     r_r5 = ld8(r_x5);
-    r_38_2 = ld64(r_zd);
+    r_38 = ld64(r_zd);
     if (!(ld8(slot_1) == 0u)) goto l_arm_3n;
     r_jw = ld64(r_h6);
 l_arm_m6:;
@@ -18868,23 +18943,23 @@ l_arm_m6:;
     r_2b = away(ldp(r_r2), r_lj);
     r_l3 = (a_fq - r_lj);
     if (a_fq == r_lj) { r_8a = 0ull; goto l_arm_72; }
-    r_zz = 0ull;
-    goto l_join_yf;
+    r_ll = 0ull;
+    goto l_join_ap;
 l_loop_dw:;
-    u64 r_5q_1 = (r_h9 + r_zz);
-    if (r_5q_1 < r_l3) { r_zz = r_5q_1; goto l_join_yf; }
+    u64 r_5q_1 = (r_h9 + r_ll);
+    if (r_5q_1 < r_l3) { r_ll = r_5q_1; goto l_join_ap; }
     r_8a = r_5q_1;
     goto l_arm_72;
-l_join_yf:;
-    r_x7 = capnp_packing_buffered_standard_BufReaderInputInput_re_82fb4ceb(a_2, away(r_2b, r_zz), (r_l3 - r_zz));
-    if (!(r_x7.f0 == 0u)) { r_9k = 1u; r_ni = 4ull; r_it = 0ull; goto l_capnp_4l; }
-    r_h9 = r_x7.f1;
-    if (r_h9 == 0ull) { r_8a = r_zz; goto l_arm_72; }
+l_join_ap:;
+    r_rz = capnp_packing_buffered_standard_BufReaderInputInput_re_81b4ff93(a_2, away(r_2b, r_ll), (r_l3 - r_ll));
+    if (!(r_rz.f0 == 0u)) { r_9k = 1u; r_ni = 4ull; r_it = 0ull; goto l_capnp_4l; }
+    r_h9 = r_rz.f1;
+    if (r_h9 == 0ull) { r_8a = r_ll; goto l_arm_72; }
     goto l_loop_dw;
 l_arm_3n:;
     r_9k = 1u;
     r_ni = (u64)r_r5;
-    r_it = r_38_2;
+    r_it = r_38;
     goto l_capnp_4l;
 l_arm_72:;
     u64 r_5q_2 = (r_8a + r_lj);
@@ -18928,8 +19003,8 @@ l_std_dy:;
     u64 r_c4 = (r_cg + 1ull);
     if (!(r_c4 == 4ull)) { r_hh = r_7n; r_cg = r_c4; goto l_join_ye; }
     r_nb = (r_oz & 0xffffffffull);
-    u64 r_52_5 = ld64(r_su);
-    if (!(ld64(away(a_4, 48ull)) == r_52_5)) { r_le = r_52_5; goto l_arm_28; }
+    u64 r_52_2 = ld64(r_su);
+    if (!(ld64(away(a_4, 48ull)) == r_52_2)) { r_le = r_52_2; goto l_arm_28; }
     u8 r_b8 = std_alloc_vec_Vec_grow_amortized_5e63141f0e39c5e0(r_xm);
     if (!r_b8) goto l_arm_8g;
     r_le = ld64(r_su);
@@ -18952,13 +19027,13 @@ l_capnp_4l:;
     return;
 }
 
-/* capnp_framing::framing::reading::read_into_with::<#6adaf98ab65c09bc> */
-void capnp_framing_framing_reading_read_into_with_6adaf98ab65c09bc(u8 *a_1, u8 *a_2, u8 *a_3, u64 a_4, u8 *a_5)
+/* capnp_framing::framing::reading::read_into_with::<#4842b3102269fb09> */
+void capnp_framing_framing_reading_read_into_with_4842b3102269fb09(u8 *a_1, u8 *a_2, u8 *a_3, u64 a_4, u8 *a_5)
 {
     A(8) u8 slot_1[24];
     A(4) u8 slot_2[4];
-    u64 r_r3;
-    struct s_i8_i64 r_cf;
+    u64 r_u8;
+    struct s_i8_i64 r_67;
     u64 r_h9;
     u64 r_vv;
     u64 r_r5;
@@ -18966,8 +19041,8 @@ void capnp_framing_framing_reading_read_into_with_6adaf98ab65c09bc(u8 *a_1, u8 *
     u64 r_7e;
     u64 r_ix;
     u64 r_lc;
-    u8 *r_rq_1;
-    u8 *r_08_1;
+    u8 *r_rq;
+    u8 *r_08;
     u8 *r_xz;
     u8 *r_x5;
     u8 *r_zd;
@@ -18979,19 +19054,19 @@ void capnp_framing_framing_reading_read_into_with_6adaf98ab65c09bc(u8 *a_1, u8 *
     u64 r_5q_1;
     u8 *r_lz;
     u8 r_r5_1;
-    u64 r_38_2;
+    u64 r_38;
     u64 r_xz_1;
     u64 a_9c;
-    u8 *r_2b_1;
+    u8 *r_2b;
     u64 r_l3;
-    u64 r_1v;
-    struct s_i8_i64 r_cf_1;
+    u64 r_1y;
+    struct s_i8_i64 r_67_1;
     u64 r_h9_1;
     u64 r_8h;
-    u8 *r_lz_2;
+    u8 *r_lz_1;
     u8 *r_xm;
     u8 *r_su;
-    u8 *r_t9_1;
+    u8 *r_t9;
     u64 r_l5;
     u64 r_rx;
     u64 r_wy;
@@ -19000,46 +19075,46 @@ void capnp_framing_framing_reading_read_into_with_6adaf98ab65c09bc(u8 *a_1, u8 *
     u64 r_7e_1;
     u64 r_ix_1;
     u8 *r_r2;
-    u64 r_44_1;
+    u64 r_44;
     u8 *r_h6;
     u8 *r_2g;
     u8 *r_x5_1;
     u8 *r_zd_1;
     u64 r_lj;
-    u64 r_52_5;
+    u64 r_52_2;
     u64 r_vz;
-    u64 r_e9_2;
+    u64 r_e9;
     u64 r_ph_1;
     u64 r_az_1;
     u64 r_5q_4;
-    u8 *r_lz_4;
+    u8 *r_lz_2;
     u64 r_r4;
-    u8 r_r5_3;
-    u64 r_38_7;
+    u8 r_r5_2;
+    u64 r_38_1;
     u64 r_dv;
     u64 a_9c_1;
-    u8 *r_2b_3;
+    u8 *r_2b_1;
     u64 r_0j;
-    u64 r_1v_1;
-    struct s_i8_i64 r_cf_2;
+    u64 r_1y_1;
+    struct s_i8_i64 r_67_2;
     u64 r_h9_2;
     u64 r_8h_1;
     u64 r_7e_2;
     u64 r_ix_2;
     st64(a_5, 0ull);
     st32(slot_2, 0u);
-    r_r3 = 0ull;
-    goto l_join_3a;
+    r_u8 = 0ull;
+    goto l_join_r7;
 l_loop_yc:;
-    u64 r_5q = (r_h9 + r_r3);
-    if (r_5q < 4ull) { r_r3 = r_5q; goto l_join_3a; }
+    u64 r_5q = (r_h9 + r_u8);
+    if (r_5q < 4ull) { r_u8 = r_5q; goto l_join_r7; }
     r_vv = r_5q;
     goto l_arm_0x;
-l_join_3a:;
-    r_cf = capnp_packing_buffered_standard_BufReaderInputInput_re_5f136c95(a_3, away(slot_2, r_r3), (4ull - r_r3));
-    if (!(r_cf.f0 == 0u)) { r_7e = 4ull; r_ix = 0ull; goto l_arm_tl; }
-    r_h9 = r_cf.f1;
-    if (r_h9 == 0ull) { r_vv = r_r3; goto l_arm_0x; }
+l_join_r7:;
+    r_67 = capnp_packing_buffered_standard_BufReaderInputInput_re_133b1ec6(a_3, away(slot_2, r_u8), (4ull - r_u8));
+    if (!(r_67.f0 == 0u)) { r_7e = 4ull; r_ix = 0ull; goto l_arm_tl; }
+    r_h9 = r_67.f1;
+    if (r_h9 == 0ull) { r_vv = r_u8; goto l_arm_0x; }
     goto l_loop_yc;
 l_arm_0x:;
     switch (r_vv) {
@@ -19064,8 +19139,8 @@ l_arm_tl:;
 l_arm_lv:;
     u64 r_vo = (u64)(r_c4 << 2ull);
     r_lc = (((r_vo & 4ull) ^ 4ull) + r_vo);
-    r_rq_1 = away(a_5, 8ull);
-    r_08_1 = away(a_5, 16ull);
+    r_rq = away(a_5, 8ull);
+    r_08 = away(a_5, 16ull);
     r_xz = away(a_5, 24ull);
     r_x5 = (slot_1 + 8);
     r_zd = (slot_1 + 16);
@@ -19073,7 +19148,7 @@ l_arm_lv:;
 l_loop_t9:;
     if (!(r_09 < r_lc)) goto l_arm_9w;
     memset(slot_1, 0u, 24);
-    r_52 = ld64(r_08_1);
+    r_52 = ld64(r_08);
     if (!(r_09 < r_52)) goto l_join_8s;
     r_xz_1 = r_52;
     goto l_arm_gi;
@@ -19081,44 +19156,44 @@ l_join_8s:;
     r_5p = (r_lc - r_52);
     u64 r_52_1 = ld64(r_xz);
     if (!(r_5p > (r_52_1 - r_52))) { r_ph = r_52_1; r_az = r_52; goto l_join_kx; }
-    u8 r_qy = std_alloc_vec_Vec_grow_amortized_ffd95af9aab10bcd(r_rq_1, r_5p);
+    u8 r_qy = std_alloc_vec_Vec_grow_amortized_ffd95af9aab10bcd(r_rq, r_5p);
     if (!r_qy) goto l_capnp_iz;
     r_ph = ld64(r_xz);
-    r_az = ld64(r_08_1);
+    r_az = ld64(r_08);
 l_join_kx:;
     r_5q_1 = (r_az + r_5p);
-    r_lz = ldp(r_rq_1);
+    r_lz = ldp(r_rq);
     if (!(r_az < r_5q_1)) goto l_std_5b;
     memset_or_none(away(r_lz, r_az), 0u, r_5p);
 l_std_5b:;
-    stp(r_rq_1, r_lz);
-    st64(r_08_1, r_5q_1);
+    stp(r_rq, r_lz);
+    st64(r_08, r_5q_1);
     st64(r_xz, r_ph);
     r_xz_1 = r_5q_1;
     goto l_arm_gi;
 l_capnp_iz:;
-    capnp_framing_framing_reading_grow_3691078bae5dd839(slot_1, a_2, r_rq_1);
+    capnp_framing_framing_reading_grow_3691078bae5dd839(slot_1, a_2, r_rq);
     r_r5_1 = ld8(r_x5);
-    r_38_2 = ld64(r_zd);
+    r_38 = ld64(r_zd);
     if (!(ld8(slot_1) == 0u)) goto l_arm_of;
-    r_xz_1 = ld64(r_08_1);
+    r_xz_1 = ld64(r_08);
 l_arm_gi:;
     a_9c = umin64(r_xz_1, r_lc);
-    r_2b_1 = away(ldp(r_rq_1), r_09);
+    r_2b = away(ldp(r_rq), r_09);
     r_l3 = (a_9c - r_09);
     if (a_9c == r_09) { r_8h = 0ull; goto l_capnp_v8; }
-    r_1v = 0ull;
-    goto l_join_tp;
+    r_1y = 0ull;
+    goto l_join_7l;
 l_loop_lw:;
-    u64 r_5q_2 = (r_h9_1 + r_1v);
-    if (r_5q_2 < r_l3) { r_1v = r_5q_2; goto l_join_tp; }
+    u64 r_5q_2 = (r_h9_1 + r_1y);
+    if (r_5q_2 < r_l3) { r_1y = r_5q_2; goto l_join_7l; }
     r_8h = r_5q_2;
     goto l_capnp_v8;
-l_join_tp:;
-    r_cf_1 = capnp_packing_buffered_standard_BufReaderInputInput_re_5f136c95(a_3, away(r_2b_1, r_1v), (r_l3 - r_1v));
-    if (!(r_cf_1.f0 == 0u)) { r_7e_1 = 4ull; r_ix_1 = 0ull; goto l_arm_tl_1; }
-    r_h9_1 = r_cf_1.f1;
-    if (r_h9_1 == 0ull) { r_8h = r_1v; goto l_capnp_v8; }
+l_join_7l:;
+    r_67_1 = capnp_packing_buffered_standard_BufReaderInputInput_re_133b1ec6(a_3, away(r_2b, r_1y), (r_l3 - r_1y));
+    if (!(r_67_1.f0 == 0u)) { r_7e_1 = 4ull; r_ix_1 = 0ull; goto l_arm_tl_1; }
+    r_h9_1 = r_67_1.f1;
+    if (r_h9_1 == 0ull) { r_8h = r_1y; goto l_capnp_v8; }
     goto l_loop_lw;
 l_capnp_v8:;
     if (r_8h == r_l3) { r_09 = a_9c; goto l_loop_t9; }
@@ -19131,19 +19206,19 @@ l_arm_yd:;
     memset(away(a_1, 8ull), 0u, 16);
     goto l_common_68;
 l_arm_9w:;
-    r_lz_2 = ldp(r_rq_1);
+    r_lz_1 = ldp(r_rq);
     r_xm = away(a_5, 32ull);
     r_su = away(a_5, 40ull);
     if (ld64(r_su) == 0ull) goto l_join_mh;
     st64(r_su, 0ull);
 l_join_mh:;
-    r_t9_1 = away(a_5, 48ull);
+    r_t9 = away(a_5, 48ull);
     r_l5 = 0ull;
     r_rx = 0ull;
     r_wy = 0ull;
 l_join_rl:;
-    r_5q_3 = (r_rx + (u64)ld32((r_lz_2 + (i64)((u64)(r_wy << 2ull)))));
-    if (!(ld64(r_t9_1) == r_l5)) { r_le = r_l5; goto l_std_28; }
+    r_5q_3 = (r_rx + (u64)ld32((r_lz_1 + (i64)((u64)(r_wy << 2ull)))));
+    if (!(ld64(r_t9) == r_l5)) { r_le = r_l5; goto l_std_28; }
     u8 r_db = std_alloc_vec_Vec_grow_amortized_5e63141f0e39c5e0(r_xm);
     if (!r_db) goto l_arm_is;
     r_le = ld64(r_su);
@@ -19161,7 +19236,7 @@ l_std_28:;
     goto l_join_rl;
 l_arm_of:;
     r_7e_1 = (u64)r_r5_1;
-    r_ix_1 = r_38_2;
+    r_ix_1 = r_38;
 l_arm_tl_1:;
     st8(a_1, 1u);
     st8(away(a_1, 1ull), 0u);
@@ -19187,41 +19262,41 @@ l_then_tl:;
     goto l_common_68;
 l_join_zs:;
     r_r2 = away(a_5, 56ull);
-    r_44_1 = (u64)(r_5q_3 << 3ull);
+    r_44 = (u64)(r_5q_3 << 3ull);
     r_h6 = away(a_5, 64ull);
     r_2g = away(a_5, 72ull);
     r_x5_1 = (slot_1 + 8);
     r_zd_1 = (slot_1 + 16);
     r_lj = 0ull;
 l_loop_hb:;
-    if (!(r_lj < r_44_1)) goto l_arm_es;
+    if (!(r_lj < r_44)) goto l_arm_es;
     memset(slot_1, 0u, 24);
-    r_52_5 = ld64(r_h6);
-    if (!(r_lj < r_52_5)) goto l_join_c5;
-    r_dv = r_52_5;
+    r_52_2 = ld64(r_h6);
+    if (!(r_lj < r_52_2)) goto l_join_c5;
+    r_dv = r_52_2;
     goto l_arm_df;
 l_join_c5:;
-    r_vz = (umin64((r_44_1 - r_lj), 0x40000ull) + r_lj);
-    if (r_vz > r_52_5) goto l_join_q6;
-    if (!(r_52_5 > r_vz)) { r_r4 = r_52_5; goto l_capnp_5s; }
+    r_vz = (umin64((r_44 - r_lj), 0x40000ull) + r_lj);
+    if (r_vz > r_52_2) goto l_join_q6;
+    if (!(r_52_2 > r_vz)) { r_r4 = r_52_2; goto l_capnp_5s; }
     st64(r_h6, r_vz);
     r_r4 = r_vz;
     goto l_capnp_5s;
 l_join_q6:;
-    r_e9_2 = (r_vz - r_52_5);
-    u64 r_52_6 = ld64(r_2g);
-    if (!(r_e9_2 > (r_52_6 - r_52_5))) { r_ph_1 = r_52_6; r_az_1 = r_52_5; goto l_join_kx_1; }
-    u8 r_qy_1 = std_alloc_vec_Vec_grow_amortized_ffd95af9aab10bcd(r_r2, r_e9_2);
+    r_e9 = (r_vz - r_52_2);
+    u64 r_52_3 = ld64(r_2g);
+    if (!(r_e9 > (r_52_3 - r_52_2))) { r_ph_1 = r_52_3; r_az_1 = r_52_2; goto l_join_kx_1; }
+    u8 r_qy_1 = std_alloc_vec_Vec_grow_amortized_ffd95af9aab10bcd(r_r2, r_e9);
     if (!r_qy_1) goto l_capnp_iz_1;
     r_ph_1 = ld64(r_2g);
     r_az_1 = ld64(r_h6);
 l_join_kx_1:;
-    r_5q_4 = (r_az_1 + r_e9_2);
-    r_lz_4 = ldp(r_r2);
+    r_5q_4 = (r_az_1 + r_e9);
+    r_lz_2 = ldp(r_r2);
     if (!(r_az_1 < r_5q_4)) goto l_std_re;
-    memset_or_none(away(r_lz_4, r_az_1), 0u, r_e9_2);
+    memset_or_none(away(r_lz_2, r_az_1), 0u, r_e9);
 l_std_re:;
-    stp(r_r2, r_lz_4);
+    stp(r_r2, r_lz_2);
     st64(r_h6, r_5q_4);
     st64(r_2g, r_ph_1);
     r_r4 = r_5q_4;
@@ -19230,27 +19305,27 @@ l_capnp_5s:;
     goto l_arm_df;
 l_capnp_iz_1:;
     capnp_framing_framing_reading_grow_3691078bae5dd839(slot_1, a_2, r_r2);
-    r_r5_3 = ld8(r_x5_1);
-    r_38_7 = ld64(r_zd_1);
+    r_r5_2 = ld8(r_x5_1);
+    r_38_1 = ld64(r_zd_1);
     if (!(ld8(slot_1) == 0u)) goto l_arm_of_1;
     r_dv = ld64(r_h6);
 l_arm_df:;
-    a_9c_1 = umin64(r_dv, r_44_1);
-    r_2b_3 = away(ldp(r_r2), r_lj);
+    a_9c_1 = umin64(r_dv, r_44);
+    r_2b_1 = away(ldp(r_r2), r_lj);
     r_0j = (a_9c_1 - r_lj);
     if (a_9c_1 == r_lj) { r_8h_1 = 0ull; goto l_capnp_v8_1; }
-    r_1v_1 = 0ull;
-    goto l_join_tp_1;
+    r_1y_1 = 0ull;
+    goto l_join_7l_1;
 l_loop_lw_1:;
-    u64 r_5q_5 = (r_h9_2 + r_1v_1);
-    if (r_5q_5 < r_0j) { r_1v_1 = r_5q_5; goto l_join_tp_1; }
+    u64 r_5q_5 = (r_h9_2 + r_1y_1);
+    if (r_5q_5 < r_0j) { r_1y_1 = r_5q_5; goto l_join_7l_1; }
     r_8h_1 = r_5q_5;
     goto l_capnp_v8_1;
-l_join_tp_1:;
-    r_cf_2 = capnp_packing_buffered_standard_BufReaderInputInput_re_5f136c95(a_3, away(r_2b_3, r_1v_1), (r_0j - r_1v_1));
-    if (!(r_cf_2.f0 == 0u)) { r_7e_2 = 4ull; r_ix_2 = 0ull; goto l_arm_tl_2; }
-    r_h9_2 = r_cf_2.f1;
-    if (r_h9_2 == 0ull) { r_8h_1 = r_1v_1; goto l_capnp_v8_1; }
+l_join_7l_1:;
+    r_67_2 = capnp_packing_buffered_standard_BufReaderInputInput_re_133b1ec6(a_3, away(r_2b_1, r_1y_1), (r_0j - r_1y_1));
+    if (!(r_67_2.f0 == 0u)) { r_7e_2 = 4ull; r_ix_2 = 0ull; goto l_arm_tl_2; }
+    r_h9_2 = r_67_2.f1;
+    if (r_h9_2 == 0ull) { r_8h_1 = r_1y_1; goto l_capnp_v8_1; }
     goto l_loop_lw_1;
 l_capnp_v8_1:;
     if (r_8h_1 == r_0j) { r_lj = a_9c_1; goto l_loop_hb; }
@@ -19264,8 +19339,8 @@ l_arm_es:;
     memset(away(a_1, 8ull), 0u, 16);
     goto l_common_68;
 l_arm_of_1:;
-    r_7e_2 = (u64)r_r5_3;
-    r_ix_2 = r_38_7;
+    r_7e_2 = (u64)r_r5_2;
+    r_ix_2 = r_38_1;
 l_arm_tl_2:;
     st8(a_1, 1u);
     st8(away(a_1, 1ull), 0u);
@@ -19274,73 +19349,47 @@ l_arm_tl_2:;
     goto l_common_68;
 }
 
-/* capnp_packing::buffered::standard::BufReaderInputInput::read::<#497068a7de5fd552> */
-static struct s_i8_i64 capnp_packing_buffered_standard_BufReaderInputInput_re_5f136c95(u8 *a_1, u8 *a_2, u64 a_3)
+/* capnp_packing::buffered::standard::BufReaderInputInput::read::<#edbc58a14fb87b20> */
+struct s_i8_i64 capnp_packing_buffered_standard_BufReaderInputInput_re_133b1ec6(u8 *a_1, u8 *a_2, u64 a_3)
 {
-    A(8) u8 slot_1[88];
-    A(8) u8 slot_2[80];
-    u8 *r_r2;
-    u8 *r_08;
+    A(8) u8 slot_1[96];
+    A(8) u8 slot_2[96];
+    u8 *r_h6;
+    u8 *r_xz;
     u64 r_52;
-    u8 *r_t9;
+    u8 *r_r2;
     u64 r_52_1;
-    u8 *r_su;
+    u8 *r_t9;
     u64 r_52_2;
-    u64 r_to;
-    u8 *r_lz_1;
-    u64 r_ar;
-    u64 r_cu;
-    u64 r_89_1;
+    u64 r_38;
+    u64 r_uz;
+    u64 r_78;
     u8 *r_2b;
     u64 a_x1;
     u64 r_e8;
+    u8 r_sb;
     u64 r_4w;
     u8 r_x4;
+    r_h6 = away(a_1, 64ull);
+    if ((u8)(ld8(r_h6) & 1)) { r_4w = 0ull; r_x4 = 1u; goto l_return_7d; }
+    r_xz = away(a_1, 24ull);
+    r_52 = ld64(away(a_1, 32ull));
     r_r2 = away(a_1, 56ull);
-    if ((u8)(ld8(r_r2) & 1)) { r_4w = 0ull; r_x4 = 1u; goto l_return_7d; }
-    r_08 = away(a_1, 16ull);
-    r_52 = ld64(away(a_1, 24ull));
+    r_52_1 = ld64(r_r2);
     r_t9 = away(a_1, 48ull);
-    r_52_1 = ld64(r_t9);
-    r_su = away(a_1, 40ull);
-    r_52_2 = ld64(r_su);
-    if ((u8)((u8)(r_52 > a_3) | (u8)(r_52_1 != r_52_2))) goto l_after_wr;
-    memset(r_su, 0u, 16);
-    r_to = c_read(ld32(a_1), a_2, a_3);
-    if ((i64)r_to < (i64)0ull) goto l_std_2h;
-    u64 a_qp = umin64(r_to, a_3);
-    u8 *r_lz = ldp(away(a_1, 8ull));
-    mv32(slot_1, r_lz);
-    u8 *r_89 = (r_lz + 32);
-    u64 r_qw = ld64(r_89);
-    u64 a_7u = umin64(r_qw, 32ull);
-    memcpy_or_none(away(slot_1, a_7u), a_2, umin64((32ull - a_7u), a_qp));
-    mv32(r_lz, slot_1);
-    st64(r_89, uadd_sat64(a_qp, r_qw));
-    r_4w = a_qp;
-    r_x4 = 0u;
-    goto l_return_7d;
-l_after_wr:;
-    if (r_52_2 < r_52_1) { r_cu = r_52_1; r_89_1 = r_52_2; goto l_arm_7l; }
-    memset(r_su, 0u, 16);
-    r_lz_1 = ldp(r_08);
-    r_ar = c_read(ld32(a_1), r_lz_1, r_52);
-    if (!((i64)r_ar > (i64)0xffffffffffffffffull)) goto l_std_2h_1;
-    u64 a_zx = umin64(r_ar, r_52);
-    u8 *r_lz_2 = ldp(away(a_1, 8ull));
-    mv32(slot_1, r_lz_2);
-    u8 *r_89_2 = (r_lz_2 + 32);
-    u64 r_qw_1 = ld64(r_89_2);
-    u64 a_7u_1 = umin64(r_qw_1, 32ull);
-    memcpy_or_none(away(slot_1, a_7u_1), r_lz_1, umin64((32ull - a_7u_1), a_zx));
-    mv32(r_lz_2, slot_1);
-    st64(r_89_2, uadd_sat64(a_zx, r_qw_1));
-    st64(r_t9, a_zx);
-    r_cu = a_zx;
-    r_89_1 = ld64(r_su);
-l_arm_7l:;
-    r_2b = away(ldp(r_08), r_89_1);
-    a_x1 = umin64(a_3, (r_cu - r_89_1));
+    r_52_2 = ld64(r_t9);
+    if (!(u8)((u8)(r_52 > a_3) | (u8)(r_52_1 != r_52_2))) goto l_std_fe;
+    if (r_52_2 < r_52_1) { r_uz = r_52_1; r_78 = r_52_2; goto l_arm_dm; }
+    memset(r_t9, 0u, 16);
+    capnp_streams_device_log_LoggedRead_read_72d120f996089625(slot_1, a_1, ldp(r_xz), r_52);
+    r_38 = ld64((slot_1 + 8));
+    if (!(ld8(slot_1) == 0u)) goto l_std_5s;
+    st64(r_r2, r_38);
+    r_uz = r_38;
+    r_78 = ld64(r_t9);
+l_arm_dm:;
+    r_2b = away(ldp(r_xz), r_78);
+    a_x1 = umin64(a_3, (r_uz - r_78));
     if (((u64)(uptr)a_2 - (u64)(uptr)r_2b) < a_x1) { r_e8 = 0ull; goto l_join_53; }
     memmove_or_none(a_2, r_2b, a_x1);
     goto l_std_mu;
@@ -19349,34 +19398,24 @@ l_join_53:;
     u64 r_36 = (r_e8 + 1ull);
     if (!(r_36 == a_x1)) { r_e8 = r_36; goto l_join_53; }
 l_std_mu:;
-    u64 r_52_3 = ld64(r_su);
-    st64(r_su, (umin64(a_x1, (ld64(r_t9) - r_52_3)) + r_52_3));
+    u64 r_52_3 = ld64(r_t9);
+    st64(r_t9, (umin64(a_x1, (ld64(r_r2) - r_52_3)) + r_52_3));
     r_4w = a_x1;
     r_x4 = 0u;
     goto l_return_7d;
-l_std_2h_1:;
-    u32 r_ky = rattle_errno();
-    std_io_io_error_Error_from_raw_os_error(slot_1, r_ky);
-    u64 r_38_1 = ld64(slot_1);
-    memcpy(slot_2, (slot_1 + 8), 80);
-    u8 *r_lz_4 = ldp(away(a_1, 8ull));
-    st64(away(r_lz_4, 40ull), 1ull);
-    st64(away(r_lz_4, 48ull), r_38_1);
-    memcpy(away(r_lz_4, 56ull), slot_2, 80);
+l_std_5s:;
+    r_sb = 1u;
     goto l_arm_lj;
-l_std_2h:;
-    u32 r_ky_1 = rattle_errno();
-    std_io_io_error_Error_from_raw_os_error(slot_1, r_ky_1);
-    u64 r_38_2 = ld64(slot_1);
-    memcpy(slot_2, (slot_1 + 8), 80);
-    u8 *r_lz_5 = ldp(away(a_1, 8ull));
-    st64(away(r_lz_5, 40ull), 1ull);
-    st64(away(r_lz_5, 48ull), r_38_2);
-    memcpy(away(r_lz_5, 56ull), slot_2, 80);
+l_std_fe:;
+    memset(r_t9, 0u, 16);
+    capnp_streams_device_log_LoggedRead_read_72d120f996089625(slot_2, a_1, a_2, a_3);
+    u8 r_r5 = ld8(slot_2);
+    if (r_r5 == 0u) { r_4w = ld64((slot_2 + 8)); r_x4 = 0u; goto l_return_7d; }
+    r_sb = r_r5;
 l_arm_lj:;
-    st8(r_r2, 1u);
+    st8(r_h6, 1u);
     r_4w = 0ull;
-    r_x4 = 1u;
+    r_x4 = r_sb;
 l_return_7d:;
     struct s_i8_i64 r_80 = (struct s_i8_i64){ 0 };
     r_80.f0 = r_x4;
@@ -19385,13 +19424,13 @@ l_return_7d:;
     return r_ez;
 }
 
-/* capnp_framing::framing::reading::read_into_with::<#f160d734346d4faf> */
-void capnp_framing_framing_reading_read_into_with_f160d734346d4faf(u8 *a_1, u8 *a_2, u8 *a_3, u64 a_4, u8 *a_5)
+/* capnp_framing::framing::reading::read_into_with::<#3b4494d6de09430d> */
+void capnp_framing_framing_reading_read_into_with_3b4494d6de09430d(u8 *a_1, u8 *a_2, u8 *a_3, u64 a_4, u8 *a_5)
 {
     A(8) u8 slot_1[24];
     A(4) u8 slot_2[4];
-    u64 r_i0;
-    struct s_i8_i64 r_xc;
+    u64 r_lm;
+    struct s_i8_i64 r_y3;
     u64 r_h9;
     u64 r_vv;
     u64 r_r5;
@@ -19399,8 +19438,8 @@ void capnp_framing_framing_reading_read_into_with_f160d734346d4faf(u8 *a_1, u8 *
     u64 r_7e;
     u64 r_ix;
     u64 r_lc;
-    u8 *r_rq_1;
-    u8 *r_08_1;
+    u8 *r_rq;
+    u8 *r_08;
     u8 *r_xz;
     u8 *r_x5;
     u8 *r_zd;
@@ -19412,19 +19451,19 @@ void capnp_framing_framing_reading_read_into_with_f160d734346d4faf(u8 *a_1, u8 *
     u64 r_5q_1;
     u8 *r_lz;
     u8 r_r5_1;
-    u64 r_38_2;
+    u64 r_38;
     u64 r_xz_1;
     u64 a_9c;
-    u8 *r_2b_1;
+    u8 *r_2b;
     u64 r_l3;
-    u64 r_bw;
-    struct s_i8_i64 r_xc_1;
+    u64 r_9n;
+    struct s_i8_i64 r_y3_1;
     u64 r_h9_1;
     u64 r_8h;
-    u8 *r_lz_2;
+    u8 *r_lz_1;
     u8 *r_xm;
     u8 *r_su;
-    u8 *r_t9_1;
+    u8 *r_t9;
     u64 r_l5;
     u64 r_rx;
     u64 r_wy;
@@ -19433,46 +19472,46 @@ void capnp_framing_framing_reading_read_into_with_f160d734346d4faf(u8 *a_1, u8 *
     u64 r_7e_1;
     u64 r_ix_1;
     u8 *r_r2;
-    u64 r_44_1;
+    u64 r_44;
     u8 *r_h6;
     u8 *r_2g;
     u8 *r_x5_1;
     u8 *r_zd_1;
     u64 r_lj;
-    u64 r_52_5;
+    u64 r_52_2;
     u64 r_vz;
-    u64 r_e9_2;
+    u64 r_e9;
     u64 r_ph_1;
     u64 r_az_1;
     u64 r_5q_4;
-    u8 *r_lz_4;
+    u8 *r_lz_2;
     u64 r_r4;
-    u8 r_r5_3;
-    u64 r_38_7;
+    u8 r_r5_2;
+    u64 r_38_1;
     u64 r_dv;
     u64 a_9c_1;
-    u8 *r_2b_3;
+    u8 *r_2b_1;
     u64 r_0j;
-    u64 r_bw_1;
-    struct s_i8_i64 r_xc_2;
+    u64 r_9n_1;
+    struct s_i8_i64 r_y3_2;
     u64 r_h9_2;
     u64 r_8h_1;
     u64 r_7e_2;
     u64 r_ix_2;
     st64(a_5, 0ull);
     st32(slot_2, 0u);
-    r_i0 = 0ull;
-    goto l_join_b4;
+    r_lm = 0ull;
+    goto l_join_8w;
 l_loop_yc:;
-    u64 r_5q = (r_h9 + r_i0);
-    if (r_5q < 4ull) { r_i0 = r_5q; goto l_join_b4; }
+    u64 r_5q = (r_h9 + r_lm);
+    if (r_5q < 4ull) { r_lm = r_5q; goto l_join_8w; }
     r_vv = r_5q;
     goto l_arm_0x;
-l_join_b4:;
-    r_xc = capnp_packing_packing_unpacking_input_UnpackingInput_u_ac141739(a_3, away(slot_2, r_i0), (4ull - r_i0));
-    if (!(r_xc.f0 == 0u)) { r_7e = 4ull; r_ix = 0ull; goto l_arm_tl; }
-    r_h9 = r_xc.f1;
-    if (r_h9 == 0ull) { r_vv = r_i0; goto l_arm_0x; }
+l_join_8w:;
+    r_y3 = capnp_packing_packing_unpacking_input_UnpackingInput_u_5217efb3(a_3, away(slot_2, r_lm), (4ull - r_lm));
+    if (!(r_y3.f0 == 0u)) { r_7e = 4ull; r_ix = 0ull; goto l_arm_tl; }
+    r_h9 = r_y3.f1;
+    if (r_h9 == 0ull) { r_vv = r_lm; goto l_arm_0x; }
     goto l_loop_yc;
 l_arm_0x:;
     switch (r_vv) {
@@ -19497,8 +19536,8 @@ l_arm_tl:;
 l_arm_lv:;
     u64 r_vo = (u64)(r_c4 << 2ull);
     r_lc = (((r_vo & 4ull) ^ 4ull) + r_vo);
-    r_rq_1 = away(a_5, 8ull);
-    r_08_1 = away(a_5, 16ull);
+    r_rq = away(a_5, 8ull);
+    r_08 = away(a_5, 16ull);
     r_xz = away(a_5, 24ull);
     r_x5 = (slot_1 + 8);
     r_zd = (slot_1 + 16);
@@ -19506,7 +19545,7 @@ l_arm_lv:;
 l_loop_t9:;
     if (!(r_09 < r_lc)) goto l_arm_9w;
     memset(slot_1, 0u, 24);
-    r_52 = ld64(r_08_1);
+    r_52 = ld64(r_08);
     if (!(r_09 < r_52)) goto l_join_8s;
     r_xz_1 = r_52;
     goto l_arm_gi;
@@ -19514,44 +19553,44 @@ l_join_8s:;
     r_5p = (r_lc - r_52);
     u64 r_52_1 = ld64(r_xz);
     if (!(r_5p > (r_52_1 - r_52))) { r_ph = r_52_1; r_az = r_52; goto l_join_kx; }
-    u8 r_qy = std_alloc_vec_Vec_grow_amortized_ffd95af9aab10bcd(r_rq_1, r_5p);
+    u8 r_qy = std_alloc_vec_Vec_grow_amortized_ffd95af9aab10bcd(r_rq, r_5p);
     if (!r_qy) goto l_capnp_iz;
     r_ph = ld64(r_xz);
-    r_az = ld64(r_08_1);
+    r_az = ld64(r_08);
 l_join_kx:;
     r_5q_1 = (r_az + r_5p);
-    r_lz = ldp(r_rq_1);
+    r_lz = ldp(r_rq);
     if (!(r_az < r_5q_1)) goto l_std_5b;
     memset_or_none(away(r_lz, r_az), 0u, r_5p);
 l_std_5b:;
-    stp(r_rq_1, r_lz);
-    st64(r_08_1, r_5q_1);
+    stp(r_rq, r_lz);
+    st64(r_08, r_5q_1);
     st64(r_xz, r_ph);
     r_xz_1 = r_5q_1;
     goto l_arm_gi;
 l_capnp_iz:;
-    capnp_framing_framing_reading_grow_3691078bae5dd839(slot_1, a_2, r_rq_1);
+    capnp_framing_framing_reading_grow_3691078bae5dd839(slot_1, a_2, r_rq);
     r_r5_1 = ld8(r_x5);
-    r_38_2 = ld64(r_zd);
+    r_38 = ld64(r_zd);
     if (!(ld8(slot_1) == 0u)) goto l_arm_of;
-    r_xz_1 = ld64(r_08_1);
+    r_xz_1 = ld64(r_08);
 l_arm_gi:;
     a_9c = umin64(r_xz_1, r_lc);
-    r_2b_1 = away(ldp(r_rq_1), r_09);
+    r_2b = away(ldp(r_rq), r_09);
     r_l3 = (a_9c - r_09);
     if (a_9c == r_09) { r_8h = 0ull; goto l_capnp_v8; }
-    r_bw = 0ull;
-    goto l_join_ih;
+    r_9n = 0ull;
+    goto l_join_js;
 l_loop_lw:;
-    u64 r_5q_2 = (r_h9_1 + r_bw);
-    if (r_5q_2 < r_l3) { r_bw = r_5q_2; goto l_join_ih; }
+    u64 r_5q_2 = (r_h9_1 + r_9n);
+    if (r_5q_2 < r_l3) { r_9n = r_5q_2; goto l_join_js; }
     r_8h = r_5q_2;
     goto l_capnp_v8;
-l_join_ih:;
-    r_xc_1 = capnp_packing_packing_unpacking_input_UnpackingInput_u_ac141739(a_3, away(r_2b_1, r_bw), (r_l3 - r_bw));
-    if (!(r_xc_1.f0 == 0u)) { r_7e_1 = 4ull; r_ix_1 = 0ull; goto l_arm_tl_1; }
-    r_h9_1 = r_xc_1.f1;
-    if (r_h9_1 == 0ull) { r_8h = r_bw; goto l_capnp_v8; }
+l_join_js:;
+    r_y3_1 = capnp_packing_packing_unpacking_input_UnpackingInput_u_5217efb3(a_3, away(r_2b, r_9n), (r_l3 - r_9n));
+    if (!(r_y3_1.f0 == 0u)) { r_7e_1 = 4ull; r_ix_1 = 0ull; goto l_arm_tl_1; }
+    r_h9_1 = r_y3_1.f1;
+    if (r_h9_1 == 0ull) { r_8h = r_9n; goto l_capnp_v8; }
     goto l_loop_lw;
 l_capnp_v8:;
     if (r_8h == r_l3) { r_09 = a_9c; goto l_loop_t9; }
@@ -19564,19 +19603,19 @@ l_arm_yd:;
     memset(away(a_1, 8ull), 0u, 16);
     goto l_common_68;
 l_arm_9w:;
-    r_lz_2 = ldp(r_rq_1);
+    r_lz_1 = ldp(r_rq);
     r_xm = away(a_5, 32ull);
     r_su = away(a_5, 40ull);
     if (ld64(r_su) == 0ull) goto l_join_mh;
     st64(r_su, 0ull);
 l_join_mh:;
-    r_t9_1 = away(a_5, 48ull);
+    r_t9 = away(a_5, 48ull);
     r_l5 = 0ull;
     r_rx = 0ull;
     r_wy = 0ull;
 l_join_rl:;
-    r_5q_3 = (r_rx + (u64)ld32((r_lz_2 + (i64)((u64)(r_wy << 2ull)))));
-    if (!(ld64(r_t9_1) == r_l5)) { r_le = r_l5; goto l_std_28; }
+    r_5q_3 = (r_rx + (u64)ld32((r_lz_1 + (i64)((u64)(r_wy << 2ull)))));
+    if (!(ld64(r_t9) == r_l5)) { r_le = r_l5; goto l_std_28; }
     u8 r_db = std_alloc_vec_Vec_grow_amortized_5e63141f0e39c5e0(r_xm);
     if (!r_db) goto l_arm_is;
     r_le = ld64(r_su);
@@ -19594,7 +19633,7 @@ l_std_28:;
     goto l_join_rl;
 l_arm_of:;
     r_7e_1 = (u64)r_r5_1;
-    r_ix_1 = r_38_2;
+    r_ix_1 = r_38;
 l_arm_tl_1:;
     st8(a_1, 1u);
     st8(away(a_1, 1ull), 0u);
@@ -19620,41 +19659,41 @@ l_then_tl:;
     goto l_common_68;
 l_join_zs:;
     r_r2 = away(a_5, 56ull);
-    r_44_1 = (u64)(r_5q_3 << 3ull);
+    r_44 = (u64)(r_5q_3 << 3ull);
     r_h6 = away(a_5, 64ull);
     r_2g = away(a_5, 72ull);
     r_x5_1 = (slot_1 + 8);
     r_zd_1 = (slot_1 + 16);
     r_lj = 0ull;
 l_loop_hb:;
-    if (!(r_lj < r_44_1)) goto l_arm_es;
+    if (!(r_lj < r_44)) goto l_arm_es;
     memset(slot_1, 0u, 24);
-    r_52_5 = ld64(r_h6);
-    if (!(r_lj < r_52_5)) goto l_join_c5;
-    r_dv = r_52_5;
+    r_52_2 = ld64(r_h6);
+    if (!(r_lj < r_52_2)) goto l_join_c5;
+    r_dv = r_52_2;
     goto l_arm_df;
 l_join_c5:;
-    r_vz = (umin64((r_44_1 - r_lj), 0x40000ull) + r_lj);
-    if (r_vz > r_52_5) goto l_join_q6;
-    if (!(r_52_5 > r_vz)) { r_r4 = r_52_5; goto l_capnp_5s; }
+    r_vz = (umin64((r_44 - r_lj), 0x40000ull) + r_lj);
+    if (r_vz > r_52_2) goto l_join_q6;
+    if (!(r_52_2 > r_vz)) { r_r4 = r_52_2; goto l_capnp_5s; }
     st64(r_h6, r_vz);
     r_r4 = r_vz;
     goto l_capnp_5s;
 l_join_q6:;
-    r_e9_2 = (r_vz - r_52_5);
-    u64 r_52_6 = ld64(r_2g);
-    if (!(r_e9_2 > (r_52_6 - r_52_5))) { r_ph_1 = r_52_6; r_az_1 = r_52_5; goto l_join_kx_1; }
-    u8 r_qy_1 = std_alloc_vec_Vec_grow_amortized_ffd95af9aab10bcd(r_r2, r_e9_2);
+    r_e9 = (r_vz - r_52_2);
+    u64 r_52_3 = ld64(r_2g);
+    if (!(r_e9 > (r_52_3 - r_52_2))) { r_ph_1 = r_52_3; r_az_1 = r_52_2; goto l_join_kx_1; }
+    u8 r_qy_1 = std_alloc_vec_Vec_grow_amortized_ffd95af9aab10bcd(r_r2, r_e9);
     if (!r_qy_1) goto l_capnp_iz_1;
     r_ph_1 = ld64(r_2g);
     r_az_1 = ld64(r_h6);
 l_join_kx_1:;
-    r_5q_4 = (r_az_1 + r_e9_2);
-    r_lz_4 = ldp(r_r2);
+    r_5q_4 = (r_az_1 + r_e9);
+    r_lz_2 = ldp(r_r2);
     if (!(r_az_1 < r_5q_4)) goto l_std_re;
-    memset_or_none(away(r_lz_4, r_az_1), 0u, r_e9_2);
+    memset_or_none(away(r_lz_2, r_az_1), 0u, r_e9);
 l_std_re:;
-    stp(r_r2, r_lz_4);
+    stp(r_r2, r_lz_2);
     st64(r_h6, r_5q_4);
     st64(r_2g, r_ph_1);
     r_r4 = r_5q_4;
@@ -19663,27 +19702,27 @@ l_capnp_5s:;
     goto l_arm_df;
 l_capnp_iz_1:;
     capnp_framing_framing_reading_grow_3691078bae5dd839(slot_1, a_2, r_r2);
-    r_r5_3 = ld8(r_x5_1);
-    r_38_7 = ld64(r_zd_1);
+    r_r5_2 = ld8(r_x5_1);
+    r_38_1 = ld64(r_zd_1);
     if (!(ld8(slot_1) == 0u)) goto l_arm_of_1;
     r_dv = ld64(r_h6);
 l_arm_df:;
-    a_9c_1 = umin64(r_dv, r_44_1);
-    r_2b_3 = away(ldp(r_r2), r_lj);
+    a_9c_1 = umin64(r_dv, r_44);
+    r_2b_1 = away(ldp(r_r2), r_lj);
     r_0j = (a_9c_1 - r_lj);
     if (a_9c_1 == r_lj) { r_8h_1 = 0ull; goto l_capnp_v8_1; }
-    r_bw_1 = 0ull;
-    goto l_join_ih_1;
+    r_9n_1 = 0ull;
+    goto l_join_js_1;
 l_loop_lw_1:;
-    u64 r_5q_5 = (r_h9_2 + r_bw_1);
-    if (r_5q_5 < r_0j) { r_bw_1 = r_5q_5; goto l_join_ih_1; }
+    u64 r_5q_5 = (r_h9_2 + r_9n_1);
+    if (r_5q_5 < r_0j) { r_9n_1 = r_5q_5; goto l_join_js_1; }
     r_8h_1 = r_5q_5;
     goto l_capnp_v8_1;
-l_join_ih_1:;
-    r_xc_2 = capnp_packing_packing_unpacking_input_UnpackingInput_u_ac141739(a_3, away(r_2b_3, r_bw_1), (r_0j - r_bw_1));
-    if (!(r_xc_2.f0 == 0u)) { r_7e_2 = 4ull; r_ix_2 = 0ull; goto l_arm_tl_2; }
-    r_h9_2 = r_xc_2.f1;
-    if (r_h9_2 == 0ull) { r_8h_1 = r_bw_1; goto l_capnp_v8_1; }
+l_join_js_1:;
+    r_y3_2 = capnp_packing_packing_unpacking_input_UnpackingInput_u_5217efb3(a_3, away(r_2b_1, r_9n_1), (r_0j - r_9n_1));
+    if (!(r_y3_2.f0 == 0u)) { r_7e_2 = 4ull; r_ix_2 = 0ull; goto l_arm_tl_2; }
+    r_h9_2 = r_y3_2.f1;
+    if (r_h9_2 == 0ull) { r_8h_1 = r_9n_1; goto l_capnp_v8_1; }
     goto l_loop_lw_1;
 l_capnp_v8_1:;
     if (r_8h_1 == r_0j) { r_lj = a_9c_1; goto l_loop_hb; }
@@ -19697,8 +19736,8 @@ l_arm_es:;
     memset(away(a_1, 8ull), 0u, 16);
     goto l_common_68;
 l_arm_of_1:;
-    r_7e_2 = (u64)r_r5_3;
-    r_ix_2 = r_38_7;
+    r_7e_2 = (u64)r_r5_2;
+    r_ix_2 = r_38_1;
 l_arm_tl_2:;
     st8(a_1, 1u);
     st8(away(a_1, 1ull), 0u);
@@ -19707,21 +19746,21 @@ l_arm_tl_2:;
     goto l_common_68;
 }
 
-/* capnp_packing::packing::unpacking_input::UnpackingInput::unpack::<#d071863e85f20ee2> */
-struct s_i8_i64 capnp_packing_packing_unpacking_input_UnpackingInput_u_ac141739(u8 *a_1, u8 *a_2, u64 a_3)
+/* capnp_packing::packing::unpacking_input::UnpackingInput::unpack::<#28cb2c7335392011> */
+struct s_i8_i64 capnp_packing_packing_unpacking_input_UnpackingInput_u_5217efb3(u8 *a_1, u8 *a_2, u64 a_3)
 {
     A(8) u8 slot_1[24];
     A(8) u8 slot_2[8];
     A(2) u8 slot_3[4];
-    u8 *r_og;
+    u8 *r_5g;
+    u8 *r_8e;
     u8 *r_4z;
-    u8 *r_bo;
-    u8 *r_un;
-    u8 *r_h6;
+    u8 *r_7f;
+    u8 *r_yf;
     u8 *r_p9;
-    u8 *r_lj;
+    u8 *r_vu;
     u8 *r_u0;
-    u8 *r_id;
+    u8 *r_tj;
     u8 *r_ix;
     u8 *r_0v;
     u8 *r_g0;
@@ -19749,12 +19788,12 @@ struct s_i8_i64 capnp_packing_packing_unpacking_input_UnpackingInput_u_ac141739(
     struct s_i8_i64 r_7h;
     u8 r_fz;
     u64 r_h9;
-    struct s_i8_i64 r_iv;
+    struct s_i8_i64 r_29;
     u64 r_h9_1;
     u64 r_14;
     u64 r_o6;
     u8 pre_dm;
-    u64 r_t9_2;
+    u64 r_t9;
     u8 pre_r7;
     u64 r_pv;
     u64 r_qt;
@@ -19762,17 +19801,17 @@ struct s_i8_i64 capnp_packing_packing_unpacking_input_UnpackingInput_u_ac141739(
     u64 r_4j;
     u64 r_4w;
     u8 r_x4;
-    if ((u8)(ld8(away(a_1, 56ull)) & 1)) goto l_then_4l;
+    if ((u8)(ld8(away(a_1, 64ull)) & 1)) goto l_then_rn;
     if (a_3 == 0ull) { r_4w = 0ull; r_x4 = 0u; goto l_return_7d; }
-    r_og = away(a_1, 8276ull);
+    r_5g = away(a_1, 8292ull);
+    r_8e = away(a_1, 8288ull);
     r_4z = away(a_1, 8272ull);
-    r_bo = away(a_1, 8256ull);
-    r_un = away(a_1, 8264ull);
-    r_h6 = away(a_1, 64ull);
+    r_7f = away(a_1, 8280ull);
+    r_yf = away(a_1, 80ull);
     r_p9 = (slot_3 + 1);
-    r_lj = away(a_1, 8273ull);
+    r_vu = away(a_1, 8289ull);
     r_u0 = (slot_3 + 2);
-    r_id = away(a_1, 8274ull);
+    r_tj = away(a_1, 8290ull);
     r_ix = (slot_2 + 4);
     r_0v = (slot_2 + 5);
     r_g0 = (slot_2 + 6);
@@ -19785,8 +19824,8 @@ struct s_i8_i64 capnp_packing_packing_unpacking_input_UnpackingInput_u_ac141739(
     r_x5 = (slot_1 + 8);
     r_86 = 0ull;
     goto l_join_73;
-l_then_4l:;
-    st8(away(a_1, 8278ull), 1u);
+l_then_rn:;
+    st8(away(a_1, 8294ull), 1u);
     r_4w = 0ull;
     r_x4 = 1u;
     goto l_return_7d;
@@ -19795,32 +19834,32 @@ l_join_73:;
     r_17 = (a_3 - r_86);
     st64(slot_2, 0ull);
     r_er = (r_17 > 7ull);
-    r_as = ld16(r_og);
+    r_as = ld16(r_5g);
 l_loop_io:;
     if (!(r_as == 0u)) goto l_after_8b;
-    r_47 = ld8(r_4z);
+    r_47 = ld8(r_8e);
     if (!(r_47 == 5u)) goto l_join_mh;
-    r_15 = ld16(r_id);
+    r_15 = ld16(r_tj);
     r_u7 = (u64)r_15;
     a_f1 = umin64((r_u7 + 1ull), r_17);
-    r_52 = ld64(r_bo);
-    r_52_1 = ld64(r_un);
+    r_52 = ld64(r_4z);
+    r_52_1 = ld64(r_7f);
     if (!(r_52 == r_52_1)) goto l_join_qj;
-    struct s_i8_i64 r_us = capnp_packing_buffered_standard_BufReaderInputInput_re_5f136c95(a_1, r_8z, a_f1);
-    r_7h = r_us;
+    struct s_i8_i64 r_dy = capnp_packing_buffered_standard_BufReaderInputInput_re_133b1ec6(a_1, r_8z, a_f1);
+    r_7h = r_dy;
     goto l_capnp_wz;
 l_join_qj:;
     a_cg = umin64((r_52_1 - r_52), a_f1);
-    r_2b = away(r_h6, r_52);
+    r_2b = away(r_yf, r_52);
     if (((u64)(uptr)r_8z - (u64)(uptr)r_2b) < a_cg) { r_il = 0ull; goto l_join_fh; }
     memmove_or_none(r_8z, r_2b, a_cg);
     goto l_core_bq;
 l_join_fh:;
     st8((r_8z + (i64)(r_il)), ld8((r_2b + (i64)(r_il))));
-    u64 r_c4_1 = (r_il + 1ull);
-    if (!(r_c4_1 == a_cg)) { r_il = r_c4_1; goto l_join_fh; }
+    u64 r_c4 = (r_il + 1ull);
+    if (!(r_c4 == a_cg)) { r_il = r_c4; goto l_join_fh; }
 l_core_bq:;
-    st64(r_bo, (ld64(r_bo) + a_cg));
+    st64(r_4z, (ld64(r_4z) + a_cg));
     struct s_i8_i64 t_sr = (struct s_i8_i64){ 0u, 0ull };
     t_sr.f1 = a_cg;
     r_7h = t_sr;
@@ -19829,62 +19868,62 @@ l_capnp_wz:;
     r_h9 = r_7h.f1;
     if ((r_fz != 0u) ? 1u : (r_h9 == 0ull)) goto l_capnp_3c;
     u8 r_qc = (r_h9 > r_u7);
-    st8(r_4z, (r_qc ? 0u : 5u));
-    st8(r_lj, 0u);
-    st16(r_id, (r_qc ? 0u : (u16)(r_15 - (u16)r_h9)));
+    st8(r_8e, (r_qc ? 0u : 5u));
+    st8(r_vu, 0u);
+    st16(r_tj, (r_qc ? 0u : (u16)(r_15 - (u16)r_h9)));
     r_qt = r_h9;
     goto l_arm_65;
 l_join_mh:;
-    u64 r_52_3 = ld64(r_bo);
-    u64 r_52_4 = ld64(r_un);
-    if (r_52_3 < r_52_4) { r_14 = r_52_3; r_o6 = r_52_4; pre_dm = r_47; goto l_capnp_bb; }
-    memset(r_bo, 0u, 16);
-    r_iv = capnp_packing_buffered_standard_BufReaderInputInput_re_5f136c95(a_1, r_h6, 8192ull);
-    if (r_iv.f0 == 0u) goto l_arm_oo;
-    goto l_arm_2y;
+    u64 r_52_2 = ld64(r_4z);
+    u64 r_52_3 = ld64(r_7f);
+    if (r_52_2 < r_52_3) { r_14 = r_52_2; r_o6 = r_52_3; pre_dm = r_47; goto l_capnp_bb; }
+    memset(r_4z, 0u, 16);
+    r_29 = capnp_packing_buffered_standard_BufReaderInputInput_re_133b1ec6(a_1, r_yf, 8192ull);
+    if (r_29.f0 == 0u) goto l_arm_oo;
+    goto l_arm_vv;
 l_arm_oo:;
-    r_h9_1 = r_iv.f1;
-    st64(r_un, r_h9_1);
+    r_h9_1 = r_29.f1;
+    st64(r_7f, r_h9_1);
     if (!(r_h9_1 == 0ull)) goto l_join_ro;
     r_4w = r_86;
     r_x4 = 0u;
     goto l_return_7d;
 l_join_ro:;
-    u8 pre_sw = ld8(r_4z);
-    u64 r_38 = ld64(r_bo);
-    if (ld16(r_og) == 0u) { r_14 = r_38; r_o6 = r_h9_1; pre_dm = pre_sw; goto l_capnp_bb; }
+    u8 pre_sw = ld8(r_8e);
+    u64 r_38 = ld64(r_4z);
+    if (ld16(r_5g) == 0u) { r_14 = r_38; r_o6 = r_h9_1; pre_dm = pre_sw; goto l_capnp_bb; }
     pre_r7 = pre_sw;
     r_pv = r_38;
     goto l_after_2t;
 l_capnp_bb:;
     if (!(u8)((u8)r_er & (u8)(pre_dm == 0u))) { pre_r7 = pre_dm; r_pv = r_14; goto l_after_2t; }
-    r_t9_2 = (r_o6 - r_14);
-    if (!(r_t9_2 > 9ull)) { pre_r7 = 0u; r_pv = r_14; goto l_after_2t; }
+    r_t9 = (r_o6 - r_14);
+    if (!(r_t9 > 9ull)) { pre_r7 = 0u; r_pv = r_14; goto l_after_2t; }
     memset(slot_1, 0u, 24);
-    capnp_packing_packing_unpacking_unpack_words(slot_1, away(r_h6, r_14), r_t9_2, r_8z, r_17);
-    st64(r_bo, (ld64(r_bo) + ld64(slot_1)));
+    capnp_packing_packing_unpacking_unpack_words(slot_1, away(r_yf, r_14), r_t9, r_8z, r_17);
+    st64(r_4z, (ld64(r_4z) + ld64(slot_1)));
     u8 r_dd = ld8(r_p9_2);
     u16 r_8l = ld16(r_zo);
-    st8(r_4z, ld8(r_3o));
-    st8(r_lj, r_dd);
-    st16(r_id, r_8l);
-    st16(r_og, ld16(r_zd));
+    st8(r_8e, ld8(r_3o));
+    st8(r_vu, r_dd);
+    st16(r_tj, r_8l);
+    st16(r_5g, ld16(r_zd));
     r_4q = ld64(r_x5);
     goto l_arm_rr;
 l_after_2t:;
     st8(slot_3, pre_r7);
-    st8(r_p9, ld8(r_lj));
-    st16(r_u0, ld16(r_id));
-    u8 r_47_2 = ld8((r_h6 + (i64)(r_pv)));
-    st64(r_bo, (r_pv + 1ull));
-    capnp_packing_packing_place_step(slot_2, slot_3, r_47_2);
+    st8(r_p9, ld8(r_vu));
+    st16(r_u0, ld16(r_tj));
+    u8 r_47_1 = ld8((r_yf + (i64)(r_pv)));
+    st64(r_4z, (r_pv + 1ull));
+    capnp_packing_packing_place_step(slot_2, slot_3, r_47_1);
     u8 r_dd_1 = ld8(r_0v);
-    u16 r_f4_2 = ld16(r_g0);
-    st8(r_4z, ld8(r_ix));
-    st8(r_lj, r_dd_1);
-    st16(r_id, r_f4_2);
+    u16 r_f4 = ld16(r_g0);
+    st8(r_8e, ld8(r_ix));
+    st8(r_vu, r_dd_1);
+    st16(r_tj, r_f4);
     u16 r_15_1 = ld16(r_u0_1);
-    st16(r_og, r_15_1);
+    st16(r_5g, r_15_1);
     if (!(ld8(slot_2) == 1u)) { r_as = r_15_1; goto l_loop_io; }
     st8(r_8z, ld8(r_p9_1));
     r_qt = 1ull;
@@ -19892,12 +19931,12 @@ l_after_2t:;
 l_after_8b:;
     u64 a_f1_1 = umin64((u64)r_as, r_17);
     memset_or_none(r_8z, 0u, a_f1_1);
-    st16(r_og, (u16)(ld16(r_og) - (u16)a_f1_1));
+    st16(r_5g, (u16)(ld16(r_5g) - (u16)a_f1_1));
     r_4q = a_f1_1;
     goto l_arm_rr;
 l_capnp_3c:;
     if (r_fz == 0u) { r_4w = r_86; r_x4 = 0u; goto l_return_7d; }
-    goto l_arm_2y;
+    goto l_arm_vv;
 l_arm_65:;
     r_4j = r_qt;
     goto l_default_1x;
@@ -19905,14 +19944,14 @@ l_arm_rr:;
     if (r_4q == 0ull) { r_4w = r_86; r_x4 = 0u; goto l_return_7d; }
     r_4j = r_4q;
 l_default_1x:;
-    u64 r_5q_1 = (r_4j + r_86);
-    if (r_5q_1 < a_3) { r_86 = r_5q_1; goto l_join_73; }
-    r_4w = r_5q_1;
+    u64 r_5q = (r_4j + r_86);
+    if (r_5q < a_3) { r_86 = r_5q; goto l_join_73; }
+    r_4w = r_5q;
     r_x4 = 0u;
     goto l_return_7d;
-l_arm_2y:;
+l_arm_vv:;
     u8 r_wv = (u8)(r_86 == 0ull);
-    st8(away(a_1, 8278ull), r_wv);
+    st8(away(a_1, 8294ull), r_wv);
     r_4w = r_86;
     r_x4 = r_wv;
 l_return_7d:;
@@ -19923,8 +19962,8 @@ l_return_7d:;
     return r_ez;
 }
 
-/* capnp_framing::framing::segment::read_segment_into_with::<#6adaf98ab65c09bc> */
-void capnp_framing_framing_segment_read_segment_into_with_6_2d0ec467(u8 *a_1, u8 *a_2, u8 *a_3, u64 a_4, u8 *a_5)
+/* capnp_framing::framing::segment::read_segment_into_with::<#4842b3102269fb09> */
+void capnp_framing_framing_segment_read_segment_into_with_4_11baca4e(u8 *a_1, u8 *a_2, u8 *a_3, u64 a_4, u8 *a_5)
 {
     A(8) u8 slot_1[24];
     A(8) u8 slot_2[24];
@@ -19938,20 +19977,20 @@ void capnp_framing_framing_segment_read_segment_into_with_6_2d0ec467(u8 *a_1, u8
     u64 r_lj;
     u64 r_52;
     u64 r_mj;
-    u64 r_5p_1;
+    u64 r_5p;
     u64 r_ph;
     u64 r_az;
     u64 r_5q;
     u8 *r_lz;
     u64 r_r4;
     u8 r_r5;
-    u64 r_38_2;
+    u64 r_38;
     u64 r_jw;
     u64 a_fq;
     u8 *r_2b;
     u64 r_l3;
-    u64 r_87;
-    struct s_i8_i64 r_6b;
+    u64 r_as;
+    struct s_i8_i64 r_uh;
     u64 r_h9;
     u64 r_8a;
     u64 r_sv;
@@ -19977,18 +20016,18 @@ l_loop_hb:;
 l_join_98:;
     r_mj = (umin64(umin64(umax64(r_lj, 4096ull), (r_4k - r_lj)), 0x40000ull) + r_lj);
     if (!(r_mj > r_52)) { r_r4 = r_52; goto l_capnp_5s; }
-    r_5p_1 = (r_mj - r_52);
+    r_5p = (r_mj - r_52);
     u64 r_52_1 = ld64(r_2g);
-    if (!(r_5p_1 > (r_52_1 - r_52))) { r_ph = r_52_1; r_az = r_52; goto l_join_kx; }
-    u8 r_hi = std_alloc_vec_Vec_grow_amortized_ffd95af9aab10bcd(r_r2, r_5p_1);
+    if (!(r_5p > (r_52_1 - r_52))) { r_ph = r_52_1; r_az = r_52; goto l_join_kx; }
+    u8 r_hi = std_alloc_vec_Vec_grow_amortized_ffd95af9aab10bcd(r_r2, r_5p);
     if (!r_hi) goto l_capnp_9v;
     r_ph = ld64(r_2g);
     r_az = ld64(r_h6);
 l_join_kx:;
-    r_5q = (r_az + r_5p_1);
+    r_5q = (r_az + r_5p);
     r_lz = ldp(r_r2);
     if (!(r_az < r_5q)) goto l_std_re;
-    memset_or_none(away(r_lz, r_az), 0u, r_5p_1);
+    memset_or_none(away(r_lz, r_az), 0u, r_5p);
 l_std_re:;
     stp(r_r2, r_lz);
     st64(r_h6, r_5q);
@@ -20000,7 +20039,7 @@ l_capnp_5s:;
 l_capnp_9v:;
     capnp_framing_framing_reading_grow_3691078bae5dd839(slot_1, a_2, r_r2);
     r_r5 = ld8(r_x5);
-    r_38_2 = ld64(r_zd);
+    r_38 = ld64(r_zd);
     if (!(ld8(slot_1) == 0u)) goto l_arm_of;
     r_jw = ld64(r_h6);
 l_arm_m6:;
@@ -20008,22 +20047,22 @@ l_arm_m6:;
     r_2b = away(ldp(r_r2), r_lj);
     r_l3 = (a_fq - r_lj);
     if (a_fq == r_lj) { r_8a = 0ull; goto l_arm_72; }
-    r_87 = 0ull;
-    goto l_join_pq;
+    r_as = 0ull;
+    goto l_join_cz;
 l_loop_dw:;
-    u64 r_5q_1 = (r_h9 + r_87);
-    if (r_5q_1 < r_l3) { r_87 = r_5q_1; goto l_join_pq; }
+    u64 r_5q_1 = (r_h9 + r_as);
+    if (r_5q_1 < r_l3) { r_as = r_5q_1; goto l_join_cz; }
     r_8a = r_5q_1;
     goto l_arm_72;
-l_join_pq:;
-    r_6b = capnp_packing_buffered_standard_BufReaderInputInput_re_5f136c95(a_3, away(r_2b, r_87), (r_l3 - r_87));
-    if (!(r_6b.f0 == 0u)) { r_ba = 4ull; sink_ia = 0ull; goto l_arm_nd; }
-    r_h9 = r_6b.f1;
-    if (r_h9 == 0ull) { r_8a = r_87; goto l_arm_72; }
+l_join_cz:;
+    r_uh = capnp_packing_buffered_standard_BufReaderInputInput_re_133b1ec6(a_3, away(r_2b, r_as), (r_l3 - r_as));
+    if (!(r_uh.f0 == 0u)) { r_ba = 4ull; sink_ia = 0ull; goto l_arm_nd; }
+    r_h9 = r_uh.f1;
+    if (r_h9 == 0ull) { r_8a = r_as; goto l_arm_72; }
     goto l_loop_dw;
 l_arm_of:;
     r_ba = (u64)r_r5;
-    sink_ia = r_38_2;
+    sink_ia = r_38;
     goto l_arm_nd;
 l_arm_72:;
     u64 r_5q_2 = (r_8a + r_lj);
@@ -20059,23 +20098,23 @@ l_join_80:;
     memset(away(a_1, 8ull), 0u, 16);
     goto l_common_68;
 l_arm_qr:;
-    u64 r_38_4 = ld64((slot_2 + 16));
+    u64 r_38_1 = ld64((slot_2 + 16));
     u64 r_eg = (u64)ld8((slot_2 + 8));
     st8(a_1, 1u);
     st64(away(a_1, 8ull), r_eg);
-    st64(away(a_1, 16ull), r_38_4);
+    st64(away(a_1, 16ull), r_38_1);
     goto l_common_68;
 }
 
-/* capnp_framing::framing::reading::read_into::<#d071863e85f20ee2> */
-void capnp_framing_framing_reading_read_into_d071863e85f20ee2(u8 *a_1, u8 *a_2, u64 a_3, u8 *a_4)
+/* capnp_framing::framing::reading::read_into::<#28cb2c7335392011> */
+void capnp_framing_framing_reading_read_into_28cb2c7335392011(u8 *a_1, u8 *a_2, u64 a_3, u8 *a_4)
 {
     A(8) u8 slot_1[24];
     A(4) u8 slot_2[4];
     A(8) u8 slot_3[16];
     u8 *r_r2;
-    u64 r_r3;
-    struct s_i8_i64 r_cf;
+    u64 r_u8;
+    struct s_i8_i64 r_67;
     u64 r_h9;
     u64 r_98;
     u64 r_r5;
@@ -20095,41 +20134,41 @@ void capnp_framing_framing_reading_read_into_d071863e85f20ee2(u8 *a_1, u8 *a_2, 
     u8 *r_lz;
     u64 r_xz_1;
     u64 a_9c;
-    u8 *r_2b_1;
+    u8 *r_2b;
     u64 r_l3;
-    u64 r_1v;
-    struct s_i8_i64 r_cf_1;
+    u64 r_1y;
+    struct s_i8_i64 r_67_1;
     u64 r_h9_1;
     u64 r_9o;
-    u8 *r_lz_2;
+    u8 *r_lz_1;
     u8 *r_xm;
     u8 *r_su;
-    u8 *r_t9_1;
+    u8 *r_t9;
     u64 r_l5;
     u64 r_rx;
     u64 r_wy;
     u64 r_5q_3;
     u64 r_le;
-    u64 r_44_1;
+    u64 r_44;
     u8 *r_h6;
     u8 *r_2g;
     u8 *r_x5_1;
     u8 *r_zd_1;
     u64 r_lj;
-    u64 r_52_4;
+    u64 r_52_2;
     u64 r_vz;
-    u64 r_e9_2;
+    u64 r_e9;
     u64 r_ph_1;
     u64 r_az_1;
     u64 r_5q_4;
-    u8 *r_lz_4;
+    u8 *r_lz_2;
     u64 r_r4;
     u64 r_dv;
     u64 a_9c_1;
-    u8 *r_2b_3;
+    u8 *r_2b_1;
     u64 r_0j;
-    u64 r_1v_1;
-    struct s_i8_i64 r_cf_2;
+    u64 r_1y_1;
+    struct s_i8_i64 r_67_2;
     u64 r_h9_2;
     u64 r_9o_1;
     u8 r_b4;
@@ -20140,18 +20179,18 @@ void capnp_framing_framing_reading_read_into_d071863e85f20ee2(u8 *a_1, u8 *a_2, 
     memset(slot_3, 0u, 16);
     st64(a_4, 0ull);
     st32(slot_2, 0u);
-    r_r3 = 0ull;
-    goto l_join_3a;
+    r_u8 = 0ull;
+    goto l_join_r7;
 l_loop_yc:;
-    u64 r_5q = (r_h9 + r_r3);
-    if (r_5q < 4ull) { r_r3 = r_5q; goto l_join_3a; }
+    u64 r_5q = (r_h9 + r_u8);
+    if (r_5q < 4ull) { r_u8 = r_5q; goto l_join_r7; }
     r_98 = r_5q;
     goto l_arm_94;
-l_join_3a:;
-    r_cf = capnp_packing_buffered_standard_BufReaderInputInput_re_5f136c95(a_2, away(slot_2, r_r3), (4ull - r_r3));
-    if (!(r_cf.f0 == 0u)) { r_b4 = 1u; r_e6 = 0u; r_dt = 4u; r_83 = 0ull; goto l_capnp_oq; }
-    r_h9 = r_cf.f1;
-    if (r_h9 == 0ull) { r_98 = r_r3; goto l_arm_94; }
+l_join_r7:;
+    r_67 = capnp_packing_buffered_standard_BufReaderInputInput_re_133b1ec6(a_2, away(slot_2, r_u8), (4ull - r_u8));
+    if (!(r_67.f0 == 0u)) { r_b4 = 1u; r_e6 = 0u; r_dt = 4u; r_83 = 0ull; goto l_capnp_oq; }
+    r_h9 = r_67.f1;
+    if (r_h9 == 0ull) { r_98 = r_u8; goto l_arm_94; }
     goto l_loop_yc;
 l_arm_94:;
     switch (r_98) {
@@ -20212,21 +20251,21 @@ l_capnp_pn:;
     r_xz_1 = ld64(r_08);
 l_arm_gi:;
     a_9c = umin64(r_xz_1, r_lc);
-    r_2b_1 = away(ldp(r_rq), r_09);
+    r_2b = away(ldp(r_rq), r_09);
     r_l3 = (a_9c - r_09);
     if (a_9c == r_09) { r_9o = 0ull; goto l_capnp_ud; }
-    r_1v = 0ull;
-    goto l_join_tp;
+    r_1y = 0ull;
+    goto l_join_7l;
 l_loop_lw:;
-    u64 r_5q_2 = (r_h9_1 + r_1v);
-    if (r_5q_2 < r_l3) { r_1v = r_5q_2; goto l_join_tp; }
+    u64 r_5q_2 = (r_h9_1 + r_1y);
+    if (r_5q_2 < r_l3) { r_1y = r_5q_2; goto l_join_7l; }
     r_9o = r_5q_2;
     goto l_capnp_ud;
-l_join_tp:;
-    r_cf_1 = capnp_packing_buffered_standard_BufReaderInputInput_re_5f136c95(a_2, away(r_2b_1, r_1v), (r_l3 - r_1v));
-    if (!(r_cf_1.f0 == 0u)) { r_b4 = 1u; r_e6 = 0u; r_dt = 4u; r_83 = 0ull; goto l_capnp_oq; }
-    r_h9_1 = r_cf_1.f1;
-    if (r_h9_1 == 0ull) { r_9o = r_1v; goto l_capnp_ud; }
+l_join_7l:;
+    r_67_1 = capnp_packing_buffered_standard_BufReaderInputInput_re_133b1ec6(a_2, away(r_2b, r_1y), (r_l3 - r_1y));
+    if (!(r_67_1.f0 == 0u)) { r_b4 = 1u; r_e6 = 0u; r_dt = 4u; r_83 = 0ull; goto l_capnp_oq; }
+    r_h9_1 = r_67_1.f1;
+    if (r_h9_1 == 0ull) { r_9o = r_1y; goto l_capnp_ud; }
     goto l_loop_lw;
 l_capnp_ud:;
     if (r_9o == r_l3) { r_09 = a_9c; goto l_loop_t9; }
@@ -20236,19 +20275,19 @@ l_capnp_ud:;
     r_83 = 0ull;
     goto l_capnp_oq;
 l_arm_9w:;
-    r_lz_2 = ldp(r_rq);
+    r_lz_1 = ldp(r_rq);
     r_xm = away(a_4, 32ull);
     r_su = away(a_4, 40ull);
     if (ld64(r_su) == 0ull) goto l_join_mh;
     st64(r_su, 0ull);
 l_join_mh:;
-    r_t9_1 = away(a_4, 48ull);
+    r_t9 = away(a_4, 48ull);
     r_l5 = 0ull;
     r_rx = 0ull;
     r_wy = 0ull;
 l_join_rl:;
-    r_5q_3 = (r_rx + (u64)ld32((r_lz_2 + (i64)((u64)(r_wy << 2ull)))));
-    if (!(ld64(r_t9_1) == r_l5)) { r_le = r_l5; goto l_std_28; }
+    r_5q_3 = (r_rx + (u64)ld32((r_lz_1 + (i64)((u64)(r_wy << 2ull)))));
+    if (!(ld64(r_t9) == r_l5)) { r_le = r_l5; goto l_std_28; }
     u8 r_db = std_alloc_vec_Vec_grow_amortized_5e63141f0e39c5e0(r_xm);
     if (!r_db) { r_b4 = 1u; r_e6 = 0u; r_dt = 6u; r_83 = 0ull; goto l_capnp_oq; }
     r_le = ld64(r_su);
@@ -20258,41 +20297,41 @@ l_std_28:;
     st64(r_su, r_7n);
     if (!(r_wy == r_r5)) { u64 r_1 = r_7n; u64 r_2 = r_5q_3; u64 r_3 = (r_wy + 1ull); r_l5 = r_1; r_rx = r_2; r_wy = r_3; goto l_join_rl; }
     if (a_3 < r_5q_3) { r_b4 = 1u; r_e6 = 0u; r_dt = 2u; r_83 = r_5q_3; goto l_capnp_oq; }
-    r_44_1 = (u64)(r_5q_3 << 3ull);
+    r_44 = (u64)(r_5q_3 << 3ull);
     r_h6 = away(a_4, 64ull);
     r_2g = away(a_4, 72ull);
     r_x5_1 = (slot_1 + 8);
     r_zd_1 = (slot_1 + 16);
     r_lj = 0ull;
 l_loop_hb:;
-    if (!(r_lj < r_44_1)) goto l_arm_hg;
+    if (!(r_lj < r_44)) goto l_arm_hg;
     memset(slot_1, 0u, 24);
-    r_52_4 = ld64(r_h6);
-    if (!(r_lj < r_52_4)) goto l_join_c5;
-    r_dv = r_52_4;
+    r_52_2 = ld64(r_h6);
+    if (!(r_lj < r_52_2)) goto l_join_c5;
+    r_dv = r_52_2;
     goto l_arm_df;
 l_join_c5:;
-    r_vz = (umin64((r_44_1 - r_lj), 0x40000ull) + r_lj);
-    if (r_vz > r_52_4) goto l_join_q6;
-    if (!(r_52_4 > r_vz)) { r_r4 = r_52_4; goto l_capnp_5s; }
+    r_vz = (umin64((r_44 - r_lj), 0x40000ull) + r_lj);
+    if (r_vz > r_52_2) goto l_join_q6;
+    if (!(r_52_2 > r_vz)) { r_r4 = r_52_2; goto l_capnp_5s; }
     st64(r_h6, r_vz);
     r_r4 = r_vz;
     goto l_capnp_5s;
 l_join_q6:;
-    r_e9_2 = (r_vz - r_52_4);
-    u64 r_52_5 = ld64(r_2g);
-    if (!(r_e9_2 > (r_52_5 - r_52_4))) { r_ph_1 = r_52_5; r_az_1 = r_52_4; goto l_join_kx_1; }
-    u8 r_qy_1 = std_alloc_vec_Vec_grow_amortized_ffd95af9aab10bcd(r_r2, r_e9_2);
+    r_e9 = (r_vz - r_52_2);
+    u64 r_52_3 = ld64(r_2g);
+    if (!(r_e9 > (r_52_3 - r_52_2))) { r_ph_1 = r_52_3; r_az_1 = r_52_2; goto l_join_kx_1; }
+    u8 r_qy_1 = std_alloc_vec_Vec_grow_amortized_ffd95af9aab10bcd(r_r2, r_e9);
     if (!r_qy_1) goto l_capnp_pn_1;
     r_ph_1 = ld64(r_2g);
     r_az_1 = ld64(r_h6);
 l_join_kx_1:;
-    r_5q_4 = (r_az_1 + r_e9_2);
-    r_lz_4 = ldp(r_r2);
+    r_5q_4 = (r_az_1 + r_e9);
+    r_lz_2 = ldp(r_r2);
     if (!(r_az_1 < r_5q_4)) goto l_std_re;
-    memset_or_none(away(r_lz_4, r_az_1), 0u, r_e9_2);
+    memset_or_none(away(r_lz_2, r_az_1), 0u, r_e9);
 l_std_re:;
-    stp(r_r2, r_lz_4);
+    stp(r_r2, r_lz_2);
     st64(r_h6, r_5q_4);
     st64(r_2g, r_ph_1);
     r_r4 = r_5q_4;
@@ -20304,22 +20343,22 @@ l_capnp_pn_1:;
     if (!(ld8(slot_1) == 0u)) { r_b4 = 1u; r_e6 = 0u; r_dt = ld8(r_x5_1); r_83 = ld64(r_zd_1); goto l_capnp_oq; }
     r_dv = ld64(r_h6);
 l_arm_df:;
-    a_9c_1 = umin64(r_dv, r_44_1);
-    r_2b_3 = away(ldp(r_r2), r_lj);
+    a_9c_1 = umin64(r_dv, r_44);
+    r_2b_1 = away(ldp(r_r2), r_lj);
     r_0j = (a_9c_1 - r_lj);
     if (a_9c_1 == r_lj) { r_9o_1 = 0ull; goto l_capnp_ud_1; }
-    r_1v_1 = 0ull;
-    goto l_join_tp_1;
+    r_1y_1 = 0ull;
+    goto l_join_7l_1;
 l_loop_lw_1:;
-    u64 r_5q_5 = (r_h9_2 + r_1v_1);
-    if (r_5q_5 < r_0j) { r_1v_1 = r_5q_5; goto l_join_tp_1; }
+    u64 r_5q_5 = (r_h9_2 + r_1y_1);
+    if (r_5q_5 < r_0j) { r_1y_1 = r_5q_5; goto l_join_7l_1; }
     r_9o_1 = r_5q_5;
     goto l_capnp_ud_1;
-l_join_tp_1:;
-    r_cf_2 = capnp_packing_buffered_standard_BufReaderInputInput_re_5f136c95(a_2, away(r_2b_3, r_1v_1), (r_0j - r_1v_1));
-    if (!(r_cf_2.f0 == 0u)) { r_b4 = 1u; r_e6 = 0u; r_dt = 4u; r_83 = 0ull; goto l_capnp_oq; }
-    r_h9_2 = r_cf_2.f1;
-    if (r_h9_2 == 0ull) { r_9o_1 = r_1v_1; goto l_capnp_ud_1; }
+l_join_7l_1:;
+    r_67_2 = capnp_packing_buffered_standard_BufReaderInputInput_re_133b1ec6(a_2, away(r_2b_1, r_1y_1), (r_0j - r_1y_1));
+    if (!(r_67_2.f0 == 0u)) { r_b4 = 1u; r_e6 = 0u; r_dt = 4u; r_83 = 0ull; goto l_capnp_oq; }
+    r_h9_2 = r_67_2.f1;
+    if (r_h9_2 == 0ull) { r_9o_1 = r_1y_1; goto l_capnp_ud_1; }
     goto l_loop_lw_1;
 l_capnp_ud_1:;
     if (r_9o_1 == r_0j) { r_lj = a_9c_1; goto l_loop_hb; }
@@ -20342,15 +20381,15 @@ l_capnp_oq:;
     return;
 }
 
-/* capnp_framing::framing::reading::read_into::<#d766ad1d9e03f97d> */
-void capnp_framing_framing_reading_read_into_d766ad1d9e03f97d(u8 *a_1, u8 *a_2, u64 a_3, u8 *a_4)
+/* capnp_framing::framing::reading::read_into::<#d8196ca387589751> */
+void capnp_framing_framing_reading_read_into_d8196ca387589751(u8 *a_1, u8 *a_2, u64 a_3, u8 *a_4)
 {
     A(8) u8 slot_1[24];
     A(4) u8 slot_2[4];
     A(8) u8 slot_3[16];
     u8 *r_r2;
-    u64 r_i0;
-    struct s_i8_i64 r_xc;
+    u64 r_lm;
+    struct s_i8_i64 r_y3;
     u64 r_h9;
     u64 r_98;
     u64 r_r5;
@@ -20370,41 +20409,41 @@ void capnp_framing_framing_reading_read_into_d766ad1d9e03f97d(u8 *a_1, u8 *a_2, 
     u8 *r_lz;
     u64 r_xz_1;
     u64 a_9c;
-    u8 *r_2b_1;
+    u8 *r_2b;
     u64 r_l3;
-    u64 r_bw;
-    struct s_i8_i64 r_xc_1;
+    u64 r_9n;
+    struct s_i8_i64 r_y3_1;
     u64 r_h9_1;
     u64 r_9o;
-    u8 *r_lz_2;
+    u8 *r_lz_1;
     u8 *r_xm;
     u8 *r_su;
-    u8 *r_t9_1;
+    u8 *r_t9;
     u64 r_l5;
     u64 r_rx;
     u64 r_wy;
     u64 r_5q_3;
     u64 r_le;
-    u64 r_44_1;
+    u64 r_44;
     u8 *r_h6;
     u8 *r_2g;
     u8 *r_x5_1;
     u8 *r_zd_1;
     u64 r_lj;
-    u64 r_52_4;
+    u64 r_52_2;
     u64 r_vz;
-    u64 r_e9_2;
+    u64 r_e9;
     u64 r_ph_1;
     u64 r_az_1;
     u64 r_5q_4;
-    u8 *r_lz_4;
+    u8 *r_lz_2;
     u64 r_r4;
     u64 r_dv;
     u64 a_9c_1;
-    u8 *r_2b_3;
+    u8 *r_2b_1;
     u64 r_0j;
-    u64 r_bw_1;
-    struct s_i8_i64 r_xc_2;
+    u64 r_9n_1;
+    struct s_i8_i64 r_y3_2;
     u64 r_h9_2;
     u64 r_9o_1;
     u8 r_b4;
@@ -20415,18 +20454,18 @@ void capnp_framing_framing_reading_read_into_d766ad1d9e03f97d(u8 *a_1, u8 *a_2, 
     memset(slot_3, 0u, 16);
     st64(a_4, 0ull);
     st32(slot_2, 0u);
-    r_i0 = 0ull;
-    goto l_join_b4;
+    r_lm = 0ull;
+    goto l_join_8w;
 l_loop_yc:;
-    u64 r_5q = (r_h9 + r_i0);
-    if (r_5q < 4ull) { r_i0 = r_5q; goto l_join_b4; }
+    u64 r_5q = (r_h9 + r_lm);
+    if (r_5q < 4ull) { r_lm = r_5q; goto l_join_8w; }
     r_98 = r_5q;
     goto l_arm_94;
-l_join_b4:;
-    r_xc = capnp_packing_packing_unpacking_input_UnpackingInput_u_ac141739(a_2, away(slot_2, r_i0), (4ull - r_i0));
-    if (!(r_xc.f0 == 0u)) { r_b4 = 1u; r_e6 = 0u; r_dt = 4u; r_83 = 0ull; goto l_capnp_oq; }
-    r_h9 = r_xc.f1;
-    if (r_h9 == 0ull) { r_98 = r_i0; goto l_arm_94; }
+l_join_8w:;
+    r_y3 = capnp_packing_packing_unpacking_input_UnpackingInput_u_5217efb3(a_2, away(slot_2, r_lm), (4ull - r_lm));
+    if (!(r_y3.f0 == 0u)) { r_b4 = 1u; r_e6 = 0u; r_dt = 4u; r_83 = 0ull; goto l_capnp_oq; }
+    r_h9 = r_y3.f1;
+    if (r_h9 == 0ull) { r_98 = r_lm; goto l_arm_94; }
     goto l_loop_yc;
 l_arm_94:;
     switch (r_98) {
@@ -20487,21 +20526,21 @@ l_capnp_pn:;
     r_xz_1 = ld64(r_08);
 l_arm_gi:;
     a_9c = umin64(r_xz_1, r_lc);
-    r_2b_1 = away(ldp(r_rq), r_09);
+    r_2b = away(ldp(r_rq), r_09);
     r_l3 = (a_9c - r_09);
     if (a_9c == r_09) { r_9o = 0ull; goto l_capnp_ud; }
-    r_bw = 0ull;
-    goto l_join_ih;
+    r_9n = 0ull;
+    goto l_join_js;
 l_loop_lw:;
-    u64 r_5q_2 = (r_h9_1 + r_bw);
-    if (r_5q_2 < r_l3) { r_bw = r_5q_2; goto l_join_ih; }
+    u64 r_5q_2 = (r_h9_1 + r_9n);
+    if (r_5q_2 < r_l3) { r_9n = r_5q_2; goto l_join_js; }
     r_9o = r_5q_2;
     goto l_capnp_ud;
-l_join_ih:;
-    r_xc_1 = capnp_packing_packing_unpacking_input_UnpackingInput_u_ac141739(a_2, away(r_2b_1, r_bw), (r_l3 - r_bw));
-    if (!(r_xc_1.f0 == 0u)) { r_b4 = 1u; r_e6 = 0u; r_dt = 4u; r_83 = 0ull; goto l_capnp_oq; }
-    r_h9_1 = r_xc_1.f1;
-    if (r_h9_1 == 0ull) { r_9o = r_bw; goto l_capnp_ud; }
+l_join_js:;
+    r_y3_1 = capnp_packing_packing_unpacking_input_UnpackingInput_u_5217efb3(a_2, away(r_2b, r_9n), (r_l3 - r_9n));
+    if (!(r_y3_1.f0 == 0u)) { r_b4 = 1u; r_e6 = 0u; r_dt = 4u; r_83 = 0ull; goto l_capnp_oq; }
+    r_h9_1 = r_y3_1.f1;
+    if (r_h9_1 == 0ull) { r_9o = r_9n; goto l_capnp_ud; }
     goto l_loop_lw;
 l_capnp_ud:;
     if (r_9o == r_l3) { r_09 = a_9c; goto l_loop_t9; }
@@ -20511,19 +20550,19 @@ l_capnp_ud:;
     r_83 = 0ull;
     goto l_capnp_oq;
 l_arm_9w:;
-    r_lz_2 = ldp(r_rq);
+    r_lz_1 = ldp(r_rq);
     r_xm = away(a_4, 32ull);
     r_su = away(a_4, 40ull);
     if (ld64(r_su) == 0ull) goto l_join_mh;
     st64(r_su, 0ull);
 l_join_mh:;
-    r_t9_1 = away(a_4, 48ull);
+    r_t9 = away(a_4, 48ull);
     r_l5 = 0ull;
     r_rx = 0ull;
     r_wy = 0ull;
 l_join_rl:;
-    r_5q_3 = (r_rx + (u64)ld32((r_lz_2 + (i64)((u64)(r_wy << 2ull)))));
-    if (!(ld64(r_t9_1) == r_l5)) { r_le = r_l5; goto l_std_28; }
+    r_5q_3 = (r_rx + (u64)ld32((r_lz_1 + (i64)((u64)(r_wy << 2ull)))));
+    if (!(ld64(r_t9) == r_l5)) { r_le = r_l5; goto l_std_28; }
     u8 r_db = std_alloc_vec_Vec_grow_amortized_5e63141f0e39c5e0(r_xm);
     if (!r_db) { r_b4 = 1u; r_e6 = 0u; r_dt = 6u; r_83 = 0ull; goto l_capnp_oq; }
     r_le = ld64(r_su);
@@ -20533,41 +20572,41 @@ l_std_28:;
     st64(r_su, r_7n);
     if (!(r_wy == r_r5)) { u64 r_1 = r_7n; u64 r_2 = r_5q_3; u64 r_3 = (r_wy + 1ull); r_l5 = r_1; r_rx = r_2; r_wy = r_3; goto l_join_rl; }
     if (a_3 < r_5q_3) { r_b4 = 1u; r_e6 = 0u; r_dt = 2u; r_83 = r_5q_3; goto l_capnp_oq; }
-    r_44_1 = (u64)(r_5q_3 << 3ull);
+    r_44 = (u64)(r_5q_3 << 3ull);
     r_h6 = away(a_4, 64ull);
     r_2g = away(a_4, 72ull);
     r_x5_1 = (slot_1 + 8);
     r_zd_1 = (slot_1 + 16);
     r_lj = 0ull;
 l_loop_hb:;
-    if (!(r_lj < r_44_1)) goto l_arm_hg;
+    if (!(r_lj < r_44)) goto l_arm_hg;
     memset(slot_1, 0u, 24);
-    r_52_4 = ld64(r_h6);
-    if (!(r_lj < r_52_4)) goto l_join_c5;
-    r_dv = r_52_4;
+    r_52_2 = ld64(r_h6);
+    if (!(r_lj < r_52_2)) goto l_join_c5;
+    r_dv = r_52_2;
     goto l_arm_df;
 l_join_c5:;
-    r_vz = (umin64((r_44_1 - r_lj), 0x40000ull) + r_lj);
-    if (r_vz > r_52_4) goto l_join_q6;
-    if (!(r_52_4 > r_vz)) { r_r4 = r_52_4; goto l_capnp_5s; }
+    r_vz = (umin64((r_44 - r_lj), 0x40000ull) + r_lj);
+    if (r_vz > r_52_2) goto l_join_q6;
+    if (!(r_52_2 > r_vz)) { r_r4 = r_52_2; goto l_capnp_5s; }
     st64(r_h6, r_vz);
     r_r4 = r_vz;
     goto l_capnp_5s;
 l_join_q6:;
-    r_e9_2 = (r_vz - r_52_4);
-    u64 r_52_5 = ld64(r_2g);
-    if (!(r_e9_2 > (r_52_5 - r_52_4))) { r_ph_1 = r_52_5; r_az_1 = r_52_4; goto l_join_kx_1; }
-    u8 r_qy_1 = std_alloc_vec_Vec_grow_amortized_ffd95af9aab10bcd(r_r2, r_e9_2);
+    r_e9 = (r_vz - r_52_2);
+    u64 r_52_3 = ld64(r_2g);
+    if (!(r_e9 > (r_52_3 - r_52_2))) { r_ph_1 = r_52_3; r_az_1 = r_52_2; goto l_join_kx_1; }
+    u8 r_qy_1 = std_alloc_vec_Vec_grow_amortized_ffd95af9aab10bcd(r_r2, r_e9);
     if (!r_qy_1) goto l_capnp_pn_1;
     r_ph_1 = ld64(r_2g);
     r_az_1 = ld64(r_h6);
 l_join_kx_1:;
-    r_5q_4 = (r_az_1 + r_e9_2);
-    r_lz_4 = ldp(r_r2);
+    r_5q_4 = (r_az_1 + r_e9);
+    r_lz_2 = ldp(r_r2);
     if (!(r_az_1 < r_5q_4)) goto l_std_re;
-    memset_or_none(away(r_lz_4, r_az_1), 0u, r_e9_2);
+    memset_or_none(away(r_lz_2, r_az_1), 0u, r_e9);
 l_std_re:;
-    stp(r_r2, r_lz_4);
+    stp(r_r2, r_lz_2);
     st64(r_h6, r_5q_4);
     st64(r_2g, r_ph_1);
     r_r4 = r_5q_4;
@@ -20579,22 +20618,22 @@ l_capnp_pn_1:;
     if (!(ld8(slot_1) == 0u)) { r_b4 = 1u; r_e6 = 0u; r_dt = ld8(r_x5_1); r_83 = ld64(r_zd_1); goto l_capnp_oq; }
     r_dv = ld64(r_h6);
 l_arm_df:;
-    a_9c_1 = umin64(r_dv, r_44_1);
-    r_2b_3 = away(ldp(r_r2), r_lj);
+    a_9c_1 = umin64(r_dv, r_44);
+    r_2b_1 = away(ldp(r_r2), r_lj);
     r_0j = (a_9c_1 - r_lj);
     if (a_9c_1 == r_lj) { r_9o_1 = 0ull; goto l_capnp_ud_1; }
-    r_bw_1 = 0ull;
-    goto l_join_ih_1;
+    r_9n_1 = 0ull;
+    goto l_join_js_1;
 l_loop_lw_1:;
-    u64 r_5q_5 = (r_h9_2 + r_bw_1);
-    if (r_5q_5 < r_0j) { r_bw_1 = r_5q_5; goto l_join_ih_1; }
+    u64 r_5q_5 = (r_h9_2 + r_9n_1);
+    if (r_5q_5 < r_0j) { r_9n_1 = r_5q_5; goto l_join_js_1; }
     r_9o_1 = r_5q_5;
     goto l_capnp_ud_1;
-l_join_ih_1:;
-    r_xc_2 = capnp_packing_packing_unpacking_input_UnpackingInput_u_ac141739(a_2, away(r_2b_3, r_bw_1), (r_0j - r_bw_1));
-    if (!(r_xc_2.f0 == 0u)) { r_b4 = 1u; r_e6 = 0u; r_dt = 4u; r_83 = 0ull; goto l_capnp_oq; }
-    r_h9_2 = r_xc_2.f1;
-    if (r_h9_2 == 0ull) { r_9o_1 = r_bw_1; goto l_capnp_ud_1; }
+l_join_js_1:;
+    r_y3_2 = capnp_packing_packing_unpacking_input_UnpackingInput_u_5217efb3(a_2, away(r_2b_1, r_9n_1), (r_0j - r_9n_1));
+    if (!(r_y3_2.f0 == 0u)) { r_b4 = 1u; r_e6 = 0u; r_dt = 4u; r_83 = 0ull; goto l_capnp_oq; }
+    r_h9_2 = r_y3_2.f1;
+    if (r_h9_2 == 0ull) { r_9o_1 = r_9n_1; goto l_capnp_ud_1; }
     goto l_loop_lw_1;
 l_capnp_ud_1:;
     if (r_9o_1 == r_0j) { r_lj = a_9c_1; goto l_loop_hb; }
@@ -20617,8 +20656,8 @@ l_capnp_oq:;
     return;
 }
 
-/* capnp_framing::framing::segment::read_segment_into::<#d071863e85f20ee2> */
-void capnp_framing_framing_segment_read_segment_into_d07186_5a1bebfa(u8 *a_1, u8 *a_2, u64 a_3, u8 *a_4)
+/* capnp_framing::framing::segment::read_segment_into::<#28cb2c7335392011> */
+void capnp_framing_framing_segment_read_segment_into_28cb2c_6a4621be(u8 *a_1, u8 *a_2, u64 a_3, u8 *a_4)
 {
     A(8) u8 slot_1[24];
     A(8) u8 slot_2[16];
@@ -20632,20 +20671,20 @@ void capnp_framing_framing_segment_read_segment_into_d07186_5a1bebfa(u8 *a_1, u8
     u64 r_lj;
     u64 r_52;
     u64 r_mj;
-    u64 r_5p_1;
+    u64 r_5p;
     u64 r_ph;
     u64 r_az;
     u64 r_5q;
     u8 *r_lz;
     u64 r_r4;
     u8 r_r5;
-    u64 r_38_2;
+    u64 r_38;
     u64 r_jw;
     u64 a_fq;
     u8 *r_2b;
     u64 r_l3;
-    u64 r_87;
-    struct s_i8_i64 r_6b;
+    u64 r_as;
+    struct s_i8_i64 r_uh;
     u64 r_h9;
     u64 r_8a;
     u64 r_sv;
@@ -20685,18 +20724,18 @@ l_loop_hb:;
 l_join_98:;
     r_mj = (umin64(umin64(umax64(r_lj, 4096ull), (r_4k - r_lj)), 0x40000ull) + r_lj);
     if (!(r_mj > r_52)) { r_r4 = r_52; goto l_capnp_5s; }
-    r_5p_1 = (r_mj - r_52);
+    r_5p = (r_mj - r_52);
     u64 r_52_1 = ld64(r_2g);
-    if (!(r_5p_1 > (r_52_1 - r_52))) { r_ph = r_52_1; r_az = r_52; goto l_join_kx; }
-    u8 r_hi = std_alloc_vec_Vec_grow_amortized_ffd95af9aab10bcd(r_r2, r_5p_1);
+    if (!(r_5p > (r_52_1 - r_52))) { r_ph = r_52_1; r_az = r_52; goto l_join_kx; }
+    u8 r_hi = std_alloc_vec_Vec_grow_amortized_ffd95af9aab10bcd(r_r2, r_5p);
     if (!r_hi) goto l_capnp_pn;
     r_ph = ld64(r_2g);
     r_az = ld64(r_h6);
 l_join_kx:;
-    r_5q = (r_az + r_5p_1);
+    r_5q = (r_az + r_5p);
     r_lz = ldp(r_r2);
     if (!(r_az < r_5q)) goto l_std_re;
-    memset_or_none(away(r_lz, r_az), 0u, r_5p_1);
+    memset_or_none(away(r_lz, r_az), 0u, r_5p);
 l_std_re:;
     stp(r_r2, r_lz);
     st64(r_h6, r_5q);
@@ -20708,7 +20747,7 @@ l_capnp_5s:;
 l_capnp_pn:;
     capnp_framing_framing_reading_grow_7f7dbdafe4478eeb(slot_1, slot_2, r_r2);
     r_r5 = ld8(r_x5);
-    r_38_2 = ld64(r_zd);
+    r_38 = ld64(r_zd);
     if (!(ld8(slot_1) == 0u)) goto l_arm_3n;
     r_jw = ld64(r_h6);
 l_arm_m6:;
@@ -20716,23 +20755,23 @@ l_arm_m6:;
     r_2b = away(ldp(r_r2), r_lj);
     r_l3 = (a_fq - r_lj);
     if (a_fq == r_lj) { r_8a = 0ull; goto l_arm_72; }
-    r_87 = 0ull;
-    goto l_join_pq;
+    r_as = 0ull;
+    goto l_join_cz;
 l_loop_dw:;
-    u64 r_5q_1 = (r_h9 + r_87);
-    if (r_5q_1 < r_l3) { r_87 = r_5q_1; goto l_join_pq; }
+    u64 r_5q_1 = (r_h9 + r_as);
+    if (r_5q_1 < r_l3) { r_as = r_5q_1; goto l_join_cz; }
     r_8a = r_5q_1;
     goto l_arm_72;
-l_join_pq:;
-    r_6b = capnp_packing_buffered_standard_BufReaderInputInput_re_5f136c95(a_2, away(r_2b, r_87), (r_l3 - r_87));
-    if (!(r_6b.f0 == 0u)) { r_9k = 1u; r_ni = 4ull; r_it = 0ull; goto l_capnp_4l; }
-    r_h9 = r_6b.f1;
-    if (r_h9 == 0ull) { r_8a = r_87; goto l_arm_72; }
+l_join_cz:;
+    r_uh = capnp_packing_buffered_standard_BufReaderInputInput_re_133b1ec6(a_2, away(r_2b, r_as), (r_l3 - r_as));
+    if (!(r_uh.f0 == 0u)) { r_9k = 1u; r_ni = 4ull; r_it = 0ull; goto l_capnp_4l; }
+    r_h9 = r_uh.f1;
+    if (r_h9 == 0ull) { r_8a = r_as; goto l_arm_72; }
     goto l_loop_dw;
 l_arm_3n:;
     r_9k = 1u;
     r_ni = (u64)r_r5;
-    r_it = r_38_2;
+    r_it = r_38;
     goto l_capnp_4l;
 l_arm_72:;
     u64 r_5q_2 = (r_8a + r_lj);
@@ -20776,8 +20815,8 @@ l_std_dy:;
     u64 r_c4 = (r_cg + 1ull);
     if (!(r_c4 == 4ull)) { r_hh = r_7n; r_cg = r_c4; goto l_join_ye; }
     r_nb = (r_oz & 0xffffffffull);
-    u64 r_52_5 = ld64(r_su);
-    if (!(ld64(away(a_4, 48ull)) == r_52_5)) { r_le = r_52_5; goto l_arm_28; }
+    u64 r_52_2 = ld64(r_su);
+    if (!(ld64(away(a_4, 48ull)) == r_52_2)) { r_le = r_52_2; goto l_arm_28; }
     u8 r_b8 = std_alloc_vec_Vec_grow_amortized_5e63141f0e39c5e0(r_xm);
     if (!r_b8) goto l_arm_8g;
     r_le = ld64(r_su);
@@ -20939,10 +20978,10 @@ l_t_5s:;
     t_1m = (r_cm + 1ull);
 l_capnp_je:;
     u8 *t_dx = away(r_gh, t_1m);
-    u8 r_dg_1 = (ld8(away(t_dx, 0xffffffffffffffffull)) == 10u);
-    st8(r_xz, (u8)r_dg_1);
+    u8 r_dg = (ld8(away(t_dx, 0xffffffffffffffffull)) == 10u);
+    st8(r_xz, (u8)r_dg);
     u64 r_k1 = (r_61 - t_1m);
-    if (!(r_k1 == 0ull)) { r_yl = r_dg_1; r_gh = t_dx; r_61 = r_k1; goto l_join_ax; }
+    if (!(r_k1 == 0ull)) { r_yl = r_dg; r_gh = t_dx; r_61 = r_k1; goto l_join_ax; }
 l_return_ir:;
     return 0u;
 }
@@ -20957,14 +20996,217 @@ l_join_4n:;
     return 0u;
 }
 
-/* capnp_messages::text::write_number::<#5f4393f7ae16529f> */
-u8 capnp_messages_text_write_number_5f4393f7ae16529f(u8 *a_1, u64 a_2)
+/* std::io::buffered::write_out::<#cc0a01cbe8a2ee4a> */
+void std_io_buffered_write_out_cc0a01cbe8a2ee4a(u8 *a_1, u8 *a_2, u64 a_3, u8 *a_4)
+{
+    A(8) u8 slot_1[88];
+    A(8) u8 slot_2[96];
+    A(8) u8 slot_3[80];
+    A(8) u8 slot_4[80];
+    u8 *r_x5;
+    u8 *r_p9;
+    u8 *r_u0;
+    u8 *r_e6;
+    u8 *r_ix;
+    u8 *r_0v;
+    u8 *r_g0;
+    u8 *r_b9;
+    u8 *r_x5_1;
+    u8 *r_m4;
+    u8 *r_uz;
+    u8 *r_7x;
+    u8 *r_k0;
+    u8 *r_c4;
+    u8 *r_sx;
+    u8 *r_8i;
+    u8 *r_zd;
+    u8 *r_tp;
+    u8 *r_3o;
+    u8 *r_p9_1;
+    u8 *r_zo;
+    u8 *r_m3;
+    u8 *r_97;
+    u8 *r_dp;
+    u8 *r_lk;
+    u8 *r_gt;
+    u8 *r_ch;
+    u8 *r_ws;
+    u8 *r_nk;
+    u8 *r_fl;
+    u8 *r_5z;
+    u8 *r_uu;
+    u8 *r_89;
+    u8 *r_rk;
+    u8 *r_mx;
+    u8 *r_0n;
+    u8 *r_gs;
+    u8 *r_kt;
+    u8 *r_ll;
+    u8 *r_eo;
+    u8 *r_a8;
+    u64 r_rk_1;
+    u8 *r_8z;
+    u64 r_17;
+    u64 r_4p;
+    u64 r_zn;
+    u64 r_38;
+    u64 r_sz;
+    u8 *r_pz;
+    u64 r_bl;
+    u64 r_sm;
+    if (a_3 == 0ull) { r_sm = 0ull; goto l_after_vn; }
+    r_x5 = (slot_2 + 8);
+    r_p9 = (slot_1 + 1);
+    r_u0 = (slot_1 + 2);
+    r_e6 = (slot_1 + 3);
+    r_ix = (slot_1 + 4);
+    r_0v = (slot_1 + 5);
+    r_g0 = (slot_1 + 6);
+    r_b9 = (slot_1 + 7);
+    r_x5_1 = (slot_1 + 8);
+    r_m4 = (slot_1 + 9);
+    r_uz = (slot_1 + 10);
+    r_7x = (slot_1 + 11);
+    r_k0 = (slot_1 + 12);
+    r_c4 = (slot_1 + 13);
+    r_sx = (slot_1 + 14);
+    r_8i = (slot_1 + 15);
+    r_zd = (slot_1 + 16);
+    r_tp = (slot_1 + 17);
+    r_3o = (slot_1 + 18);
+    r_p9_1 = (slot_1 + 19);
+    r_zo = (slot_1 + 20);
+    r_m3 = (slot_1 + 21);
+    r_97 = (slot_1 + 22);
+    r_dp = (slot_1 + 23);
+    r_lk = (slot_1 + 24);
+    r_gt = (slot_1 + 25);
+    r_ch = (slot_1 + 26);
+    r_ws = (slot_1 + 27);
+    r_nk = (slot_1 + 28);
+    r_fl = (slot_1 + 29);
+    r_5z = (slot_1 + 30);
+    r_uu = (slot_1 + 31);
+    r_89 = (slot_1 + 32);
+    r_rk = (slot_1 + 33);
+    r_mx = (slot_1 + 34);
+    r_0n = (slot_1 + 35);
+    r_gs = (slot_1 + 36);
+    r_kt = (slot_1 + 37);
+    r_ll = (slot_1 + 38);
+    r_eo = (slot_1 + 39);
+    r_a8 = (slot_1 + 40);
+    r_rk_1 = 0ull;
+    goto l_join_ra;
+l_loop_24:;
+    u64 r_5q = (r_38 + r_rk_1);
+    if (r_5q < a_3) { r_rk_1 = r_5q; goto l_join_ra; }
+    r_sm = r_5q;
+    goto l_after_vn;
+l_join_ra:;
+    r_8z = away(a_2, r_rk_1);
+    r_17 = (a_3 - r_rk_1);
+    r_4p = 0xffffffffffffffffull;
+l_loop_tl:;
+    if (r_4p == 0ull) goto l_after_d4;
+    r_zn = (r_4p + 0xffffffffffffffffull);
+    capnp_streams_device_log_LoggedWrite_write_7beb271a2a4e788d(slot_2, a_4, r_8z, r_17);
+    r_38 = ld64(r_x5);
+    if (ld8(slot_2) == 0u) goto l_arm_cj;
+    r_sz = (u64)(r_38 >> 8ull);
+    st8(slot_1, 0u);
+    st8(r_p9, 1u);
+    st8(r_u0, 2u);
+    st8(r_e6, 3u);
+    st8(r_ix, 4u);
+    st8(r_0v, 5u);
+    st8(r_g0, 6u);
+    st8(r_b9, 7u);
+    st8(r_x5_1, 8u);
+    st8(r_m4, 9u);
+    st8(r_uz, 10u);
+    st8(r_7x, 11u);
+    st8(r_k0, 12u);
+    st8(r_c4, 13u);
+    st8(r_sx, 14u);
+    st8(r_8i, 15u);
+    st8(r_zd, 16u);
+    st8(r_tp, 17u);
+    st8(r_3o, 18u);
+    st8(r_p9_1, 19u);
+    st8(r_zo, 20u);
+    st8(r_m3, 21u);
+    st8(r_97, 22u);
+    st8(r_dp, 23u);
+    st8(r_lk, 24u);
+    st8(r_gt, 25u);
+    st8(r_ch, 26u);
+    st8(r_ws, 27u);
+    st8(r_nk, 28u);
+    st8(r_fl, 29u);
+    st8(r_5z, 30u);
+    st8(r_uu, 31u);
+    st8(r_89, 32u);
+    st8(r_rk, 33u);
+    st8(r_mx, 34u);
+    st8(r_0n, 35u);
+    st8(r_gs, 36u);
+    st8(r_kt, 37u);
+    st8(r_ll, 38u);
+    st8(r_eo, 39u);
+    st8(r_a8, 40u);
+    if ((u8)r_sz < 41u) goto l_std_go;
+    r_pz = (slot_2 + 16);
+    goto l_then_6s;
+l_std_go:;
+    if (ld8((slot_1 + (i64)((r_sz & 63ull)))) == 35u) { r_4p = r_zn; goto l_loop_tl; }
+    r_pz = (slot_2 + 16);
+l_then_6s:;
+    memcpy(slot_3, r_pz, 80);
+    r_bl = r_38;
+    goto l_arm_cp;
+l_after_d4:;
+    std_io_io_error_Error_from_bytes(slot_1, 2u, 22u, ((u8 *)g_static_110), 43ull, 43ull);
+    u64 r_38_1 = ld64(slot_1);
+    memcpy(slot_3, (slot_1 + 8), 80);
+    r_bl = r_38_1;
+    goto l_arm_cp;
+l_arm_cj:;
+    memset(slot_3, 0u, 80);
+    if (r_38 == 0ull) goto l_arm_gd;
+    goto l_loop_24;
+l_common_68:;
+    return;
+l_arm_gd:;
+    std_io_io_error_Error_from_bytes(slot_1, 2u, 23u, ((u8 *)g_static_291), 33ull, 33ull);
+    u64 r_38_2 = ld64(slot_1);
+    memcpy(slot_4, (slot_1 + 8), 80);
+    st64(a_1, r_rk_1);
+    st8(away(a_1, 8ull), 1u);
+    st64(away(a_1, 16ull), r_38_2);
+    memcpy(away(a_1, 24ull), slot_4, 80);
+    goto l_common_68;
+l_arm_cp:;
+    st64(a_1, r_rk_1);
+    st8(away(a_1, 8ull), 1u);
+    st64(away(a_1, 16ull), r_bl);
+    memcpy(away(a_1, 24ull), slot_3, 80);
+    goto l_common_68;
+l_after_vn:;
+    st64(a_1, r_sm);
+    st8(away(a_1, 8ull), 0u);
+    memset(away(a_1, 16ull), 0u, 88);
+    goto l_common_68;
+}
+
+/* capnp_messages::text::write_number::<#45b6cc80abe1f805> */
+u8 capnp_messages_text_write_number_45b6cc80abe1f805(u8 *a_1, u64 a_2)
 {
     A(8) u8 slot_1[96];
     A(1) u8 slot_2[1];
-    u8 *r_08;
-    u8 *r_xm;
     u8 *r_xz;
+    u8 *r_su;
+    u8 *r_xm;
     u8 *r_x5;
     u8 *r_7u;
     u64 r_j3;
@@ -20977,23 +21219,23 @@ u8 capnp_messages_text_write_number_5f4393f7ae16529f(u8 *a_1, u64 a_2)
     u64 r_uu;
     u8 r_fk;
     if (!(a_2 > 9ull)) goto l_join_2u;
-    u8 r_2x = capnp_messages_text_write_number_5f4393f7ae16529f(a_1, (a_2 / 10ull));
-    if ((u8)(r_2x & 1)) { r_fk = 1u; goto l_return_ri; }
+    u8 r_cz = capnp_messages_text_write_number_45b6cc80abe1f805(a_1, (a_2 / 10ull));
+    if ((u8)(r_cz & 1)) { r_fk = 1u; goto l_return_ri; }
 l_join_2u:;
     st8(slot_2, (u8)((u8)(a_2 % 10ull) | 48u));
-    r_08 = away(a_1, 16ull);
-    r_xm = away(a_1, 32ull);
     r_xz = away(a_1, 24ull);
+    r_su = away(a_1, 40ull);
+    r_xm = away(a_1, 32ull);
     r_x5 = (slot_1 + 8);
     r_7u = slot_2;
     r_j3 = 1ull;
 l_join_c8:;
     memset(slot_1, 0u, 96);
-    r_52 = ld64(r_xm);
-    r_52_1 = ld64(r_xz);
-    if (!(r_j3 < (r_52 - r_52_1))) goto l_std_8u;
+    r_52 = ld64(r_su);
+    r_52_1 = ld64(r_xm);
+    if (!(r_j3 < (r_52 - r_52_1))) goto l_std_ad;
     r_5q = (r_52_1 + r_j3);
-    r_lz = ldp(r_08);
+    r_lz = ldp(r_xz);
     r_2b = away(r_lz, r_52_1);
     if (((u64)(uptr)r_2b - (u64)(uptr)r_7u) < r_j3) { r_il = 0ull; goto l_join_fh; }
     memmove_or_none(r_2b, r_7u, r_j3);
@@ -21003,38 +21245,38 @@ l_join_fh:;
     u64 r_36 = (r_il + 1ull);
     if (!(r_36 == r_j3)) { r_il = r_36; goto l_join_fh; }
 l_arm_5b:;
-    stp(r_08, r_lz);
-    st64(r_xz, r_5q);
-    st64(r_xm, r_52);
+    stp(r_xz, r_lz);
+    st64(r_xm, r_5q);
+    st64(r_su, r_52);
     r_uu = r_j3;
     goto l_arm_f2;
-l_std_8u:;
-    std_io_buffered_BufWriter_write_cold_33d6c0b4aa7432c7(slot_1, a_1, r_7u, r_j3);
+l_std_ad:;
+    std_io_buffered_BufWriter_write_cold_4fc199ee41d89934(slot_1, a_1, r_7u, r_j3);
     u64 r_38 = ld64(r_x5);
-    if ((ld8(slot_1) != 0u) ? 1u : (r_38 == 0ull)) goto l_arm_mg;
+    if ((ld8(slot_1) != 0u) ? 1u : (r_38 == 0ull)) goto l_arm_gd;
     r_uu = r_38;
 l_arm_f2:;
-    u64 r_t9_2 = (r_j3 - r_uu);
-    if (r_t9_2 == 0ull) { r_fk = 0u; goto l_return_ri; }
+    u64 r_t9 = (r_j3 - r_uu);
+    if (r_t9 == 0ull) { r_fk = 0u; goto l_return_ri; }
     u8 *r_1 = away(r_7u, r_uu);
-    u64 r_2 = r_t9_2;
+    u64 r_2 = r_t9;
     r_7u = r_1;
     r_j3 = r_2;
     goto l_join_c8;
-l_arm_mg:;
-    st8(away(a_1, 40ull), 1u);
+l_arm_gd:;
+    st8(away(a_1, 48ull), 1u);
     r_fk = 1u;
 l_return_ri:;
     return r_fk;
 }
 
-/* capnp_framing::devices::writing::write_all::<#5f4393f7ae16529f> */
-u8 capnp_framing_devices_writing_write_all_5f4393f7ae16529f(u8 *a_1, u8 *a_2, u64 a_3)
+/* capnp_framing::devices::writing::write_all::<#45b6cc80abe1f805> */
+u8 capnp_framing_devices_writing_write_all_45b6cc80abe1f805(u8 *a_1, u8 *a_2, u64 a_3)
 {
     A(8) u8 slot_1[96];
-    u8 *r_08;
-    u8 *r_xm;
     u8 *r_xz;
+    u8 *r_su;
+    u8 *r_xm;
     u8 *r_x5;
     u8 *r_7u;
     u64 r_j3;
@@ -21047,20 +21289,20 @@ u8 capnp_framing_devices_writing_write_all_5f4393f7ae16529f(u8 *a_1, u8 *a_2, u6
     u64 r_uu;
     u8 r_fk;
     if (a_3 == 0ull) { r_fk = 0u; goto l_return_ri; }
-    r_08 = away(a_1, 16ull);
-    r_xm = away(a_1, 32ull);
     r_xz = away(a_1, 24ull);
+    r_su = away(a_1, 40ull);
+    r_xm = away(a_1, 32ull);
     r_x5 = (slot_1 + 8);
     r_7u = a_2;
     r_j3 = a_3;
 l_join_c8:;
     memset(slot_1, 0u, 96);
-    r_52 = ld64(r_xm);
-    r_52_1 = ld64(r_xz);
-    if (!(r_j3 < (r_52 - r_52_1))) goto l_std_8u;
+    r_52 = ld64(r_su);
+    r_52_1 = ld64(r_xm);
+    if (!(r_j3 < (r_52 - r_52_1))) goto l_std_ad;
     r_5q = (r_52_1 + r_j3);
-    r_lz = ldp(r_08);
-    memset(r_xz, 0u, 16);
+    r_lz = ldp(r_xz);
+    memset(r_xm, 0u, 16);
     r_2b = away(r_lz, r_52_1);
     if (((u64)(uptr)r_2b - (u64)(uptr)r_7u) < r_j3) { r_il = 0ull; goto l_join_fh; }
     memmove_or_none(r_2b, r_7u, r_j3);
@@ -21070,26 +21312,26 @@ l_join_fh:;
     u64 r_36 = (r_il + 1ull);
     if (!(r_36 == r_j3)) { r_il = r_36; goto l_join_fh; }
 l_arm_5b:;
-    stp(r_08, r_lz);
-    st64(r_xz, r_5q);
-    st64(r_xm, r_52);
+    stp(r_xz, r_lz);
+    st64(r_xm, r_5q);
+    st64(r_su, r_52);
     r_uu = r_j3;
     goto l_arm_f2;
-l_std_8u:;
-    std_io_buffered_BufWriter_write_cold_33d6c0b4aa7432c7(slot_1, a_1, r_7u, r_j3);
+l_std_ad:;
+    std_io_buffered_BufWriter_write_cold_4fc199ee41d89934(slot_1, a_1, r_7u, r_j3);
     u64 r_38 = ld64(r_x5);
-    if ((ld8(slot_1) != 0u) ? 1u : (r_38 == 0ull)) goto l_arm_mg;
+    if ((ld8(slot_1) != 0u) ? 1u : (r_38 == 0ull)) goto l_arm_gd;
     r_uu = r_38;
 l_arm_f2:;
-    u64 r_t9_2 = (r_j3 - r_uu);
-    if (r_t9_2 == 0ull) { r_fk = 0u; goto l_return_ri; }
+    u64 r_t9 = (r_j3 - r_uu);
+    if (r_t9 == 0ull) { r_fk = 0u; goto l_return_ri; }
     u8 *r_1 = away(r_7u, r_uu);
-    u64 r_2 = r_t9_2;
+    u64 r_2 = r_t9;
     r_7u = r_1;
     r_j3 = r_2;
     goto l_join_c8;
-l_arm_mg:;
-    st8(away(a_1, 40ull), 1u);
+l_arm_gd:;
+    st8(away(a_1, 48ull), 1u);
     r_fk = 1u;
 l_return_ri:;
     return r_fk;
@@ -21135,142 +21377,116 @@ l_arm_m7:;
     goto l_common_57;
 }
 
-/* std::io::buffered::BufWriter::write_cold::<#33d6c0b4aa7432c7> */
-NEVER COLD void std_io_buffered_BufWriter_write_cold_33d6c0b4aa7432c7(u8 *a_1, u8 *a_2, u8 *a_3, u64 a_4)
+/* std::io::buffered::BufWriter::write_cold::<#4fc199ee41d89934> */
+NEVER COLD void std_io_buffered_BufWriter_write_cold_4fc199ee41d89934(u8 *a_1, u8 *a_2, u8 *a_3, u64 a_4)
 {
     A(8) u8 slot_1[104];
-    A(8) u8 slot_2[80];
-    A(8) u8 slot_3[80];
-    A(8) u8 slot_4[80];
-    A(1) u8 slot_5[80];
-    A(1) u8 slot_6[80];
-    u8 *r_08;
-    u8 *r_xm;
-    u64 r_52;
+    A(1) u8 slot_2[95];
+    A(8) u8 slot_3[96];
+    A(1) u8 slot_4[88];
+    A(1) u8 slot_5[88];
     u8 *r_xz;
-    u64 r_52_2;
+    u8 *r_su;
+    u64 r_52;
+    u8 *r_xm;
+    u64 r_52_1;
     u8 t_r5;
-    u8 *r_lz_1;
+    u8 *r_lz;
     u64 r_t9;
     u8 *t_2b;
     u64 r_ti;
     u64 r_61;
-    u64 r_38_1;
-    u64 r_kk;
-    u64 r_04;
-    u64 r_ny;
-    u8 *r_xz_1;
+    u8 *r_xm_1;
+    u64 r_52_3;
     u64 r_52_4;
-    u64 r_52_5;
     u8 t_r5_1;
-    u8 *r_lz_4;
-    u64 r_t9_2;
+    u8 *r_lz_1;
+    u64 r_t9_1;
     u8 *t_2b_1;
     u64 r_ti_1;
     u64 r_61_1;
-    u64 r_h3;
-    u64 r_38_4;
+    u64 r_um;
+    u8 *r_b9;
     u64 r_j8;
     u64 r_bq;
     u64 r_zx;
-    u8 *r_lz_5;
+    u8 *r_lz_2;
     u8 *r_2b;
     u64 r_31;
-    r_08 = away(a_2, 16ull);
-    r_xm = away(a_2, 32ull);
-    r_52 = ld64(r_xm);
-    if (r_52 > a_4) goto l_join_wn;
-    memset(slot_1, 0u, 104);
+    memset(slot_3, 0u, 96);
     r_xz = away(a_2, 24ull);
-    std_io_buffered_write_out_891f919cf49183b3(slot_1, ldp(r_08), ld64(r_xz), a_2);
-    r_52_2 = ld64(slot_1);
+    r_su = away(a_2, 40ull);
+    r_52 = ld64(r_su);
+    if (r_52 > a_4) goto l_join_4q;
+    memset(slot_1, 0u, 104);
+    r_xm = away(a_2, 32ull);
+    std_io_buffered_write_out_cc0a01cbe8a2ee4a(slot_1, ldp(r_xz), ld64(r_xm), a_2);
+    r_52_1 = ld64(slot_1);
     t_r5 = ld8((slot_1 + 8));
-    u64 r_52_3 = ld64(r_xz);
-    r_lz_1 = ldp(r_08);
-    r_t9 = (r_52_3 - r_52_2);
-    if (r_52_3 == r_52_2) { r_61 = r_52_2; goto l_std_z5; }
-    t_2b = away(r_lz_1, r_52_2);
+    u64 r_52_2 = ld64(r_xm);
+    r_lz = ldp(r_xz);
+    r_t9 = (r_52_2 - r_52_1);
+    if (r_52_2 == r_52_1) { r_61 = r_52_1; goto l_std_z5; }
+    t_2b = away(r_lz, r_52_1);
     r_ti = 0ull;
 l_join_u2:;
-    st8((r_lz_1 + (i64)(r_ti)), ld8(away(t_2b, r_ti)));
+    st8((r_lz + (i64)(r_ti)), ld8(away(t_2b, r_ti)));
     u64 r_36 = (r_ti + 1ull);
     if (!(r_36 == r_t9)) { r_ti = r_36; goto l_join_u2; }
-    r_61 = ld64(r_xz);
+    r_61 = ld64(r_xm);
 l_std_z5:;
-    if (!(r_61 > r_t9)) goto l_std_xe;
-    st64(r_xz, r_t9);
-l_std_xe:;
-    r_38_1 = ld64((slot_1 + 16));
-    memcpy(slot_5, (slot_1 + 24), 80);
-    if (!(t_r5 == 0u)) goto l_arm_c6;
-    memset(slot_3, 0u, 80);
-    r_kk = c_write(1u, a_3, a_4);
-    if ((i64)r_kk < (i64)0ull) goto l_arm_2h;
-    r_04 = 0ull;
-    r_ny = umin64(r_kk, a_4);
-    goto l_capnp_yu;
-l_arm_2h:;
-    u32 r_ky = rattle_errno();
-    std_io_io_error_Error_from_raw_os_error(slot_1, r_ky);
-    u64 r_38_2 = ld64(slot_1);
-    memcpy(slot_2, (slot_1 + 8), 80);
-    u8 *r_lz_2 = ldp(away(a_2, 8ull));
-    st64(away(r_lz_2, 40ull), 1ull);
-    st64(away(r_lz_2, 48ull), r_38_2);
-    memcpy(away(r_lz_2, 56ull), slot_2, 80);
-    memcpy(slot_3, slot_2, 80);
-    r_04 = 1ull;
-    r_ny = r_38_2;
-l_capnp_yu:;
-    memcpy(slot_4, slot_3, 80);
-    st64(a_1, r_04);
-    st64(away(a_1, 8ull), r_ny);
-    memcpy(away(a_1, 16ull), slot_4, 80);
+    if (!(r_61 > r_t9)) goto l_std_al;
+    st64(r_xm, r_t9);
+l_std_al:;
+    memcpy(slot_4, (slot_1 + 16), 88);
+    if (!(t_r5 == 0u)) goto l_arm_me;
+    capnp_streams_device_log_LoggedWrite_write_7beb271a2a4e788d(slot_3, a_2, a_3, a_4);
+    st64(a_1, (u64)ld8(slot_3));
+    memcpy(away(a_1, 8ull), (slot_3 + 8), 88);
 l_common_68:;
     return;
-l_arm_c6:;
+l_arm_me:;
     st64(a_1, 1ull);
-    st64(away(a_1, 8ull), r_38_1);
-    memcpy(away(a_1, 16ull), slot_5, 80);
+    memcpy(away(a_1, 8ull), slot_4, 88);
     goto l_common_68;
-l_join_wn:;
-    r_xz_1 = away(a_2, 24ull);
-    r_52_4 = ld64(r_xz_1);
-    if (!((r_52 - r_52_4) < a_4)) { r_j8 = r_52; r_bq = r_52_4; goto l_join_lh; }
+l_join_4q:;
+    r_xm_1 = away(a_2, 32ull);
+    r_52_3 = ld64(r_xm_1);
+    if (!((r_52 - r_52_3) < a_4)) { r_j8 = r_52; r_bq = r_52_3; goto l_join_lh; }
     memset(slot_1, 0u, 104);
-    std_io_buffered_write_out_891f919cf49183b3(slot_1, ldp(r_08), r_52_4, a_2);
-    r_52_5 = ld64(slot_1);
+    std_io_buffered_write_out_cc0a01cbe8a2ee4a(slot_1, ldp(r_xz), r_52_3, a_2);
+    r_52_4 = ld64(slot_1);
     t_r5_1 = ld8((slot_1 + 8));
-    u64 r_52_6 = ld64(r_xz_1);
-    r_lz_4 = ldp(r_08);
-    r_t9_2 = (r_52_6 - r_52_5);
-    if (r_52_6 == r_52_5) { r_61_1 = r_52_5; goto l_std_z5_1; }
-    t_2b_1 = away(r_lz_4, r_52_5);
+    u64 r_52_5 = ld64(r_xm_1);
+    r_lz_1 = ldp(r_xz);
+    r_t9_1 = (r_52_5 - r_52_4);
+    if (r_52_5 == r_52_4) { r_61_1 = r_52_4; goto l_std_z5_1; }
+    t_2b_1 = away(r_lz_1, r_52_4);
     r_ti_1 = 0ull;
 l_join_u2_1:;
-    st8((r_lz_4 + (i64)(r_ti_1)), ld8(away(t_2b_1, r_ti_1)));
+    st8((r_lz_1 + (i64)(r_ti_1)), ld8(away(t_2b_1, r_ti_1)));
     u64 r_36_1 = (r_ti_1 + 1ull);
-    if (!(r_36_1 == r_t9_2)) { r_ti_1 = r_36_1; goto l_join_u2_1; }
-    r_61_1 = ld64(r_xz_1);
+    if (!(r_36_1 == r_t9_1)) { r_ti_1 = r_36_1; goto l_join_u2_1; }
+    r_61_1 = ld64(r_xm_1);
 l_std_z5_1:;
-    if (!(r_61_1 > r_t9_2)) { r_h3 = r_61_1; goto l_std_xe_1; }
-    st64(r_xz_1, r_t9_2);
-    r_h3 = r_t9_2;
-l_std_xe_1:;
-    r_38_4 = ld64((slot_1 + 16));
-    memcpy(slot_2, (slot_1 + 24), 80);
-    if (!(t_r5_1 == 0u)) goto l_arm_1j;
-    u64 r_38_5 = ld64(r_xm);
-    if (!(a_4 > (r_38_5 - r_h3))) { r_j8 = r_38_5; r_bq = r_h3; goto l_join_lh; }
-    u8 r_x4 = std_alloc_vec_Vec_grow_amortized_f2d74098f88769d0(r_08, a_4);
+    if (!(r_61_1 > r_t9_1)) { r_um = r_61_1; goto l_std_pz; }
+    st64(r_xm_1, r_t9_1);
+    r_um = r_t9_1;
+l_std_pz:;
+    r_b9 = (slot_2 + 7);
+    memcpy(r_b9, (slot_1 + 16), 88);
+    if (!(t_r5_1 == 0u)) goto l_arm_ql;
+    u64 r_38 = ld64(r_su);
+    if (!(a_4 > (r_38 - r_um))) { r_j8 = r_38; r_bq = r_um; goto l_join_lh; }
+    u8 r_x4 = std_alloc_vec_Vec_grow_amortized_f2d74098f88769d0(r_xz, a_4);
     if (!r_x4) goto l_arm_1w;
-    r_j8 = ld64(r_xm);
-    r_bq = ld64(r_xz_1);
+    r_j8 = ld64(r_su);
+    r_bq = ld64(r_xm_1);
 l_join_lh:;
     r_zx = (r_bq + a_4);
-    r_lz_5 = ldp(r_08);
-    memset(r_xz_1, 0u, 16);
-    r_2b = away(r_lz_5, r_bq);
+    r_lz_2 = ldp(r_xz);
+    memset(r_xm_1, 0u, 16);
+    r_2b = away(r_lz_2, r_bq);
     if (((u64)(uptr)r_2b - (u64)(uptr)a_3) < a_4) { r_31 = 0ull; goto l_join_sz; }
     memmove_or_none(r_2b, a_3, a_4);
     goto l_arm_5b;
@@ -21284,235 +21500,23 @@ l_arm_1w:;
     TRAP();
     UNREACHABLE();
 l_arm_5b:;
-    stp(r_08, r_lz_5);
-    st64(r_xz_1, r_zx);
-    st64(r_xm, r_j8);
+    stp(r_xz, r_lz_2);
+    st64(r_xm_1, r_zx);
+    st64(r_su, r_j8);
+    u8 *r_x5 = (slot_3 + 8);
+    st64(r_x5, a_4);
     st64(a_1, 0ull);
-    st64(away(a_1, 8ull), a_4);
-    memset(away(a_1, 16ull), 0u, 80);
+    memcpy(away(a_1, 8ull), r_x5, 88);
     goto l_common_68;
-l_arm_1j:;
-    memcpy(slot_6, slot_2, 80);
+l_arm_ql:;
+    memcpy(slot_5, r_b9, 88);
     st64(a_1, 1ull);
-    st64(away(a_1, 8ull), r_38_4);
-    memcpy(away(a_1, 16ull), slot_6, 80);
+    memcpy(away(a_1, 8ull), slot_5, 88);
     goto l_common_68;
 }
 
-/* std::io::buffered::write_out::<#891f919cf49183b3> */
-void std_io_buffered_write_out_891f919cf49183b3(u8 *a_1, u8 *a_2, u64 a_3, u8 *a_4)
-{
-    A(8) u8 slot_1[88];
-    A(8) u8 slot_2[80];
-    A(8) u8 slot_3[80];
-    A(8) u8 slot_4[80];
-    u8 *r_x5;
-    u8 *r_rq;
-    u8 *r_p9;
-    u8 *r_u0;
-    u8 *r_e6;
-    u8 *r_ix;
-    u8 *r_0v;
-    u8 *r_g0;
-    u8 *r_b9;
-    u8 *r_x5_1;
-    u8 *r_m4;
-    u8 *r_uz;
-    u8 *r_7x;
-    u8 *r_k0;
-    u8 *r_c4;
-    u8 *r_sx;
-    u8 *r_8i;
-    u8 *r_zd;
-    u8 *r_tp;
-    u8 *r_3o;
-    u8 *r_p9_1;
-    u8 *r_zo;
-    u8 *r_m3;
-    u8 *r_97;
-    u8 *r_dp;
-    u8 *r_lk;
-    u8 *r_gt;
-    u8 *r_ch;
-    u8 *r_ws;
-    u8 *r_nk;
-    u8 *r_fl;
-    u8 *r_5z;
-    u8 *r_uu;
-    u8 *r_89;
-    u8 *r_rk;
-    u8 *r_mx;
-    u8 *r_0n;
-    u8 *r_gs;
-    u8 *r_kt;
-    u8 *r_ll;
-    u8 *r_eo;
-    u8 *r_a8;
-    u64 r_ff;
-    u8 *r_8z;
-    u64 r_17;
-    u64 r_4p;
-    u64 r_zn;
-    u64 r_dq;
-    u64 r_38;
-    u64 r_sz;
-    u64 a_zx;
-    u64 r_s1;
-    u64 r_sm;
-    if (a_3 == 0ull) { r_sm = 0ull; goto l_after_vn; }
-    r_x5 = (slot_1 + 8);
-    r_rq = away(a_4, 8ull);
-    r_p9 = (slot_1 + 1);
-    r_u0 = (slot_1 + 2);
-    r_e6 = (slot_1 + 3);
-    r_ix = (slot_1 + 4);
-    r_0v = (slot_1 + 5);
-    r_g0 = (slot_1 + 6);
-    r_b9 = (slot_1 + 7);
-    r_x5_1 = (slot_1 + 8);
-    r_m4 = (slot_1 + 9);
-    r_uz = (slot_1 + 10);
-    r_7x = (slot_1 + 11);
-    r_k0 = (slot_1 + 12);
-    r_c4 = (slot_1 + 13);
-    r_sx = (slot_1 + 14);
-    r_8i = (slot_1 + 15);
-    r_zd = (slot_1 + 16);
-    r_tp = (slot_1 + 17);
-    r_3o = (slot_1 + 18);
-    r_p9_1 = (slot_1 + 19);
-    r_zo = (slot_1 + 20);
-    r_m3 = (slot_1 + 21);
-    r_97 = (slot_1 + 22);
-    r_dp = (slot_1 + 23);
-    r_lk = (slot_1 + 24);
-    r_gt = (slot_1 + 25);
-    r_ch = (slot_1 + 26);
-    r_ws = (slot_1 + 27);
-    r_nk = (slot_1 + 28);
-    r_fl = (slot_1 + 29);
-    r_5z = (slot_1 + 30);
-    r_uu = (slot_1 + 31);
-    r_89 = (slot_1 + 32);
-    r_rk = (slot_1 + 33);
-    r_mx = (slot_1 + 34);
-    r_0n = (slot_1 + 35);
-    r_gs = (slot_1 + 36);
-    r_kt = (slot_1 + 37);
-    r_ll = (slot_1 + 38);
-    r_eo = (slot_1 + 39);
-    r_a8 = (slot_1 + 40);
-    r_ff = 0ull;
-    goto l_join_yp;
-l_loop_ds:;
-    u64 r_vz = (a_zx + r_ff);
-    if (r_vz < a_3) { r_ff = r_vz; goto l_join_yp; }
-    r_sm = r_vz;
-    goto l_after_vn;
-l_join_yp:;
-    r_8z = away(a_2, r_ff);
-    r_17 = (a_3 - r_ff);
-    r_4p = 0xffffffffffffffffull;
-l_loop_tl:;
-    if (r_4p == 0ull) goto l_after_07;
-    r_zn = (r_4p + 0xffffffffffffffffull);
-    r_dq = c_write(1u, r_8z, r_17);
-    if (!((i64)r_dq < (i64)0ull)) goto l_arm_uf;
-    u32 r_ky = rattle_errno();
-    std_io_io_error_Error_from_raw_os_error(slot_1, r_ky);
-    r_38 = ld64(slot_1);
-    memcpy(slot_2, r_x5, 80);
-    u8 *r_lz = ldp(r_rq);
-    st64(away(r_lz, 40ull), 1ull);
-    st64(away(r_lz, 48ull), r_38);
-    memcpy(away(r_lz, 56ull), slot_2, 80);
-    r_sz = (u64)(r_38 >> 8ull);
-    st8(slot_1, 0u);
-    st8(r_p9, 1u);
-    st8(r_u0, 2u);
-    st8(r_e6, 3u);
-    st8(r_ix, 4u);
-    st8(r_0v, 5u);
-    st8(r_g0, 6u);
-    st8(r_b9, 7u);
-    st8(r_x5_1, 8u);
-    st8(r_m4, 9u);
-    st8(r_uz, 10u);
-    st8(r_7x, 11u);
-    st8(r_k0, 12u);
-    st8(r_c4, 13u);
-    st8(r_sx, 14u);
-    st8(r_8i, 15u);
-    st8(r_zd, 16u);
-    st8(r_tp, 17u);
-    st8(r_3o, 18u);
-    st8(r_p9_1, 19u);
-    st8(r_zo, 20u);
-    st8(r_m3, 21u);
-    st8(r_97, 22u);
-    st8(r_dp, 23u);
-    st8(r_lk, 24u);
-    st8(r_gt, 25u);
-    st8(r_ch, 26u);
-    st8(r_ws, 27u);
-    st8(r_nk, 28u);
-    st8(r_fl, 29u);
-    st8(r_5z, 30u);
-    st8(r_uu, 31u);
-    st8(r_89, 32u);
-    st8(r_rk, 33u);
-    st8(r_mx, 34u);
-    st8(r_0n, 35u);
-    st8(r_gs, 36u);
-    st8(r_kt, 37u);
-    st8(r_ll, 38u);
-    st8(r_eo, 39u);
-    st8(r_a8, 40u);
-    if ((u8)r_sz < 41u) goto l_std_go;
-    goto l_then_6s;
-l_std_go:;
-    if (ld8((slot_1 + (i64)((r_sz & 63ull)))) == 35u) { r_4p = r_zn; goto l_loop_tl; }
-l_then_6s:;
-    memcpy(slot_3, slot_2, 80);
-    r_s1 = r_38;
-    goto l_arm_5k;
-l_after_07:;
-    std_io_io_error_Error_from_bytes(slot_1, 2u, 22u, ((u8 *)g_static_108), 43ull, 43ull);
-    u64 r_38_1 = ld64(slot_1);
-    memcpy(slot_3, (slot_1 + 8), 80);
-    r_s1 = r_38_1;
-    goto l_arm_5k;
-l_arm_uf:;
-    a_zx = umin64(r_dq, r_17);
-    memset(slot_3, 0u, 80);
-    if (a_zx == 0ull) goto l_arm_67;
-    goto l_loop_ds;
-l_common_68:;
-    return;
-l_arm_67:;
-    std_io_io_error_Error_from_bytes(slot_1, 2u, 23u, ((u8 *)g_static_281), 33ull, 33ull);
-    u64 r_38_2 = ld64(slot_1);
-    memcpy(slot_4, (slot_1 + 8), 80);
-    st64(a_1, r_ff);
-    st8(away(a_1, 8ull), 1u);
-    st64(away(a_1, 16ull), r_38_2);
-    memcpy(away(a_1, 24ull), slot_4, 80);
-    goto l_common_68;
-l_arm_5k:;
-    st64(a_1, r_ff);
-    st8(away(a_1, 8ull), 1u);
-    st64(away(a_1, 16ull), r_s1);
-    memcpy(away(a_1, 24ull), slot_3, 80);
-    goto l_common_68;
-l_after_vn:;
-    st64(a_1, r_sm);
-    st8(away(a_1, 8ull), 0u);
-    memset(away(a_1, 16ull), 0u, 88);
-    goto l_common_68;
-}
-
-/* capnp_packing::buffered::flush_before_waiting::<#b050d07568c38619> */
-u8 capnp_packing_buffered_flush_before_waiting_b050d07568c38619(u8 *a_1, u8 *a_2)
+/* capnp_packing::buffered::flush_before_waiting::<#e31f6730a1a7e578> */
+u8 capnp_packing_buffered_flush_before_waiting_e31f6730a1a7e578(u8 *a_1, u8 *a_2)
 {
     A(8) u8 slot_1[104];
     u8 *r_2b;
@@ -21529,19 +21533,21 @@ u8 capnp_packing_buffered_flush_before_waiting_b050d07568c38619(u8 *a_1, u8 *a_2
     u64 r_rx;
     u64 r_0x;
     u64 r_5q_1;
-    u8 *r_lz_1;
-    u8 *r_3q;
-    u64 r_52_3;
+    u8 *r_lz;
+    u8 *r_9j;
+    u64 r_52_1;
     u8 t_r5;
-    u8 *r_lz_3;
-    u64 r_t9_2;
+    u8 *r_lz_1;
+    u64 r_t9_1;
     u8 *t_2b;
     u64 r_ti;
     u64 r_61;
     u8 r_fk;
-    u64 r_52 = ld64(away(a_1, 8248ull));
-    r_2b = away(ldp(away(a_1, 8224ull)), r_52);
-    r_t9 = (ld64(away(a_1, 8256ull)) - r_52);
+    u8 *r_39 = away(ldp(away(a_1, 8280ull)), 64ull);
+    st64(r_39, (ld64(r_39) + 1ull));
+    u64 r_52 = ld64(away(a_1, 8256ull));
+    r_2b = away(ldp(away(a_1, 8232ull)), r_52);
+    r_t9 = (ld64(away(a_1, 8264ull)) - r_52);
     if (r_t9 < 4ull) goto l_join_ls;
     u32 r_5k = ld32(r_2b);
     r_24 = (u64)r_5k;
@@ -21572,38 +21578,38 @@ l_capnp_a1:;
     if (!(r_c4_1 == r_ya)) { r_95 = r_5q_1; r_ve = r_c4_1; goto l_join_co; }
     if (!((u64)((r_t9 - r_lc) >> 3ull) < r_5q_1)) { r_fk = 0u; goto l_return_ri; }
 l_join_ls:;
-    r_lz_1 = ldp(away(a_2, 16ull));
+    r_lz = ldp(away(a_2, 16ull));
     memset(slot_1, 0u, 104);
-    u8 *r_zn = away(r_lz_1, 16ull);
-    r_3q = away(r_lz_1, 24ull);
-    std_io_buffered_write_out_891f919cf49183b3(slot_1, ldp(r_zn), ld64(r_3q), r_lz_1);
-    r_52_3 = ld64(slot_1);
+    u8 *r_3q = away(r_lz, 24ull);
+    r_9j = away(r_lz, 32ull);
+    std_io_buffered_write_out_cc0a01cbe8a2ee4a(slot_1, ldp(r_3q), ld64(r_9j), r_lz);
+    r_52_1 = ld64(slot_1);
     t_r5 = ld8((slot_1 + 8));
-    u64 r_52_4 = ld64(r_3q);
-    r_lz_3 = ldp(r_zn);
-    r_t9_2 = (r_52_4 - r_52_3);
-    if (r_52_4 == r_52_3) { r_61 = r_52_3; goto l_std_z5; }
-    t_2b = away(r_lz_3, r_52_3);
+    u64 r_52_2 = ld64(r_9j);
+    r_lz_1 = ldp(r_3q);
+    r_t9_1 = (r_52_2 - r_52_1);
+    if (r_52_2 == r_52_1) { r_61 = r_52_1; goto l_std_z5; }
+    t_2b = away(r_lz_1, r_52_1);
     r_ti = 0ull;
 l_join_u2:;
-    st8((r_lz_3 + (i64)(r_ti)), ld8(away(t_2b, r_ti)));
+    st8((r_lz_1 + (i64)(r_ti)), ld8(away(t_2b, r_ti)));
     u64 r_36_1 = (r_ti + 1ull);
-    if (!(r_36_1 == r_t9_2)) { r_ti = r_36_1; goto l_join_u2; }
-    r_61 = ld64(r_3q);
+    if (!(r_36_1 == r_t9_1)) { r_ti = r_36_1; goto l_join_u2; }
+    r_61 = ld64(r_9j);
 l_std_z5:;
-    if (!(r_61 > r_t9_2)) goto l_std_i0;
-    st64(r_3q, r_t9_2);
+    if (!(r_61 > r_t9_1)) goto l_std_i0;
+    st64(r_9j, r_t9_1);
 l_std_i0:;
     if (t_r5 == 0u) { r_fk = 0u; goto l_return_ri; }
-    st8(away(r_lz_1, 40ull), 1u);
+    st8(away(r_lz, 48ull), 1u);
     st8(away(a_2, 33ull), 1u);
     r_fk = 1u;
 l_return_ri:;
     return r_fk;
 }
 
-/* capnp_framing::devices::writing::write_all::<#70a14c5bc1edc25e> */
-u8 capnp_framing_devices_writing_write_all_70a14c5bc1edc25e(u8 *a_1, u8 *a_2, u64 a_3)
+/* capnp_framing::devices::writing::write_all::<#c55655458b275944> */
+u8 capnp_framing_devices_writing_write_all_c55655458b275944(u8 *a_1, u8 *a_2, u64 a_3)
 {
     A(8) u8 slot_1[96];
     u8 *r_08;
@@ -21614,13 +21620,13 @@ u8 capnp_framing_devices_writing_write_all_70a14c5bc1edc25e(u8 *a_1, u8 *a_2, u6
     u8 *r_x5_2;
     u8 *r_xz;
     u8 *r_x5_3;
-    u8 *r_nc;
-    u64 r_ou;
+    u8 *r_ka;
+    u64 r_c2;
     u8 *r_lz;
     u8 r_mp;
-    u8 *r_zn;
-    u8 *r_9j;
     u8 *r_3q;
+    u8 *r_76;
+    u8 *r_9j;
     u8 *r_7u;
     u64 r_j3;
     u64 r_52;
@@ -21630,31 +21636,31 @@ u8 capnp_framing_devices_writing_write_all_70a14c5bc1edc25e(u8 *a_1, u8 *a_2, u6
     u8 *r_2b;
     u64 r_il;
     u64 r_4j;
-    u8 *r_lz_3;
-    u8 *r_zn_1;
-    u8 *r_9j_1;
+    u8 *r_lz_2;
     u8 *r_3q_1;
+    u8 *r_76_1;
+    u8 *r_9j_1;
     u8 *r_7u_1;
     u64 r_j3_1;
+    u64 r_52_2;
     u64 r_52_3;
-    u64 r_52_4;
     u64 r_5q_1;
-    u8 *r_lz_4;
-    u8 *r_2b_2;
+    u8 *r_lz_3;
+    u8 *r_2b_1;
     u64 r_il_1;
     u64 r_fe;
     u8 *r_5a;
     u64 r_2l;
-    u8 *r_zn_3;
-    u8 *r_9j_2;
     u8 *r_3q_2;
+    u8 *r_76_2;
+    u8 *r_9j_2;
     u8 *r_7u_2;
     u64 r_j3_2;
+    u64 r_52_4;
     u64 r_52_5;
-    u64 r_52_6;
     u64 r_5q_2;
-    u8 *r_lz_5;
-    u8 *r_2b_4;
+    u8 *r_lz_4;
+    u8 *r_2b_2;
     u64 r_il_2;
     u64 r_4j_1;
     u8 *r_1v;
@@ -21665,18 +21671,18 @@ u8 capnp_framing_devices_writing_write_all_70a14c5bc1edc25e(u8 *a_1, u8 *a_2, u6
     u8 r_to;
     u64 r_4h;
     u64 r_wz;
-    u8 *r_zn_5;
+    u8 *r_3q_3;
+    u8 *r_76_3;
+    u64 r_52_6;
     u8 *r_9j_3;
     u64 r_52_7;
-    u8 *r_3q_3;
-    u64 r_52_8;
     u64 r_5q_3;
-    u8 *r_lz_6;
-    u8 *r_2b_6;
+    u8 *r_lz_5;
+    u8 *r_2b_3;
     u64 r_il_3;
     u64 r_5a_1;
     u64 a_9k;
-    u8 *r_kl;
+    u8 *r_ci;
     u8 r_fk;
     if (a_3 == 0ull) { r_fk = 0u; goto l_return_ri; }
     r_08 = away(a_1, 16ull);
@@ -21687,25 +21693,25 @@ u8 capnp_framing_devices_writing_write_all_70a14c5bc1edc25e(u8 *a_1, u8 *a_2, u6
     r_x5_2 = (slot_1 + 8);
     r_xz = away(a_1, 24ull);
     r_x5_3 = (slot_1 + 8);
-    r_nc = a_2;
-    r_ou = a_3;
-l_join_zg:;
+    r_ka = a_2;
+    r_c2 = a_3;
+l_join_9i:;
     r_lz = ldp(r_08);
-    r_mp = (u8)(ld8(away(r_lz, 40ull)) & 1);
-    if (!(ld8(r_nc) == 10u)) goto l_join_i0;
+    r_mp = (u8)(ld8(away(r_lz, 48ull)) & 1);
+    if (!(ld8(r_ka) == 10u)) goto l_join_i0;
     if (r_mp) goto l_arm_cv;
-    r_zn = away(r_lz, 16ull);
-    r_9j = away(r_lz, 32ull);
     r_3q = away(r_lz, 24ull);
-    r_7u = ((u8 *)g_static_112);
+    r_76 = away(r_lz, 40ull);
+    r_9j = away(r_lz, 32ull);
+    r_7u = ((u8 *)g_static_114);
     r_j3 = 2ull;
 l_join_c8:;
     memset(slot_1, 0u, 96);
-    r_52 = ld64(r_9j);
-    r_52_1 = ld64(r_3q);
-    if (!(r_j3 < (r_52 - r_52_1))) goto l_std_rr;
+    r_52 = ld64(r_76);
+    r_52_1 = ld64(r_9j);
+    if (!(r_j3 < (r_52 - r_52_1))) goto l_std_p8;
     r_5q = (r_52_1 + r_j3);
-    r_lz_1 = ldp(r_zn);
+    r_lz_1 = ldp(r_3q);
     r_2b = away(r_lz_1, r_52_1);
     if (((u64)(uptr)r_2b - (u64)(uptr)r_7u) < r_j3) { r_il = 0ull; goto l_join_fh; }
     memcpy_or_none(r_2b, r_7u, r_j3);
@@ -21715,58 +21721,58 @@ l_join_fh:;
     u64 r_36 = (r_il + 1ull);
     if (!(r_36 == r_j3)) { r_il = r_36; goto l_join_fh; }
 l_arm_5b:;
-    stp(r_zn, r_lz_1);
-    st64(r_3q, r_5q);
-    st64(r_9j, r_52);
+    stp(r_3q, r_lz_1);
+    st64(r_9j, r_5q);
+    st64(r_76, r_52);
     r_4j = r_j3;
     goto l_arm_8s;
-l_std_rr:;
-    std_io_buffered_BufWriter_write_cold_33d6c0b4aa7432c7(slot_1, r_lz, r_7u, r_j3);
+l_std_p8:;
+    std_io_buffered_BufWriter_write_cold_4fc199ee41d89934(slot_1, r_lz, r_7u, r_j3);
     u64 r_38 = ld64(r_x5_2);
-    if ((ld8(slot_1) != 0u) ? 1u : (r_38 == 0ull)) { r_kl = r_lz; goto l_arm_9j; }
+    if ((ld8(slot_1) != 0u) ? 1u : (r_38 == 0ull)) { r_ci = r_lz; goto l_arm_jv; }
     r_4j = r_38;
 l_arm_8s:;
-    u64 r_t9_2 = (r_j3 - r_4j);
-    if (!(r_t9_2 == 0ull)) { u8 *r_1 = away(r_7u, r_4j); u64 r_2 = r_t9_2; r_7u = r_1; r_j3 = r_2; goto l_join_c8; }
-    u8 r_wj = capnp_streams_devices_write_name_and_number_5f4393f7ae16529f(ldp(r_08), ldp(a_1), ld64(r_e7), ld64(r_xz));
-    if ((u8)(r_wj & 1)) goto l_arm_cv;
-    r_lz_3 = ldp(r_08);
-    r_zn_1 = away(r_lz_3, 16ull);
-    r_9j_1 = away(r_lz_3, 32ull);
-    r_3q_1 = away(r_lz_3, 24ull);
+    u64 r_t9 = (r_j3 - r_4j);
+    if (!(r_t9 == 0ull)) { u8 *r_1 = away(r_7u, r_4j); u64 r_2 = r_t9; r_7u = r_1; r_j3 = r_2; goto l_join_c8; }
+    u8 r_rg = capnp_streams_devices_write_name_and_number_45b6cc80abe1f805(ldp(r_08), ldp(a_1), ld64(r_e7), ld64(r_xz));
+    if ((u8)(r_rg & 1)) goto l_arm_cv;
+    r_lz_2 = ldp(r_08);
+    r_3q_1 = away(r_lz_2, 24ull);
+    r_76_1 = away(r_lz_2, 40ull);
+    r_9j_1 = away(r_lz_2, 32ull);
     r_7u_1 = ((u8 *)g_static_7);
     r_j3_1 = 1ull;
 l_join_c8_1:;
     memset(slot_1, 0u, 96);
+    r_52_2 = ld64(r_76_1);
     r_52_3 = ld64(r_9j_1);
-    r_52_4 = ld64(r_3q_1);
-    if (!(r_j3_1 < (r_52_3 - r_52_4))) goto l_std_rr_1;
-    r_5q_1 = (r_52_4 + r_j3_1);
-    r_lz_4 = ldp(r_zn_1);
-    r_2b_2 = away(r_lz_4, r_52_4);
-    if (((u64)(uptr)r_2b_2 - (u64)(uptr)r_7u_1) < r_j3_1) { r_il_1 = 0ull; goto l_join_fh_1; }
-    memcpy_or_none(r_2b_2, r_7u_1, r_j3_1);
+    if (!(r_j3_1 < (r_52_2 - r_52_3))) goto l_std_p8_1;
+    r_5q_1 = (r_52_3 + r_j3_1);
+    r_lz_3 = ldp(r_3q_1);
+    r_2b_1 = away(r_lz_3, r_52_3);
+    if (((u64)(uptr)r_2b_1 - (u64)(uptr)r_7u_1) < r_j3_1) { r_il_1 = 0ull; goto l_join_fh_1; }
+    memcpy_or_none(r_2b_1, r_7u_1, r_j3_1);
     goto l_arm_5b_1;
 l_join_fh_1:;
-    st8((r_2b_2 + (i64)(r_il_1)), ld8((r_7u_1 + (i64)(r_il_1))));
+    st8((r_2b_1 + (i64)(r_il_1)), ld8((r_7u_1 + (i64)(r_il_1))));
     u64 r_36_1 = (r_il_1 + 1ull);
     if (!(r_36_1 == r_j3_1)) { r_il_1 = r_36_1; goto l_join_fh_1; }
 l_arm_5b_1:;
-    stp(r_zn_1, r_lz_4);
-    st64(r_3q_1, r_5q_1);
-    st64(r_9j_1, r_52_3);
+    stp(r_3q_1, r_lz_3);
+    st64(r_9j_1, r_5q_1);
+    st64(r_76_1, r_52_2);
     r_fe = r_j3_1;
     goto l_arm_on;
-l_std_rr_1:;
-    std_io_buffered_BufWriter_write_cold_33d6c0b4aa7432c7(slot_1, r_lz_3, r_7u_1, r_j3_1);
-    u64 r_38_2 = ld64(r_x5_3);
-    if ((ld8(slot_1) != 0u) ? 1u : (r_38_2 == 0ull)) { r_kl = r_lz_3; goto l_arm_9j; }
-    r_fe = r_38_2;
+l_std_p8_1:;
+    std_io_buffered_BufWriter_write_cold_4fc199ee41d89934(slot_1, r_lz_2, r_7u_1, r_j3_1);
+    u64 r_38_1 = ld64(r_x5_3);
+    if ((ld8(slot_1) != 0u) ? 1u : (r_38_1 == 0ull)) { r_ci = r_lz_2; goto l_arm_jv; }
+    r_fe = r_38_1;
 l_arm_on:;
-    u64 r_t9_5 = (r_j3_1 - r_fe);
-    if (r_t9_5 == 0ull) goto l_capnp_pd;
+    u64 r_t9_1 = (r_j3_1 - r_fe);
+    if (r_t9_1 == 0ull) goto l_capnp_pd;
     u8 *r_3 = away(r_7u_1, r_fe);
-    u64 r_4 = r_t9_5;
+    u64 r_4 = r_t9_1;
     r_7u_1 = r_3;
     r_j3_1 = r_4;
     goto l_join_c8_1;
@@ -21778,99 +21784,99 @@ l_join_i0:;
 l_loop_7z:;
     if (r_2l == 0ull) { r_1v = r_lz; goto l_arm_mb; }
     switch (ld8(r_5a)) {
-    case 10u: goto l_then_jx;
-    case 13u: goto l_then_jx;
-    case 92u: goto l_then_jx;
+    case 10u: goto l_then_7g;
+    case 13u: goto l_then_7g;
+    case 92u: goto l_then_7g;
     default: { u8 *r_5 = away(r_5a, 1ull); u64 r_6 = (r_2l + 0xffffffffffffffffull); r_5a = r_5; r_2l = r_6; goto l_loop_7z; }
     }
-l_then_jx:;
-    r_zn_3 = away(r_lz, 16ull);
-    r_9j_2 = away(r_lz, 32ull);
+l_then_7g:;
     r_3q_2 = away(r_lz, 24ull);
-    r_7u_2 = ((u8 *)g_static_272);
+    r_76_2 = away(r_lz, 40ull);
+    r_9j_2 = away(r_lz, 32ull);
+    r_7u_2 = ((u8 *)g_static_282);
     r_j3_2 = 1ull;
 l_join_c8_2:;
     memset(slot_1, 0u, 96);
+    r_52_4 = ld64(r_76_2);
     r_52_5 = ld64(r_9j_2);
-    r_52_6 = ld64(r_3q_2);
-    if (!(r_j3_2 < (r_52_5 - r_52_6))) goto l_std_rr_2;
-    r_5q_2 = (r_52_6 + r_j3_2);
-    r_lz_5 = ldp(r_zn_3);
-    r_2b_4 = away(r_lz_5, r_52_6);
-    if (((u64)(uptr)r_2b_4 - (u64)(uptr)r_7u_2) < r_j3_2) { r_il_2 = 0ull; goto l_join_fh_2; }
-    memcpy_or_none(r_2b_4, r_7u_2, r_j3_2);
+    if (!(r_j3_2 < (r_52_4 - r_52_5))) goto l_std_p8_2;
+    r_5q_2 = (r_52_5 + r_j3_2);
+    r_lz_4 = ldp(r_3q_2);
+    r_2b_2 = away(r_lz_4, r_52_5);
+    if (((u64)(uptr)r_2b_2 - (u64)(uptr)r_7u_2) < r_j3_2) { r_il_2 = 0ull; goto l_join_fh_2; }
+    memcpy_or_none(r_2b_2, r_7u_2, r_j3_2);
     goto l_arm_5b_2;
 l_join_fh_2:;
-    st8((r_2b_4 + (i64)(r_il_2)), ld8((r_7u_2 + (i64)(r_il_2))));
+    st8((r_2b_2 + (i64)(r_il_2)), ld8((r_7u_2 + (i64)(r_il_2))));
     u64 r_36_2 = (r_il_2 + 1ull);
     if (!(r_36_2 == r_j3_2)) { r_il_2 = r_36_2; goto l_join_fh_2; }
 l_arm_5b_2:;
-    stp(r_zn_3, r_lz_5);
-    st64(r_3q_2, r_5q_2);
-    st64(r_9j_2, r_52_5);
+    stp(r_3q_2, r_lz_4);
+    st64(r_9j_2, r_5q_2);
+    st64(r_76_2, r_52_4);
     r_4j_1 = r_j3_2;
     goto l_arm_8s_1;
-l_std_rr_2:;
-    std_io_buffered_BufWriter_write_cold_33d6c0b4aa7432c7(slot_1, r_lz, r_7u_2, r_j3_2);
-    u64 r_38_3 = ld64(r_x5);
-    if ((ld8(slot_1) != 0u) ? 1u : (r_38_3 == 0ull)) { r_kl = r_lz; goto l_arm_9j; }
-    r_4j_1 = r_38_3;
+l_std_p8_2:;
+    std_io_buffered_BufWriter_write_cold_4fc199ee41d89934(slot_1, r_lz, r_7u_2, r_j3_2);
+    u64 r_38_2 = ld64(r_x5);
+    if ((ld8(slot_1) != 0u) ? 1u : (r_38_2 == 0ull)) { r_ci = r_lz; goto l_arm_jv; }
+    r_4j_1 = r_38_2;
 l_arm_8s_1:;
-    u64 r_t9_8 = (r_j3_2 - r_4j_1);
-    if (!(r_t9_8 == 0ull)) { u8 *r_7 = away(r_7u_2, r_4j_1); u64 r_8 = r_t9_8; r_7u_2 = r_7; r_j3_2 = r_8; goto l_join_c8_2; }
+    u64 r_t9_2 = (r_j3_2 - r_4j_1);
+    if (!(r_t9_2 == 0ull)) { u8 *r_7 = away(r_7u_2, r_4j_1); u64 r_8 = r_t9_2; r_7u_2 = r_7; r_j3_2 = r_8; goto l_join_c8_2; }
     r_1v = ldp(r_08);
 l_arm_mb:;
     st8(r_xm, 0u);
     r_4n = r_1v;
 l_join_m6:;
-    r_a8 = r_nc;
+    r_a8 = r_ka;
     r_dx = 0ull;
-    r_67 = r_ou;
+    r_67 = r_c2;
 l_arm_23:;
     r_to = (ld8(r_a8) != 10u);
     if (!r_to) { r_4h = r_dx; goto l_capnp_zi; }
-    u64 r_zn_4 = (r_67 + 0xffffffffffffffffull);
-    if (r_zn_4 == 0ull) { r_4h = 0ull; goto l_capnp_zi; }
+    u64 r_zn = (r_67 + 0xffffffffffffffffull);
+    if (r_zn == 0ull) { r_4h = 0ull; goto l_capnp_zi; }
     u8 *r_9 = away(r_a8, 1ull);
     u64 r_10 = (r_dx + 1ull);
-    u64 r_11 = r_zn_4;
+    u64 r_11 = r_zn;
     r_a8 = r_9;
     r_dx = r_10;
     r_67 = r_11;
     goto l_arm_23;
 l_capnp_zi:;
-    r_wz = ((r_to ? 1u : (r_4h == 0ull)) ? r_ou : r_4h);
+    r_wz = ((r_to ? 1u : (r_4h == 0ull)) ? r_c2 : r_4h);
     memset(slot_1, 0u, 96);
-    r_zn_5 = away(r_4n, 16ull);
+    r_3q_3 = away(r_4n, 24ull);
+    r_76_3 = away(r_4n, 40ull);
+    r_52_6 = ld64(r_76_3);
     r_9j_3 = away(r_4n, 32ull);
     r_52_7 = ld64(r_9j_3);
-    r_3q_3 = away(r_4n, 24ull);
-    r_52_8 = ld64(r_3q_3);
-    if (!(r_wz < (r_52_7 - r_52_8))) goto l_std_ek;
-    r_5q_3 = (r_52_8 + r_wz);
-    r_lz_6 = ldp(r_zn_5);
-    memset(r_3q_3, 0u, 16);
-    r_2b_6 = away(r_lz_6, r_52_8);
-    if (((u64)(uptr)r_2b_6 - (u64)(uptr)r_nc) < r_wz) { r_il_3 = 0ull; goto l_join_fh_3; }
-    memmove_or_none(r_2b_6, r_nc, r_wz);
+    if (!(r_wz < (r_52_6 - r_52_7))) goto l_std_ng;
+    r_5q_3 = (r_52_7 + r_wz);
+    r_lz_5 = ldp(r_3q_3);
+    memset(r_9j_3, 0u, 16);
+    r_2b_3 = away(r_lz_5, r_52_7);
+    if (((u64)(uptr)r_2b_3 - (u64)(uptr)r_ka) < r_wz) { r_il_3 = 0ull; goto l_join_fh_3; }
+    memmove_or_none(r_2b_3, r_ka, r_wz);
     goto l_std_5b;
 l_join_fh_3:;
-    st8((r_2b_6 + (i64)(r_il_3)), ld8((r_nc + (i64)(r_il_3))));
-    u64 r_36_4 = (r_il_3 + 1ull);
-    if (!(r_36_4 == r_wz)) { r_il_3 = r_36_4; goto l_join_fh_3; }
+    st8((r_2b_3 + (i64)(r_il_3)), ld8((r_ka + (i64)(r_il_3))));
+    u64 r_36_3 = (r_il_3 + 1ull);
+    if (!(r_36_3 == r_wz)) { r_il_3 = r_36_3; goto l_join_fh_3; }
 l_std_5b:;
-    stp(r_zn_5, r_lz_6);
-    st64(r_3q_3, r_5q_3);
-    st64(r_9j_3, r_52_7);
+    stp(r_3q_3, r_lz_5);
+    st64(r_9j_3, r_5q_3);
+    st64(r_76_3, r_52_6);
     r_5a_1 = r_wz;
     goto l_arm_7z;
-l_std_ek:;
-    std_io_buffered_BufWriter_write_cold_33d6c0b4aa7432c7(slot_1, r_4n, r_nc, r_wz);
+l_std_ng:;
+    std_io_buffered_BufWriter_write_cold_4fc199ee41d89934(slot_1, r_4n, r_ka, r_wz);
     if (ld8(slot_1) == 0u) { r_5a_1 = ld64(r_x5_1); goto l_arm_7z; }
-    r_kl = r_4n;
-    goto l_arm_9j;
+    r_ci = r_4n;
+    goto l_arm_jv;
 l_arm_7z:;
-    if (r_5a_1 == 0ull) { r_kl = r_4n; goto l_arm_9j; }
+    if (r_5a_1 == 0ull) { r_ci = r_4n; goto l_arm_jv; }
     a_9k = r_5a_1;
     goto l_arm_yv;
 l_capnp_pd:;
@@ -21878,15 +21884,15 @@ l_capnp_pd:;
     st8(r_xm, 1u);
     a_9k = 1ull;
 l_arm_yv:;
-    u64 r_nr = (r_ou - a_9k);
+    u64 r_nr = (r_c2 - a_9k);
     if (r_nr == 0ull) { r_fk = 0u; goto l_return_ri; }
-    u8 *r_12 = away(r_nc, a_9k);
+    u8 *r_12 = away(r_ka, a_9k);
     u64 r_13 = r_nr;
-    r_nc = r_12;
-    r_ou = r_13;
-    goto l_join_zg;
-l_arm_9j:;
-    st8(away(r_kl, 40ull), 1u);
+    r_ka = r_12;
+    r_c2 = r_13;
+    goto l_join_9i;
+l_arm_jv:;
+    st8(away(r_ci, 48ull), 1u);
 l_arm_cv:;
     st8(away(a_1, 33ull), 1u);
     r_fk = 1u;
@@ -21894,24 +21900,24 @@ l_return_ri:;
     return r_fk;
 }
 
-/* capnp_messages::text::write_number::<#70a14c5bc1edc25e> */
-u8 capnp_messages_text_write_number_70a14c5bc1edc25e(u8 *a_1, u64 a_2)
+/* capnp_messages::text::write_number::<#c55655458b275944> */
+u8 capnp_messages_text_write_number_c55655458b275944(u8 *a_1, u64 a_2)
 {
     A(1) u8 slot_1[1];
     u8 r_fk;
     if (!(a_2 > 9ull)) goto l_join_2u;
-    u8 r_mf = capnp_messages_text_write_number_70a14c5bc1edc25e(a_1, (a_2 / 10ull));
-    if ((u8)(r_mf & 1)) { r_fk = 1u; goto l_return_ri; }
+    u8 r_w3 = capnp_messages_text_write_number_c55655458b275944(a_1, (a_2 / 10ull));
+    if ((u8)(r_w3 & 1)) { r_fk = 1u; goto l_return_ri; }
 l_join_2u:;
     st8(slot_1, (u8)((u8)(a_2 % 10ull) | 48u));
-    u8 r_dm = capnp_framing_devices_writing_write_all_70a14c5bc1edc25e(a_1, slot_1, 1ull);
-    r_fk = r_dm;
+    u8 r_e9 = capnp_framing_devices_writing_write_all_c55655458b275944(a_1, slot_1, 1ull);
+    r_fk = r_e9;
 l_return_ri:;
     return r_fk;
 }
 
-/* capnp_packing::buffered::flush_before_waiting::<#fa8f08b738b31f37> */
-u8 capnp_packing_buffered_flush_before_waiting_fa8f08b738b31f37(u8 *a_1, u8 *a_2)
+/* capnp_packing::buffered::flush_before_waiting::<#f994696f9147079a> */
+u8 capnp_packing_buffered_flush_before_waiting_f994696f9147079a(u8 *a_1, u8 *a_2)
 {
     A(8) u8 slot_1[104];
     u8 *r_2b;
@@ -21928,25 +21934,27 @@ u8 capnp_packing_buffered_flush_before_waiting_fa8f08b738b31f37(u8 *a_1, u8 *a_2
     u64 r_rx;
     u64 r_0x;
     u64 r_5q_1;
-    u8 *r_xz;
-    u64 r_52_3;
+    u8 *r_xm;
+    u64 r_52_1;
     u8 t_r5;
-    u8 *r_lz_2;
-    u64 r_t9_2;
+    u8 *r_lz;
+    u64 r_t9_1;
     u8 *t_2b;
     u64 r_ti;
     u64 r_61;
     u8 r_fk;
-    u64 r_52 = ld64(away(a_1, 8248ull));
-    r_2b = away(ldp(away(a_1, 8224ull)), r_52);
-    r_t9 = (ld64(away(a_1, 8256ull)) - r_52);
-    if (r_t9 < 4ull) goto l_join_c0;
+    u8 *r_39 = away(ldp(away(a_1, 8280ull)), 64ull);
+    st64(r_39, (ld64(r_39) + 1ull));
+    u64 r_52 = ld64(away(a_1, 8256ull));
+    r_2b = away(ldp(away(a_1, 8232ull)), r_52);
+    r_t9 = (ld64(away(a_1, 8264ull)) - r_52);
+    if (r_t9 < 4ull) goto l_join_im;
     u32 r_5k = ld32(r_2b);
     r_24 = (u64)r_5k;
     r_c4 = (r_24 + 1ull);
-    if (r_5k > 511u) goto l_join_c0;
+    if (r_5k > 511u) goto l_join_im;
     r_lc = (((u64)(r_c4 << 2ull) + 4ull) + ((u64)(r_24 << 2ull) & 4ull));
-    if (r_t9 < r_lc) goto l_join_c0;
+    if (r_t9 < r_lc) goto l_join_im;
     r_bb = away(r_2b, 4ull);
     r_ya = (u64)((r_24 + 32ull) >> 5ull);
     r_95 = 0ull;
@@ -21969,37 +21977,37 @@ l_capnp_a1:;
     u64 r_c4_1 = (r_ve + 1ull);
     if (!(r_c4_1 == r_ya)) { r_95 = r_5q_1; r_ve = r_c4_1; goto l_join_co; }
     if (!((u64)((r_t9 - r_lc) >> 3ull) < r_5q_1)) { r_fk = 0u; goto l_return_ri; }
-l_join_c0:;
+l_join_im:;
     memset(slot_1, 0u, 104);
-    u8 *r_08 = away(a_2, 16ull);
-    r_xz = away(a_2, 24ull);
-    std_io_buffered_write_out_891f919cf49183b3(slot_1, ldp(r_08), ld64(r_xz), a_2);
-    r_52_3 = ld64(slot_1);
+    u8 *r_xz = away(a_2, 24ull);
+    r_xm = away(a_2, 32ull);
+    std_io_buffered_write_out_cc0a01cbe8a2ee4a(slot_1, ldp(r_xz), ld64(r_xm), a_2);
+    r_52_1 = ld64(slot_1);
     t_r5 = ld8((slot_1 + 8));
-    u64 r_52_4 = ld64(r_xz);
-    r_lz_2 = ldp(r_08);
-    r_t9_2 = (r_52_4 - r_52_3);
-    if (r_52_4 == r_52_3) { r_61 = r_52_3; goto l_std_z5; }
-    t_2b = away(r_lz_2, r_52_3);
+    u64 r_52_2 = ld64(r_xm);
+    r_lz = ldp(r_xz);
+    r_t9_1 = (r_52_2 - r_52_1);
+    if (r_52_2 == r_52_1) { r_61 = r_52_1; goto l_std_z5; }
+    t_2b = away(r_lz, r_52_1);
     r_ti = 0ull;
 l_join_u2:;
-    st8((r_lz_2 + (i64)(r_ti)), ld8(away(t_2b, r_ti)));
+    st8((r_lz + (i64)(r_ti)), ld8(away(t_2b, r_ti)));
     u64 r_36_1 = (r_ti + 1ull);
-    if (!(r_36_1 == r_t9_2)) { r_ti = r_36_1; goto l_join_u2; }
-    r_61 = ld64(r_xz);
+    if (!(r_36_1 == r_t9_1)) { r_ti = r_36_1; goto l_join_u2; }
+    r_61 = ld64(r_xm);
 l_std_z5:;
-    if (!(r_61 > r_t9_2)) goto l_std_i0;
-    st64(r_xz, r_t9_2);
+    if (!(r_61 > r_t9_1)) goto l_std_i0;
+    st64(r_xm, r_t9_1);
 l_std_i0:;
     if (t_r5 == 0u) { r_fk = 0u; goto l_return_ri; }
-    st8(away(a_2, 40ull), 1u);
+    st8(away(a_2, 48ull), 1u);
     r_fk = 1u;
 l_return_ri:;
     return r_fk;
 }
 
-/* capnp_packing::buffered::flush_before_waiting::<#acde902580202cc4> */
-u8 capnp_packing_buffered_flush_before_waiting_acde902580202cc4(u8 *a_1, u8 *a_2)
+/* capnp_packing::buffered::flush_before_waiting::<#2220d67589da4f01> */
+u8 capnp_packing_buffered_flush_before_waiting_2220d67589da4f01(u8 *a_1, u8 *a_2)
 {
     A(8) u8 slot_1[104];
     u8 *r_2b;
@@ -22016,19 +22024,21 @@ u8 capnp_packing_buffered_flush_before_waiting_acde902580202cc4(u8 *a_1, u8 *a_2
     u64 r_rx;
     u64 r_0x;
     u64 r_5q_1;
-    u8 *r_lz_1;
-    u8 *r_3q;
-    u64 r_52_3;
+    u8 *r_lz;
+    u8 *r_9j;
+    u64 r_52_1;
     u8 t_r5;
-    u8 *r_lz_3;
-    u64 r_t9_2;
+    u8 *r_lz_1;
+    u64 r_t9_1;
     u8 *t_2b;
     u64 r_ti;
     u64 r_61;
     u8 r_fk;
-    u64 r_52 = ld64(away(a_1, 8248ull));
-    r_2b = away(ldp(away(a_1, 8224ull)), r_52);
-    r_t9 = (ld64(away(a_1, 8256ull)) - r_52);
+    u8 *r_39 = away(ldp(away(a_1, 8280ull)), 64ull);
+    st64(r_39, (ld64(r_39) + 1ull));
+    u64 r_52 = ld64(away(a_1, 8256ull));
+    r_2b = away(ldp(away(a_1, 8232ull)), r_52);
+    r_t9 = (ld64(away(a_1, 8264ull)) - r_52);
     if (r_t9 < 4ull) goto l_join_ls;
     u32 r_5k = ld32(r_2b);
     r_24 = (u64)r_5k;
@@ -22059,38 +22069,38 @@ l_capnp_a1:;
     if (!(r_c4_1 == r_ya)) { r_95 = r_5q_1; r_ve = r_c4_1; goto l_join_co; }
     if (!((u64)((r_t9 - r_lc) >> 3ull) < r_5q_1)) { r_fk = 0u; goto l_return_ri; }
 l_join_ls:;
-    r_lz_1 = ldp(away(a_2, 16ull));
+    r_lz = ldp(away(a_2, 16ull));
     memset(slot_1, 0u, 104);
-    u8 *r_zn = away(r_lz_1, 16ull);
-    r_3q = away(r_lz_1, 24ull);
-    std_io_buffered_write_out_891f919cf49183b3(slot_1, ldp(r_zn), ld64(r_3q), r_lz_1);
-    r_52_3 = ld64(slot_1);
+    u8 *r_3q = away(r_lz, 24ull);
+    r_9j = away(r_lz, 32ull);
+    std_io_buffered_write_out_cc0a01cbe8a2ee4a(slot_1, ldp(r_3q), ld64(r_9j), r_lz);
+    r_52_1 = ld64(slot_1);
     t_r5 = ld8((slot_1 + 8));
-    u64 r_52_4 = ld64(r_3q);
-    r_lz_3 = ldp(r_zn);
-    r_t9_2 = (r_52_4 - r_52_3);
-    if (r_52_4 == r_52_3) { r_61 = r_52_3; goto l_std_z5; }
-    t_2b = away(r_lz_3, r_52_3);
+    u64 r_52_2 = ld64(r_9j);
+    r_lz_1 = ldp(r_3q);
+    r_t9_1 = (r_52_2 - r_52_1);
+    if (r_52_2 == r_52_1) { r_61 = r_52_1; goto l_std_z5; }
+    t_2b = away(r_lz_1, r_52_1);
     r_ti = 0ull;
 l_join_u2:;
-    st8((r_lz_3 + (i64)(r_ti)), ld8(away(t_2b, r_ti)));
+    st8((r_lz_1 + (i64)(r_ti)), ld8(away(t_2b, r_ti)));
     u64 r_36_1 = (r_ti + 1ull);
-    if (!(r_36_1 == r_t9_2)) { r_ti = r_36_1; goto l_join_u2; }
-    r_61 = ld64(r_3q);
+    if (!(r_36_1 == r_t9_1)) { r_ti = r_36_1; goto l_join_u2; }
+    r_61 = ld64(r_9j);
 l_std_z5:;
-    if (!(r_61 > r_t9_2)) goto l_std_i0;
-    st64(r_3q, r_t9_2);
+    if (!(r_61 > r_t9_1)) goto l_std_i0;
+    st64(r_9j, r_t9_1);
 l_std_i0:;
     if (t_r5 == 0u) { r_fk = 0u; goto l_return_ri; }
-    st8(away(r_lz_1, 40ull), 1u);
+    st8(away(r_lz, 48ull), 1u);
     st8(away(a_2, 25ull), 1u);
     r_fk = 1u;
 l_return_ri:;
     return r_fk;
 }
 
-/* capnp_framing::devices::writing::write_all::<#0d84fc3646189994> */
-u8 capnp_framing_devices_writing_write_all_0d84fc3646189994(u8 *a_1, u8 *a_2, u64 a_3)
+/* capnp_framing::devices::writing::write_all::<#2158b5bf3a48d838> */
+u8 capnp_framing_devices_writing_write_all_2158b5bf3a48d838(u8 *a_1, u8 *a_2, u64 a_3)
 {
     A(8) u8 slot_1[96];
     u8 *r_08;
@@ -22099,13 +22109,13 @@ u8 capnp_framing_devices_writing_write_all_0d84fc3646189994(u8 *a_1, u8 *a_2, u6
     u8 *r_x5;
     u8 *r_x5_1;
     u8 *r_x5_2;
-    u8 *r_pq;
-    u64 r_1o;
+    u8 *r_ir;
+    u64 r_p8;
     u8 *r_lz;
     u64 r_qw;
-    u8 *r_zn;
-    u8 *r_9j;
     u8 *r_3q;
+    u8 *r_76;
+    u8 *r_9j;
     u8 *r_7u;
     u64 r_j3;
     u64 r_52;
@@ -22115,36 +22125,36 @@ u8 capnp_framing_devices_writing_write_all_0d84fc3646189994(u8 *a_1, u8 *a_2, u6
     u8 *r_2b;
     u64 r_il;
     u64 r_4j;
-    u8 *r_oq;
-    u8 *r_zn_1;
-    u8 *r_9j_1;
+    u8 *r_r9;
     u8 *r_3q_1;
+    u8 *r_76_1;
+    u8 *r_9j_1;
     u8 *r_7u_1;
     u64 r_j3_1;
     u64 r_52_2;
     u64 r_52_3;
     u64 r_5q_1;
     u8 *r_lz_2;
-    u8 *r_2b_2;
+    u8 *r_2b_1;
     u64 r_il_1;
     u64 r_4j_1;
     u8 *r_jv;
     u64 r_cm;
     u64 r_jk;
-    u64 t_9n;
+    u64 t_do;
     u8 *r_lz_3;
-    u8 *r_zn_3;
-    u8 *r_9j_2;
-    u64 r_52_4;
     u8 *r_3q_2;
+    u8 *r_76_2;
+    u64 r_52_4;
+    u8 *r_9j_2;
     u64 r_52_5;
     u64 r_ru;
     u8 *r_lz_4;
-    u8 *r_2b_4;
+    u8 *r_2b_2;
     u64 r_il_2;
     u64 r_08_1;
     u8 r_vc;
-    u8 *r_kl;
+    u8 *r_ci;
     u8 r_fk;
     if (a_3 == 0ull) { r_fk = 0u; goto l_return_ri; }
     r_08 = away(a_1, 16ull);
@@ -22153,27 +22163,27 @@ u8 capnp_framing_devices_writing_write_all_0d84fc3646189994(u8 *a_1, u8 *a_2, u6
     r_x5 = (slot_1 + 8);
     r_x5_1 = (slot_1 + 8);
     r_x5_2 = (slot_1 + 8);
-    r_pq = a_2;
-    r_1o = a_3;
-l_join_un:;
+    r_ir = a_2;
+    r_p8 = a_3;
+l_join_a8:;
     r_lz = ldp(r_08);
-    if ((u8)(ld8(away(r_lz, 40ull)) & 1)) goto l_arm_sg;
+    if ((u8)(ld8(away(r_lz, 48ull)) & 1)) goto l_arm_sg;
     if (!(u8)(ld8(r_xz) & 1)) goto l_arm_m6;
     r_qw = ld64(r_e7);
-    if (r_qw == 0ull) { r_oq = r_lz; goto l_arm_jx; }
-    r_zn = away(r_lz, 16ull);
-    r_9j = away(r_lz, 32ull);
+    if (r_qw == 0ull) { r_r9 = r_lz; goto l_arm_7g; }
     r_3q = away(r_lz, 24ull);
+    r_76 = away(r_lz, 40ull);
+    r_9j = away(r_lz, 32ull);
     r_7u = ldp(a_1);
     r_j3 = r_qw;
 l_join_c8:;
     memset(slot_1, 0u, 96);
-    r_52 = ld64(r_9j);
-    r_52_1 = ld64(r_3q);
-    if (!(r_j3 < (r_52 - r_52_1))) goto l_std_rr;
+    r_52 = ld64(r_76);
+    r_52_1 = ld64(r_9j);
+    if (!(r_j3 < (r_52 - r_52_1))) goto l_std_p8;
     r_5q = (r_52_1 + r_j3);
-    r_lz_1 = ldp(r_zn);
-    memset(r_3q, 0u, 16);
+    r_lz_1 = ldp(r_3q);
+    memset(r_9j, 0u, 16);
     r_2b = away(r_lz_1, r_52_1);
     if (((u64)(uptr)r_2b - (u64)(uptr)r_7u) < r_j3) { r_il = 0ull; goto l_join_fh; }
     memmove_or_none(r_2b, r_7u, r_j3);
@@ -22183,119 +22193,119 @@ l_join_fh:;
     u64 r_36 = (r_il + 1ull);
     if (!(r_36 == r_j3)) { r_il = r_36; goto l_join_fh; }
 l_arm_5b:;
-    stp(r_zn, r_lz_1);
-    st64(r_3q, r_5q);
-    st64(r_9j, r_52);
+    stp(r_3q, r_lz_1);
+    st64(r_9j, r_5q);
+    st64(r_76, r_52);
     r_4j = r_j3;
     goto l_arm_8s;
-l_std_rr:;
-    std_io_buffered_BufWriter_write_cold_33d6c0b4aa7432c7(slot_1, r_lz, r_7u, r_j3);
+l_std_p8:;
+    std_io_buffered_BufWriter_write_cold_4fc199ee41d89934(slot_1, r_lz, r_7u, r_j3);
     u64 r_38 = ld64(r_x5);
-    if ((ld8(slot_1) != 0u) ? 1u : (r_38 == 0ull)) { r_kl = r_lz; goto l_arm_9j; }
+    if ((ld8(slot_1) != 0u) ? 1u : (r_38 == 0ull)) { r_ci = r_lz; goto l_arm_jv; }
     r_4j = r_38;
 l_arm_8s:;
-    u64 r_t9_2 = (r_j3 - r_4j);
-    if (!(r_t9_2 == 0ull)) { u8 *r_1 = away(r_7u, r_4j); u64 r_2 = r_t9_2; r_7u = r_1; r_j3 = r_2; goto l_join_c8; }
-    r_oq = ldp(r_08);
-l_arm_jx:;
-    r_zn_1 = away(r_oq, 16ull);
-    r_9j_1 = away(r_oq, 32ull);
-    r_3q_1 = away(r_oq, 24ull);
-    r_7u_1 = ((u8 *)g_static_57);
+    u64 r_t9 = (r_j3 - r_4j);
+    if (!(r_t9 == 0ull)) { u8 *r_1 = away(r_7u, r_4j); u64 r_2 = r_t9; r_7u = r_1; r_j3 = r_2; goto l_join_c8; }
+    r_r9 = ldp(r_08);
+l_arm_7g:;
+    r_3q_1 = away(r_r9, 24ull);
+    r_76_1 = away(r_r9, 40ull);
+    r_9j_1 = away(r_r9, 32ull);
+    r_7u_1 = ((u8 *)g_static_59);
     r_j3_1 = 2ull;
 l_join_c8_1:;
     memset(slot_1, 0u, 96);
-    r_52_2 = ld64(r_9j_1);
-    r_52_3 = ld64(r_3q_1);
-    if (!(r_j3_1 < (r_52_2 - r_52_3))) goto l_std_rr_1;
+    r_52_2 = ld64(r_76_1);
+    r_52_3 = ld64(r_9j_1);
+    if (!(r_j3_1 < (r_52_2 - r_52_3))) goto l_std_p8_1;
     r_5q_1 = (r_52_3 + r_j3_1);
-    r_lz_2 = ldp(r_zn_1);
-    r_2b_2 = away(r_lz_2, r_52_3);
-    if (((u64)(uptr)r_2b_2 - (u64)(uptr)r_7u_1) < r_j3_1) { r_il_1 = 0ull; goto l_join_fh_1; }
-    memcpy_or_none(r_2b_2, r_7u_1, r_j3_1);
+    r_lz_2 = ldp(r_3q_1);
+    r_2b_1 = away(r_lz_2, r_52_3);
+    if (((u64)(uptr)r_2b_1 - (u64)(uptr)r_7u_1) < r_j3_1) { r_il_1 = 0ull; goto l_join_fh_1; }
+    memcpy_or_none(r_2b_1, r_7u_1, r_j3_1);
     goto l_arm_5b_1;
 l_join_fh_1:;
-    st8((r_2b_2 + (i64)(r_il_1)), ld8((r_7u_1 + (i64)(r_il_1))));
+    st8((r_2b_1 + (i64)(r_il_1)), ld8((r_7u_1 + (i64)(r_il_1))));
     u64 r_36_1 = (r_il_1 + 1ull);
     if (!(r_36_1 == r_j3_1)) { r_il_1 = r_36_1; goto l_join_fh_1; }
 l_arm_5b_1:;
-    stp(r_zn_1, r_lz_2);
-    st64(r_3q_1, r_5q_1);
-    st64(r_9j_1, r_52_2);
+    stp(r_3q_1, r_lz_2);
+    st64(r_9j_1, r_5q_1);
+    st64(r_76_1, r_52_2);
     r_4j_1 = r_j3_1;
     goto l_arm_8s_1;
-l_std_rr_1:;
-    std_io_buffered_BufWriter_write_cold_33d6c0b4aa7432c7(slot_1, r_oq, r_7u_1, r_j3_1);
+l_std_p8_1:;
+    std_io_buffered_BufWriter_write_cold_4fc199ee41d89934(slot_1, r_r9, r_7u_1, r_j3_1);
     u64 r_38_1 = ld64(r_x5_1);
-    if ((ld8(slot_1) != 0u) ? 1u : (r_38_1 == 0ull)) { r_kl = r_oq; goto l_arm_9j; }
+    if ((ld8(slot_1) != 0u) ? 1u : (r_38_1 == 0ull)) { r_ci = r_r9; goto l_arm_jv; }
     r_4j_1 = r_38_1;
 l_arm_8s_1:;
-    u64 r_t9_5 = (r_j3_1 - r_4j_1);
-    if (!(r_t9_5 == 0ull)) { u8 *r_3 = away(r_7u_1, r_4j_1); u64 r_4 = r_t9_5; r_7u_1 = r_3; r_j3_1 = r_4; goto l_join_c8_1; }
+    u64 r_t9_1 = (r_j3_1 - r_4j_1);
+    if (!(r_t9_1 == 0ull)) { u8 *r_3 = away(r_7u_1, r_4j_1); u64 r_4 = r_t9_1; r_7u_1 = r_3; r_j3_1 = r_4; goto l_join_c8_1; }
     st8(r_xz, 0u);
 l_arm_m6:;
-    r_jv = r_pq;
+    r_jv = r_ir;
     r_cm = 0ull;
-    r_jk = r_1o;
+    r_jk = r_p8;
 l_arm_80:;
     if (ld8(r_jv) == 10u) goto l_t_5s;
-    u64 r_zn_2 = (r_jk + 0xffffffffffffffffull);
-    if (r_zn_2 == 0ull) { t_9n = r_1o; goto l_capnp_nx; }
+    u64 r_zn = (r_jk + 0xffffffffffffffffull);
+    if (r_zn == 0ull) { t_do = r_p8; goto l_capnp_0q; }
     u8 *r_5 = away(r_jv, 1ull);
     u64 r_6 = (r_cm + 1ull);
-    u64 r_7 = r_zn_2;
+    u64 r_7 = r_zn;
     r_jv = r_5;
     r_cm = r_6;
     r_jk = r_7;
     goto l_arm_80;
 l_t_5s:;
-    t_9n = (r_cm + 1ull);
-l_capnp_nx:;
+    t_do = (r_cm + 1ull);
+l_capnp_0q:;
     r_lz_3 = ldp(r_08);
     memset(slot_1, 0u, 96);
-    r_zn_3 = away(r_lz_3, 16ull);
-    r_9j_2 = away(r_lz_3, 32ull);
-    r_52_4 = ld64(r_9j_2);
     r_3q_2 = away(r_lz_3, 24ull);
-    r_52_5 = ld64(r_3q_2);
-    if (!(t_9n < (r_52_4 - r_52_5))) goto l_std_5z;
-    r_ru = (r_52_5 + t_9n);
-    r_lz_4 = ldp(r_zn_3);
-    memset(r_3q_2, 0u, 16);
-    r_2b_4 = away(r_lz_4, r_52_5);
-    if (((u64)(uptr)r_2b_4 - (u64)(uptr)r_pq) < t_9n) { r_il_2 = 0ull; goto l_join_fh_2; }
-    memmove_or_none(r_2b_4, r_pq, t_9n);
+    r_76_2 = away(r_lz_3, 40ull);
+    r_52_4 = ld64(r_76_2);
+    r_9j_2 = away(r_lz_3, 32ull);
+    r_52_5 = ld64(r_9j_2);
+    if (!(t_do < (r_52_4 - r_52_5))) goto l_std_km;
+    r_ru = (r_52_5 + t_do);
+    r_lz_4 = ldp(r_3q_2);
+    memset(r_9j_2, 0u, 16);
+    r_2b_2 = away(r_lz_4, r_52_5);
+    if (((u64)(uptr)r_2b_2 - (u64)(uptr)r_ir) < t_do) { r_il_2 = 0ull; goto l_join_fh_2; }
+    memmove_or_none(r_2b_2, r_ir, t_do);
     goto l_std_5b;
 l_join_fh_2:;
-    st8((r_2b_4 + (i64)(r_il_2)), ld8((r_pq + (i64)(r_il_2))));
-    u64 r_36_3 = (r_il_2 + 1ull);
-    if (!(r_36_3 == t_9n)) { r_il_2 = r_36_3; goto l_join_fh_2; }
+    st8((r_2b_2 + (i64)(r_il_2)), ld8((r_ir + (i64)(r_il_2))));
+    u64 r_36_2 = (r_il_2 + 1ull);
+    if (!(r_36_2 == t_do)) { r_il_2 = r_36_2; goto l_join_fh_2; }
 l_std_5b:;
-    stp(r_zn_3, r_lz_4);
-    st64(r_3q_2, r_ru);
-    st64(r_9j_2, r_52_4);
-    r_08_1 = t_9n;
+    stp(r_3q_2, r_lz_4);
+    st64(r_9j_2, r_ru);
+    st64(r_76_2, r_52_4);
+    r_08_1 = t_do;
     goto l_arm_31;
-l_std_5z:;
-    std_io_buffered_BufWriter_write_cold_33d6c0b4aa7432c7(slot_1, r_lz_3, r_pq, t_9n);
+l_std_km:;
+    std_io_buffered_BufWriter_write_cold_4fc199ee41d89934(slot_1, r_lz_3, r_ir, t_do);
     if (ld8(slot_1) == 0u) { r_08_1 = ld64(r_x5_2); goto l_arm_31; }
-    r_kl = r_lz_3;
-    goto l_arm_9j;
+    r_ci = r_lz_3;
+    goto l_arm_jv;
 l_arm_31:;
-    if (!(u8)((u8)(t_9n == 0ull) | (u8)(r_08_1 != 0ull))) { r_kl = r_lz_3; goto l_arm_9j; }
-    if (!(r_08_1 == t_9n)) { r_vc = 0u; goto l_arm_qo; }
-    r_vc = (u8)(ld8(away(away(r_pq, t_9n), 0xffffffffffffffffull)) == 10u);
+    if (!(u8)((u8)(t_do == 0ull) | (u8)(r_08_1 != 0ull))) { r_ci = r_lz_3; goto l_arm_jv; }
+    if (!(r_08_1 == t_do)) { r_vc = 0u; goto l_arm_qo; }
+    r_vc = (u8)(ld8(away(away(r_ir, t_do), 0xffffffffffffffffull)) == 10u);
 l_arm_qo:;
     st8(r_xz, r_vc);
-    u64 r_t9_8 = (r_1o - r_08_1);
-    if (r_t9_8 == 0ull) { r_fk = 0u; goto l_return_ri; }
-    u8 *r_8 = away(r_pq, r_08_1);
-    u64 r_9 = r_t9_8;
-    r_pq = r_8;
-    r_1o = r_9;
-    goto l_join_un;
-l_arm_9j:;
-    st8(away(r_kl, 40ull), 1u);
+    u64 r_t9_2 = (r_p8 - r_08_1);
+    if (r_t9_2 == 0ull) { r_fk = 0u; goto l_return_ri; }
+    u8 *r_8 = away(r_ir, r_08_1);
+    u64 r_9 = r_t9_2;
+    r_ir = r_8;
+    r_p8 = r_9;
+    goto l_join_a8;
+l_arm_jv:;
+    st8(away(r_ci, 48ull), 1u);
 l_arm_sg:;
     st8(away(a_1, 25ull), 1u);
     r_fk = 1u;
@@ -22303,28 +22313,28 @@ l_return_ri:;
     return r_fk;
 }
 
-/* capnp_messages::text::write_number::<#0d84fc3646189994> */
-u8 capnp_messages_text_write_number_0d84fc3646189994(u8 *a_1, u64 a_2)
+/* capnp_messages::text::write_number::<#2158b5bf3a48d838> */
+u8 capnp_messages_text_write_number_2158b5bf3a48d838(u8 *a_1, u64 a_2)
 {
     A(1) u8 slot_1[1];
     u8 r_fk;
     if (!(a_2 > 9ull)) goto l_join_2u;
-    u8 r_yu = capnp_messages_text_write_number_0d84fc3646189994(a_1, (a_2 / 10ull));
-    if ((u8)(r_yu & 1)) { r_fk = 1u; goto l_return_ri; }
+    u8 r_iw = capnp_messages_text_write_number_2158b5bf3a48d838(a_1, (a_2 / 10ull));
+    if ((u8)(r_iw & 1)) { r_fk = 1u; goto l_return_ri; }
 l_join_2u:;
     st8(slot_1, (u8)((u8)(a_2 % 10ull) | 48u));
-    u8 r_3u = capnp_framing_devices_writing_write_all_0d84fc3646189994(a_1, slot_1, 1ull);
-    r_fk = r_3u;
+    u8 r_ot = capnp_framing_devices_writing_write_all_2158b5bf3a48d838(a_1, slot_1, 1ull);
+    r_fk = r_ot;
 l_return_ri:;
     return r_fk;
 }
 
-/* capnp_packing::buffered::flush_before_waiting::<#4f5e9d3f8a1e792e> */
-u8 capnp_packing_buffered_flush_before_waiting_4f5e9d3f8a1e792e(u8 *a_1, u8 *a_2)
+/* capnp_packing::buffered::flush_before_waiting::<#9ae5cb71f0ee5774> */
+u8 capnp_packing_buffered_flush_before_waiting_9ae5cb71f0ee5774(u8 *a_1, u8 *a_2)
 {
     A(8) u8 slot_1[104];
     u8 *r_2b;
-    u64 r_t9_1;
+    u64 r_t9;
     u64 r_24;
     u64 r_c4;
     u64 r_lc;
@@ -22337,26 +22347,28 @@ u8 capnp_packing_buffered_flush_before_waiting_4f5e9d3f8a1e792e(u8 *a_1, u8 *a_2
     u64 r_rx;
     u64 r_0x;
     u64 r_5q_1;
-    u8 *r_lz_1;
-    u8 *r_3q;
-    u64 r_52_3;
+    u8 *r_lz;
+    u8 *r_9j;
+    u64 r_52_1;
     u8 t_r5;
-    u8 *r_lz_3;
-    u64 r_t9_3;
+    u8 *r_lz_1;
+    u64 r_t9_1;
     u8 *t_2b;
     u64 r_ti;
     u64 r_61;
     u8 r_fk;
-    u64 r_52 = ld64(away(a_1, 40ull));
-    r_2b = away(ldp(away(a_1, 16ull)), r_52);
-    r_t9_1 = (ld64(away(a_1, 48ull)) - r_52);
-    if (r_t9_1 < 4ull) goto l_join_ls;
+    u8 *r_39 = away(ldp(away(a_1, 72ull)), 64ull);
+    st64(r_39, (ld64(r_39) + 1ull));
+    u64 r_52 = ld64(away(a_1, 48ull));
+    r_2b = away(ldp(away(a_1, 24ull)), r_52);
+    r_t9 = (ld64(away(a_1, 56ull)) - r_52);
+    if (r_t9 < 4ull) goto l_join_ls;
     u32 r_5k = ld32(r_2b);
     r_24 = (u64)r_5k;
     r_c4 = (r_24 + 1ull);
     if (r_5k > 511u) goto l_join_ls;
     r_lc = (((u64)(r_c4 << 2ull) + 4ull) + ((u64)(r_24 << 2ull) & 4ull));
-    if (r_t9_1 < r_lc) goto l_join_ls;
+    if (r_t9 < r_lc) goto l_join_ls;
     r_bb = away(r_2b, 4ull);
     r_ya = (u64)((r_24 + 32ull) >> 5ull);
     r_95 = 0ull;
@@ -22378,44 +22390,44 @@ l_capnp_a1:;
     r_5q_1 = (r_0x + r_95);
     u64 r_c4_1 = (r_ve + 1ull);
     if (!(r_c4_1 == r_ya)) { r_95 = r_5q_1; r_ve = r_c4_1; goto l_join_co; }
-    if (!((u64)((r_t9_1 - r_lc) >> 3ull) < r_5q_1)) { r_fk = 0u; goto l_return_ri; }
+    if (!((u64)((r_t9 - r_lc) >> 3ull) < r_5q_1)) { r_fk = 0u; goto l_return_ri; }
 l_join_ls:;
-    r_lz_1 = ldp(away(a_2, 16ull));
+    r_lz = ldp(away(a_2, 16ull));
     memset(slot_1, 0u, 104);
-    u8 *r_zn = away(r_lz_1, 16ull);
-    r_3q = away(r_lz_1, 24ull);
-    std_io_buffered_write_out_891f919cf49183b3(slot_1, ldp(r_zn), ld64(r_3q), r_lz_1);
-    r_52_3 = ld64(slot_1);
+    u8 *r_3q = away(r_lz, 24ull);
+    r_9j = away(r_lz, 32ull);
+    std_io_buffered_write_out_cc0a01cbe8a2ee4a(slot_1, ldp(r_3q), ld64(r_9j), r_lz);
+    r_52_1 = ld64(slot_1);
     t_r5 = ld8((slot_1 + 8));
-    u64 r_52_4 = ld64(r_3q);
-    r_lz_3 = ldp(r_zn);
-    r_t9_3 = (r_52_4 - r_52_3);
-    if (r_52_4 == r_52_3) { r_61 = r_52_3; goto l_std_z5; }
-    t_2b = away(r_lz_3, r_52_3);
+    u64 r_52_2 = ld64(r_9j);
+    r_lz_1 = ldp(r_3q);
+    r_t9_1 = (r_52_2 - r_52_1);
+    if (r_52_2 == r_52_1) { r_61 = r_52_1; goto l_std_z5; }
+    t_2b = away(r_lz_1, r_52_1);
     r_ti = 0ull;
 l_join_u2:;
-    st8((r_lz_3 + (i64)(r_ti)), ld8(away(t_2b, r_ti)));
+    st8((r_lz_1 + (i64)(r_ti)), ld8(away(t_2b, r_ti)));
     u64 r_36_1 = (r_ti + 1ull);
-    if (!(r_36_1 == r_t9_3)) { r_ti = r_36_1; goto l_join_u2; }
-    r_61 = ld64(r_3q);
+    if (!(r_36_1 == r_t9_1)) { r_ti = r_36_1; goto l_join_u2; }
+    r_61 = ld64(r_9j);
 l_std_z5:;
-    if (!(r_61 > r_t9_3)) goto l_std_i0;
-    st64(r_3q, r_t9_3);
+    if (!(r_61 > r_t9_1)) goto l_std_i0;
+    st64(r_9j, r_t9_1);
 l_std_i0:;
     if (t_r5 == 0u) { r_fk = 0u; goto l_return_ri; }
-    st8(away(r_lz_1, 40ull), 1u);
+    st8(away(r_lz, 48ull), 1u);
     st8(away(a_2, 25ull), 1u);
     r_fk = 1u;
 l_return_ri:;
     return r_fk;
 }
 
-/* capnp_packing::buffered::flush_before_waiting::<#5fcb4999eb314f01> */
-u8 capnp_packing_buffered_flush_before_waiting_5fcb4999eb314f01(u8 *a_1, u8 *a_2)
+/* capnp_packing::buffered::flush_before_waiting::<#09378745876fb503> */
+u8 capnp_packing_buffered_flush_before_waiting_09378745876fb503(u8 *a_1, u8 *a_2)
 {
     A(8) u8 slot_1[104];
     u8 *r_2b;
-    u64 r_t9_1;
+    u64 r_t9;
     u64 r_24;
     u64 r_c4;
     u64 r_lc;
@@ -22428,25 +22440,27 @@ u8 capnp_packing_buffered_flush_before_waiting_5fcb4999eb314f01(u8 *a_1, u8 *a_2
     u64 r_rx;
     u64 r_0x;
     u64 r_5q_1;
-    u8 *r_xz;
-    u64 r_52_3;
+    u8 *r_xm;
+    u64 r_52_1;
     u8 t_r5;
-    u8 *r_lz_2;
-    u64 r_t9_3;
+    u8 *r_lz;
+    u64 r_t9_1;
     u8 *t_2b;
     u64 r_ti;
     u64 r_61;
     u8 r_fk;
-    u64 r_52 = ld64(away(a_1, 40ull));
-    r_2b = away(ldp(away(a_1, 16ull)), r_52);
-    r_t9_1 = (ld64(away(a_1, 48ull)) - r_52);
-    if (r_t9_1 < 4ull) goto l_join_c0;
+    u8 *r_39 = away(ldp(away(a_1, 72ull)), 64ull);
+    st64(r_39, (ld64(r_39) + 1ull));
+    u64 r_52 = ld64(away(a_1, 48ull));
+    r_2b = away(ldp(away(a_1, 24ull)), r_52);
+    r_t9 = (ld64(away(a_1, 56ull)) - r_52);
+    if (r_t9 < 4ull) goto l_join_im;
     u32 r_5k = ld32(r_2b);
     r_24 = (u64)r_5k;
     r_c4 = (r_24 + 1ull);
-    if (r_5k > 511u) goto l_join_c0;
+    if (r_5k > 511u) goto l_join_im;
     r_lc = (((u64)(r_c4 << 2ull) + 4ull) + ((u64)(r_24 << 2ull) & 4ull));
-    if (r_t9_1 < r_lc) goto l_join_c0;
+    if (r_t9 < r_lc) goto l_join_im;
     r_bb = away(r_2b, 4ull);
     r_ya = (u64)((r_24 + 32ull) >> 5ull);
     r_95 = 0ull;
@@ -22468,71 +22482,155 @@ l_capnp_a1:;
     r_5q_1 = (r_0x + r_95);
     u64 r_c4_1 = (r_ve + 1ull);
     if (!(r_c4_1 == r_ya)) { r_95 = r_5q_1; r_ve = r_c4_1; goto l_join_co; }
-    if (!((u64)((r_t9_1 - r_lc) >> 3ull) < r_5q_1)) { r_fk = 0u; goto l_return_ri; }
-l_join_c0:;
+    if (!((u64)((r_t9 - r_lc) >> 3ull) < r_5q_1)) { r_fk = 0u; goto l_return_ri; }
+l_join_im:;
     memset(slot_1, 0u, 104);
-    u8 *r_08_1 = away(a_2, 16ull);
-    r_xz = away(a_2, 24ull);
-    std_io_buffered_write_out_891f919cf49183b3(slot_1, ldp(r_08_1), ld64(r_xz), a_2);
-    r_52_3 = ld64(slot_1);
+    u8 *r_xz = away(a_2, 24ull);
+    r_xm = away(a_2, 32ull);
+    std_io_buffered_write_out_cc0a01cbe8a2ee4a(slot_1, ldp(r_xz), ld64(r_xm), a_2);
+    r_52_1 = ld64(slot_1);
     t_r5 = ld8((slot_1 + 8));
-    u64 r_52_4 = ld64(r_xz);
-    r_lz_2 = ldp(r_08_1);
-    r_t9_3 = (r_52_4 - r_52_3);
-    if (r_52_4 == r_52_3) { r_61 = r_52_3; goto l_std_z5; }
-    t_2b = away(r_lz_2, r_52_3);
+    u64 r_52_2 = ld64(r_xm);
+    r_lz = ldp(r_xz);
+    r_t9_1 = (r_52_2 - r_52_1);
+    if (r_52_2 == r_52_1) { r_61 = r_52_1; goto l_std_z5; }
+    t_2b = away(r_lz, r_52_1);
     r_ti = 0ull;
 l_join_u2:;
-    st8((r_lz_2 + (i64)(r_ti)), ld8(away(t_2b, r_ti)));
+    st8((r_lz + (i64)(r_ti)), ld8(away(t_2b, r_ti)));
     u64 r_36_1 = (r_ti + 1ull);
-    if (!(r_36_1 == r_t9_3)) { r_ti = r_36_1; goto l_join_u2; }
-    r_61 = ld64(r_xz);
+    if (!(r_36_1 == r_t9_1)) { r_ti = r_36_1; goto l_join_u2; }
+    r_61 = ld64(r_xm);
 l_std_z5:;
-    if (!(r_61 > r_t9_3)) goto l_std_i0;
-    st64(r_xz, r_t9_3);
+    if (!(r_61 > r_t9_1)) goto l_std_i0;
+    st64(r_xm, r_t9_1);
 l_std_i0:;
     if (t_r5 == 0u) { r_fk = 0u; goto l_return_ri; }
-    st8(away(a_2, 40ull), 1u);
+    st8(away(a_2, 48ull), 1u);
     r_fk = 1u;
 l_return_ri:;
     return r_fk;
 }
 
-/* capnp_messages::text::write_number::<#e651c7466fc4e63a> */
-u8 capnp_messages_text_write_number_e651c7466fc4e63a(u8 *a_1, u64 a_2)
+/* capnp_packing::packing::packing_output::PackingOutput::write_pending::<#45b6cc80abe1f805> */
+u8 capnp_packing_packing_packing_output_PackingOutput_wri_f76edb1e(u8 *a_1)
 {
-    A(1) u8 slot_1[1];
-    u8 *r_kf;
-    u64 r_yx;
-    struct s_i8_i64 r_be;
+    A(8) u8 slot_1[96];
+    u8 *r_e2;
+    u8 *r_bo;
+    u64 r_52;
+    u64 r_52_1;
+    u8 *r_r2;
+    u8 *r_xz;
+    u8 *r_su;
+    u8 *r_xm;
+    u8 *r_x5;
+    u64 r_pf;
+    u64 r_dt;
+    u8 *r_2b;
+    u64 r_e9;
+    u64 r_52_2;
+    u64 r_52_3;
+    u64 r_5q;
+    u8 *r_lz;
+    u8 *r_2b_1;
+    u64 r_il;
+    u64 r_5a;
     u8 r_fk;
-    if (!(a_2 > 9ull)) goto l_join_2u;
-    u8 r_55 = capnp_messages_text_write_number_e651c7466fc4e63a(a_1, (a_2 / 10ull));
-    if ((u8)(r_55 & 1)) { r_fk = 1u; goto l_return_ri; }
-l_join_2u:;
-    st8(slot_1, (u8)((u8)(a_2 % 10ull) | 48u));
-    r_kf = slot_1;
-    r_yx = 1ull;
-l_join_3f:;
-    r_be = capnp_packing_packing_packing_output_PackingOutputOutp_f7874286(a_1, r_kf, r_yx);
-    if (!(r_be.f0 == 0u)) { r_fk = 1u; goto l_return_ri; }
-    u64 r_h9 = r_be.f1;
-    u64 r_t9 = (r_yx - r_h9);
-    if (r_t9 == 0ull) { r_fk = 0u; goto l_return_ri; }
-    u8 *r_1 = away(r_kf, r_h9);
-    u64 r_2 = r_t9;
-    r_kf = r_1;
-    r_yx = r_2;
-    goto l_join_3f;
+    r_e2 = away(a_1, 8248ull);
+    r_bo = away(a_1, 8256ull);
+    r_52 = ld64(r_e2);
+    r_52_1 = ld64(r_bo);
+    if (!(r_52 < r_52_1)) goto l_after_mk;
+    r_r2 = away(a_1, 56ull);
+    r_xz = away(a_1, 24ull);
+    r_su = away(a_1, 40ull);
+    r_xm = away(a_1, 32ull);
+    r_x5 = (slot_1 + 8);
+    r_pf = r_52_1;
+    r_dt = r_52;
+l_join_ge:;
+    r_2b = away(r_r2, r_dt);
+    r_e9 = (r_pf - r_dt);
+    memset(slot_1, 0u, 96);
+    r_52_2 = ld64(r_su);
+    r_52_3 = ld64(r_xm);
+    if (!(r_e9 < (r_52_2 - r_52_3))) goto l_std_ad;
+    r_5q = (r_52_3 + r_e9);
+    r_lz = ldp(r_xz);
+    memset(r_xm, 0u, 16);
+    r_2b_1 = away(r_lz, r_52_3);
+    if (((u64)(uptr)r_2b_1 - (u64)(uptr)r_2b) < r_e9) { r_il = 0ull; goto l_join_fh; }
+    memmove_or_none(r_2b_1, r_2b, r_e9);
+    goto l_std_5b;
+l_join_fh:;
+    st8((r_2b_1 + (i64)(r_il)), ld8((r_2b + (i64)(r_il))));
+    u64 r_36 = (r_il + 1ull);
+    if (!(r_36 == r_e9)) { r_il = r_36; goto l_join_fh; }
+l_std_5b:;
+    stp(r_xz, r_lz);
+    st64(r_xm, r_5q);
+    st64(r_su, r_52_2);
+    r_5a = r_e9;
+    goto l_arm_7z;
+l_std_ad:;
+    std_io_buffered_BufWriter_write_cold_4fc199ee41d89934(slot_1, a_1, r_2b, r_e9);
+    if (ld8(slot_1) == 0u) { r_5a = ld64(r_x5); goto l_arm_7z; }
+    goto l_arm_6w;
+l_arm_7z:;
+    if (r_5a == 0ull) goto l_arm_6w;
+    u64 r_5q_1 = (ld64(r_e2) + r_5a);
+    st64(r_e2, r_5q_1);
+    u64 r_52_4 = ld64(r_bo);
+    if (r_5q_1 < r_52_4) { r_pf = r_52_4; r_dt = r_5q_1; goto l_join_ge; }
+    goto l_after_mk;
+l_arm_6w:;
+    st8(away(a_1, 48ull), 1u);
+    st8(away(a_1, 8264ull), 1u);
+    r_fk = 1u;
+    goto l_return_ri;
+l_after_mk:;
+    memset(r_e2, 0u, 16);
+    r_fk = 0u;
 l_return_ri:;
     return r_fk;
 }
 
-/* capnp_packing::packing::packing_output::PackingOutputOutput::write::<#5f4393f7ae16529f> */
-struct s_i8_i64 capnp_packing_packing_packing_output_PackingOutputOutp_f7874286(u8 *a_1, u8 *a_2, u64 a_3)
+/* capnp_messages::text::write_number::<#91097057b640ab3c> */
+u8 capnp_messages_text_write_number_91097057b640ab3c(u8 *a_1, u64 a_2)
 {
-    u64 r_ba;
-    u8 *r_e2_2;
+    A(1) u8 slot_1[1];
+    u8 *r_0m;
+    u64 r_1s;
+    struct s_i8_i64 r_la;
+    u8 r_fk;
+    if (!(a_2 > 9ull)) goto l_join_2u;
+    u8 r_t5 = capnp_messages_text_write_number_91097057b640ab3c(a_1, (a_2 / 10ull));
+    if ((u8)(r_t5 & 1)) { r_fk = 1u; goto l_return_ri; }
+l_join_2u:;
+    st8(slot_1, (u8)((u8)(a_2 % 10ull) | 48u));
+    r_0m = slot_1;
+    r_1s = 1ull;
+l_join_u4:;
+    r_la = capnp_packing_packing_packing_output_PackingOutputOutp_687cfcb2(a_1, r_0m, r_1s);
+    if (!(r_la.f0 == 0u)) { r_fk = 1u; goto l_return_ri; }
+    u64 r_h9 = r_la.f1;
+    u64 r_t9 = (r_1s - r_h9);
+    if (r_t9 == 0ull) { r_fk = 0u; goto l_return_ri; }
+    u8 *r_1 = away(r_0m, r_h9);
+    u64 r_2 = r_t9;
+    r_0m = r_1;
+    r_1s = r_2;
+    goto l_join_u4;
+l_return_ri:;
+    return r_fk;
+}
+
+/* capnp_packing::packing::packing_output::PackingOutputOutput::write::<#45b6cc80abe1f805> */
+struct s_i8_i64 capnp_packing_packing_packing_output_PackingOutputOutp_687cfcb2(u8 *a_1, u8 *a_2, u64 a_3)
+{
+    u64 r_lw;
+    u8 *r_bo;
     u8 *r_2b;
     u64 r_j2;
     u64 r_sz;
@@ -22555,10 +22653,10 @@ struct s_i8_i64 capnp_packing_packing_packing_output_PackingOutputOutp_f7874286(
     u8 r_w8;
     u8 *r_62;
     u64 r_il;
-    u64 r_z6_1;
+    u64 r_z6;
     u64 r_1d;
     u8 *r_a2;
-    u64 r_4k_1;
+    u64 r_4k;
     u64 r_il_1;
     u8 *r_62_1;
     u64 r_pe;
@@ -22580,25 +22678,25 @@ struct s_i8_i64 capnp_packing_packing_packing_output_PackingOutputOutp_f7874286(
     u64 r_4w;
     u8 r_x4;
     if (a_3 == 0ull) { r_4w = 0ull; r_x4 = 0u; goto l_return_7d; }
-    if (!(a_3 < 8ull)) goto l_join_2w;
-    st8(away(a_1, 8256ull), 1u);
+    if (!(a_3 < 8ull)) goto l_join_7o;
+    st8(away(a_1, 8264ull), 1u);
     r_4w = 0ull;
     r_x4 = 1u;
     goto l_return_7d;
-l_join_2w:;
-    if (!(ld64(away(a_1, 8240ull)) == 0ull)) goto l_capnp_wr;
-    u64 r_52_1 = ld64(away(a_1, 8248ull));
-    if ((r_52_1 + 0xffffffffffffdfffull) < 0xfffffffffffff7feull) { r_ba = r_52_1; goto l_arm_ex; }
-l_capnp_wr:;
-    u8 r_jb = capnp_packing_packing_packing_output_PackingOutput_wri_9d1a2895(a_1);
-    if ((u8)(r_jb & 1)) { r_4w = 0ull; r_x4 = 1u; goto l_return_7d; }
-    r_ba = ld64(away(a_1, 8248ull));
-l_arm_ex:;
-    r_e2_2 = away(a_1, 8248ull);
-    r_2b = away(away(a_1, 48ull), r_ba);
-    r_j2 = (8192ull - r_ba);
+l_join_7o:;
+    if (!(ld64(away(a_1, 8248ull)) == 0ull)) goto l_capnp_s6;
+    u64 r_52 = ld64(away(a_1, 8256ull));
+    if ((r_52 + 0xffffffffffffdfffull) < 0xfffffffffffff7feull) { r_lw = r_52; goto l_arm_ts; }
+l_capnp_s6:;
+    u8 r_2q = capnp_packing_packing_packing_output_PackingOutput_wri_f76edb1e(a_1);
+    if ((u8)(r_2q & 1)) { r_4w = 0ull; r_x4 = 1u; goto l_return_7d; }
+    r_lw = ld64(away(a_1, 8256ull));
+l_arm_ts:;
+    r_bo = away(a_1, 8256ull);
+    r_2b = away(away(a_1, 56ull), r_lw);
+    r_j2 = (8192ull - r_lw);
     if (r_j2 > 2049ull) { r_sz = a_3; r_m4 = 0ull; r_24 = 0ull; goto l_join_z3; }
-    r_ty = r_ba;
+    r_ty = r_lw;
     r_a4 = 0ull;
     r_ki = 0ull;
     goto l_capnp_t9;
@@ -22656,25 +22754,25 @@ l_capnp_px:;
     goto l_core_pd;
 l_join_fh:;
     st8((r_62 + (i64)(r_il)), ld8((r_8z + (i64)(r_il))));
-    u64 r_c4_1 = (r_il + 1ull);
-    if (!(r_c4_1 == 8ull)) { r_il = r_c4_1; goto l_join_fh; }
+    u64 r_c4 = (r_il + 1ull);
+    if (!(r_c4 == 8ull)) { r_il = r_c4; goto l_join_fh; }
 l_core_pd:;
     st8((r_2b_1 + 9), r_w8);
     if (r_w8 == 0u) { r_0z = 8ull; pn_ak = 10ull; goto l_capnp_at; }
-    r_z6_1 = (u64)((u64)r_w8 << 3ull);
-    r_1d = (r_z6_1 + 10ull);
+    r_z6 = (u64)((u64)r_w8 << 3ull);
+    r_1d = (r_z6 + 10ull);
     r_a2 = away(r_2b_1, 10ull);
-    r_4k_1 = (r_z6_1 + 8ull);
-    if (((u64)(uptr)r_a2 - (u64)(uptr)r_ps_1) < r_z6_1) { r_il_1 = 0ull; goto l_join_fh_1; }
-    memmove_or_none(r_a2, r_ps_1, r_z6_1);
-    r_0z = r_4k_1;
+    r_4k = (r_z6 + 8ull);
+    if (((u64)(uptr)r_a2 - (u64)(uptr)r_ps_1) < r_z6) { r_il_1 = 0ull; goto l_join_fh_1; }
+    memmove_or_none(r_a2, r_ps_1, r_z6);
+    r_0z = r_4k;
     pn_ak = r_1d;
     goto l_capnp_at;
 l_join_fh_1:;
     st8((r_a2 + (i64)(r_il_1)), ld8((r_ps_1 + (i64)(r_il_1))));
-    u64 r_c4_2 = (r_il_1 + 1ull);
-    if (r_c4_2 == r_z6_1) { r_0z = r_4k_1; pn_ak = r_1d; goto l_capnp_at; }
-    r_il_1 = r_c4_2;
+    u64 r_c4_1 = (r_il_1 + 1ull);
+    if (r_c4_1 == r_z6) { r_0z = r_4k; pn_ak = r_1d; goto l_capnp_at; }
+    r_il_1 = r_c4_1;
     goto l_join_fh_1;
 l_join_33:;
     st8(r_2b_1, mask8(r_x2));
@@ -22682,22 +22780,22 @@ l_join_33:;
     r_pe = 0ull;
     r_x5 = 0ull;
 l_join_pp:;
-    u8 r_47_2 = ld8((r_8z + (i64)(r_x5)));
-    st8((r_62_1 + (i64)(r_pe)), r_47_2);
-    spec_5q = (r_pe + (u64)(r_47_2 != 0u));
-    u64 r_c4_3 = (r_x5 + 1ull);
-    if (!(r_c4_3 == 5ull)) { r_pe = spec_5q; r_x5 = r_c4_3; goto l_join_pp; }
+    u8 r_47 = ld8((r_8z + (i64)(r_x5)));
+    st8((r_62_1 + (i64)(r_pe)), r_47);
+    spec_5q = (r_pe + (u64)(r_47 != 0u));
+    u64 r_c4_2 = (r_x5 + 1ull);
+    if (!(r_c4_2 == 5ull)) { r_pe = spec_5q; r_x5 = r_c4_2; goto l_join_pp; }
     if (r_73 < 32u) { common_4a = spec_5q; goto l_capnp_z3; }
     r_za = away(r_62_1, spec_5q);
     r_no = away(r_8z, 5ull);
     r_pe_1 = 0ull;
     r_x5_1 = 0ull;
 l_join_pp_1:;
-    u8 r_47_3 = ld8((r_no + (i64)(r_x5_1)));
-    st8((r_za + (i64)(r_pe_1)), r_47_3);
-    spec_5q_1 = (r_pe_1 + (u64)(r_47_3 != 0u));
-    u64 r_c4_4 = (r_x5_1 + 1ull);
-    if (!(r_c4_4 == 3ull)) { r_pe_1 = spec_5q_1; r_x5_1 = r_c4_4; goto l_join_pp_1; }
+    u8 r_47_1 = ld8((r_no + (i64)(r_x5_1)));
+    st8((r_za + (i64)(r_pe_1)), r_47_1);
+    spec_5q_1 = (r_pe_1 + (u64)(r_47_1 != 0u));
+    u64 r_c4_3 = (r_x5_1 + 1ull);
+    if (!(r_c4_3 == 3ull)) { r_pe_1 = spec_5q_1; r_x5_1 = r_c4_3; goto l_join_pp_1; }
     common_4a = (spec_5q_1 + spec_5q);
 l_capnp_z3:;
     r_0z = 8ull;
@@ -22707,11 +22805,11 @@ l_capnp_at:;
     r_3q = (pn_ak + r_24);
     u64 r_0j = (a_3 - r_5q);
     if ((r_0j > 7ull) ? ((r_j2 - r_3q) > 2049ull) : 0u) { r_sz = r_0j; r_m4 = r_5q; r_24 = r_3q; goto l_join_z3; }
-    r_ty = ld64(r_e2_2);
+    r_ty = ld64(r_bo);
     r_a4 = r_3q;
     r_ki = r_5q;
 l_capnp_t9:;
-    st64(r_e2_2, (r_ty + r_a4));
+    st64(r_bo, (r_ty + r_a4));
     r_4w = r_ki;
     r_x4 = 0u;
 l_return_7d:;
@@ -22722,92 +22820,8 @@ l_return_7d:;
     return r_ez;
 }
 
-/* capnp_packing::packing::packing_output::PackingOutput::write_pending::<#5f4393f7ae16529f> */
-u8 capnp_packing_packing_packing_output_PackingOutput_wri_9d1a2895(u8 *a_1)
-{
-    A(8) u8 slot_1[96];
-    u8 *r_vg;
-    u8 *r_e2;
-    u64 r_52;
-    u64 r_52_1;
-    u8 *r_t9;
-    u8 *r_08;
-    u8 *r_xm;
-    u8 *r_xz;
-    u8 *r_x5;
-    u64 r_pf;
-    u64 r_dt;
-    u8 *r_2b;
-    u64 r_e9;
-    u64 r_52_2;
-    u64 r_52_3;
-    u64 r_5q;
-    u8 *r_lz;
-    u8 *r_2b_1;
-    u64 r_il;
-    u64 r_5a;
-    u8 r_fk;
-    r_vg = away(a_1, 8240ull);
-    r_e2 = away(a_1, 8248ull);
-    r_52 = ld64(r_vg);
-    r_52_1 = ld64(r_e2);
-    if (!(r_52 < r_52_1)) goto l_after_mk;
-    r_t9 = away(a_1, 48ull);
-    r_08 = away(a_1, 16ull);
-    r_xm = away(a_1, 32ull);
-    r_xz = away(a_1, 24ull);
-    r_x5 = (slot_1 + 8);
-    r_pf = r_52_1;
-    r_dt = r_52;
-l_join_ge:;
-    r_2b = away(r_t9, r_dt);
-    r_e9 = (r_pf - r_dt);
-    memset(slot_1, 0u, 96);
-    r_52_2 = ld64(r_xm);
-    r_52_3 = ld64(r_xz);
-    if (!(r_e9 < (r_52_2 - r_52_3))) goto l_std_8u;
-    r_5q = (r_52_3 + r_e9);
-    r_lz = ldp(r_08);
-    memset(r_xz, 0u, 16);
-    r_2b_1 = away(r_lz, r_52_3);
-    if (((u64)(uptr)r_2b_1 - (u64)(uptr)r_2b) < r_e9) { r_il = 0ull; goto l_join_fh; }
-    memmove_or_none(r_2b_1, r_2b, r_e9);
-    goto l_std_5b;
-l_join_fh:;
-    st8((r_2b_1 + (i64)(r_il)), ld8((r_2b + (i64)(r_il))));
-    u64 r_36 = (r_il + 1ull);
-    if (!(r_36 == r_e9)) { r_il = r_36; goto l_join_fh; }
-l_std_5b:;
-    stp(r_08, r_lz);
-    st64(r_xz, r_5q);
-    st64(r_xm, r_52_2);
-    r_5a = r_e9;
-    goto l_arm_7z;
-l_std_8u:;
-    std_io_buffered_BufWriter_write_cold_33d6c0b4aa7432c7(slot_1, a_1, r_2b, r_e9);
-    if (ld8(slot_1) == 0u) { r_5a = ld64(r_x5); goto l_arm_7z; }
-    goto l_arm_c4;
-l_arm_7z:;
-    if (r_5a == 0ull) goto l_arm_c4;
-    u64 r_5q_1 = (ld64(r_vg) + r_5a);
-    st64(r_vg, r_5q_1);
-    u64 r_52_5 = ld64(r_e2);
-    if (r_5q_1 < r_52_5) { r_pf = r_52_5; r_dt = r_5q_1; goto l_join_ge; }
-    goto l_after_mk;
-l_arm_c4:;
-    st8(away(a_1, 40ull), 1u);
-    st8(away(a_1, 8256ull), 1u);
-    r_fk = 1u;
-    goto l_return_ri;
-l_after_mk:;
-    memset(r_vg, 0u, 16);
-    r_fk = 0u;
-l_return_ri:;
-    return r_fk;
-}
-
-/* capnp_packing::buffered::flush_before_waiting::<#0b0bce124ea34349> */
-u8 capnp_packing_buffered_flush_before_waiting_0b0bce124ea34349(u8 *a_1, u8 *a_2)
+/* capnp_packing::buffered::flush_before_waiting::<#71ff042200855f5a> */
+u8 capnp_packing_buffered_flush_before_waiting_71ff042200855f5a(u8 *a_1, u8 *a_2)
 {
     A(8) u8 slot_1[104];
     u8 *r_2b;
@@ -22824,26 +22838,28 @@ u8 capnp_packing_buffered_flush_before_waiting_0b0bce124ea34349(u8 *a_1, u8 *a_2
     u64 r_rx;
     u64 r_0x;
     u64 r_5q_1;
-    u8 *r_lz_1;
-    u8 *r_3q;
-    u64 r_52_3;
+    u8 *r_lz;
+    u8 *r_9j;
+    u64 r_52_1;
     u8 t_r5;
-    u8 *r_lz_3;
-    u64 r_t9_2;
+    u8 *r_lz_1;
+    u64 r_t9_1;
     u8 *t_2b;
     u64 r_ti;
     u64 r_61;
     u8 r_fk;
-    u64 r_52 = ld64(away(a_1, 8248ull));
-    r_2b = away(ldp(away(a_1, 8224ull)), r_52);
-    r_t9 = (ld64(away(a_1, 8256ull)) - r_52);
-    if (r_t9 < 4ull) goto l_join_hc;
+    u8 *r_39 = away(ldp(away(a_1, 8280ull)), 64ull);
+    st64(r_39, (ld64(r_39) + 1ull));
+    u64 r_52 = ld64(away(a_1, 8256ull));
+    r_2b = away(ldp(away(a_1, 8232ull)), r_52);
+    r_t9 = (ld64(away(a_1, 8264ull)) - r_52);
+    if (r_t9 < 4ull) goto l_join_pr;
     u32 r_5k = ld32(r_2b);
     r_24 = (u64)r_5k;
     r_c4 = (r_24 + 1ull);
-    if (r_5k > 511u) goto l_join_hc;
+    if (r_5k > 511u) goto l_join_pr;
     r_lc = (((u64)(r_c4 << 2ull) + 4ull) + ((u64)(r_24 << 2ull) & 4ull));
-    if (r_t9 < r_lc) goto l_join_hc;
+    if (r_t9 < r_lc) goto l_join_pr;
     r_bb = away(r_2b, 4ull);
     r_ya = (u64)((r_24 + 32ull) >> 5ull);
     r_95 = 0ull;
@@ -22866,34 +22882,34 @@ l_capnp_a1:;
     u64 r_c4_1 = (r_ve + 1ull);
     if (!(r_c4_1 == r_ya)) { r_95 = r_5q_1; r_ve = r_c4_1; goto l_join_co; }
     if (!((u64)((r_t9 - r_lc) >> 3ull) < r_5q_1)) { r_fk = 0u; goto l_return_ri; }
-l_join_hc:;
-    r_lz_1 = ldp(away(a_2, 16ull));
-    u8 r_u2 = capnp_packing_packing_packing_output_PackingOutput_wri_9d1a2895(r_lz_1);
-    if ((u8)(r_u2 & 1)) goto l_then_cv;
+l_join_pr:;
+    r_lz = ldp(away(a_2, 16ull));
+    u8 r_ed = capnp_packing_packing_packing_output_PackingOutput_wri_f76edb1e(r_lz);
+    if ((u8)(r_ed & 1)) goto l_then_cv;
     memset(slot_1, 0u, 104);
-    u8 *r_zn = away(r_lz_1, 16ull);
-    r_3q = away(r_lz_1, 24ull);
-    std_io_buffered_write_out_891f919cf49183b3(slot_1, ldp(r_zn), ld64(r_3q), r_lz_1);
-    r_52_3 = ld64(slot_1);
+    u8 *r_3q = away(r_lz, 24ull);
+    r_9j = away(r_lz, 32ull);
+    std_io_buffered_write_out_cc0a01cbe8a2ee4a(slot_1, ldp(r_3q), ld64(r_9j), r_lz);
+    r_52_1 = ld64(slot_1);
     t_r5 = ld8((slot_1 + 8));
-    u64 r_52_4 = ld64(r_3q);
-    r_lz_3 = ldp(r_zn);
-    r_t9_2 = (r_52_4 - r_52_3);
-    if (r_52_4 == r_52_3) { r_61 = r_52_3; goto l_std_z5; }
-    t_2b = away(r_lz_3, r_52_3);
+    u64 r_52_2 = ld64(r_9j);
+    r_lz_1 = ldp(r_3q);
+    r_t9_1 = (r_52_2 - r_52_1);
+    if (r_52_2 == r_52_1) { r_61 = r_52_1; goto l_std_z5; }
+    t_2b = away(r_lz_1, r_52_1);
     r_ti = 0ull;
 l_join_u2:;
-    st8((r_lz_3 + (i64)(r_ti)), ld8(away(t_2b, r_ti)));
+    st8((r_lz_1 + (i64)(r_ti)), ld8(away(t_2b, r_ti)));
     u64 r_36_1 = (r_ti + 1ull);
-    if (!(r_36_1 == r_t9_2)) { r_ti = r_36_1; goto l_join_u2; }
-    r_61 = ld64(r_3q);
+    if (!(r_36_1 == r_t9_1)) { r_ti = r_36_1; goto l_join_u2; }
+    r_61 = ld64(r_9j);
 l_std_z5:;
-    if (!(r_61 > r_t9_2)) goto l_std_i0;
-    st64(r_3q, r_t9_2);
+    if (!(r_61 > r_t9_1)) goto l_std_i0;
+    st64(r_9j, r_t9_1);
 l_std_i0:;
     if (t_r5 == 0u) { r_fk = 0u; goto l_return_ri; }
-    st8(away(r_lz_1, 40ull), 1u);
-    st8(away(r_lz_1, 8256ull), 1u);
+    st8(away(r_lz, 48ull), 1u);
+    st8(away(r_lz, 8264ull), 1u);
 l_then_cv:;
     st8(away(a_2, 33ull), 1u);
     r_fk = 1u;
@@ -22901,36 +22917,36 @@ l_return_ri:;
     return r_fk;
 }
 
-/* capnp_framing::devices::writing::write_all::<#1b4396949a45ae13> */
-u8 capnp_framing_devices_writing_write_all_1b4396949a45ae13(u8 *a_1, u8 *a_2, u64 a_3)
+/* capnp_framing::devices::writing::write_all::<#b4ea5f78962d5b24> */
+u8 capnp_framing_devices_writing_write_all_b4ea5f78962d5b24(u8 *a_1, u8 *a_2, u64 a_3)
 {
     u8 *r_08;
     u8 *r_xm;
     u8 *r_e7;
     u8 *r_xz;
-    u8 *r_fr;
-    u64 r_d4;
+    u8 *r_2y;
+    u64 r_fp;
     u8 *r_lz;
     u8 r_mp;
-    u8 *r_we;
-    u64 r_d3;
-    struct s_i8_i64 r_st;
-    u8 *r_lz_2;
-    u8 *r_we_1;
-    u64 r_d3_1;
-    struct s_i8_i64 r_st_1;
+    u8 *r_11;
+    u64 r_p8;
+    struct s_i8_i64 r_mw;
+    u8 *r_lz_1;
+    u8 *r_11_1;
+    u64 r_p8_1;
+    struct s_i8_i64 r_mw_1;
     u8 *r_5a;
     u64 r_2l;
-    u8 *r_we_2;
-    u64 r_d3_2;
-    struct s_i8_i64 r_st_2;
+    u8 *r_11_2;
+    u64 r_p8_2;
+    struct s_i8_i64 r_mw_2;
     u8 *r_1v;
     u8 *r_4n;
     u8 *r_a8;
     u64 r_dx;
     u64 r_67;
     u8 r_to;
-    u64 r_ci;
+    u64 r_2j;
     u64 a_9k;
     u8 r_fk;
     if (a_3 == 0ull) { r_fk = 0u; goto l_return_ri; }
@@ -22938,37 +22954,37 @@ u8 capnp_framing_devices_writing_write_all_1b4396949a45ae13(u8 *a_1, u8 *a_2, u6
     r_xm = away(a_1, 32ull);
     r_e7 = (a_1 + 8);
     r_xz = away(a_1, 24ull);
-    r_fr = a_2;
-    r_d4 = a_3;
-l_join_rw:;
+    r_2y = a_2;
+    r_fp = a_3;
+l_join_o5:;
     r_lz = ldp(r_08);
-    r_mp = (u8)(ld8(away(r_lz, 8256ull)) & 1);
-    if (!(ld8(r_fr) == 10u)) goto l_join_i0;
+    r_mp = (u8)(ld8(away(r_lz, 8264ull)) & 1);
+    if (!(ld8(r_2y) == 10u)) goto l_join_i0;
     if (r_mp) goto l_arm_cv;
-    r_we = ((u8 *)g_static_112);
-    r_d3 = 2ull;
-l_join_c8:;
-    r_st = capnp_packing_packing_packing_output_PackingOutputOutp_f7874286(r_lz, r_we, r_d3);
-    if (!(r_st.f0 == 0u)) goto l_arm_cv;
-    u64 r_h9 = r_st.f1;
-    u64 r_t9 = (r_d3 - r_h9);
-    if (!(r_t9 == 0ull)) { u8 *r_1 = away(r_we, r_h9); u64 r_2 = r_t9; r_we = r_1; r_d3 = r_2; goto l_join_c8; }
-    u8 r_i5 = capnp_streams_devices_write_name_and_number_e651c7466fc4e63a(ldp(r_08), ldp(a_1), ld64(r_e7), ld64(r_xz));
-    if ((u8)(r_i5 & 1)) goto l_arm_cv;
-    r_lz_2 = ldp(r_08);
-    r_we_1 = ((u8 *)g_static_7);
-    r_d3_1 = 1ull;
-l_join_c8_1:;
-    r_st_1 = capnp_packing_packing_packing_output_PackingOutputOutp_f7874286(r_lz_2, r_we_1, r_d3_1);
-    if (!(r_st_1.f0 == 0u)) goto l_arm_cv;
-    u64 r_h9_1 = r_st_1.f1;
-    u64 r_t9_1 = (r_d3_1 - r_h9_1);
+    r_11 = ((u8 *)g_static_114);
+    r_p8 = 2ull;
+l_join_68:;
+    r_mw = capnp_packing_packing_packing_output_PackingOutputOutp_687cfcb2(r_lz, r_11, r_p8);
+    if (!(r_mw.f0 == 0u)) goto l_arm_cv;
+    u64 r_h9 = r_mw.f1;
+    u64 r_t9 = (r_p8 - r_h9);
+    if (!(r_t9 == 0ull)) { u8 *r_1 = away(r_11, r_h9); u64 r_2 = r_t9; r_11 = r_1; r_p8 = r_2; goto l_join_68; }
+    u8 r_ff = capnp_streams_devices_write_name_and_number_91097057b640ab3c(ldp(r_08), ldp(a_1), ld64(r_e7), ld64(r_xz));
+    if ((u8)(r_ff & 1)) goto l_arm_cv;
+    r_lz_1 = ldp(r_08);
+    r_11_1 = ((u8 *)g_static_7);
+    r_p8_1 = 1ull;
+l_join_68_1:;
+    r_mw_1 = capnp_packing_packing_packing_output_PackingOutputOutp_687cfcb2(r_lz_1, r_11_1, r_p8_1);
+    if (!(r_mw_1.f0 == 0u)) goto l_arm_cv;
+    u64 r_h9_1 = r_mw_1.f1;
+    u64 r_t9_1 = (r_p8_1 - r_h9_1);
     if (r_t9_1 == 0ull) goto l_capnp_pd;
-    u8 *r_3 = away(r_we_1, r_h9_1);
+    u8 *r_3 = away(r_11_1, r_h9_1);
     u64 r_4 = r_t9_1;
-    r_we_1 = r_3;
-    r_d3_1 = r_4;
-    goto l_join_c8_1;
+    r_11_1 = r_3;
+    r_p8_1 = r_4;
+    goto l_join_68_1;
 l_join_i0:;
     if (r_mp) goto l_arm_cv;
     if (!(u8)(ld8(r_xm) & 1)) { r_4n = r_lz; goto l_join_m6; }
@@ -22983,50 +22999,50 @@ l_loop_7z:;
     default: { u8 *r_5 = away(r_5a, 1ull); u64 r_6 = (r_2l + 0xffffffffffffffffull); r_5a = r_5; r_2l = r_6; goto l_loop_7z; }
     }
 l_join_qu:;
-    r_we_2 = ((u8 *)g_static_272);
-    r_d3_2 = 1ull;
-l_join_c8_2:;
-    r_st_2 = capnp_packing_packing_packing_output_PackingOutputOutp_f7874286(r_lz, r_we_2, r_d3_2);
-    if (!(r_st_2.f0 == 0u)) goto l_arm_cv;
-    u64 r_h9_2 = r_st_2.f1;
-    u64 r_t9_2 = (r_d3_2 - r_h9_2);
-    if (!(r_t9_2 == 0ull)) { u8 *r_7 = away(r_we_2, r_h9_2); u64 r_8 = r_t9_2; r_we_2 = r_7; r_d3_2 = r_8; goto l_join_c8_2; }
+    r_11_2 = ((u8 *)g_static_282);
+    r_p8_2 = 1ull;
+l_join_68_2:;
+    r_mw_2 = capnp_packing_packing_packing_output_PackingOutputOutp_687cfcb2(r_lz, r_11_2, r_p8_2);
+    if (!(r_mw_2.f0 == 0u)) goto l_arm_cv;
+    u64 r_h9_2 = r_mw_2.f1;
+    u64 r_t9_2 = (r_p8_2 - r_h9_2);
+    if (!(r_t9_2 == 0ull)) { u8 *r_7 = away(r_11_2, r_h9_2); u64 r_8 = r_t9_2; r_11_2 = r_7; r_p8_2 = r_8; goto l_join_68_2; }
     r_1v = ldp(r_08);
 l_arm_mb:;
     st8(r_xm, 0u);
     r_4n = r_1v;
 l_join_m6:;
-    r_a8 = r_fr;
+    r_a8 = r_2y;
     r_dx = 0ull;
-    r_67 = r_d4;
+    r_67 = r_fp;
 l_arm_23:;
     r_to = (ld8(r_a8) != 10u);
-    if (!r_to) { r_ci = r_dx; goto l_capnp_th; }
-    u64 r_zn_1 = (r_67 + 0xffffffffffffffffull);
-    if (r_zn_1 == 0ull) { r_ci = 0ull; goto l_capnp_th; }
+    if (!r_to) { r_2j = r_dx; goto l_capnp_7k; }
+    u64 r_zn = (r_67 + 0xffffffffffffffffull);
+    if (r_zn == 0ull) { r_2j = 0ull; goto l_capnp_7k; }
     u8 *r_9 = away(r_a8, 1ull);
     u64 r_10 = (r_dx + 1ull);
-    u64 r_11 = r_zn_1;
+    u64 r_12 = r_zn;
     r_a8 = r_9;
     r_dx = r_10;
-    r_67 = r_11;
+    r_67 = r_12;
     goto l_arm_23;
-l_capnp_th:;
-    struct s_i8_i64 r_ul = capnp_packing_packing_packing_output_PackingOutputOutp_f7874286(r_4n, r_fr, ((r_to ? 1u : (r_ci == 0ull)) ? r_d4 : r_ci));
-    if (r_ul.f0 == 0u) { a_9k = r_ul.f1; goto l_arm_yv; }
+l_capnp_7k:;
+    struct s_i8_i64 r_t0 = capnp_packing_packing_packing_output_PackingOutputOutp_687cfcb2(r_4n, r_2y, ((r_to ? 1u : (r_2j == 0ull)) ? r_fp : r_2j));
+    if (r_t0.f0 == 0u) { a_9k = r_t0.f1; goto l_arm_yv; }
     goto l_arm_cv;
 l_capnp_pd:;
     st64(r_xz, uadd_sat64(ld64(r_xz), 1ull));
     st8(r_xm, 1u);
     a_9k = 1ull;
 l_arm_yv:;
-    u64 r_nr = (r_d4 - a_9k);
+    u64 r_nr = (r_fp - a_9k);
     if (r_nr == 0ull) { r_fk = 0u; goto l_return_ri; }
-    u8 *r_12 = away(r_fr, a_9k);
-    u64 r_13 = r_nr;
-    r_fr = r_12;
-    r_d4 = r_13;
-    goto l_join_rw;
+    u8 *r_13 = away(r_2y, a_9k);
+    u64 r_14 = r_nr;
+    r_2y = r_13;
+    r_fp = r_14;
+    goto l_join_o5;
 l_arm_cv:;
     st8(away(a_1, 33ull), 1u);
     r_fk = 1u;
@@ -23034,24 +23050,24 @@ l_return_ri:;
     return r_fk;
 }
 
-/* capnp_messages::text::write_number::<#1b4396949a45ae13> */
-u8 capnp_messages_text_write_number_1b4396949a45ae13(u8 *a_1, u64 a_2)
+/* capnp_messages::text::write_number::<#b4ea5f78962d5b24> */
+u8 capnp_messages_text_write_number_b4ea5f78962d5b24(u8 *a_1, u64 a_2)
 {
     A(1) u8 slot_1[1];
     u8 r_fk;
     if (!(a_2 > 9ull)) goto l_join_2u;
-    u8 r_b3 = capnp_messages_text_write_number_1b4396949a45ae13(a_1, (a_2 / 10ull));
-    if ((u8)(r_b3 & 1)) { r_fk = 1u; goto l_return_ri; }
+    u8 r_tw = capnp_messages_text_write_number_b4ea5f78962d5b24(a_1, (a_2 / 10ull));
+    if ((u8)(r_tw & 1)) { r_fk = 1u; goto l_return_ri; }
 l_join_2u:;
     st8(slot_1, (u8)((u8)(a_2 % 10ull) | 48u));
-    u8 r_zp = capnp_framing_devices_writing_write_all_1b4396949a45ae13(a_1, slot_1, 1ull);
-    r_fk = r_zp;
+    u8 r_x3 = capnp_framing_devices_writing_write_all_b4ea5f78962d5b24(a_1, slot_1, 1ull);
+    r_fk = r_x3;
 l_return_ri:;
     return r_fk;
 }
 
-/* capnp_packing::buffered::flush_before_waiting::<#a2915fe8f6e62e28> */
-u8 capnp_packing_buffered_flush_before_waiting_a2915fe8f6e62e28(u8 *a_1, u8 *a_2)
+/* capnp_packing::buffered::flush_before_waiting::<#f32b9e79b0aa8d65> */
+u8 capnp_packing_buffered_flush_before_waiting_f32b9e79b0aa8d65(u8 *a_1, u8 *a_2)
 {
     A(8) u8 slot_1[104];
     u8 *r_2b;
@@ -23068,25 +23084,27 @@ u8 capnp_packing_buffered_flush_before_waiting_a2915fe8f6e62e28(u8 *a_1, u8 *a_2
     u64 r_rx;
     u64 r_0x;
     u64 r_5q_1;
-    u8 *r_xz;
-    u64 r_52_3;
+    u8 *r_xm;
+    u64 r_52_1;
     u8 t_r5;
-    u8 *r_lz_2;
-    u64 r_t9_2;
+    u8 *r_lz;
+    u64 r_t9_1;
     u8 *t_2b;
     u64 r_ti;
     u64 r_61;
     u8 r_fk;
-    u64 r_52 = ld64(away(a_1, 8248ull));
-    r_2b = away(ldp(away(a_1, 8224ull)), r_52);
-    r_t9 = (ld64(away(a_1, 8256ull)) - r_52);
-    if (r_t9 < 4ull) goto l_join_fd;
+    u8 *r_39 = away(ldp(away(a_1, 8280ull)), 64ull);
+    st64(r_39, (ld64(r_39) + 1ull));
+    u64 r_52 = ld64(away(a_1, 8256ull));
+    r_2b = away(ldp(away(a_1, 8232ull)), r_52);
+    r_t9 = (ld64(away(a_1, 8264ull)) - r_52);
+    if (r_t9 < 4ull) goto l_join_78;
     u32 r_5k = ld32(r_2b);
     r_24 = (u64)r_5k;
     r_c4 = (r_24 + 1ull);
-    if (r_5k > 511u) goto l_join_fd;
+    if (r_5k > 511u) goto l_join_78;
     r_lc = (((u64)(r_c4 << 2ull) + 4ull) + ((u64)(r_24 << 2ull) & 4ull));
-    if (r_t9 < r_lc) goto l_join_fd;
+    if (r_t9 < r_lc) goto l_join_78;
     r_bb = away(r_2b, 4ull);
     r_ya = (u64)((r_24 + 32ull) >> 5ull);
     r_95 = 0ull;
@@ -23109,40 +23127,40 @@ l_capnp_a1:;
     u64 r_c4_1 = (r_ve + 1ull);
     if (!(r_c4_1 == r_ya)) { r_95 = r_5q_1; r_ve = r_c4_1; goto l_join_co; }
     if (!((u64)((r_t9 - r_lc) >> 3ull) < r_5q_1)) { r_fk = 0u; goto l_return_ri; }
-l_join_fd:;
-    u8 r_jb = capnp_packing_packing_packing_output_PackingOutput_wri_9d1a2895(a_2);
-    if ((u8)(r_jb & 1)) { r_fk = 1u; goto l_return_ri; }
+l_join_78:;
+    u8 r_2q = capnp_packing_packing_packing_output_PackingOutput_wri_f76edb1e(a_2);
+    if ((u8)(r_2q & 1)) { r_fk = 1u; goto l_return_ri; }
     memset(slot_1, 0u, 104);
-    u8 *r_08 = away(a_2, 16ull);
-    r_xz = away(a_2, 24ull);
-    std_io_buffered_write_out_891f919cf49183b3(slot_1, ldp(r_08), ld64(r_xz), a_2);
-    r_52_3 = ld64(slot_1);
+    u8 *r_xz = away(a_2, 24ull);
+    r_xm = away(a_2, 32ull);
+    std_io_buffered_write_out_cc0a01cbe8a2ee4a(slot_1, ldp(r_xz), ld64(r_xm), a_2);
+    r_52_1 = ld64(slot_1);
     t_r5 = ld8((slot_1 + 8));
-    u64 r_52_4 = ld64(r_xz);
-    r_lz_2 = ldp(r_08);
-    r_t9_2 = (r_52_4 - r_52_3);
-    if (r_52_4 == r_52_3) { r_61 = r_52_3; goto l_std_z5; }
-    t_2b = away(r_lz_2, r_52_3);
+    u64 r_52_2 = ld64(r_xm);
+    r_lz = ldp(r_xz);
+    r_t9_1 = (r_52_2 - r_52_1);
+    if (r_52_2 == r_52_1) { r_61 = r_52_1; goto l_std_z5; }
+    t_2b = away(r_lz, r_52_1);
     r_ti = 0ull;
 l_join_u2:;
-    st8((r_lz_2 + (i64)(r_ti)), ld8(away(t_2b, r_ti)));
+    st8((r_lz + (i64)(r_ti)), ld8(away(t_2b, r_ti)));
     u64 r_36_1 = (r_ti + 1ull);
-    if (!(r_36_1 == r_t9_2)) { r_ti = r_36_1; goto l_join_u2; }
-    r_61 = ld64(r_xz);
+    if (!(r_36_1 == r_t9_1)) { r_ti = r_36_1; goto l_join_u2; }
+    r_61 = ld64(r_xm);
 l_std_z5:;
-    if (!(r_61 > r_t9_2)) goto l_std_i0;
-    st64(r_xz, r_t9_2);
+    if (!(r_61 > r_t9_1)) goto l_std_i0;
+    st64(r_xm, r_t9_1);
 l_std_i0:;
     if (t_r5 == 0u) { r_fk = 0u; goto l_return_ri; }
-    st8(away(a_2, 40ull), 1u);
-    st8(away(a_2, 8256ull), 1u);
+    st8(away(a_2, 48ull), 1u);
+    st8(away(a_2, 8264ull), 1u);
     r_fk = 1u;
 l_return_ri:;
     return r_fk;
 }
 
-/* capnp_packing::buffered::flush_before_waiting::<#2c3400c8b09b2bfe> */
-u8 capnp_packing_buffered_flush_before_waiting_2c3400c8b09b2bfe(u8 *a_1, u8 *a_2)
+/* capnp_packing::buffered::flush_before_waiting::<#6ca625a2475f7e6b> */
+u8 capnp_packing_buffered_flush_before_waiting_6ca625a2475f7e6b(u8 *a_1, u8 *a_2)
 {
     A(8) u8 slot_1[104];
     u8 *r_2b;
@@ -23159,26 +23177,28 @@ u8 capnp_packing_buffered_flush_before_waiting_2c3400c8b09b2bfe(u8 *a_1, u8 *a_2
     u64 r_rx;
     u64 r_0x;
     u64 r_5q_1;
-    u8 *r_lz_1;
-    u8 *r_3q;
-    u64 r_52_3;
+    u8 *r_lz;
+    u8 *r_9j;
+    u64 r_52_1;
     u8 t_r5;
-    u8 *r_lz_3;
-    u64 r_t9_2;
+    u8 *r_lz_1;
+    u64 r_t9_1;
     u8 *t_2b;
     u64 r_ti;
     u64 r_61;
     u8 r_fk;
-    u64 r_52 = ld64(away(a_1, 8248ull));
-    r_2b = away(ldp(away(a_1, 8224ull)), r_52);
-    r_t9 = (ld64(away(a_1, 8256ull)) - r_52);
-    if (r_t9 < 4ull) goto l_join_hc;
+    u8 *r_39 = away(ldp(away(a_1, 8280ull)), 64ull);
+    st64(r_39, (ld64(r_39) + 1ull));
+    u64 r_52 = ld64(away(a_1, 8256ull));
+    r_2b = away(ldp(away(a_1, 8232ull)), r_52);
+    r_t9 = (ld64(away(a_1, 8264ull)) - r_52);
+    if (r_t9 < 4ull) goto l_join_pr;
     u32 r_5k = ld32(r_2b);
     r_24 = (u64)r_5k;
     r_c4 = (r_24 + 1ull);
-    if (r_5k > 511u) goto l_join_hc;
+    if (r_5k > 511u) goto l_join_pr;
     r_lc = (((u64)(r_c4 << 2ull) + 4ull) + ((u64)(r_24 << 2ull) & 4ull));
-    if (r_t9 < r_lc) goto l_join_hc;
+    if (r_t9 < r_lc) goto l_join_pr;
     r_bb = away(r_2b, 4ull);
     r_ya = (u64)((r_24 + 32ull) >> 5ull);
     r_95 = 0ull;
@@ -23201,34 +23221,34 @@ l_capnp_a1:;
     u64 r_c4_1 = (r_ve + 1ull);
     if (!(r_c4_1 == r_ya)) { r_95 = r_5q_1; r_ve = r_c4_1; goto l_join_co; }
     if (!((u64)((r_t9 - r_lc) >> 3ull) < r_5q_1)) { r_fk = 0u; goto l_return_ri; }
-l_join_hc:;
-    r_lz_1 = ldp(away(a_2, 16ull));
-    u8 r_u2 = capnp_packing_packing_packing_output_PackingOutput_wri_9d1a2895(r_lz_1);
-    if ((u8)(r_u2 & 1)) goto l_then_sg;
+l_join_pr:;
+    r_lz = ldp(away(a_2, 16ull));
+    u8 r_ed = capnp_packing_packing_packing_output_PackingOutput_wri_f76edb1e(r_lz);
+    if ((u8)(r_ed & 1)) goto l_then_sg;
     memset(slot_1, 0u, 104);
-    u8 *r_zn = away(r_lz_1, 16ull);
-    r_3q = away(r_lz_1, 24ull);
-    std_io_buffered_write_out_891f919cf49183b3(slot_1, ldp(r_zn), ld64(r_3q), r_lz_1);
-    r_52_3 = ld64(slot_1);
+    u8 *r_3q = away(r_lz, 24ull);
+    r_9j = away(r_lz, 32ull);
+    std_io_buffered_write_out_cc0a01cbe8a2ee4a(slot_1, ldp(r_3q), ld64(r_9j), r_lz);
+    r_52_1 = ld64(slot_1);
     t_r5 = ld8((slot_1 + 8));
-    u64 r_52_4 = ld64(r_3q);
-    r_lz_3 = ldp(r_zn);
-    r_t9_2 = (r_52_4 - r_52_3);
-    if (r_52_4 == r_52_3) { r_61 = r_52_3; goto l_std_z5; }
-    t_2b = away(r_lz_3, r_52_3);
+    u64 r_52_2 = ld64(r_9j);
+    r_lz_1 = ldp(r_3q);
+    r_t9_1 = (r_52_2 - r_52_1);
+    if (r_52_2 == r_52_1) { r_61 = r_52_1; goto l_std_z5; }
+    t_2b = away(r_lz_1, r_52_1);
     r_ti = 0ull;
 l_join_u2:;
-    st8((r_lz_3 + (i64)(r_ti)), ld8(away(t_2b, r_ti)));
+    st8((r_lz_1 + (i64)(r_ti)), ld8(away(t_2b, r_ti)));
     u64 r_36_1 = (r_ti + 1ull);
-    if (!(r_36_1 == r_t9_2)) { r_ti = r_36_1; goto l_join_u2; }
-    r_61 = ld64(r_3q);
+    if (!(r_36_1 == r_t9_1)) { r_ti = r_36_1; goto l_join_u2; }
+    r_61 = ld64(r_9j);
 l_std_z5:;
-    if (!(r_61 > r_t9_2)) goto l_std_i0;
-    st64(r_3q, r_t9_2);
+    if (!(r_61 > r_t9_1)) goto l_std_i0;
+    st64(r_9j, r_t9_1);
 l_std_i0:;
     if (t_r5 == 0u) { r_fk = 0u; goto l_return_ri; }
-    st8(away(r_lz_1, 40ull), 1u);
-    st8(away(r_lz_1, 8256ull), 1u);
+    st8(away(r_lz, 48ull), 1u);
+    st8(away(r_lz, 8264ull), 1u);
 l_then_sg:;
     st8(away(a_2, 25ull), 1u);
     r_fk = 1u;
@@ -23236,27 +23256,27 @@ l_return_ri:;
     return r_fk;
 }
 
-/* capnp_framing::devices::writing::write_all::<#7bde658d65b71a39> */
-u8 capnp_framing_devices_writing_write_all_7bde658d65b71a39(u8 *a_1, u8 *a_2, u64 a_3)
+/* capnp_framing::devices::writing::write_all::<#3cc97480b80713a4> */
+u8 capnp_framing_devices_writing_write_all_3cc97480b80713a4(u8 *a_1, u8 *a_2, u64 a_3)
 {
     u8 *r_08;
     u8 *r_xz;
     u8 *r_e7;
-    u8 *r_3b;
-    u64 r_vv;
+    u8 *r_g5;
+    u64 r_a2;
     u8 *r_lz;
     u64 r_qw;
-    u8 *r_we;
-    u64 r_d3;
-    struct s_i8_i64 r_st;
+    u8 *r_11;
+    u64 r_p8;
+    struct s_i8_i64 r_mw;
     u8 *r_bk;
-    u8 *r_we_1;
-    u64 r_d3_1;
-    struct s_i8_i64 r_st_1;
+    u8 *r_11_1;
+    u64 r_p8_1;
+    struct s_i8_i64 r_mw_1;
     u8 *r_jv;
     u64 r_cm;
     u64 r_jk;
-    u64 t_we;
+    u64 t_x7;
     u64 r_h9_2;
     u8 r_vc;
     u8 r_fk;
@@ -23264,41 +23284,41 @@ u8 capnp_framing_devices_writing_write_all_7bde658d65b71a39(u8 *a_1, u8 *a_2, u6
     r_08 = away(a_1, 16ull);
     r_xz = away(a_1, 24ull);
     r_e7 = (a_1 + 8);
-    r_3b = a_2;
-    r_vv = a_3;
-l_join_6x:;
+    r_g5 = a_2;
+    r_a2 = a_3;
+l_join_sn:;
     r_lz = ldp(r_08);
-    if ((u8)(ld8(away(r_lz, 8256ull)) & 1)) goto l_arm_sg;
+    if ((u8)(ld8(away(r_lz, 8264ull)) & 1)) goto l_arm_sg;
     if (!(u8)(ld8(r_xz) & 1)) goto l_arm_m6;
     r_qw = ld64(r_e7);
     if (r_qw == 0ull) { r_bk = r_lz; goto l_arm_qu; }
-    r_we = ldp(a_1);
-    r_d3 = r_qw;
-l_join_c8:;
-    r_st = capnp_packing_packing_packing_output_PackingOutputOutp_f7874286(r_lz, r_we, r_d3);
-    if (!(r_st.f0 == 0u)) goto l_arm_sg;
-    u64 r_h9 = r_st.f1;
-    u64 r_t9 = (r_d3 - r_h9);
-    if (!(r_t9 == 0ull)) { u8 *r_1 = away(r_we, r_h9); u64 r_2 = r_t9; r_we = r_1; r_d3 = r_2; goto l_join_c8; }
+    r_11 = ldp(a_1);
+    r_p8 = r_qw;
+l_join_68:;
+    r_mw = capnp_packing_packing_packing_output_PackingOutputOutp_687cfcb2(r_lz, r_11, r_p8);
+    if (!(r_mw.f0 == 0u)) goto l_arm_sg;
+    u64 r_h9 = r_mw.f1;
+    u64 r_t9 = (r_p8 - r_h9);
+    if (!(r_t9 == 0ull)) { u8 *r_1 = away(r_11, r_h9); u64 r_2 = r_t9; r_11 = r_1; r_p8 = r_2; goto l_join_68; }
     r_bk = ldp(r_08);
 l_arm_qu:;
-    r_we_1 = ((u8 *)g_static_57);
-    r_d3_1 = 2ull;
-l_join_c8_1:;
-    r_st_1 = capnp_packing_packing_packing_output_PackingOutputOutp_f7874286(r_bk, r_we_1, r_d3_1);
-    if (!(r_st_1.f0 == 0u)) goto l_arm_sg;
-    u64 r_h9_1 = r_st_1.f1;
-    u64 r_t9_1 = (r_d3_1 - r_h9_1);
-    if (!(r_t9_1 == 0ull)) { u8 *r_3 = away(r_we_1, r_h9_1); u64 r_4 = r_t9_1; r_we_1 = r_3; r_d3_1 = r_4; goto l_join_c8_1; }
+    r_11_1 = ((u8 *)g_static_59);
+    r_p8_1 = 2ull;
+l_join_68_1:;
+    r_mw_1 = capnp_packing_packing_packing_output_PackingOutputOutp_687cfcb2(r_bk, r_11_1, r_p8_1);
+    if (!(r_mw_1.f0 == 0u)) goto l_arm_sg;
+    u64 r_h9_1 = r_mw_1.f1;
+    u64 r_t9_1 = (r_p8_1 - r_h9_1);
+    if (!(r_t9_1 == 0ull)) { u8 *r_3 = away(r_11_1, r_h9_1); u64 r_4 = r_t9_1; r_11_1 = r_3; r_p8_1 = r_4; goto l_join_68_1; }
     st8(r_xz, 0u);
 l_arm_m6:;
-    r_jv = r_3b;
+    r_jv = r_g5;
     r_cm = 0ull;
-    r_jk = r_vv;
+    r_jk = r_a2;
 l_arm_80:;
     if (ld8(r_jv) == 10u) goto l_t_5s;
     u64 r_zn = (r_jk + 0xffffffffffffffffull);
-    if (r_zn == 0ull) { t_we = r_vv; goto l_capnp_lu; }
+    if (r_zn == 0ull) { t_x7 = r_a2; goto l_capnp_bo; }
     u8 *r_5 = away(r_jv, 1ull);
     u64 r_6 = (r_cm + 1ull);
     u64 r_7 = r_zn;
@@ -23307,22 +23327,22 @@ l_arm_80:;
     r_jk = r_7;
     goto l_arm_80;
 l_t_5s:;
-    t_we = (r_cm + 1ull);
-l_capnp_lu:;
-    struct s_i8_i64 r_5n = capnp_packing_packing_packing_output_PackingOutputOutp_f7874286(ldp(r_08), r_3b, t_we);
-    r_h9_2 = r_5n.f1;
-    if (!(r_5n.f0 == 0u)) goto l_arm_sg;
-    if (!(r_h9_2 == t_we)) { r_vc = 0u; goto l_arm_qo; }
-    r_vc = (u8)(ld8(away(away(r_3b, t_we), 0xffffffffffffffffull)) == 10u);
+    t_x7 = (r_cm + 1ull);
+l_capnp_bo:;
+    struct s_i8_i64 r_gj = capnp_packing_packing_packing_output_PackingOutputOutp_687cfcb2(ldp(r_08), r_g5, t_x7);
+    r_h9_2 = r_gj.f1;
+    if (!(r_gj.f0 == 0u)) goto l_arm_sg;
+    if (!(r_h9_2 == t_x7)) { r_vc = 0u; goto l_arm_qo; }
+    r_vc = (u8)(ld8(away(away(r_g5, t_x7), 0xffffffffffffffffull)) == 10u);
 l_arm_qo:;
     st8(r_xz, r_vc);
-    u64 r_t9_2 = (r_vv - r_h9_2);
+    u64 r_t9_2 = (r_a2 - r_h9_2);
     if (r_t9_2 == 0ull) { r_fk = 0u; goto l_return_ri; }
-    u8 *r_8 = away(r_3b, r_h9_2);
+    u8 *r_8 = away(r_g5, r_h9_2);
     u64 r_9 = r_t9_2;
-    r_3b = r_8;
-    r_vv = r_9;
-    goto l_join_6x;
+    r_g5 = r_8;
+    r_a2 = r_9;
+    goto l_join_sn;
 l_arm_sg:;
     st8(away(a_1, 25ull), 1u);
     r_fk = 1u;
@@ -23330,210 +23350,24 @@ l_return_ri:;
     return r_fk;
 }
 
-/* capnp_messages::text::write_number::<#7bde658d65b71a39> */
-u8 capnp_messages_text_write_number_7bde658d65b71a39(u8 *a_1, u64 a_2)
+/* capnp_messages::text::write_number::<#3cc97480b80713a4> */
+u8 capnp_messages_text_write_number_3cc97480b80713a4(u8 *a_1, u64 a_2)
 {
     A(1) u8 slot_1[1];
     u8 r_fk;
     if (!(a_2 > 9ull)) goto l_join_2u;
-    u8 r_xs = capnp_messages_text_write_number_7bde658d65b71a39(a_1, (a_2 / 10ull));
-    if ((u8)(r_xs & 1)) { r_fk = 1u; goto l_return_ri; }
+    u8 r_k5 = capnp_messages_text_write_number_3cc97480b80713a4(a_1, (a_2 / 10ull));
+    if ((u8)(r_k5 & 1)) { r_fk = 1u; goto l_return_ri; }
 l_join_2u:;
     st8(slot_1, (u8)((u8)(a_2 % 10ull) | 48u));
-    u8 r_mh_1 = capnp_framing_devices_writing_write_all_7bde658d65b71a39(a_1, slot_1, 1ull);
-    r_fk = r_mh_1;
+    u8 r_x0 = capnp_framing_devices_writing_write_all_3cc97480b80713a4(a_1, slot_1, 1ull);
+    r_fk = r_x0;
 l_return_ri:;
     return r_fk;
 }
 
-/* capnp_packing::buffered::flush_before_waiting::<#47d72eb15742c640> */
-u8 capnp_packing_buffered_flush_before_waiting_47d72eb15742c640(u8 *a_1, u8 *a_2)
-{
-    A(8) u8 slot_1[104];
-    u8 *r_2b;
-    u64 r_t9_1;
-    u64 r_24;
-    u64 r_c4;
-    u64 r_lc;
-    u8 *r_bb;
-    u64 r_ya;
-    u64 r_95;
-    u64 r_ve;
-    u64 a_n9;
-    u64 r_l5;
-    u64 r_rx;
-    u64 r_0x;
-    u64 r_5q_1;
-    u8 *r_lz_1;
-    u8 *r_3q;
-    u64 r_52_3;
-    u8 t_r5;
-    u8 *r_lz_3;
-    u64 r_t9_3;
-    u8 *t_2b;
-    u64 r_ti;
-    u64 r_61;
-    u8 r_fk;
-    u64 r_52 = ld64(away(a_1, 40ull));
-    r_2b = away(ldp(away(a_1, 16ull)), r_52);
-    r_t9_1 = (ld64(away(a_1, 48ull)) - r_52);
-    if (r_t9_1 < 4ull) goto l_join_hc;
-    u32 r_5k = ld32(r_2b);
-    r_24 = (u64)r_5k;
-    r_c4 = (r_24 + 1ull);
-    if (r_5k > 511u) goto l_join_hc;
-    r_lc = (((u64)(r_c4 << 2ull) + 4ull) + ((u64)(r_24 << 2ull) & 4ull));
-    if (r_t9_1 < r_lc) goto l_join_hc;
-    r_bb = away(r_2b, 4ull);
-    r_ya = (u64)((r_24 + 32ull) >> 5ull);
-    r_95 = 0ull;
-    r_ve = 0ull;
-l_join_co:;
-    u64 r_vp = (u64)(r_ve << 5ull);
-    a_n9 = umin64((r_vp + 32ull), r_c4);
-    if (r_vp > r_24) { r_0x = 0ull; goto l_capnp_a1; }
-    r_l5 = 0ull;
-    r_rx = r_vp;
-l_join_rl:;
-    u64 r_5q = (r_l5 + (u64)ld32((r_bb + (i64)((u64)(r_rx << 2ull)))));
-    u64 r_36 = (r_rx + 1ull);
-    if (r_36 == a_n9) { r_0x = r_5q; goto l_capnp_a1; }
-    r_l5 = r_5q;
-    r_rx = r_36;
-    goto l_join_rl;
-l_capnp_a1:;
-    r_5q_1 = (r_0x + r_95);
-    u64 r_c4_1 = (r_ve + 1ull);
-    if (!(r_c4_1 == r_ya)) { r_95 = r_5q_1; r_ve = r_c4_1; goto l_join_co; }
-    if (!((u64)((r_t9_1 - r_lc) >> 3ull) < r_5q_1)) { r_fk = 0u; goto l_return_ri; }
-l_join_hc:;
-    r_lz_1 = ldp(away(a_2, 16ull));
-    u8 r_u2 = capnp_packing_packing_packing_output_PackingOutput_wri_9d1a2895(r_lz_1);
-    if ((u8)(r_u2 & 1)) goto l_then_sg;
-    memset(slot_1, 0u, 104);
-    u8 *r_zn = away(r_lz_1, 16ull);
-    r_3q = away(r_lz_1, 24ull);
-    std_io_buffered_write_out_891f919cf49183b3(slot_1, ldp(r_zn), ld64(r_3q), r_lz_1);
-    r_52_3 = ld64(slot_1);
-    t_r5 = ld8((slot_1 + 8));
-    u64 r_52_4 = ld64(r_3q);
-    r_lz_3 = ldp(r_zn);
-    r_t9_3 = (r_52_4 - r_52_3);
-    if (r_52_4 == r_52_3) { r_61 = r_52_3; goto l_std_z5; }
-    t_2b = away(r_lz_3, r_52_3);
-    r_ti = 0ull;
-l_join_u2:;
-    st8((r_lz_3 + (i64)(r_ti)), ld8(away(t_2b, r_ti)));
-    u64 r_36_1 = (r_ti + 1ull);
-    if (!(r_36_1 == r_t9_3)) { r_ti = r_36_1; goto l_join_u2; }
-    r_61 = ld64(r_3q);
-l_std_z5:;
-    if (!(r_61 > r_t9_3)) goto l_std_i0;
-    st64(r_3q, r_t9_3);
-l_std_i0:;
-    if (t_r5 == 0u) { r_fk = 0u; goto l_return_ri; }
-    st8(away(r_lz_1, 40ull), 1u);
-    st8(away(r_lz_1, 8256ull), 1u);
-l_then_sg:;
-    st8(away(a_2, 25ull), 1u);
-    r_fk = 1u;
-l_return_ri:;
-    return r_fk;
-}
-
-/* capnp_packing::buffered::flush_before_waiting::<#a177fac8f71bd942> */
-u8 capnp_packing_buffered_flush_before_waiting_a177fac8f71bd942(u8 *a_1, u8 *a_2)
-{
-    A(8) u8 slot_1[104];
-    u8 *r_2b;
-    u64 r_t9_1;
-    u64 r_24;
-    u64 r_c4;
-    u64 r_lc;
-    u8 *r_bb;
-    u64 r_ya;
-    u64 r_95;
-    u64 r_ve;
-    u64 a_n9;
-    u64 r_l5;
-    u64 r_rx;
-    u64 r_0x;
-    u64 r_5q_1;
-    u8 *r_xz;
-    u64 r_52_3;
-    u8 t_r5;
-    u8 *r_lz_2;
-    u64 r_t9_3;
-    u8 *t_2b;
-    u64 r_ti;
-    u64 r_61;
-    u8 r_fk;
-    u64 r_52 = ld64(away(a_1, 40ull));
-    r_2b = away(ldp(away(a_1, 16ull)), r_52);
-    r_t9_1 = (ld64(away(a_1, 48ull)) - r_52);
-    if (r_t9_1 < 4ull) goto l_join_fd;
-    u32 r_5k = ld32(r_2b);
-    r_24 = (u64)r_5k;
-    r_c4 = (r_24 + 1ull);
-    if (r_5k > 511u) goto l_join_fd;
-    r_lc = (((u64)(r_c4 << 2ull) + 4ull) + ((u64)(r_24 << 2ull) & 4ull));
-    if (r_t9_1 < r_lc) goto l_join_fd;
-    r_bb = away(r_2b, 4ull);
-    r_ya = (u64)((r_24 + 32ull) >> 5ull);
-    r_95 = 0ull;
-    r_ve = 0ull;
-l_join_co:;
-    u64 r_vp = (u64)(r_ve << 5ull);
-    a_n9 = umin64((r_vp + 32ull), r_c4);
-    if (r_vp > r_24) { r_0x = 0ull; goto l_capnp_a1; }
-    r_l5 = 0ull;
-    r_rx = r_vp;
-l_join_rl:;
-    u64 r_5q = (r_l5 + (u64)ld32((r_bb + (i64)((u64)(r_rx << 2ull)))));
-    u64 r_36 = (r_rx + 1ull);
-    if (r_36 == a_n9) { r_0x = r_5q; goto l_capnp_a1; }
-    r_l5 = r_5q;
-    r_rx = r_36;
-    goto l_join_rl;
-l_capnp_a1:;
-    r_5q_1 = (r_0x + r_95);
-    u64 r_c4_1 = (r_ve + 1ull);
-    if (!(r_c4_1 == r_ya)) { r_95 = r_5q_1; r_ve = r_c4_1; goto l_join_co; }
-    if (!((u64)((r_t9_1 - r_lc) >> 3ull) < r_5q_1)) { r_fk = 0u; goto l_return_ri; }
-l_join_fd:;
-    u8 r_jb = capnp_packing_packing_packing_output_PackingOutput_wri_9d1a2895(a_2);
-    if ((u8)(r_jb & 1)) { r_fk = 1u; goto l_return_ri; }
-    memset(slot_1, 0u, 104);
-    u8 *r_08_1 = away(a_2, 16ull);
-    r_xz = away(a_2, 24ull);
-    std_io_buffered_write_out_891f919cf49183b3(slot_1, ldp(r_08_1), ld64(r_xz), a_2);
-    r_52_3 = ld64(slot_1);
-    t_r5 = ld8((slot_1 + 8));
-    u64 r_52_4 = ld64(r_xz);
-    r_lz_2 = ldp(r_08_1);
-    r_t9_3 = (r_52_4 - r_52_3);
-    if (r_52_4 == r_52_3) { r_61 = r_52_3; goto l_std_z5; }
-    t_2b = away(r_lz_2, r_52_3);
-    r_ti = 0ull;
-l_join_u2:;
-    st8((r_lz_2 + (i64)(r_ti)), ld8(away(t_2b, r_ti)));
-    u64 r_36_1 = (r_ti + 1ull);
-    if (!(r_36_1 == r_t9_3)) { r_ti = r_36_1; goto l_join_u2; }
-    r_61 = ld64(r_xz);
-l_std_z5:;
-    if (!(r_61 > r_t9_3)) goto l_std_i0;
-    st64(r_xz, r_t9_3);
-l_std_i0:;
-    if (t_r5 == 0u) { r_fk = 0u; goto l_return_ri; }
-    st8(away(a_2, 40ull), 1u);
-    st8(away(a_2, 8256ull), 1u);
-    r_fk = 1u;
-l_return_ri:;
-    return r_fk;
-}
-
-/* capnp_packing::buffered::flush_before_waiting::<#90c2249d87f9038e> */
-u8 capnp_packing_buffered_flush_before_waiting_90c2249d87f9038e(u8 *a_1, u8 *a_2)
+/* capnp_packing::buffered::flush_before_waiting::<#f7fe3c3453fa6952> */
+u8 capnp_packing_buffered_flush_before_waiting_f7fe3c3453fa6952(u8 *a_1, u8 *a_2)
 {
     A(8) u8 slot_1[104];
     u8 *r_2b;
@@ -23550,25 +23384,28 @@ u8 capnp_packing_buffered_flush_before_waiting_90c2249d87f9038e(u8 *a_1, u8 *a_2
     u64 r_rx;
     u64 r_0x;
     u64 r_5q_1;
-    u8 *r_xz;
-    u64 r_52_3;
+    u8 *r_lz;
+    u8 *r_9j;
+    u64 r_52_1;
     u8 t_r5;
-    u8 *r_lz_2;
-    u64 r_t9_2;
+    u8 *r_lz_1;
+    u64 r_t9_1;
     u8 *t_2b;
     u64 r_ti;
     u64 r_61;
     u8 r_fk;
-    u64 r_52 = ld64(away(a_1, 8248ull));
-    r_2b = away(ldp(away(a_1, 8224ull)), r_52);
-    r_t9 = (ld64(away(a_1, 8256ull)) - r_52);
-    if (r_t9 < 4ull) goto l_join_c0;
+    u8 *r_39 = away(ldp(away(a_1, 72ull)), 64ull);
+    st64(r_39, (ld64(r_39) + 1ull));
+    u64 r_52 = ld64(away(a_1, 48ull));
+    r_2b = away(ldp(away(a_1, 24ull)), r_52);
+    r_t9 = (ld64(away(a_1, 56ull)) - r_52);
+    if (r_t9 < 4ull) goto l_join_pr;
     u32 r_5k = ld32(r_2b);
     r_24 = (u64)r_5k;
     r_c4 = (r_24 + 1ull);
-    if (r_5k > 511u) goto l_join_c0;
+    if (r_5k > 511u) goto l_join_pr;
     r_lc = (((u64)(r_c4 << 2ull) + 4ull) + ((u64)(r_24 << 2ull) & 4ull));
-    if (r_t9 < r_lc) goto l_join_c0;
+    if (r_t9 < r_lc) goto l_join_pr;
     r_bb = away(r_2b, 4ull);
     r_ya = (u64)((r_24 + 32ull) >> 5ull);
     r_95 = 0ull;
@@ -23591,197 +23428,43 @@ l_capnp_a1:;
     u64 r_c4_1 = (r_ve + 1ull);
     if (!(r_c4_1 == r_ya)) { r_95 = r_5q_1; r_ve = r_c4_1; goto l_join_co; }
     if (!((u64)((r_t9 - r_lc) >> 3ull) < r_5q_1)) { r_fk = 0u; goto l_return_ri; }
-l_join_c0:;
+l_join_pr:;
+    r_lz = ldp(away(a_2, 16ull));
+    u8 r_ed = capnp_packing_packing_packing_output_PackingOutput_wri_f76edb1e(r_lz);
+    if ((u8)(r_ed & 1)) goto l_then_sg;
     memset(slot_1, 0u, 104);
-    u8 *r_08 = away(a_2, 16ull);
-    r_xz = away(a_2, 24ull);
-    std_io_buffered_write_out_891f919cf49183b3(slot_1, ldp(r_08), ld64(r_xz), a_2);
-    r_52_3 = ld64(slot_1);
+    u8 *r_3q = away(r_lz, 24ull);
+    r_9j = away(r_lz, 32ull);
+    std_io_buffered_write_out_cc0a01cbe8a2ee4a(slot_1, ldp(r_3q), ld64(r_9j), r_lz);
+    r_52_1 = ld64(slot_1);
     t_r5 = ld8((slot_1 + 8));
-    u64 r_52_4 = ld64(r_xz);
-    r_lz_2 = ldp(r_08);
-    r_t9_2 = (r_52_4 - r_52_3);
-    if (r_52_4 == r_52_3) { r_61 = r_52_3; goto l_std_z5; }
-    t_2b = away(r_lz_2, r_52_3);
+    u64 r_52_2 = ld64(r_9j);
+    r_lz_1 = ldp(r_3q);
+    r_t9_1 = (r_52_2 - r_52_1);
+    if (r_52_2 == r_52_1) { r_61 = r_52_1; goto l_std_z5; }
+    t_2b = away(r_lz_1, r_52_1);
     r_ti = 0ull;
 l_join_u2:;
-    st8((r_lz_2 + (i64)(r_ti)), ld8(away(t_2b, r_ti)));
+    st8((r_lz_1 + (i64)(r_ti)), ld8(away(t_2b, r_ti)));
     u64 r_36_1 = (r_ti + 1ull);
-    if (!(r_36_1 == r_t9_2)) { r_ti = r_36_1; goto l_join_u2; }
-    r_61 = ld64(r_xz);
+    if (!(r_36_1 == r_t9_1)) { r_ti = r_36_1; goto l_join_u2; }
+    r_61 = ld64(r_9j);
 l_std_z5:;
-    if (!(r_61 > r_t9_2)) goto l_std_i0;
-    st64(r_xz, r_t9_2);
+    if (!(r_61 > r_t9_1)) goto l_std_i0;
+    st64(r_9j, r_t9_1);
 l_std_i0:;
     if (t_r5 == 0u) { r_fk = 0u; goto l_return_ri; }
-    st8(away(a_2, 40ull), 1u);
+    st8(away(r_lz, 48ull), 1u);
+    st8(away(r_lz, 8264ull), 1u);
+l_then_sg:;
+    st8(away(a_2, 25ull), 1u);
     r_fk = 1u;
 l_return_ri:;
     return r_fk;
 }
 
-/* capnp_framing::devices::writing::write_all::<#d4d91fe37e791016> */
-u8 capnp_framing_devices_writing_write_all_d4d91fe37e791016(u8 *a_1, u8 *a_2, u64 a_3)
-{
-    A(8) u8 slot_1[96];
-    u8 *r_r2;
-    u8 *r_t9;
-    u8 *r_08;
-    u8 *r_xm;
-    u8 *r_xz;
-    u8 *r_x5;
-    u8 *r_qs;
-    u64 r_tv;
-    u64 r_52_1;
-    u64 r_52_2;
-    u64 r_5q;
-    u8 *r_lz;
-    u8 *r_2b;
-    u64 r_il;
-    u64 r_3a;
-    u8 r_fk;
-    if (a_3 == 0ull) { r_fk = 0u; goto l_return_ri; }
-    r_r2 = away(a_1, 56ull);
-    r_t9 = away(a_1, 48ull);
-    r_08 = away(a_1, 16ull);
-    r_xm = away(a_1, 32ull);
-    r_xz = away(a_1, 24ull);
-    r_x5 = (slot_1 + 8);
-    r_qs = a_2;
-    r_tv = a_3;
-l_join_r6:;
-    if ((u8)(ld8(r_r2) & 1)) goto l_join_lj;
-    if (!(ld64(r_t9) < r_tv)) goto l_after_c8;
-l_join_lj:;
-    st8(r_r2, 1u);
-    r_fk = 1u;
-    goto l_return_ri;
-l_after_c8:;
-    memset(slot_1, 0u, 96);
-    r_52_1 = ld64(r_xm);
-    r_52_2 = ld64(r_xz);
-    if (!(r_tv < (r_52_1 - r_52_2))) goto l_std_8u;
-    r_5q = (r_52_2 + r_tv);
-    r_lz = ldp(r_08);
-    memset(r_xz, 0u, 16);
-    r_2b = away(r_lz, r_52_2);
-    if (((u64)(uptr)r_2b - (u64)(uptr)r_qs) < r_tv) { r_il = 0ull; goto l_join_fh; }
-    memmove_or_none(r_2b, r_qs, r_tv);
-    goto l_arm_5b;
-l_join_fh:;
-    st8((r_2b + (i64)(r_il)), ld8((r_qs + (i64)(r_il))));
-    u64 r_36 = (r_il + 1ull);
-    if (!(r_36 == r_tv)) { r_il = r_36; goto l_join_fh; }
-l_arm_5b:;
-    stp(r_08, r_lz);
-    st64(r_xz, r_5q);
-    st64(r_xm, r_52_1);
-    r_3a = r_tv;
-    goto l_arm_qd;
-l_std_8u:;
-    std_io_buffered_BufWriter_write_cold_33d6c0b4aa7432c7(slot_1, a_1, r_qs, r_tv);
-    u64 r_38 = ld64(r_x5);
-    if ((ld8(slot_1) == 0u) ? (r_38 != 0ull) : 0u) { r_3a = r_38; goto l_arm_qd; }
-    st8(away(a_1, 40ull), 1u);
-    r_fk = 1u;
-    goto l_return_ri;
-l_arm_qd:;
-    st64(r_t9, (ld64(r_t9) - r_3a));
-    u64 r_t9_4 = (r_tv - r_3a);
-    if (r_t9_4 == 0ull) { r_fk = 0u; goto l_return_ri; }
-    u8 *r_1 = away(r_qs, r_3a);
-    u64 r_2 = r_t9_4;
-    r_qs = r_1;
-    r_tv = r_2;
-    goto l_join_r6;
-l_return_ri:;
-    return r_fk;
-}
-
-/* capnp_messages::text::write_number::<#d4d91fe37e791016> */
-u8 capnp_messages_text_write_number_d4d91fe37e791016(u8 *a_1, u64 a_2)
-{
-    A(8) u8 slot_1[96];
-    A(1) u8 slot_2[1];
-    u8 *r_r2;
-    u8 *r_t9;
-    u8 *r_08;
-    u8 *r_xm;
-    u8 *r_xz;
-    u8 *r_x5;
-    u8 *r_qs;
-    u64 r_tv;
-    u64 r_52_1;
-    u64 r_52_2;
-    u64 r_5q;
-    u8 *r_lz;
-    u8 *r_2b;
-    u64 r_il;
-    u64 r_3a;
-    u8 r_fk;
-    if (!(a_2 > 9ull)) goto l_join_2u;
-    u8 r_4f = capnp_messages_text_write_number_d4d91fe37e791016(a_1, (a_2 / 10ull));
-    if ((u8)(r_4f & 1)) { r_fk = 1u; goto l_return_ri; }
-l_join_2u:;
-    st8(slot_2, (u8)((u8)(a_2 % 10ull) | 48u));
-    r_r2 = away(a_1, 56ull);
-    r_t9 = away(a_1, 48ull);
-    r_08 = away(a_1, 16ull);
-    r_xm = away(a_1, 32ull);
-    r_xz = away(a_1, 24ull);
-    r_x5 = (slot_1 + 8);
-    r_qs = slot_2;
-    r_tv = 1ull;
-l_join_r6:;
-    if ((u8)(ld8(r_r2) & 1)) goto l_join_lj;
-    if (!(ld64(r_t9) < r_tv)) goto l_after_c8;
-l_join_lj:;
-    st8(r_r2, 1u);
-    r_fk = 1u;
-    goto l_return_ri;
-l_after_c8:;
-    memset(slot_1, 0u, 96);
-    r_52_1 = ld64(r_xm);
-    r_52_2 = ld64(r_xz);
-    if (!(r_tv < (r_52_1 - r_52_2))) goto l_std_8u;
-    r_5q = (r_52_2 + r_tv);
-    r_lz = ldp(r_08);
-    r_2b = away(r_lz, r_52_2);
-    if (((u64)(uptr)r_2b - (u64)(uptr)r_qs) < r_tv) { r_il = 0ull; goto l_join_fh; }
-    memmove_or_none(r_2b, r_qs, r_tv);
-    goto l_arm_5b;
-l_join_fh:;
-    st8((r_2b + (i64)(r_il)), ld8((r_qs + (i64)(r_il))));
-    u64 r_36 = (r_il + 1ull);
-    if (!(r_36 == r_tv)) { r_il = r_36; goto l_join_fh; }
-l_arm_5b:;
-    stp(r_08, r_lz);
-    st64(r_xz, r_5q);
-    st64(r_xm, r_52_1);
-    r_3a = r_tv;
-    goto l_arm_qd;
-l_std_8u:;
-    std_io_buffered_BufWriter_write_cold_33d6c0b4aa7432c7(slot_1, a_1, r_qs, r_tv);
-    u64 r_38 = ld64(r_x5);
-    if ((ld8(slot_1) == 0u) ? (r_38 != 0ull) : 0u) { r_3a = r_38; goto l_arm_qd; }
-    st8(away(a_1, 40ull), 1u);
-    r_fk = 1u;
-    goto l_return_ri;
-l_arm_qd:;
-    st64(r_t9, (ld64(r_t9) - r_3a));
-    u64 r_t9_4 = (r_tv - r_3a);
-    if (r_t9_4 == 0ull) { r_fk = 0u; goto l_return_ri; }
-    u8 *r_1 = away(r_qs, r_3a);
-    u64 r_2 = r_t9_4;
-    r_qs = r_1;
-    r_tv = r_2;
-    goto l_join_r6;
-l_return_ri:;
-    return r_fk;
-}
-
-/* capnp_packing::buffered::flush_before_waiting::<#6ad6bc89a0f03c2a> */
-u8 capnp_packing_buffered_flush_before_waiting_6ad6bc89a0f03c2a(u8 *a_1, u8 *a_2)
+/* capnp_packing::buffered::flush_before_waiting::<#a578f45544353664> */
+u8 capnp_packing_buffered_flush_before_waiting_a578f45544353664(u8 *a_1, u8 *a_2)
 {
     A(8) u8 slot_1[104];
     u8 *r_2b;
@@ -23798,19 +23481,364 @@ u8 capnp_packing_buffered_flush_before_waiting_6ad6bc89a0f03c2a(u8 *a_1, u8 *a_2
     u64 r_rx;
     u64 r_0x;
     u64 r_5q_1;
-    u8 *r_lz_1;
-    u8 *r_3q;
-    u64 r_52_3;
+    u8 *r_xm;
+    u64 r_52_1;
     u8 t_r5;
-    u8 *r_lz_3;
-    u64 r_t9_2;
+    u8 *r_lz;
+    u64 r_t9_1;
     u8 *t_2b;
     u64 r_ti;
     u64 r_61;
     u8 r_fk;
-    u64 r_52 = ld64(away(a_1, 8248ull));
-    r_2b = away(ldp(away(a_1, 8224ull)), r_52);
-    r_t9 = (ld64(away(a_1, 8256ull)) - r_52);
+    u8 *r_39 = away(ldp(away(a_1, 72ull)), 64ull);
+    st64(r_39, (ld64(r_39) + 1ull));
+    u64 r_52 = ld64(away(a_1, 48ull));
+    r_2b = away(ldp(away(a_1, 24ull)), r_52);
+    r_t9 = (ld64(away(a_1, 56ull)) - r_52);
+    if (r_t9 < 4ull) goto l_join_78;
+    u32 r_5k = ld32(r_2b);
+    r_24 = (u64)r_5k;
+    r_c4 = (r_24 + 1ull);
+    if (r_5k > 511u) goto l_join_78;
+    r_lc = (((u64)(r_c4 << 2ull) + 4ull) + ((u64)(r_24 << 2ull) & 4ull));
+    if (r_t9 < r_lc) goto l_join_78;
+    r_bb = away(r_2b, 4ull);
+    r_ya = (u64)((r_24 + 32ull) >> 5ull);
+    r_95 = 0ull;
+    r_ve = 0ull;
+l_join_co:;
+    u64 r_vp = (u64)(r_ve << 5ull);
+    a_n9 = umin64((r_vp + 32ull), r_c4);
+    if (r_vp > r_24) { r_0x = 0ull; goto l_capnp_a1; }
+    r_l5 = 0ull;
+    r_rx = r_vp;
+l_join_rl:;
+    u64 r_5q = (r_l5 + (u64)ld32((r_bb + (i64)((u64)(r_rx << 2ull)))));
+    u64 r_36 = (r_rx + 1ull);
+    if (r_36 == a_n9) { r_0x = r_5q; goto l_capnp_a1; }
+    r_l5 = r_5q;
+    r_rx = r_36;
+    goto l_join_rl;
+l_capnp_a1:;
+    r_5q_1 = (r_0x + r_95);
+    u64 r_c4_1 = (r_ve + 1ull);
+    if (!(r_c4_1 == r_ya)) { r_95 = r_5q_1; r_ve = r_c4_1; goto l_join_co; }
+    if (!((u64)((r_t9 - r_lc) >> 3ull) < r_5q_1)) { r_fk = 0u; goto l_return_ri; }
+l_join_78:;
+    u8 r_2q = capnp_packing_packing_packing_output_PackingOutput_wri_f76edb1e(a_2);
+    if ((u8)(r_2q & 1)) { r_fk = 1u; goto l_return_ri; }
+    memset(slot_1, 0u, 104);
+    u8 *r_xz = away(a_2, 24ull);
+    r_xm = away(a_2, 32ull);
+    std_io_buffered_write_out_cc0a01cbe8a2ee4a(slot_1, ldp(r_xz), ld64(r_xm), a_2);
+    r_52_1 = ld64(slot_1);
+    t_r5 = ld8((slot_1 + 8));
+    u64 r_52_2 = ld64(r_xm);
+    r_lz = ldp(r_xz);
+    r_t9_1 = (r_52_2 - r_52_1);
+    if (r_52_2 == r_52_1) { r_61 = r_52_1; goto l_std_z5; }
+    t_2b = away(r_lz, r_52_1);
+    r_ti = 0ull;
+l_join_u2:;
+    st8((r_lz + (i64)(r_ti)), ld8(away(t_2b, r_ti)));
+    u64 r_36_1 = (r_ti + 1ull);
+    if (!(r_36_1 == r_t9_1)) { r_ti = r_36_1; goto l_join_u2; }
+    r_61 = ld64(r_xm);
+l_std_z5:;
+    if (!(r_61 > r_t9_1)) goto l_std_i0;
+    st64(r_xm, r_t9_1);
+l_std_i0:;
+    if (t_r5 == 0u) { r_fk = 0u; goto l_return_ri; }
+    st8(away(a_2, 48ull), 1u);
+    st8(away(a_2, 8264ull), 1u);
+    r_fk = 1u;
+l_return_ri:;
+    return r_fk;
+}
+
+/* capnp_packing::buffered::flush_before_waiting::<#ade09ec562349fe3> */
+u8 capnp_packing_buffered_flush_before_waiting_ade09ec562349fe3(u8 *a_1, u8 *a_2)
+{
+    A(8) u8 slot_1[104];
+    u8 *r_2b;
+    u64 r_t9;
+    u64 r_24;
+    u64 r_c4;
+    u64 r_lc;
+    u8 *r_bb;
+    u64 r_ya;
+    u64 r_95;
+    u64 r_ve;
+    u64 a_n9;
+    u64 r_l5;
+    u64 r_rx;
+    u64 r_0x;
+    u64 r_5q_1;
+    u8 *r_xm;
+    u64 r_52_1;
+    u8 t_r5;
+    u8 *r_lz;
+    u64 r_t9_1;
+    u8 *t_2b;
+    u64 r_ti;
+    u64 r_61;
+    u8 r_fk;
+    u8 *r_39 = away(ldp(away(a_1, 8280ull)), 64ull);
+    st64(r_39, (ld64(r_39) + 1ull));
+    u64 r_52 = ld64(away(a_1, 8256ull));
+    r_2b = away(ldp(away(a_1, 8232ull)), r_52);
+    r_t9 = (ld64(away(a_1, 8264ull)) - r_52);
+    if (r_t9 < 4ull) goto l_join_im;
+    u32 r_5k = ld32(r_2b);
+    r_24 = (u64)r_5k;
+    r_c4 = (r_24 + 1ull);
+    if (r_5k > 511u) goto l_join_im;
+    r_lc = (((u64)(r_c4 << 2ull) + 4ull) + ((u64)(r_24 << 2ull) & 4ull));
+    if (r_t9 < r_lc) goto l_join_im;
+    r_bb = away(r_2b, 4ull);
+    r_ya = (u64)((r_24 + 32ull) >> 5ull);
+    r_95 = 0ull;
+    r_ve = 0ull;
+l_join_co:;
+    u64 r_vp = (u64)(r_ve << 5ull);
+    a_n9 = umin64((r_vp + 32ull), r_c4);
+    if (r_vp > r_24) { r_0x = 0ull; goto l_capnp_a1; }
+    r_l5 = 0ull;
+    r_rx = r_vp;
+l_join_rl:;
+    u64 r_5q = (r_l5 + (u64)ld32((r_bb + (i64)((u64)(r_rx << 2ull)))));
+    u64 r_36 = (r_rx + 1ull);
+    if (r_36 == a_n9) { r_0x = r_5q; goto l_capnp_a1; }
+    r_l5 = r_5q;
+    r_rx = r_36;
+    goto l_join_rl;
+l_capnp_a1:;
+    r_5q_1 = (r_0x + r_95);
+    u64 r_c4_1 = (r_ve + 1ull);
+    if (!(r_c4_1 == r_ya)) { r_95 = r_5q_1; r_ve = r_c4_1; goto l_join_co; }
+    if (!((u64)((r_t9 - r_lc) >> 3ull) < r_5q_1)) { r_fk = 0u; goto l_return_ri; }
+l_join_im:;
+    memset(slot_1, 0u, 104);
+    u8 *r_xz = away(a_2, 24ull);
+    r_xm = away(a_2, 32ull);
+    std_io_buffered_write_out_cc0a01cbe8a2ee4a(slot_1, ldp(r_xz), ld64(r_xm), a_2);
+    r_52_1 = ld64(slot_1);
+    t_r5 = ld8((slot_1 + 8));
+    u64 r_52_2 = ld64(r_xm);
+    r_lz = ldp(r_xz);
+    r_t9_1 = (r_52_2 - r_52_1);
+    if (r_52_2 == r_52_1) { r_61 = r_52_1; goto l_std_z5; }
+    t_2b = away(r_lz, r_52_1);
+    r_ti = 0ull;
+l_join_u2:;
+    st8((r_lz + (i64)(r_ti)), ld8(away(t_2b, r_ti)));
+    u64 r_36_1 = (r_ti + 1ull);
+    if (!(r_36_1 == r_t9_1)) { r_ti = r_36_1; goto l_join_u2; }
+    r_61 = ld64(r_xm);
+l_std_z5:;
+    if (!(r_61 > r_t9_1)) goto l_std_i0;
+    st64(r_xm, r_t9_1);
+l_std_i0:;
+    if (t_r5 == 0u) { r_fk = 0u; goto l_return_ri; }
+    st8(away(a_2, 48ull), 1u);
+    r_fk = 1u;
+l_return_ri:;
+    return r_fk;
+}
+
+/* capnp_framing::devices::writing::write_all::<#4ccd004bee0474d0> */
+u8 capnp_framing_devices_writing_write_all_4ccd004bee0474d0(u8 *a_1, u8 *a_2, u64 a_3)
+{
+    A(8) u8 slot_1[96];
+    u8 *r_h6;
+    u8 *r_r2;
+    u8 *r_xz;
+    u8 *r_su;
+    u8 *r_xm;
+    u8 *r_x5;
+    u8 *r_qs;
+    u64 r_tv;
+    u64 r_52;
+    u64 r_52_1;
+    u64 r_5q;
+    u8 *r_lz;
+    u8 *r_2b;
+    u64 r_il;
+    u64 r_3a;
+    u8 r_fk;
+    if (a_3 == 0ull) { r_fk = 0u; goto l_return_ri; }
+    r_h6 = away(a_1, 64ull);
+    r_r2 = away(a_1, 56ull);
+    r_xz = away(a_1, 24ull);
+    r_su = away(a_1, 40ull);
+    r_xm = away(a_1, 32ull);
+    r_x5 = (slot_1 + 8);
+    r_qs = a_2;
+    r_tv = a_3;
+l_join_r6:;
+    if ((u8)(ld8(r_h6) & 1)) goto l_join_lj;
+    if (!(ld64(r_r2) < r_tv)) goto l_after_c8;
+l_join_lj:;
+    st8(r_h6, 1u);
+    r_fk = 1u;
+    goto l_return_ri;
+l_after_c8:;
+    memset(slot_1, 0u, 96);
+    r_52 = ld64(r_su);
+    r_52_1 = ld64(r_xm);
+    if (!(r_tv < (r_52 - r_52_1))) goto l_std_ad;
+    r_5q = (r_52_1 + r_tv);
+    r_lz = ldp(r_xz);
+    memset(r_xm, 0u, 16);
+    r_2b = away(r_lz, r_52_1);
+    if (((u64)(uptr)r_2b - (u64)(uptr)r_qs) < r_tv) { r_il = 0ull; goto l_join_fh; }
+    memmove_or_none(r_2b, r_qs, r_tv);
+    goto l_arm_5b;
+l_join_fh:;
+    st8((r_2b + (i64)(r_il)), ld8((r_qs + (i64)(r_il))));
+    u64 r_36 = (r_il + 1ull);
+    if (!(r_36 == r_tv)) { r_il = r_36; goto l_join_fh; }
+l_arm_5b:;
+    stp(r_xz, r_lz);
+    st64(r_xm, r_5q);
+    st64(r_su, r_52);
+    r_3a = r_tv;
+    goto l_arm_qd;
+l_std_ad:;
+    std_io_buffered_BufWriter_write_cold_4fc199ee41d89934(slot_1, a_1, r_qs, r_tv);
+    u64 r_38 = ld64(r_x5);
+    if ((ld8(slot_1) == 0u) ? (r_38 != 0ull) : 0u) { r_3a = r_38; goto l_arm_qd; }
+    st8(away(a_1, 48ull), 1u);
+    r_fk = 1u;
+    goto l_return_ri;
+l_arm_qd:;
+    st64(r_r2, (ld64(r_r2) - r_3a));
+    u64 r_t9 = (r_tv - r_3a);
+    if (r_t9 == 0ull) { r_fk = 0u; goto l_return_ri; }
+    u8 *r_1 = away(r_qs, r_3a);
+    u64 r_2 = r_t9;
+    r_qs = r_1;
+    r_tv = r_2;
+    goto l_join_r6;
+l_return_ri:;
+    return r_fk;
+}
+
+/* capnp_messages::text::write_number::<#4ccd004bee0474d0> */
+u8 capnp_messages_text_write_number_4ccd004bee0474d0(u8 *a_1, u64 a_2)
+{
+    A(8) u8 slot_1[96];
+    A(1) u8 slot_2[1];
+    u8 *r_h6;
+    u8 *r_r2;
+    u8 *r_xz;
+    u8 *r_su;
+    u8 *r_xm;
+    u8 *r_x5;
+    u8 *r_qs;
+    u64 r_tv;
+    u64 r_52;
+    u64 r_52_1;
+    u64 r_5q;
+    u8 *r_lz;
+    u8 *r_2b;
+    u64 r_il;
+    u64 r_3a;
+    u8 r_fk;
+    if (!(a_2 > 9ull)) goto l_join_2u;
+    u8 r_gf = capnp_messages_text_write_number_4ccd004bee0474d0(a_1, (a_2 / 10ull));
+    if ((u8)(r_gf & 1)) { r_fk = 1u; goto l_return_ri; }
+l_join_2u:;
+    st8(slot_2, (u8)((u8)(a_2 % 10ull) | 48u));
+    r_h6 = away(a_1, 64ull);
+    r_r2 = away(a_1, 56ull);
+    r_xz = away(a_1, 24ull);
+    r_su = away(a_1, 40ull);
+    r_xm = away(a_1, 32ull);
+    r_x5 = (slot_1 + 8);
+    r_qs = slot_2;
+    r_tv = 1ull;
+l_join_r6:;
+    if ((u8)(ld8(r_h6) & 1)) goto l_join_lj;
+    if (!(ld64(r_r2) < r_tv)) goto l_after_c8;
+l_join_lj:;
+    st8(r_h6, 1u);
+    r_fk = 1u;
+    goto l_return_ri;
+l_after_c8:;
+    memset(slot_1, 0u, 96);
+    r_52 = ld64(r_su);
+    r_52_1 = ld64(r_xm);
+    if (!(r_tv < (r_52 - r_52_1))) goto l_std_ad;
+    r_5q = (r_52_1 + r_tv);
+    r_lz = ldp(r_xz);
+    r_2b = away(r_lz, r_52_1);
+    if (((u64)(uptr)r_2b - (u64)(uptr)r_qs) < r_tv) { r_il = 0ull; goto l_join_fh; }
+    memmove_or_none(r_2b, r_qs, r_tv);
+    goto l_arm_5b;
+l_join_fh:;
+    st8((r_2b + (i64)(r_il)), ld8((r_qs + (i64)(r_il))));
+    u64 r_36 = (r_il + 1ull);
+    if (!(r_36 == r_tv)) { r_il = r_36; goto l_join_fh; }
+l_arm_5b:;
+    stp(r_xz, r_lz);
+    st64(r_xm, r_5q);
+    st64(r_su, r_52);
+    r_3a = r_tv;
+    goto l_arm_qd;
+l_std_ad:;
+    std_io_buffered_BufWriter_write_cold_4fc199ee41d89934(slot_1, a_1, r_qs, r_tv);
+    u64 r_38 = ld64(r_x5);
+    if ((ld8(slot_1) == 0u) ? (r_38 != 0ull) : 0u) { r_3a = r_38; goto l_arm_qd; }
+    st8(away(a_1, 48ull), 1u);
+    r_fk = 1u;
+    goto l_return_ri;
+l_arm_qd:;
+    st64(r_r2, (ld64(r_r2) - r_3a));
+    u64 r_t9 = (r_tv - r_3a);
+    if (r_t9 == 0ull) { r_fk = 0u; goto l_return_ri; }
+    u8 *r_1 = away(r_qs, r_3a);
+    u64 r_2 = r_t9;
+    r_qs = r_1;
+    r_tv = r_2;
+    goto l_join_r6;
+l_return_ri:;
+    return r_fk;
+}
+
+/* capnp_packing::buffered::flush_before_waiting::<#0987d5054893558d> */
+u8 capnp_packing_buffered_flush_before_waiting_0987d5054893558d(u8 *a_1, u8 *a_2)
+{
+    A(8) u8 slot_1[104];
+    u8 *r_2b;
+    u64 r_t9;
+    u64 r_24;
+    u64 r_c4;
+    u64 r_lc;
+    u8 *r_bb;
+    u64 r_ya;
+    u64 r_95;
+    u64 r_ve;
+    u64 a_n9;
+    u64 r_l5;
+    u64 r_rx;
+    u64 r_0x;
+    u64 r_5q_1;
+    u8 *r_lz;
+    u8 *r_9j;
+    u64 r_52_1;
+    u8 t_r5;
+    u8 *r_lz_1;
+    u64 r_t9_1;
+    u8 *t_2b;
+    u64 r_ti;
+    u64 r_61;
+    u8 r_fk;
+    u8 *r_39 = away(ldp(away(a_1, 8280ull)), 64ull);
+    st64(r_39, (ld64(r_39) + 1ull));
+    u64 r_52 = ld64(away(a_1, 8256ull));
+    r_2b = away(ldp(away(a_1, 8232ull)), r_52);
+    r_t9 = (ld64(away(a_1, 8264ull)) - r_52);
     if (r_t9 < 4ull) goto l_join_ls;
     u32 r_5k = ld32(r_2b);
     r_24 = (u64)r_5k;
@@ -23841,38 +23869,38 @@ l_capnp_a1:;
     if (!(r_c4_1 == r_ya)) { r_95 = r_5q_1; r_ve = r_c4_1; goto l_join_co; }
     if (!((u64)((r_t9 - r_lc) >> 3ull) < r_5q_1)) { r_fk = 0u; goto l_return_ri; }
 l_join_ls:;
-    r_lz_1 = ldp(away(a_2, 16ull));
+    r_lz = ldp(away(a_2, 16ull));
     memset(slot_1, 0u, 104);
-    u8 *r_zn = away(r_lz_1, 16ull);
-    r_3q = away(r_lz_1, 24ull);
-    std_io_buffered_write_out_891f919cf49183b3(slot_1, ldp(r_zn), ld64(r_3q), r_lz_1);
-    r_52_3 = ld64(slot_1);
+    u8 *r_3q = away(r_lz, 24ull);
+    r_9j = away(r_lz, 32ull);
+    std_io_buffered_write_out_cc0a01cbe8a2ee4a(slot_1, ldp(r_3q), ld64(r_9j), r_lz);
+    r_52_1 = ld64(slot_1);
     t_r5 = ld8((slot_1 + 8));
-    u64 r_52_4 = ld64(r_3q);
-    r_lz_3 = ldp(r_zn);
-    r_t9_2 = (r_52_4 - r_52_3);
-    if (r_52_4 == r_52_3) { r_61 = r_52_3; goto l_std_z5; }
-    t_2b = away(r_lz_3, r_52_3);
+    u64 r_52_2 = ld64(r_9j);
+    r_lz_1 = ldp(r_3q);
+    r_t9_1 = (r_52_2 - r_52_1);
+    if (r_52_2 == r_52_1) { r_61 = r_52_1; goto l_std_z5; }
+    t_2b = away(r_lz_1, r_52_1);
     r_ti = 0ull;
 l_join_u2:;
-    st8((r_lz_3 + (i64)(r_ti)), ld8(away(t_2b, r_ti)));
+    st8((r_lz_1 + (i64)(r_ti)), ld8(away(t_2b, r_ti)));
     u64 r_36_1 = (r_ti + 1ull);
-    if (!(r_36_1 == r_t9_2)) { r_ti = r_36_1; goto l_join_u2; }
-    r_61 = ld64(r_3q);
+    if (!(r_36_1 == r_t9_1)) { r_ti = r_36_1; goto l_join_u2; }
+    r_61 = ld64(r_9j);
 l_std_z5:;
-    if (!(r_61 > r_t9_2)) goto l_std_i0;
-    st64(r_3q, r_t9_2);
+    if (!(r_61 > r_t9_1)) goto l_std_i0;
+    st64(r_9j, r_t9_1);
 l_std_i0:;
     if (t_r5 == 0u) { r_fk = 0u; goto l_return_ri; }
-    st8(away(r_lz_1, 40ull), 1u);
+    st8(away(r_lz, 48ull), 1u);
     st8(away(a_2, 25ull), 1u);
     r_fk = 1u;
 l_return_ri:;
     return r_fk;
 }
 
-/* capnp_framing::devices::writing::write_all::<#e52f8afe29a78161> */
-u8 capnp_framing_devices_writing_write_all_e52f8afe29a78161(u8 *a_1, u8 *a_2, u64 a_3)
+/* capnp_framing::devices::writing::write_all::<#e52bf6e83dfc30a4> */
+u8 capnp_framing_devices_writing_write_all_e52bf6e83dfc30a4(u8 *a_1, u8 *a_2, u64 a_3)
 {
     A(8) u8 slot_1[96];
     u8 *r_08;
@@ -23881,53 +23909,53 @@ u8 capnp_framing_devices_writing_write_all_e52f8afe29a78161(u8 *a_1, u8 *a_2, u6
     u8 *r_x5;
     u8 *r_x5_1;
     u8 *r_x5_2;
-    u8 *r_ds;
-    u64 r_9k;
+    u8 *r_3b;
+    u64 r_4m;
     u8 *r_lz;
-    u8 *r_ri;
+    u8 *r_39;
     u64 r_qw;
-    u8 *r_fz;
-    u8 *r_zn;
-    u8 *r_9j;
+    u8 *r_ri;
     u8 *r_3q;
+    u8 *r_76;
+    u8 *r_9j;
     u8 *r_qs;
     u64 r_tv;
+    u64 r_52;
     u64 r_52_1;
-    u64 r_52_2;
     u64 r_5q;
     u8 *r_lz_1;
     u8 *r_2b;
     u64 r_il;
     u64 r_3a;
-    u8 *r_e0;
+    u8 *r_gg;
+    u8 *r_39_1;
     u8 *r_ri_1;
-    u8 *r_fz_1;
-    u8 *r_zn_1;
-    u8 *r_9j_1;
     u8 *r_3q_1;
+    u8 *r_76_1;
+    u8 *r_9j_1;
     u8 *r_qs_1;
     u64 r_tv_1;
-    u64 r_52_5;
-    u64 r_52_6;
+    u64 r_52_2;
+    u64 r_52_3;
     u64 r_5q_1;
     u8 *r_lz_2;
-    u8 *r_2b_2;
+    u8 *r_2b_1;
     u64 r_il_1;
     u64 r_3a_1;
     u8 *r_jv;
     u64 r_cm;
     u64 r_jk;
-    u64 t_ds;
+    u64 t_3b;
     u8 *r_lz_3;
-    u8 *r_fz_2;
-    u8 *r_zn_3;
-    u8 *r_9j_2;
-    u64 r_52_9;
+    u8 *r_ri_2;
     u8 *r_3q_2;
-    u64 r_52_10;
+    u8 *r_76_2;
+    u64 r_52_4;
+    u8 *r_9j_2;
+    u64 r_52_5;
     u64 r_ru;
     u8 *r_lz_4;
-    u8 *r_2b_4;
+    u8 *r_2b_2;
     u64 r_il_2;
     u64 r_08_1;
     u8 r_vc;
@@ -23939,37 +23967,37 @@ u8 capnp_framing_devices_writing_write_all_e52f8afe29a78161(u8 *a_1, u8 *a_2, u6
     r_x5 = (slot_1 + 8);
     r_x5_1 = (slot_1 + 8);
     r_x5_2 = (slot_1 + 8);
-    r_ds = a_2;
-    r_9k = a_3;
-l_join_0o:;
+    r_3b = a_2;
+    r_4m = a_3;
+l_join_1a:;
     r_lz = ldp(r_08);
-    r_ri = away(r_lz, 56ull);
-    if ((u8)(ld8(r_ri) & 1)) goto l_arm_sg;
-    if ((u8)(ld8(away(r_lz, 40ull)) & 1)) goto l_arm_sg;
+    r_39 = away(r_lz, 64ull);
+    if ((u8)(ld8(r_39) & 1)) goto l_arm_sg;
+    if ((u8)(ld8(away(r_lz, 48ull)) & 1)) goto l_arm_sg;
     if (!(u8)(ld8(r_xz) & 1)) goto l_arm_m6;
     r_qw = ld64(r_e7);
-    if (r_qw == 0ull) { r_e0 = r_lz; goto l_arm_8m; }
-    r_fz = away(r_lz, 48ull);
-    r_zn = away(r_lz, 16ull);
-    r_9j = away(r_lz, 32ull);
+    if (r_qw == 0ull) { r_gg = r_lz; goto l_arm_8e; }
+    r_ri = away(r_lz, 56ull);
     r_3q = away(r_lz, 24ull);
+    r_76 = away(r_lz, 40ull);
+    r_9j = away(r_lz, 32ull);
     r_qs = ldp(a_1);
     r_tv = r_qw;
 l_join_r6:;
-    if ((u8)(ld8(r_ri) & 1)) goto l_join_ao;
-    if (!(ld64(r_fz) < r_tv)) goto l_after_c8;
+    if ((u8)(ld8(r_39) & 1)) goto l_join_ao;
+    if (!(ld64(r_ri) < r_tv)) goto l_after_c8;
 l_join_ao:;
-    st8(r_ri, 1u);
+    st8(r_39, 1u);
     goto l_arm_sg;
 l_after_c8:;
     memset(slot_1, 0u, 96);
+    r_52 = ld64(r_76);
     r_52_1 = ld64(r_9j);
-    r_52_2 = ld64(r_3q);
-    if (!(r_tv < (r_52_1 - r_52_2))) goto l_std_rr;
-    r_5q = (r_52_2 + r_tv);
-    r_lz_1 = ldp(r_zn);
-    memset(r_3q, 0u, 16);
-    r_2b = away(r_lz_1, r_52_2);
+    if (!(r_tv < (r_52 - r_52_1))) goto l_std_p8;
+    r_5q = (r_52_1 + r_tv);
+    r_lz_1 = ldp(r_3q);
+    memset(r_9j, 0u, 16);
+    r_2b = away(r_lz_1, r_52_1);
     if (((u64)(uptr)r_2b - (u64)(uptr)r_qs) < r_tv) { r_il = 0ull; goto l_join_fh; }
     memmove_or_none(r_2b, r_qs, r_tv);
     goto l_arm_5b;
@@ -23978,140 +24006,140 @@ l_join_fh:;
     u64 r_36 = (r_il + 1ull);
     if (!(r_36 == r_tv)) { r_il = r_36; goto l_join_fh; }
 l_arm_5b:;
-    stp(r_zn, r_lz_1);
-    st64(r_3q, r_5q);
-    st64(r_9j, r_52_1);
+    stp(r_3q, r_lz_1);
+    st64(r_9j, r_5q);
+    st64(r_76, r_52);
     r_3a = r_tv;
     goto l_arm_qd;
-l_std_rr:;
-    std_io_buffered_BufWriter_write_cold_33d6c0b4aa7432c7(slot_1, r_lz, r_qs, r_tv);
+l_std_p8:;
+    std_io_buffered_BufWriter_write_cold_4fc199ee41d89934(slot_1, r_lz, r_qs, r_tv);
     u64 r_38 = ld64(r_x5);
     if ((ld8(slot_1) == 0u) ? (r_38 != 0ull) : 0u) { r_3a = r_38; goto l_arm_qd; }
-    st8(away(r_lz, 40ull), 1u);
+    st8(away(r_lz, 48ull), 1u);
     goto l_arm_sg;
 l_arm_qd:;
-    st64(r_fz, (ld64(r_fz) - r_3a));
-    u64 r_t9_3 = (r_tv - r_3a);
-    if (!(r_t9_3 == 0ull)) { u8 *r_1 = away(r_qs, r_3a); u64 r_2 = r_t9_3; r_qs = r_1; r_tv = r_2; goto l_join_r6; }
-    r_e0 = ldp(r_08);
-l_arm_8m:;
-    r_ri_1 = away(r_e0, 56ull);
-    r_fz_1 = away(r_e0, 48ull);
-    r_zn_1 = away(r_e0, 16ull);
-    r_9j_1 = away(r_e0, 32ull);
-    r_3q_1 = away(r_e0, 24ull);
-    r_qs_1 = ((u8 *)g_static_57);
+    st64(r_ri, (ld64(r_ri) - r_3a));
+    u64 r_t9 = (r_tv - r_3a);
+    if (!(r_t9 == 0ull)) { u8 *r_1 = away(r_qs, r_3a); u64 r_2 = r_t9; r_qs = r_1; r_tv = r_2; goto l_join_r6; }
+    r_gg = ldp(r_08);
+l_arm_8e:;
+    r_39_1 = away(r_gg, 64ull);
+    r_ri_1 = away(r_gg, 56ull);
+    r_3q_1 = away(r_gg, 24ull);
+    r_76_1 = away(r_gg, 40ull);
+    r_9j_1 = away(r_gg, 32ull);
+    r_qs_1 = ((u8 *)g_static_59);
     r_tv_1 = 2ull;
 l_join_r6_1:;
-    if ((u8)(ld8(r_ri_1) & 1)) goto l_join_ao_1;
-    if (!(ld64(r_fz_1) < r_tv_1)) goto l_after_c8_1;
+    if ((u8)(ld8(r_39_1) & 1)) goto l_join_ao_1;
+    if (!(ld64(r_ri_1) < r_tv_1)) goto l_after_c8_1;
 l_join_ao_1:;
-    st8(r_ri_1, 1u);
+    st8(r_39_1, 1u);
     goto l_arm_sg;
 l_after_c8_1:;
     memset(slot_1, 0u, 96);
-    r_52_5 = ld64(r_9j_1);
-    r_52_6 = ld64(r_3q_1);
-    if (!(r_tv_1 < (r_52_5 - r_52_6))) goto l_std_rr_1;
-    r_5q_1 = (r_52_6 + r_tv_1);
-    r_lz_2 = ldp(r_zn_1);
-    r_2b_2 = away(r_lz_2, r_52_6);
-    if (((u64)(uptr)r_2b_2 - (u64)(uptr)r_qs_1) < r_tv_1) { r_il_1 = 0ull; goto l_join_fh_1; }
-    memcpy_or_none(r_2b_2, r_qs_1, r_tv_1);
+    r_52_2 = ld64(r_76_1);
+    r_52_3 = ld64(r_9j_1);
+    if (!(r_tv_1 < (r_52_2 - r_52_3))) goto l_std_p8_1;
+    r_5q_1 = (r_52_3 + r_tv_1);
+    r_lz_2 = ldp(r_3q_1);
+    r_2b_1 = away(r_lz_2, r_52_3);
+    if (((u64)(uptr)r_2b_1 - (u64)(uptr)r_qs_1) < r_tv_1) { r_il_1 = 0ull; goto l_join_fh_1; }
+    memcpy_or_none(r_2b_1, r_qs_1, r_tv_1);
     goto l_arm_5b_1;
 l_join_fh_1:;
-    st8((r_2b_2 + (i64)(r_il_1)), ld8((r_qs_1 + (i64)(r_il_1))));
+    st8((r_2b_1 + (i64)(r_il_1)), ld8((r_qs_1 + (i64)(r_il_1))));
     u64 r_36_1 = (r_il_1 + 1ull);
     if (!(r_36_1 == r_tv_1)) { r_il_1 = r_36_1; goto l_join_fh_1; }
 l_arm_5b_1:;
-    stp(r_zn_1, r_lz_2);
-    st64(r_3q_1, r_5q_1);
-    st64(r_9j_1, r_52_5);
+    stp(r_3q_1, r_lz_2);
+    st64(r_9j_1, r_5q_1);
+    st64(r_76_1, r_52_2);
     r_3a_1 = r_tv_1;
     goto l_arm_qd_1;
-l_std_rr_1:;
-    std_io_buffered_BufWriter_write_cold_33d6c0b4aa7432c7(slot_1, r_e0, r_qs_1, r_tv_1);
+l_std_p8_1:;
+    std_io_buffered_BufWriter_write_cold_4fc199ee41d89934(slot_1, r_gg, r_qs_1, r_tv_1);
     u64 r_38_1 = ld64(r_x5_1);
     if ((ld8(slot_1) == 0u) ? (r_38_1 != 0ull) : 0u) { r_3a_1 = r_38_1; goto l_arm_qd_1; }
-    st8(away(r_e0, 40ull), 1u);
+    st8(away(r_gg, 48ull), 1u);
     goto l_arm_sg;
 l_arm_qd_1:;
-    st64(r_fz_1, (ld64(r_fz_1) - r_3a_1));
-    u64 r_t9_7 = (r_tv_1 - r_3a_1);
-    if (!(r_t9_7 == 0ull)) { u8 *r_3 = away(r_qs_1, r_3a_1); u64 r_4 = r_t9_7; r_qs_1 = r_3; r_tv_1 = r_4; goto l_join_r6_1; }
+    st64(r_ri_1, (ld64(r_ri_1) - r_3a_1));
+    u64 r_t9_1 = (r_tv_1 - r_3a_1);
+    if (!(r_t9_1 == 0ull)) { u8 *r_3 = away(r_qs_1, r_3a_1); u64 r_4 = r_t9_1; r_qs_1 = r_3; r_tv_1 = r_4; goto l_join_r6_1; }
     st8(r_xz, 0u);
 l_arm_m6:;
-    r_jv = r_ds;
+    r_jv = r_3b;
     r_cm = 0ull;
-    r_jk = r_9k;
+    r_jk = r_4m;
 l_arm_80:;
     if (ld8(r_jv) == 10u) goto l_t_5s;
-    u64 r_zn_2 = (r_jk + 0xffffffffffffffffull);
-    if (r_zn_2 == 0ull) { t_ds = r_9k; goto l_capnp_0o; }
+    u64 r_zn = (r_jk + 0xffffffffffffffffull);
+    if (r_zn == 0ull) { t_3b = r_4m; goto l_capnp_1a; }
     u8 *r_5 = away(r_jv, 1ull);
     u64 r_6 = (r_cm + 1ull);
-    u64 r_7 = r_zn_2;
+    u64 r_7 = r_zn;
     r_jv = r_5;
     r_cm = r_6;
     r_jk = r_7;
     goto l_arm_80;
 l_t_5s:;
-    t_ds = (r_cm + 1ull);
-l_capnp_0o:;
+    t_3b = (r_cm + 1ull);
+l_capnp_1a:;
     r_lz_3 = ldp(r_08);
-    if ((u8)(ld8(away(r_lz_3, 56ull)) & 1)) goto l_join_zo;
-    r_fz_2 = away(r_lz_3, 48ull);
-    if (!(ld64(r_fz_2) < t_ds)) goto l_after_0z;
-l_join_zo:;
-    st8(away(r_lz_3, 56ull), 1u);
+    if ((u8)(ld8(away(r_lz_3, 64ull)) & 1)) goto l_join_51;
+    r_ri_2 = away(r_lz_3, 56ull);
+    if (!(ld64(r_ri_2) < t_3b)) goto l_after_uv;
+l_join_51:;
+    st8(away(r_lz_3, 64ull), 1u);
     goto l_arm_sg;
-l_after_0z:;
+l_after_uv:;
     memset(slot_1, 0u, 96);
-    r_zn_3 = away(r_lz_3, 16ull);
-    r_9j_2 = away(r_lz_3, 32ull);
-    r_52_9 = ld64(r_9j_2);
     r_3q_2 = away(r_lz_3, 24ull);
-    r_52_10 = ld64(r_3q_2);
-    if (!(t_ds < (r_52_9 - r_52_10))) goto l_std_5z;
-    r_ru = (r_52_10 + t_ds);
-    r_lz_4 = ldp(r_zn_3);
-    memset(r_3q_2, 0u, 16);
-    r_2b_4 = away(r_lz_4, r_52_10);
-    if (((u64)(uptr)r_2b_4 - (u64)(uptr)r_ds) < t_ds) { r_il_2 = 0ull; goto l_join_fh_2; }
-    memmove_or_none(r_2b_4, r_ds, t_ds);
+    r_76_2 = away(r_lz_3, 40ull);
+    r_52_4 = ld64(r_76_2);
+    r_9j_2 = away(r_lz_3, 32ull);
+    r_52_5 = ld64(r_9j_2);
+    if (!(t_3b < (r_52_4 - r_52_5))) goto l_std_km;
+    r_ru = (r_52_5 + t_3b);
+    r_lz_4 = ldp(r_3q_2);
+    memset(r_9j_2, 0u, 16);
+    r_2b_2 = away(r_lz_4, r_52_5);
+    if (((u64)(uptr)r_2b_2 - (u64)(uptr)r_3b) < t_3b) { r_il_2 = 0ull; goto l_join_fh_2; }
+    memmove_or_none(r_2b_2, r_3b, t_3b);
     goto l_std_5b;
 l_join_fh_2:;
-    st8((r_2b_4 + (i64)(r_il_2)), ld8((r_ds + (i64)(r_il_2))));
-    u64 r_36_3 = (r_il_2 + 1ull);
-    if (!(r_36_3 == t_ds)) { r_il_2 = r_36_3; goto l_join_fh_2; }
+    st8((r_2b_2 + (i64)(r_il_2)), ld8((r_3b + (i64)(r_il_2))));
+    u64 r_36_2 = (r_il_2 + 1ull);
+    if (!(r_36_2 == t_3b)) { r_il_2 = r_36_2; goto l_join_fh_2; }
 l_std_5b:;
-    stp(r_zn_3, r_lz_4);
-    st64(r_3q_2, r_ru);
-    st64(r_9j_2, r_52_9);
-    r_08_1 = t_ds;
+    stp(r_3q_2, r_lz_4);
+    st64(r_9j_2, r_ru);
+    st64(r_76_2, r_52_4);
+    r_08_1 = t_3b;
     goto l_arm_31;
-l_std_5z:;
-    std_io_buffered_BufWriter_write_cold_33d6c0b4aa7432c7(slot_1, r_lz_3, r_ds, t_ds);
+l_std_km:;
+    std_io_buffered_BufWriter_write_cold_4fc199ee41d89934(slot_1, r_lz_3, r_3b, t_3b);
     if (ld8(slot_1) == 0u) { r_08_1 = ld64(r_x5_2); goto l_arm_31; }
-    goto l_arm_9j;
+    goto l_arm_jv;
 l_arm_31:;
-    if ((u8)((u8)(t_ds == 0ull) | (u8)(r_08_1 != 0ull))) goto l_arm_yj;
-l_arm_9j:;
-    st8(away(r_lz_3, 40ull), 1u);
+    if ((u8)((u8)(t_3b == 0ull) | (u8)(r_08_1 != 0ull))) goto l_arm_yj;
+l_arm_jv:;
+    st8(away(r_lz_3, 48ull), 1u);
     goto l_arm_sg;
 l_arm_yj:;
-    st64(r_fz_2, (ld64(r_fz_2) - r_08_1));
-    if (!(r_08_1 == t_ds)) { r_vc = 0u; goto l_arm_qo; }
-    r_vc = (u8)(ld8(away(away(r_ds, t_ds), 0xffffffffffffffffull)) == 10u);
+    st64(r_ri_2, (ld64(r_ri_2) - r_08_1));
+    if (!(r_08_1 == t_3b)) { r_vc = 0u; goto l_arm_qo; }
+    r_vc = (u8)(ld8(away(away(r_3b, t_3b), 0xffffffffffffffffull)) == 10u);
 l_arm_qo:;
     st8(r_xz, r_vc);
-    u64 r_t9_11 = (r_9k - r_08_1);
-    if (r_t9_11 == 0ull) { r_fk = 0u; goto l_return_ri; }
-    u8 *r_8 = away(r_ds, r_08_1);
-    u64 r_9 = r_t9_11;
-    r_ds = r_8;
-    r_9k = r_9;
-    goto l_join_0o;
+    u64 r_t9_2 = (r_4m - r_08_1);
+    if (r_t9_2 == 0ull) { r_fk = 0u; goto l_return_ri; }
+    u8 *r_8 = away(r_3b, r_08_1);
+    u64 r_9 = r_t9_2;
+    r_3b = r_8;
+    r_4m = r_9;
+    goto l_join_1a;
 l_arm_sg:;
     st8(away(a_1, 25ull), 1u);
     r_fk = 1u;
@@ -24119,28 +24147,28 @@ l_return_ri:;
     return r_fk;
 }
 
-/* capnp_messages::text::write_number::<#e52f8afe29a78161> */
-u8 capnp_messages_text_write_number_e52f8afe29a78161(u8 *a_1, u64 a_2)
+/* capnp_messages::text::write_number::<#e52bf6e83dfc30a4> */
+u8 capnp_messages_text_write_number_e52bf6e83dfc30a4(u8 *a_1, u64 a_2)
 {
     A(1) u8 slot_1[1];
     u8 r_fk;
     if (!(a_2 > 9ull)) goto l_join_2u;
-    u8 r_m3 = capnp_messages_text_write_number_e52f8afe29a78161(a_1, (a_2 / 10ull));
-    if ((u8)(r_m3 & 1)) { r_fk = 1u; goto l_return_ri; }
+    u8 r_5r = capnp_messages_text_write_number_e52bf6e83dfc30a4(a_1, (a_2 / 10ull));
+    if ((u8)(r_5r & 1)) { r_fk = 1u; goto l_return_ri; }
 l_join_2u:;
     st8(slot_1, (u8)((u8)(a_2 % 10ull) | 48u));
-    u8 r_hv = capnp_framing_devices_writing_write_all_e52f8afe29a78161(a_1, slot_1, 1ull);
-    r_fk = r_hv;
+    u8 r_26 = capnp_framing_devices_writing_write_all_e52bf6e83dfc30a4(a_1, slot_1, 1ull);
+    r_fk = r_26;
 l_return_ri:;
     return r_fk;
 }
 
-/* capnp_packing::buffered::flush_before_waiting::<#478c13a8e8351f68> */
-u8 capnp_packing_buffered_flush_before_waiting_478c13a8e8351f68(u8 *a_1, u8 *a_2)
+/* capnp_packing::buffered::flush_before_waiting::<#fd40d7fcdc6f1ab4> */
+u8 capnp_packing_buffered_flush_before_waiting_fd40d7fcdc6f1ab4(u8 *a_1, u8 *a_2)
 {
     A(8) u8 slot_1[104];
     u8 *r_2b;
-    u64 r_t9_1;
+    u64 r_t9;
     u64 r_24;
     u64 r_c4;
     u64 r_lc;
@@ -24153,26 +24181,28 @@ u8 capnp_packing_buffered_flush_before_waiting_478c13a8e8351f68(u8 *a_1, u8 *a_2
     u64 r_rx;
     u64 r_0x;
     u64 r_5q_1;
-    u8 *r_lz_1;
-    u8 *r_3q;
-    u64 r_52_3;
+    u8 *r_lz;
+    u8 *r_9j;
+    u64 r_52_1;
     u8 t_r5;
-    u8 *r_lz_3;
-    u64 r_t9_3;
+    u8 *r_lz_1;
+    u64 r_t9_1;
     u8 *t_2b;
     u64 r_ti;
     u64 r_61;
     u8 r_fk;
-    u64 r_52 = ld64(away(a_1, 40ull));
-    r_2b = away(ldp(away(a_1, 16ull)), r_52);
-    r_t9_1 = (ld64(away(a_1, 48ull)) - r_52);
-    if (r_t9_1 < 4ull) goto l_join_ls;
+    u8 *r_39 = away(ldp(away(a_1, 72ull)), 64ull);
+    st64(r_39, (ld64(r_39) + 1ull));
+    u64 r_52 = ld64(away(a_1, 48ull));
+    r_2b = away(ldp(away(a_1, 24ull)), r_52);
+    r_t9 = (ld64(away(a_1, 56ull)) - r_52);
+    if (r_t9 < 4ull) goto l_join_ls;
     u32 r_5k = ld32(r_2b);
     r_24 = (u64)r_5k;
     r_c4 = (r_24 + 1ull);
     if (r_5k > 511u) goto l_join_ls;
     r_lc = (((u64)(r_c4 << 2ull) + 4ull) + ((u64)(r_24 << 2ull) & 4ull));
-    if (r_t9_1 < r_lc) goto l_join_ls;
+    if (r_t9 < r_lc) goto l_join_ls;
     r_bb = away(r_2b, 4ull);
     r_ya = (u64)((r_24 + 32ull) >> 5ull);
     r_95 = 0ull;
@@ -24194,44 +24224,44 @@ l_capnp_a1:;
     r_5q_1 = (r_0x + r_95);
     u64 r_c4_1 = (r_ve + 1ull);
     if (!(r_c4_1 == r_ya)) { r_95 = r_5q_1; r_ve = r_c4_1; goto l_join_co; }
-    if (!((u64)((r_t9_1 - r_lc) >> 3ull) < r_5q_1)) { r_fk = 0u; goto l_return_ri; }
+    if (!((u64)((r_t9 - r_lc) >> 3ull) < r_5q_1)) { r_fk = 0u; goto l_return_ri; }
 l_join_ls:;
-    r_lz_1 = ldp(away(a_2, 16ull));
+    r_lz = ldp(away(a_2, 16ull));
     memset(slot_1, 0u, 104);
-    u8 *r_zn = away(r_lz_1, 16ull);
-    r_3q = away(r_lz_1, 24ull);
-    std_io_buffered_write_out_891f919cf49183b3(slot_1, ldp(r_zn), ld64(r_3q), r_lz_1);
-    r_52_3 = ld64(slot_1);
+    u8 *r_3q = away(r_lz, 24ull);
+    r_9j = away(r_lz, 32ull);
+    std_io_buffered_write_out_cc0a01cbe8a2ee4a(slot_1, ldp(r_3q), ld64(r_9j), r_lz);
+    r_52_1 = ld64(slot_1);
     t_r5 = ld8((slot_1 + 8));
-    u64 r_52_4 = ld64(r_3q);
-    r_lz_3 = ldp(r_zn);
-    r_t9_3 = (r_52_4 - r_52_3);
-    if (r_52_4 == r_52_3) { r_61 = r_52_3; goto l_std_z5; }
-    t_2b = away(r_lz_3, r_52_3);
+    u64 r_52_2 = ld64(r_9j);
+    r_lz_1 = ldp(r_3q);
+    r_t9_1 = (r_52_2 - r_52_1);
+    if (r_52_2 == r_52_1) { r_61 = r_52_1; goto l_std_z5; }
+    t_2b = away(r_lz_1, r_52_1);
     r_ti = 0ull;
 l_join_u2:;
-    st8((r_lz_3 + (i64)(r_ti)), ld8(away(t_2b, r_ti)));
+    st8((r_lz_1 + (i64)(r_ti)), ld8(away(t_2b, r_ti)));
     u64 r_36_1 = (r_ti + 1ull);
-    if (!(r_36_1 == r_t9_3)) { r_ti = r_36_1; goto l_join_u2; }
-    r_61 = ld64(r_3q);
+    if (!(r_36_1 == r_t9_1)) { r_ti = r_36_1; goto l_join_u2; }
+    r_61 = ld64(r_9j);
 l_std_z5:;
-    if (!(r_61 > r_t9_3)) goto l_std_i0;
-    st64(r_3q, r_t9_3);
+    if (!(r_61 > r_t9_1)) goto l_std_i0;
+    st64(r_9j, r_t9_1);
 l_std_i0:;
     if (t_r5 == 0u) { r_fk = 0u; goto l_return_ri; }
-    st8(away(r_lz_1, 40ull), 1u);
+    st8(away(r_lz, 48ull), 1u);
     st8(away(a_2, 25ull), 1u);
     r_fk = 1u;
 l_return_ri:;
     return r_fk;
 }
 
-/* capnp_packing::buffered::flush_before_waiting::<#073b0c5e626461f8> */
-u8 capnp_packing_buffered_flush_before_waiting_073b0c5e626461f8(u8 *a_1, u8 *a_2)
+/* capnp_packing::buffered::flush_before_waiting::<#77117357d83075ba> */
+u8 capnp_packing_buffered_flush_before_waiting_77117357d83075ba(u8 *a_1, u8 *a_2)
 {
     A(8) u8 slot_1[104];
     u8 *r_2b;
-    u64 r_t9_1;
+    u64 r_t9;
     u64 r_24;
     u64 r_c4;
     u64 r_lc;
@@ -24244,25 +24274,27 @@ u8 capnp_packing_buffered_flush_before_waiting_073b0c5e626461f8(u8 *a_1, u8 *a_2
     u64 r_rx;
     u64 r_0x;
     u64 r_5q_1;
-    u8 *r_xz;
-    u64 r_52_3;
+    u8 *r_xm;
+    u64 r_52_1;
     u8 t_r5;
-    u8 *r_lz_2;
-    u64 r_t9_3;
+    u8 *r_lz;
+    u64 r_t9_1;
     u8 *t_2b;
     u64 r_ti;
     u64 r_61;
     u8 r_fk;
-    u64 r_52 = ld64(away(a_1, 40ull));
-    r_2b = away(ldp(away(a_1, 16ull)), r_52);
-    r_t9_1 = (ld64(away(a_1, 48ull)) - r_52);
-    if (r_t9_1 < 4ull) goto l_join_c0;
+    u8 *r_39 = away(ldp(away(a_1, 72ull)), 64ull);
+    st64(r_39, (ld64(r_39) + 1ull));
+    u64 r_52 = ld64(away(a_1, 48ull));
+    r_2b = away(ldp(away(a_1, 24ull)), r_52);
+    r_t9 = (ld64(away(a_1, 56ull)) - r_52);
+    if (r_t9 < 4ull) goto l_join_im;
     u32 r_5k = ld32(r_2b);
     r_24 = (u64)r_5k;
     r_c4 = (r_24 + 1ull);
-    if (r_5k > 511u) goto l_join_c0;
+    if (r_5k > 511u) goto l_join_im;
     r_lc = (((u64)(r_c4 << 2ull) + 4ull) + ((u64)(r_24 << 2ull) & 4ull));
-    if (r_t9_1 < r_lc) goto l_join_c0;
+    if (r_t9 < r_lc) goto l_join_im;
     r_bb = away(r_2b, 4ull);
     r_ya = (u64)((r_24 + 32ull) >> 5ull);
     r_95 = 0ull;
@@ -24284,31 +24316,31 @@ l_capnp_a1:;
     r_5q_1 = (r_0x + r_95);
     u64 r_c4_1 = (r_ve + 1ull);
     if (!(r_c4_1 == r_ya)) { r_95 = r_5q_1; r_ve = r_c4_1; goto l_join_co; }
-    if (!((u64)((r_t9_1 - r_lc) >> 3ull) < r_5q_1)) { r_fk = 0u; goto l_return_ri; }
-l_join_c0:;
+    if (!((u64)((r_t9 - r_lc) >> 3ull) < r_5q_1)) { r_fk = 0u; goto l_return_ri; }
+l_join_im:;
     memset(slot_1, 0u, 104);
-    u8 *r_08_1 = away(a_2, 16ull);
-    r_xz = away(a_2, 24ull);
-    std_io_buffered_write_out_891f919cf49183b3(slot_1, ldp(r_08_1), ld64(r_xz), a_2);
-    r_52_3 = ld64(slot_1);
+    u8 *r_xz = away(a_2, 24ull);
+    r_xm = away(a_2, 32ull);
+    std_io_buffered_write_out_cc0a01cbe8a2ee4a(slot_1, ldp(r_xz), ld64(r_xm), a_2);
+    r_52_1 = ld64(slot_1);
     t_r5 = ld8((slot_1 + 8));
-    u64 r_52_4 = ld64(r_xz);
-    r_lz_2 = ldp(r_08_1);
-    r_t9_3 = (r_52_4 - r_52_3);
-    if (r_52_4 == r_52_3) { r_61 = r_52_3; goto l_std_z5; }
-    t_2b = away(r_lz_2, r_52_3);
+    u64 r_52_2 = ld64(r_xm);
+    r_lz = ldp(r_xz);
+    r_t9_1 = (r_52_2 - r_52_1);
+    if (r_52_2 == r_52_1) { r_61 = r_52_1; goto l_std_z5; }
+    t_2b = away(r_lz, r_52_1);
     r_ti = 0ull;
 l_join_u2:;
-    st8((r_lz_2 + (i64)(r_ti)), ld8(away(t_2b, r_ti)));
+    st8((r_lz + (i64)(r_ti)), ld8(away(t_2b, r_ti)));
     u64 r_36_1 = (r_ti + 1ull);
-    if (!(r_36_1 == r_t9_3)) { r_ti = r_36_1; goto l_join_u2; }
-    r_61 = ld64(r_xz);
+    if (!(r_36_1 == r_t9_1)) { r_ti = r_36_1; goto l_join_u2; }
+    r_61 = ld64(r_xm);
 l_std_z5:;
-    if (!(r_61 > r_t9_3)) goto l_std_i0;
-    st64(r_xz, r_t9_3);
+    if (!(r_61 > r_t9_1)) goto l_std_i0;
+    st64(r_xm, r_t9_1);
 l_std_i0:;
     if (t_r5 == 0u) { r_fk = 0u; goto l_return_ri; }
-    st8(away(a_2, 40ull), 1u);
+    st8(away(a_2, 48ull), 1u);
     r_fk = 1u;
 l_return_ri:;
     return r_fk;
@@ -24354,6 +24386,614 @@ l_arm_m7:;
     goto l_common_57;
 }
 
+/* capnp_packing::packing::unpacking_input::UnpackingInput::unpack::<#8c0d117ba7cab090> */
+struct s_i8_i64 capnp_packing_packing_unpacking_input_UnpackingInput_u_5151aa2b(u8 *a_1, u8 *a_2, u64 a_3)
+{
+    A(8) u8 slot_1[24];
+    A(8) u8 slot_2[8];
+    A(2) u8 slot_3[4];
+    u8 *r_0x;
+    u8 *r_65;
+    u8 *r_1o;
+    u8 *r_t1;
+    u8 *r_7f;
+    u8 *r_p9;
+    u8 *r_74;
+    u8 *r_u0;
+    u8 *r_ac;
+    u8 *r_ix;
+    u8 *r_0v;
+    u8 *r_g0;
+    u8 *r_u0_1;
+    u8 *r_p9_1;
+    u8 *r_3o;
+    u8 *r_p9_2;
+    u8 *r_zo;
+    u8 *r_zd;
+    u8 *r_x5;
+    u64 r_86;
+    u8 *r_8z;
+    u64 r_17;
+    u8 r_er;
+    u16 r_as;
+    u8 r_47;
+    u16 r_15;
+    u64 r_u7;
+    u64 a_f1;
+    u64 r_52;
+    u64 r_52_1;
+    u64 a_cg;
+    u8 *r_2b;
+    u64 r_il;
+    struct s_i8_i64 r_7h;
+    u8 r_fz;
+    u64 r_h9;
+    struct s_i8_i64 r_13;
+    u64 r_h9_1;
+    u64 r_14;
+    u64 r_o6;
+    u8 pre_dm;
+    u64 r_t9;
+    u8 pre_r7;
+    u64 r_pv;
+    u64 r_qt;
+    u64 r_4q;
+    u64 r_4j;
+    u64 r_4w;
+    u8 r_x4;
+    if ((u8)(ld8(away(a_1, 8272ull)) & 1)) goto l_then_a9;
+    if (a_3 == 0ull) { r_4w = 0ull; r_x4 = 0u; goto l_return_7d; }
+    r_0x = away(a_1, 16492ull);
+    r_65 = away(a_1, 16488ull);
+    r_1o = away(a_1, 16472ull);
+    r_t1 = away(a_1, 16480ull);
+    r_7f = away(a_1, 8280ull);
+    r_p9 = (slot_3 + 1);
+    r_74 = away(a_1, 16489ull);
+    r_u0 = (slot_3 + 2);
+    r_ac = away(a_1, 16490ull);
+    r_ix = (slot_2 + 4);
+    r_0v = (slot_2 + 5);
+    r_g0 = (slot_2 + 6);
+    r_u0_1 = (slot_2 + 2);
+    r_p9_1 = (slot_2 + 1);
+    r_3o = (slot_1 + 18);
+    r_p9_2 = (slot_1 + 19);
+    r_zo = (slot_1 + 20);
+    r_zd = (slot_1 + 16);
+    r_x5 = (slot_1 + 8);
+    r_86 = 0ull;
+    goto l_join_73;
+l_then_a9:;
+    st8(away(a_1, 16494ull), 1u);
+    r_4w = 0ull;
+    r_x4 = 1u;
+    goto l_return_7d;
+l_join_73:;
+    r_8z = away(a_2, r_86);
+    r_17 = (a_3 - r_86);
+    st64(slot_2, 0ull);
+    r_er = (r_17 > 7ull);
+    r_as = ld16(r_0x);
+l_loop_io:;
+    if (!(r_as == 0u)) goto l_after_8b;
+    r_47 = ld8(r_65);
+    if (!(r_47 == 5u)) goto l_join_mh;
+    r_15 = ld16(r_ac);
+    r_u7 = (u64)r_15;
+    a_f1 = umin64((r_u7 + 1ull), r_17);
+    r_52 = ld64(r_1o);
+    r_52_1 = ld64(r_t1);
+    if (!(r_52 == r_52_1)) goto l_join_qj;
+    struct s_i8_i64 r_rv = capnp_packing_buffered_standard_BufReaderInputInput_re_81b4ff93(a_1, r_8z, a_f1);
+    r_7h = r_rv;
+    goto l_capnp_wz;
+l_join_qj:;
+    a_cg = umin64((r_52_1 - r_52), a_f1);
+    r_2b = away(r_7f, r_52);
+    if (((u64)(uptr)r_8z - (u64)(uptr)r_2b) < a_cg) { r_il = 0ull; goto l_join_fh; }
+    memmove_or_none(r_8z, r_2b, a_cg);
+    goto l_core_bq;
+l_join_fh:;
+    st8((r_8z + (i64)(r_il)), ld8((r_2b + (i64)(r_il))));
+    u64 r_c4 = (r_il + 1ull);
+    if (!(r_c4 == a_cg)) { r_il = r_c4; goto l_join_fh; }
+l_core_bq:;
+    st64(r_1o, (ld64(r_1o) + a_cg));
+    struct s_i8_i64 t_sr = (struct s_i8_i64){ 0u, 0ull };
+    t_sr.f1 = a_cg;
+    r_7h = t_sr;
+l_capnp_wz:;
+    r_fz = r_7h.f0;
+    r_h9 = r_7h.f1;
+    if ((r_fz != 0u) ? 1u : (r_h9 == 0ull)) goto l_capnp_3c;
+    u8 r_qc = (r_h9 > r_u7);
+    st8(r_65, (r_qc ? 0u : 5u));
+    st8(r_74, 0u);
+    st16(r_ac, (r_qc ? 0u : (u16)(r_15 - (u16)r_h9)));
+    r_qt = r_h9;
+    goto l_arm_65;
+l_join_mh:;
+    u64 r_52_2 = ld64(r_1o);
+    u64 r_52_3 = ld64(r_t1);
+    if (r_52_2 < r_52_3) { r_14 = r_52_2; r_o6 = r_52_3; pre_dm = r_47; goto l_capnp_bb; }
+    memset(r_1o, 0u, 16);
+    r_13 = capnp_packing_buffered_standard_BufReaderInputInput_re_81b4ff93(a_1, r_7f, 8192ull);
+    if (r_13.f0 == 0u) goto l_arm_oo;
+    goto l_arm_kd;
+l_arm_oo:;
+    r_h9_1 = r_13.f1;
+    st64(r_t1, r_h9_1);
+    if (!(r_h9_1 == 0ull)) goto l_join_ro;
+    r_4w = r_86;
+    r_x4 = 0u;
+    goto l_return_7d;
+l_join_ro:;
+    u8 pre_sw = ld8(r_65);
+    u64 r_38 = ld64(r_1o);
+    if (ld16(r_0x) == 0u) { r_14 = r_38; r_o6 = r_h9_1; pre_dm = pre_sw; goto l_capnp_bb; }
+    pre_r7 = pre_sw;
+    r_pv = r_38;
+    goto l_after_2t;
+l_capnp_bb:;
+    if (!(u8)((u8)r_er & (u8)(pre_dm == 0u))) { pre_r7 = pre_dm; r_pv = r_14; goto l_after_2t; }
+    r_t9 = (r_o6 - r_14);
+    if (!(r_t9 > 9ull)) { pre_r7 = 0u; r_pv = r_14; goto l_after_2t; }
+    memset(slot_1, 0u, 24);
+    capnp_packing_packing_unpacking_unpack_words(slot_1, away(r_7f, r_14), r_t9, r_8z, r_17);
+    st64(r_1o, (ld64(r_1o) + ld64(slot_1)));
+    u8 r_dd = ld8(r_p9_2);
+    u16 r_8l = ld16(r_zo);
+    st8(r_65, ld8(r_3o));
+    st8(r_74, r_dd);
+    st16(r_ac, r_8l);
+    st16(r_0x, ld16(r_zd));
+    r_4q = ld64(r_x5);
+    goto l_arm_rr;
+l_after_2t:;
+    st8(slot_3, pre_r7);
+    st8(r_p9, ld8(r_74));
+    st16(r_u0, ld16(r_ac));
+    u8 r_47_1 = ld8((r_7f + (i64)(r_pv)));
+    st64(r_1o, (r_pv + 1ull));
+    capnp_packing_packing_place_step(slot_2, slot_3, r_47_1);
+    u8 r_dd_1 = ld8(r_0v);
+    u16 r_f4 = ld16(r_g0);
+    st8(r_65, ld8(r_ix));
+    st8(r_74, r_dd_1);
+    st16(r_ac, r_f4);
+    u16 r_15_1 = ld16(r_u0_1);
+    st16(r_0x, r_15_1);
+    if (!(ld8(slot_2) == 1u)) { r_as = r_15_1; goto l_loop_io; }
+    st8(r_8z, ld8(r_p9_1));
+    r_qt = 1ull;
+    goto l_arm_65;
+l_after_8b:;
+    u64 a_f1_1 = umin64((u64)r_as, r_17);
+    memset_or_none(r_8z, 0u, a_f1_1);
+    st16(r_0x, (u16)(ld16(r_0x) - (u16)a_f1_1));
+    r_4q = a_f1_1;
+    goto l_arm_rr;
+l_capnp_3c:;
+    if (r_fz == 0u) { r_4w = r_86; r_x4 = 0u; goto l_return_7d; }
+    goto l_arm_kd;
+l_arm_65:;
+    r_4j = r_qt;
+    goto l_default_1x;
+l_arm_rr:;
+    if (r_4q == 0ull) { r_4w = r_86; r_x4 = 0u; goto l_return_7d; }
+    r_4j = r_4q;
+l_default_1x:;
+    u64 r_5q = (r_4j + r_86);
+    if (r_5q < a_3) { r_86 = r_5q; goto l_join_73; }
+    r_4w = r_5q;
+    r_x4 = 0u;
+    goto l_return_7d;
+l_arm_kd:;
+    u8 r_wv = (u8)(r_86 == 0ull);
+    st8(away(a_1, 16494ull), r_wv);
+    r_4w = r_86;
+    r_x4 = r_wv;
+l_return_7d:;
+    struct s_i8_i64 r_80 = (struct s_i8_i64){ 0 };
+    r_80.f0 = r_x4;
+    struct s_i8_i64 r_ez = r_80;
+    r_ez.f1 = r_4w;
+    return r_ez;
+}
+
+/* capnp_packing::packing::unpacking_input::UnpackingInput::unpack::<#9affad4089815397> */
+struct s_i8_i64 capnp_packing_packing_unpacking_input_UnpackingInput_u_4830f424(u8 *a_1, u8 *a_2, u64 a_3)
+{
+    A(8) u8 slot_1[24];
+    A(8) u8 slot_2[8];
+    A(2) u8 slot_3[4];
+    u8 *r_sn;
+    u8 *r_7f;
+    u8 *r_un;
+    u8 *r_4z;
+    u8 *r_2g;
+    u8 *r_p9;
+    u8 *r_jn;
+    u8 *r_u0;
+    u8 *r_j3;
+    u8 *r_ix;
+    u8 *r_0v;
+    u8 *r_g0;
+    u8 *r_u0_1;
+    u8 *r_p9_1;
+    u8 *r_3o;
+    u8 *r_p9_2;
+    u8 *r_zo;
+    u8 *r_zd;
+    u8 *r_x5;
+    u64 r_86;
+    u8 *r_8z;
+    u64 r_17;
+    u8 r_er;
+    u16 r_as;
+    u8 r_47;
+    u16 r_15;
+    u64 r_u7;
+    u64 a_f1;
+    u64 r_52;
+    u64 r_52_1;
+    u64 a_cg;
+    u8 *r_2b;
+    u64 r_il;
+    struct s_i8_i64 r_7h;
+    u8 r_fz;
+    u64 r_h9;
+    struct s_i8_i64 r_29;
+    u64 r_h9_1;
+    u64 r_14;
+    u64 r_o6;
+    u8 pre_dm;
+    u64 r_t9;
+    u8 pre_r7;
+    u64 r_pv;
+    u64 r_qt;
+    u64 r_4q;
+    u64 r_4j;
+    u64 r_4w;
+    u8 r_x4;
+    if ((u8)(ld8(away(a_1, 64ull)) & 1)) goto l_then_1w;
+    if (a_3 == 0ull) { r_4w = 0ull; r_x4 = 0u; goto l_return_7d; }
+    r_sn = away(a_1, 8284ull);
+    r_7f = away(a_1, 8280ull);
+    r_un = away(a_1, 8264ull);
+    r_4z = away(a_1, 8272ull);
+    r_2g = away(a_1, 72ull);
+    r_p9 = (slot_3 + 1);
+    r_jn = away(a_1, 8281ull);
+    r_u0 = (slot_3 + 2);
+    r_j3 = away(a_1, 8282ull);
+    r_ix = (slot_2 + 4);
+    r_0v = (slot_2 + 5);
+    r_g0 = (slot_2 + 6);
+    r_u0_1 = (slot_2 + 2);
+    r_p9_1 = (slot_2 + 1);
+    r_3o = (slot_1 + 18);
+    r_p9_2 = (slot_1 + 19);
+    r_zo = (slot_1 + 20);
+    r_zd = (slot_1 + 16);
+    r_x5 = (slot_1 + 8);
+    r_86 = 0ull;
+    goto l_join_73;
+l_then_1w:;
+    st8(away(a_1, 8286ull), 1u);
+    r_4w = 0ull;
+    r_x4 = 1u;
+    goto l_return_7d;
+l_join_73:;
+    r_8z = away(a_2, r_86);
+    r_17 = (a_3 - r_86);
+    st64(slot_2, 0ull);
+    r_er = (r_17 > 7ull);
+    r_as = ld16(r_sn);
+l_loop_io:;
+    if (!(r_as == 0u)) goto l_after_8b;
+    r_47 = ld8(r_7f);
+    if (!(r_47 == 5u)) goto l_join_mh;
+    r_15 = ld16(r_j3);
+    r_u7 = (u64)r_15;
+    a_f1 = umin64((r_u7 + 1ull), r_17);
+    r_52 = ld64(r_un);
+    r_52_1 = ld64(r_4z);
+    if (!(r_52 == r_52_1)) goto l_join_qj;
+    struct s_i8_i64 r_dy = capnp_packing_buffered_standard_BufReaderInputInput_re_133b1ec6(a_1, r_8z, a_f1);
+    r_7h = r_dy;
+    goto l_capnp_wz;
+l_join_qj:;
+    a_cg = umin64((r_52_1 - r_52), a_f1);
+    r_2b = away(r_2g, r_52);
+    if (((u64)(uptr)r_8z - (u64)(uptr)r_2b) < a_cg) { r_il = 0ull; goto l_join_fh; }
+    memmove_or_none(r_8z, r_2b, a_cg);
+    goto l_core_bq;
+l_join_fh:;
+    st8((r_8z + (i64)(r_il)), ld8((r_2b + (i64)(r_il))));
+    u64 r_c4 = (r_il + 1ull);
+    if (!(r_c4 == a_cg)) { r_il = r_c4; goto l_join_fh; }
+l_core_bq:;
+    st64(r_un, (ld64(r_un) + a_cg));
+    struct s_i8_i64 t_sr = (struct s_i8_i64){ 0u, 0ull };
+    t_sr.f1 = a_cg;
+    r_7h = t_sr;
+l_capnp_wz:;
+    r_fz = r_7h.f0;
+    r_h9 = r_7h.f1;
+    if ((r_fz != 0u) ? 1u : (r_h9 == 0ull)) goto l_capnp_3c;
+    u8 r_qc = (r_h9 > r_u7);
+    st8(r_7f, (r_qc ? 0u : 5u));
+    st8(r_jn, 0u);
+    st16(r_j3, (r_qc ? 0u : (u16)(r_15 - (u16)r_h9)));
+    r_qt = r_h9;
+    goto l_arm_65;
+l_join_mh:;
+    u64 r_52_2 = ld64(r_un);
+    u64 r_52_3 = ld64(r_4z);
+    if (r_52_2 < r_52_3) { r_14 = r_52_2; r_o6 = r_52_3; pre_dm = r_47; goto l_capnp_bb; }
+    memset(r_un, 0u, 16);
+    r_29 = capnp_packing_buffered_standard_BufReaderInputInput_re_133b1ec6(a_1, r_2g, 8192ull);
+    if (r_29.f0 == 0u) goto l_arm_oo;
+    goto l_arm_il;
+l_arm_oo:;
+    r_h9_1 = r_29.f1;
+    st64(r_4z, r_h9_1);
+    if (!(r_h9_1 == 0ull)) goto l_join_ro;
+    r_4w = r_86;
+    r_x4 = 0u;
+    goto l_return_7d;
+l_join_ro:;
+    u8 pre_sw = ld8(r_7f);
+    u64 r_38 = ld64(r_un);
+    if (ld16(r_sn) == 0u) { r_14 = r_38; r_o6 = r_h9_1; pre_dm = pre_sw; goto l_capnp_bb; }
+    pre_r7 = pre_sw;
+    r_pv = r_38;
+    goto l_after_2t;
+l_capnp_bb:;
+    if (!(u8)((u8)r_er & (u8)(pre_dm == 0u))) { pre_r7 = pre_dm; r_pv = r_14; goto l_after_2t; }
+    r_t9 = (r_o6 - r_14);
+    if (!(r_t9 > 9ull)) { pre_r7 = 0u; r_pv = r_14; goto l_after_2t; }
+    memset(slot_1, 0u, 24);
+    capnp_packing_packing_unpacking_unpack_words(slot_1, away(r_2g, r_14), r_t9, r_8z, r_17);
+    st64(r_un, (ld64(r_un) + ld64(slot_1)));
+    u8 r_dd = ld8(r_p9_2);
+    u16 r_8l = ld16(r_zo);
+    st8(r_7f, ld8(r_3o));
+    st8(r_jn, r_dd);
+    st16(r_j3, r_8l);
+    st16(r_sn, ld16(r_zd));
+    r_4q = ld64(r_x5);
+    goto l_arm_rr;
+l_after_2t:;
+    st8(slot_3, pre_r7);
+    st8(r_p9, ld8(r_jn));
+    st16(r_u0, ld16(r_j3));
+    u8 r_47_1 = ld8((r_2g + (i64)(r_pv)));
+    st64(r_un, (r_pv + 1ull));
+    capnp_packing_packing_place_step(slot_2, slot_3, r_47_1);
+    u8 r_dd_1 = ld8(r_0v);
+    u16 r_f4 = ld16(r_g0);
+    st8(r_7f, ld8(r_ix));
+    st8(r_jn, r_dd_1);
+    st16(r_j3, r_f4);
+    u16 r_15_1 = ld16(r_u0_1);
+    st16(r_sn, r_15_1);
+    if (!(ld8(slot_2) == 1u)) { r_as = r_15_1; goto l_loop_io; }
+    st8(r_8z, ld8(r_p9_1));
+    r_qt = 1ull;
+    goto l_arm_65;
+l_after_8b:;
+    u64 a_f1_1 = umin64((u64)r_as, r_17);
+    memset_or_none(r_8z, 0u, a_f1_1);
+    st16(r_sn, (u16)(ld16(r_sn) - (u16)a_f1_1));
+    r_4q = a_f1_1;
+    goto l_arm_rr;
+l_capnp_3c:;
+    if (r_fz == 0u) { r_4w = r_86; r_x4 = 0u; goto l_return_7d; }
+    goto l_arm_il;
+l_arm_65:;
+    r_4j = r_qt;
+    goto l_default_1x;
+l_arm_rr:;
+    if (r_4q == 0ull) { r_4w = r_86; r_x4 = 0u; goto l_return_7d; }
+    r_4j = r_4q;
+l_default_1x:;
+    u64 r_5q = (r_4j + r_86);
+    if (r_5q < a_3) { r_86 = r_5q; goto l_join_73; }
+    r_4w = r_5q;
+    r_x4 = 0u;
+    goto l_return_7d;
+l_arm_il:;
+    u8 r_wv = (u8)(r_86 == 0ull);
+    st8(away(a_1, 8286ull), r_wv);
+    r_4w = r_86;
+    r_x4 = r_wv;
+l_return_7d:;
+    struct s_i8_i64 r_80 = (struct s_i8_i64){ 0 };
+    r_80.f0 = r_x4;
+    struct s_i8_i64 r_ez = r_80;
+    r_ez.f1 = r_4w;
+    return r_ez;
+}
+
+/* capnp_packing::buffered::flush_before_waiting::<#8fe74327c9ebdd71> */
+u8 capnp_packing_buffered_flush_before_waiting_8fe74327c9ebdd71(u8 *a_1, u8 *a_2)
+{
+    A(8) u8 slot_1[104];
+    u8 *r_2b;
+    u64 r_t9;
+    u64 r_24;
+    u64 r_c4;
+    u64 r_lc;
+    u8 *r_bb;
+    u64 r_ya;
+    u64 r_95;
+    u64 r_ve;
+    u64 a_n9;
+    u64 r_l5;
+    u64 r_rx;
+    u64 r_0x;
+    u64 r_5q_1;
+    u8 *r_xm;
+    u64 r_52_1;
+    u8 t_r5;
+    u8 *r_lz;
+    u64 r_t9_1;
+    u8 *t_2b;
+    u64 r_ti;
+    u64 r_61;
+    u8 r_fk;
+    u64 r_52 = ld64(away(a_1, 8256ull));
+    r_2b = away(ldp(away(a_1, 8232ull)), r_52);
+    r_t9 = (ld64(away(a_1, 8264ull)) - r_52);
+    if (r_t9 < 4ull) goto l_join_im;
+    u32 r_5k = ld32(r_2b);
+    r_24 = (u64)r_5k;
+    r_c4 = (r_24 + 1ull);
+    if (r_5k > 511u) goto l_join_im;
+    r_lc = (((u64)(r_c4 << 2ull) + 4ull) + ((u64)(r_24 << 2ull) & 4ull));
+    if (r_t9 < r_lc) goto l_join_im;
+    r_bb = away(r_2b, 4ull);
+    r_ya = (u64)((r_24 + 32ull) >> 5ull);
+    r_95 = 0ull;
+    r_ve = 0ull;
+l_join_co:;
+    u64 r_vp = (u64)(r_ve << 5ull);
+    a_n9 = umin64((r_vp + 32ull), r_c4);
+    if (r_vp > r_24) { r_0x = 0ull; goto l_capnp_a1; }
+    r_l5 = 0ull;
+    r_rx = r_vp;
+l_join_rl:;
+    u64 r_5q = (r_l5 + (u64)ld32((r_bb + (i64)((u64)(r_rx << 2ull)))));
+    u64 r_36 = (r_rx + 1ull);
+    if (r_36 == a_n9) { r_0x = r_5q; goto l_capnp_a1; }
+    r_l5 = r_5q;
+    r_rx = r_36;
+    goto l_join_rl;
+l_capnp_a1:;
+    r_5q_1 = (r_0x + r_95);
+    u64 r_c4_1 = (r_ve + 1ull);
+    if (!(r_c4_1 == r_ya)) { r_95 = r_5q_1; r_ve = r_c4_1; goto l_join_co; }
+    if (!((u64)((r_t9 - r_lc) >> 3ull) < r_5q_1)) { r_fk = 0u; goto l_return_ri; }
+l_join_im:;
+    memset(slot_1, 0u, 104);
+    u8 *r_xz = away(a_2, 24ull);
+    r_xm = away(a_2, 32ull);
+    std_io_buffered_write_out_cc0a01cbe8a2ee4a(slot_1, ldp(r_xz), ld64(r_xm), a_2);
+    r_52_1 = ld64(slot_1);
+    t_r5 = ld8((slot_1 + 8));
+    u64 r_52_2 = ld64(r_xm);
+    r_lz = ldp(r_xz);
+    r_t9_1 = (r_52_2 - r_52_1);
+    if (r_52_2 == r_52_1) { r_61 = r_52_1; goto l_std_z5; }
+    t_2b = away(r_lz, r_52_1);
+    r_ti = 0ull;
+l_join_u2:;
+    st8((r_lz + (i64)(r_ti)), ld8(away(t_2b, r_ti)));
+    u64 r_36_1 = (r_ti + 1ull);
+    if (!(r_36_1 == r_t9_1)) { r_ti = r_36_1; goto l_join_u2; }
+    r_61 = ld64(r_xm);
+l_std_z5:;
+    if (!(r_61 > r_t9_1)) goto l_std_i0;
+    st64(r_xm, r_t9_1);
+l_std_i0:;
+    if (t_r5 == 0u) { r_fk = 0u; goto l_return_ri; }
+    st8(away(a_2, 48ull), 1u);
+    r_fk = 1u;
+l_return_ri:;
+    return r_fk;
+}
+
+/* capnp_packing::buffered::flush_before_waiting::<#66071071a9ec5d1c> */
+u8 capnp_packing_buffered_flush_before_waiting_66071071a9ec5d1c(u8 *a_1, u8 *a_2)
+{
+    A(8) u8 slot_1[104];
+    u8 *r_2b;
+    u64 r_t9;
+    u64 r_24;
+    u64 r_c4;
+    u64 r_lc;
+    u8 *r_bb;
+    u64 r_ya;
+    u64 r_95;
+    u64 r_ve;
+    u64 a_n9;
+    u64 r_l5;
+    u64 r_rx;
+    u64 r_0x;
+    u64 r_5q_1;
+    u8 *r_xm;
+    u64 r_52_1;
+    u8 t_r5;
+    u8 *r_lz;
+    u64 r_t9_1;
+    u8 *t_2b;
+    u64 r_ti;
+    u64 r_61;
+    u8 r_fk;
+    u64 r_52 = ld64(away(a_1, 48ull));
+    r_2b = away(ldp(away(a_1, 24ull)), r_52);
+    r_t9 = (ld64(away(a_1, 56ull)) - r_52);
+    if (r_t9 < 4ull) goto l_join_im;
+    u32 r_5k = ld32(r_2b);
+    r_24 = (u64)r_5k;
+    r_c4 = (r_24 + 1ull);
+    if (r_5k > 511u) goto l_join_im;
+    r_lc = (((u64)(r_c4 << 2ull) + 4ull) + ((u64)(r_24 << 2ull) & 4ull));
+    if (r_t9 < r_lc) goto l_join_im;
+    r_bb = away(r_2b, 4ull);
+    r_ya = (u64)((r_24 + 32ull) >> 5ull);
+    r_95 = 0ull;
+    r_ve = 0ull;
+l_join_co:;
+    u64 r_vp = (u64)(r_ve << 5ull);
+    a_n9 = umin64((r_vp + 32ull), r_c4);
+    if (r_vp > r_24) { r_0x = 0ull; goto l_capnp_a1; }
+    r_l5 = 0ull;
+    r_rx = r_vp;
+l_join_rl:;
+    u64 r_5q = (r_l5 + (u64)ld32((r_bb + (i64)((u64)(r_rx << 2ull)))));
+    u64 r_36 = (r_rx + 1ull);
+    if (r_36 == a_n9) { r_0x = r_5q; goto l_capnp_a1; }
+    r_l5 = r_5q;
+    r_rx = r_36;
+    goto l_join_rl;
+l_capnp_a1:;
+    r_5q_1 = (r_0x + r_95);
+    u64 r_c4_1 = (r_ve + 1ull);
+    if (!(r_c4_1 == r_ya)) { r_95 = r_5q_1; r_ve = r_c4_1; goto l_join_co; }
+    if (!((u64)((r_t9 - r_lc) >> 3ull) < r_5q_1)) { r_fk = 0u; goto l_return_ri; }
+l_join_im:;
+    memset(slot_1, 0u, 104);
+    u8 *r_xz = away(a_2, 24ull);
+    r_xm = away(a_2, 32ull);
+    std_io_buffered_write_out_cc0a01cbe8a2ee4a(slot_1, ldp(r_xz), ld64(r_xm), a_2);
+    r_52_1 = ld64(slot_1);
+    t_r5 = ld8((slot_1 + 8));
+    u64 r_52_2 = ld64(r_xm);
+    r_lz = ldp(r_xz);
+    r_t9_1 = (r_52_2 - r_52_1);
+    if (r_52_2 == r_52_1) { r_61 = r_52_1; goto l_std_z5; }
+    t_2b = away(r_lz, r_52_1);
+    r_ti = 0ull;
+l_join_u2:;
+    st8((r_lz + (i64)(r_ti)), ld8(away(t_2b, r_ti)));
+    u64 r_36_1 = (r_ti + 1ull);
+    if (!(r_36_1 == r_t9_1)) { r_ti = r_36_1; goto l_join_u2; }
+    r_61 = ld64(r_xm);
+l_std_z5:;
+    if (!(r_61 > r_t9_1)) goto l_std_i0;
+    st64(r_xm, r_t9_1);
+l_std_i0:;
+    if (t_r5 == 0u) { r_fk = 0u; goto l_return_ri; }
+    st8(away(a_2, 48ull), 1u);
+    r_fk = 1u;
+l_return_ri:;
+    return r_fk;
+}
+
 /* std_alloc::vec::Vec::drop::<#acd8a8a758c244f6> */
 void std_alloc_vec_Vec_drop_acd8a8a758c244f6(u8 *a_1)
 {
@@ -24368,7 +25008,7 @@ void std_alloc_vec_Vec_drop_acd8a8a758c244f6(u8 *a_1)
     if (r_qw == 0ull) goto l_std_p4;
     r_iu = 0ull;
 l_join_9n:;
-    r_a7 = (r_mb + (i64)((r_iu * 24ull)));
+    r_a7 = away(r_mb, (r_iu * 24ull));
     if (ld64((r_a7 + 16)) == 0ull) goto l_core_jc;
     rattle_dealloc(ldp(r_a7));
 l_core_jc:;

@@ -42,13 +42,13 @@ void capnp_show_show_message_make_json_9d3526b9b0726c59(u8 *a_1, u8 *a_2, u8 *a_
     A(8) u8 slot_4[120];
     A(2) u8 slot_5[126];
     struct s_i8_i8 r_5j;
-    u8 *r_x5_1;
+    u8 *r_x5;
     u8 *r_zd;
     u64 r_xx;
     u64 r_c8;
     u64 r_br;
     u8 *r_2b;
-    u64 r_6w;
+    u64 r_hd;
     u8 r_7z;
     u8 r_kd;
     u8 r_dd = ld8((a_2 + 1));
@@ -74,27 +74,27 @@ l_arm_ao:;
     if (!(r_5j.f1 == 0u)) goto l_arm_st;
     memset(slot_3, 0u, 126);
     memcpy(slot_2, slot_4, 120);
-    r_x5_1 = (slot_2 + 8);
-    st64(r_x5_1, 0ull);
+    r_x5 = (slot_2 + 8);
+    st64(r_x5, 0ull);
     r_zd = (slot_2 + 16);
     u64 r_52 = ld64(r_zd);
     if (!(r_52 < 17ull)) { r_xx = r_52; r_c8 = 0ull; goto l_join_if; }
     u8 r_vs = std_alloc_vec_Vec_grow_amortized_9634afabedddd7ee(slot_2, 17ull);
     if (!r_vs) goto l_arm_i7;
     r_xx = ld64(r_zd);
-    r_c8 = ld64(r_x5_1);
+    r_c8 = ld64(r_x5);
 l_join_if:;
     r_br = (r_c8 + 17ull);
     r_2b = away(ldp(slot_2), r_c8);
-    if (((u64)(uptr)r_2b - (u64)(uptr)((u8 *)g_static_215)) < 17ull) { r_6w = 0ull; goto l_join_zx; }
-    mv17(r_2b, ((u8 *)g_static_215));
+    if (((u64)(uptr)r_2b - (u64)(uptr)((u8 *)g_static_225)) < 17ull) { r_hd = 0ull; goto l_join_q1; }
+    mv17(r_2b, ((u8 *)g_static_225));
     goto l_arm_pd;
-l_join_zx:;
-    st8((r_2b + (i64)(r_6w)), ld8((((u8 *)g_static_215) + (i64)(r_6w))));
-    u64 r_c4_1 = (r_6w + 1ull);
-    if (!(r_c4_1 == 17ull)) { r_6w = r_c4_1; goto l_join_zx; }
+l_join_q1:;
+    st8((r_2b + (i64)(r_hd)), ld8((((u8 *)g_static_225) + (i64)(r_hd))));
+    u64 r_c4 = (r_hd + 1ull);
+    if (!(r_c4 == 17ull)) { r_hd = r_c4; goto l_join_q1; }
 l_arm_pd:;
-    st64(r_x5_1, r_br);
+    st64(r_x5, r_br);
     st64(r_zd, r_xx);
     memcpy((slot_3 + 6), slot_2, 120);
     r_7z = 0u;
@@ -134,47 +134,47 @@ static struct s_i8_i8 capnp_show_show_message_write_json_9d3526b9b0726c59(u8 *a_
     u8 *r_r2;
     u8 *r_rq;
     u64 r_52_1;
-    u8 *r_08_1;
+    u8 *r_08;
     u64 r_4b;
     u64 r_jh;
     u64 r_sb;
     u8 *r_fx;
     u8 *r_2b;
-    u64 r_9u;
+    u64 r_gg;
     u8 r_e7;
     struct s_i8_i8 r_yu;
     u64 r_52_3;
-    u8 *r_08_2;
+    u8 *r_08_1;
     u64 r_yi;
     u64 r_xi;
     u64 r_4y;
     u8 *r_fx_1;
     u8 *r_2b_1;
-    u64 r_ef;
+    u64 r_f9;
     u8 r_e7_1;
     struct s_i8_i8 r_yu_1;
     u64 r_52_5;
-    u8 *r_08_3;
+    u8 *r_08_2;
     u64 r_wv;
     u64 r_9w;
     u64 r_wr;
     u8 *r_fx_2;
     u8 *r_2b_2;
-    u64 r_0u;
+    u64 r_i5;
     u8 r_e7_2;
     struct s_i8_i8 r_yu_2;
     u64 r_52_7;
-    u8 *r_08_4;
+    u8 *r_08_3;
     u64 r_di;
     u64 r_ju;
     u64 r_5q;
     u8 *r_fx_3;
     u8 *r_2b_3;
-    u64 r_un;
+    u64 r_ta;
     u8 r_r5;
-    u64 r_38_8;
+    u64 r_38;
     u8 *r_lk;
-    u64 r_38_9;
+    u64 r_38_1;
     u8 *r_c4_4;
     u32 r_z4;
     u32 r_uq;
@@ -185,10 +185,10 @@ static struct s_i8_i8 capnp_show_show_message_write_json_9d3526b9b0726c59(u8 *a_
     u8 *t_6c_1;
     u8 *r_rq_1;
     u64 r_52_9;
-    u8 *r_08_5;
+    u8 *r_08_4;
     u64 r_co;
     u64 r_q5;
-    struct s_i8_i8 r_y2;
+    struct s_i8_i8 r_e9;
     u8 r_e7_3;
     struct s_i8_i8 r_2g_1;
     struct s_i8_i8 r_2g;
@@ -196,21 +196,21 @@ static struct s_i8_i8 capnp_show_show_message_write_json_9d3526b9b0726c59(u8 *a_
     u8 *switch_mb;
     u8 *r_rq_2;
     u64 r_52_11;
-    u8 *r_08_6;
+    u8 *r_08_5;
     u64 r_co_1;
     u64 r_q5_1;
     u8 r_e7_4;
     struct s_i8_i8 r_yu_3;
     u8 *r_rq_3;
     u64 r_52_13;
-    u8 *r_08_7;
+    u8 *r_08_6;
     u64 r_c0;
     u64 r_54;
     u64 r_x4;
     u8 *r_fx_6;
-    u8 *r_2b_6;
-    u64 r_oj;
-    u8 *r_08_8;
+    u8 *r_2b_4;
+    u64 r_1p;
+    u8 *r_08_7;
     u64 r_w4;
     u64 r_61;
     u8 r_fu;
@@ -222,28 +222,28 @@ static struct s_i8_i8 capnp_show_show_message_write_json_9d3526b9b0726c59(u8 *a_
     r_rq = away(a_7, 8ull);
     r_52_1 = ld64(r_rq);
     if (r_52_1 > 0x3ffffb5ull) { r_e7 = 0u; goto l_arm_n5; }
-    r_08_1 = away(a_7, 16ull);
-    u64 r_52_2 = ld64(r_08_1);
+    r_08 = away(a_7, 16ull);
+    u64 r_52_2 = ld64(r_08);
     if (!((r_52_2 - r_52_1) < 11ull)) { r_4b = r_52_2; r_jh = r_52_1; goto l_join_12; }
     u8 r_pt = std_alloc_vec_Vec_grow_amortized_9634afabedddd7ee(a_7, 11ull);
     if (!r_pt) { r_e7 = 1u; goto l_arm_n5; }
-    r_4b = ld64(r_08_1);
+    r_4b = ld64(r_08);
     r_jh = ld64(r_rq);
 l_join_12:;
     r_sb = (r_jh + 11ull);
     r_fx = ldp(a_7);
     r_2b = away(r_fx, r_jh);
-    if (((u64)(uptr)r_2b - (u64)(uptr)((u8 *)g_static_145)) < 11ull) { r_9u = 0ull; goto l_join_r3; }
-    mv11(r_2b, ((u8 *)g_static_145));
+    if (((u64)(uptr)r_2b - (u64)(uptr)((u8 *)g_static_155)) < 11ull) { r_gg = 0ull; goto l_join_x0; }
+    mv11(r_2b, ((u8 *)g_static_155));
     goto l_arm_zo;
-l_join_r3:;
-    st8((r_2b + (i64)(r_9u)), ld8((((u8 *)g_static_145) + (i64)(r_9u))));
-    u64 r_c4 = (r_9u + 1ull);
-    if (!(r_c4 == 11ull)) { r_9u = r_c4; goto l_join_r3; }
+l_join_x0:;
+    st8((r_2b + (i64)(r_gg)), ld8((((u8 *)g_static_155) + (i64)(r_gg))));
+    u64 r_c4 = (r_gg + 1ull);
+    if (!(r_c4 == 11ull)) { r_gg = r_c4; goto l_join_x0; }
 l_arm_zo:;
     stp(a_7, r_fx);
     st64(r_rq, r_sb);
-    st64(r_08_1, r_4b);
+    st64(r_08, r_4b);
     struct s_i8_i8 r_vc = capnp_show_show_text_Text_push_number(a_7, a_2);
     r_yu = r_vc;
     goto l_capnp_v4;
@@ -255,28 +255,28 @@ l_capnp_v4:;
     if (!(r_yu.f0 == 0u)) goto l_arm_dn;
     r_52_3 = ld64(r_rq);
     if (r_52_3 > 0x3ffffb4ull) { r_e7_1 = 0u; goto l_arm_n5_1; }
-    r_08_2 = away(a_7, 16ull);
-    u64 r_52_4 = ld64(r_08_2);
+    r_08_1 = away(a_7, 16ull);
+    u64 r_52_4 = ld64(r_08_1);
     if (!((r_52_4 - r_52_3) < 12ull)) { r_yi = r_52_4; r_xi = r_52_3; goto l_join_4b; }
     u8 r_42 = std_alloc_vec_Vec_grow_amortized_9634afabedddd7ee(a_7, 12ull);
     if (!r_42) { r_e7_1 = 1u; goto l_arm_n5_1; }
-    r_yi = ld64(r_08_2);
+    r_yi = ld64(r_08_1);
     r_xi = ld64(r_rq);
 l_join_4b:;
     r_4y = (r_xi + 12ull);
     r_fx_1 = ldp(a_7);
     r_2b_1 = away(r_fx_1, r_xi);
-    if (((u64)(uptr)r_2b_1 - (u64)(uptr)((u8 *)g_static_146)) < 12ull) { r_ef = 0ull; goto l_join_qh; }
-    mv12(r_2b_1, ((u8 *)g_static_146));
+    if (((u64)(uptr)r_2b_1 - (u64)(uptr)((u8 *)g_static_156)) < 12ull) { r_f9 = 0ull; goto l_join_pr; }
+    mv12(r_2b_1, ((u8 *)g_static_156));
     goto l_arm_zo_1;
-l_join_qh:;
-    st8((r_2b_1 + (i64)(r_ef)), ld8((((u8 *)g_static_146) + (i64)(r_ef))));
-    u64 r_c4_1 = (r_ef + 1ull);
-    if (!(r_c4_1 == 12ull)) { r_ef = r_c4_1; goto l_join_qh; }
+l_join_pr:;
+    st8((r_2b_1 + (i64)(r_f9)), ld8((((u8 *)g_static_156) + (i64)(r_f9))));
+    u64 r_c4_1 = (r_f9 + 1ull);
+    if (!(r_c4_1 == 12ull)) { r_f9 = r_c4_1; goto l_join_pr; }
 l_arm_zo_1:;
     stp(a_7, r_fx_1);
     st64(r_rq, r_4y);
-    st64(r_08_2, r_yi);
+    st64(r_08_1, r_yi);
     struct s_i8_i8 r_vc_1 = capnp_show_show_text_Text_push_number(a_7, a_3);
     r_yu_1 = r_vc_1;
     goto l_capnp_v4_1;
@@ -294,28 +294,28 @@ l_arm_dn:;
 l_arm_l6:;
     r_52_5 = ld64(r_rq);
     if (r_52_5 > 0x3ffffb7ull) { r_e7_2 = 0u; goto l_arm_n5_2; }
-    r_08_3 = away(a_7, 16ull);
-    u64 r_52_6 = ld64(r_08_3);
+    r_08_2 = away(a_7, 16ull);
+    u64 r_52_6 = ld64(r_08_2);
     if (!((r_52_6 - r_52_5) < 9ull)) { r_wv = r_52_6; r_9w = r_52_5; goto l_join_k6; }
     u8 r_xy = std_alloc_vec_Vec_grow_amortized_9634afabedddd7ee(a_7, 9ull);
     if (!r_xy) { r_e7_2 = 1u; goto l_arm_n5_2; }
-    r_wv = ld64(r_08_3);
+    r_wv = ld64(r_08_2);
     r_9w = ld64(r_rq);
 l_join_k6:;
     r_wr = (r_9w + 9ull);
     r_fx_2 = ldp(a_7);
     r_2b_2 = away(r_fx_2, r_9w);
-    if (((u64)(uptr)r_2b_2 - (u64)(uptr)((u8 *)g_static_147)) < 9ull) { r_0u = 0ull; goto l_join_ov; }
-    mv9(r_2b_2, ((u8 *)g_static_147));
+    if (((u64)(uptr)r_2b_2 - (u64)(uptr)((u8 *)g_static_157)) < 9ull) { r_i5 = 0ull; goto l_join_ph; }
+    mv9(r_2b_2, ((u8 *)g_static_157));
     goto l_arm_na;
-l_join_ov:;
-    st8((r_2b_2 + (i64)(r_0u)), ld8((((u8 *)g_static_147) + (i64)(r_0u))));
-    u64 r_c4_2 = (r_0u + 1ull);
-    if (!(r_c4_2 == 9ull)) { r_0u = r_c4_2; goto l_join_ov; }
+l_join_ph:;
+    st8((r_2b_2 + (i64)(r_i5)), ld8((((u8 *)g_static_157) + (i64)(r_i5))));
+    u64 r_c4_2 = (r_i5 + 1ull);
+    if (!(r_c4_2 == 9ull)) { r_i5 = r_c4_2; goto l_join_ph; }
 l_arm_na:;
     stp(a_7, r_fx_2);
     st64(r_rq, r_wr);
-    st64(r_08_3, r_wv);
+    st64(r_08_2, r_wv);
     struct s_i8_i8 r_zo = capnp_show_show_text_Text_push_number(a_7, r_52);
     r_yu_2 = r_zo;
     goto l_capnp_v4_2;
@@ -333,28 +333,28 @@ l_arm_dn_1:;
 l_arm_7a:;
     r_52_7 = ld64(r_rq);
     if (r_52_7 > 0x3ffffb8ull) { r_fu = 0u; r_vh = 1u; goto l_return_4x; }
-    r_08_4 = away(a_7, 16ull);
-    u64 r_52_8 = ld64(r_08_4);
+    r_08_3 = away(a_7, 16ull);
+    u64 r_52_8 = ld64(r_08_3);
     if (!((r_52_8 - r_52_7) < 8ull)) { r_di = r_52_8; r_ju = r_52_7; goto l_join_sq; }
     u8 r_q2 = std_alloc_vec_Vec_grow_amortized_9634afabedddd7ee(a_7, 8ull);
     if (!r_q2) { r_fu = 1u; r_vh = 1u; goto l_return_4x; }
-    r_di = ld64(r_08_4);
+    r_di = ld64(r_08_3);
     r_ju = ld64(r_rq);
 l_join_sq:;
     r_5q = (r_ju + 8ull);
     r_fx_3 = ldp(a_7);
     r_2b_3 = away(r_fx_3, r_ju);
-    if (((u64)(uptr)r_2b_3 - (u64)(uptr)((u8 *)g_static_148)) < 8ull) { r_un = 0ull; goto l_join_rw; }
+    if (((u64)(uptr)r_2b_3 - (u64)(uptr)((u8 *)g_static_158)) < 8ull) { r_ta = 0ull; goto l_join_6r; }
     st64(r_2b_3, 0x3a22746f6f72222cull);
     goto l_core_aw;
-l_join_rw:;
-    st8((r_2b_3 + (i64)(r_un)), ld8((((u8 *)g_static_148) + (i64)(r_un))));
-    u64 r_c4_3 = (r_un + 1ull);
-    if (!(r_c4_3 == 8ull)) { r_un = r_c4_3; goto l_join_rw; }
+l_join_6r:;
+    st8((r_2b_3 + (i64)(r_ta)), ld8((((u8 *)g_static_158) + (i64)(r_ta))));
+    u64 r_c4_3 = (r_ta + 1ull);
+    if (!(r_c4_3 == 8ull)) { r_ta = r_c4_3; goto l_join_6r; }
 l_core_aw:;
     stp(a_7, r_fx_3);
     st64(r_rq, r_5q);
-    st64(r_08_4, r_di);
+    st64(r_08_3, r_di);
     goto l_arm_7b;
 l_arm_dn_2:;
     r_fu = r_yu_2.f1;
@@ -363,9 +363,9 @@ l_arm_dn_2:;
 l_arm_7b:;
     capnp_messages_messages_path_read_part_9d3526b9b0726c59(slot_3, a_1, a_4, a_5, away(a_7, 32ull));
     r_r5 = ld8((slot_3 + 8));
-    r_38_8 = ld64((slot_3 + 16));
+    r_38 = ld64((slot_3 + 16));
     r_lk = (slot_3 + 24);
-    r_38_9 = ld64((slot_3 + 40));
+    r_38_1 = ld64((slot_3 + 40));
     r_c4_4 = (slot_3 + 48);
     r_z4 = ld32((slot_3 + 64));
     r_uq = ld32((slot_3 + 68));
@@ -376,9 +376,9 @@ l_arm_7b:;
     t_6c = (slot_2 + 56);
     st64(t_6c, 0ull);
     if (!(r_r5 == 0u)) goto l_arm_if;
-    st64(slot_2, (r_38_8 & 255ull));
+    st64(slot_2, (r_38 & 255ull));
     mv16((slot_2 + 8), r_lk);
-    st64((slot_2 + 24), r_38_9);
+    st64((slot_2 + 24), r_38_1);
     mv16((slot_2 + 32), r_c4_4);
     st32((slot_2 + 48), r_z4);
     st32((slot_2 + 52), r_uq);
@@ -392,22 +392,22 @@ l_arm_if:;
     r_rq_1 = away(a_7, 8ull);
     r_52_9 = ld64(r_rq_1);
     if (r_52_9 > 0x3ffffbfull) { r_e7_3 = 0u; goto l_arm_n5_3; }
-    r_08_5 = away(a_7, 16ull);
-    u64 r_52_10 = ld64(r_08_5);
+    r_08_4 = away(a_7, 16ull);
+    u64 r_52_10 = ld64(r_08_4);
     if (!(r_52_10 == r_52_9)) { r_co = r_52_10; r_q5 = r_52_9; goto l_join_df; }
     u8 r_av = std_alloc_vec_Vec_grow_amortized_9634afabedddd7ee(a_7, 1ull);
     if (!r_av) { r_e7_3 = 1u; goto l_arm_n5_3; }
-    r_co = ld64(r_08_5);
+    r_co = ld64(r_08_4);
     r_q5 = ld64(r_rq_1);
 l_join_df:;
     u8 *r_fx_4 = ldp(a_7);
     st8(away(r_fx_4, r_q5), 123u);
     stp(a_7, r_fx_4);
     st64(r_rq_1, (r_q5 + 1ull));
-    st64(r_08_5, r_co);
+    st64(r_08_4, r_co);
     if (!(u8)(ld8(r_r2) & 1)) goto l_arm_45;
-    r_y2 = capnp_show_show_json_Json_write_place(a_7, ((u8 *)g_static_157), 6ull, r_38_9, r_z4);
-    if (r_y2.f0 == 0u) goto l_arm_45;
+    r_e9 = capnp_show_show_json_Json_write_place(a_7, ((u8 *)g_static_167), 6ull, r_38_1, r_z4);
+    if (r_e9.f0 == 0u) goto l_arm_45;
     goto l_arm_ev;
 l_arm_n5_3:;
     struct s_i8_i8 t_fj_3 = (struct s_i8_i8){ 1u, 0u };
@@ -415,9 +415,9 @@ l_arm_n5_3:;
     r_2g_1 = t_fj_3;
     goto l_capnp_8g_1;
 l_arm_45:;
-    st64(slot_1, (r_38_8 & 255ull));
+    st64(slot_1, (r_38 & 255ull));
     mv16((slot_1 + 8), r_lk);
-    st64((slot_1 + 24), r_38_9);
+    st64((slot_1 + 24), r_38_1);
     mv16((slot_1 + 32), r_c4_4);
     st32((slot_1 + 48), r_z4);
     st32((slot_1 + 52), r_uq);
@@ -427,7 +427,7 @@ l_arm_45:;
     goto l_capnp_8g_1;
 l_arm_ev:;
     struct s_i8_i8 t_fj_4 = (struct s_i8_i8){ 1u, 0u };
-    t_fj_4.f1 = r_y2.f1;
+    t_fj_4.f1 = r_e9.f1;
     r_2g_1 = t_fj_4;
 l_capnp_8g_1:;
     r_2g = r_2g_1;
@@ -440,19 +440,19 @@ l_switch_20:;
     r_rq_2 = away(a_7, 8ull);
     r_52_11 = ld64(r_rq_2);
     if (r_52_11 > 0x3ffffbfull) { r_e7_4 = 0u; goto l_arm_n5_4; }
-    r_08_6 = away(a_7, 16ull);
-    u64 r_52_12 = ld64(r_08_6);
+    r_08_5 = away(a_7, 16ull);
+    u64 r_52_12 = ld64(r_08_5);
     if (!(r_52_12 == r_52_11)) { r_co_1 = r_52_12; r_q5_1 = r_52_11; goto l_join_df_1; }
     u8 r_av_1 = std_alloc_vec_Vec_grow_amortized_9634afabedddd7ee(a_7, 1ull);
     if (!r_av_1) { r_e7_4 = 1u; goto l_arm_n5_4; }
-    r_co_1 = ld64(r_08_6);
+    r_co_1 = ld64(r_08_5);
     r_q5_1 = ld64(r_rq_2);
 l_join_df_1:;
     u8 *r_fx_5 = ldp(a_7);
     st8(away(r_fx_5, r_q5_1), 123u);
     stp(a_7, r_fx_5);
     st64(r_rq_2, (r_q5_1 + 1ull));
-    st64(r_08_6, r_co_1);
+    st64(r_08_5, r_co_1);
     struct s_i8_i8 r_ic = capnp_show_show_json_Json_write_refusal(a_7, switch_mb, switch_xq);
     r_yu_3 = r_ic;
     goto l_capnp_v4_3;
@@ -466,46 +466,46 @@ l_capnp_v4_3:;
     r_52_13 = ld64(r_rq_3);
     if (!(u8)(ld8(r_r2) & 1)) goto l_join_qd;
     if (r_52_13 > 0x3ffffbeull) { r_fu = 0u; r_vh = 1u; goto l_return_4x; }
-    r_08_7 = away(a_7, 16ull);
-    u64 r_52_14 = ld64(r_08_7);
+    r_08_6 = away(a_7, 16ull);
+    u64 r_52_14 = ld64(r_08_6);
     if (!((r_52_14 - r_52_13) < 2ull)) { r_c0 = r_52_14; r_54 = r_52_13; goto l_join_p3; }
     u8 r_y4 = std_alloc_vec_Vec_grow_amortized_9634afabedddd7ee(a_7, 2ull);
     if (!r_y4) { r_fu = 1u; r_vh = 1u; goto l_return_4x; }
-    r_c0 = ld64(r_08_7);
+    r_c0 = ld64(r_08_6);
     r_54 = ld64(r_rq_3);
 l_join_p3:;
     r_x4 = (r_54 + 2ull);
     r_fx_6 = ldp(a_7);
-    r_2b_6 = away(r_fx_6, r_54);
-    if (((u64)(uptr)r_2b_6 - (u64)(uptr)((u8 *)g_static_214)) < 2ull) { r_oj = 0ull; goto l_join_qv; }
-    st16(r_2b_6, 2685u);
+    r_2b_4 = away(r_fx_6, r_54);
+    if (((u64)(uptr)r_2b_4 - (u64)(uptr)((u8 *)g_static_224)) < 2ull) { r_1p = 0ull; goto l_join_kb; }
+    st16(r_2b_4, 2685u);
     goto l_core_x2;
-l_join_qv:;
-    st8((r_2b_6 + (i64)(r_oj)), ld8((((u8 *)g_static_214) + (i64)(r_oj))));
-    u64 r_c4_7 = (r_oj + 1ull);
-    if (!(r_c4_7 == 2ull)) { r_oj = r_c4_7; goto l_join_qv; }
+l_join_kb:;
+    st8((r_2b_4 + (i64)(r_1p)), ld8((((u8 *)g_static_224) + (i64)(r_1p))));
+    u64 r_c4_5 = (r_1p + 1ull);
+    if (!(r_c4_5 == 2ull)) { r_1p = r_c4_5; goto l_join_kb; }
 l_core_x2:;
     stp(a_7, r_fx_6);
     st64(r_rq_3, r_x4);
-    st64(r_08_7, r_c0);
+    st64(r_08_6, r_c0);
     r_fu = 0u;
     r_vh = 0u;
     goto l_return_4x;
 l_join_qd:;
     if (r_52_13 > 0x3ffffbfull) { r_fu = 0u; r_vh = 1u; goto l_return_4x; }
-    r_08_8 = away(a_7, 16ull);
-    u64 r_52_15 = ld64(r_08_8);
+    r_08_7 = away(a_7, 16ull);
+    u64 r_52_15 = ld64(r_08_7);
     if (!(r_52_15 == r_52_13)) { r_w4 = r_52_15; r_61 = r_52_13; goto l_join_e4; }
     u8 r_av_2 = std_alloc_vec_Vec_grow_amortized_9634afabedddd7ee(a_7, 1ull);
     if (!r_av_2) { r_fu = 1u; r_vh = 1u; goto l_return_4x; }
-    r_w4 = ld64(r_08_8);
+    r_w4 = ld64(r_08_7);
     r_61 = ld64(r_rq_3);
 l_join_e4:;
     u8 *r_fx_7 = ldp(a_7);
     st8(away(r_fx_7, r_61), 10u);
     stp(a_7, r_fx_7);
     st64(r_rq_3, (r_61 + 1ull));
-    st64(r_08_8, r_w4);
+    st64(r_08_7, r_w4);
     r_fu = 0u;
     r_vh = 0u;
     goto l_return_4x;
@@ -671,23 +671,23 @@ static struct s_i8_i8 capnp_show_show_json_write_pointed_value_5ccc1be374b2e488(
     u64 r_5b;
     u8 *r_fx;
     u8 *r_2b_1;
-    u64 r_mh;
+    u64 r_81;
     u8 *r_08_1;
     u64 r_co;
     u64 r_q5;
-    u8 *r_r2_1;
-    struct s_i8_i8 r_8b;
-    u64 r_qw_3;
+    u8 *r_r2;
+    struct s_i8_i8 r_hp;
+    u64 r_qw_2;
     u64 r_ep;
     u32 t_ri;
     struct s_i8_i8 r_jw;
     u8 r_r5;
     u8 a_u1;
     u32 r_uq;
-    u64 r_38_4;
+    u64 r_38;
     u8 *r_xw;
-    u64 r_38_5;
-    u64 r_38_6;
+    u64 r_38_1;
+    u64 r_38_2;
     u32 r_z4;
     u32 r_uq_1;
     u8 r_ne;
@@ -706,19 +706,19 @@ static struct s_i8_i8 capnp_show_show_json_write_pointed_value_5ccc1be374b2e488(
     u8 r_qh;
     u64 r_qd;
     u8 *r_xw_1;
-    u64 r_38_9;
+    u64 r_38_3;
     u8 r_ux;
     u64 r_dq;
-    u8 r_47_2;
+    u8 r_47;
     u8 r_17;
     u64 r_52_5;
     u64 r_0s;
     u64 r_nq;
     u64 r_xe;
     u8 *r_fx_3;
-    u8 *r_2b_5;
-    u64 r_y3;
-    struct s_i8_i8 r_z6_1;
+    u8 *r_2b_2;
+    u64 r_a6;
+    struct s_i8_i8 r_z6;
     u64 r_52_7;
     u64 r_29_1;
     u64 r_el_1;
@@ -727,12 +727,12 @@ static struct s_i8_i8 capnp_show_show_json_write_pointed_value_5ccc1be374b2e488(
     u64 r_9w;
     u64 r_wr;
     u8 *r_fx_5;
-    u8 *r_2b_7;
-    u64 r_pk;
+    u8 *r_2b_3;
+    u64 r_h9;
     u8 *r_x9;
     u64 r_tc;
     u64 r_wl;
-    u8 *r_uz_1;
+    u8 *r_uz;
     u64 r_eu;
     u64 a_3q;
     u64 r_pt;
@@ -743,12 +743,12 @@ static struct s_i8_i8 capnp_show_show_json_write_pointed_value_5ccc1be374b2e488(
     u8 *r_aq;
     u64 r_9p;
     u64 r_9e;
-    u8 *r_4d;
-    u64 r_pn;
-    u64 r_i5;
+    u8 *r_9v;
+    u64 r_nc;
+    u64 r_4c;
     u64 r_x4;
-    u8 *r_2b_9;
-    u64 r_qz;
+    u8 *r_2b_4;
+    u64 r_cr;
     u8 r_2g;
     u8 r_bs_1;
     u8 r_77_1;
@@ -759,15 +759,15 @@ static struct s_i8_i8 capnp_show_show_json_write_pointed_value_5ccc1be374b2e488(
     u64 r_tk;
     u64 r_5q_1;
     u8 *r_fx_6;
-    u8 *r_2b_10;
+    u8 *r_2b_5;
     u64 r_il;
-    u64 r_gw_1;
+    u64 r_gw;
     u32 r_ci;
     u64 r_52_13;
     u64 r_qd_1;
     u64 r_cr_1;
     u32 r_st;
-    u64 r_24_4;
+    u64 r_24_2;
     u64 r_pv;
     u32 r_c2;
     u64 sink_g9;
@@ -787,18 +787,18 @@ static struct s_i8_i8 capnp_show_show_json_write_pointed_value_5ccc1be374b2e488(
     u64 r_54;
     u64 r_x4_1;
     u8 *r_fx_10;
-    u8 *r_2b_15;
-    u64 r_3f;
+    u8 *r_2b_6;
+    u64 r_vl;
     u8 r_bs_2;
     u8 r_77_2;
-    u32 r_mx_2;
-    struct s_i8_i8 r_kp_6;
-    struct s_i8_i8 r_xx;
+    u32 r_mx;
+    struct s_i8_i8 r_kp;
+    struct s_i8_i8 r_d3;
     struct s_i8_i8 r_fg;
-    struct s_i8_i8 r_a8_5;
+    struct s_i8_i8 r_a8_1;
     u8 r_g7_1;
     struct s_i8_i8 r_vh_1;
-    struct s_i8_i8 r_a8_2;
+    struct s_i8_i8 r_a8;
     u8 r_g7;
     u8 r_u1;
     struct s_i8_i8 r_1j;
@@ -834,13 +834,13 @@ l_join_tt:;
     r_5b = (r_pz + 4ull);
     r_fx = ldp(a_3);
     r_2b_1 = away(r_fx, r_pz);
-    if (((u64)(uptr)r_2b_1 - (u64)(uptr)((u8 *)g_static_149)) < 4ull) { r_mh = 0ull; goto l_join_ib; }
+    if (((u64)(uptr)r_2b_1 - (u64)(uptr)((u8 *)g_static_159)) < 4ull) { r_81 = 0ull; goto l_join_b9; }
     st32(r_2b_1, 0x6c6c756eu);
     goto l_capnp_l4;
-l_join_ib:;
-    st8((r_2b_1 + (i64)(r_mh)), ld8((((u8 *)g_static_149) + (i64)(r_mh))));
-    u64 r_c4 = (r_mh + 1ull);
-    if (!(r_c4 == 4ull)) { r_mh = r_c4; goto l_join_ib; }
+l_join_b9:;
+    st8((r_2b_1 + (i64)(r_81)), ld8((((u8 *)g_static_159) + (i64)(r_81))));
+    u64 r_c4 = (r_81 + 1ull);
+    if (!(r_c4 == 4ull)) { r_81 = r_c4; goto l_join_b9; }
 l_capnp_l4:;
     stp(a_3, r_fx);
     st64(r_rq, r_5b);
@@ -861,26 +861,26 @@ l_join_df:;
     stp(a_3, r_fx_1);
     st64(r_rq, (r_q5 + 1ull));
     st64(r_08_1, r_co);
-    r_r2_1 = away(a_3, 56ull);
-    if (!(u8)(ld8(r_r2_1) & 1)) goto l_arm_cw;
-    r_8b = capnp_show_show_json_Json_write_place(a_3, ((u8 *)g_static_151), 11ull, r_qw, r_5k);
-    if (!(r_8b.f0 == 0u)) goto l_arm_21;
-    r_qw_3 = ld64(r_2b);
-    if ((r_qw_3 & 3ull) == 2ull) goto l_join_m4;
+    r_r2 = away(a_3, 56ull);
+    if (!(u8)(ld8(r_r2) & 1)) goto l_arm_cw;
+    r_hp = capnp_show_show_json_Json_write_place(a_3, ((u8 *)g_static_161), 11ull, r_qw, r_5k);
+    if (!(r_hp.f0 == 0u)) goto l_arm_21;
+    r_qw_2 = ld64(r_2b);
+    if ((r_qw_2 & 3ull) == 2ull) goto l_join_m4;
     goto l_arm_cw;
 l_arm_21:;
-    a_u1 = r_8b.f1;
+    a_u1 = r_hp.f1;
     goto l_capnp_oj_1;
 l_join_m4:;
-    r_ep = (u64)(r_qw_3 >> 32ull);
-    t_ri = (u32)((u32)r_qw_3 >> 3u);
-    if ((r_qw_3 & 4ull) == 0ull) goto l_else_rh;
-    struct s_i8_i8 r_as_1 = capnp_show_show_json_Json_write_place(a_3, ((u8 *)g_static_152), 14ull, r_ep, t_ri);
-    r_jw = r_as_1;
+    r_ep = (u64)(r_qw_2 >> 32ull);
+    t_ri = (u32)((u32)r_qw_2 >> 3u);
+    if ((r_qw_2 & 4ull) == 0ull) goto l_else_4y;
+    struct s_i8_i8 r_24_1 = capnp_show_show_json_Json_write_place(a_3, ((u8 *)g_static_162), 14ull, r_ep, t_ri);
+    r_jw = r_24_1;
     goto l_capnp_2v;
-l_else_rh:;
-    struct s_i8_i8 r_ht = capnp_show_show_json_Json_write_place(a_3, ((u8 *)g_static_153), 7ull, r_ep, t_ri);
-    r_jw = r_ht;
+l_else_4y:;
+    struct s_i8_i8 r_5a = capnp_show_show_json_Json_write_place(a_3, ((u8 *)g_static_163), 7ull, r_ep, t_ri);
+    r_jw = r_5a;
 l_capnp_2v:;
     if (!(r_jw.f0 == 0u)) { a_u1 = r_jw.f1; goto l_capnp_oj_1; }
 l_arm_cw:;
@@ -902,10 +902,10 @@ l_capnp_oj_1:;
     goto l_return_4x;
 l_arm_ac:;
     r_uq = ld32((slot_5 + 12));
-    r_38_4 = ld64((slot_5 + 16));
+    r_38 = ld64((slot_5 + 16));
     r_xw = ldp((slot_5 + 24));
-    r_38_5 = ld64((slot_5 + 32));
-    r_38_6 = ld64((slot_5 + 40));
+    r_38_1 = ld64((slot_5 + 32));
+    r_38_2 = ld64((slot_5 + 40));
     r_z4 = ld32((slot_5 + 48));
     r_uq_1 = ld32((slot_5 + 52));
     r_ne = (u8)r_z4;
@@ -914,16 +914,16 @@ l_arm_ac:;
     r_gr = (u16)r_5d;
     memset(slot_2, 0u, 64);
     memset(slot_3, 0u, 64);
-    r_wt = (u32)r_38_6;
+    r_wt = (u32)r_38_2;
     r_az = (r_z4 & 65535u);
     if (!((u8)(r_r5 + 254u) < 4u)) goto l_arm_sf;
-    if (!(u8)(ld8(r_r2_1) & 1)) goto l_arm_sf;
-    struct s_i8_i8 r_y2 = capnp_show_show_json_Json_write_place(a_3, ((u8 *)g_static_157), 6ull, r_38_4, r_wt);
-    if (!(r_y2.f0 == 0u)) { r_a8_2 = r_y2; r_g7 = 1u; goto l_capnp_mf; }
+    if (!(u8)(ld8(r_r2) & 1)) goto l_arm_sf;
+    struct s_i8_i8 r_e9 = capnp_show_show_json_Json_write_place(a_3, ((u8 *)g_static_167), 6ull, r_38, r_wt);
+    if (!(r_e9.f0 == 0u)) { r_a8 = r_e9; r_g7 = 1u; goto l_capnp_mf; }
 l_arm_sf:;
     switch (r_r5) {
     case 0u: goto l_arm_ik;
-    case 1u: goto l_arm_pk;
+    case 1u: goto l_arm_ve;
     case 3u: goto l_arm_aq;
     case 2u: goto l_arm_qc;
     case 4u: goto l_arm_qc_1;
@@ -954,15 +954,15 @@ l_capnp_8i:;
     r_9n.f1 = r_bs;
     r_vh_1 = r_9n;
     goto l_join_zt;
-l_arm_pk:;
-    struct s_i8_i8 r_fa = capnp_show_show_text_Text_push_last_number(a_3, ((u8 *)g_static_158), 13ull, (u64)r_uq);
-    r_vh_1 = r_fa;
+l_arm_ve:;
+    struct s_i8_i8 r_pn = capnp_show_show_text_Text_push_last_number(a_3, ((u8 *)g_static_168), 13ull, (u64)r_uq);
+    r_vh_1 = r_pn;
     goto l_join_zt;
 l_arm_aq:;
     switch (r_ne) {
-    case 0u: goto l_arm_28;
+    case 0u: goto l_arm_4x;
     case 2u: goto l_arm_88;
-    case 1u: { r_ad = 8ull; r_8o = ((u8 *)g_static_165); goto l_capnp_6t; }
+    case 1u: { r_ad = 8ull; r_8o = ((u8 *)g_static_175); goto l_capnp_6t; }
     case 3u: goto l_arm_h9;
     case 4u: goto l_arm_h9_1;
     case 7u: goto l_arm_h9_2;
@@ -970,14 +970,14 @@ l_arm_aq:;
     case 6u: goto l_arm_h9_2;
     default: goto l_noarm_e1_1;
     }
-l_arm_28:;
-    struct s_i8_i8 r_tx = capnp_show_show_text_Text_push_last_number(a_3, ((u8 *)g_static_159), 7ull, (u64)r_uq_1);
-    r_vh_1 = r_tx;
+l_arm_4x:;
+    struct s_i8_i8 r_zd = capnp_show_show_text_Text_push_last_number(a_3, ((u8 *)g_static_169), 7ull, (u64)r_uq_1);
+    r_vh_1 = r_zd;
     goto l_join_zt;
 l_arm_88:;
-    u64 a_f1 = umin64(r_38_5, ((u64)(r_38_6 << 3ull) & 0x7fffffff8ull));
+    u64 a_f1 = umin64(r_38_1, ((u64)(r_38_2 << 3ull) & 0x7fffffff8ull));
     r_ud = away(r_xw, a_f1);
-    a_5j = umin64((r_38_5 - a_f1), (u64)r_uq_1);
+    a_5j = umin64((r_38_1 - a_f1), (u64)r_uq_1);
     r_qh = (a_5j == 0ull);
     if (r_qh) goto l_arm_s4;
     r_qd = (a_5j + 0xffffffffffffffffull);
@@ -985,7 +985,7 @@ l_arm_88:;
     memset(slot_1, 0u, 24);
     core_str_utf8_from_utf8(slot_1, r_ud, r_qd);
     r_xw_1 = ldp((slot_1 + 8));
-    r_38_9 = ld64((slot_1 + 16));
+    r_38_3 = ld64((slot_1 + 16));
     if (!(ld8(slot_1) == 0u)) goto l_arm_s4;
     if (r_qd == 0ull) goto l_arm_m3;
     r_ux = 0u;
@@ -994,14 +994,14 @@ l_arm_88:;
 l_loop_2r:;
     u64 r_36 = (r_dq + 1ull);
     if (r_36 == r_qd) goto l_arm_m3;
-    r_ux = r_47_2;
+    r_ux = r_47;
     r_dq = r_36;
 l_join_1e:;
-    r_47_2 = ld8(away(r_ud, r_dq));
-    if (!(r_47_2 < 32u)) { r_17 = 0u; goto l_capnp_fz; }
-    r_17 = (u8)((u8)(r_47_2 != 13u) & (u8)((u8)(r_47_2 + 245u) < 254u));
+    r_47 = ld8(away(r_ud, r_dq));
+    if (!(r_47 < 32u)) { r_17 = 0u; goto l_capnp_fz; }
+    r_17 = (u8)((u8)(r_47 != 13u) & (u8)((u8)(r_47 + 245u) < 254u));
 l_capnp_fz:;
-    if ((u8)((u8)(u8)((u8)(r_ux == 194u) & (u8)(r_47_2 < 160u)) | (u8)(u8)((u8)(r_47_2 == 127u) | (u8)r_17))) goto l_arm_s4;
+    if ((u8)((u8)(u8)((u8)(r_ux == 194u) & (u8)(r_47 < 160u)) | (u8)(u8)((u8)(r_47 == 127u) | (u8)r_17))) goto l_arm_s4;
     goto l_loop_2r;
 l_arm_m3:;
     r_52_5 = ld64(r_rq);
@@ -1015,20 +1015,20 @@ l_arm_m3:;
 l_join_me:;
     r_xe = (r_nq + 7ull);
     r_fx_3 = ldp(a_3);
-    r_2b_5 = away(r_fx_3, r_nq);
-    if (((u64)(uptr)r_2b_5 - (u64)(uptr)((u8 *)g_static_160)) < 7ull) { r_y3 = 0ull; goto l_join_f6; }
-    mv7(r_2b_5, ((u8 *)g_static_160));
+    r_2b_2 = away(r_fx_3, r_nq);
+    if (((u64)(uptr)r_2b_2 - (u64)(uptr)((u8 *)g_static_170)) < 7ull) { r_a6 = 0ull; goto l_join_ht; }
+    mv7(r_2b_2, ((u8 *)g_static_170));
     goto l_arm_61;
-l_join_f6:;
-    st8((r_2b_5 + (i64)(r_y3)), ld8((((u8 *)g_static_160) + (i64)(r_y3))));
-    u64 r_c4_3 = (r_y3 + 1ull);
-    if (!(r_c4_3 == 7ull)) { r_y3 = r_c4_3; goto l_join_f6; }
+l_join_ht:;
+    st8((r_2b_2 + (i64)(r_a6)), ld8((((u8 *)g_static_170) + (i64)(r_a6))));
+    u64 r_c4_1 = (r_a6 + 1ull);
+    if (!(r_c4_1 == 7ull)) { r_a6 = r_c4_1; goto l_join_ht; }
 l_arm_61:;
     stp(a_3, r_fx_3);
     st64(r_rq, r_xe);
     st64(r_08_1, r_0s);
-    r_z6_1 = capnp_show_show_text_Text_push_quoted(a_3, r_xw_1, r_38_9);
-    if (!(r_z6_1.f0 == 0u)) goto l_arm_21_1;
+    r_z6 = capnp_show_show_text_Text_push_quoted(a_3, r_xw_1, r_38_3);
+    if (!(r_z6.f0 == 0u)) goto l_arm_21_1;
     r_52_7 = ld64(r_rq);
     if (r_52_7 > 0x3ffffbfull) { r_bs_1 = 1u; r_77_1 = 0u; goto l_capnp_8i_1; }
     u64 r_52_8 = ld64(r_08_1);
@@ -1048,7 +1048,7 @@ l_join_n2_1:;
     goto l_capnp_8i_1;
 l_arm_21_1:;
     r_bs_1 = 1u;
-    r_77_1 = r_z6_1.f1;
+    r_77_1 = r_z6.f1;
     goto l_capnp_8i_1;
 l_arm_s4:;
     r_52_9 = ld64(r_rq);
@@ -1062,14 +1062,14 @@ l_arm_s4:;
 l_join_k6:;
     r_wr = (r_9w + 9ull);
     r_fx_5 = ldp(a_3);
-    r_2b_7 = away(r_fx_5, r_9w);
-    if (((u64)(uptr)r_2b_7 - (u64)(uptr)((u8 *)g_static_162)) < 9ull) { r_pk = 0ull; goto l_join_1p; }
-    mv9(r_2b_7, ((u8 *)g_static_162));
+    r_2b_3 = away(r_fx_5, r_9w);
+    if (((u64)(uptr)r_2b_3 - (u64)(uptr)((u8 *)g_static_172)) < 9ull) { r_h9 = 0ull; goto l_join_9c; }
+    mv9(r_2b_3, ((u8 *)g_static_172));
     goto l_arm_um;
-l_join_1p:;
-    st8((r_2b_7 + (i64)(r_pk)), ld8((((u8 *)g_static_162) + (i64)(r_pk))));
-    u64 r_c4_4 = (r_pk + 1ull);
-    if (!(r_c4_4 == 9ull)) { r_pk = r_c4_4; goto l_join_1p; }
+l_join_9c:;
+    st8((r_2b_3 + (i64)(r_h9)), ld8((((u8 *)g_static_172) + (i64)(r_h9))));
+    u64 r_c4_2 = (r_h9 + 1ull);
+    if (!(r_c4_2 == 9ull)) { r_h9 = r_c4_2; goto l_join_9c; }
 l_arm_um:;
     stp(a_3, r_fx_5);
     st64(r_rq, r_wr);
@@ -1078,24 +1078,24 @@ l_arm_um:;
     r_x9 = r_fx_5;
     r_tc = r_wv;
     r_wl = r_wr;
-    r_uz_1 = r_ud;
+    r_uz = r_ud;
     r_eu = a_5j;
 l_join_kl:;
     a_3q = umin64(r_eu, 512ull);
     memset(slot_1, 0u, 1024);
     r_pt = 0ull;
 l_join_jf:;
-    u8 r_47_5 = ld8((r_uz_1 + (i64)(r_pt)));
-    u8 *r_a7_5 = (slot_1 + (i64)((u64)(r_pt << 1ull)));
-    st8(r_a7_5, ld8((((u8 *)g_static_117) + (i64)((u64)(u8)((u32)r_47_5 >> 4u)))));
-    st8((r_a7_5 + 1), ld8((((u8 *)g_static_117) + (i64)((u64)(u8)(r_47_5 & 15u)))));
-    u64 r_c4_5 = (r_pt + 1ull);
-    if (!(r_c4_5 == a_3q)) { r_pt = r_c4_5; goto l_join_jf; }
+    u8 r_47_1 = ld8((r_uz + (i64)(r_pt)));
+    u8 *r_a7 = (slot_1 + (i64)((u64)(r_pt << 1ull)));
+    st8(r_a7, ld8((((u8 *)g_static_127) + (i64)((u64)(u8)((u32)r_47_1 >> 4u)))));
+    st8((r_a7 + 1), ld8((((u8 *)g_static_127) + (i64)((u64)(u8)(r_47_1 & 15u)))));
+    u64 r_c4_3 = (r_pt + 1ull);
+    if (!(r_c4_3 == a_3q)) { r_pt = r_c4_3; goto l_join_jf; }
     r_yb = (u64)(a_3q << 1ull);
     if ((r_wl > 0x3ffffc0ull) ? 1u : ((0x3ffffc0ull - r_wl) < r_yb)) { r_2g = 0u; goto l_arm_8g; }
     if (!(r_yb > (r_tc - r_wl))) { r_wy = r_x9; r_2n = r_tc; r_wj = r_wl; goto l_arm_nw; }
-    u8 r_c4_6 = std_alloc_vec_Vec_grow_amortized_9634afabedddd7ee(a_3, r_yb);
-    if (!r_c4_6) { r_2g = 1u; goto l_arm_8g; }
+    u8 r_c4_4 = std_alloc_vec_Vec_grow_amortized_9634afabedddd7ee(a_3, r_yb);
+    if (!r_c4_4) { r_2g = 1u; goto l_arm_8g; }
     r_wy = ldp(a_3);
     r_2n = ld64(r_08_1);
     r_wj = ld64(r_rq);
@@ -1105,41 +1105,41 @@ l_arm_nw:;
     stp(a_3, r_wy);
     st64(r_rq, r_5q);
     st64(r_08_1, r_2n);
-    u64 r_nr_1 = (r_eu - a_3q);
-    if (r_nr_1 == 0ull) { r_aq = r_wy; r_9p = r_2n; r_9e = r_5q; goto l_arm_06; }
+    u64 r_nr = (r_eu - a_3q);
+    if (r_nr == 0ull) { r_aq = r_wy; r_9p = r_2n; r_9e = r_5q; goto l_arm_06; }
     u8 *r_1 = r_wy;
     u64 r_2 = r_2n;
     u64 r_3 = r_5q;
-    u8 *r_4 = away(r_uz_1, a_3q);
-    u64 r_5 = r_nr_1;
+    u8 *r_4 = away(r_uz, a_3q);
+    u64 r_5 = r_nr;
     r_x9 = r_1;
     r_tc = r_2;
     r_wl = r_3;
-    r_uz_1 = r_4;
+    r_uz = r_4;
     r_eu = r_5;
     goto l_join_kl;
 l_arm_06:;
     if (r_9e > 0x3ffffbeull) { r_bs_1 = 1u; r_77_1 = 0u; goto l_capnp_8i_1; }
-    if (!((r_9p - r_9e) < 2ull)) { r_4d = r_aq; r_pn = r_9p; r_i5 = r_9e; goto l_join_xr; }
+    if (!((r_9p - r_9e) < 2ull)) { r_9v = r_aq; r_nc = r_9p; r_4c = r_9e; goto l_join_i7; }
     u8 r_y4 = std_alloc_vec_Vec_grow_amortized_9634afabedddd7ee(a_3, 2ull);
     if (!r_y4) { r_bs_1 = 1u; r_77_1 = 1u; goto l_capnp_8i_1; }
-    r_4d = ldp(a_3);
-    r_pn = ld64(r_08_1);
-    r_i5 = ld64(r_rq);
-l_join_xr:;
-    r_x4 = (r_i5 + 2ull);
-    r_2b_9 = away(r_4d, r_i5);
-    if (((u64)(uptr)r_2b_9 - (u64)(uptr)((u8 *)g_static_163)) < 2ull) { r_qz = 0ull; goto l_join_6w; }
-    st16(r_2b_9, 32034u);
+    r_9v = ldp(a_3);
+    r_nc = ld64(r_08_1);
+    r_4c = ld64(r_rq);
+l_join_i7:;
+    r_x4 = (r_4c + 2ull);
+    r_2b_4 = away(r_9v, r_4c);
+    if (((u64)(uptr)r_2b_4 - (u64)(uptr)((u8 *)g_static_173)) < 2ull) { r_cr = 0ull; goto l_join_m1; }
+    st16(r_2b_4, 32034u);
     goto l_core_ga;
-l_join_6w:;
-    st8((r_2b_9 + (i64)(r_qz)), ld8((((u8 *)g_static_163) + (i64)(r_qz))));
-    u64 r_c4_7 = (r_qz + 1ull);
-    if (!(r_c4_7 == 2ull)) { r_qz = r_c4_7; goto l_join_6w; }
+l_join_m1:;
+    st8((r_2b_4 + (i64)(r_cr)), ld8((((u8 *)g_static_173) + (i64)(r_cr))));
+    u64 r_c4_5 = (r_cr + 1ull);
+    if (!(r_c4_5 == 2ull)) { r_cr = r_c4_5; goto l_join_m1; }
 l_core_ga:;
-    stp(a_3, r_4d);
+    stp(a_3, r_9v);
     st64(r_rq, r_x4);
-    st64(r_08_1, r_pn);
+    st64(r_08_1, r_nc);
     r_bs_1 = 0u;
     r_77_1 = 0u;
     goto l_capnp_8i_1;
@@ -1155,41 +1155,41 @@ l_capnp_8i_1:;
     goto l_join_zt;
 l_arm_h9:;
     r_ad = 7ull;
-    r_8o = ((u8 *)g_static_166);
+    r_8o = ((u8 *)g_static_176);
     goto l_capnp_6t;
 l_arm_h9_1:;
     r_ad = 7ull;
-    r_8o = ((u8 *)g_static_167);
+    r_8o = ((u8 *)g_static_177);
     goto l_capnp_6t;
 l_arm_h9_2:;
     r_ad = 7ull;
-    r_8o = ((u8 *)g_static_168);
+    r_8o = ((u8 *)g_static_178);
 l_capnp_6t:;
     r_52_11 = ld64(r_rq);
     if ((r_52_11 > 0x3ffffc0ull) ? 1u : ((0x3ffffc0ull - r_52_11) < r_ad)) { r_bs_2 = 0u; r_77_2 = 1u; goto l_capnp_8i_2; }
     u64 r_52_12 = ld64(r_08_1);
     if (!(r_ad > (r_52_12 - r_52_11))) { r_bu = r_52_12; r_tk = r_52_11; goto l_join_pq; }
-    u8 r_c4_8 = std_alloc_vec_Vec_grow_amortized_9634afabedddd7ee(a_3, r_ad);
-    if (!r_c4_8) { r_bs_2 = 1u; r_77_2 = 1u; goto l_capnp_8i_2; }
+    u8 r_c4_6 = std_alloc_vec_Vec_grow_amortized_9634afabedddd7ee(a_3, r_ad);
+    if (!r_c4_6) { r_bs_2 = 1u; r_77_2 = 1u; goto l_capnp_8i_2; }
     r_bu = ld64(r_08_1);
     r_tk = ld64(r_rq);
 l_join_pq:;
     r_5q_1 = (r_tk + r_ad);
     r_fx_6 = ldp(a_3);
-    r_2b_10 = away(r_fx_6, r_tk);
-    if (((u64)(uptr)r_2b_10 - (u64)(uptr)r_8o) < r_ad) { r_il = 0ull; goto l_join_fh; }
-    memcpy_or_none(r_2b_10, r_8o, r_ad);
+    r_2b_5 = away(r_fx_6, r_tk);
+    if (((u64)(uptr)r_2b_5 - (u64)(uptr)r_8o) < r_ad) { r_il = 0ull; goto l_join_fh; }
+    memcpy_or_none(r_2b_5, r_8o, r_ad);
     goto l_arm_dd;
 l_join_fh:;
-    st8((r_2b_10 + (i64)(r_il)), ld8((r_8o + (i64)(r_il))));
-    u64 r_c4_9 = (r_il + 1ull);
-    if (!(r_c4_9 == r_ad)) { r_il = r_c4_9; goto l_join_fh; }
+    st8((r_2b_5 + (i64)(r_il)), ld8((r_8o + (i64)(r_il))));
+    u64 r_c4_7 = (r_il + 1ull);
+    if (!(r_c4_7 == r_ad)) { r_il = r_c4_7; goto l_join_fh; }
 l_arm_dd:;
     stp(a_3, r_fx_6);
     st64(r_rq, r_5q_1);
     st64(r_08_1, r_bu);
     if (r_uq_1 == 0u) { r_aq_1 = r_5q_1; goto l_arm_06_1; }
-    r_gw_1 = (u64)(r_38_5 >> 3ull);
+    r_gw = (u64)(r_38_1 >> 3ull);
     r_ci = 0u;
     goto l_join_fo;
 l_loop_q6:;
@@ -1239,9 +1239,9 @@ l_arm_fo:;
 l_noarm_e1_2:;
     UNREACHABLE();
 l_capnp_k6:;
-    r_24_4 = (u64)uadd_sat32(r_st, r_wt);
-    if (!(r_gw_1 > r_24_4)) { r_pv = 0ull; goto l_capnp_pd; }
-    r_pv = ld64(away(r_xw, (u64)(r_24_4 << 3ull)));
+    r_24_2 = (u64)uadd_sat32(r_st, r_wt);
+    if (!(r_gw > r_24_2)) { r_pv = 0ull; goto l_capnp_pd; }
+    r_pv = ld64(away(r_xw, (u64)(r_24_2 << 3ull)));
 l_capnp_pd:;
     switch (r_ne) {
     case 1u: goto l_arm_34;
@@ -1336,14 +1336,14 @@ l_arm_06_1:;
 l_join_p3:;
     r_x4_1 = (r_54 + 2ull);
     r_fx_10 = ldp(a_3);
-    r_2b_15 = away(r_fx_10, r_54);
-    if (((u64)(uptr)r_2b_15 - (u64)(uptr)((u8 *)g_static_164)) < 2ull) { r_3f = 0ull; goto l_join_tg; }
-    st16(r_2b_15, 32093u);
+    r_2b_6 = away(r_fx_10, r_54);
+    if (((u64)(uptr)r_2b_6 - (u64)(uptr)((u8 *)g_static_174)) < 2ull) { r_vl = 0ull; goto l_join_l2; }
+    st16(r_2b_6, 32093u);
     goto l_core_ga_1;
-l_join_tg:;
-    st8((r_2b_15 + (i64)(r_3f)), ld8((((u8 *)g_static_164) + (i64)(r_3f))));
-    u64 r_c4_11 = (r_3f + 1ull);
-    if (!(r_c4_11 == 2ull)) { r_3f = r_c4_11; goto l_join_tg; }
+l_join_l2:;
+    st8((r_2b_6 + (i64)(r_vl)), ld8((((u8 *)g_static_174) + (i64)(r_vl))));
+    u64 r_c4_8 = (r_vl + 1ull);
+    if (!(r_c4_8 == 2ull)) { r_vl = r_c4_8; goto l_join_l2; }
 l_core_ga_1:;
     stp(a_3, r_fx_10);
     st64(r_rq, r_x4_1);
@@ -1362,9 +1362,9 @@ l_noarm_e1_1:;
 l_arm_qc:;
     mv16((slot_2 + 8), slot_4);
     st64(slot_2, r_eg);
-    st64((slot_2 + 24), r_38_4);
+    st64((slot_2 + 24), r_38);
     stp((slot_2 + 32), r_xw);
-    st64((slot_2 + 40), r_38_5);
+    st64((slot_2 + 40), r_38_1);
     st32((slot_2 + 48), r_wt);
     st32((slot_2 + 52), 0u);
     st32((slot_2 + 56), ((r_5k_2 == 0x80000000u) ? 0x80000000u : (r_5k_2 + 0xffffffffu)));
@@ -1374,9 +1374,9 @@ l_arm_qc:;
 l_arm_qc_1:;
     mv16((slot_3 + 8), slot_4);
     st64(slot_3, r_eg);
-    st64((slot_3 + 24), r_38_4);
+    st64((slot_3 + 24), r_38);
     stp((slot_3 + 32), r_xw);
-    st64((slot_3 + 40), r_38_5);
+    st64((slot_3 + 40), r_38_1);
     st32((slot_3 + 48), r_wt);
     st32((slot_3 + 52), 0u);
     st32((slot_3 + 56), ((r_5k_2 == 0x80000000u) ? 0x80000000u : (r_5k_2 + 0xffffffffu)));
@@ -1384,61 +1384,61 @@ l_arm_qc_1:;
     r_vh_1 = r_kc;
     goto l_join_zt;
 l_arm_pg:;
-    r_mx_2 = ((r_5k_2 == 0x80000000u) ? 0x80000000u : (r_5k_2 + 0xffffffffu));
+    r_mx = ((r_5k_2 == 0x80000000u) ? 0x80000000u : (r_5k_2 + 0xffffffffu));
     st64((slot_1 + 56), 0ull);
-    r_kp_6 = capnp_show_show_text_Text_push_sizes(a_3, t_t8, r_gr);
-    if (!(r_kp_6.f0 == 0u)) goto l_arm_rc;
-    if ((r_5d | r_az) == 0u) goto l_then_6f;
-    goto l_join_7b;
+    r_kp = capnp_show_show_text_Text_push_sizes(a_3, t_t8, r_gr);
+    if (!(r_kp.f0 == 0u)) goto l_arm_rc;
+    if ((r_5d | r_az) == 0u) goto l_then_ru;
+    goto l_join_ii;
 l_arm_rc:;
     struct s_i8_i8 r_fj = (struct s_i8_i8){ 1u, 0u };
-    r_fj.f1 = r_kp_6.f1;
-    r_a8_5 = r_fj;
+    r_fj.f1 = r_kp.f1;
+    r_a8_1 = r_fj;
     r_g7_1 = 1u;
     goto l_capnp_mf_1;
-l_then_6f:;
-    struct s_i8_i8 r_8v = capnp_show_show_text_Text_push_last_number(a_3, ((u8 *)g_static_177), 8ull, (u64)r_uq_1);
-    r_a8_5 = r_8v;
-    r_g7_1 = r_8v.f0;
+l_then_ru:;
+    struct s_i8_i8 r_r8 = capnp_show_show_text_Text_push_last_number(a_3, ((u8 *)g_static_187), 8ull, (u64)r_uq_1);
+    r_a8_1 = r_r8;
+    r_g7_1 = r_r8.f0;
     goto l_capnp_mf_1;
-l_join_7b:;
-    r_xx = capnp_show_show_text_Text_push(a_3, ((u8 *)g_static_174), 11ull);
-    if (!(r_xx.f0 == 0u)) goto l_arm_rc_1;
+l_join_ii:;
+    r_d3 = capnp_show_show_text_Text_push(a_3, ((u8 *)g_static_184), 11ull);
+    if (!(r_d3.f0 == 0u)) goto l_arm_rc_1;
     st64(slot_1, r_eg);
     mv16((slot_1 + 8), slot_4);
-    st64((slot_1 + 24), r_38_4);
+    st64((slot_1 + 24), r_38);
     stp((slot_1 + 32), r_xw);
-    st64((slot_1 + 40), r_38_5);
+    st64((slot_1 + 40), r_38_1);
     st32((slot_1 + 48), r_wt);
     st32((slot_1 + 52), 0u);
-    st32((slot_1 + 56), r_mx_2);
+    st32((slot_1 + 56), r_mx);
     r_fg = capnp_show_show_json_write_struct_elements_5ccc1be374b2e488(slot_1, t_t8, r_gr, r_uq_1, a_2, a_3);
-    if (r_fg.f0 == 0u) goto l_arm_dk;
+    if (r_fg.f0 == 0u) goto l_arm_4d;
     goto l_arm_rc_2;
 l_arm_rc_1:;
     struct s_i8_i8 r_fj_1 = (struct s_i8_i8){ 1u, 0u };
-    r_fj_1.f1 = r_xx.f1;
-    r_a8_5 = r_fj_1;
+    r_fj_1.f1 = r_d3.f1;
+    r_a8_1 = r_fj_1;
     r_g7_1 = 1u;
     goto l_capnp_mf_1;
-l_arm_dk:;
-    struct s_i8_i8 r_s9 = capnp_show_show_text_Text_push(a_3, ((u8 *)g_static_164), 2ull);
-    r_a8_5 = r_s9;
-    r_g7_1 = r_s9.f0;
+l_arm_4d:;
+    struct s_i8_i8 r_c8 = capnp_show_show_text_Text_push(a_3, ((u8 *)g_static_174), 2ull);
+    r_a8_1 = r_c8;
+    r_g7_1 = r_c8.f0;
     goto l_capnp_mf_1;
 l_arm_rc_2:;
     struct s_i8_i8 r_fj_2 = (struct s_i8_i8){ 1u, 0u };
     r_fj_2.f1 = r_fg.f1;
-    r_a8_5 = r_fj_2;
+    r_a8_1 = r_fj_2;
     r_g7_1 = 1u;
 l_capnp_mf_1:;
     struct s_i8_i8 r_3j_4 = (struct s_i8_i8){ 0 };
     r_3j_4.f0 = r_g7_1;
     struct s_i8_i8 r_9n_4 = r_3j_4;
-    r_9n_4.f1 = r_a8_5.f1;
+    r_9n_4.f1 = r_a8_1.f1;
     r_vh_1 = r_9n_4;
 l_join_zt:;
-    r_a8_2 = r_vh_1;
+    r_a8 = r_vh_1;
     r_g7 = r_vh_1.f0;
     goto l_capnp_mf;
 l_noarm_e1:;
@@ -1447,12 +1447,12 @@ l_capnp_mf:;
     struct s_i8_i8 r_3j_5 = (struct s_i8_i8){ 0 };
     r_3j_5.f0 = r_g7;
     struct s_i8_i8 r_9n_5 = r_3j_5;
-    r_9n_5.f1 = r_a8_2.f1;
+    r_9n_5.f1 = r_a8.f1;
     r_1j = r_9n_5;
     goto l_capnp_y9;
 l_switch_20:;
-    struct s_i8_i8 r_ml_1 = capnp_show_show_json_Json_write_refusal(a_3, ldp((((u8 *)switch_table_capnp_canon_inputs_report_refusal_32) + (i64)(8 * (u64)r_r5))), ld64((((u8 *)switch_table_capnp_canon_inputs_report_refusal_33) + (i64)(8 * (u64)r_r5))));
-    r_1j = r_ml_1;
+    struct s_i8_i8 r_ml = capnp_show_show_json_Json_write_refusal(a_3, ldp((((u8 *)switch_table_capnp_canon_inputs_report_refusal_32) + (i64)(8 * (u64)r_r5))), ld64((((u8 *)switch_table_capnp_canon_inputs_report_refusal_33) + (i64)(8 * (u64)r_r5))));
+    r_1j = r_ml;
     goto l_capnp_y9;
 l_capnp_oj:;
     r_fu = r_u1;
@@ -1503,8 +1503,8 @@ static struct s_i8_i8 capnp_show_show_json_Json_write_place(u8 *a_1, u8 *a_2, u6
     u64 r_54;
     u64 r_x4;
     u8 *r_fx_2;
-    u8 *r_2b_2;
-    u64 r_gg;
+    u8 *r_2b_1;
+    u64 r_eg;
     u8 r_fu;
     u8 r_vh;
     r_rq = away(a_1, 8ull);
@@ -1585,14 +1585,14 @@ l_arm_0y:;
 l_join_p3:;
     r_x4 = (r_54 + 2ull);
     r_fx_2 = ldp(a_1);
-    r_2b_2 = away(r_fx_2, r_54);
-    if (((u64)(uptr)r_2b_2 - (u64)(uptr)((u8 *)g_static_155)) < 2ull) { r_gg = 0ull; goto l_join_x0; }
-    st16(r_2b_2, 11357u);
+    r_2b_1 = away(r_fx_2, r_54);
+    if (((u64)(uptr)r_2b_1 - (u64)(uptr)((u8 *)g_static_165)) < 2ull) { r_eg = 0ull; goto l_join_4i; }
+    st16(r_2b_1, 11357u);
     goto l_core_x2;
-l_join_x0:;
-    st8((r_2b_2 + (i64)(r_gg)), ld8((((u8 *)g_static_155) + (i64)(r_gg))));
-    u64 r_c4_1 = (r_gg + 1ull);
-    if (!(r_c4_1 == 2ull)) { r_gg = r_c4_1; goto l_join_x0; }
+l_join_4i:;
+    st8((r_2b_1 + (i64)(r_eg)), ld8((((u8 *)g_static_165) + (i64)(r_eg))));
+    u64 r_c4_1 = (r_eg + 1ull);
+    if (!(r_c4_1 == 2ull)) { r_eg = r_c4_1; goto l_join_4i; }
 l_core_x2:;
     stp(a_1, r_fx_2);
     st64(r_rq, r_x4);
@@ -1634,38 +1634,38 @@ static void capnp_show_show_objects_read_object_5ccc1be374b2e488(u8 *a_1, u8 *a_
     u64 r_7a;
     u64 r_0m;
     u64 r_v8;
-    u64 r_t9_1;
+    u64 r_t9;
     u64 r_ep;
     u64 r_y6;
     u64 r_lc_1;
-    u8 *r_rq_1;
-    u64 r_52_1;
+    u8 *r_rq;
+    u64 r_52;
     u64 r_ep_1;
     u8 switch_wl;
     u64 r_ij;
-    u64 r_c4_1;
-    u64 r_24_2;
-    u64 r_gw_2;
-    u8 *r_rq_2;
-    u64 r_52_2;
+    u64 r_c4;
+    u64 r_24_1;
+    u64 r_gw_1;
+    u8 *r_rq_1;
+    u64 r_52_1;
     u64 r_eh;
     u32 t_c8;
-    u32 r_12_1;
-    u32 r_az_1;
+    u32 r_12;
+    u32 r_az;
     u32 r_68;
-    u64 r_c0_1;
+    u64 r_c0;
+    u8 *r_rq_2;
+    u64 r_52_2;
+    u32 r_12_1;
     u8 *r_rq_3;
     u64 r_52_3;
     u32 r_12_2;
     u8 *r_rq_4;
     u64 r_52_4;
     u32 r_12_3;
+    u64 r_c6;
     u8 *r_rq_5;
     u64 r_52_5;
-    u32 r_12_4;
-    u64 r_c6;
-    u8 *r_rq_6;
-    u64 r_52_6;
     u64 r_r4;
     u64 r_9r;
     u64 r_xy;
@@ -1721,15 +1721,15 @@ l_capnp_i5:;
     r_7a = r_qw;
     r_0m = r_qw_2;
     r_v8 = r_qw_1;
-    r_t9_1 = t_al;
+    r_t9 = t_al;
     goto l_arm_nn;
 l_capnp_bt:;
     capnp_objects_source_follow_far_5ccc1be374b2e488(slot_1, r_rv, r_qw_2, a_3);
-    u64 r_38_1 = ld64((slot_1 + 16));
-    u64 r_38_2 = ld64((slot_1 + 8));
-    if (ld8(slot_1) == 0u) { r_7d = ld32((slot_1 + 44)); r_2w = ld32((slot_1 + 40)); r_7a = r_38_1; r_0m = r_38_2; r_v8 = ld64((slot_1 + 32)); r_t9_1 = ld64((slot_1 + 24)); goto l_arm_nn; }
-    r_9r = r_38_1;
-    r_xy = r_38_2;
+    u64 r_38 = ld64((slot_1 + 16));
+    u64 r_38_1 = ld64((slot_1 + 8));
+    if (ld8(slot_1) == 0u) { r_7d = ld32((slot_1 + 44)); r_2w = ld32((slot_1 + 40)); r_7a = r_38; r_0m = r_38_1; r_v8 = ld64((slot_1 + 32)); r_t9 = ld64((slot_1 + 24)); goto l_arm_nn; }
+    r_9r = r_38;
+    r_xy = r_38_1;
     goto l_arm_i4;
 l_arm_nn:;
     switch ((u8)((u8)r_0m & 3u)) {
@@ -1747,13 +1747,13 @@ l_arm_xn:;
     if (((u64)(r_v8 >> 3ull) & 0xffffffffull) < (r_lc_1 + (u64)r_2w)) { r_6f = 0ull; r_3l = 0ull; r_rk = 0u; r_7q = 0u; r_yr = 0ull; r_c1 = 1ull; r_g3 = 23u; r_vx = 0u; r_7j = 0u; r_p8 = 0u; goto l_capnp_6f; }
     if (t_pa) goto l_arm_mf;
     if (!(ld8(a_3) == 1u)) goto l_arm_mf;
-    r_rq_1 = away(a_3, 8ull);
-    r_52_1 = ld64(r_rq_1);
-    if (r_52_1 < r_lc_1) { r_6f = 0ull; r_3l = 0ull; r_rk = 0u; r_7q = 0u; r_yr = 0ull; r_c1 = 1ull; r_g3 = 30u; r_vx = 0u; r_7j = 0u; r_p8 = 0u; goto l_capnp_6f; }
+    r_rq = away(a_3, 8ull);
+    r_52 = ld64(r_rq);
+    if (r_52 < r_lc_1) { r_6f = 0ull; r_3l = 0ull; r_rk = 0u; r_7q = 0u; r_yr = 0ull; r_c1 = 1ull; r_g3 = 30u; r_vx = 0u; r_7j = 0u; r_p8 = 0u; goto l_capnp_6f; }
     st64(a_3, 1ull);
-    st64(r_rq_1, (r_52_1 - r_lc_1));
+    st64(r_rq, (r_52 - r_lc_1));
 l_arm_mf:;
-    r_6f = r_t9_1;
+    r_6f = r_t9;
     r_3l = r_v8;
     r_rk = r_2w;
     r_7q = r_7d;
@@ -1781,20 +1781,20 @@ l_arm_z2:;
     }
 l_arm_xd:;
     if ((i32)r_5k < (i32)1u) { r_6f = 0ull; r_3l = 0ull; r_rk = 0u; r_7q = 0u; r_yr = 0ull; r_c1 = 1ull; r_g3 = 26u; r_vx = 0u; r_7j = 0u; r_p8 = 0u; goto l_capnp_6f; }
-    r_c4_1 = (r_ij + 1ull);
-    r_24_2 = (u64)r_2w;
-    r_gw_2 = (u64)(r_v8 >> 3ull);
-    if ((r_gw_2 & 0xffffffffull) < (r_c4_1 + r_24_2)) { r_6f = 0ull; r_3l = 0ull; r_rk = 0u; r_7q = 0u; r_yr = 0ull; r_c1 = 1ull; r_g3 = 23u; r_vx = 0u; r_7j = 0u; r_p8 = 0u; goto l_capnp_6f; }
+    r_c4 = (r_ij + 1ull);
+    r_24_1 = (u64)r_2w;
+    r_gw_1 = (u64)(r_v8 >> 3ull);
+    if ((r_gw_1 & 0xffffffffull) < (r_c4 + r_24_1)) { r_6f = 0ull; r_3l = 0ull; r_rk = 0u; r_7q = 0u; r_yr = 0ull; r_c1 = 1ull; r_g3 = 23u; r_vx = 0u; r_7j = 0u; r_p8 = 0u; goto l_capnp_6f; }
     if (t_pa) goto l_arm_ga;
     if (!(ld8(a_3) == 1u)) goto l_arm_ga;
-    r_rq_2 = away(a_3, 8ull);
-    r_52_2 = ld64(r_rq_2);
-    if (!(r_52_2 > r_ij)) { r_6f = 0ull; r_3l = 0ull; r_rk = 0u; r_7q = 0u; r_yr = 0ull; r_c1 = 1ull; r_g3 = 30u; r_vx = 0u; r_7j = 0u; r_p8 = 0u; goto l_capnp_6f; }
+    r_rq_1 = away(a_3, 8ull);
+    r_52_1 = ld64(r_rq_1);
+    if (!(r_52_1 > r_ij)) { r_6f = 0ull; r_3l = 0ull; r_rk = 0u; r_7q = 0u; r_yr = 0ull; r_c1 = 1ull; r_g3 = 30u; r_vx = 0u; r_7j = 0u; r_p8 = 0u; goto l_capnp_6f; }
     st64(a_3, 1ull);
-    st64(r_rq_2, (r_52_2 - r_c4_1));
+    st64(r_rq_1, (r_52_1 - r_c4));
 l_arm_ga:;
-    if (!(r_gw_2 > r_24_2)) { r_eh = 0ull; goto l_join_qm; }
-    u64 r_qw_3 = ld64(away(((u8 *)(uptr)r_t9_1), (u64)(r_24_2 << 3ull)));
+    if (!(r_gw_1 > r_24_1)) { r_eh = 0ull; goto l_join_qm; }
+    u64 r_qw_3 = ld64(away(((u8 *)(uptr)r_t9), (u64)(r_24_1 << 3ull)));
     if ((r_qw_3 & 3ull) == 0ull) { r_eh = r_qw_3; goto l_join_qm; }
     r_6f = 0ull;
     r_3l = 0ull;
@@ -1809,20 +1809,20 @@ l_arm_ga:;
     goto l_capnp_6f;
 l_join_qm:;
     t_c8 = (u32)((u32)r_eh >> 2u);
-    r_12_1 = (u32)(u64)(r_eh >> 48ull);
-    r_az_1 = ((u32)(u64)(r_eh >> 32ull) & 65535u);
-    r_68 = (r_az_1 + r_12_1);
-    r_c0_1 = (u64)t_c8;
-    if (r_ij < ((u64)r_68 * r_c0_1)) { r_6f = 0ull; r_3l = 0ull; r_rk = 0u; r_7q = 0u; r_yr = 0ull; r_c1 = 1ull; r_g3 = 10u; r_vx = 0u; r_7j = 0u; r_p8 = 0u; goto l_capnp_6f; }
+    r_12 = (u32)(u64)(r_eh >> 48ull);
+    r_az = ((u32)(u64)(r_eh >> 32ull) & 65535u);
+    r_68 = (r_az + r_12);
+    r_c0 = (u64)t_c8;
+    if (r_ij < ((u64)r_68 * r_c0)) { r_6f = 0ull; r_3l = 0ull; r_rk = 0u; r_7q = 0u; r_yr = 0ull; r_c1 = 1ull; r_g3 = 10u; r_vx = 0u; r_7j = 0u; r_p8 = 0u; goto l_capnp_6f; }
     if ((u8)((u8)t_pa | (u8)(r_68 != 0u))) goto l_arm_o2;
     if (!(ld8(a_3) == 1u)) goto l_arm_o2;
-    r_rq_3 = away(a_3, 8ull);
-    r_52_3 = ld64(r_rq_3);
-    if (r_52_3 < r_c0_1) { r_6f = 0ull; r_3l = 0ull; r_rk = 0u; r_7q = 0u; r_yr = 0ull; r_c1 = 1ull; r_g3 = 30u; r_vx = 0u; r_7j = 0u; r_p8 = 0u; goto l_capnp_6f; }
+    r_rq_2 = away(a_3, 8ull);
+    r_52_2 = ld64(r_rq_2);
+    if (r_52_2 < r_c0) { r_6f = 0ull; r_3l = 0ull; r_rk = 0u; r_7q = 0u; r_yr = 0ull; r_c1 = 1ull; r_g3 = 30u; r_vx = 0u; r_7j = 0u; r_p8 = 0u; goto l_capnp_6f; }
     st64(a_3, 1ull);
-    st64(r_rq_3, (r_52_3 - r_c0_1));
+    st64(r_rq_2, (r_52_2 - r_c0));
 l_arm_o2:;
-    r_6f = r_t9_1;
+    r_6f = r_t9;
     r_3l = r_v8;
     r_rk = (r_2w + 1u);
     r_7q = 0u;
@@ -1830,21 +1830,21 @@ l_arm_o2:;
     r_c1 = 0ull;
     r_g3 = 5u;
     r_vx = 0u;
-    r_7j = ((u32)(r_12_1 << 16u) | r_az_1);
+    r_7j = ((u32)(r_12 << 16u) | r_az);
     r_p8 = t_c8;
     goto l_capnp_6f;
 l_arm_te:;
-    r_12_2 = (u32)r_ij;
+    r_12_1 = (u32)r_ij;
     if ((i32)r_5k < (i32)1u) { r_6f = 0ull; r_3l = 0ull; r_rk = 0u; r_7q = 0u; r_yr = 0ull; r_c1 = 1ull; r_g3 = 26u; r_vx = 0u; r_7j = 0u; r_p8 = 0u; goto l_capnp_6f; }
     if (((u64)(r_v8 >> 3ull) & 0xffffffffull) < (r_ij + (u64)r_2w)) { r_6f = 0ull; r_3l = 0ull; r_rk = 0u; r_7q = 0u; r_yr = 0ull; r_c1 = 1ull; r_g3 = 23u; r_vx = 0u; r_7j = 0u; r_p8 = 0u; goto l_capnp_6f; }
-    if (t_pa) { r_6f = r_t9_1; r_3l = r_v8; r_rk = r_2w; r_7q = r_7d; r_yr = r_7a; r_c1 = 0ull; r_g3 = 4u; r_vx = 0u; r_7j = r_12_2; r_p8 = 0u; goto l_capnp_6f; }
-    if (!(ld8(a_3) == 1u)) { r_6f = r_t9_1; r_3l = r_v8; r_rk = r_2w; r_7q = r_7d; r_yr = r_7a; r_c1 = 0ull; r_g3 = 4u; r_vx = 0u; r_7j = r_12_2; r_p8 = 0u; goto l_capnp_6f; }
-    r_rq_4 = away(a_3, 8ull);
-    r_52_4 = ld64(r_rq_4);
-    if (r_52_4 < r_ij) { r_6f = 0ull; r_3l = 0ull; r_rk = 0u; r_7q = 0u; r_yr = 0ull; r_c1 = 1ull; r_g3 = 30u; r_vx = 0u; r_7j = 0u; r_p8 = 0u; goto l_capnp_6f; }
+    if (t_pa) { r_6f = r_t9; r_3l = r_v8; r_rk = r_2w; r_7q = r_7d; r_yr = r_7a; r_c1 = 0ull; r_g3 = 4u; r_vx = 0u; r_7j = r_12_1; r_p8 = 0u; goto l_capnp_6f; }
+    if (!(ld8(a_3) == 1u)) { r_6f = r_t9; r_3l = r_v8; r_rk = r_2w; r_7q = r_7d; r_yr = r_7a; r_c1 = 0ull; r_g3 = 4u; r_vx = 0u; r_7j = r_12_1; r_p8 = 0u; goto l_capnp_6f; }
+    r_rq_3 = away(a_3, 8ull);
+    r_52_3 = ld64(r_rq_3);
+    if (r_52_3 < r_ij) { r_6f = 0ull; r_3l = 0ull; r_rk = 0u; r_7q = 0u; r_yr = 0ull; r_c1 = 1ull; r_g3 = 30u; r_vx = 0u; r_7j = 0u; r_p8 = 0u; goto l_capnp_6f; }
     st64(a_3, 1ull);
-    st64(r_rq_4, (r_52_4 - r_ij));
-    r_6f = r_t9_1;
+    st64(r_rq_3, (r_52_3 - r_ij));
+    r_6f = r_t9;
     r_3l = r_v8;
     r_rk = r_2w;
     r_7q = r_7d;
@@ -1852,21 +1852,21 @@ l_arm_te:;
     r_c1 = 0ull;
     r_g3 = 4u;
     r_vx = 0u;
-    r_7j = r_12_2;
+    r_7j = r_12_1;
     r_p8 = 0u;
     goto l_capnp_6f;
 l_arm_te_1:;
-    r_12_3 = (u32)r_ij;
+    r_12_2 = (u32)r_ij;
     if ((i32)r_5k < (i32)1u) { r_6f = 0ull; r_3l = 0ull; r_rk = 0u; r_7q = 0u; r_yr = 0ull; r_c1 = 1ull; r_g3 = 26u; r_vx = 0u; r_7j = 0u; r_p8 = 0u; goto l_capnp_6f; }
     if (((u64)(r_v8 >> 3ull) & 0xffffffffull) < (u64)r_2w) { r_6f = 0ull; r_3l = 0ull; r_rk = 0u; r_7q = 0u; r_yr = 0ull; r_c1 = 1ull; r_g3 = 23u; r_vx = 0u; r_7j = 0u; r_p8 = 0u; goto l_capnp_6f; }
-    if (t_pa) { r_6f = r_t9_1; r_3l = r_v8; r_rk = r_2w; r_7q = r_7d; r_yr = r_7a; r_c1 = 0ull; r_g3 = 3u; r_vx = 0u; r_7j = 0u; r_p8 = r_12_3; goto l_capnp_6f; }
-    if (!(ld8(a_3) == 1u)) { r_6f = r_t9_1; r_3l = r_v8; r_rk = r_2w; r_7q = r_7d; r_yr = r_7a; r_c1 = 0ull; r_g3 = 3u; r_vx = 0u; r_7j = 0u; r_p8 = r_12_3; goto l_capnp_6f; }
+    if (t_pa) { r_6f = r_t9; r_3l = r_v8; r_rk = r_2w; r_7q = r_7d; r_yr = r_7a; r_c1 = 0ull; r_g3 = 3u; r_vx = 0u; r_7j = 0u; r_p8 = r_12_2; goto l_capnp_6f; }
+    if (!(ld8(a_3) == 1u)) { r_6f = r_t9; r_3l = r_v8; r_rk = r_2w; r_7q = r_7d; r_yr = r_7a; r_c1 = 0ull; r_g3 = 3u; r_vx = 0u; r_7j = 0u; r_p8 = r_12_2; goto l_capnp_6f; }
     st64(a_3, 1ull);
-    r_rq_5 = away(a_3, 8ull);
-    r_52_5 = ld64(r_rq_5);
-    if (r_52_5 < r_ij) { r_6f = 0ull; r_3l = 0ull; r_rk = 0u; r_7q = 0u; r_yr = 0ull; r_c1 = 1ull; r_g3 = 30u; r_vx = 0u; r_7j = 0u; r_p8 = 0u; goto l_capnp_6f; }
-    st64(r_rq_5, (r_52_5 - r_ij));
-    r_6f = r_t9_1;
+    r_rq_4 = away(a_3, 8ull);
+    r_52_4 = ld64(r_rq_4);
+    if (r_52_4 < r_ij) { r_6f = 0ull; r_3l = 0ull; r_rk = 0u; r_7q = 0u; r_yr = 0ull; r_c1 = 1ull; r_g3 = 30u; r_vx = 0u; r_7j = 0u; r_p8 = 0u; goto l_capnp_6f; }
+    st64(r_rq_4, (r_52_4 - r_ij));
+    r_6f = r_t9;
     r_3l = r_v8;
     r_rk = r_2w;
     r_7q = r_7d;
@@ -1875,22 +1875,22 @@ l_arm_te_1:;
     r_g3 = 3u;
     r_vx = 0u;
     r_7j = 0u;
-    r_p8 = r_12_3;
+    r_p8 = r_12_2;
     goto l_capnp_6f;
 l_arm_te_2:;
-    r_12_4 = (u32)r_ij;
+    r_12_3 = (u32)r_ij;
     if ((i32)r_5k < (i32)1u) { r_6f = 0ull; r_3l = 0ull; r_rk = 0u; r_7q = 0u; r_yr = 0ull; r_c1 = 1ull; r_g3 = 26u; r_vx = 0u; r_7j = 0u; r_p8 = 0u; goto l_capnp_6f; }
     r_c6 = (u64)(((ld64(away(away(((u8 *)switch_table_capnp_show_show_objects_read_object_5ccc1_1b90c80b), 8 * (r_ep_1 & 7ull)), 0xfffffffffffffff8ull)) * r_ij) + 63ull) >> 6ull);
     if (((u64)(r_v8 >> 3ull) & 0xffffffffull) < (r_c6 + (u64)r_2w)) { r_6f = 0ull; r_3l = 0ull; r_rk = 0u; r_7q = 0u; r_yr = 0ull; r_c1 = 1ull; r_g3 = 23u; r_vx = 0u; r_7j = 0u; r_p8 = 0u; goto l_capnp_6f; }
     if (t_pa) goto l_arm_zg;
     if (!(ld8(a_3) == 1u)) goto l_arm_zg;
-    r_rq_6 = away(a_3, 8ull);
-    r_52_6 = ld64(r_rq_6);
-    if (r_52_6 < r_c6) { r_6f = 0ull; r_3l = 0ull; r_rk = 0u; r_7q = 0u; r_yr = 0ull; r_c1 = 1ull; r_g3 = 30u; r_vx = 0u; r_7j = 0u; r_p8 = 0u; goto l_capnp_6f; }
+    r_rq_5 = away(a_3, 8ull);
+    r_52_5 = ld64(r_rq_5);
+    if (r_52_5 < r_c6) { r_6f = 0ull; r_3l = 0ull; r_rk = 0u; r_7q = 0u; r_yr = 0ull; r_c1 = 1ull; r_g3 = 30u; r_vx = 0u; r_7j = 0u; r_p8 = 0u; goto l_capnp_6f; }
     st64(a_3, 1ull);
-    st64(r_rq_6, (r_52_6 - r_c6));
+    st64(r_rq_5, (r_52_5 - r_c6));
 l_arm_zg:;
-    r_6f = r_t9_1;
+    r_6f = r_t9;
     r_3l = r_v8;
     r_rk = r_2w;
     r_7q = r_7d;
@@ -1899,7 +1899,7 @@ l_arm_zg:;
     r_g3 = 3u;
     r_vx = 0u;
     r_7j = (u32)switch_wl;
-    r_p8 = r_12_4;
+    r_p8 = r_12_3;
     goto l_capnp_6f;
 l_arm_37:;
     u8 r_ml = ((r_0m & 0xffffffffull) != 3ull);
@@ -2038,7 +2038,7 @@ static struct s_i8_i8 capnp_show_show_text_Text_push_quoted(u8 *a_1, u8 *a_2, u6
     u64 r_9p;
     u64 r_w9;
     u64 r_5q;
-    u8 *r_2b_2;
+    u8 *r_2b;
     u64 r_il;
     u8 *r_fx_1;
     u64 r_kh;
@@ -2052,7 +2052,7 @@ static struct s_i8_i8 capnp_show_show_text_Text_push_quoted(u8 *a_1, u8 *a_2, u6
     u64 r_9p_1;
     u64 r_w9_1;
     u64 r_5q_1;
-    u8 *r_2b_5;
+    u8 *r_2b_2;
     u64 r_il_1;
     u8 *r_sv;
     u64 r_s2;
@@ -2118,12 +2118,12 @@ l_arm_07:;
 l_join_wm:;
     r_5q = (r_w9 + r_du);
     memset(r_rq, 0u, 16);
-    r_2b_2 = away(r_a6, r_w9);
-    if (((u64)(uptr)r_2b_2 - (u64)(uptr)r_vh_1) < r_du) { r_il = 0ull; goto l_join_fh; }
-    memmove_or_none(r_2b_2, r_vh_1, r_du);
+    r_2b = away(r_a6, r_w9);
+    if (((u64)(uptr)r_2b - (u64)(uptr)r_vh_1) < r_du) { r_il = 0ull; goto l_join_fh; }
+    memmove_or_none(r_2b, r_vh_1, r_du);
     goto l_arm_pd;
 l_join_fh:;
-    st8((r_2b_2 + (i64)(r_il)), ld8((r_vh_1 + (i64)(r_il))));
+    st8((r_2b + (i64)(r_il)), ld8((r_vh_1 + (i64)(r_il))));
     u64 r_36_1 = (r_il + 1ull);
     if (!(r_36_1 == r_du)) { r_il = r_36_1; goto l_join_fh; }
 l_arm_pd:;
@@ -2144,14 +2144,14 @@ l_join_kg:;
     st64(r_rq, r_x4);
     st64(r_08, r_kh);
     u64 r_c4_1 = (r_du + 1ull);
-    u8 *r_2b_4 = away(r_vh_1, r_c4_1);
-    u64 r_t9_3 = (r_f9 - r_c4_1);
-    if (r_t9_3 == 0ull) { r_y5 = r_fx_1; r_hx = r_kh; r_1o = r_x4; r_tl = 0ull; r_z3 = r_2b_4; goto l_after_07; }
+    u8 *r_2b_1 = away(r_vh_1, r_c4_1);
+    u64 r_t9 = (r_f9 - r_c4_1);
+    if (r_t9 == 0ull) { r_y5 = r_fx_1; r_hx = r_kh; r_1o = r_x4; r_tl = 0ull; r_z3 = r_2b_1; goto l_after_07; }
     r_bk = r_fx_1;
     r_pp = r_kh;
     r_pa = r_x4;
-    r_vh_1 = r_2b_4;
-    r_f9 = r_t9_3;
+    r_vh_1 = r_2b_1;
+    r_f9 = r_t9;
     goto l_join_qu;
 l_after_07:;
     if ((r_1o > 0x3ffffc0ull) ? 1u : ((0x3ffffc0ull - r_1o) < r_tl)) { r_fu = 0u; r_vh = 1u; goto l_return_4x; }
@@ -2164,12 +2164,12 @@ l_after_07:;
 l_join_wm_1:;
     r_5q_1 = (r_w9_1 + r_tl);
     memset(r_rq, 0u, 16);
-    r_2b_5 = away(r_a6_1, r_w9_1);
-    if (((u64)(uptr)r_2b_5 - (u64)(uptr)r_z3) < r_tl) { r_il_1 = 0ull; goto l_join_fh_1; }
-    memmove_or_none(r_2b_5, r_z3, r_tl);
+    r_2b_2 = away(r_a6_1, r_w9_1);
+    if (((u64)(uptr)r_2b_2 - (u64)(uptr)r_z3) < r_tl) { r_il_1 = 0ull; goto l_join_fh_1; }
+    memmove_or_none(r_2b_2, r_z3, r_tl);
     goto l_arm_or;
 l_join_fh_1:;
-    st8((r_2b_5 + (i64)(r_il_1)), ld8((r_z3 + (i64)(r_il_1))));
+    st8((r_2b_2 + (i64)(r_il_1)), ld8((r_z3 + (i64)(r_il_1))));
     u64 r_36_2 = (r_il_1 + 1ull);
     if (!(r_36_2 == r_tl)) { r_il_1 = r_36_2; goto l_join_fh_1; }
 l_arm_or:;
@@ -2213,7 +2213,7 @@ static struct s_i8_i8 capnp_show_show_json_write_sections_5ccc1be374b2e488(u8 *a
     u32 r_m2;
     u8 *r_ud;
     u64 a_5j;
-    u8 *r_rq_1;
+    u8 *r_rq;
     u64 r_52;
     u8 *r_08;
     u64 r_di;
@@ -2221,7 +2221,7 @@ static struct s_i8_i8 capnp_show_show_json_write_sections_5ccc1be374b2e488(u8 *a
     u64 r_5q;
     u8 *r_fx;
     u8 *r_2b;
-    u64 r_mp;
+    u64 r_yu;
     u8 *r_x9;
     u64 r_tc;
     u64 r_wl;
@@ -2236,12 +2236,12 @@ static struct s_i8_i8 capnp_show_show_json_write_sections_5ccc1be374b2e488(u8 *a
     u8 *r_as;
     u64 r_y3;
     u64 r_9f;
-    u8 *r_lo;
-    u64 r_3e;
-    u64 r_33;
+    u8 *r_x6;
+    u64 r_rp;
+    u64 r_3w;
     u64 r_x4;
-    u8 *r_2b_2;
-    u64 r_a6;
+    u8 *r_2b_1;
+    u64 r_js;
     u8 r_r4;
     u8 r_9r;
     struct s_i8_i8 r_xx;
@@ -2257,8 +2257,8 @@ static struct s_i8_i8 capnp_show_show_json_write_sections_5ccc1be374b2e488(u8 *a
     u64 a_f1 = umin64(r_qw_1, (u64)((u64)r_5k << 3ull));
     r_ud = away(r_rv, a_f1);
     a_5j = umin64((r_qw_1 - a_f1), (u64)(u32)(r_m2 << 3u));
-    r_rq_1 = away(a_5, 8ull);
-    r_52 = ld64(r_rq_1);
+    r_rq = away(a_5, 8ull);
+    r_52 = ld64(r_rq);
     if (r_52 > 0x3ffffb8ull) { r_9r = 0u; goto l_arm_f3; }
     r_08 = away(a_5, 16ull);
     u64 r_52_1 = ld64(r_08);
@@ -2266,21 +2266,21 @@ static struct s_i8_i8 capnp_show_show_json_write_sections_5ccc1be374b2e488(u8 *a
     u8 r_q2 = std_alloc_vec_Vec_grow_amortized_9634afabedddd7ee(a_5, 8ull);
     if (!r_q2) { r_9r = 1u; goto l_arm_f3; }
     r_di = ld64(r_08);
-    r_ju = ld64(r_rq_1);
+    r_ju = ld64(r_rq);
 l_join_sq:;
     r_5q = (r_ju + 8ull);
     r_fx = ldp(a_5);
     r_2b = away(r_fx, r_ju);
-    if (((u64)(uptr)r_2b - (u64)(uptr)((u8 *)g_static_169)) < 8ull) { r_mp = 0ull; goto l_join_or; }
+    if (((u64)(uptr)r_2b - (u64)(uptr)((u8 *)g_static_179)) < 8ull) { r_yu = 0ull; goto l_join_21; }
     st64(r_2b, 0x223a226174616422ull);
     goto l_arm_zr;
-l_join_or:;
-    st8((r_2b + (i64)(r_mp)), ld8((((u8 *)g_static_169) + (i64)(r_mp))));
-    u64 r_c4 = (r_mp + 1ull);
-    if (!(r_c4 == 8ull)) { r_mp = r_c4; goto l_join_or; }
+l_join_21:;
+    st8((r_2b + (i64)(r_yu)), ld8((((u8 *)g_static_179) + (i64)(r_yu))));
+    u64 r_c4 = (r_yu + 1ull);
+    if (!(r_c4 == 8ull)) { r_yu = r_c4; goto l_join_21; }
 l_arm_zr:;
     stp(a_5, r_fx);
-    st64(r_rq_1, r_5q);
+    st64(r_rq, r_5q);
     st64(r_08, r_di);
     if (a_5j == 0ull) { r_as = r_fx; r_y3 = r_di; r_9f = r_5q; goto l_arm_e5; }
     r_x9 = r_fx;
@@ -2293,10 +2293,10 @@ l_join_kl:;
     memset(slot_1, 0u, 1024);
     r_pt = 0ull;
 l_join_jf:;
-    u8 r_47_1 = ld8((r_uz + (i64)(r_pt)));
-    u8 *r_a7_2 = (slot_1 + (i64)((u64)(r_pt << 1ull)));
-    st8(r_a7_2, ld8((((u8 *)g_static_117) + (i64)((u64)(u8)((u32)r_47_1 >> 4u)))));
-    st8((r_a7_2 + 1), ld8((((u8 *)g_static_117) + (i64)((u64)(u8)(r_47_1 & 15u)))));
+    u8 r_47 = ld8((r_uz + (i64)(r_pt)));
+    u8 *r_a7 = (slot_1 + (i64)((u64)(r_pt << 1ull)));
+    st8(r_a7, ld8((((u8 *)g_static_127) + (i64)((u64)(u8)((u32)r_47 >> 4u)))));
+    st8((r_a7 + 1), ld8((((u8 *)g_static_127) + (i64)((u64)(u8)(r_47 & 15u)))));
     u64 r_c4_1 = (r_pt + 1ull);
     if (!(r_c4_1 == a_3q)) { r_pt = r_c4_1; goto l_join_jf; }
     r_yb = (u64)(a_3q << 1ull);
@@ -2306,20 +2306,20 @@ l_join_jf:;
     if (!r_c4_2) { r_r4 = 1u; goto l_arm_5s; }
     r_wy = ldp(a_5);
     r_2n = ld64(r_08);
-    r_wj = ld64(r_rq_1);
+    r_wj = ld64(r_rq);
 l_arm_nw:;
     u64 r_5q_1 = (r_wj + r_yb);
     memcpy_or_none(away(r_wy, r_wj), slot_1, r_yb);
     stp(a_5, r_wy);
-    st64(r_rq_1, r_5q_1);
+    st64(r_rq, r_5q_1);
     st64(r_08, r_2n);
-    u64 r_nr_1 = (r_eu - a_3q);
-    if (r_nr_1 == 0ull) { r_as = r_wy; r_y3 = r_2n; r_9f = r_5q_1; goto l_arm_e5; }
+    u64 r_nr = (r_eu - a_3q);
+    if (r_nr == 0ull) { r_as = r_wy; r_y3 = r_2n; r_9f = r_5q_1; goto l_arm_e5; }
     u8 *r_1 = r_wy;
     u64 r_2 = r_2n;
     u64 r_3 = r_5q_1;
     u8 *r_4 = away(r_uz, a_3q);
-    u64 r_5 = r_nr_1;
+    u64 r_5 = r_nr;
     r_x9 = r_1;
     r_tc = r_2;
     r_wl = r_3;
@@ -2328,31 +2328,31 @@ l_arm_nw:;
     goto l_join_kl;
 l_arm_e5:;
     if (r_9f > 0x3ffffbeull) { r_9r = 0u; goto l_arm_f3; }
-    if (!((r_y3 - r_9f) < 2ull)) { r_lo = r_as; r_3e = r_y3; r_33 = r_9f; goto l_join_ry; }
+    if (!((r_y3 - r_9f) < 2ull)) { r_x6 = r_as; r_rp = r_y3; r_3w = r_9f; goto l_join_ap; }
     u8 r_y4 = std_alloc_vec_Vec_grow_amortized_9634afabedddd7ee(a_5, 2ull);
     if (!r_y4) { r_9r = 1u; goto l_arm_f3; }
-    r_lo = ldp(a_5);
-    r_3e = ld64(r_08);
-    r_33 = ld64(r_rq_1);
-l_join_ry:;
-    r_x4 = (r_33 + 2ull);
-    r_2b_2 = away(r_lo, r_33);
-    if (((u64)(uptr)r_2b_2 - (u64)(uptr)((u8 *)g_static_170)) < 2ull) { r_a6 = 0ull; goto l_join_ht; }
-    st16(r_2b_2, 11298u);
+    r_x6 = ldp(a_5);
+    r_rp = ld64(r_08);
+    r_3w = ld64(r_rq);
+l_join_ap:;
+    r_x4 = (r_3w + 2ull);
+    r_2b_1 = away(r_x6, r_3w);
+    if (((u64)(uptr)r_2b_1 - (u64)(uptr)((u8 *)g_static_180)) < 2ull) { r_js = 0ull; goto l_join_pi; }
+    st16(r_2b_1, 11298u);
     goto l_arm_sv;
-l_join_ht:;
-    st8((r_2b_2 + (i64)(r_a6)), ld8((((u8 *)g_static_170) + (i64)(r_a6))));
-    u64 r_c4_3 = (r_a6 + 1ull);
+l_join_pi:;
+    st8((r_2b_1 + (i64)(r_js)), ld8((((u8 *)g_static_180) + (i64)(r_js))));
+    u64 r_c4_3 = (r_js + 1ull);
     if (r_c4_3 == 2ull) goto l_arm_sv;
-    r_a6 = r_c4_3;
-    goto l_join_ht;
+    r_js = r_c4_3;
+    goto l_join_pi;
 l_arm_5s:;
     r_9r = r_r4;
     goto l_arm_f3;
 l_arm_sv:;
-    stp(a_5, r_lo);
-    st64(r_rq_1, r_x4);
-    st64(r_08, r_3e);
+    stp(a_5, r_x6);
+    st64(r_rq, r_x4);
+    st64(r_08, r_rp);
     st64(slot_3, (u64)r_dh);
     mv16((slot_3 + 8), slot_2);
     st64((slot_3 + 24), r_qw);
@@ -2382,7 +2382,7 @@ static struct s_i8_i8 capnp_show_show_json_write_pointer_array_5ccc1be374b2e488(
     u64 r_qw;
     u32 r_5k;
     u32 r_5k_1;
-    u8 *r_rq_1;
+    u8 *r_rq;
     u64 r_52;
     u8 *r_08;
     u64 r_ih;
@@ -2390,9 +2390,9 @@ static struct s_i8_i8 capnp_show_show_json_write_pointer_array_5ccc1be374b2e488(
     u64 r_og;
     u8 *r_fx;
     u8 *r_2b;
-    u64 r_zo;
+    u64 r_wr;
     struct s_i8_i8 r_7j;
-    u8 *r_rq_2;
+    u8 *r_rq_1;
     u64 r_52_2;
     u8 *r_08_1;
     u64 r_c0;
@@ -2400,9 +2400,9 @@ static struct s_i8_i8 capnp_show_show_json_write_pointer_array_5ccc1be374b2e488(
     u64 r_x4;
     u8 *r_fx_1;
     u8 *r_2b_1;
-    u64 r_3f;
+    u64 r_vl;
     struct s_i8_i8 r_q2;
-    u8 *r_rq_3;
+    u8 *r_rq_2;
     u8 *r_08_2;
     u8 *r_h6;
     u8 *r_o8;
@@ -2423,16 +2423,16 @@ static struct s_i8_i8 capnp_show_show_json_write_pointer_array_5ccc1be374b2e488(
     u64 r_cr;
     u64 r_au;
     struct s_i8_i8 r_9b;
+    u64 r_52_7;
+    u8 *r_rq_3;
     u64 r_52_8;
-    u8 *r_rq_4;
-    u64 r_52_9;
     u8 *r_08_3;
     u64 r_c0_1;
     u64 r_54_1;
     u64 r_x4_1;
     u8 *r_fx_3;
-    u8 *r_2b_3;
-    u64 r_3f_1;
+    u8 *r_2b_2;
+    u64 r_vl_1;
     u8 r_fu;
     u8 r_vh;
     r_eg = (u64)ld8(a_2);
@@ -2444,8 +2444,8 @@ static struct s_i8_i8 capnp_show_show_json_write_pointer_array_5ccc1be374b2e488(
     st64((slot_3 + 56), 0ull);
     if (!(a_4 == 0u)) goto l_join_bk;
     if (a_3 == 0u) goto l_join_kx;
-    r_rq_1 = away(a_5, 8ull);
-    r_52 = ld64(r_rq_1);
+    r_rq = away(a_5, 8ull);
+    r_52 = ld64(r_rq);
     if (r_52 > 0x3ffffb2ull) { r_fu = 0u; r_vh = 1u; goto l_return_4x; }
     r_08 = away(a_5, 16ull);
     u64 r_52_1 = ld64(r_08);
@@ -2453,21 +2453,21 @@ static struct s_i8_i8 capnp_show_show_json_write_pointer_array_5ccc1be374b2e488(
     u8 r_tv = std_alloc_vec_Vec_grow_amortized_9634afabedddd7ee(a_5, 14ull);
     if (!r_tv) { r_fu = 1u; r_vh = 1u; goto l_return_4x; }
     r_ih = ld64(r_08);
-    r_iy = ld64(r_rq_1);
+    r_iy = ld64(r_rq);
 l_join_0s:;
     r_og = (r_iy + 14ull);
     r_fx = ldp(a_5);
     r_2b = away(r_fx, r_iy);
-    if (((u64)(uptr)r_2b - (u64)(uptr)((u8 *)g_static_171)) < 14ull) { r_zo = 0ull; goto l_join_kb; }
-    mv14(r_2b, ((u8 *)g_static_171));
+    if (((u64)(uptr)r_2b - (u64)(uptr)((u8 *)g_static_181)) < 14ull) { r_wr = 0ull; goto l_join_3e; }
+    mv14(r_2b, ((u8 *)g_static_181));
     goto l_core_x2;
-l_join_kb:;
-    st8((r_2b + (i64)(r_zo)), ld8((((u8 *)g_static_171) + (i64)(r_zo))));
-    u64 r_c4 = (r_zo + 1ull);
-    if (!(r_c4 == 14ull)) { r_zo = r_c4; goto l_join_kb; }
+l_join_3e:;
+    st8((r_2b + (i64)(r_wr)), ld8((((u8 *)g_static_181) + (i64)(r_wr))));
+    u64 r_c4 = (r_wr + 1ull);
+    if (!(r_c4 == 14ull)) { r_wr = r_c4; goto l_join_3e; }
 l_core_x2:;
     stp(a_5, r_fx);
-    st64(r_rq_1, r_og);
+    st64(r_rq, r_og);
     st64(r_08, r_ih);
     r_fu = 0u;
     r_vh = 0u;
@@ -2475,8 +2475,8 @@ l_core_x2:;
 l_join_kx:;
     r_7j = capnp_show_show_text_Text_push_array_start(a_5, a_1);
     if (!(r_7j.f0 == 0u)) goto l_arm_dn;
-    r_rq_2 = away(a_5, 8ull);
-    r_52_2 = ld64(r_rq_2);
+    r_rq_1 = away(a_5, 8ull);
+    r_52_2 = ld64(r_rq_1);
     if (r_52_2 > 0x3ffffbeull) { r_fu = 0u; r_vh = 1u; goto l_return_4x; }
     r_08_1 = away(a_5, 16ull);
     u64 r_52_3 = ld64(r_08_1);
@@ -2484,21 +2484,21 @@ l_join_kx:;
     u8 r_y4 = std_alloc_vec_Vec_grow_amortized_9634afabedddd7ee(a_5, 2ull);
     if (!r_y4) { r_fu = 1u; r_vh = 1u; goto l_return_4x; }
     r_c0 = ld64(r_08_1);
-    r_54 = ld64(r_rq_2);
+    r_54 = ld64(r_rq_1);
 l_join_p3:;
     r_x4 = (r_54 + 2ull);
     r_fx_1 = ldp(a_5);
     r_2b_1 = away(r_fx_1, r_54);
-    if (((u64)(uptr)r_2b_1 - (u64)(uptr)((u8 *)g_static_164)) < 2ull) { r_3f = 0ull; goto l_join_tg; }
+    if (((u64)(uptr)r_2b_1 - (u64)(uptr)((u8 *)g_static_174)) < 2ull) { r_vl = 0ull; goto l_join_l2; }
     st16(r_2b_1, 32093u);
     goto l_core_x2_1;
-l_join_tg:;
-    st8((r_2b_1 + (i64)(r_3f)), ld8((((u8 *)g_static_164) + (i64)(r_3f))));
-    u64 r_c4_1 = (r_3f + 1ull);
-    if (!(r_c4_1 == 2ull)) { r_3f = r_c4_1; goto l_join_tg; }
+l_join_l2:;
+    st8((r_2b_1 + (i64)(r_vl)), ld8((((u8 *)g_static_174) + (i64)(r_vl))));
+    u64 r_c4_1 = (r_vl + 1ull);
+    if (!(r_c4_1 == 2ull)) { r_vl = r_c4_1; goto l_join_l2; }
 l_core_x2_1:;
     stp(a_5, r_fx_1);
-    st64(r_rq_2, r_x4);
+    st64(r_rq_1, r_x4);
     st64(r_08_1, r_c0);
     r_fu = 0u;
     r_vh = 0u;
@@ -2511,7 +2511,7 @@ l_join_bk:;
     r_q2 = capnp_show_show_text_Text_push_array_start(a_5, a_1);
     if (!(r_q2.f0 == 0u)) goto l_arm_dn_1;
     if (a_3 == 0u) goto l_after_xa;
-    r_rq_3 = away(a_5, 8ull);
+    r_rq_2 = away(a_5, 8ull);
     r_08_2 = away(a_5, 16ull);
     r_h6 = away(a_5, 64ull);
     r_o8 = away(a_5, 88ull);
@@ -2534,19 +2534,19 @@ l_arm_dn_1:;
     goto l_return_4x;
 l_join_if:;
     if (indvars_su == 0ull) goto l_arm_gs;
-    r_52_4 = ld64(r_rq_3);
+    r_52_4 = ld64(r_rq_2);
     if (r_52_4 > 0x3ffffbfull) { r_fu = 0u; r_vh = 1u; goto l_return_4x; }
     u64 r_52_5 = ld64(r_08_2);
     if (!(r_52_5 == r_52_4)) { r_qd = r_52_5; r_cr = r_52_4; goto l_join_tk; }
     u8 r_av = std_alloc_vec_Vec_grow_amortized_9634afabedddd7ee(a_5, 1ull);
     if (!r_av) { r_fu = 1u; r_vh = 1u; goto l_return_4x; }
     r_qd = ld64(r_08_2);
-    r_cr = ld64(r_rq_3);
+    r_cr = ld64(r_rq_2);
 l_join_tk:;
     u8 *r_fx_2 = ldp(a_5);
     st8(away(r_fx_2, r_cr), 44u);
     stp(a_5, r_fx_2);
-    st64(r_rq_3, (r_cr + 1ull));
+    st64(r_rq_2, (r_cr + 1ull));
     st64(r_08_2, r_qd);
 l_arm_gs:;
     if (ld8(r_h6) == 0u) goto l_arm_n2;
@@ -2569,9 +2569,9 @@ l_arm_n2:;
     r_9b = capnp_show_show_json_write_pointed_value_5ccc1be374b2e488(slot_3, r_ra, a_5);
     if (!(r_9b.f0 == 0u)) goto l_arm_dn_2;
     if (!(ld8(r_h6) == 1u)) goto l_capnp_4g;
-    r_52_8 = ld64(r_lg);
-    if (r_52_8 == 0ull) goto l_capnp_4g;
-    st64(r_lg, (r_52_8 + 0xffffffffffffffffull));
+    r_52_7 = ld64(r_lg);
+    if (r_52_7 == 0ull) goto l_capnp_4g;
+    st64(r_lg, (r_52_7 + 0xffffffffffffffffull));
 l_capnp_4g:;
     u64 indvars_r7 = (indvars_su + 1ull);
     if (indvars_r7 == wide_7l) goto l_after_xa;
@@ -2582,30 +2582,30 @@ l_arm_dn_2:;
     r_vh = 1u;
     goto l_return_4x;
 l_after_xa:;
-    r_rq_4 = away(a_5, 8ull);
-    r_52_9 = ld64(r_rq_4);
-    if (r_52_9 > 0x3ffffbeull) { r_fu = 0u; r_vh = 1u; goto l_return_4x; }
+    r_rq_3 = away(a_5, 8ull);
+    r_52_8 = ld64(r_rq_3);
+    if (r_52_8 > 0x3ffffbeull) { r_fu = 0u; r_vh = 1u; goto l_return_4x; }
     r_08_3 = away(a_5, 16ull);
-    u64 r_52_10 = ld64(r_08_3);
-    if (!((r_52_10 - r_52_9) < 2ull)) { r_c0_1 = r_52_10; r_54_1 = r_52_9; goto l_join_p3_1; }
+    u64 r_52_9 = ld64(r_08_3);
+    if (!((r_52_9 - r_52_8) < 2ull)) { r_c0_1 = r_52_9; r_54_1 = r_52_8; goto l_join_p3_1; }
     u8 r_y4_1 = std_alloc_vec_Vec_grow_amortized_9634afabedddd7ee(a_5, 2ull);
     if (!r_y4_1) { r_fu = 1u; r_vh = 1u; goto l_return_4x; }
     r_c0_1 = ld64(r_08_3);
-    r_54_1 = ld64(r_rq_4);
+    r_54_1 = ld64(r_rq_3);
 l_join_p3_1:;
     r_x4_1 = (r_54_1 + 2ull);
     r_fx_3 = ldp(a_5);
-    r_2b_3 = away(r_fx_3, r_54_1);
-    if (((u64)(uptr)r_2b_3 - (u64)(uptr)((u8 *)g_static_164)) < 2ull) { r_3f_1 = 0ull; goto l_join_tg_1; }
-    st16(r_2b_3, 32093u);
+    r_2b_2 = away(r_fx_3, r_54_1);
+    if (((u64)(uptr)r_2b_2 - (u64)(uptr)((u8 *)g_static_174)) < 2ull) { r_vl_1 = 0ull; goto l_join_l2_1; }
+    st16(r_2b_2, 32093u);
     goto l_core_x2_2;
-l_join_tg_1:;
-    st8((r_2b_3 + (i64)(r_3f_1)), ld8((((u8 *)g_static_164) + (i64)(r_3f_1))));
-    u64 r_c4_3 = (r_3f_1 + 1ull);
-    if (!(r_c4_3 == 2ull)) { r_3f_1 = r_c4_3; goto l_join_tg_1; }
+l_join_l2_1:;
+    st8((r_2b_2 + (i64)(r_vl_1)), ld8((((u8 *)g_static_174) + (i64)(r_vl_1))));
+    u64 r_c4_3 = (r_vl_1 + 1ull);
+    if (!(r_c4_3 == 2ull)) { r_vl_1 = r_c4_3; goto l_join_l2_1; }
 l_core_x2_2:;
     stp(a_5, r_fx_3);
-    st64(r_rq_4, r_x4_1);
+    st64(r_rq_3, r_x4_1);
     st64(r_08_3, r_c0_1);
     r_fu = 0u;
     r_vh = 0u;
@@ -2628,14 +2628,14 @@ static struct s_i8_i8 capnp_show_show_text_Text_push_array_start(u8 *a_1, u8 a_2
     u64 r_5q;
     u8 *r_fx;
     u8 *r_2b;
-    u64 r_h9;
+    u64 r_c7;
     u8 *r_08_1;
     u64 r_yi;
     u64 r_xi;
     u64 r_4y;
     u8 *r_fx_1;
     u8 *r_2b_1;
-    u64 r_cr;
+    u64 r_ne;
     u8 r_fu;
     u8 r_vh;
     r_rq = away(a_1, 8ull);
@@ -2653,13 +2653,13 @@ l_join_sq:;
     r_5q = (r_ju + 8ull);
     r_fx = ldp(a_1);
     r_2b = away(r_fx, r_ju);
-    if (((u64)(uptr)r_2b - (u64)(uptr)((u8 *)g_static_172)) < 8ull) { r_h9 = 0ull; goto l_join_9c; }
+    if (((u64)(uptr)r_2b - (u64)(uptr)((u8 *)g_static_182)) < 8ull) { r_c7 = 0ull; goto l_join_sa; }
     st64(r_2b, 0x5b3a227473696c22ull);
     goto l_core_x2;
-l_join_9c:;
-    st8((r_2b + (i64)(r_h9)), ld8((((u8 *)g_static_172) + (i64)(r_h9))));
-    u64 r_c4 = (r_h9 + 1ull);
-    if (!(r_c4 == 8ull)) { r_h9 = r_c4; goto l_join_9c; }
+l_join_sa:;
+    st8((r_2b + (i64)(r_c7)), ld8((((u8 *)g_static_182) + (i64)(r_c7))));
+    u64 r_c4 = (r_c7 + 1ull);
+    if (!(r_c4 == 8ull)) { r_c7 = r_c4; goto l_join_sa; }
 l_core_x2:;
     stp(a_1, r_fx);
     st64(r_rq, r_5q);
@@ -2680,13 +2680,13 @@ l_join_4b:;
     r_4y = (r_xi + 12ull);
     r_fx_1 = ldp(a_1);
     r_2b_1 = away(r_fx_1, r_xi);
-    if (((u64)(uptr)r_2b_1 - (u64)(uptr)((u8 *)g_static_173)) < 12ull) { r_cr = 0ull; goto l_join_m1; }
-    mv12(r_2b_1, ((u8 *)g_static_173));
+    if (((u64)(uptr)r_2b_1 - (u64)(uptr)((u8 *)g_static_183)) < 12ull) { r_ne = 0ull; goto l_join_s8; }
+    mv12(r_2b_1, ((u8 *)g_static_183));
     goto l_core_x2_1;
-l_join_m1:;
-    st8((r_2b_1 + (i64)(r_cr)), ld8((((u8 *)g_static_173) + (i64)(r_cr))));
-    u64 r_c4_1 = (r_cr + 1ull);
-    if (!(r_c4_1 == 12ull)) { r_cr = r_c4_1; goto l_join_m1; }
+l_join_s8:;
+    st8((r_2b_1 + (i64)(r_ne)), ld8((((u8 *)g_static_183) + (i64)(r_ne))));
+    u64 r_c4_1 = (r_ne + 1ull);
+    if (!(r_c4_1 == 12ull)) { r_ne = r_c4_1; goto l_join_s8; }
 l_core_x2_1:;
     stp(a_1, r_fx_1);
     st64(r_rq, r_4y);
@@ -2713,7 +2713,7 @@ static struct s_i8_i8 capnp_show_show_text_Text_push_sizes(u8 *a_1, u16 a_2, u16
     u64 r_dr;
     u8 *r_fx;
     u8 *r_2b;
-    u64 r_yq;
+    u64 r_pl;
     u8 r_e7;
     struct s_i8_i8 r_yu;
     u64 r_bi_1;
@@ -2724,7 +2724,7 @@ static struct s_i8_i8 capnp_show_show_text_Text_push_sizes(u8 *a_1, u16 a_2, u16
     u64 r_br;
     u8 *r_fx_1;
     u8 *r_2b_1;
-    u64 r_8v;
+    u64 r_71;
     u8 r_e7_1;
     struct s_i8_i8 r_yu_1;
     u64 r_52_4;
@@ -2748,13 +2748,13 @@ l_join_jf:;
     r_dr = (r_v4 + 13ull);
     r_fx = ldp(a_1);
     r_2b = away(r_fx, r_v4);
-    if (((u64)(uptr)r_2b - (u64)(uptr)((u8 *)g_static_175)) < 13ull) { r_yq = 0ull; goto l_join_zk; }
-    mv13(r_2b, ((u8 *)g_static_175));
+    if (((u64)(uptr)r_2b - (u64)(uptr)((u8 *)g_static_185)) < 13ull) { r_pl = 0ull; goto l_join_s6; }
+    mv13(r_2b, ((u8 *)g_static_185));
     goto l_arm_na;
-l_join_zk:;
-    st8((r_2b + (i64)(r_yq)), ld8((((u8 *)g_static_175) + (i64)(r_yq))));
-    u64 r_c4 = (r_yq + 1ull);
-    if (!(r_c4 == 13ull)) { r_yq = r_c4; goto l_join_zk; }
+l_join_s6:;
+    st8((r_2b + (i64)(r_pl)), ld8((((u8 *)g_static_185) + (i64)(r_pl))));
+    u64 r_c4 = (r_pl + 1ull);
+    if (!(r_c4 == 13ull)) { r_pl = r_c4; goto l_join_s6; }
 l_arm_na:;
     stp(a_1, r_fx);
     st64(r_rq, r_dr);
@@ -2783,13 +2783,13 @@ l_join_9f:;
     r_fx_1 = ldp(a_1);
     memset(r_rq, 0u, 16);
     r_2b_1 = away(r_fx_1, r_05);
-    if (((u64)(uptr)r_2b_1 - (u64)(uptr)((u8 *)g_static_176)) < 17ull) { r_8v = 0ull; goto l_join_xj; }
-    mv17(r_2b_1, ((u8 *)g_static_176));
+    if (((u64)(uptr)r_2b_1 - (u64)(uptr)((u8 *)g_static_186)) < 17ull) { r_71 = 0ull; goto l_join_7l; }
+    mv17(r_2b_1, ((u8 *)g_static_186));
     goto l_arm_na_1;
-l_join_xj:;
-    st8((r_2b_1 + (i64)(r_8v)), ld8((((u8 *)g_static_176) + (i64)(r_8v))));
-    u64 r_c4_1 = (r_8v + 1ull);
-    if (!(r_c4_1 == 17ull)) { r_8v = r_c4_1; goto l_join_xj; }
+l_join_7l:;
+    st8((r_2b_1 + (i64)(r_71)), ld8((((u8 *)g_static_186) + (i64)(r_71))));
+    u64 r_c4_1 = (r_71 + 1ull);
+    if (!(r_c4_1 == 17ull)) { r_71 = r_c4_1; goto l_join_7l; }
 l_arm_na_1:;
     stp(a_1, r_fx_1);
     st64(r_rq, r_br);
@@ -2848,7 +2848,7 @@ static struct s_i8_i8 capnp_show_show_json_write_struct_elements_5ccc1be374b2e48
     u64 r_qw;
     u32 r_5k;
     u32 r_5k_1;
-    u8 *r_rq_1;
+    u8 *r_rq;
     u8 *r_08;
     u8 *r_h6;
     u8 *r_o8;
@@ -2870,12 +2870,12 @@ static struct s_i8_i8 capnp_show_show_json_write_struct_elements_5ccc1be374b2e48
     u64 r_qd;
     u64 r_cr;
     u64 r_au;
-    u64 r_52_4;
+    u64 r_52_3;
     u64 r_co;
     u64 r_q5;
     struct s_i8_i8 r_v0;
+    u64 r_52_5;
     u64 r_52_6;
-    u64 r_52_9;
     u8 r_fu;
     u8 r_vh;
     r_eg = (u64)ld8(a_1);
@@ -2886,7 +2886,7 @@ static struct s_i8_i8 capnp_show_show_json_write_struct_elements_5ccc1be374b2e48
     r_5k_1 = ld32(away(a_1, 56ull));
     memset(slot_3, 0u, 64);
     if (a_4 == 0u) { r_fu = 0u; r_vh = 0u; goto l_return_4x; }
-    r_rq_1 = away(a_6, 8ull);
+    r_rq = away(a_6, 8ull);
     r_08 = away(a_6, 16ull);
     r_h6 = away(a_6, 64ull);
     r_o8 = away(a_6, 88ull);
@@ -2911,19 +2911,19 @@ l_loop_2y:;
     indvars_su = indvars_r7;
 l_join_if:;
     if (indvars_su == 0ull) goto l_arm_gs;
-    r_52 = ld64(r_rq_1);
+    r_52 = ld64(r_rq);
     if (r_52 > 0x3ffffbfull) { r_fu = 0u; r_vh = 1u; goto l_return_4x; }
     u64 r_52_1 = ld64(r_08);
     if (!(r_52_1 == r_52)) { r_qd = r_52_1; r_cr = r_52; goto l_join_tk; }
     u8 r_av = std_alloc_vec_Vec_grow_amortized_9634afabedddd7ee(a_6, 1ull);
     if (!r_av) { r_fu = 1u; r_vh = 1u; goto l_return_4x; }
     r_qd = ld64(r_08);
-    r_cr = ld64(r_rq_1);
+    r_cr = ld64(r_rq);
 l_join_tk:;
     u8 *r_fx = ldp(a_6);
     st8(away(r_fx, r_cr), 44u);
     stp(a_6, r_fx);
-    st64(r_rq_1, (r_cr + 1ull));
+    st64(r_rq, (r_cr + 1ull));
     st64(r_08, r_qd);
 l_arm_gs:;
     if (ld8(r_h6) == 0u) goto l_arm_74;
@@ -2936,19 +2936,19 @@ l_join_qq:;
     st64((ldp(r_o8) + (i64)((u64)(r_au << 3ull))), ((u64)(indvars_su << 32ull) | 1ull));
     st64(r_lg, (r_au + 1ull));
 l_arm_74:;
-    r_52_4 = ld64(r_rq_1);
-    if (r_52_4 > 0x3ffffbfull) { r_fu = 0u; r_vh = 1u; goto l_return_4x; }
-    u64 r_52_5 = ld64(r_08);
-    if (!(r_52_5 == r_52_4)) { r_co = r_52_5; r_q5 = r_52_4; goto l_arm_df; }
+    r_52_3 = ld64(r_rq);
+    if (r_52_3 > 0x3ffffbfull) { r_fu = 0u; r_vh = 1u; goto l_return_4x; }
+    u64 r_52_4 = ld64(r_08);
+    if (!(r_52_4 == r_52_3)) { r_co = r_52_4; r_q5 = r_52_3; goto l_arm_df; }
     u8 r_av_1 = std_alloc_vec_Vec_grow_amortized_9634afabedddd7ee(a_6, 1ull);
     if (!r_av_1) { r_fu = 1u; r_vh = 1u; goto l_return_4x; }
     r_co = ld64(r_08);
-    r_q5 = ld64(r_rq_1);
+    r_q5 = ld64(r_rq);
 l_arm_df:;
     u8 *r_fx_1 = ldp(a_6);
     st8(away(r_fx_1, r_q5), 123u);
     stp(a_6, r_fx_1);
-    st64(r_rq_1, (r_q5 + 1ull));
+    st64(r_rq, (r_q5 + 1ull));
     st64(r_08, r_co);
     st64(slot_3, r_eg);
     mv16(r_x5, slot_1);
@@ -2959,17 +2959,17 @@ l_arm_df:;
     st32(r_6c, r_5k_1);
     r_v0 = capnp_show_show_json_write_sections_5ccc1be374b2e488(slot_3, a_2, a_3, a_5, a_6);
     if (!(r_v0.f0 == 0u)) goto l_arm_dn;
-    r_52_6 = ld64(r_rq_1);
+    r_52_5 = ld64(r_rq);
     if (!(ld8(r_h6) == 1u)) goto l_loop_2y;
-    if (r_52_4 > ld64(r_yf)) goto l_arm_3v;
-    if (ld64(r_2g) < r_52_6) goto l_capnp_lo;
+    if (r_52_3 > ld64(r_yf)) goto l_arm_3v;
+    if (ld64(r_2g) < r_52_5) goto l_capnp_lo;
 l_arm_3v:;
-    r_52_9 = ld64(r_lg);
-    if (r_52_9 == 0ull) goto l_loop_2y;
-    st64(r_lg, (r_52_9 + 0xffffffffffffffffull));
+    r_52_6 = ld64(r_lg);
+    if (r_52_6 == 0ull) goto l_loop_2y;
+    st64(r_lg, (r_52_6 + 0xffffffffffffffffull));
     goto l_loop_2y;
 l_capnp_lo:;
-    st64(r_vp, r_52_4);
+    st64(r_vp, r_52_3);
     r_fu = 2u;
     r_vh = 1u;
     goto l_return_4x;
@@ -2995,19 +2995,19 @@ static struct s_i8_i8 capnp_show_show_json_Json_write_refusal(u8 *a_1, u8 *a_2, 
     u64 r_sb;
     u8 *r_fx;
     u8 *r_2b;
-    u64 r_a2;
+    u64 r_y8;
     u8 *r_4a;
     u64 r_uv;
     u64 r_0z;
     u64 r_zx;
     u8 *r_2b_1;
     u64 r_31;
-    u8 *r_4d;
-    u64 r_pn;
-    u64 r_i5;
+    u8 *r_9v;
+    u64 r_nc;
+    u64 r_4c;
     u64 r_x4;
     u8 *r_2b_2;
-    u64 r_qz;
+    u64 r_cr;
     u8 r_fu;
     u8 r_vh;
     st8(away(a_1, 24ull), 0u);
@@ -3025,13 +3025,13 @@ l_join_12:;
     r_sb = (r_jh + 11ull);
     r_fx = ldp(a_1);
     r_2b = away(r_fx, r_jh);
-    if (((u64)(uptr)r_2b - (u64)(uptr)((u8 *)g_static_178)) < 11ull) { r_a2 = 0ull; goto l_join_xj; }
-    mv11(r_2b, ((u8 *)g_static_178));
+    if (((u64)(uptr)r_2b - (u64)(uptr)((u8 *)g_static_188)) < 11ull) { r_y8 = 0ull; goto l_join_i6; }
+    mv11(r_2b, ((u8 *)g_static_188));
     goto l_arm_cq;
-l_join_xj:;
-    st8((r_2b + (i64)(r_a2)), ld8((((u8 *)g_static_178) + (i64)(r_a2))));
-    u64 r_c4 = (r_a2 + 1ull);
-    if (!(r_c4 == 11ull)) { r_a2 = r_c4; goto l_join_xj; }
+l_join_i6:;
+    st8((r_2b + (i64)(r_y8)), ld8((((u8 *)g_static_188) + (i64)(r_y8))));
+    u64 r_c4 = (r_y8 + 1ull);
+    if (!(r_c4 == 11ull)) { r_y8 = r_c4; goto l_join_i6; }
 l_arm_cq:;
     stp(a_1, r_fx);
     st64(r_rq, r_sb);
@@ -3059,26 +3059,26 @@ l_arm_pd:;
     st64(r_rq, r_zx);
     st64(r_08, r_uv);
     if (r_zx > 0x3ffffbeull) { r_fu = 0u; r_vh = 1u; goto l_capnp_4x; }
-    if (!((r_uv - r_zx) < 2ull)) { r_4d = r_4a; r_pn = r_uv; r_i5 = r_zx; goto l_join_xr; }
+    if (!((r_uv - r_zx) < 2ull)) { r_9v = r_4a; r_nc = r_uv; r_4c = r_zx; goto l_join_i7; }
     u8 r_y4 = std_alloc_vec_Vec_grow_amortized_9634afabedddd7ee(a_1, 2ull);
     if (!r_y4) { r_fu = 1u; r_vh = 1u; goto l_capnp_4x; }
-    r_4d = ldp(a_1);
-    r_pn = ld64(r_08);
-    r_i5 = ld64(r_rq);
-l_join_xr:;
-    r_x4 = (r_i5 + 2ull);
-    r_2b_2 = away(r_4d, r_i5);
-    if (((u64)(uptr)r_2b_2 - (u64)(uptr)((u8 *)g_static_163)) < 2ull) { r_qz = 0ull; goto l_join_6w; }
+    r_9v = ldp(a_1);
+    r_nc = ld64(r_08);
+    r_4c = ld64(r_rq);
+l_join_i7:;
+    r_x4 = (r_4c + 2ull);
+    r_2b_2 = away(r_9v, r_4c);
+    if (((u64)(uptr)r_2b_2 - (u64)(uptr)((u8 *)g_static_173)) < 2ull) { r_cr = 0ull; goto l_join_m1; }
     st16(r_2b_2, 32034u);
     goto l_core_ga;
-l_join_6w:;
-    st8((r_2b_2 + (i64)(r_qz)), ld8((((u8 *)g_static_163) + (i64)(r_qz))));
-    u64 r_c4_2 = (r_qz + 1ull);
-    if (!(r_c4_2 == 2ull)) { r_qz = r_c4_2; goto l_join_6w; }
+l_join_m1:;
+    st8((r_2b_2 + (i64)(r_cr)), ld8((((u8 *)g_static_173) + (i64)(r_cr))));
+    u64 r_c4_2 = (r_cr + 1ull);
+    if (!(r_c4_2 == 2ull)) { r_cr = r_c4_2; goto l_join_m1; }
 l_core_ga:;
-    stp(a_1, r_4d);
+    stp(a_1, r_9v);
     st64(r_rq, r_x4);
-    st64(r_08, r_pn);
+    st64(r_08, r_nc);
     r_fu = 0u;
     r_vh = 0u;
 l_capnp_4x:;
@@ -3110,12 +3110,12 @@ void capnp_show_show_message_make_lines_9d3526b9b0726c59(u8 *a_1, u8 *a_2, u8 *a
     u64 r_52;
     u64 r_52_1;
     u8 *r_zd;
-    u8 *r_is;
-    u64 r_p9;
-    u64 r_ju;
-    u64 r_5q_1;
+    u8 *r_ny;
+    u64 r_b9;
+    u64 r_ro;
+    u64 r_5q;
     u8 *r_2b;
-    u64 r_wz;
+    u64 r_pi_1;
     u8 r_e7;
     struct s_i8_i8 r_p7;
     u8 r_om;
@@ -3127,21 +3127,21 @@ void capnp_show_show_message_make_lines_9d3526b9b0726c59(u8 *a_1, u8 *a_2, u8 *a
     u64 r_sb;
     u8 *r_lz;
     u8 *r_2b_1;
-    u64 r_og;
+    u64 r_2y;
     u8 r_e7_1;
     struct s_i8_i8 r_p7_1;
-    u8 *r_ch_1;
+    u8 *r_ch;
     u64 r_52_5;
     u8 *r_zd_2;
     u64 r_4v;
     u64 r_23;
-    u64 r_5q_2;
+    u64 r_5q_1;
     u8 *r_lz_1;
     u8 *r_2b_2;
-    u64 r_wc;
+    u64 r_rz;
     u8 r_e7_2;
     struct s_i8_i8 r_mv;
-    u8 r_lk_1;
+    u8 r_lk;
     u64 r_52_7;
     u8 *r_zd_3;
     u64 r_uc;
@@ -3150,7 +3150,7 @@ void capnp_show_show_message_make_lines_9d3526b9b0726c59(u8 *a_1, u8 *a_2, u8 *a
     u8 r_4z;
     u8 r_5m;
     u8 *r_c4_3;
-    u8 *r_ch_3;
+    u8 *r_ch_1;
     u8 r_i9;
     u64 r_e3;
     u32 r_yf;
@@ -3159,36 +3159,36 @@ void capnp_show_show_message_make_lines_9d3526b9b0726c59(u8 *a_1, u8 *a_2, u8 *a
     u8 r_cd;
     u8 r_r5;
     u8 r_r5_1;
-    u64 r_38_10;
+    u64 r_38;
     u8 *r_c4_4;
     u32 r_z4_1;
     u32 r_z4_2;
     u16 r_xv;
     u16 r_f4;
-    u32 r_yf_2;
+    u32 r_yf_1;
     u8 *t_6c;
-    u64 r_52_11;
-    u8 *r_zd_5;
+    u64 r_52_10;
+    u8 *r_zd_4;
     u64 r_uc_1;
     u64 r_jc_1;
     u8 r_fe_1;
     u8 r_4z_1;
-    u8 r_47_5;
-    u64 r_52_13;
-    u8 *r_zd_6;
+    u8 r_47_1;
+    u64 r_52_12;
+    u8 *r_zd_5;
     u64 r_af;
     u64 r_vv;
     u64 r_z4_3;
-    u8 *r_lz_5;
-    u8 *r_2b_5;
-    u64 r_wy;
-    u8 *r_zd_7;
+    u8 *r_lz_4;
+    u8 *r_2b_3;
+    u64 r_io;
+    u8 *r_zd_6;
     u64 r_at;
     u64 r_gh;
     u64 r_y6;
-    u8 *r_lz_6;
-    u8 *r_2b_6;
-    u64 r_cm;
+    u8 *r_lz_5;
+    u8 *r_2b_4;
+    u64 r_5t;
     u8 r_kd;
     u64 t_tp = ld64(a_2);
     u8 r_dh = ld8(a_3);
@@ -3225,26 +3225,26 @@ void capnp_show_show_message_make_lines_9d3526b9b0726c59(u8 *a_1, u8 *a_2, u8 *a
     if (r_52_1 > 0x3ffffb8ull) { r_e7 = 0u; goto l_arm_n5; }
     r_zd = (slot_6 + 16);
     u64 r_52_2 = ld64(r_zd);
-    if (!((r_52_2 - r_52_1) < 8ull)) { r_is = slot_1; r_p9 = r_52_2; r_ju = r_52_1; goto l_join_3d; }
+    if (!((r_52_2 - r_52_1) < 8ull)) { r_ny = slot_1; r_b9 = r_52_2; r_ro = r_52_1; goto l_join_e3; }
     u8 r_i4 = std_alloc_vec_Vec_grow_amortized_9634afabedddd7ee(slot_6, 8ull);
     if (!r_i4) { r_e7 = 1u; goto l_arm_n5; }
-    r_is = ldp(slot_6);
-    r_p9 = ld64(r_zd);
-    r_ju = ld64(r_x5);
-l_join_3d:;
-    r_5q_1 = (r_ju + 8ull);
-    r_2b = away(r_is, r_ju);
-    if (((u64)(uptr)r_2b - (u64)(uptr)((u8 *)g_static_216)) < 8ull) { r_wz = 0ull; goto l_join_oo; }
+    r_ny = ldp(slot_6);
+    r_b9 = ld64(r_zd);
+    r_ro = ld64(r_x5);
+l_join_e3:;
+    r_5q = (r_ro + 8ull);
+    r_2b = away(r_ny, r_ro);
+    if (((u64)(uptr)r_2b - (u64)(uptr)((u8 *)g_static_226)) < 8ull) { r_pi_1 = 0ull; goto l_join_6x; }
     st64(r_2b, 0x206567617373656dull);
     goto l_arm_ay;
-l_join_oo:;
-    st8((r_2b + (i64)(r_wz)), ld8((((u8 *)g_static_216) + (i64)(r_wz))));
-    u64 r_c4 = (r_wz + 1ull);
-    if (!(r_c4 == 8ull)) { r_wz = r_c4; goto l_join_oo; }
+l_join_6x:;
+    st8((r_2b + (i64)(r_pi_1)), ld8((((u8 *)g_static_226) + (i64)(r_pi_1))));
+    u64 r_c4 = (r_pi_1 + 1ull);
+    if (!(r_c4 == 8ull)) { r_pi_1 = r_c4; goto l_join_6x; }
 l_arm_ay:;
-    stp(slot_6, r_is);
-    st64(r_x5, r_5q_1);
-    st64(r_zd, r_p9);
+    stp(slot_6, r_ny);
+    st64(r_x5, r_5q);
+    st64(r_zd, r_b9);
     struct s_i8_i8 r_32 = capnp_show_show_text_Text_push_number(slot_6, a_4);
     r_p7 = r_32;
     goto l_capnp_my;
@@ -3259,7 +3259,7 @@ l_capnp_my:;
     r_om = ld8(r_l1);
     r_ey = r_kp;
 l_capnp_6o:;
-    if (!(u8)(r_om & 1)) { r_lk_1 = r_ey; goto l_join_pz; }
+    if (!(u8)(r_om & 1)) { r_lk = r_ey; goto l_join_pz; }
     if (!(r_ey == 0u)) { r_5m = r_ey; goto l_capnp_ga; }
     r_52_3 = ld64(r_x5);
     if (r_52_3 > 0x3ffffb5ull) { r_e7_1 = 0u; goto l_arm_n5_1; }
@@ -3274,13 +3274,13 @@ l_join_q0:;
     r_sb = (r_qi + 11ull);
     r_lz = ldp(slot_6);
     r_2b_1 = away(r_lz, r_qi);
-    if (((u64)(uptr)r_2b_1 - (u64)(uptr)((u8 *)g_static_217)) < 11ull) { r_og = 0ull; goto l_join_0u; }
-    mv11(r_2b_1, ((u8 *)g_static_217));
+    if (((u64)(uptr)r_2b_1 - (u64)(uptr)((u8 *)g_static_227)) < 11ull) { r_2y = 0ull; goto l_join_6j; }
+    mv11(r_2b_1, ((u8 *)g_static_227));
     goto l_arm_01;
-l_join_0u:;
-    st8((r_2b_1 + (i64)(r_og)), ld8((((u8 *)g_static_217) + (i64)(r_og))));
-    u64 r_c4_1 = (r_og + 1ull);
-    if (!(r_c4_1 == 11ull)) { r_og = r_c4_1; goto l_join_0u; }
+l_join_6j:;
+    st8((r_2b_1 + (i64)(r_2y)), ld8((((u8 *)g_static_227) + (i64)(r_2y))));
+    u64 r_c4_1 = (r_2y + 1ull);
+    if (!(r_c4_1 == 11ull)) { r_2y = r_c4_1; goto l_join_6j; }
 l_arm_01:;
     stp(slot_6, r_lz);
     st64(r_x5, r_sb);
@@ -3295,8 +3295,8 @@ l_arm_n5_1:;
 l_capnp_my_1:;
     u8 r_kp_1 = r_p7_1.f0;
     st8(r_gt, r_kp_1);
-    r_ch_1 = (slot_6 + 26);
-    st8(r_ch_1, r_p7_1.f1);
+    r_ch = (slot_6 + 26);
+    st8(r_ch, r_p7_1.f1);
     if (!(r_kp_1 == 0u)) { r_5m = r_kp_1; goto l_capnp_ga; }
     r_52_5 = ld64(r_x5);
     if (r_52_5 > 0x3ffffb8ull) { r_e7_2 = 0u; goto l_arm_n5_2; }
@@ -3308,19 +3308,19 @@ l_capnp_my_1:;
     r_4v = ld64(r_zd_2);
     r_23 = ld64(r_x5);
 l_join_3c:;
-    r_5q_2 = (r_23 + 8ull);
+    r_5q_1 = (r_23 + 8ull);
     r_lz_1 = ldp(slot_6);
     r_2b_2 = away(r_lz_1, r_23);
-    if (((u64)(uptr)r_2b_2 - (u64)(uptr)((u8 *)g_static_142)) < 8ull) { r_wc = 0ull; goto l_join_hl; }
+    if (((u64)(uptr)r_2b_2 - (u64)(uptr)((u8 *)g_static_152)) < 8ull) { r_rz = 0ull; goto l_join_jy; }
     st64(r_2b_2, 0x207364726f77202cull);
     goto l_arm_6h;
-l_join_hl:;
-    st8((r_2b_2 + (i64)(r_wc)), ld8((((u8 *)g_static_142) + (i64)(r_wc))));
-    u64 r_c4_2 = (r_wc + 1ull);
-    if (!(r_c4_2 == 8ull)) { r_wc = r_c4_2; goto l_join_hl; }
+l_join_jy:;
+    st8((r_2b_2 + (i64)(r_rz)), ld8((((u8 *)g_static_152) + (i64)(r_rz))));
+    u64 r_c4_2 = (r_rz + 1ull);
+    if (!(r_c4_2 == 8ull)) { r_rz = r_c4_2; goto l_join_jy; }
 l_arm_6h:;
     stp(slot_6, r_lz_1);
-    st64(r_x5, r_5q_2);
+    st64(r_x5, r_5q_1);
     st64(r_zd_2, r_4v);
     struct s_i8_i8 r_xu = capnp_show_show_text_Text_push_number(slot_6, r_52);
     r_mv = r_xu;
@@ -3332,10 +3332,10 @@ l_arm_n5_2:;
 l_capnp_sw:;
     u8 r_kp_2 = r_mv.f0;
     st8(r_gt, r_kp_2);
-    st8(r_ch_1, r_mv.f1);
-    r_lk_1 = r_kp_2;
+    st8(r_ch, r_mv.f1);
+    r_lk = r_kp_2;
 l_join_pz:;
-    if (!(r_lk_1 == 0u)) { r_5m = r_lk_1; goto l_capnp_ga; }
+    if (!(r_lk == 0u)) { r_5m = r_lk; goto l_capnp_ga; }
     r_52_7 = ld64(r_x5);
     if (r_52_7 > 0x3ffffbfull) { r_fe = 0u; r_4z = 1u; goto l_capnp_x2; }
     r_zd_3 = (slot_6 + 16);
@@ -3360,7 +3360,7 @@ l_capnp_x2:;
 l_capnp_ga:;
     if (a_7 == 0ull) goto l_capnp_d8;
     r_c4_3 = (slot_6 + 48);
-    r_ch_3 = (slot_6 + 26);
+    r_ch_1 = (slot_6 + 26);
     r_i9 = r_5m;
     r_e3 = 0ull;
 l_join_mi:;
@@ -3368,8 +3368,8 @@ l_join_mi:;
     if (!(r_i9 == 0u)) { r_cd = r_i9; goto l_capnp_98; }
     u64 r_52_9 = ld64(r_a8);
     if (!(ld64(r_c4_3) == r_52_9)) { r_tn = r_52_9; goto l_join_48; }
-    u8 r_qh_1 = std_alloc_vec_Vec_grow_amortized_e6560bd0eee8a70a(r_89);
-    if (!r_qh_1) { sink_ph = 1u; goto l_capnp_ct; }
+    u8 r_qh = std_alloc_vec_Vec_grow_amortized_e6560bd0eee8a70a(r_89);
+    if (!r_qh) { sink_ph = 1u; goto l_capnp_ct; }
     r_tn = ld64(r_a8);
 l_join_48:;
     st64((ldp(r_89) + (i64)((u64)(r_tn << 3ull))), (u64)((u64)r_yf << 32ull));
@@ -3377,7 +3377,7 @@ l_join_48:;
     sink_ph = 0u;
 l_capnp_ct:;
     st8(r_gt, sink_ph);
-    st8(r_ch_3, sink_ph);
+    st8(r_ch_1, sink_ph);
     r_cd = sink_ph;
 l_capnp_98:;
     u64 r_36 = (r_e3 + 1ull);
@@ -3396,38 +3396,38 @@ l_capnp_d8:;
     capnp_show_show_lines_show_pointer_5ccc1be374b2e488(slot_5, ld32(r_pi), slot_6);
     goto l_capnp_m3;
 l_arm_h8:;
-    r_38_10 = ld64((slot_4 + 40));
+    r_38 = ld64((slot_4 + 40));
     r_c4_4 = (slot_4 + 48);
     r_z4_1 = ld32((slot_4 + 64));
     r_z4_2 = ld32((slot_4 + 72));
     r_xv = ld16((slot_4 + 80));
     r_f4 = ld16((slot_4 + 82));
-    r_yf_2 = ld32(r_pi);
+    r_yf_1 = ld32(r_pi);
     t_6c = (slot_3 + 56);
     u32 r_uq = ld32((slot_4 + 68));
     st64(t_6c, 0ull);
     capnp_show_show_lines_Lines_write_path(slot_6);
-    st64(slot_2, r_38_10);
+    st64(slot_2, r_38);
     mv16((slot_2 + 8), r_c4_4);
     st32((slot_2 + 24), r_z4_1);
     st32((slot_2 + 28), r_uq);
     capnp_show_show_lines_Lines_write_struct(slot_6, slot_2, r_xv, r_f4);
     if (!(ld8(r_gt) == 0u)) goto l_capnp_o6;
-    r_52_11 = ld64(r_x5);
-    if (r_52_11 > 0x3ffffbfull) { r_fe_1 = 0u; r_4z_1 = 1u; goto l_capnp_x2_1; }
-    r_zd_5 = (slot_6 + 16);
-    u64 r_52_12 = ld64(r_zd_5);
-    if (!(r_52_12 == r_52_11)) { r_uc_1 = r_52_12; r_jc_1 = r_52_11; goto l_join_1m_1; }
+    r_52_10 = ld64(r_x5);
+    if (r_52_10 > 0x3ffffbfull) { r_fe_1 = 0u; r_4z_1 = 1u; goto l_capnp_x2_1; }
+    r_zd_4 = (slot_6 + 16);
+    u64 r_52_11 = ld64(r_zd_4);
+    if (!(r_52_11 == r_52_10)) { r_uc_1 = r_52_11; r_jc_1 = r_52_10; goto l_join_1m_1; }
     u8 r_9h_1 = std_alloc_vec_Vec_grow_amortized_9634afabedddd7ee(slot_6, 1ull);
     if (!r_9h_1) { r_fe_1 = 1u; r_4z_1 = 1u; goto l_capnp_x2_1; }
-    r_uc_1 = ld64(r_zd_5);
+    r_uc_1 = ld64(r_zd_4);
     r_jc_1 = ld64(r_x5);
 l_join_1m_1:;
-    u8 *r_lz_4 = ldp(slot_6);
-    st8(away(r_lz_4, r_jc_1), 10u);
-    stp(slot_6, r_lz_4);
+    u8 *r_lz_3 = ldp(slot_6);
+    st8(away(r_lz_3, r_jc_1), 10u);
+    stp(slot_6, r_lz_3);
     st64(r_x5, (r_jc_1 + 1ull));
-    st64(r_zd_5, r_uc_1);
+    st64(r_zd_4, r_uc_1);
     r_fe_1 = 0u;
     r_4z_1 = 0u;
 l_capnp_x2_1:;
@@ -3436,12 +3436,12 @@ l_capnp_x2_1:;
 l_capnp_o6:;
     st64(slot_3, (u64)r_r5_1);
     mv16((slot_3 + 8), (slot_4 + 24));
-    st64((slot_3 + 24), r_38_10);
+    st64((slot_3 + 24), r_38);
     mv16((slot_3 + 32), r_c4_4);
     st32((slot_3 + 48), uadd_sat32((u32)r_xv, r_z4_1));
     st32((slot_3 + 52), 0u);
     st32(t_6c, r_z4_2);
-    capnp_show_show_lines_show_pointers_5ccc1be374b2e488(slot_3, (u32)r_f4, 0u, r_yf_2, slot_6);
+    capnp_show_show_lines_show_pointers_5ccc1be374b2e488(slot_3, (u32)r_f4, 0u, r_yf_1, slot_6);
     goto l_capnp_m3;
 l_switch_20:;
     u64 switch_xq = ld64((((u8 *)switch_table_capnp_canon_inputs_report_refusal_33) + (i64)(8 * (u64)r_r5)));
@@ -3449,64 +3449,64 @@ l_switch_20:;
     capnp_show_show_lines_Lines_write_path(slot_6);
     capnp_show_show_lines_Lines_write_refusal(slot_6, switch_mb, switch_xq);
 l_capnp_m3:;
-    r_47_5 = ld8(r_gt);
-    switch (r_47_5) {
+    r_47_1 = ld8(r_gt);
+    switch (r_47_1) {
     case 1u: goto l_arm_rj;
     case 0u: goto l_arm_sf;
     default: goto l_arm_st;
     }
 l_arm_rj:;
     if (!(ld8((slot_6 + 26)) == 0u)) goto l_arm_st;
-    r_52_13 = ld64(r_x5);
+    r_52_12 = ld64(r_x5);
     if (!(u8)(ld8(r_x9) & 1)) goto l_join_tl;
-    if (r_52_13 > 0x3ffffe5ull) goto l_arm_st;
-    r_zd_6 = (slot_6 + 16);
-    u64 r_52_14 = ld64(r_zd_6);
-    if (!((r_52_14 - r_52_13) < 27ull)) { r_af = r_52_14; r_vv = r_52_13; goto l_join_ck; }
+    if (r_52_12 > 0x3ffffe5ull) goto l_arm_st;
+    r_zd_5 = (slot_6 + 16);
+    u64 r_52_13 = ld64(r_zd_5);
+    if (!((r_52_13 - r_52_12) < 27ull)) { r_af = r_52_13; r_vv = r_52_12; goto l_join_ck; }
     u8 r_m2 = std_alloc_vec_Vec_grow_amortized_9634afabedddd7ee(slot_6, 27ull);
     if (!r_m2) goto l_arm_st;
-    r_af = ld64(r_zd_6);
+    r_af = ld64(r_zd_5);
     r_vv = ld64(r_x5);
 l_join_ck:;
     r_z4_3 = (r_vv + 27ull);
-    r_lz_5 = ldp(slot_6);
-    r_2b_5 = away(r_lz_5, r_vv);
-    if (((u64)(uptr)r_2b_5 - (u64)(uptr)((u8 *)g_static_249)) < 27ull) { r_wy = 0ull; goto l_join_ma; }
-    mv27(r_2b_5, ((u8 *)g_static_249));
+    r_lz_4 = ldp(slot_6);
+    r_2b_3 = away(r_lz_4, r_vv);
+    if (((u64)(uptr)r_2b_3 - (u64)(uptr)((u8 *)g_static_258)) < 27ull) { r_io = 0ull; goto l_join_rx; }
+    mv27(r_2b_3, ((u8 *)g_static_258));
     goto l_core_pu;
-l_join_ma:;
-    st8((r_2b_5 + (i64)(r_wy)), ld8((((u8 *)g_static_249) + (i64)(r_wy))));
-    u64 r_c4_6 = (r_wy + 1ull);
-    if (!(r_c4_6 == 27ull)) { r_wy = r_c4_6; goto l_join_ma; }
+l_join_rx:;
+    st8((r_2b_3 + (i64)(r_io)), ld8((((u8 *)g_static_258) + (i64)(r_io))));
+    u64 r_c4_5 = (r_io + 1ull);
+    if (!(r_c4_5 == 27ull)) { r_io = r_c4_5; goto l_join_rx; }
 l_core_pu:;
-    stp(slot_6, r_lz_5);
+    stp(slot_6, r_lz_4);
     st64(r_x5, r_z4_3);
-    st64(r_zd_6, r_af);
+    st64(r_zd_5, r_af);
     goto l_arm_sf;
 l_join_tl:;
-    if (r_52_13 > 0x3ffffe9ull) goto l_arm_st;
-    r_zd_7 = (slot_6 + 16);
-    u64 r_52_15 = ld64(r_zd_7);
-    if (!((r_52_15 - r_52_13) < 23ull)) { r_at = r_52_15; r_gh = r_52_13; goto l_join_e5; }
+    if (r_52_12 > 0x3ffffe9ull) goto l_arm_st;
+    r_zd_6 = (slot_6 + 16);
+    u64 r_52_14 = ld64(r_zd_6);
+    if (!((r_52_14 - r_52_12) < 23ull)) { r_at = r_52_14; r_gh = r_52_12; goto l_join_e5; }
     u8 r_wl = std_alloc_vec_Vec_grow_amortized_9634afabedddd7ee(slot_6, 23ull);
     if (!r_wl) goto l_arm_st;
-    r_at = ld64(r_zd_7);
+    r_at = ld64(r_zd_6);
     r_gh = ld64(r_x5);
 l_join_e5:;
     r_y6 = (r_gh + 23ull);
-    r_lz_6 = ldp(slot_6);
-    r_2b_6 = away(r_lz_6, r_gh);
-    if (((u64)(uptr)r_2b_6 - (u64)(uptr)((u8 *)g_static_250)) < 23ull) { r_cm = 0ull; goto l_join_zr; }
-    mv23(r_2b_6, ((u8 *)g_static_250));
+    r_lz_5 = ldp(slot_6);
+    r_2b_4 = away(r_lz_5, r_gh);
+    if (((u64)(uptr)r_2b_4 - (u64)(uptr)((u8 *)g_static_259)) < 23ull) { r_5t = 0ull; goto l_join_mi_1; }
+    mv23(r_2b_4, ((u8 *)g_static_259));
     goto l_core_pu_1;
-l_join_zr:;
-    st8((r_2b_6 + (i64)(r_cm)), ld8((((u8 *)g_static_250) + (i64)(r_cm))));
-    u64 r_c4_7 = (r_cm + 1ull);
-    if (!(r_c4_7 == 23ull)) { r_cm = r_c4_7; goto l_join_zr; }
+l_join_mi_1:;
+    st8((r_2b_4 + (i64)(r_5t)), ld8((((u8 *)g_static_259) + (i64)(r_5t))));
+    u64 r_c4_6 = (r_5t + 1ull);
+    if (!(r_c4_6 == 23ull)) { r_5t = r_c4_6; goto l_join_mi_1; }
 l_core_pu_1:;
-    stp(slot_6, r_lz_6);
+    stp(slot_6, r_lz_5);
     st64(r_x5, r_y6);
-    st64(r_zd_7, r_at);
+    st64(r_zd_6, r_at);
 l_arm_sf:;
     memcpy((slot_7 + 6), slot_6, 88);
     r_kd = 0u;
@@ -3515,9 +3515,9 @@ l_arm_st:;
     if (ld64((slot_6 + 16)) == 0ull) goto l_std_et;
     rattle_dealloc(ldp(slot_6));
 l_std_et:;
-    if (ld64((slot_6 + 48)) == 0ull) { r_kd = r_47_5; goto l_join_0b; }
+    if (ld64((slot_6 + 48)) == 0ull) { r_kd = r_47_1; goto l_join_0b; }
     rattle_dealloc(ldp(r_89));
-    r_kd = r_47_5;
+    r_kd = r_47_1;
 l_join_0b:;
     st8(a_1, r_kd);
     st8(away(a_1, 1ull), 0u);
@@ -3547,35 +3547,35 @@ static void capnp_show_show_lines_show_pointer_5ccc1be374b2e488(u8 *a_1, u32 a_2
     u64 r_qw_2;
     u8 *r_q6;
     u8 r_dd;
-    u8 *r_rq_1;
+    u8 *r_rq;
     u64 r_52;
     u8 *r_08;
     u64 r_0s;
     u64 r_nq;
     u64 r_xe;
     u8 *r_fx;
-    u8 *r_2b_1;
-    u64 r_2y;
+    u8 *r_2b;
+    u64 r_jp;
     u8 r_1e;
     u8 r_6i;
     u8 r_lk;
-    u8 *r_rq_2;
+    u8 *r_rq_1;
     u64 r_52_2;
     u8 *r_08_1;
     u64 r_y1;
     u64 r_pz;
     u64 r_5b;
     u8 *r_fx_1;
-    u8 *r_2b_2;
-    u64 r_om;
+    u8 *r_2b_1;
+    u64 r_ip;
     u8 r_fo;
     u8 r_go;
     u8 *r_q6_1;
     u8 r_r5;
     u32 r_uq;
-    u64 r_38_4;
+    u64 r_38;
     u8 *r_xw;
-    u64 r_38_5;
+    u64 r_38_1;
     u32 r_z4;
     u32 r_uq_1;
     u32 r_z4_1;
@@ -3583,99 +3583,99 @@ static void capnp_show_show_lines_show_pointer_5ccc1be374b2e488(u8 *a_1, u32 a_2
     u32 r_98;
     u32 r_5d;
     u16 r_gr;
-    u8 *r_rq_3;
+    u8 *r_rq_2;
     u64 r_52_4;
     u8 *r_08_2;
-    u64 r_af_1;
+    u64 r_af;
     u64 r_rf;
     u64 r_pk;
     u8 *r_fx_2;
-    u8 *r_2b_3;
-    u64 r_w0;
+    u8 *r_2b_2;
+    u64 r_u0;
     u8 r_1e_1;
     u8 r_6i_1;
     u64 r_24_1;
-    u8 *r_rq_4;
+    u8 *r_rq_3;
     u64 r_52_6;
     u8 *r_08_3;
     u64 r_yi;
-    u64 r_xi_1;
+    u64 r_xi;
     u64 r_4y;
     u8 *r_fx_3;
-    u8 *r_2b_4;
-    u64 r_6g;
+    u8 *r_2b_3;
+    u64 r_hc;
     u8 r_e7;
     struct s_i8_i8 r_o6;
     u8 r_ne;
     u64 switch_xq;
     u8 *switch_mb;
     u64 r_24_2;
-    u8 *r_rq_5;
+    u8 *r_rq_4;
     u64 r_52_8;
     u8 *r_08_4;
     u64 r_7n;
     u64 r_71;
     u64 r_km;
     u8 *r_fx_4;
-    u8 *r_2b_5;
+    u8 *r_2b_4;
     u64 r_qx;
     u8 r_e7_1;
     struct s_i8_i8 r_o6_1;
     u8 r_kp_1;
-    u8 *r_i8_4;
+    u8 *r_i8;
     u64 r_52_10;
     u8 *r_08_5;
     u64 r_8e;
     u64 r_ue;
-    u64 r_hc;
+    u64 r_hc_1;
     u8 *r_fx_5;
-    u8 *r_2b_6;
-    u64 r_ip;
+    u8 *r_2b_5;
+    u64 r_jr;
     u8 r_i7;
-    u8 r_w0_1;
+    u8 r_w0;
     u8 *r_ud;
     u64 a_5j;
-    u8 *r_rq_6;
+    u8 *r_rq_5;
     u64 r_52_13;
     u8 *r_08_6;
     u64 r_c0;
     u64 r_54;
     u64 r_x4;
     u8 *r_fx_6;
-    u8 *r_2b_7;
-    u64 r_p7;
+    u8 *r_2b_6;
+    u64 r_bm;
     u8 r_1e_2;
     u8 r_6i_2;
     u64 r_qd;
     u8 *r_xw_1;
-    u64 r_38_16;
+    u64 r_38_2;
     u8 r_ux;
     u64 r_dq;
-    u8 r_47_13;
+    u8 r_47;
     u8 r_17;
-    u64 r_i2_1;
+    u64 r_i2;
     u64 r_56;
-    u8 *r_i8_6;
-    u8 *r_rq_7;
+    u8 *r_i8_1;
+    u8 *r_rq_6;
     u64 r_52_15;
     u8 *r_08_7;
     u64 r_y1_1;
     u64 r_pz_1;
     u64 r_5b_1;
     u8 *r_fx_7;
-    u8 *r_2b_9;
-    u64 r_1p;
+    u8 *r_2b_7;
+    u64 r_i4;
     u8 r_i7_1;
-    u8 r_w0_2;
+    u8 r_w0_1;
     u8 r_26;
-    u8 *r_rq_8;
+    u8 *r_rq_7;
     u64 r_52_17;
     u8 *r_08_8;
     u64 r_20;
     u64 r_j8;
     u8 r_1e_3;
     u8 r_6i_3;
-    u8 *r_rq_9;
+    u8 *r_rq_8;
     u8 *r_08_9;
     u8 *r_x9;
     u64 r_tc;
@@ -3687,130 +3687,130 @@ static void capnp_show_show_lines_show_pointer_5ccc1be374b2e488(u8 *a_1, u32 a_2
     u64 r_ai;
     u64 r_5q;
     u8 *r_fx_9;
-    u8 *r_i8_8;
-    u8 r_tz_8;
+    u8 *r_i8_2;
+    u8 r_tz;
     u8 *r_iq;
     u64 r_a3;
     u64 r_bp;
     u8 r_ws;
     u8 r_ak;
-    u64 r_gw_1;
-    u8 *r_rq_10;
+    u64 r_gw;
+    u8 *r_rq_9;
     u8 *r_08_10;
-    u8 *r_i8_10;
+    u8 *r_i8_3;
     u64 wide_v1;
-    u64 indvars_2v;
+    u64 indvars_50;
     u64 i_0a;
-    u8 *static_t6;
+    u8 *static_hc;
     u32 t_nk;
     u32 r_st;
-    u64 r_24_4;
+    u64 r_24_3;
     u64 r_de;
     u64 r_zg;
     u64 r_52_21;
     u64 r_4b;
-    u64 r_19_3;
-    u64 r_qh_1;
+    u64 r_19;
+    u64 r_qh;
     u8 *r_fx_10;
-    u8 *r_2b_14;
+    u8 *r_2b_8;
     u64 r_es;
     u8 r_e7_2;
-    struct s_i8_i8 r_su_1;
+    struct s_i8_i8 r_su;
     u8 r_9o;
     u64 r_52_23;
     u64 r_20_1;
     u64 r_j8_1;
     u8 r_ws_1;
     u8 r_ak_1;
-    u64 r_24_5;
-    u8 *r_rq_11;
+    u64 r_24_4;
+    u8 *r_rq_10;
     u64 r_52_25;
     u8 *r_08_11;
     u64 r_kz;
     u64 r_wh;
     u64 r_ob;
     u8 *r_fx_12;
-    u8 *r_2b_16;
-    u64 r_l8;
+    u8 *r_2b_9;
+    u64 r_bd;
     u8 r_e7_3;
     struct s_i8_i8 r_o6_2;
     u8 r_kp_5;
-    u8 *r_i8_11;
+    u8 *r_i8_4;
     u64 r_52_27;
     u8 *r_08_12;
     u64 r_8e_1;
     u64 r_ue_1;
-    u64 r_hc_1;
+    u64 r_hc_2;
     u8 *r_fx_13;
-    u8 *r_2b_17;
-    u64 r_ip_1;
+    u8 *r_2b_10;
+    u64 r_jr_1;
     u8 r_i7_2;
-    u8 r_w0_3;
-    u16 r_pz_3;
-    u64 r_24_6;
-    u8 *r_rq_12;
+    u8 r_w0_2;
+    u16 r_pz_2;
+    u64 r_24_5;
+    u8 *r_rq_11;
     u64 r_52_30;
     u8 *r_08_13;
     u64 r_wv;
     u64 r_9w;
     u64 r_wr;
     u8 *r_fx_14;
-    u8 *r_2b_18;
-    u64 r_e5;
+    u8 *r_2b_11;
+    u64 r_kn;
     u8 r_e7_4;
     struct s_i8_i8 r_o6_3;
     u8 r_kp_6;
-    u8 *r_i8_12;
+    u8 *r_i8_5;
     u64 r_52_32;
     u8 *r_08_14;
     u64 r_8e_2;
     u64 r_ue_2;
-    u64 r_hc_2;
+    u64 r_hc_3;
     u8 *r_fx_15;
-    u8 *r_2b_19;
-    u64 r_ip_2;
+    u8 *r_2b_12;
+    u64 r_jr_2;
     u8 r_i7_3;
-    u8 r_w0_4;
+    u8 r_w0_3;
     u8 r_lr;
     u64 r_w8;
-    u8 *r_rq_14;
+    u8 *r_rq_12;
     u8 *r_08_15;
     u64 r_w4;
     u64 r_61;
     u8 r_fo_1;
     u8 r_go_1;
-    u16 r_t8_1;
-    u32 r_mx_2;
-    u32 r_az_2;
+    u16 r_t8;
+    u32 r_mx;
+    u32 r_az;
     u32 r_68;
-    u8 *r_x5_6;
-    u8 *r_zd_3;
-    u8 *r_lk_6;
-    u8 *r_nk_1;
-    u8 *r_xm_1;
-    u8 *r_t9_18;
-    u8 *r_su_2;
-    u8 *r_i8_14;
-    u8 *r_rq_15;
+    u8 *r_x5;
+    u8 *r_zd;
+    u8 *r_lk_1;
+    u8 *r_nk;
+    u8 *r_xm;
+    u8 *r_t9;
+    u8 *r_su_1;
+    u8 *r_i8_6;
+    u8 *r_rq_13;
     u8 *r_08_16;
-    u8 *r_x5_7;
-    u8 *r_lk_7;
-    u8 *r_89_7;
-    u8 *r_a8_4;
-    u8 *r_c4_20;
-    u8 *r_bk_4;
-    u8 *r_6c_3;
+    u8 *r_x5_1;
+    u8 *r_lk_2;
+    u8 *r_89;
+    u8 *r_a8;
+    u8 *r_c4_15;
+    u8 *r_bk;
+    u8 *r_6c;
     u64 wide_v1_1;
     u64 indvars_lc;
-    u32 t_ql_1;
+    u32 t_ql;
     u64 r_mh;
     u8 sink_ku;
-    u64 r_52_38;
+    u64 r_52_37;
     u64 r_w4_1;
     u64 r_61_1;
     u8 r_i7_4;
-    u8 r_w0_5;
-    u64 r_52_40;
+    u8 r_w0_4;
+    u64 r_52_39;
     r_eg = (u64)ld8(a_1);
     mv16(slot_5, away(a_1, 8ull));
     r_qw = ld64(away(a_1, 24ull));
@@ -3833,8 +3833,8 @@ static void capnp_show_show_lines_show_pointer_5ccc1be374b2e488(u8 *a_1, u32 a_2
     r_dd = ld8(r_q6);
     if ((r_qw_2 & 4ull) == 0ull) { r_lk = r_dd; goto l_join_pz; }
     if (!(r_dd == 0u)) goto l_capnp_0q;
-    r_rq_1 = away(a_3, 8ull);
-    r_52 = ld64(r_rq_1);
+    r_rq = away(a_3, 8ull);
+    r_52 = ld64(r_rq);
     if (r_52 > 0x3ffffb9ull) { r_1e = 0u; r_6i = 1u; goto l_capnp_vj; }
     r_08 = away(a_3, 16ull);
     u64 r_52_1 = ld64(r_08);
@@ -3842,21 +3842,21 @@ static void capnp_show_show_lines_show_pointer_5ccc1be374b2e488(u8 *a_1, u32 a_2
     u8 r_f5 = std_alloc_vec_Vec_grow_amortized_9634afabedddd7ee(a_3, 7ull);
     if (!r_f5) { r_1e = 1u; r_6i = 1u; goto l_capnp_vj; }
     r_0s = ld64(r_08);
-    r_nq = ld64(r_rq_1);
+    r_nq = ld64(r_rq);
 l_join_me:;
     r_xe = (r_nq + 7ull);
     r_fx = ldp(a_3);
-    r_2b_1 = away(r_fx, r_nq);
-    if (((u64)(uptr)r_2b_1 - (u64)(uptr)((u8 *)g_static_227)) < 7ull) { r_2y = 0ull; goto l_join_6j; }
-    mv7(r_2b_1, ((u8 *)g_static_227));
+    r_2b = away(r_fx, r_nq);
+    if (((u64)(uptr)r_2b - (u64)(uptr)((u8 *)g_static_236)) < 7ull) { r_jp = 0ull; goto l_join_2d; }
+    mv7(r_2b, ((u8 *)g_static_236));
     goto l_core_ga;
-l_join_6j:;
-    st8((r_2b_1 + (i64)(r_2y)), ld8((((u8 *)g_static_227) + (i64)(r_2y))));
-    u64 r_c4 = (r_2y + 1ull);
-    if (!(r_c4 == 7ull)) { r_2y = r_c4; goto l_join_6j; }
+l_join_2d:;
+    st8((r_2b + (i64)(r_jp)), ld8((((u8 *)g_static_236) + (i64)(r_jp))));
+    u64 r_c4 = (r_jp + 1ull);
+    if (!(r_c4 == 7ull)) { r_jp = r_c4; goto l_join_2d; }
 l_core_ga:;
     stp(a_3, r_fx);
-    st64(r_rq_1, r_xe);
+    st64(r_rq, r_xe);
     st64(r_08, r_0s);
     r_1e = 0u;
     r_6i = 0u;
@@ -3866,8 +3866,8 @@ l_capnp_vj:;
     r_lk = r_6i;
 l_join_pz:;
     if (!(r_lk == 0u)) goto l_capnp_0q;
-    r_rq_2 = away(a_3, 8ull);
-    r_52_2 = ld64(r_rq_2);
+    r_rq_1 = away(a_3, 8ull);
+    r_52_2 = ld64(r_rq_1);
     if (r_52_2 > 0x3ffffbcull) { r_fo = 0u; r_go = 1u; goto l_capnp_1e; }
     r_08_1 = away(a_3, 16ull);
     u64 r_52_3 = ld64(r_08_1);
@@ -3875,21 +3875,21 @@ l_join_pz:;
     u8 r_t3 = std_alloc_vec_Vec_grow_amortized_9634afabedddd7ee(a_3, 4ull);
     if (!r_t3) { r_fo = 1u; r_go = 1u; goto l_capnp_1e; }
     r_y1 = ld64(r_08_1);
-    r_pz = ld64(r_rq_2);
+    r_pz = ld64(r_rq_1);
 l_join_tt:;
     r_5b = (r_pz + 4ull);
     r_fx_1 = ldp(a_3);
-    r_2b_2 = away(r_fx_1, r_pz);
-    if (((u64)(uptr)r_2b_2 - (u64)(uptr)((u8 *)g_static_228)) < 4ull) { r_om = 0ull; goto l_join_06; }
-    st32(r_2b_2, 0x72616620u);
+    r_2b_1 = away(r_fx_1, r_pz);
+    if (((u64)(uptr)r_2b_1 - (u64)(uptr)((u8 *)g_static_237)) < 4ull) { r_ip = 0ull; goto l_join_z5; }
+    st32(r_2b_1, 0x72616620u);
     goto l_core_ga_1;
-l_join_06:;
-    st8((r_2b_2 + (i64)(r_om)), ld8((((u8 *)g_static_228) + (i64)(r_om))));
-    u64 r_c4_1 = (r_om + 1ull);
-    if (!(r_c4_1 == 4ull)) { r_om = r_c4_1; goto l_join_06; }
+l_join_z5:;
+    st8((r_2b_1 + (i64)(r_ip)), ld8((((u8 *)g_static_237) + (i64)(r_ip))));
+    u64 r_c4_1 = (r_ip + 1ull);
+    if (!(r_c4_1 == 4ull)) { r_ip = r_c4_1; goto l_join_z5; }
 l_core_ga_1:;
     stp(a_3, r_fx_1);
-    st64(r_rq_2, r_5b);
+    st64(r_rq_1, r_5b);
     st64(r_08_1, r_y1);
     r_fo = 0u;
     r_go = 0u;
@@ -3916,9 +3916,9 @@ l_join_cw:;
     r_r5 = ld8((slot_6 + 8));
     if (!(ld8(slot_6) == 0u)) goto l_switch_20;
     r_uq = ld32((slot_6 + 12));
-    r_38_4 = ld64((slot_6 + 16));
+    r_38 = ld64((slot_6 + 16));
     r_xw = ldp((slot_6 + 24));
-    r_38_5 = ld64((slot_6 + 32));
+    r_38_1 = ld64((slot_6 + 32));
     r_z4 = ld32((slot_6 + 40));
     r_uq_1 = ld32((slot_6 + 44));
     r_z4_1 = ld32((slot_6 + 48));
@@ -3938,31 +3938,31 @@ l_join_cw:;
     }
 l_arm_x3:;
     if (!(ld8(r_q6_1) == 0u)) goto l_capnp_qm;
-    r_rq_3 = away(a_3, 8ull);
-    r_52_4 = ld64(r_rq_3);
+    r_rq_2 = away(a_3, 8ull);
+    r_52_4 = ld64(r_rq_2);
     if (r_52_4 > 0x3ffffbbull) { r_1e_1 = 0u; r_6i_1 = 1u; goto l_capnp_vj_1; }
     r_08_2 = away(a_3, 16ull);
     u64 r_52_5 = ld64(r_08_2);
-    if (!((r_52_5 - r_52_4) < 5ull)) { r_af_1 = r_52_5; r_rf = r_52_4; goto l_join_a9; }
+    if (!((r_52_5 - r_52_4) < 5ull)) { r_af = r_52_5; r_rf = r_52_4; goto l_join_a9; }
     u8 r_6h = std_alloc_vec_Vec_grow_amortized_9634afabedddd7ee(a_3, 5ull);
     if (!r_6h) { r_1e_1 = 1u; r_6i_1 = 1u; goto l_capnp_vj_1; }
-    r_af_1 = ld64(r_08_2);
-    r_rf = ld64(r_rq_3);
+    r_af = ld64(r_08_2);
+    r_rf = ld64(r_rq_2);
 l_join_a9:;
     r_pk = (r_rf + 5ull);
     r_fx_2 = ldp(a_3);
-    r_2b_3 = away(r_fx_2, r_rf);
-    if (((u64)(uptr)r_2b_3 - (u64)(uptr)((u8 *)g_static_229)) < 5ull) { r_w0 = 0ull; goto l_join_wk; }
-    mv5(r_2b_3, ((u8 *)g_static_229));
+    r_2b_2 = away(r_fx_2, r_rf);
+    if (((u64)(uptr)r_2b_2 - (u64)(uptr)((u8 *)g_static_238)) < 5ull) { r_u0 = 0ull; goto l_join_dc; }
+    mv5(r_2b_2, ((u8 *)g_static_238));
     goto l_core_ga_2;
-l_join_wk:;
-    st8((r_2b_3 + (i64)(r_w0)), ld8((((u8 *)g_static_229) + (i64)(r_w0))));
-    u64 r_c4_4 = (r_w0 + 1ull);
-    if (!(r_c4_4 == 5ull)) { r_w0 = r_c4_4; goto l_join_wk; }
+l_join_dc:;
+    st8((r_2b_2 + (i64)(r_u0)), ld8((((u8 *)g_static_238) + (i64)(r_u0))));
+    u64 r_c4_2 = (r_u0 + 1ull);
+    if (!(r_c4_2 == 5ull)) { r_u0 = r_c4_2; goto l_join_dc; }
 l_core_ga_2:;
     stp(a_3, r_fx_2);
-    st64(r_rq_3, r_pk);
-    st64(r_08_2, r_af_1);
+    st64(r_rq_2, r_pk);
+    st64(r_08_2, r_af);
     r_1e_1 = 0u;
     r_6i_1 = 0u;
 l_capnp_vj_1:;
@@ -3973,30 +3973,30 @@ l_capnp_vj_1:;
 l_arm_og:;
     r_24_1 = (u64)r_uq;
     if (!(ld8(r_q6_1) == 0u)) goto l_capnp_qm;
-    r_rq_4 = away(a_3, 8ull);
-    r_52_6 = ld64(r_rq_4);
+    r_rq_3 = away(a_3, 8ull);
+    r_52_6 = ld64(r_rq_3);
     if (r_52_6 > 0x3ffffb4ull) { r_e7 = 0u; goto l_arm_n5; }
     r_08_3 = away(a_3, 16ull);
     u64 r_52_7 = ld64(r_08_3);
-    if (!((r_52_7 - r_52_6) < 12ull)) { r_yi = r_52_7; r_xi_1 = r_52_6; goto l_join_4b; }
+    if (!((r_52_7 - r_52_6) < 12ull)) { r_yi = r_52_7; r_xi = r_52_6; goto l_join_4b; }
     u8 r_ul = std_alloc_vec_Vec_grow_amortized_9634afabedddd7ee(a_3, 12ull);
     if (!r_ul) { r_e7 = 1u; goto l_arm_n5; }
     r_yi = ld64(r_08_3);
-    r_xi_1 = ld64(r_rq_4);
+    r_xi = ld64(r_rq_3);
 l_join_4b:;
-    r_4y = (r_xi_1 + 12ull);
+    r_4y = (r_xi + 12ull);
     r_fx_3 = ldp(a_3);
-    r_2b_4 = away(r_fx_3, r_xi_1);
-    if (((u64)(uptr)r_2b_4 - (u64)(uptr)((u8 *)g_static_230)) < 12ull) { r_6g = 0ull; goto l_join_0k; }
-    mv12(r_2b_4, ((u8 *)g_static_230));
+    r_2b_3 = away(r_fx_3, r_xi);
+    if (((u64)(uptr)r_2b_3 - (u64)(uptr)((u8 *)g_static_239)) < 12ull) { r_hc = 0ull; goto l_join_xa; }
+    mv12(r_2b_3, ((u8 *)g_static_239));
     goto l_arm_na;
-l_join_0k:;
-    st8((r_2b_4 + (i64)(r_6g)), ld8((((u8 *)g_static_230) + (i64)(r_6g))));
-    u64 r_c4_5 = (r_6g + 1ull);
-    if (!(r_c4_5 == 12ull)) { r_6g = r_c4_5; goto l_join_0k; }
+l_join_xa:;
+    st8((r_2b_3 + (i64)(r_hc)), ld8((((u8 *)g_static_239) + (i64)(r_hc))));
+    u64 r_c4_3 = (r_hc + 1ull);
+    if (!(r_c4_3 == 12ull)) { r_hc = r_c4_3; goto l_join_xa; }
 l_arm_na:;
     stp(a_3, r_fx_3);
-    st64(r_rq_4, r_4y);
+    st64(r_rq_3, r_4y);
     st64(r_08_3, r_yi);
     struct s_i8_i8 r_zo = capnp_show_show_text_Text_push_number(a_3, r_24_1);
     r_o6 = r_zo;
@@ -4017,8 +4017,8 @@ l_arm_d0:;
     switch_mb = ldp((((u8 *)switch_table_capnp_show_show_lines_show_pointer_5ccc1b_f847c92d) + (i64)(8 * (u64)(r_z4_1 & 255u))));
     r_24_2 = (u64)r_uq_2;
     if (!(ld8(r_q6_1) == 0u)) goto l_capnp_uq;
-    r_rq_5 = away(a_3, 8ull);
-    r_52_8 = ld64(r_rq_5);
+    r_rq_4 = away(a_3, 8ull);
+    r_52_8 = ld64(r_rq_4);
     if ((r_52_8 > 0x3ffffc0ull) ? 1u : ((0x3ffffc0ull - r_52_8) < switch_xq)) { r_e7_1 = 0u; goto l_arm_n5_1; }
     r_08_4 = away(a_3, 16ull);
     u64 r_52_9 = ld64(r_08_4);
@@ -4026,21 +4026,21 @@ l_arm_d0:;
     u8 r_k1 = std_alloc_vec_Vec_grow_amortized_9634afabedddd7ee(a_3, switch_xq);
     if (!r_k1) { r_e7_1 = 1u; goto l_arm_n5_1; }
     r_7n = ld64(r_08_4);
-    r_71 = ld64(r_rq_5);
+    r_71 = ld64(r_rq_4);
 l_join_am:;
     r_km = (r_71 + switch_xq);
     r_fx_4 = ldp(a_3);
-    r_2b_5 = away(r_fx_4, r_71);
-    if (((u64)(uptr)r_2b_5 - (u64)(uptr)switch_mb) < switch_xq) { r_qx = 0ull; goto l_join_7o; }
-    memcpy_or_none(r_2b_5, switch_mb, switch_xq);
+    r_2b_4 = away(r_fx_4, r_71);
+    if (((u64)(uptr)r_2b_4 - (u64)(uptr)switch_mb) < switch_xq) { r_qx = 0ull; goto l_join_7o; }
+    memcpy_or_none(r_2b_4, switch_mb, switch_xq);
     goto l_arm_na_1;
 l_join_7o:;
-    st8((r_2b_5 + (i64)(r_qx)), ld8((switch_mb + (i64)(r_qx))));
-    u64 r_c4_6 = (r_qx + 1ull);
-    if (!(r_c4_6 == switch_xq)) { r_qx = r_c4_6; goto l_join_7o; }
+    st8((r_2b_4 + (i64)(r_qx)), ld8((switch_mb + (i64)(r_qx))));
+    u64 r_c4_4 = (r_qx + 1ull);
+    if (!(r_c4_4 == switch_xq)) { r_qx = r_c4_4; goto l_join_7o; }
 l_arm_na_1:;
     stp(a_3, r_fx_4);
-    st64(r_rq_5, r_km);
+    st64(r_rq_4, r_km);
     st64(r_08_4, r_7n);
     struct s_i8_i8 r_zo_1 = capnp_show_show_text_Text_push_number(a_3, r_24_2);
     r_o6_1 = r_zo_1;
@@ -4052,8 +4052,8 @@ l_arm_n5_1:;
 l_capnp_rc_1:;
     r_kp_1 = r_o6_1.f0;
     st8(r_q6_1, r_kp_1);
-    r_i8_4 = away(a_3, 26ull);
-    st8(r_i8_4, r_o6_1.f1);
+    r_i8 = away(a_3, 26ull);
+    st8(r_i8, r_o6_1.f1);
     if ((u8)(ld8(r_yf) & 1)) goto l_then_pz;
     goto l_capnp_qg;
 l_capnp_uq:;
@@ -4061,37 +4061,37 @@ l_capnp_uq:;
     goto l_capnp_qg;
 l_then_pz:;
     if (!(r_kp_1 == 0u)) goto l_capnp_jh;
-    r_52_10 = ld64(r_rq_5);
-    if (r_52_10 > 0x3ffffbdull) { r_i7 = 0u; r_w0_1 = 1u; goto l_capnp_xz; }
+    r_52_10 = ld64(r_rq_4);
+    if (r_52_10 > 0x3ffffbdull) { r_i7 = 0u; r_w0 = 1u; goto l_capnp_xz; }
     r_08_5 = away(a_3, 16ull);
     u64 r_52_11 = ld64(r_08_5);
     if (!((r_52_11 - r_52_10) < 3ull)) { r_8e = r_52_11; r_ue = r_52_10; goto l_join_h7; }
     u8 r_52_12 = std_alloc_vec_Vec_grow_amortized_9634afabedddd7ee(a_3, 3ull);
-    if (!r_52_12) { r_i7 = 1u; r_w0_1 = 1u; goto l_capnp_xz; }
+    if (!r_52_12) { r_i7 = 1u; r_w0 = 1u; goto l_capnp_xz; }
     r_8e = ld64(r_08_5);
-    r_ue = ld64(r_rq_5);
+    r_ue = ld64(r_rq_4);
 l_join_h7:;
-    r_hc = (r_ue + 3ull);
+    r_hc_1 = (r_ue + 3ull);
     r_fx_5 = ldp(a_3);
-    r_2b_6 = away(r_fx_5, r_ue);
-    if (((u64)(uptr)r_2b_6 - (u64)(uptr)((u8 *)g_static_237)) < 3ull) { r_ip = 0ull; goto l_join_z5; }
-    mv3(r_2b_6, ((u8 *)g_static_237));
+    r_2b_5 = away(r_fx_5, r_ue);
+    if (((u64)(uptr)r_2b_5 - (u64)(uptr)((u8 *)g_static_246)) < 3ull) { r_jr = 0ull; goto l_join_v8; }
+    mv3(r_2b_5, ((u8 *)g_static_246));
     goto l_core_ga_3;
-l_join_z5:;
-    st8((r_2b_6 + (i64)(r_ip)), ld8((((u8 *)g_static_237) + (i64)(r_ip))));
-    u64 r_c4_7 = (r_ip + 1ull);
-    if (!(r_c4_7 == 3ull)) { r_ip = r_c4_7; goto l_join_z5; }
+l_join_v8:;
+    st8((r_2b_5 + (i64)(r_jr)), ld8((((u8 *)g_static_246) + (i64)(r_jr))));
+    u64 r_c4_5 = (r_jr + 1ull);
+    if (!(r_c4_5 == 3ull)) { r_jr = r_c4_5; goto l_join_v8; }
 l_core_ga_3:;
     stp(a_3, r_fx_5);
-    st64(r_rq_5, r_hc);
+    st64(r_rq_4, r_hc_1);
     st64(r_08_5, r_8e);
     r_i7 = 0u;
-    r_w0_1 = 0u;
+    r_w0 = 0u;
 l_capnp_xz:;
-    st8(r_q6_1, r_w0_1);
-    st8(r_i8_4, r_i7);
+    st8(r_q6_1, r_w0);
+    st8(r_i8, r_i7);
 l_capnp_jh:;
-    capnp_show_show_lines_Lines_write_place(a_3, r_38_4, r_z4);
+    capnp_show_show_lines_Lines_write_place(a_3, r_38, r_z4);
 l_capnp_qg:;
     switch (r_ne) {
     case 0u: goto l_join_lc;
@@ -4105,13 +4105,13 @@ l_capnp_qg:;
     default: goto l_noarm_e1_1;
     }
 l_arm_5c:;
-    u64 a_f1 = umin64(r_38_5, (u64)((u64)r_z4 << 3ull));
+    u64 a_f1 = umin64(r_38_1, (u64)((u64)r_z4 << 3ull));
     r_ud = away(r_xw, a_f1);
-    a_5j = umin64((r_38_5 - a_f1), r_24_2);
+    a_5j = umin64((r_38_1 - a_f1), r_24_2);
     if (a_5j == 0ull) goto l_join_lc;
     if (!(ld8(r_q6_1) == 0u)) goto l_join_s7;
-    r_rq_6 = away(a_3, 8ull);
-    r_52_13 = ld64(r_rq_6);
+    r_rq_5 = away(a_3, 8ull);
+    r_52_13 = ld64(r_rq_5);
     if (r_52_13 > 0x3ffffbeull) { r_1e_2 = 0u; r_6i_2 = 1u; goto l_capnp_vj_2; }
     r_08_6 = away(a_3, 16ull);
     u64 r_52_14 = ld64(r_08_6);
@@ -4119,21 +4119,21 @@ l_arm_5c:;
     u8 r_y4 = std_alloc_vec_Vec_grow_amortized_9634afabedddd7ee(a_3, 2ull);
     if (!r_y4) { r_1e_2 = 1u; r_6i_2 = 1u; goto l_capnp_vj_2; }
     r_c0 = ld64(r_08_6);
-    r_54 = ld64(r_rq_6);
+    r_54 = ld64(r_rq_5);
 l_join_p3:;
     r_x4 = (r_54 + 2ull);
     r_fx_6 = ldp(a_3);
-    r_2b_7 = away(r_fx_6, r_54);
-    if (((u64)(uptr)r_2b_7 - (u64)(uptr)((u8 *)g_static_57)) < 2ull) { r_p7 = 0ull; goto l_join_3c; }
-    st16(r_2b_7, 8250u);
+    r_2b_6 = away(r_fx_6, r_54);
+    if (((u64)(uptr)r_2b_6 - (u64)(uptr)((u8 *)g_static_59)) < 2ull) { r_bm = 0ull; goto l_join_ka; }
+    st16(r_2b_6, 8250u);
     goto l_core_ga_4;
-l_join_3c:;
-    st8((r_2b_7 + (i64)(r_p7)), ld8((((u8 *)g_static_57) + (i64)(r_p7))));
-    u64 r_c4_8 = (r_p7 + 1ull);
-    if (!(r_c4_8 == 2ull)) { r_p7 = r_c4_8; goto l_join_3c; }
+l_join_ka:;
+    st8((r_2b_6 + (i64)(r_bm)), ld8((((u8 *)g_static_59) + (i64)(r_bm))));
+    u64 r_c4_6 = (r_bm + 1ull);
+    if (!(r_c4_6 == 2ull)) { r_bm = r_c4_6; goto l_join_ka; }
 l_core_ga_4:;
     stp(a_3, r_fx_6);
-    st64(r_rq_6, r_x4);
+    st64(r_rq_5, r_x4);
     st64(r_08_6, r_c0);
     r_1e_2 = 0u;
     r_6i_2 = 0u;
@@ -4146,7 +4146,7 @@ l_join_s7:;
     memset(slot_1, 0u, 24);
     core_str_utf8_from_utf8(slot_1, r_ud, r_qd);
     r_xw_1 = ldp((slot_1 + 8));
-    r_38_16 = ld64((slot_1 + 16));
+    r_38_2 = ld64((slot_1 + 16));
     if (!(ld8(slot_1) == 0u)) goto l_arm_q4;
     if (r_qd == 0ull) goto l_arm_h9;
     r_ux = 0u;
@@ -4155,70 +4155,70 @@ l_join_s7:;
 l_loop_2r:;
     u64 r_36 = (r_dq + 1ull);
     if (r_36 == r_qd) goto l_arm_h9;
-    r_ux = r_47_13;
+    r_ux = r_47;
     r_dq = r_36;
 l_join_1e:;
-    r_47_13 = ld8(away(r_ud, r_dq));
-    if (!(r_47_13 < 32u)) { r_17 = 0u; goto l_capnp_fz; }
-    r_17 = (u8)((u8)(r_47_13 != 13u) & (u8)((u8)(r_47_13 + 245u) < 254u));
+    r_47 = ld8(away(r_ud, r_dq));
+    if (!(r_47 < 32u)) { r_17 = 0u; goto l_capnp_fz; }
+    r_17 = (u8)((u8)(r_47 != 13u) & (u8)((u8)(r_47 + 245u) < 254u));
 l_capnp_fz:;
-    if ((u8)((u8)(u8)((u8)(r_ux == 194u) & (u8)(r_47_13 < 160u)) | (u8)(u8)((u8)(r_47_13 == 127u) | (u8)r_17))) goto l_arm_q4;
+    if ((u8)((u8)(u8)((u8)(r_ux == 194u) & (u8)(r_47 < 160u)) | (u8)(u8)((u8)(r_47 == 127u) | (u8)r_17))) goto l_arm_q4;
     goto l_loop_2r;
 l_arm_h9:;
-    if (r_38_16 < 1025ull) { r_56 = r_38_16; goto l_capnp_fk; }
-    r_i2_1 = 1024ull;
+    if (r_38_2 < 1025ull) { r_56 = r_38_2; goto l_capnp_fk; }
+    r_i2 = 1024ull;
 l_then_pb:;
-    if (!((i8)ld8((r_xw_1 + (i64)(r_i2_1))) < (i8)192u)) { r_56 = r_i2_1; goto l_capnp_fk; }
-    u64 r_0f = (r_i2_1 + 0xffffffffffffffffull);
+    if (!((i8)ld8((r_xw_1 + (i64)(r_i2))) < (i8)192u)) { r_56 = r_i2; goto l_capnp_fk; }
+    u64 r_0f = (r_i2 + 0xffffffffffffffffull);
     if (r_0f == 0ull) { r_56 = 0ull; goto l_capnp_fk; }
-    r_i2_1 = r_0f;
+    r_i2 = r_0f;
     goto l_then_pb;
 l_capnp_fk:;
     capnp_show_show_lines_Lines_begin(a_3, 2u);
-    u8 r_47_15 = ld8(r_q6_1);
-    if (!(r_47_15 == 0u)) { r_26 = r_47_15; goto l_capnp_b6; }
-    struct s_i8_i8 r_z6_2 = capnp_show_show_text_Text_push_quoted(a_3, r_xw_1, r_56);
-    u8 r_kp_2 = r_z6_2.f0;
+    u8 r_47_1 = ld8(r_q6_1);
+    if (!(r_47_1 == 0u)) { r_26 = r_47_1; goto l_capnp_b6; }
+    struct s_i8_i8 r_z6 = capnp_show_show_text_Text_push_quoted(a_3, r_xw_1, r_56);
+    u8 r_kp_2 = r_z6.f0;
     st8(r_q6_1, r_kp_2);
-    r_i8_6 = away(a_3, 26ull);
-    st8(r_i8_6, r_z6_2.f1);
+    r_i8_1 = away(a_3, 26ull);
+    st8(r_i8_1, r_z6.f1);
     if (!((u8)(ld8(away(a_3, 81ull)) & 1) ? (r_kp_2 == 0u) : 0u)) { r_26 = r_kp_2; goto l_capnp_b6; }
-    r_rq_7 = away(a_3, 8ull);
-    r_52_15 = ld64(r_rq_7);
-    if (r_52_15 > 0x3ffffbcull) { r_i7_1 = 0u; r_w0_2 = 1u; goto l_capnp_xz_1; }
+    r_rq_6 = away(a_3, 8ull);
+    r_52_15 = ld64(r_rq_6);
+    if (r_52_15 > 0x3ffffbcull) { r_i7_1 = 0u; r_w0_1 = 1u; goto l_capnp_xz_1; }
     r_08_7 = away(a_3, 16ull);
     u64 r_52_16 = ld64(r_08_7);
     if (!((r_52_16 - r_52_15) < 4ull)) { r_y1_1 = r_52_16; r_pz_1 = r_52_15; goto l_join_tt_1; }
     u8 r_t3_1 = std_alloc_vec_Vec_grow_amortized_9634afabedddd7ee(a_3, 4ull);
-    if (!r_t3_1) { r_i7_1 = 1u; r_w0_2 = 1u; goto l_capnp_xz_1; }
+    if (!r_t3_1) { r_i7_1 = 1u; r_w0_1 = 1u; goto l_capnp_xz_1; }
     r_y1_1 = ld64(r_08_7);
-    r_pz_1 = ld64(r_rq_7);
+    r_pz_1 = ld64(r_rq_6);
 l_join_tt_1:;
     r_5b_1 = (r_pz_1 + 4ull);
     r_fx_7 = ldp(a_3);
-    r_2b_9 = away(r_fx_7, r_pz_1);
-    if (((u64)(uptr)r_2b_9 - (u64)(uptr)((u8 *)g_static_224)) < 4ull) { r_1p = 0ull; goto l_join_kb; }
-    st32(r_2b_9, 0x6d305b1bu);
+    r_2b_7 = away(r_fx_7, r_pz_1);
+    if (((u64)(uptr)r_2b_7 - (u64)(uptr)((u8 *)g_static_233)) < 4ull) { r_i4 = 0ull; goto l_join_lk; }
+    st32(r_2b_7, 0x6d305b1bu);
     goto l_core_ga_5;
-l_join_kb:;
-    st8((r_2b_9 + (i64)(r_1p)), ld8((((u8 *)g_static_224) + (i64)(r_1p))));
-    u64 r_c4_9 = (r_1p + 1ull);
-    if (!(r_c4_9 == 4ull)) { r_1p = r_c4_9; goto l_join_kb; }
+l_join_lk:;
+    st8((r_2b_7 + (i64)(r_i4)), ld8((((u8 *)g_static_233) + (i64)(r_i4))));
+    u64 r_c4_7 = (r_i4 + 1ull);
+    if (!(r_c4_7 == 4ull)) { r_i4 = r_c4_7; goto l_join_lk; }
 l_core_ga_5:;
     stp(a_3, r_fx_7);
-    st64(r_rq_7, r_5b_1);
+    st64(r_rq_6, r_5b_1);
     st64(r_08_7, r_y1_1);
     r_i7_1 = 0u;
-    r_w0_2 = 0u;
+    r_w0_1 = 0u;
 l_capnp_xz_1:;
-    st8(r_q6_1, r_w0_2);
-    st8(r_i8_6, r_i7_1);
-    r_26 = r_w0_2;
+    st8(r_q6_1, r_w0_1);
+    st8(r_i8_1, r_i7_1);
+    r_26 = r_w0_1;
 l_capnp_b6:;
-    if (!(r_56 < r_38_16)) goto l_join_lc;
-    if (!(r_26 == 0u)) goto l_join_p3_1;
-    r_rq_8 = away(a_3, 8ull);
-    r_52_17 = ld64(r_rq_8);
+    if (!(r_56 < r_38_2)) goto l_join_lc;
+    if (!(r_26 == 0u)) goto l_join_cy;
+    r_rq_7 = away(a_3, 8ull);
+    r_52_17 = ld64(r_rq_7);
     if (r_52_17 > 0x3ffffbfull) { r_1e_3 = 0u; r_6i_3 = 1u; goto l_capnp_vj_3; }
     r_08_8 = away(a_3, 16ull);
     u64 r_52_18 = ld64(r_08_8);
@@ -4226,22 +4226,22 @@ l_capnp_b6:;
     u8 r_av = std_alloc_vec_Vec_grow_amortized_9634afabedddd7ee(a_3, 1ull);
     if (!r_av) { r_1e_3 = 1u; r_6i_3 = 1u; goto l_capnp_vj_3; }
     r_20 = ld64(r_08_8);
-    r_j8 = ld64(r_rq_8);
+    r_j8 = ld64(r_rq_7);
 l_join_jz:;
     u8 *r_fx_8 = ldp(a_3);
     st8(away(r_fx_8, r_j8), 32u);
     stp(a_3, r_fx_8);
-    st64(r_rq_8, (r_j8 + 1ull));
+    st64(r_rq_7, (r_j8 + 1ull));
     st64(r_08_8, r_20);
     r_1e_3 = 0u;
     r_6i_3 = 0u;
 l_capnp_vj_3:;
     st8(r_q6_1, r_6i_3);
     st8(away(a_3, 26ull), r_1e_3);
-    goto l_join_p3_1;
+    goto l_join_cy;
 l_arm_q4:;
     if (!(ld8(r_q6_1) == 0u)) goto l_join_cv;
-    r_rq_9 = away(a_3, 8ull);
+    r_rq_8 = away(a_3, 8ull);
     r_08_9 = away(a_3, 16ull);
     r_x9 = r_ud;
     r_tc = umin64(a_5j, 64ull);
@@ -4250,43 +4250,43 @@ l_join_kl:;
     memset(slot_1, 0u, 1024);
     r_pt = 0ull;
 l_join_jf:;
-    u8 r_47_18 = ld8((r_x9 + (i64)(r_pt)));
-    u8 *r_a7_11 = (slot_1 + (i64)((u64)(r_pt << 1ull)));
-    st8(r_a7_11, ld8((((u8 *)g_static_117) + (i64)((u64)(u8)((u32)r_47_18 >> 4u)))));
-    st8((r_a7_11 + 1), ld8((((u8 *)g_static_117) + (i64)((u64)(u8)(r_47_18 & 15u)))));
-    u64 r_c4_10 = (r_pt + 1ull);
-    if (!(r_c4_10 == a_3q)) { r_pt = r_c4_10; goto l_join_jf; }
+    u8 r_47_2 = ld8((r_x9 + (i64)(r_pt)));
+    u8 *r_a7 = (slot_1 + (i64)((u64)(r_pt << 1ull)));
+    st8(r_a7, ld8((((u8 *)g_static_127) + (i64)((u64)(u8)((u32)r_47_2 >> 4u)))));
+    st8((r_a7 + 1), ld8((((u8 *)g_static_127) + (i64)((u64)(u8)(r_47_2 & 15u)))));
+    u64 r_c4_8 = (r_pt + 1ull);
+    if (!(r_c4_8 == a_3q)) { r_pt = r_c4_8; goto l_join_jf; }
     r_yb = (u64)(a_3q << 1ull);
-    r_52_19 = ld64(r_rq_9);
-    if ((r_52_19 > 0x3ffffc0ull) ? 1u : ((0x3ffffc0ull - r_52_19) < r_yb)) { r_tz_8 = 0u; goto l_join_bo; }
+    r_52_19 = ld64(r_rq_8);
+    if ((r_52_19 > 0x3ffffc0ull) ? 1u : ((0x3ffffc0ull - r_52_19) < r_yb)) { r_tz = 0u; goto l_join_bo; }
     u64 r_52_20 = ld64(r_08_9);
     if (!(r_yb > (r_52_20 - r_52_19))) { r_kp_3 = r_52_20; r_ai = r_52_19; goto l_arm_o0; }
-    u8 r_c4_11 = std_alloc_vec_Vec_grow_amortized_9634afabedddd7ee(a_3, r_yb);
-    if (!r_c4_11) { r_tz_8 = 1u; goto l_join_bo; }
+    u8 r_c4_9 = std_alloc_vec_Vec_grow_amortized_9634afabedddd7ee(a_3, r_yb);
+    if (!r_c4_9) { r_tz = 1u; goto l_join_bo; }
     r_kp_3 = ld64(r_08_9);
-    r_ai = ld64(r_rq_9);
+    r_ai = ld64(r_rq_8);
 l_arm_o0:;
     r_5q = (r_ai + r_yb);
     r_fx_9 = ldp(a_3);
     memcpy_or_none(away(r_fx_9, r_ai), slot_1, r_yb);
     stp(a_3, r_fx_9);
-    st64(r_rq_9, r_5q);
+    st64(r_rq_8, r_5q);
     st64(r_08_9, r_kp_3);
-    u64 r_nr_1 = (r_tc - a_3q);
-    if (!(r_nr_1 == 0ull)) { u8 *r_1 = away(r_x9, a_3q); u64 r_2 = r_nr_1; r_x9 = r_1; r_tc = r_2; goto l_join_kl; }
+    u64 r_nr = (r_tc - a_3q);
+    if (!(r_nr == 0ull)) { u8 *r_1 = away(r_x9, a_3q); u64 r_2 = r_nr; r_x9 = r_1; r_tc = r_2; goto l_join_kl; }
     st8(r_q6_1, 0u);
-    r_i8_8 = away(a_3, 26ull);
-    st8(r_i8_8, 0u);
+    r_i8_2 = away(a_3, 26ull);
+    st8(r_i8_2, 0u);
     if (a_5j > 64ull) goto l_then_zl;
     r_w8 = r_5q;
     goto l_then_m7;
 l_join_bo:;
     st8(r_q6_1, 1u);
-    st8(away(a_3, 26ull), r_tz_8);
-    if (a_5j > 64ull) goto l_join_p3_1;
+    st8(away(a_3, 26ull), r_tz);
+    if (a_5j > 64ull) goto l_join_cy;
     goto l_capnp_qm;
 l_join_cv:;
-    if (a_5j > 64ull) goto l_join_p3_1;
+    if (a_5j > 64ull) goto l_join_cy;
     goto l_capnp_qm;
 l_then_zl:;
     if (r_5q > 0x3ffffbfull) { r_ws = 0u; r_ak = 1u; goto l_capnp_62; }
@@ -4295,31 +4295,31 @@ l_then_zl:;
     if (!r_av_1) { r_ws = 1u; r_ak = 1u; goto l_capnp_62; }
     r_iq = ldp(a_3);
     r_a3 = ld64(r_08_9);
-    r_bp = ld64(r_rq_9);
+    r_bp = ld64(r_rq_8);
 l_join_wl:;
     st8(away(r_iq, r_bp), 32u);
     stp(a_3, r_iq);
-    st64(r_rq_9, (r_bp + 1ull));
+    st64(r_rq_8, (r_bp + 1ull));
     st64(r_08_9, r_a3);
     r_ws = 0u;
     r_ak = 0u;
 l_capnp_62:;
     st8(r_q6_1, r_ak);
-    st8(r_i8_8, r_ws);
-    goto l_join_p3_1;
+    st8(r_i8_2, r_ws);
+    goto l_join_cy;
 l_arm_i8:;
     if (r_uq_2 == 0u) goto l_join_lc;
-    r_gw_1 = (u64)(r_38_5 >> 3ull);
-    r_rq_10 = away(a_3, 8ull);
+    r_gw = (u64)(r_38_1 >> 3ull);
+    r_rq_9 = away(a_3, 8ull);
     r_08_10 = away(a_3, 16ull);
-    r_i8_10 = away(a_3, 26ull);
+    r_i8_3 = away(a_3, 26ull);
     wide_v1 = (u64)umin32(r_uq_2, 64u);
-    indvars_2v = 0ull;
-l_join_yr:;
-    u8 r_5h = (indvars_2v == 0ull);
+    indvars_50 = 0ull;
+l_join_mv:;
+    u8 r_5h = (indvars_50 == 0ull);
     i_0a = (r_5h ? 2ull : 1ull);
-    static_t6 = (r_5h ? ((u8 *)g_static_57) : ((u8 *)g_static_225));
-    t_nk = (u32)indvars_2v;
+    static_hc = (r_5h ? ((u8 *)g_static_59) : ((u8 *)g_static_234));
+    t_nk = (u32)indvars_50;
     switch (r_ne) {
     case 1u: goto l_arm_gd;
     case 2u: goto l_arm_g8;
@@ -4346,9 +4346,9 @@ l_arm_0o:;
 l_noarm_e1_2:;
     UNREACHABLE();
 l_capnp_k6:;
-    r_24_4 = (u64)uadd_sat32(r_st, r_z4);
-    if (!(r_gw_1 > r_24_4)) { r_de = 0ull; goto l_capnp_0h; }
-    r_de = ld64(away(r_xw, (u64)(r_24_4 << 3ull)));
+    r_24_3 = (u64)uadd_sat32(r_st, r_z4);
+    if (!(r_gw > r_24_3)) { r_de = 0ull; goto l_capnp_0h; }
+    r_de = ld64(away(r_xw, (u64)(r_24_3 << 3ull)));
 l_capnp_0h:;
     switch (r_ne) {
     case 1u: goto l_arm_6b;
@@ -4362,98 +4362,98 @@ l_capnp_0h:;
     default: goto l_noarm_e1_3;
     }
 l_arm_6b:;
-    r_zg = ((u64)(r_de >> (indvars_2v & 63u)) & 1ull);
+    r_zg = ((u64)(r_de >> (indvars_50 & 63u)) & 1ull);
     goto l_capnp_x3;
 l_arm_qk:;
-    r_zg = ((u64)(r_de >> (((u64)(indvars_2v << 3ull) & 56ull) & 63u)) & 255ull);
+    r_zg = ((u64)(r_de >> (((u64)(indvars_50 << 3ull) & 56ull) & 63u)) & 255ull);
     goto l_capnp_x3;
 l_arm_5n:;
-    r_zg = ((u64)(r_de >> (((u64)(indvars_2v << 4ull) & 48ull) & 63u)) & 65535ull);
+    r_zg = ((u64)(r_de >> (((u64)(indvars_50 << 4ull) & 48ull) & 63u)) & 65535ull);
     goto l_capnp_x3;
 l_arm_ld:;
-    r_zg = ((u64)(r_de >> (((u64)(indvars_2v << 5ull) & 32ull) & 63u)) & 0xffffffffull);
+    r_zg = ((u64)(r_de >> (((u64)(indvars_50 << 5ull) & 32ull) & 63u)) & 0xffffffffull);
     goto l_capnp_x3;
 l_noarm_e1_3:;
     UNREACHABLE();
 l_capnp_x3:;
     if (!(ld8(r_q6_1) == 0u)) { r_9o = 0u; goto l_capnp_4g; }
-    r_52_21 = ld64(r_rq_10);
+    r_52_21 = ld64(r_rq_9);
     if ((r_52_21 > 0x3ffffc0ull) ? 1u : ((0x3ffffc0ull - r_52_21) < i_0a)) { r_e7_2 = 0u; goto l_arm_n5_2; }
     u64 r_52_22 = ld64(r_08_10);
-    if (!(i_0a > (r_52_22 - r_52_21))) { r_4b = r_52_22; r_19_3 = r_52_21; goto l_join_ue; }
+    if (!(i_0a > (r_52_22 - r_52_21))) { r_4b = r_52_22; r_19 = r_52_21; goto l_join_ue; }
     u8 r_9u = std_alloc_vec_Vec_grow_amortized_9634afabedddd7ee(a_3, i_0a);
     if (!r_9u) { r_e7_2 = 1u; goto l_arm_n5_2; }
     r_4b = ld64(r_08_10);
-    r_19_3 = ld64(r_rq_10);
+    r_19 = ld64(r_rq_9);
 l_join_ue:;
-    r_qh_1 = (r_19_3 + i_0a);
+    r_qh = (r_19 + i_0a);
     r_fx_10 = ldp(a_3);
-    r_2b_14 = away(r_fx_10, r_19_3);
-    if (((u64)(uptr)r_2b_14 - (u64)(uptr)static_t6) < i_0a) { r_es = 0ull; goto l_join_fx; }
-    memcpy_or_none(r_2b_14, static_t6, i_0a);
+    r_2b_8 = away(r_fx_10, r_19);
+    if (((u64)(uptr)r_2b_8 - (u64)(uptr)static_hc) < i_0a) { r_es = 0ull; goto l_join_fx; }
+    memcpy_or_none(r_2b_8, static_hc, i_0a);
     goto l_arm_na_2;
 l_join_fx:;
-    st8((r_2b_14 + (i64)(r_es)), ld8((static_t6 + (i64)(r_es))));
-    u64 r_c4_12 = (r_es + 1ull);
-    if (!(r_c4_12 == i_0a)) { r_es = r_c4_12; goto l_join_fx; }
+    st8((r_2b_8 + (i64)(r_es)), ld8((static_hc + (i64)(r_es))));
+    u64 r_c4_10 = (r_es + 1ull);
+    if (!(r_c4_10 == i_0a)) { r_es = r_c4_10; goto l_join_fx; }
 l_arm_na_2:;
     stp(a_3, r_fx_10);
-    st64(r_rq_10, r_qh_1);
+    st64(r_rq_9, r_qh);
     st64(r_08_10, r_4b);
     struct s_i8_i8 r_zo_2 = capnp_show_show_text_Text_push_number(a_3, r_zg);
-    r_su_1 = r_zo_2;
+    r_su = r_zo_2;
     goto l_capnp_kx;
 l_arm_n5_2:;
     struct s_i8_i8 t_fj_2 = (struct s_i8_i8){ 1u, 0u };
     t_fj_2.f1 = r_e7_2;
-    r_su_1 = t_fj_2;
+    r_su = t_fj_2;
 l_capnp_kx:;
-    u8 r_kp_4 = r_su_1.f0;
+    u8 r_kp_4 = r_su.f0;
     st8(r_q6_1, r_kp_4);
-    st8(r_i8_10, r_su_1.f1);
+    st8(r_i8_3, r_su.f1);
     r_9o = (r_kp_4 == 0u);
 l_capnp_4g:;
-    u64 indvars_r7 = (indvars_2v + 1ull);
-    if (!(indvars_r7 == wide_v1)) { indvars_2v = indvars_r7; goto l_join_yr; }
+    u64 indvars_r7 = (indvars_50 + 1ull);
+    if (!(indvars_r7 == wide_v1)) { indvars_50 = indvars_r7; goto l_join_mv; }
     if (!(r_uq_2 > 64u)) goto l_join_lc;
-    if (!r_9o) goto l_join_p3_1;
-    r_52_23 = ld64(r_rq_10);
+    if (!r_9o) goto l_join_cy;
+    r_52_23 = ld64(r_rq_9);
     if (r_52_23 > 0x3ffffbfull) { r_ws_1 = 0u; r_ak_1 = 1u; goto l_capnp_62_1; }
     u64 r_52_24 = ld64(r_08_10);
     if (!(r_52_24 == r_52_23)) { r_20_1 = r_52_24; r_j8_1 = r_52_23; goto l_join_jz_1; }
     u8 r_av_2 = std_alloc_vec_Vec_grow_amortized_9634afabedddd7ee(a_3, 1ull);
     if (!r_av_2) { r_ws_1 = 1u; r_ak_1 = 1u; goto l_capnp_62_1; }
     r_20_1 = ld64(r_08_10);
-    r_j8_1 = ld64(r_rq_10);
+    r_j8_1 = ld64(r_rq_9);
 l_join_jz_1:;
     u8 *r_fx_11 = ldp(a_3);
     st8(away(r_fx_11, r_j8_1), 32u);
     stp(a_3, r_fx_11);
-    st64(r_rq_10, (r_j8_1 + 1ull));
+    st64(r_rq_9, (r_j8_1 + 1ull));
     st64(r_08_10, r_20_1);
     r_ws_1 = 0u;
     r_ak_1 = 0u;
 l_capnp_62_1:;
     st8(r_q6_1, r_ak_1);
-    st8(r_i8_10, r_ws_1);
-l_join_p3_1:;
-    capnp_show_show_lines_Lines_write_part(a_3, ((u8 *)g_static_238), 2ull);
+    st8(r_i8_3, r_ws_1);
+l_join_cy:;
+    capnp_show_show_lines_Lines_write_part(a_3, ((u8 *)g_static_247), 2ull);
     goto l_join_lc;
 l_noarm_e1_1:;
     UNREACHABLE();
 l_arm_p0:;
-    st64(slot_2, r_38_4);
+    st64(slot_2, r_38);
     stp((slot_2 + 8), r_xw);
-    st64((slot_2 + 16), r_38_5);
+    st64((slot_2 + 16), r_38_1);
     st32((slot_2 + 24), r_z4);
     st32((slot_2 + 28), r_uq_1);
     capnp_show_show_lines_Lines_write_struct(a_3, slot_2, (u16)((u16)((u32)(u16)r_98 << 8u) | (u16)((u16)r_z4_1 & 255u)), r_gr);
     goto l_join_lc;
 l_arm_og_1:;
-    r_24_5 = (u64)r_z4_1;
+    r_24_4 = (u64)r_z4_1;
     if (!(ld8(r_q6_1) == 0u)) goto l_capnp_uq_1;
-    r_rq_11 = away(a_3, 8ull);
-    r_52_25 = ld64(r_rq_11);
+    r_rq_10 = away(a_3, 8ull);
+    r_52_25 = ld64(r_rq_10);
     if (r_52_25 > 0x3ffffb6ull) { r_e7_3 = 0u; goto l_arm_n5_3; }
     r_08_11 = away(a_3, 16ull);
     u64 r_52_26 = ld64(r_08_11);
@@ -4461,23 +4461,23 @@ l_arm_og_1:;
     u8 r_74 = std_alloc_vec_Vec_grow_amortized_9634afabedddd7ee(a_3, 10ull);
     if (!r_74) { r_e7_3 = 1u; goto l_arm_n5_3; }
     r_kz = ld64(r_08_11);
-    r_wh = ld64(r_rq_11);
+    r_wh = ld64(r_rq_10);
 l_join_67:;
     r_ob = (r_wh + 10ull);
     r_fx_12 = ldp(a_3);
-    r_2b_16 = away(r_fx_12, r_wh);
-    if (((u64)(uptr)r_2b_16 - (u64)(uptr)((u8 *)g_static_244)) < 10ull) { r_l8 = 0ull; goto l_join_j7; }
-    mv10(r_2b_16, ((u8 *)g_static_244));
+    r_2b_9 = away(r_fx_12, r_wh);
+    if (((u64)(uptr)r_2b_9 - (u64)(uptr)((u8 *)g_static_253)) < 10ull) { r_bd = 0ull; goto l_join_p7; }
+    mv10(r_2b_9, ((u8 *)g_static_253));
     goto l_arm_na_3;
-l_join_j7:;
-    st8((r_2b_16 + (i64)(r_l8)), ld8((((u8 *)g_static_244) + (i64)(r_l8))));
-    u64 r_c4_14 = (r_l8 + 1ull);
-    if (!(r_c4_14 == 10ull)) { r_l8 = r_c4_14; goto l_join_j7; }
+l_join_p7:;
+    st8((r_2b_9 + (i64)(r_bd)), ld8((((u8 *)g_static_253) + (i64)(r_bd))));
+    u64 r_c4_11 = (r_bd + 1ull);
+    if (!(r_c4_11 == 10ull)) { r_bd = r_c4_11; goto l_join_p7; }
 l_arm_na_3:;
     stp(a_3, r_fx_12);
-    st64(r_rq_11, r_ob);
+    st64(r_rq_10, r_ob);
     st64(r_08_11, r_kz);
-    struct s_i8_i8 r_zo_3 = capnp_show_show_text_Text_push_number(a_3, r_24_5);
+    struct s_i8_i8 r_zo_3 = capnp_show_show_text_Text_push_number(a_3, r_24_4);
     r_o6_2 = r_zo_3;
     goto l_capnp_rc_2;
 l_arm_n5_3:;
@@ -4487,8 +4487,8 @@ l_arm_n5_3:;
 l_capnp_rc_2:;
     r_kp_5 = r_o6_2.f0;
     st8(r_q6_1, r_kp_5);
-    r_i8_11 = away(a_3, 26ull);
-    st8(r_i8_11, r_o6_2.f1);
+    r_i8_4 = away(a_3, 26ull);
+    st8(r_i8_4, r_o6_2.f1);
     if ((u8)(ld8(r_yf) & 1)) goto l_then_pz_1;
     r_lr = r_kp_5;
     goto l_join_ed;
@@ -4497,68 +4497,68 @@ l_capnp_uq_1:;
     goto l_capnp_qm;
 l_then_pz_1:;
     if (!(r_kp_5 == 0u)) goto l_capnp_72;
-    r_52_27 = ld64(r_rq_11);
-    if (r_52_27 > 0x3ffffbdull) { r_i7_2 = 0u; r_w0_3 = 1u; goto l_capnp_xz_2; }
+    r_52_27 = ld64(r_rq_10);
+    if (r_52_27 > 0x3ffffbdull) { r_i7_2 = 0u; r_w0_2 = 1u; goto l_capnp_xz_2; }
     r_08_12 = away(a_3, 16ull);
     u64 r_52_28 = ld64(r_08_12);
     if (!((r_52_28 - r_52_27) < 3ull)) { r_8e_1 = r_52_28; r_ue_1 = r_52_27; goto l_join_h7_1; }
     u8 r_52_29 = std_alloc_vec_Vec_grow_amortized_9634afabedddd7ee(a_3, 3ull);
-    if (!r_52_29) { r_i7_2 = 1u; r_w0_3 = 1u; goto l_capnp_xz_2; }
+    if (!r_52_29) { r_i7_2 = 1u; r_w0_2 = 1u; goto l_capnp_xz_2; }
     r_8e_1 = ld64(r_08_12);
-    r_ue_1 = ld64(r_rq_11);
+    r_ue_1 = ld64(r_rq_10);
 l_join_h7_1:;
-    r_hc_1 = (r_ue_1 + 3ull);
+    r_hc_2 = (r_ue_1 + 3ull);
     r_fx_13 = ldp(a_3);
-    r_2b_17 = away(r_fx_13, r_ue_1);
-    if (((u64)(uptr)r_2b_17 - (u64)(uptr)((u8 *)g_static_237)) < 3ull) { r_ip_1 = 0ull; goto l_join_z5_1; }
-    mv3(r_2b_17, ((u8 *)g_static_237));
+    r_2b_10 = away(r_fx_13, r_ue_1);
+    if (((u64)(uptr)r_2b_10 - (u64)(uptr)((u8 *)g_static_246)) < 3ull) { r_jr_1 = 0ull; goto l_join_v8_1; }
+    mv3(r_2b_10, ((u8 *)g_static_246));
     goto l_core_ga_6;
-l_join_z5_1:;
-    st8((r_2b_17 + (i64)(r_ip_1)), ld8((((u8 *)g_static_237) + (i64)(r_ip_1))));
-    u64 r_c4_15 = (r_ip_1 + 1ull);
-    if (!(r_c4_15 == 3ull)) { r_ip_1 = r_c4_15; goto l_join_z5_1; }
+l_join_v8_1:;
+    st8((r_2b_10 + (i64)(r_jr_1)), ld8((((u8 *)g_static_246) + (i64)(r_jr_1))));
+    u64 r_c4_12 = (r_jr_1 + 1ull);
+    if (!(r_c4_12 == 3ull)) { r_jr_1 = r_c4_12; goto l_join_v8_1; }
 l_core_ga_6:;
     stp(a_3, r_fx_13);
-    st64(r_rq_11, r_hc_1);
+    st64(r_rq_10, r_hc_2);
     st64(r_08_12, r_8e_1);
     r_i7_2 = 0u;
-    r_w0_3 = 0u;
+    r_w0_2 = 0u;
 l_capnp_xz_2:;
-    st8(r_q6_1, r_w0_3);
-    st8(r_i8_11, r_i7_2);
+    st8(r_q6_1, r_w0_2);
+    st8(r_i8_4, r_i7_2);
 l_capnp_72:;
-    capnp_show_show_lines_Lines_write_place(a_3, r_38_4, r_z4);
+    capnp_show_show_lines_Lines_write_place(a_3, r_38, r_z4);
     goto l_join_lc;
 l_arm_0h:;
-    r_pz_3 = (u16)((u16)((u32)(u16)r_98 << 8u) | (u16)((u16)r_z4_1 & 255u));
-    r_24_6 = (u64)r_uq_2;
+    r_pz_2 = (u16)((u16)((u32)(u16)r_98 << 8u) | (u16)((u16)r_z4_1 & 255u));
+    r_24_5 = (u64)r_uq_2;
     if (!(ld8(r_q6_1) == 0u)) goto l_capnp_uq_2;
-    r_rq_12 = away(a_3, 8ull);
-    r_52_30 = ld64(r_rq_12);
+    r_rq_11 = away(a_3, 8ull);
+    r_52_30 = ld64(r_rq_11);
     if (r_52_30 > 0x3ffffb7ull) { r_e7_4 = 0u; goto l_arm_n5_4; }
     r_08_13 = away(a_3, 16ull);
     u64 r_52_31 = ld64(r_08_13);
     if (!((r_52_31 - r_52_30) < 9ull)) { r_wv = r_52_31; r_9w = r_52_30; goto l_join_k6; }
-    u8 r_om_1 = std_alloc_vec_Vec_grow_amortized_9634afabedddd7ee(a_3, 9ull);
-    if (!r_om_1) { r_e7_4 = 1u; goto l_arm_n5_4; }
+    u8 r_om = std_alloc_vec_Vec_grow_amortized_9634afabedddd7ee(a_3, 9ull);
+    if (!r_om) { r_e7_4 = 1u; goto l_arm_n5_4; }
     r_wv = ld64(r_08_13);
-    r_9w = ld64(r_rq_12);
+    r_9w = ld64(r_rq_11);
 l_join_k6:;
     r_wr = (r_9w + 9ull);
     r_fx_14 = ldp(a_3);
-    r_2b_18 = away(r_fx_14, r_9w);
-    if (((u64)(uptr)r_2b_18 - (u64)(uptr)((u8 *)g_static_245)) < 9ull) { r_e5 = 0ull; goto l_join_vq; }
-    mv9(r_2b_18, ((u8 *)g_static_245));
+    r_2b_11 = away(r_fx_14, r_9w);
+    if (((u64)(uptr)r_2b_11 - (u64)(uptr)((u8 *)g_static_254)) < 9ull) { r_kn = 0ull; goto l_join_lh; }
+    mv9(r_2b_11, ((u8 *)g_static_254));
     goto l_arm_na_4;
-l_join_vq:;
-    st8((r_2b_18 + (i64)(r_e5)), ld8((((u8 *)g_static_245) + (i64)(r_e5))));
-    u64 r_c4_16 = (r_e5 + 1ull);
-    if (!(r_c4_16 == 9ull)) { r_e5 = r_c4_16; goto l_join_vq; }
+l_join_lh:;
+    st8((r_2b_11 + (i64)(r_kn)), ld8((((u8 *)g_static_254) + (i64)(r_kn))));
+    u64 r_c4_13 = (r_kn + 1ull);
+    if (!(r_c4_13 == 9ull)) { r_kn = r_c4_13; goto l_join_lh; }
 l_arm_na_4:;
     stp(a_3, r_fx_14);
-    st64(r_rq_12, r_wr);
+    st64(r_rq_11, r_wr);
     st64(r_08_13, r_wv);
-    struct s_i8_i8 r_zo_4 = capnp_show_show_text_Text_push_number(a_3, r_24_6);
+    struct s_i8_i8 r_zo_4 = capnp_show_show_text_Text_push_number(a_3, r_24_5);
     r_o6_3 = r_zo_4;
     goto l_capnp_rc_3;
 l_arm_n5_4:;
@@ -4568,8 +4568,8 @@ l_arm_n5_4:;
 l_capnp_rc_3:;
     r_kp_6 = r_o6_3.f0;
     st8(r_q6_1, r_kp_6);
-    r_i8_12 = away(a_3, 26ull);
-    st8(r_i8_12, r_o6_3.f1);
+    r_i8_5 = away(a_3, 26ull);
+    st8(r_i8_5, r_o6_3.f1);
     if ((u8)(ld8(r_yf) & 1)) goto l_then_pz_2;
     goto l_capnp_u5;
 l_capnp_uq_2:;
@@ -4577,46 +4577,46 @@ l_capnp_uq_2:;
     goto l_capnp_u5;
 l_then_pz_2:;
     if (!(r_kp_6 == 0u)) goto l_capnp_jh_1;
-    r_52_32 = ld64(r_rq_12);
-    if (r_52_32 > 0x3ffffbdull) { r_i7_3 = 0u; r_w0_4 = 1u; goto l_capnp_xz_3; }
+    r_52_32 = ld64(r_rq_11);
+    if (r_52_32 > 0x3ffffbdull) { r_i7_3 = 0u; r_w0_3 = 1u; goto l_capnp_xz_3; }
     r_08_14 = away(a_3, 16ull);
     u64 r_52_33 = ld64(r_08_14);
     if (!((r_52_33 - r_52_32) < 3ull)) { r_8e_2 = r_52_33; r_ue_2 = r_52_32; goto l_join_h7_2; }
     u8 r_52_34 = std_alloc_vec_Vec_grow_amortized_9634afabedddd7ee(a_3, 3ull);
-    if (!r_52_34) { r_i7_3 = 1u; r_w0_4 = 1u; goto l_capnp_xz_3; }
+    if (!r_52_34) { r_i7_3 = 1u; r_w0_3 = 1u; goto l_capnp_xz_3; }
     r_8e_2 = ld64(r_08_14);
-    r_ue_2 = ld64(r_rq_12);
+    r_ue_2 = ld64(r_rq_11);
 l_join_h7_2:;
-    r_hc_2 = (r_ue_2 + 3ull);
+    r_hc_3 = (r_ue_2 + 3ull);
     r_fx_15 = ldp(a_3);
-    r_2b_19 = away(r_fx_15, r_ue_2);
-    if (((u64)(uptr)r_2b_19 - (u64)(uptr)((u8 *)g_static_237)) < 3ull) { r_ip_2 = 0ull; goto l_join_z5_2; }
-    mv3(r_2b_19, ((u8 *)g_static_237));
+    r_2b_12 = away(r_fx_15, r_ue_2);
+    if (((u64)(uptr)r_2b_12 - (u64)(uptr)((u8 *)g_static_246)) < 3ull) { r_jr_2 = 0ull; goto l_join_v8_2; }
+    mv3(r_2b_12, ((u8 *)g_static_246));
     goto l_core_ga_7;
-l_join_z5_2:;
-    st8((r_2b_19 + (i64)(r_ip_2)), ld8((((u8 *)g_static_237) + (i64)(r_ip_2))));
-    u64 r_c4_17 = (r_ip_2 + 1ull);
-    if (!(r_c4_17 == 3ull)) { r_ip_2 = r_c4_17; goto l_join_z5_2; }
+l_join_v8_2:;
+    st8((r_2b_12 + (i64)(r_jr_2)), ld8((((u8 *)g_static_246) + (i64)(r_jr_2))));
+    u64 r_c4_14 = (r_jr_2 + 1ull);
+    if (!(r_c4_14 == 3ull)) { r_jr_2 = r_c4_14; goto l_join_v8_2; }
 l_core_ga_7:;
     stp(a_3, r_fx_15);
-    st64(r_rq_12, r_hc_2);
+    st64(r_rq_11, r_hc_3);
     st64(r_08_14, r_8e_2);
     r_i7_3 = 0u;
-    r_w0_4 = 0u;
+    r_w0_3 = 0u;
 l_capnp_xz_3:;
-    st8(r_q6_1, r_w0_4);
-    st8(r_i8_12, r_i7_3);
+    st8(r_q6_1, r_w0_3);
+    st8(r_i8_5, r_i7_3);
 l_capnp_jh_1:;
-    capnp_show_show_lines_Lines_write_place(a_3, r_38_4, r_z4);
+    capnp_show_show_lines_Lines_write_place(a_3, r_38, r_z4);
 l_capnp_u5:;
-    capnp_show_show_lines_Lines_write_sizes(a_3, r_pz_3, r_gr);
+    capnp_show_show_lines_Lines_write_sizes(a_3, r_pz_2, r_gr);
 l_join_lc:;
     r_lr = ld8(r_q6_1);
 l_join_ed:;
     if (!(r_lr == 0u)) goto l_capnp_qm;
     r_w8 = ld64(away(a_3, 8ull));
 l_then_m7:;
-    r_rq_14 = away(a_3, 8ull);
+    r_rq_12 = away(a_3, 8ull);
     if (r_w8 > 0x3ffffbfull) { r_fo_1 = 0u; r_go_1 = 1u; goto l_capnp_1e_1; }
     r_08_15 = away(a_3, 16ull);
     u64 r_52_35 = ld64(r_08_15);
@@ -4624,12 +4624,12 @@ l_then_m7:;
     u8 r_av_3 = std_alloc_vec_Vec_grow_amortized_9634afabedddd7ee(a_3, 1ull);
     if (!r_av_3) { r_fo_1 = 1u; r_go_1 = 1u; goto l_capnp_1e_1; }
     r_w4 = ld64(r_08_15);
-    r_61 = ld64(r_rq_14);
+    r_61 = ld64(r_rq_12);
 l_join_e4:;
     u8 *r_fx_16 = ldp(a_3);
     st8(away(r_fx_16, r_61), 10u);
     stp(a_3, r_fx_16);
-    st64(r_rq_14, (r_61 + 1ull));
+    st64(r_rq_12, (r_61 + 1ull));
     st64(r_08_15, r_w4);
     r_fo_1 = 0u;
     r_go_1 = 0u;
@@ -4640,7 +4640,7 @@ l_capnp_1e_1:;
 l_noarm_e1:;
     UNREACHABLE();
 l_capnp_qm:;
-    r_t8_1 = (u16)r_z4_1;
+    r_t8 = (u16)r_z4_1;
     st64((slot_3 + 56), 0ull);
     st64((slot_4 + 56), 0ull);
     switch (r_r5) {
@@ -4655,9 +4655,9 @@ l_capnp_qm:;
 l_arm_zp:;
     st64(slot_3, r_eg);
     mv16((slot_3 + 8), slot_5);
-    st64((slot_3 + 24), r_38_4);
+    st64((slot_3 + 24), r_38);
     stp((slot_3 + 32), r_xw);
-    st64((slot_3 + 40), r_38_5);
+    st64((slot_3 + 40), r_38_1);
     st32((slot_3 + 48), uadd_sat32((r_z4_1 & 65535u), r_z4));
     st32((slot_3 + 52), 0u);
     st32((slot_3 + 56), ((r_5k_2 == 0x80000000u) ? 0x80000000u : (r_5k_2 + 0xffffffffu)));
@@ -4666,100 +4666,100 @@ l_arm_zp:;
 l_arm_qc:;
     mv16((slot_4 + 8), slot_5);
     st64(slot_4, r_eg);
-    st64((slot_4 + 24), r_38_4);
+    st64((slot_4 + 24), r_38);
     stp((slot_4 + 32), r_xw);
-    st64((slot_4 + 40), r_38_5);
+    st64((slot_4 + 40), r_38_1);
     st32((slot_4 + 48), r_z4);
     st32((slot_4 + 52), 0u);
     st32((slot_4 + 56), ((r_5k_2 == 0x80000000u) ? 0x80000000u : (r_5k_2 + 0xffffffffu)));
     capnp_show_show_lines_show_pointers_5ccc1be374b2e488(slot_4, r_z4_1, 1u, a_2, a_3);
     goto l_capnp_zr;
 l_arm_pg:;
-    r_mx_2 = ((r_5k_2 == 0x80000000u) ? 0x80000000u : (r_5k_2 + 0xffffffffu));
+    r_mx = ((r_5k_2 == 0x80000000u) ? 0x80000000u : (r_5k_2 + 0xffffffffu));
     memset(slot_2, 0u, 64);
-    r_az_2 = (r_z4_1 & 65535u);
-    r_68 = (r_5d + r_az_2);
+    r_az = (r_z4_1 & 65535u);
+    r_68 = (r_5d + r_az);
     if (r_68 == 0u) goto l_capnp_8g;
     if (!(a_2 == 0u)) goto l_join_rh;
     capnp_show_show_lines_Lines_write_depth_cut(a_3, r_uq_2);
     goto l_capnp_8g;
 l_join_rh:;
     if (r_uq_2 == 0u) goto l_after_mr;
-    r_x5_6 = (slot_1 + 8);
-    r_zd_3 = (slot_1 + 16);
-    r_lk_6 = (slot_1 + 24);
-    r_nk_1 = (slot_1 + 28);
-    r_xm_1 = away(a_3, 32ull);
-    r_t9_18 = away(a_3, 48ull);
-    r_su_2 = away(a_3, 40ull);
-    r_i8_14 = away(a_3, 26ull);
-    r_rq_15 = away(a_3, 8ull);
+    r_x5 = (slot_1 + 8);
+    r_zd = (slot_1 + 16);
+    r_lk_1 = (slot_1 + 24);
+    r_nk = (slot_1 + 28);
+    r_xm = away(a_3, 32ull);
+    r_t9 = away(a_3, 48ull);
+    r_su_1 = away(a_3, 40ull);
+    r_i8_6 = away(a_3, 26ull);
+    r_rq_13 = away(a_3, 8ull);
     r_08_16 = away(a_3, 16ull);
-    r_x5_7 = (slot_2 + 8);
-    r_lk_7 = (slot_2 + 24);
-    r_89_7 = (slot_2 + 32);
-    r_a8_4 = (slot_2 + 40);
-    r_c4_20 = (slot_2 + 48);
-    r_bk_4 = (slot_2 + 52);
-    r_6c_3 = (slot_2 + 56);
+    r_x5_1 = (slot_2 + 8);
+    r_lk_2 = (slot_2 + 24);
+    r_89 = (slot_2 + 32);
+    r_a8 = (slot_2 + 40);
+    r_c4_15 = (slot_2 + 48);
+    r_bk = (slot_2 + 52);
+    r_6c = (slot_2 + 56);
     wide_v1_1 = (u64)umin32(r_uq_2, 64u);
     indvars_lc = 0ull;
 l_join_r1:;
-    t_ql_1 = uadd_sat32((r_68 * (u32)indvars_lc), r_z4);
-    st64(slot_1, r_38_4);
-    stp(r_x5_6, r_xw);
-    st64(r_zd_3, r_38_5);
-    st32(r_lk_6, t_ql_1);
-    st32(r_nk_1, 0u);
+    t_ql = uadd_sat32((r_68 * (u32)indvars_lc), r_z4);
+    st64(slot_1, r_38);
+    stp(r_x5, r_xw);
+    st64(r_zd, r_38_1);
+    st32(r_lk_1, t_ql);
+    st32(r_nk, 0u);
     if (!(ld8(r_q6_1) == 0u)) goto l_capnp_0p;
-    u64 r_52_36 = ld64(r_su_2);
-    if (!(ld64(r_t9_18) == r_52_36)) { r_mh = r_52_36; goto l_join_vs; }
-    u8 r_5t = std_alloc_vec_Vec_grow_amortized_e6560bd0eee8a70a(r_xm_1);
+    u64 r_52_36 = ld64(r_su_1);
+    if (!(ld64(r_t9) == r_52_36)) { r_mh = r_52_36; goto l_join_vs; }
+    u8 r_5t = std_alloc_vec_Vec_grow_amortized_e6560bd0eee8a70a(r_xm);
     if (!r_5t) { sink_ku = 1u; goto l_capnp_0x; }
-    r_mh = ld64(r_su_2);
+    r_mh = ld64(r_su_1);
 l_join_vs:;
-    st64((ldp(r_xm_1) + (i64)((u64)(r_mh << 3ull))), ((u64)(indvars_lc << 32ull) | 1ull));
-    st64(r_su_2, (r_mh + 1ull));
+    st64((ldp(r_xm) + (i64)((u64)(r_mh << 3ull))), ((u64)(indvars_lc << 32ull) | 1ull));
+    st64(r_su_1, (r_mh + 1ull));
     sink_ku = 0u;
 l_capnp_0x:;
     st8(r_q6_1, sink_ku);
-    st8(r_i8_14, sink_ku);
+    st8(r_i8_6, sink_ku);
 l_capnp_0p:;
     capnp_show_show_lines_Lines_write_path(a_3);
-    capnp_show_show_lines_Lines_write_struct(a_3, slot_1, r_t8_1, r_gr);
+    capnp_show_show_lines_Lines_write_struct(a_3, slot_1, r_t8, r_gr);
     if (!(ld8(r_q6_1) == 0u)) goto l_capnp_np;
-    r_52_38 = ld64(r_rq_15);
-    if (r_52_38 > 0x3ffffbfull) { r_i7_4 = 0u; r_w0_5 = 1u; goto l_capnp_xz_4; }
-    u64 r_52_39 = ld64(r_08_16);
-    if (!(r_52_39 == r_52_38)) { r_w4_1 = r_52_39; r_61_1 = r_52_38; goto l_join_e4_1; }
+    r_52_37 = ld64(r_rq_13);
+    if (r_52_37 > 0x3ffffbfull) { r_i7_4 = 0u; r_w0_4 = 1u; goto l_capnp_xz_4; }
+    u64 r_52_38 = ld64(r_08_16);
+    if (!(r_52_38 == r_52_37)) { r_w4_1 = r_52_38; r_61_1 = r_52_37; goto l_join_e4_1; }
     u8 r_av_4 = std_alloc_vec_Vec_grow_amortized_9634afabedddd7ee(a_3, 1ull);
-    if (!r_av_4) { r_i7_4 = 1u; r_w0_5 = 1u; goto l_capnp_xz_4; }
+    if (!r_av_4) { r_i7_4 = 1u; r_w0_4 = 1u; goto l_capnp_xz_4; }
     r_w4_1 = ld64(r_08_16);
-    r_61_1 = ld64(r_rq_15);
+    r_61_1 = ld64(r_rq_13);
 l_join_e4_1:;
     u8 *r_fx_17 = ldp(a_3);
     st8(away(r_fx_17, r_61_1), 10u);
     stp(a_3, r_fx_17);
-    st64(r_rq_15, (r_61_1 + 1ull));
+    st64(r_rq_13, (r_61_1 + 1ull));
     st64(r_08_16, r_w4_1);
     r_i7_4 = 0u;
-    r_w0_5 = 0u;
+    r_w0_4 = 0u;
 l_capnp_xz_4:;
-    st8(r_q6_1, r_w0_5);
-    st8(r_i8_14, r_i7_4);
+    st8(r_q6_1, r_w0_4);
+    st8(r_i8_6, r_i7_4);
 l_capnp_np:;
     st64(slot_2, r_eg);
-    mv16(r_x5_7, slot_5);
-    st64(r_lk_7, r_38_4);
-    stp(r_89_7, r_xw);
-    st64(r_a8_4, r_38_5);
-    st32(r_c4_20, uadd_sat32(r_az_2, t_ql_1));
-    st32(r_bk_4, 0u);
-    st32(r_6c_3, r_mx_2);
+    mv16(r_x5_1, slot_5);
+    st64(r_lk_2, r_38);
+    stp(r_89, r_xw);
+    st64(r_a8, r_38_1);
+    st32(r_c4_15, uadd_sat32(r_az, t_ql));
+    st32(r_bk, 0u);
+    st32(r_6c, r_mx);
     capnp_show_show_lines_show_pointers_5ccc1be374b2e488(slot_2, r_5d, 0u, a_2, a_3);
-    r_52_40 = ld64(r_su_2);
-    if (r_52_40 == 0ull) goto l_capnp_4g_1;
-    st64(r_su_2, (r_52_40 + 0xffffffffffffffffull));
+    r_52_39 = ld64(r_su_1);
+    if (r_52_39 == 0ull) goto l_capnp_4g_1;
+    st64(r_su_1, (r_52_39 + 0xffffffffffffffffull));
 l_capnp_4g_1:;
     u64 indvars_r7_1 = (indvars_lc + 1ull);
     if (!(indvars_r7_1 == wide_v1_1)) { indvars_lc = indvars_r7_1; goto l_join_r1; }
@@ -4781,14 +4781,14 @@ static void capnp_show_show_lines_Lines_write_path(u8 *a_1)
 {
     u8 *r_q6;
     u8 *r_rq;
-    u64 r_52_1;
+    u64 r_52;
     u8 *r_08;
     u64 r_y1;
     u64 r_pz;
     u64 r_5b;
     u8 *r_fx;
     u8 *r_2b;
-    u64 r_1p;
+    u64 r_i4;
     u8 r_fo;
     u8 r_go;
     capnp_show_show_lines_Lines_begin(a_1, 0u);
@@ -4800,11 +4800,11 @@ static void capnp_show_show_lines_Lines_write_path(u8 *a_1)
     st8(away(a_1, 26ull), r_gb.f1);
     if (!((u8)(ld8(away(a_1, 81ull)) & 1) ? (r_kp == 0u) : 0u)) goto l_capnp_68;
     r_rq = away(a_1, 8ull);
-    r_52_1 = ld64(r_rq);
-    if (r_52_1 > 0x3ffffbcull) { r_fo = 0u; r_go = 1u; goto l_capnp_1e; }
+    r_52 = ld64(r_rq);
+    if (r_52 > 0x3ffffbcull) { r_fo = 0u; r_go = 1u; goto l_capnp_1e; }
     r_08 = away(a_1, 16ull);
-    u64 r_52_2 = ld64(r_08);
-    if (!((r_52_2 - r_52_1) < 4ull)) { r_y1 = r_52_2; r_pz = r_52_1; goto l_join_tt; }
+    u64 r_52_1 = ld64(r_08);
+    if (!((r_52_1 - r_52) < 4ull)) { r_y1 = r_52_1; r_pz = r_52; goto l_join_tt; }
     u8 r_t3 = std_alloc_vec_Vec_grow_amortized_9634afabedddd7ee(a_1, 4ull);
     if (!r_t3) { r_fo = 1u; r_go = 1u; goto l_capnp_1e; }
     r_y1 = ld64(r_08);
@@ -4813,13 +4813,13 @@ l_join_tt:;
     r_5b = (r_pz + 4ull);
     r_fx = ldp(a_1);
     r_2b = away(r_fx, r_pz);
-    if (((u64)(uptr)r_2b - (u64)(uptr)((u8 *)g_static_224)) < 4ull) { r_1p = 0ull; goto l_join_kb; }
+    if (((u64)(uptr)r_2b - (u64)(uptr)((u8 *)g_static_233)) < 4ull) { r_i4 = 0ull; goto l_join_lk; }
     st32(r_2b, 0x6d305b1bu);
     goto l_core_ga;
-l_join_kb:;
-    st8((r_2b + (i64)(r_1p)), ld8((((u8 *)g_static_224) + (i64)(r_1p))));
-    u64 r_c4 = (r_1p + 1ull);
-    if (!(r_c4 == 4ull)) { r_1p = r_c4; goto l_join_kb; }
+l_join_lk:;
+    st8((r_2b + (i64)(r_i4)), ld8((((u8 *)g_static_233) + (i64)(r_i4))));
+    u64 r_c4 = (r_i4 + 1ull);
+    if (!(r_c4 == 4ull)) { r_i4 = r_c4; goto l_join_lk; }
 l_core_ga:;
     stp(a_1, r_fx);
     st64(r_rq, r_5b);
@@ -4846,7 +4846,7 @@ static void capnp_show_show_lines_Lines_begin(u8 *a_1, u8 a_2)
     u64 r_x4;
     u8 *r_fx;
     u8 *r_2b;
-    u64 r_v2;
+    u64 r_om;
     u8 r_e7;
     struct s_i8_i8 r_o6;
     u8 *r_i8;
@@ -4874,13 +4874,13 @@ l_join_p3:;
     r_x4 = (r_54 + 2ull);
     r_fx = ldp(a_1);
     r_2b = away(r_fx, r_54);
-    if (((u64)(uptr)r_2b - (u64)(uptr)((u8 *)g_static_218)) < 2ull) { r_v2 = 0ull; goto l_join_40; }
+    if (((u64)(uptr)r_2b - (u64)(uptr)((u8 *)g_static_228)) < 2ull) { r_om = 0ull; goto l_join_06; }
     st16(r_2b, 23323u);
     goto l_arm_f0;
-l_join_40:;
-    st8((r_2b + (i64)(r_v2)), ld8((((u8 *)g_static_218) + (i64)(r_v2))));
-    u64 r_c4 = (r_v2 + 1ull);
-    if (!(r_c4 == 2ull)) { r_v2 = r_c4; goto l_join_40; }
+l_join_06:;
+    st8((r_2b + (i64)(r_om)), ld8((((u8 *)g_static_228) + (i64)(r_om))));
+    u64 r_c4 = (r_om + 1ull);
+    if (!(r_c4 == 2ull)) { r_om = r_c4; goto l_join_06; }
 l_arm_f0:;
     stp(a_1, r_fx);
     st64(r_rq, r_x4);
@@ -4934,7 +4934,7 @@ static struct s_i8_i8 capnp_show_show_path_push_path(u8 *a_1, u8 *a_2, u64 a_3)
     u64 r_5b;
     u8 *r_fx;
     u8 *r_2b;
-    u64 r_7h;
+    u64 r_6g;
     u64 r_h0;
     u8 *r_8z;
     u64 r_52_2;
@@ -4973,13 +4973,13 @@ l_join_tt:;
     r_5b = (r_pz + 4ull);
     r_fx = ldp(a_1);
     r_2b = away(r_fx, r_pz);
-    if (((u64)(uptr)r_2b - (u64)(uptr)((u8 *)g_static_220)) < 4ull) { r_7h = 0ull; goto l_join_2a; }
+    if (((u64)(uptr)r_2b - (u64)(uptr)((u8 *)g_static_230)) < 4ull) { r_6g = 0ull; goto l_join_0k; }
     st32(r_2b, 0x746f6f72u);
     goto l_core_x2;
-l_join_2a:;
-    st8((r_2b + (i64)(r_7h)), ld8((((u8 *)g_static_220) + (i64)(r_7h))));
-    u64 r_c4_1 = (r_7h + 1ull);
-    if (!(r_c4_1 == 4ull)) { r_7h = r_c4_1; goto l_join_2a; }
+l_join_0k:;
+    st8((r_2b + (i64)(r_6g)), ld8((((u8 *)g_static_230) + (i64)(r_6g))));
+    u64 r_c4 = (r_6g + 1ull);
+    if (!(r_c4 == 4ull)) { r_6g = r_c4; goto l_join_0k; }
 l_core_x2:;
     stp(a_1, r_fx);
     st64(r_rq, r_5b);
@@ -5095,7 +5095,7 @@ static void capnp_show_show_lines_Lines_write_place(u8 *a_1, u64 a_2, u32 a_3)
     u64 r_xb;
     u8 r_e7;
     struct s_i8_i8 r_o6;
-    u8 *r_i8_1;
+    u8 *r_i8;
     u64 r_7l;
     u64 r_52_4;
     u8 *r_08_2;
@@ -5118,8 +5118,8 @@ static void capnp_show_show_lines_Lines_write_place(u8 *a_1, u64 a_2, u32 a_3)
     u64 r_pz;
     u64 r_5b;
     u8 *r_fx_4;
-    u8 *r_2b_4;
-    u64 r_1p;
+    u8 *r_2b;
+    u64 r_i4;
     u8 r_fo_1;
     u8 r_go_1;
     r_q6 = away(a_1, 25ull);
@@ -5174,8 +5174,8 @@ l_arm_n5:;
 l_capnp_rc:;
     u8 r_kp = r_o6.f0;
     st8(r_q6, r_kp);
-    r_i8_1 = away(a_1, 26ull);
-    st8(r_i8_1, r_o6.f1);
+    r_i8 = away(a_1, 26ull);
+    st8(r_i8, r_o6.f1);
     r_7l = (u64)a_3;
     if (!(r_kp == 0u)) { r_mq = 1u; goto l_capnp_rd; }
     r_52_4 = ld64(r_rq_1);
@@ -5203,7 +5203,7 @@ l_arm_n5_1:;
 l_capnp_kx:;
     u8 r_kp_1 = r_su.f0;
     st8(r_q6, r_kp_1);
-    st8(r_i8_1, r_su.f1);
+    st8(r_i8, r_su.f1);
     if (!(r_kp_1 == 0u)) { r_mq = 1u; goto l_capnp_rd; }
     r_52_6 = ld64(r_rq_1);
     if (r_52_6 > 0x3ffffbfull) { r_i7 = 0u; t_w0 = 1u; r_os = 1u; goto l_capnp_xz; }
@@ -5225,7 +5225,7 @@ l_join_wo:;
     r_os = 0u;
 l_capnp_xz:;
     st8(r_q6, r_os);
-    st8(r_i8_1, r_i7);
+    st8(r_i8, r_i7);
     r_mq = t_w0;
 l_capnp_rd:;
     if ((u8)((u8)r_mq | (u8)(u8)((u8)(u8)(ld8(away(a_1, 81ull)) & 1) ^ (u8)1u))) goto l_capnp_68;
@@ -5242,14 +5242,14 @@ l_capnp_rd:;
 l_join_tt:;
     r_5b = (r_pz + 4ull);
     r_fx_4 = ldp(a_1);
-    r_2b_4 = away(r_fx_4, r_pz);
-    if (((u64)(uptr)r_2b_4 - (u64)(uptr)((u8 *)g_static_224)) < 4ull) { r_1p = 0ull; goto l_join_kb; }
-    st32(r_2b_4, 0x6d305b1bu);
+    r_2b = away(r_fx_4, r_pz);
+    if (((u64)(uptr)r_2b - (u64)(uptr)((u8 *)g_static_233)) < 4ull) { r_i4 = 0ull; goto l_join_lk; }
+    st32(r_2b, 0x6d305b1bu);
     goto l_core_ga;
-l_join_kb:;
-    st8((r_2b_4 + (i64)(r_1p)), ld8((((u8 *)g_static_224) + (i64)(r_1p))));
-    u64 r_c4 = (r_1p + 1ull);
-    if (!(r_c4 == 4ull)) { r_1p = r_c4; goto l_join_kb; }
+l_join_lk:;
+    st8((r_2b + (i64)(r_i4)), ld8((((u8 *)g_static_233) + (i64)(r_i4))));
+    u64 r_c4 = (r_i4 + 1ull);
+    if (!(r_c4 == 4ull)) { r_i4 = r_c4; goto l_join_lk; }
 l_core_ga:;
     stp(a_1, r_fx_4);
     st64(r_rq_2, r_5b);
@@ -5287,7 +5287,7 @@ static void capnp_show_show_lines_Lines_write_part(u8 *a_1, u8 *a_2, u64 a_3)
     u64 r_5b;
     u8 *r_fx_1;
     u8 *r_2b_1;
-    u64 r_1p;
+    u64 r_i4;
     u8 r_fo;
     u8 r_go;
     capnp_show_show_lines_Lines_begin(a_1, 4u);
@@ -5340,13 +5340,13 @@ l_join_tt:;
     r_5b = (r_pz + 4ull);
     r_fx_1 = ldp(a_1);
     r_2b_1 = away(r_fx_1, r_pz);
-    if (((u64)(uptr)r_2b_1 - (u64)(uptr)((u8 *)g_static_224)) < 4ull) { r_1p = 0ull; goto l_join_kb; }
+    if (((u64)(uptr)r_2b_1 - (u64)(uptr)((u8 *)g_static_233)) < 4ull) { r_i4 = 0ull; goto l_join_lk; }
     st32(r_2b_1, 0x6d305b1bu);
     goto l_core_ga_1;
-l_join_kb:;
-    st8((r_2b_1 + (i64)(r_1p)), ld8((((u8 *)g_static_224) + (i64)(r_1p))));
-    u64 r_c4_1 = (r_1p + 1ull);
-    if (!(r_c4_1 == 4ull)) { r_1p = r_c4_1; goto l_join_kb; }
+l_join_lk:;
+    st8((r_2b_1 + (i64)(r_i4)), ld8((((u8 *)g_static_233) + (i64)(r_i4))));
+    u64 r_c4_1 = (r_i4 + 1ull);
+    if (!(r_c4_1 == 4ull)) { r_i4 = r_c4_1; goto l_join_lk; }
 l_core_ga_1:;
     stp(a_1, r_fx_1);
     st64(r_rq_1, r_5b);
@@ -5376,7 +5376,7 @@ static void capnp_show_show_lines_Lines_write_struct(u8 *a_1, u8 *a_2, u16 a_3, 
     u64 r_xe_1;
     u8 *r_fx;
     u8 *r_2b;
-    u64 r_hc;
+    u64 r_ns;
     u8 r_xe;
     u8 t_ei;
     u8 r_bl;
@@ -5385,24 +5385,24 @@ static void capnp_show_show_lines_Lines_write_struct(u8 *a_1, u8 *a_2, u16 a_3, 
     u8 *r_08_1;
     u64 r_8e;
     u64 r_ue;
-    u64 r_hc_1;
+    u64 r_hc;
     u8 *r_fx_1;
     u8 *r_2b_1;
-    u64 r_ip;
+    u64 r_jr;
     u8 r_fo;
     u8 r_go;
     u32 a_61;
     u8 *r_rq_2;
     u8 *r_08_2;
-    u8 *r_i8_2;
+    u8 *r_i8;
     u64 r_gw;
-    u8 r_dq;
-    u32 r_l1;
+    u8 r_k3;
+    u32 r_3q;
     u64 i_5e;
-    u8 *static_4t;
+    u8 *static_hu;
     u64 r_52_5;
     u64 r_4b;
-    u64 r_19_1;
+    u64 r_19;
     u64 r_qh;
     u8 *r_fx_2;
     u8 *r_2b_2;
@@ -5438,13 +5438,13 @@ l_join_me:;
     r_xe_1 = (r_nq + 7ull);
     r_fx = ldp(a_1);
     r_2b = away(r_fx, r_nq);
-    if (((u64)(uptr)r_2b - (u64)(uptr)((u8 *)g_static_239)) < 7ull) { r_hc = 0ull; goto l_join_xa; }
-    mv7(r_2b, ((u8 *)g_static_239));
+    if (((u64)(uptr)r_2b - (u64)(uptr)((u8 *)g_static_248)) < 7ull) { r_ns = 0ull; goto l_join_ce; }
+    mv7(r_2b, ((u8 *)g_static_248));
     goto l_core_ga;
-l_join_xa:;
-    st8((r_2b + (i64)(r_hc)), ld8((((u8 *)g_static_239) + (i64)(r_hc))));
-    u64 r_c4 = (r_hc + 1ull);
-    if (!(r_c4 == 7ull)) { r_hc = r_c4; goto l_join_xa; }
+l_join_ce:;
+    st8((r_2b + (i64)(r_ns)), ld8((((u8 *)g_static_248) + (i64)(r_ns))));
+    u64 r_c4 = (r_ns + 1ull);
+    if (!(r_c4 == 7ull)) { r_ns = r_c4; goto l_join_ce; }
 l_core_ga:;
     stp(a_1, r_fx);
     st64(r_rq, r_xe_1);
@@ -5473,19 +5473,19 @@ l_then_fi:;
     r_8e = ld64(r_08_1);
     r_ue = ld64(r_rq_1);
 l_join_h7:;
-    r_hc_1 = (r_ue + 3ull);
+    r_hc = (r_ue + 3ull);
     r_fx_1 = ldp(a_1);
     r_2b_1 = away(r_fx_1, r_ue);
-    if (((u64)(uptr)r_2b_1 - (u64)(uptr)((u8 *)g_static_237)) < 3ull) { r_ip = 0ull; goto l_join_z5; }
-    mv3(r_2b_1, ((u8 *)g_static_237));
+    if (((u64)(uptr)r_2b_1 - (u64)(uptr)((u8 *)g_static_246)) < 3ull) { r_jr = 0ull; goto l_join_v8; }
+    mv3(r_2b_1, ((u8 *)g_static_246));
     goto l_core_ga_1;
-l_join_z5:;
-    st8((r_2b_1 + (i64)(r_ip)), ld8((((u8 *)g_static_237) + (i64)(r_ip))));
-    u64 r_c4_1 = (r_ip + 1ull);
-    if (!(r_c4_1 == 3ull)) { r_ip = r_c4_1; goto l_join_z5; }
+l_join_v8:;
+    st8((r_2b_1 + (i64)(r_jr)), ld8((((u8 *)g_static_246) + (i64)(r_jr))));
+    u64 r_c4_1 = (r_jr + 1ull);
+    if (!(r_c4_1 == 3ull)) { r_jr = r_c4_1; goto l_join_v8; }
 l_core_ga_1:;
     stp(a_1, r_fx_1);
-    st64(r_rq_1, r_hc_1);
+    st64(r_rq_1, r_hc);
     st64(r_08_1, r_8e);
     r_fo = 0u;
     r_go = 0u;
@@ -5500,32 +5500,32 @@ l_capnp_lj:;
     if (a_3 == 0u) goto l_capnp_68;
     r_rq_2 = away(a_1, 8ull);
     r_08_2 = away(a_1, 16ull);
-    r_i8_2 = away(a_1, 26ull);
+    r_i8 = away(a_1, 26ull);
     r_gw = (u64)(r_qw >> 3ull);
-    r_dq = ld8(r_q6);
-    r_l1 = 0u;
-l_join_zp:;
-    u8 r_2p = (r_l1 == 0u);
+    r_k3 = ld8(r_q6);
+    r_3q = 0u;
+l_join_mr:;
+    u8 r_2p = (r_3q == 0u);
     i_5e = (r_2p ? 4ull : 3ull);
-    static_4t = (r_2p ? ((u8 *)g_static_242) : ((u8 *)g_static_243));
-    if (!(r_dq == 0u)) { r_st = r_dq; goto l_capnp_k6; }
+    static_hu = (r_2p ? ((u8 *)g_static_251) : ((u8 *)g_static_252));
+    if (!(r_k3 == 0u)) { r_st = r_k3; goto l_capnp_k6; }
     r_52_5 = ld64(r_rq_2);
     if ((r_52_5 > 0x3ffffc0ull) ? 1u : ((0x3ffffc0ull - r_52_5) < i_5e)) { r_i7 = 0u; r_w0 = 1u; goto l_capnp_xz; }
     u64 r_52_6 = ld64(r_08_2);
-    if (!(i_5e > (r_52_6 - r_52_5))) { r_4b = r_52_6; r_19_1 = r_52_5; goto l_join_ue; }
+    if (!(i_5e > (r_52_6 - r_52_5))) { r_4b = r_52_6; r_19 = r_52_5; goto l_join_ue; }
     u8 r_ku = std_alloc_vec_Vec_grow_amortized_9634afabedddd7ee(a_1, i_5e);
     if (!r_ku) { r_i7 = 1u; r_w0 = 1u; goto l_capnp_xz; }
     r_4b = ld64(r_08_2);
-    r_19_1 = ld64(r_rq_2);
+    r_19 = ld64(r_rq_2);
 l_join_ue:;
-    r_qh = (r_19_1 + i_5e);
+    r_qh = (r_19 + i_5e);
     r_fx_2 = ldp(a_1);
-    r_2b_2 = away(r_fx_2, r_19_1);
-    if (((u64)(uptr)r_2b_2 - (u64)(uptr)static_4t) < i_5e) { r_es = 0ull; goto l_join_fx; }
-    memcpy_or_none(r_2b_2, static_4t, i_5e);
+    r_2b_2 = away(r_fx_2, r_19);
+    if (((u64)(uptr)r_2b_2 - (u64)(uptr)static_hu) < i_5e) { r_es = 0ull; goto l_join_fx; }
+    memcpy_or_none(r_2b_2, static_hu, i_5e);
     goto l_core_ga_2;
 l_join_fx:;
-    st8((r_2b_2 + (i64)(r_es)), ld8((static_4t + (i64)(r_es))));
+    st8((r_2b_2 + (i64)(r_es)), ld8((static_hu + (i64)(r_es))));
     u64 r_c4_2 = (r_es + 1ull);
     if (!(r_c4_2 == i_5e)) { r_es = r_c4_2; goto l_join_fx; }
 l_core_ga_2:;
@@ -5536,10 +5536,10 @@ l_core_ga_2:;
     r_w0 = 0u;
 l_capnp_xz:;
     st8(r_q6, r_w0);
-    st8(r_i8_2, r_i7);
+    st8(r_i8, r_i7);
     r_st = r_w0;
 l_capnp_k6:;
-    r_24 = (u64)uadd_sat32(r_l1, r_5k);
+    r_24 = (u64)uadd_sat32(r_3q, r_5k);
     if (!(r_gw > r_24)) { r_lk = 0ull; goto l_capnp_pz; }
     r_lk = ld64(away(r_rv, (u64)(r_24 << 3ull)));
 l_capnp_pz:;
@@ -5547,13 +5547,13 @@ l_capnp_pz:;
     struct s_i8_i8 r_86 = capnp_show_show_text_Text_push_hex_number(a_1, r_lk);
     u8 r_kp = r_86.f0;
     st8(r_q6, r_kp);
-    st8(r_i8_2, r_86.f1);
+    st8(r_i8, r_86.f1);
     r_as = r_kp;
 l_capnp_4a:;
-    u32 r_ff = (r_l1 + 1u);
-    if (!(r_ff == a_61)) { r_dq = r_as; r_l1 = r_ff; goto l_join_zp; }
+    u32 r_ff = (r_3q + 1u);
+    if (!(r_ff == a_61)) { r_k3 = r_as; r_3q = r_ff; goto l_join_mr; }
     if (!(a_3 > 64u)) goto l_capnp_68;
-    if (!(r_as == 0u)) goto l_capnp_oh;
+    if (!(r_as == 0u)) goto l_capnp_gv;
     r_52_7 = ld64(r_rq_2);
     if (r_52_7 > 0x3ffffbfull) { r_i7_1 = 0u; r_w0_1 = 1u; goto l_capnp_xz_1; }
     u64 r_52_8 = ld64(r_08_2);
@@ -5572,9 +5572,9 @@ l_join_jz:;
     r_w0_1 = 0u;
 l_capnp_xz_1:;
     st8(r_q6, r_w0_1);
-    st8(r_i8_2, r_i7_1);
-l_capnp_oh:;
-    capnp_show_show_lines_Lines_write_part(a_1, ((u8 *)g_static_238), 2ull);
+    st8(r_i8, r_i7_1);
+l_capnp_gv:;
+    capnp_show_show_lines_Lines_write_part(a_1, ((u8 *)g_static_247), 2ull);
 l_capnp_68:;
     return;
 }
@@ -5592,7 +5592,7 @@ static void capnp_show_show_lines_Lines_write_sizes(u8 *a_1, u16 a_2, u16 a_3)
     u64 r_xe;
     u8 *r_fx;
     u8 *r_2b;
-    u64 r_49;
+    u64 r_wy;
     u8 r_e7;
     struct s_i8_i8 r_o6;
     u8 *r_i8;
@@ -5604,7 +5604,7 @@ static void capnp_show_show_lines_Lines_write_sizes(u8 *a_1, u16 a_2, u16 a_3)
     u64 r_sb;
     u8 *r_fx_1;
     u8 *r_2b_1;
-    u64 r_nd;
+    u64 r_cm;
     u8 r_e7_1;
     struct s_i8_i8 r_su;
     r_bi = (u64)a_2;
@@ -5624,13 +5624,13 @@ l_join_me:;
     r_xe = (r_nq + 7ull);
     r_fx = ldp(a_1);
     r_2b = away(r_fx, r_nq);
-    if (((u64)(uptr)r_2b - (u64)(uptr)((u8 *)g_static_240)) < 7ull) { r_49 = 0ull; goto l_join_00; }
-    mv7(r_2b, ((u8 *)g_static_240));
+    if (((u64)(uptr)r_2b - (u64)(uptr)((u8 *)g_static_249)) < 7ull) { r_wy = 0ull; goto l_join_ma; }
+    mv7(r_2b, ((u8 *)g_static_249));
     goto l_arm_na;
-l_join_00:;
-    st8((r_2b + (i64)(r_49)), ld8((((u8 *)g_static_240) + (i64)(r_49))));
-    u64 r_c4 = (r_49 + 1ull);
-    if (!(r_c4 == 7ull)) { r_49 = r_c4; goto l_join_00; }
+l_join_ma:;
+    st8((r_2b + (i64)(r_wy)), ld8((((u8 *)g_static_249) + (i64)(r_wy))));
+    u64 r_c4 = (r_wy + 1ull);
+    if (!(r_c4 == 7ull)) { r_wy = r_c4; goto l_join_ma; }
 l_arm_na:;
     stp(a_1, r_fx);
     st64(r_rq, r_xe);
@@ -5662,13 +5662,13 @@ l_join_12:;
     r_sb = (r_jh + 11ull);
     r_fx_1 = ldp(a_1);
     r_2b_1 = away(r_fx_1, r_jh);
-    if (((u64)(uptr)r_2b_1 - (u64)(uptr)((u8 *)g_static_241)) < 11ull) { r_nd = 0ull; goto l_join_h4; }
-    mv11(r_2b_1, ((u8 *)g_static_241));
+    if (((u64)(uptr)r_2b_1 - (u64)(uptr)((u8 *)g_static_250)) < 11ull) { r_cm = 0ull; goto l_join_zr; }
+    mv11(r_2b_1, ((u8 *)g_static_250));
     goto l_arm_na_1;
-l_join_h4:;
-    st8((r_2b_1 + (i64)(r_nd)), ld8((((u8 *)g_static_241) + (i64)(r_nd))));
-    u64 r_c4_1 = (r_nd + 1ull);
-    if (!(r_c4_1 == 11ull)) { r_nd = r_c4_1; goto l_join_h4; }
+l_join_zr:;
+    st8((r_2b_1 + (i64)(r_cm)), ld8((((u8 *)g_static_250) + (i64)(r_cm))));
+    u64 r_c4_1 = (r_cm + 1ull);
+    if (!(r_c4_1 == 11ull)) { r_cm = r_c4_1; goto l_join_zr; }
 l_arm_na_1:;
     stp(a_1, r_fx_1);
     st64(r_rq, r_sb);
@@ -5699,14 +5699,14 @@ static struct s_i8_i8 capnp_show_show_text_Text_push_hex_number(u8 *a_1, u64 a_2
     u64 r_7j;
     u8 r_fu;
     u8 r_vh;
-    if (!(a_2 > 15ull)) goto l_join_8m;
+    if (!(a_2 > 15ull)) goto l_join_ke;
     r_9w = capnp_show_show_text_Text_push_hex_number(a_1, (u64)(a_2 >> 4ull));
-    if (r_9w.f0 == 0u) goto l_join_8m;
+    if (r_9w.f0 == 0u) goto l_join_ke;
     r_fu = r_9w.f1;
     r_vh = 1u;
     goto l_return_4x;
-l_join_8m:;
-    r_47 = ld8((((u8 *)g_static_117) + (i64)((a_2 & 15ull))));
+l_join_ke:;
+    r_47 = ld8((((u8 *)g_static_127) + (i64)((a_2 & 15ull))));
     r_rq = away(a_1, 8ull);
     r_52 = ld64(r_rq);
     if (r_52 > 0x3ffffbfull) { r_fu = 0u; r_vh = 1u; goto l_return_4x; }
@@ -5749,9 +5749,9 @@ static void capnp_show_show_lines_show_pointers_5ccc1be374b2e488(u8 *a_1, u32 a_
     u32 r_ra;
     u64 r_gw;
     u8 *r_q6;
-    u8 *r_xm_1;
-    u8 *r_t9_1;
-    u8 *r_su_1;
+    u8 *r_xm;
+    u8 *r_t9;
+    u8 *r_su;
     u64 r_u3;
     u8 *r_i8;
     u8 *r_x5;
@@ -5768,7 +5768,7 @@ static void capnp_show_show_lines_show_pointers_5ccc1be374b2e488(u8 *a_1, u32 a_
     u64 r_24;
     u64 r_au;
     u8 sink_ku;
-    u64 r_52_2;
+    u64 r_52_1;
     r_eg = (u64)ld8(a_1);
     mv16(slot_2, away(a_1, 8ull));
     r_qw = ld64(away(a_1, 24ull));
@@ -5790,9 +5790,9 @@ l_join_m1:;
     r_ra = (a_4 + 0xffffffffu);
     r_gw = (u64)(r_qw_1 >> 3ull);
     r_q6 = away(a_5, 25ull);
-    r_xm_1 = away(a_5, 32ull);
-    r_t9_1 = away(a_5, 48ull);
-    r_su_1 = away(a_5, 40ull);
+    r_xm = away(a_5, 32ull);
+    r_t9 = away(a_5, 48ull);
+    r_su = away(a_5, 40ull);
     r_u3 = (u64)a_3;
     r_i8 = away(a_5, 26ull);
     r_x5 = (slot_1 + 8);
@@ -5812,14 +5812,14 @@ l_join_gt:;
     if (!(r_gw > r_24)) goto l_capnp_nv;
     if (ld64(away(r_rv, (u64)(r_24 << 3ull))) == 0ull) goto l_capnp_nv;
     if (!(ld8(r_q6) == 0u)) goto l_capnp_ns;
-    u64 r_52 = ld64(r_su_1);
-    if (!(ld64(r_t9_1) == r_52)) { r_au = r_52; goto l_join_qq; }
-    u8 r_5t = std_alloc_vec_Vec_grow_amortized_e6560bd0eee8a70a(r_xm_1);
+    u64 r_52 = ld64(r_su);
+    if (!(ld64(r_t9) == r_52)) { r_au = r_52; goto l_join_qq; }
+    u8 r_5t = std_alloc_vec_Vec_grow_amortized_e6560bd0eee8a70a(r_xm);
     if (!r_5t) { sink_ku = 1u; goto l_capnp_0x; }
-    r_au = ld64(r_su_1);
+    r_au = ld64(r_su);
 l_join_qq:;
-    st64((ldp(r_xm_1) + (i64)((u64)(r_au << 3ull))), ((u64)(indvars_9o << 32ull) | r_u3));
-    st64(r_su_1, (r_au + 1ull));
+    st64((ldp(r_xm) + (i64)((u64)(r_au << 3ull))), ((u64)(indvars_9o << 32ull) | r_u3));
+    st64(r_su, (r_au + 1ull));
     sink_ku = 0u;
 l_capnp_0x:;
     st8(r_q6, sink_ku);
@@ -5834,9 +5834,9 @@ l_capnp_ns:;
     st32(r_bk, 0u);
     st32(r_6c, r_5k_1);
     capnp_show_show_lines_show_pointer_5ccc1be374b2e488(slot_1, r_ra, a_5);
-    r_52_2 = ld64(r_su_1);
-    if (r_52_2 == 0ull) goto l_capnp_nv;
-    st64(r_su_1, (r_52_2 + 0xffffffffffffffffull));
+    r_52_1 = ld64(r_su);
+    if (r_52_1 == 0ull) goto l_capnp_nv;
+    st64(r_su, (r_52_1 + 0xffffffffffffffffull));
 l_capnp_nv:;
     u64 indvars_r7 = (indvars_9o + 1ull);
     if (!(indvars_r7 == wide_24)) { indvars_9o = indvars_r7; goto l_join_gt; }
@@ -5864,8 +5864,8 @@ static void capnp_show_show_lines_Lines_write_depth_cut(u8 *a_1, u32 a_2)
     u64 r_v4;
     u64 r_dr;
     u8 *r_fx_1;
-    u8 *r_2b_1;
-    u64 r_jr;
+    u8 *r_2b;
+    u64 r_u8;
     u8 r_e7;
     struct s_i8_i8 r_o6;
     u8 r_dw;
@@ -5876,8 +5876,8 @@ static void capnp_show_show_lines_Lines_write_depth_cut(u8 *a_1, u32 a_2)
     u64 r_pz;
     u64 r_5b;
     u8 *r_fx_2;
-    u8 *r_2b_2;
-    u64 r_1p;
+    u8 *r_2b_1;
+    u64 r_i4;
     u8 r_fo_1;
     u8 r_go_1;
     u8 r_uy;
@@ -5916,8 +5916,8 @@ l_capnp_1e:;
 l_capnp_8c:;
     capnp_show_show_lines_Lines_begin(a_1, 4u);
     r_24 = (u64)ld32(away(a_1, 84ull));
-    u8 r_47_1 = ld8(r_q6);
-    if (!(r_47_1 == 0u)) { r_dw = r_47_1; goto l_capnp_kk; }
+    u8 r_47 = ld8(r_q6);
+    if (!(r_47 == 0u)) { r_dw = r_47; goto l_capnp_kk; }
     r_rq_1 = away(a_1, 8ull);
     r_52_2 = ld64(r_rq_1);
     if (r_52_2 > 0x3ffffb3ull) { r_e7 = 0u; goto l_arm_n5; }
@@ -5931,14 +5931,14 @@ l_capnp_8c:;
 l_join_jf:;
     r_dr = (r_v4 + 13ull);
     r_fx_1 = ldp(a_1);
-    r_2b_1 = away(r_fx_1, r_v4);
-    if (((u64)(uptr)r_2b_1 - (u64)(uptr)((u8 *)g_static_246)) < 13ull) { r_jr = 0ull; goto l_join_v8; }
-    mv13(r_2b_1, ((u8 *)g_static_246));
+    r_2b = away(r_fx_1, r_v4);
+    if (((u64)(uptr)r_2b - (u64)(uptr)((u8 *)g_static_255)) < 13ull) { r_u8 = 0ull; goto l_join_01; }
+    mv13(r_2b, ((u8 *)g_static_255));
     goto l_arm_na;
-l_join_v8:;
-    st8((r_2b_1 + (i64)(r_jr)), ld8((((u8 *)g_static_246) + (i64)(r_jr))));
-    u64 r_c4 = (r_jr + 1ull);
-    if (!(r_c4 == 13ull)) { r_jr = r_c4; goto l_join_v8; }
+l_join_01:;
+    st8((r_2b + (i64)(r_u8)), ld8((((u8 *)g_static_255) + (i64)(r_u8))));
+    u64 r_c4 = (r_u8 + 1ull);
+    if (!(r_c4 == 13ull)) { r_u8 = r_c4; goto l_join_01; }
 l_arm_na:;
     stp(a_1, r_fx_1);
     st64(r_rq_1, r_dr);
@@ -5971,14 +5971,14 @@ l_capnp_kk:;
 l_join_tt:;
     r_5b = (r_pz + 4ull);
     r_fx_2 = ldp(a_1);
-    r_2b_2 = away(r_fx_2, r_pz);
-    if (((u64)(uptr)r_2b_2 - (u64)(uptr)((u8 *)g_static_224)) < 4ull) { r_1p = 0ull; goto l_join_kb; }
-    st32(r_2b_2, 0x6d305b1bu);
+    r_2b_1 = away(r_fx_2, r_pz);
+    if (((u64)(uptr)r_2b_1 - (u64)(uptr)((u8 *)g_static_233)) < 4ull) { r_i4 = 0ull; goto l_join_lk; }
+    st32(r_2b_1, 0x6d305b1bu);
     goto l_core_ga;
-l_join_kb:;
-    st8((r_2b_2 + (i64)(r_1p)), ld8((((u8 *)g_static_224) + (i64)(r_1p))));
-    u64 r_c4_1 = (r_1p + 1ull);
-    if (!(r_c4_1 == 4ull)) { r_1p = r_c4_1; goto l_join_kb; }
+l_join_lk:;
+    st8((r_2b_1 + (i64)(r_i4)), ld8((((u8 *)g_static_233) + (i64)(r_i4))));
+    u64 r_c4_1 = (r_i4 + 1ull);
+    if (!(r_c4_1 == 4ull)) { r_i4 = r_c4_1; goto l_join_lk; }
 l_core_ga:;
     stp(a_1, r_fx_2);
     st64(r_rq_2, r_5b);
@@ -6037,7 +6037,7 @@ static void capnp_show_show_lines_Lines_write_list_cut(u8 *a_1, u8 a_2)
     if (!a_2) goto l_join_68;
     capnp_show_show_lines_Lines_write_path(a_1);
     r_q6 = away(a_1, 25ull);
-    if (!(ld8(r_q6) == 0u)) goto l_capnp_e2;
+    if (!(ld8(r_q6) == 0u)) goto l_capnp_os;
     r_rq = away(a_1, 8ull);
     r_52 = ld64(r_rq);
     if (r_52 > 0x3ffffbfull) { r_fo = 0u; r_go = 1u; goto l_capnp_1e; }
@@ -6059,8 +6059,8 @@ l_join_jz:;
 l_capnp_1e:;
     st8(r_q6, r_go);
     st8(away(a_1, 26ull), r_fo);
-l_capnp_e2:;
-    capnp_show_show_lines_Lines_write_part(a_1, ((u8 *)g_static_247), 21ull);
+l_capnp_os:;
+    capnp_show_show_lines_Lines_write_part(a_1, ((u8 *)g_static_256), 21ull);
     if (!(ld8(r_q6) == 0u)) goto l_join_68;
     r_rq_1 = away(a_1, 8ull);
     r_52_2 = ld64(r_rq_1);
@@ -6105,14 +6105,14 @@ static void capnp_show_show_lines_Lines_write_refusal(u8 *a_1, u8 *a_2, u64 a_3)
     u64 r_ju;
     u64 r_5q;
     u8 *r_fx_1;
-    u8 *r_2b_1;
-    u64 r_ns;
-    u8 *r_i8_1;
+    u8 *r_2b;
+    u64 r_8b;
+    u8 *r_i8;
     u8 *r_4a;
     u64 r_uv;
     u64 r_0z;
     u64 r_zx;
-    u8 *r_2b_2;
+    u8 *r_2b_1;
     u64 r_31;
     u8 r_i7;
     u8 r_w0;
@@ -6124,8 +6124,8 @@ static void capnp_show_show_lines_Lines_write_refusal(u8 *a_1, u8 *a_2, u64 a_3)
     u64 r_pz;
     u64 r_5b;
     u8 *r_fx_2;
-    u8 *r_2b_3;
-    u64 r_1p;
+    u8 *r_2b_2;
+    u64 r_i4;
     u8 r_fo_1;
     u8 r_go_1;
     u8 r_lk;
@@ -6162,8 +6162,8 @@ l_capnp_1e:;
     st8(away(a_1, 26ull), r_fo);
 l_capnp_vj:;
     capnp_show_show_lines_Lines_begin(a_1, 3u);
-    u8 r_47_1 = ld8(r_q6);
-    if (!(r_47_1 == 0u)) { r_dw = r_47_1; goto l_capnp_kk; }
+    u8 r_47 = ld8(r_q6);
+    if (!(r_47 == 0u)) { r_dw = r_47; goto l_capnp_kk; }
     r_rq_1 = away(a_1, 8ull);
     r_52_2 = ld64(r_rq_1);
     if (r_52_2 > 0x3ffffb8ull) { sink_hf = 1u; r_sl = 0u; goto l_capnp_cp; }
@@ -6177,21 +6177,21 @@ l_capnp_vj:;
 l_join_sq:;
     r_5q = (r_ju + 8ull);
     r_fx_1 = ldp(a_1);
-    r_2b_1 = away(r_fx_1, r_ju);
-    if (((u64)(uptr)r_2b_1 - (u64)(uptr)((u8 *)g_static_248)) < 8ull) { r_ns = 0ull; goto l_join_ce; }
-    st64(r_2b_1, 0x2064657375666572ull);
+    r_2b = away(r_fx_1, r_ju);
+    if (((u64)(uptr)r_2b - (u64)(uptr)((u8 *)g_static_257)) < 8ull) { r_8b = 0ull; goto l_join_87; }
+    st64(r_2b, 0x2064657375666572ull);
     goto l_then_25;
-l_join_ce:;
-    st8((r_2b_1 + (i64)(r_ns)), ld8((((u8 *)g_static_248) + (i64)(r_ns))));
-    u64 r_c4 = (r_ns + 1ull);
-    if (!(r_c4 == 8ull)) { r_ns = r_c4; goto l_join_ce; }
+l_join_87:;
+    st8((r_2b + (i64)(r_8b)), ld8((((u8 *)g_static_257) + (i64)(r_8b))));
+    u64 r_c4 = (r_8b + 1ull);
+    if (!(r_c4 == 8ull)) { r_8b = r_c4; goto l_join_87; }
 l_then_25:;
     stp(a_1, r_fx_1);
     st64(r_rq_1, r_5q);
     st64(r_08_1, r_di);
     st8(r_q6, 0u);
-    r_i8_1 = away(a_1, 26ull);
-    st8(r_i8_1, 0u);
+    r_i8 = away(a_1, 26ull);
+    st8(r_i8, 0u);
     if ((r_5q > 0x3ffffc0ull) ? 1u : ((0x3ffffb8ull - r_ju) < a_3)) { r_i7 = 0u; r_w0 = 1u; goto l_capnp_xz; }
     if (!(a_3 > (r_di - r_5q))) { r_4a = r_fx_1; r_uv = r_di; r_0z = r_5q; goto l_join_xu; }
     u8 r_7h = std_alloc_vec_Vec_grow_amortized_9634afabedddd7ee(a_1, a_3);
@@ -6202,12 +6202,12 @@ l_then_25:;
 l_join_xu:;
     r_zx = (r_0z + a_3);
     memset(r_rq_1, 0u, 16);
-    r_2b_2 = away(r_4a, r_0z);
-    if (((u64)(uptr)r_2b_2 - (u64)(uptr)a_2) < a_3) { r_31 = 0ull; goto l_join_sz; }
-    memmove_or_none(r_2b_2, a_2, a_3);
+    r_2b_1 = away(r_4a, r_0z);
+    if (((u64)(uptr)r_2b_1 - (u64)(uptr)a_2) < a_3) { r_31 = 0ull; goto l_join_sz; }
+    memmove_or_none(r_2b_1, a_2, a_3);
     goto l_core_ga;
 l_join_sz:;
-    st8((r_2b_2 + (i64)(r_31)), ld8((a_2 + (i64)(r_31))));
+    st8((r_2b_1 + (i64)(r_31)), ld8((a_2 + (i64)(r_31))));
     u64 r_c4_1 = (r_31 + 1ull);
     if (!(r_c4_1 == a_3)) { r_31 = r_c4_1; goto l_join_sz; }
 l_core_ga:;
@@ -6218,7 +6218,7 @@ l_core_ga:;
     r_w0 = 0u;
 l_capnp_xz:;
     st8(r_q6, r_w0);
-    st8(r_i8_1, r_i7);
+    st8(r_i8, r_i7);
     r_dw = r_w0;
 l_capnp_kk:;
     if (!(u8)(ld8(away(a_1, 81ull)) & 1)) { r_lk = r_dw; goto l_capnp_pz; }
@@ -6236,14 +6236,14 @@ l_capnp_kk:;
 l_join_tt:;
     r_5b = (r_pz + 4ull);
     r_fx_2 = ldp(a_1);
-    r_2b_3 = away(r_fx_2, r_pz);
-    if (((u64)(uptr)r_2b_3 - (u64)(uptr)((u8 *)g_static_224)) < 4ull) { r_1p = 0ull; goto l_join_kb; }
-    st32(r_2b_3, 0x6d305b1bu);
+    r_2b_2 = away(r_fx_2, r_pz);
+    if (((u64)(uptr)r_2b_2 - (u64)(uptr)((u8 *)g_static_233)) < 4ull) { r_i4 = 0ull; goto l_join_lk; }
+    st32(r_2b_2, 0x6d305b1bu);
     goto l_core_ga_1;
-l_join_kb:;
-    st8((r_2b_3 + (i64)(r_1p)), ld8((((u8 *)g_static_224) + (i64)(r_1p))));
-    u64 r_c4_2 = (r_1p + 1ull);
-    if (!(r_c4_2 == 4ull)) { r_1p = r_c4_2; goto l_join_kb; }
+l_join_lk:;
+    st8((r_2b_2 + (i64)(r_i4)), ld8((((u8 *)g_static_233) + (i64)(r_i4))));
+    u64 r_c4_2 = (r_i4 + 1ull);
+    if (!(r_c4_2 == 4ull)) { r_i4 = r_c4_2; goto l_join_lk; }
 l_core_ga_1:;
     stp(a_1, r_fx_2);
     st64(r_rq_2, r_5b);
@@ -6281,21 +6281,21 @@ l_capnp_68:;
     return;
 }
 
-/* capnp_show::show::text::Text::write::<#e92f92f6eaf735ba> */
-struct s_i8_i8 capnp_show_show_text_Text_write_e92f92f6eaf735ba(u8 *a_1, u8 *a_2)
+/* capnp_show::show::text::Text::write::<#1c2599c210499688> */
+struct s_i8_i8 capnp_show_show_text_Text_write_1c2599c210499688(u8 *a_1, u8 *a_2)
 {
     A(8) u8 slot_1[96];
     u64 r_52;
+    u8 *r_h6;
     u8 *r_r2;
-    u8 *r_t9;
-    u8 *r_08;
-    u8 *r_xm;
     u8 *r_xz;
+    u8 *r_su;
+    u8 *r_xm;
     u8 *r_x5;
     u8 *r_qs;
     u64 r_tv;
+    u64 r_52_1;
     u64 r_52_2;
-    u64 r_52_3;
     u64 r_5q;
     u8 *r_lz;
     u8 *r_2b;
@@ -6304,30 +6304,30 @@ struct s_i8_i8 capnp_show_show_text_Text_write_e92f92f6eaf735ba(u8 *a_1, u8 *a_2
     u8 not_3x;
     r_52 = ld64(away(a_1, 8ull));
     if (r_52 == 0ull) { not_3x = 0u; goto l_capnp_wt; }
+    r_h6 = away(a_2, 64ull);
     r_r2 = away(a_2, 56ull);
-    r_t9 = away(a_2, 48ull);
-    r_08 = away(a_2, 16ull);
-    r_xm = away(a_2, 32ull);
     r_xz = away(a_2, 24ull);
+    r_su = away(a_2, 40ull);
+    r_xm = away(a_2, 32ull);
     r_x5 = (slot_1 + 8);
     r_qs = ldp(a_1);
     r_tv = r_52;
 l_join_r6:;
-    if ((u8)(ld8(r_r2) & 1)) goto l_join_vw;
-    if (!(ld64(r_t9) < r_tv)) goto l_after_c8;
+    if ((u8)(ld8(r_h6) & 1)) goto l_join_vw;
+    if (!(ld64(r_r2) < r_tv)) goto l_after_c8;
 l_join_vw:;
-    st8(r_r2, 1u);
+    st8(r_h6, 1u);
     not_3x = 1u;
     goto l_capnp_wt;
 l_after_c8:;
     memset(slot_1, 0u, 96);
+    r_52_1 = ld64(r_su);
     r_52_2 = ld64(r_xm);
-    r_52_3 = ld64(r_xz);
-    if (!(r_tv < (r_52_2 - r_52_3))) goto l_std_8u;
-    r_5q = (r_52_3 + r_tv);
-    r_lz = ldp(r_08);
-    memset(r_xz, 0u, 16);
-    r_2b = away(r_lz, r_52_3);
+    if (!(r_tv < (r_52_1 - r_52_2))) goto l_std_ad;
+    r_5q = (r_52_2 + r_tv);
+    r_lz = ldp(r_xz);
+    memset(r_xm, 0u, 16);
+    r_2b = away(r_lz, r_52_2);
     if (((u64)(uptr)r_2b - (u64)(uptr)r_qs) < r_tv) { r_il = 0ull; goto l_join_fh; }
     memmove_or_none(r_2b, r_qs, r_tv);
     goto l_arm_5b;
@@ -6336,24 +6336,24 @@ l_join_fh:;
     u64 r_36 = (r_il + 1ull);
     if (!(r_36 == r_tv)) { r_il = r_36; goto l_join_fh; }
 l_arm_5b:;
-    stp(r_08, r_lz);
-    st64(r_xz, r_5q);
-    st64(r_xm, r_52_2);
+    stp(r_xz, r_lz);
+    st64(r_xm, r_5q);
+    st64(r_su, r_52_1);
     r_3a = r_tv;
     goto l_arm_qd;
-l_std_8u:;
-    std_io_buffered_BufWriter_write_cold_33d6c0b4aa7432c7(slot_1, a_2, r_qs, r_tv);
+l_std_ad:;
+    std_io_buffered_BufWriter_write_cold_4fc199ee41d89934(slot_1, a_2, r_qs, r_tv);
     u64 r_38 = ld64(r_x5);
     if ((ld8(slot_1) == 0u) ? (r_38 != 0ull) : 0u) { r_3a = r_38; goto l_arm_qd; }
-    st8(away(a_2, 40ull), 1u);
+    st8(away(a_2, 48ull), 1u);
     not_3x = 1u;
     goto l_capnp_wt;
 l_arm_qd:;
-    st64(r_t9, (ld64(r_t9) - r_3a));
-    u64 r_t9_4 = (r_tv - r_3a);
-    if (r_t9_4 == 0ull) { not_3x = 0u; goto l_capnp_wt; }
+    st64(r_r2, (ld64(r_r2) - r_3a));
+    u64 r_t9 = (r_tv - r_3a);
+    if (r_t9 == 0ull) { not_3x = 0u; goto l_capnp_wt; }
     u8 *r_1 = away(r_qs, r_3a);
-    u64 r_2 = r_t9_4;
+    u64 r_2 = r_t9;
     r_qs = r_1;
     r_tv = r_2;
     goto l_join_r6;
@@ -6374,14 +6374,14 @@ void capnp_show_show_compare_find_difference_46c7a4392912af85(u8 *a_1, u8 *a_2, 
     u8 *r_xw;
     u64 r_38;
     u64 r_38_1;
-    u8 r_r5_1;
+    u8 r_r5;
     u8 *r_xw_1;
     u64 r_38_2;
     u8 r_dd;
     u8 *r_xw_2;
     u64 r_38_3;
     u64 r_38_4;
-    u8 r_r5_3;
+    u8 r_r5_1;
     u8 *r_xw_3;
     u64 r_38_5;
     u64 r_qp_1;
@@ -6405,7 +6405,7 @@ void capnp_show_show_compare_find_difference_46c7a4392912af85(u8 *a_1, u8 *a_2, 
     r_xw = ldp((slot_2 + 8));
     r_38 = ld64((slot_2 + 16));
     r_38_1 = ld64((slot_2 + 24));
-    r_r5_1 = ld8((slot_2 + 72));
+    r_r5 = ld8((slot_2 + 72));
     r_xw_1 = ldp((slot_2 + 96));
     r_38_2 = ld64((slot_2 + 112));
     capnp_show_show_compare_make_line_9d3526b9b0726c59(slot_3, slot_1, a_4);
@@ -6424,7 +6424,7 @@ l_arm_hn:;
     r_xw_2 = ldp((slot_3 + 8));
     r_38_3 = ld64((slot_3 + 16));
     r_38_4 = ld64((slot_3 + 24));
-    r_r5_3 = ld8((slot_3 + 72));
+    r_r5_1 = ld8((slot_3 + 72));
     r_xw_3 = ldp((slot_3 + 96));
     r_38_5 = ld64((slot_3 + 112));
     if (!(r_38 == r_38_3)) goto l_join_nf;
@@ -6482,13 +6482,13 @@ l_capnp_p4:;
     if (r_38_4 == 0ull) goto l_std_bd;
     rattle_dealloc(r_xw_2);
 l_std_bd:;
-    if ((r_r5_3 != 1u) ? 1u : (r_38_5 == 0ull)) goto l_join_p4;
+    if ((r_r5_1 != 1u) ? 1u : (r_38_5 == 0ull)) goto l_join_p4;
     goto l_then_wd;
 l_arm_p4:;
     if (r_38_1 == 0ull) goto l_std_bd_1;
     rattle_dealloc(r_xw);
 l_std_bd_1:;
-    if ((r_r5_1 != 1u) ? 1u : (r_38_2 == 0ull)) goto l_join_cl;
+    if ((r_r5 != 1u) ? 1u : (r_38_2 == 0ull)) goto l_join_cl;
     rattle_dealloc(r_xw_1);
 l_join_cl:;
     st8(a_1, 1u);
@@ -6501,7 +6501,7 @@ l_join_p4:;
     if (r_38_1 == 0ull) goto l_std_bd_2;
     rattle_dealloc(r_xw);
 l_std_bd_2:;
-    if ((r_r5_1 != 1u) ? 1u : (r_38_2 == 0ull)) goto l_join_yd;
+    if ((r_r5 != 1u) ? 1u : (r_38_2 == 0ull)) goto l_join_yd;
     rattle_dealloc(r_xw_1);
 l_join_yd:;
     st8(a_1, 0u);
@@ -6517,7 +6517,7 @@ static void capnp_show_show_compare_make_line_9d3526b9b0726c59(u8 *a_1, u8 *a_2,
 {
     A(1) u8 slot_1[1];
     A(8) u8 slot_2[120];
-    struct s_i8_i8 r_02;
+    struct s_i8_i8 r_y6;
     u8 r_ts;
     u64 r_qw = ld64(away(a_2, 8ull));
     u32 r_5k = ld32(away(a_2, 16ull));
@@ -6529,8 +6529,8 @@ static void capnp_show_show_compare_make_line_9d3526b9b0726c59(u8 *a_1, u8 *a_2,
     st64((slot_2 + 32), r_eg);
     st64((slot_2 + 40), r_qw);
     memset((slot_2 + 48), 0u, 72);
-    r_02 = capnp_show_show_message_write_json_9d3526b9b0726c59(a_3, 0ull, 0ull, ((u8 *)g_static_287), 0ull, smax32(r_5k, 0u), slot_2);
-    if (r_02.f0 == 0u) goto l_arm_yd;
+    r_y6 = capnp_show_show_message_write_json_9d3526b9b0726c59(a_3, 0ull, 0ull, ((u8 *)g_static_297), 0ull, smax32(r_5k, 0u), slot_2);
+    if (r_y6.f0 == 0u) goto l_arm_yd;
     goto l_arm_cb;
 l_common_68:;
     return;
@@ -6541,7 +6541,7 @@ l_arm_yd:;
     goto l_common_68;
 l_arm_cb:;
     r_ts = (ld64((slot_2 + 16)) == 0ull);
-    if (!(r_02.f1 == 0u)) goto l_arm_yg;
+    if (!(r_y6.f1 == 0u)) goto l_arm_yg;
     if (r_ts) goto l_std_fy;
     rattle_dealloc(ldp(slot_2));
 l_std_fy:;
@@ -6579,25 +6579,25 @@ void capnp_show_show_compare_make_difference_text_46c7a4392912af85(u8 *a_1, u8 *
     A(8) u8 slot_9[48];
     A(8) u8 slot_10[128];
     A(8) u8 slot_11[48];
-    u8 *r_x5_2;
+    u8 *r_x5;
     u8 *r_xw;
     u64 r_38;
-    u8 r_r5_1;
+    u8 r_r5;
     u8 *r_xw_1;
     u64 r_38_1;
     u64 r_38_2;
     u8 r_dd;
-    u8 *r_x5_4;
+    u8 *r_x5_1;
     u8 *r_xw_2;
     u64 r_38_3;
-    u8 r_r5_3;
+    u8 r_r5_1;
     u8 *r_xw_3;
     u64 r_38_4;
-    u8 *r_x5_5;
-    u8 *r_zd_3;
+    u8 *r_x5_2;
+    u8 *r_zd;
     u64 r_5q;
     u8 *r_2b;
-    u64 r_wz;
+    u64 r_pi;
     struct s_i8_i8 r_ik;
     u64 r_52;
     u64 r_b4;
@@ -6605,38 +6605,38 @@ void capnp_show_show_compare_make_difference_text_46c7a4392912af85(u8 *a_1, u8 *
     u64 r_x4;
     u8 *r_lz;
     u8 *r_2b_1;
-    u64 r_p7;
+    u64 r_bm;
     u8 r_e7;
     struct s_i8_i8 r_5d;
-    u8 *r_aj;
-    u64 r_ll;
-    u64 r_qf;
+    u8 *r_4a;
+    u64 r_y7;
+    u64 r_hj;
     u64 r_5b;
     u8 *r_2b_2;
-    u64 r_7h;
+    u64 r_6g;
     u8 r_e7_1;
     u64 r_as;
     u64 r_b4_1;
     u64 r_ky_1;
     u64 r_x4_1;
     u8 *r_2b_3;
-    u64 r_25;
+    u64 r_2c;
     struct s_i8_i8 r_dw;
     u8 r_e7_2;
-    struct s_i8_i8 r_vi;
+    struct s_i8_i8 r_oc;
     struct s_i8_i8 r_dw_1;
     struct s_i8_i8 r_yu;
-    u8 *r_x5_6;
+    u8 *r_x5_3;
     u64 r_52_3;
-    u8 *r_zd_4;
+    u8 *r_zd_1;
     u64 r_at;
     u64 r_gh;
     u64 r_y6;
     u8 *r_2b_4;
-    u64 r_cm;
+    u64 r_5t;
     u8 r_2d_1;
     u8 r_2d;
-    u8 *r_g0_4;
+    u8 *r_g0;
     st64((slot_7 + 16), 0ull);
     st64(slot_7, (u64)ld8(a_2));
     st64((slot_7 + 8), ld64(away(a_2, 8ull)));
@@ -6650,10 +6650,10 @@ void capnp_show_show_compare_make_difference_text_46c7a4392912af85(u8 *a_1, u8 *
     memset((slot_9 + 24), 0u, 24);
     capnp_show_show_compare_make_line_up_to_9d3526b9b0726c59(slot_8, slot_7, slot_9, a_6);
     if (!(ld8(slot_8) == 0u)) goto l_arm_f3;
-    r_x5_2 = (slot_8 + 8);
-    r_xw = ldp(r_x5_2);
+    r_x5 = (slot_8 + 8);
+    r_xw = ldp(r_x5);
     r_38 = ld64((slot_8 + 24));
-    r_r5_1 = ld8((slot_8 + 72));
+    r_r5 = ld8((slot_8 + 72));
     r_xw_1 = ldp((slot_8 + 96));
     r_38_1 = ld64((slot_8 + 104));
     r_38_2 = ld64((slot_8 + 112));
@@ -6674,63 +6674,63 @@ l_arm_f3:;
     memset(away(a_1, 8ull), 0u, 24);
     goto l_common_68;
 l_arm_07:;
-    r_x5_4 = (slot_10 + 8);
-    r_xw_2 = ldp(r_x5_4);
+    r_x5_1 = (slot_10 + 8);
+    r_xw_2 = ldp(r_x5_1);
     r_38_3 = ld64((slot_10 + 24));
-    r_r5_3 = ld8((slot_10 + 72));
+    r_r5_1 = ld8((slot_10 + 72));
     r_xw_3 = ldp((slot_10 + 96));
     r_38_4 = ld64((slot_10 + 112));
     memset(slot_5, 0u, 30);
     stp(slot_4, slot_1);
-    r_x5_5 = (slot_4 + 8);
-    memset(r_x5_5, 0u, 16);
-    r_zd_3 = (slot_4 + 16);
+    r_x5_2 = (slot_4 + 8);
+    memset(r_x5_2, 0u, 16);
+    r_zd = (slot_4 + 16);
     u8 r_tv = std_alloc_vec_Vec_grow_amortized_9634afabedddd7ee(slot_4, 8ull);
     if (!r_tv) { r_yu = (struct s_i8_i8){ 1u, 1u }; goto l_capnp_v4; }
-    u64 r_38_5 = ld64(r_x5_5);
+    u64 r_38_5 = ld64(r_x5_2);
     r_5q = (r_38_5 + 8ull);
     r_2b = away(ldp(slot_4), r_38_5);
-    if (((u64)(uptr)r_2b - (u64)(uptr)((u8 *)g_static_216)) < 8ull) { r_wz = 0ull; goto l_join_oo; }
+    if (((u64)(uptr)r_2b - (u64)(uptr)((u8 *)g_static_226)) < 8ull) { r_pi = 0ull; goto l_join_6x; }
     st64(r_2b, 0x206567617373656dull);
     goto l_arm_il;
-l_join_oo:;
-    st8((r_2b + (i64)(r_wz)), ld8((((u8 *)g_static_216) + (i64)(r_wz))));
-    u64 r_c4 = (r_wz + 1ull);
-    if (!(r_c4 == 8ull)) { r_wz = r_c4; goto l_join_oo; }
+l_join_6x:;
+    st8((r_2b + (i64)(r_pi)), ld8((((u8 *)g_static_226) + (i64)(r_pi))));
+    u64 r_c4 = (r_pi + 1ull);
+    if (!(r_c4 == 8ull)) { r_pi = r_c4; goto l_join_6x; }
 l_arm_il:;
-    st64(r_x5_5, r_5q);
+    st64(r_x5_2, r_5q);
     r_ik = capnp_show_show_text_Text_push_number(slot_4, a_3);
     if (!(r_ik.f0 == 0u)) goto l_arm_ev;
-    r_52 = ld64(r_x5_5);
+    r_52 = ld64(r_x5_2);
     if (r_52 > 0x3ffffbeull) { r_e7 = 0u; goto l_arm_n5; }
-    u64 r_52_1 = ld64(r_zd_3);
+    u64 r_52_1 = ld64(r_zd);
     if (!((r_52_1 - r_52) < 2ull)) { r_b4 = r_52_1; r_ky = r_52; goto l_join_p0; }
     u8 r_38_6 = std_alloc_vec_Vec_grow_amortized_9634afabedddd7ee(slot_4, 2ull);
     if (!r_38_6) { r_e7 = 1u; goto l_arm_n5; }
-    r_b4 = ld64(r_zd_3);
-    r_ky = ld64(r_x5_5);
+    r_b4 = ld64(r_zd);
+    r_ky = ld64(r_x5_2);
 l_join_p0:;
     r_x4 = (r_ky + 2ull);
     r_lz = ldp(slot_4);
     r_2b_1 = away(r_lz, r_ky);
-    if (((u64)(uptr)r_2b_1 - (u64)(uptr)((u8 *)g_static_57)) < 2ull) { r_p7 = 0ull; goto l_join_3c; }
+    if (((u64)(uptr)r_2b_1 - (u64)(uptr)((u8 *)g_static_59)) < 2ull) { r_bm = 0ull; goto l_join_ka; }
     st16(r_2b_1, 8250u);
     goto l_arm_gf;
-l_join_3c:;
-    st8((r_2b_1 + (i64)(r_p7)), ld8((((u8 *)g_static_57) + (i64)(r_p7))));
-    u64 r_c4_1 = (r_p7 + 1ull);
+l_join_ka:;
+    st8((r_2b_1 + (i64)(r_bm)), ld8((((u8 *)g_static_59) + (i64)(r_bm))));
+    u64 r_c4_1 = (r_bm + 1ull);
     if (r_c4_1 == 2ull) goto l_arm_gf;
-    r_p7 = r_c4_1;
-    goto l_join_3c;
+    r_bm = r_c4_1;
+    goto l_join_ka;
 l_arm_ev:;
     struct s_i8_i8 t_fj = (struct s_i8_i8){ 1u, 0u };
     t_fj.f1 = r_ik.f1;
     r_yu = t_fj;
     goto l_capnp_v4;
 l_arm_gf:;
-    st64(r_x5_5, r_x4);
-    st64(r_zd_3, r_b4);
-    if (r_r5_1 == 1u) goto l_arm_o7;
+    st64(r_x5_2, r_x4);
+    st64(r_zd, r_b4);
+    if (r_r5 == 1u) goto l_arm_o7;
     goto l_arm_vs;
 l_arm_n5:;
     struct s_i8_i8 t_fj_1 = (struct s_i8_i8){ 1u, 0u };
@@ -6740,7 +6740,7 @@ l_arm_n5:;
 l_arm_o7:;
     r_5d = capnp_show_show_path_push_path(slot_4, r_xw_1, r_38_1);
     if (!(r_5d.f0 == 0u)) goto l_arm_ev_1;
-    r_as = ld64(r_x5_5);
+    r_as = ld64(r_x5_2);
     goto l_join_e5;
 l_arm_ev_1:;
     struct s_i8_i8 t_fj_2 = (struct s_i8_i8){ 1u, 0u };
@@ -6749,26 +6749,26 @@ l_arm_ev_1:;
     goto l_capnp_v4;
 l_arm_vs:;
     if (r_x4 > 0x3ffffbcull) { r_e7_1 = 0u; goto l_arm_n5_1; }
-    if (!((r_b4 - r_x4) < 4ull)) { r_aj = r_lz; r_ll = r_b4; r_qf = r_x4; goto l_join_pq; }
+    if (!((r_b4 - r_x4) < 4ull)) { r_4a = r_lz; r_y7 = r_b4; r_hj = r_x4; goto l_join_k6; }
     u8 r_ua = std_alloc_vec_Vec_grow_amortized_9634afabedddd7ee(slot_4, 4ull);
     if (!r_ua) { r_e7_1 = 1u; goto l_arm_n5_1; }
-    r_aj = ldp(slot_4);
-    r_ll = ld64(r_zd_3);
-    r_qf = ld64(r_x5_5);
-l_join_pq:;
-    r_5b = (r_qf + 4ull);
-    r_2b_2 = away(r_aj, r_qf);
-    if (((u64)(uptr)r_2b_2 - (u64)(uptr)((u8 *)g_static_220)) < 4ull) { r_7h = 0ull; goto l_join_2a; }
+    r_4a = ldp(slot_4);
+    r_y7 = ld64(r_zd);
+    r_hj = ld64(r_x5_2);
+l_join_k6:;
+    r_5b = (r_hj + 4ull);
+    r_2b_2 = away(r_4a, r_hj);
+    if (((u64)(uptr)r_2b_2 - (u64)(uptr)((u8 *)g_static_230)) < 4ull) { r_6g = 0ull; goto l_join_0k; }
     st32(r_2b_2, 0x746f6f72u);
     goto l_capnp_pi;
-l_join_2a:;
-    st8((r_2b_2 + (i64)(r_7h)), ld8((((u8 *)g_static_220) + (i64)(r_7h))));
-    u64 r_c4_3 = (r_7h + 1ull);
-    if (!(r_c4_3 == 4ull)) { r_7h = r_c4_3; goto l_join_2a; }
+l_join_0k:;
+    st8((r_2b_2 + (i64)(r_6g)), ld8((((u8 *)g_static_230) + (i64)(r_6g))));
+    u64 r_c4_2 = (r_6g + 1ull);
+    if (!(r_c4_2 == 4ull)) { r_6g = r_c4_2; goto l_join_0k; }
 l_capnp_pi:;
-    stp(slot_4, r_aj);
-    st64(r_x5_5, r_5b);
-    st64(r_zd_3, r_ll);
+    stp(slot_4, r_4a);
+    st64(r_x5_2, r_5b);
+    st64(r_zd, r_y7);
     r_as = r_5b;
     goto l_join_e5;
 l_arm_n5_1:;
@@ -6778,36 +6778,36 @@ l_arm_n5_1:;
     goto l_capnp_v4;
 l_join_e5:;
     if (r_as > 0x3ffffbeull) { r_e7_2 = 0u; goto l_arm_n5_2; }
-    u64 r_52_2 = ld64(r_zd_3);
+    u64 r_52_2 = ld64(r_zd);
     if (!((r_52_2 - r_as) < 2ull)) { r_b4_1 = r_52_2; r_ky_1 = r_as; goto l_join_p0_1; }
-    u8 r_38_12 = std_alloc_vec_Vec_grow_amortized_9634afabedddd7ee(slot_4, 2ull);
-    if (!r_38_12) { r_e7_2 = 1u; goto l_arm_n5_2; }
-    r_b4_1 = ld64(r_zd_3);
-    r_ky_1 = ld64(r_x5_5);
+    u8 r_38_7 = std_alloc_vec_Vec_grow_amortized_9634afabedddd7ee(slot_4, 2ull);
+    if (!r_38_7) { r_e7_2 = 1u; goto l_arm_n5_2; }
+    r_b4_1 = ld64(r_zd);
+    r_ky_1 = ld64(r_x5_2);
 l_join_p0_1:;
     r_x4_1 = (r_ky_1 + 2ull);
     r_2b_3 = away(ldp(slot_4), r_ky_1);
-    if (((u64)(uptr)r_2b_3 - (u64)(uptr)((u8 *)g_static_288)) < 2ull) { r_25 = 0ull; goto l_join_1x; }
+    if (((u64)(uptr)r_2b_3 - (u64)(uptr)((u8 *)g_static_298)) < 2ull) { r_2c = 0ull; goto l_join_6m; }
     st16(r_2b_3, 15370u);
     goto l_arm_cq;
-l_join_1x:;
-    st8((r_2b_3 + (i64)(r_25)), ld8((((u8 *)g_static_288) + (i64)(r_25))));
-    u64 r_c4_4 = (r_25 + 1ull);
-    if (!(r_c4_4 == 2ull)) { r_25 = r_c4_4; goto l_join_1x; }
+l_join_6m:;
+    st8((r_2b_3 + (i64)(r_2c)), ld8((((u8 *)g_static_298) + (i64)(r_2c))));
+    u64 r_c4_3 = (r_2c + 1ull);
+    if (!(r_c4_3 == 2ull)) { r_2c = r_c4_3; goto l_join_6m; }
 l_arm_cq:;
-    st64(r_x5_5, r_x4_1);
-    st64(r_zd_3, r_b4_1);
-    r_dw = capnp_show_show_compare_push_found(slot_4, r_x5_2);
-    if (r_dw.f0 == 0u) goto l_arm_zy;
+    st64(r_x5_2, r_x4_1);
+    st64(r_zd, r_b4_1);
+    r_dw = capnp_show_show_compare_push_found(slot_4, r_x5);
+    if (r_dw.f0 == 0u) goto l_arm_v6;
     goto l_arm_ev_2;
 l_arm_n5_2:;
     struct s_i8_i8 t_fj_4 = (struct s_i8_i8){ 1u, 0u };
     t_fj_4.f1 = r_e7_2;
     r_yu = t_fj_4;
     goto l_capnp_v4;
-l_arm_zy:;
-    r_vi = capnp_show_show_text_Text_push(slot_4, ((u8 *)g_static_289), 2ull);
-    if (r_vi.f0 == 0u) goto l_arm_xr;
+l_arm_v6:;
+    r_oc = capnp_show_show_text_Text_push(slot_4, ((u8 *)g_static_299), 2ull);
+    if (r_oc.f0 == 0u) goto l_arm_xr;
     goto l_arm_ev_3;
 l_arm_ev_2:;
     struct s_i8_i8 t_fj_5 = (struct s_i8_i8){ 1u, 0u };
@@ -6815,12 +6815,12 @@ l_arm_ev_2:;
     r_yu = t_fj_5;
     goto l_capnp_v4;
 l_arm_xr:;
-    r_dw_1 = capnp_show_show_compare_push_found(slot_4, r_x5_4);
+    r_dw_1 = capnp_show_show_compare_push_found(slot_4, r_x5_1);
     if (r_dw_1.f0 == 0u) goto l_arm_84;
     goto l_arm_ev_4;
 l_arm_ev_3:;
     struct s_i8_i8 t_fj_6 = (struct s_i8_i8){ 1u, 0u };
-    t_fj_6.f1 = r_vi.f1;
+    t_fj_6.f1 = r_oc.f1;
     r_yu = t_fj_6;
     goto l_capnp_v4;
 l_arm_84:;
@@ -6840,29 +6840,29 @@ l_arm_ao:;
     if (!(r_yu.f1 == 0u)) goto l_arm_w6;
     memset(slot_3, 0u, 30);
     mv24(slot_2, slot_4);
-    r_x5_6 = (slot_2 + 8);
-    r_52_3 = ld64(r_x5_6);
+    r_x5_3 = (slot_2 + 8);
+    r_52_3 = ld64(r_x5_3);
     if (r_52_3 > 0x3ffffe9ull) goto l_arm_io;
-    r_zd_4 = (slot_2 + 16);
-    u64 r_52_4 = ld64(r_zd_4);
+    r_zd_1 = (slot_2 + 16);
+    u64 r_52_4 = ld64(r_zd_1);
     if (!((r_52_4 - r_52_3) < 23ull)) { r_at = r_52_4; r_gh = r_52_3; goto l_join_e5_1; }
     u8 r_wl = std_alloc_vec_Vec_grow_amortized_9634afabedddd7ee(slot_2, 23ull);
     if (!r_wl) goto l_arm_io;
-    r_at = ld64(r_zd_4);
-    r_gh = ld64(r_x5_6);
+    r_at = ld64(r_zd_1);
+    r_gh = ld64(r_x5_3);
 l_join_e5_1:;
     r_y6 = (r_gh + 23ull);
     r_2b_4 = away(ldp(slot_2), r_gh);
-    if (((u64)(uptr)r_2b_4 - (u64)(uptr)((u8 *)g_static_250)) < 23ull) { r_cm = 0ull; goto l_join_zr; }
-    mv23(r_2b_4, ((u8 *)g_static_250));
+    if (((u64)(uptr)r_2b_4 - (u64)(uptr)((u8 *)g_static_259)) < 23ull) { r_5t = 0ull; goto l_join_mi; }
+    mv23(r_2b_4, ((u8 *)g_static_259));
     goto l_arm_ef;
-l_join_zr:;
-    st8((r_2b_4 + (i64)(r_cm)), ld8((((u8 *)g_static_250) + (i64)(r_cm))));
-    u64 r_c4_5 = (r_cm + 1ull);
-    if (!(r_c4_5 == 23ull)) { r_cm = r_c4_5; goto l_join_zr; }
+l_join_mi:;
+    st8((r_2b_4 + (i64)(r_5t)), ld8((((u8 *)g_static_259) + (i64)(r_5t))));
+    u64 r_c4_4 = (r_5t + 1ull);
+    if (!(r_c4_4 == 23ull)) { r_5t = r_c4_4; goto l_join_mi; }
 l_arm_ef:;
-    st64(r_x5_6, r_y6);
-    st64(r_zd_4, r_at);
+    st64(r_x5_3, r_y6);
+    st64(r_zd_1, r_at);
     mv24((slot_3 + 6), slot_2);
     r_2d_1 = 0u;
     goto l_capnp_tw_1;
@@ -6875,22 +6875,22 @@ l_capnp_tw_1:;
     r_2d = r_2d_1;
     goto l_capnp_tw;
 l_arm_w6:;
-    if (ld64(r_zd_3) == 0ull) { r_2d = 1u; goto l_capnp_tw; }
+    if (ld64(r_zd) == 0ull) { r_2d = 1u; goto l_capnp_tw; }
     rattle_dealloc(ldp(slot_4));
     r_2d = 1u;
 l_capnp_tw:;
-    r_g0_4 = (slot_6 + 6);
-    mv24(r_g0_4, (slot_5 + 6));
+    r_g0 = (slot_6 + 6);
+    mv24(r_g0, (slot_5 + 6));
     if (r_38_3 == 0ull) goto l_std_bd;
     rattle_dealloc(r_xw_2);
 l_std_bd:;
-    if ((r_r5_3 != 1u) ? 1u : (r_38_4 == 0ull)) goto l_join_p4;
+    if ((r_r5_1 != 1u) ? 1u : (r_38_4 == 0ull)) goto l_join_p4;
     goto l_then_04;
 l_arm_p4:;
     if (r_38 == 0ull) goto l_std_bd_1;
     rattle_dealloc(r_xw);
 l_std_bd_1:;
-    if ((r_r5_1 != 1u) ? 1u : (r_38_2 == 0ull)) goto l_join_cl;
+    if ((r_r5 != 1u) ? 1u : (r_38_2 == 0ull)) goto l_join_cl;
     rattle_dealloc(r_xw_1);
 l_join_cl:;
     st8(a_1, 1u);
@@ -6903,12 +6903,12 @@ l_join_p4:;
     if (r_38 == 0ull) goto l_std_bd_2;
     rattle_dealloc(r_xw);
 l_std_bd_2:;
-    if ((r_r5_1 != 1u) ? 1u : (r_38_2 == 0ull)) goto l_join_50;
+    if ((r_r5 != 1u) ? 1u : (r_38_2 == 0ull)) goto l_join_50;
     rattle_dealloc(r_xw_1);
 l_join_50:;
     st8(a_1, r_2d);
     st8(away(a_1, 1ull), 0u);
-    mv24(away(a_1, 8ull), r_g0_4);
+    mv24(away(a_1, 8ull), r_g0);
     goto l_common_68;
 }
 
@@ -6921,7 +6921,7 @@ static void capnp_show_show_compare_make_line_up_to_9d3526b9b0726c59(u8 *a_1, u8
     u8 *r_5q;
     u8 *r_k5;
     u8 *r_ra;
-    struct s_i8_i8 r_02;
+    struct s_i8_i8 r_y6;
     u8 r_n6;
     u8 r_m0;
     u8 r_dh = ld8(a_2);
@@ -6940,9 +6940,9 @@ static void capnp_show_show_compare_make_line_up_to_9d3526b9b0726c59(u8 *a_1, u8
     r_ra = (slot_2 + 104);
     st64(r_5q, 1ull);
     mv48((slot_2 + 72), a_3);
-    r_02 = capnp_show_show_message_write_json_9d3526b9b0726c59(a_4, 0ull, 0ull, ((u8 *)g_static_287), 0ull, smax32(r_5k, 0u), slot_2);
-    if (r_02.f0 == 0u) goto l_after_kx;
-    switch (r_02.f1) {
+    r_y6 = capnp_show_show_message_write_json_9d3526b9b0726c59(a_4, 0ull, 0ull, ((u8 *)g_static_297), 0ull, smax32(r_5k, 0u), slot_2);
+    if (r_y6.f0 == 0u) goto l_after_kx;
+    switch (r_y6.f1) {
     case 2u: goto l_after_kx;
     case 0u: goto l_arm_st;
     case 1u: goto l_arm_st_1;
@@ -6989,8 +6989,8 @@ static struct s_i8_i8 capnp_show_show_compare_push_found(u8 *a_1, u8 *a_2)
     u64 r_t9;
     u64 r_i2;
     u64 r_9t;
-    u8 *r_rq_1;
-    u64 r_52_2;
+    u8 *r_rq;
+    u64 r_52_1;
     u8 *r_08;
     u64 r_20;
     u64 r_j8;
@@ -7000,15 +7000,15 @@ static struct s_i8_i8 capnp_show_show_compare_push_found(u8 *a_1, u8 *a_2)
     u64 r_9p;
     u64 r_w9;
     u64 r_5q;
-    u8 *r_2b_2;
+    u8 *r_2b_1;
     u64 r_il;
-    u8 *static_bk;
+    u8 *static_0i;
     u64 t_sh;
     u8 *r_0v;
     u64 r_i2_1;
     u64 r_1g;
     u64 r_ru;
-    u8 *r_2b_3;
+    u8 *r_2b_2;
     u64 r_es;
     u8 r_fu;
     u8 r_vh;
@@ -7028,22 +7028,22 @@ l_then_pb:;
     r_i2 = r_0f;
     goto l_then_pb;
 l_capnp_lk:;
-    r_rq_1 = away(a_1, 8ull);
-    r_52_2 = ld64(r_rq_1);
-    if (r_52_2 > 0x3ffffbfull) { r_fu = 0u; r_vh = 1u; goto l_return_4x; }
+    r_rq = away(a_1, 8ull);
+    r_52_1 = ld64(r_rq);
+    if (r_52_1 > 0x3ffffbfull) { r_fu = 0u; r_vh = 1u; goto l_return_4x; }
     r_08 = away(a_1, 16ull);
-    u64 r_52_3 = ld64(r_08);
-    if (!(r_52_3 == r_52_2)) { r_20 = r_52_3; r_j8 = r_52_2; goto l_join_jz; }
+    u64 r_52_2 = ld64(r_08);
+    if (!(r_52_2 == r_52_1)) { r_20 = r_52_2; r_j8 = r_52_1; goto l_join_jz; }
     u8 r_av = std_alloc_vec_Vec_grow_amortized_9634afabedddd7ee(a_1, 1ull);
     if (!r_av) { r_fu = 1u; r_vh = 1u; goto l_return_4x; }
     r_20 = ld64(r_08);
-    r_j8 = ld64(r_rq_1);
+    r_j8 = ld64(r_rq);
 l_join_jz:;
     r_7n = (r_j8 + 1ull);
     r_fx_1 = ldp(a_1);
     st8(away(r_fx_1, r_j8), 32u);
     stp(a_1, r_fx_1);
-    st64(r_rq_1, r_7n);
+    st64(r_rq, r_7n);
     st64(r_08, r_20);
     if ((u8)((u8)(r_7n > 0x3ffffc0ull) | (u8)((0x3ffffbfull - r_j8) < r_9t))) { r_fu = 0u; r_vh = 1u; goto l_return_4x; }
     if (!(r_9t > (r_20 - r_7n))) { r_a6 = r_fx_1; r_9p = r_20; r_w9 = r_7n; goto l_join_wm; }
@@ -7051,45 +7051,45 @@ l_join_jz:;
     if (!r_c4) { r_fu = 1u; r_vh = 1u; goto l_return_4x; }
     r_a6 = ldp(a_1);
     r_9p = ld64(r_08);
-    r_w9 = ld64(r_rq_1);
+    r_w9 = ld64(r_rq);
 l_join_wm:;
     r_5q = (r_w9 + r_9t);
-    memset(r_rq_1, 0u, 16);
-    r_2b_2 = away(r_a6, r_w9);
-    if (((u64)(uptr)r_2b_2 - (u64)(uptr)r_2b) < r_9t) { r_il = 0ull; goto l_join_fh; }
-    memmove_or_none(r_2b_2, r_2b, r_9t);
+    memset(r_rq, 0u, 16);
+    r_2b_1 = away(r_a6, r_w9);
+    if (((u64)(uptr)r_2b_1 - (u64)(uptr)r_2b) < r_9t) { r_il = 0ull; goto l_join_fh; }
+    memmove_or_none(r_2b_1, r_2b, r_9t);
     goto l_arm_gc;
 l_join_fh:;
-    st8((r_2b_2 + (i64)(r_il)), ld8((r_2b + (i64)(r_il))));
+    st8((r_2b_1 + (i64)(r_il)), ld8((r_2b + (i64)(r_il))));
     u64 r_36 = (r_il + 1ull);
     if (!(r_36 == r_9t)) { r_il = r_36; goto l_join_fh; }
 l_arm_gc:;
     stp(a_1, r_a6);
-    st64(r_rq_1, r_5q);
+    st64(r_rq, r_5q);
     st64(r_08, r_9p);
-    u8 r_bo_2 = (r_9t < r_t9);
-    static_bk = (r_bo_2 ? ((u8 *)g_static_290) : ((u8 *)g_static_287));
-    t_sh = (r_bo_2 ? 3ull : 0ull);
+    u8 r_bo = (r_9t < r_t9);
+    static_0i = (r_bo ? ((u8 *)g_static_300) : ((u8 *)g_static_297));
+    t_sh = (r_bo ? 3ull : 0ull);
     if ((r_5q > 0x3ffffc0ull) ? 1u : ((0x3ffffc0ull - r_5q) < t_sh)) { r_fu = 0u; r_vh = 1u; goto l_return_4x; }
     if (!(t_sh > (r_9p - r_5q))) { r_0v = r_a6; r_i2_1 = r_9p; r_1g = r_5q; goto l_join_jj; }
     u8 r_k1 = std_alloc_vec_Vec_grow_amortized_9634afabedddd7ee(a_1, t_sh);
     if (!r_k1) { r_fu = 1u; r_vh = 1u; goto l_return_4x; }
     r_0v = ldp(a_1);
     r_i2_1 = ld64(r_08);
-    r_1g = ld64(r_rq_1);
+    r_1g = ld64(r_rq);
 l_join_jj:;
     r_ru = (r_1g + t_sh);
-    r_2b_3 = away(r_0v, r_1g);
-    if (((u64)(uptr)r_2b_3 - (u64)(uptr)static_bk) < t_sh) { r_es = 0ull; goto l_join_fx; }
-    memcpy_or_none(r_2b_3, static_bk, t_sh);
+    r_2b_2 = away(r_0v, r_1g);
+    if (((u64)(uptr)r_2b_2 - (u64)(uptr)static_0i) < t_sh) { r_es = 0ull; goto l_join_fx; }
+    memcpy_or_none(r_2b_2, static_0i, t_sh);
     goto l_core_x2;
 l_join_fx:;
-    st8((r_2b_3 + (i64)(r_es)), ld8((static_bk + (i64)(r_es))));
+    st8((r_2b_2 + (i64)(r_es)), ld8((static_0i + (i64)(r_es))));
     u64 r_c4_1 = (r_es + 1ull);
     if (!(r_c4_1 == t_sh)) { r_es = r_c4_1; goto l_join_fx; }
 l_core_x2:;
     stp(a_1, r_0v);
-    st64(r_rq_1, r_ru);
+    st64(r_rq, r_ru);
     st64(r_08, r_i2_1);
     r_fu = 0u;
     r_vh = 0u;
