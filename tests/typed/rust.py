@@ -173,14 +173,14 @@ class Generated(run.Programs):
         answers = self.run('check', frames)
         counts.say(answers == ['yes'] * len(frames), f'{self.file}: the check says yes to {len(frames)} messages')
         random = Random(seed)
-        answers = self.run('check', [altered(it, random) for it in frames * times])
+        answers = self.run('check', [with_altered_bits(it, random) for it in frames * times])
         found = Counter(answers)
         agree = len(answers) == times * len(frames) and set(found) <= {'yes', 'no'} and min(found['yes'], found['no']) > 0
         said = f'{self.file}: all readers agree on {len(answers)} altered messages, of which {found["no"]} are refused'
         counts.say(agree, said if agree else f'{self.file}: {[it for it in found if it not in ("yes", "no")][:3]} {found["yes"]} {found["no"]} {len(answers)}')
 
 
-def altered(frame, random):
+def with_altered_bits(frame, random):
     """A frame with some altered bits in words that aren't zero: mostly in the first of these, among which are the pointers of the
     root, and there mostly the bits that say what a pointer leads to."""
     table = 8 * (int.from_bytes(frame[:4], 'little') // 2 + 1)
