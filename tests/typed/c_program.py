@@ -142,7 +142,8 @@ int main(int argc, char **argv) {{
 {used}    if (argc > 1 && argv[1][0] == 'c' && argv[1][1] == 'h') return check_all(bytes, size, room, argc, argv);
     for (i = 0; at < size; i++) {{
         struct capnp_message message;
-        if (i % 4 == 3) {{
+        /* of an altered message that is refused, the size is wanted */
+        if (i % 4 == 3 && !(argc > 1 && argv[1][0] == 'a')) {{
             if (open_root(&message, bytes + at, size - at, room, 512, &used, i % {count}) != 0) return 1;
         }} else if (capnp_open_frame(&message, bytes + at, size - at, room, 512, &used) != 0) {{
             return 1;
