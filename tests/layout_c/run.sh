@@ -114,11 +114,13 @@ sanitized() {
 # Compares validation with the library that copies and checks, which needs 64 bits: both headers and both libraries in one program.
 sound() {
     compiler=$1 bits=$2 other=
-    if [ "$bits" = -m64 ]; then
+    case $bits:$compiler in
+    -m64:* | *aarch64*)
         other=$work/canonical.o
         # shellcheck disable=SC2086
         "$compiler" -std=gnu11 -O0 -g $sanitizers -I"$top/bindings/c" -c -o "$other" "$top/generated/capnp_canonical.c" || return 1
-    fi
+        ;;
+    esac
     # shellcheck disable=SC2086
     "$compiler" $bits -std=gnu11 -O1 -g $sanitizers $include -o "$work/sound" "$here/sound.c" "$folder/capnp_layout.c" $other &&
         run "$work/sound" "$rounds" "${SEED:-1}"
