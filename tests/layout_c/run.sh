@@ -192,7 +192,7 @@ lists() {
 # What the other library makes of a frame that was built: `capnp` makes the same bytes of it, and the digest is theirs.
 finished() {
     gcc -std=gnu11 -O0 -g $sanitizers -I"$top/bindings/c" -o "$work/finished" "$here/finished.c" "$folder/capnp_layout.c" "$top/generated/capnp_canonical.c" || return 1
-    mkdir -p "$work/built" && "$work/finished" "$work/built" >"$work/said" && cd "$work/built" || return 1
+    mkdir -p "$work/with_other" && "$work/finished" "$work/with_other" >"$work/said" && cd "$work/with_other" || return 1
     capnp convert binary:packed <frame | cmp - packed || return 1
     capnp convert binary:canonical <frame | cmp - words || return 1
     { echo "$(($(wc -c <frame) / 8 - 2)) words" && echo 'not canonical' && sha256sum words | cut -d ' ' -f 1; } | diff - "$work/said"
