@@ -189,11 +189,12 @@ lists() {
     sanitized "$1" "$2" lists <"$work/message" >"$work/said" && diff "$here/lists.txt" "$work/said"
 }
 
-# What the other library makes of a frame that was built: `capnp` makes the same bytes of it, and the digest is theirs.
+# What the other library makes of a frame that was built: `capnp` unpacks it to the same message, of which it makes the same
+# canonical words, and the digest is theirs.
 finished() {
     gcc -std=gnu11 -O0 -g $sanitizers -I"$top/bindings/c" -o "$work/finished" "$here/finished.c" "$folder/capnp_layout.c" "$top/generated/capnp_canonical.c" || return 1
     mkdir -p "$work/with_other" && "$work/finished" "$work/with_other" >"$work/said" && cd "$work/with_other" || return 1
-    capnp convert binary:packed <frame | cmp - packed || return 1
+    capnp convert binary:binary <frame >copied && capnp convert packed:binary <packed | cmp - copied || return 1
     capnp convert binary:canonical <frame | cmp - words || return 1
     { echo "$(($(wc -c <frame) / 8 - 2)) words" && echo 'not canonical' && sha256sum words | cut -d ' ' -f 1; } | diff - "$work/said"
 }
