@@ -189,8 +189,8 @@ lists() {
     sanitized "$1" "$2" lists <"$work/message" >"$work/said" && diff "$here/lists.txt" "$work/said"
 }
 
-# What the other library makes of a frame that was built: `capnp` unpacks it to the same message, of which it makes the same
-# canonical words, and the digest is theirs.
+# What the other library makes of a built frame: `capnp` unpacks it to the same message and makes the same canonical words of
+# that, and the digest is theirs.
 finished() {
     gcc -std=gnu11 -O0 -g $sanitizers -I"$top/bindings/c" -o "$work/finished" "$here/finished.c" "$folder/capnp_layout.c" "$top/generated/capnp_canonical.c" || return 1
     mkdir -p "$work/with_other" && "$work/finished" "$work/with_other" >"$work/said" && cd "$work/with_other" || return 1
