@@ -10,7 +10,8 @@ pub use crate::meter::sealed::Closed;
 pub use crate::values::{boxed, fill, no_struct, own_list, Owned};
 pub use crate::{
     Element, ElementSize, Enum, Error, List, ListBuilder, Lists, Meter, Pointer, PointerBuilder,
-    Pointers, Reason, Struct, StructBuilder, StructSize, StructType, Structs, Typed, TypedBuilder,
+    Pointers, Reason, Struct, StructBuilder, StructSize, StructType, Structs, Target, Typed,
+    TypedBuilder,
 };
 pub use core::fmt;
 pub use rust_alloc::{boxed::Box, string::String, vec::Vec};
@@ -92,12 +93,19 @@ pub fn constant_list<T: Element + ?Sized>(words: &'static [u8]) -> List<'static,
     Typed::give(list_or(null(), words))
 }
 
-/// The index of the capability; `None` if the pointer is null.
+/// The index of the capability; `None` if the pointer is null. A far pointer may lead to it: no
+/// writer makes one, but a message that was checked may have it.
 pub fn capability<M: Meter>(pointer: Pointer<'_, M>) -> Result<Option<u32>> {
     if pointer.is_null() {
         return Ok(None);
     }
-    pointer.as_capability().map(Some)
+    match pointer.as_capability() {
+        Ok(index) => Ok(Some(index)),
+        Err(error) => match pointer.target()? {
+            Target::Capability(index) => Ok(Some(index)),
+            _ => Err(error),
+        },
+    }
 }
 
 /// A pointer of any kind.
