@@ -180,7 +180,7 @@ fn the_least_limits_of_a_check() -> Result<(), Error> {
 /// A far pointer to a capability, which no writer makes, passes the check, and is read after it.
 #[test]
 fn a_far_pointer_to_a_capability_is_read() {
-    // two segments of 5 words and 1; a struct of 4 pointers, of which number 2 leads to the second segment
+    // two segments of 5 words and 1; a struct of 4 pointers: number 2 leads to the second segment
     let words: [u64; 8] = [5 << 32 | 1, 1, 4 << 48, 0, 0, 1 << 32 | 2, 0, 7 << 32 | 3];
     let frame: Vec<u8> = words.iter().flat_map(|it| it.to_le_bytes()).collect();
     let message = Message::open(&frame, Limits::default()).unwrap();
