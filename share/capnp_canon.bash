@@ -15,11 +15,12 @@ _capnp_canon() {
     local options='--packed --from-flat --nesting --words --progress --no-progress --help --version'
     case $command in
     canon) options="--flat --pack --hex --at $options" ;;
-    check | validate | diff) options="--quiet --flat $options" ;;
+    check | diff) options="--quiet --flat $options" ;;
+    validate) options="--schema --quiet --flat $options" ;;
     size) options="--flat --at $options" ;;
     digest) options="--check --quiet --flat --at $options" ;;
     show) options="--json --values --color --depth --bytes --flat --at $options" ;;
-    *) options="--flat --pack --hex --quiet --check --at --json --values --color --depth --bytes $options" ;;
+    *) options="--flat --pack --hex --quiet --check --schema --at --json --values --color --depth --bytes $options" ;;
     esac
     if [[ $word == -* && ! $ended ]]; then
         COMPREPLY=($(compgen -W "$options" -- "$word"))

@@ -14,7 +14,7 @@ import sys
 TOP = pathlib.Path(__file__).resolve().parents[1]
 COMMANDS = {'canon': {'--flat', '--pack', '--hex', '--at'}, 'check': {'--flat', '--quiet'}, 'size': {'--flat', '--at'},
             'digest': {'--flat', '--check', '--quiet', '--at'},
-            'validate': {'--flat', '--quiet'}, 'show': {'--flat', '--json', '--values', '--color', '--depth', '--bytes', '--at'}, 'diff': {'--flat', '--quiet'}}
+            'validate': {'--flat', '--quiet', '--schema'}, 'show': {'--flat', '--json', '--values', '--color', '--depth', '--bytes', '--at'}, 'diff': {'--flat', '--quiet'}}
 LETTERS = {'-h', '-V', '-c'}
 
 
@@ -31,7 +31,7 @@ def words(text):
 def of_help():
     """The commands and the options of `--help`: the words at the start of its lines."""
     text = re.search(r'pub const HELP: &str =\s*"(.*?)";', file('crates/capnp_canon/src/texts.rt'), re.S)[1]
-    lines = re.findall(r'^ *((?:-[a-zA-Z], *)?(?:--)?[a-z][a-z-]*)(?: (?:N|PATH))?  +\S', text, re.M)
+    lines = re.findall(r'^ *((?:-[a-zA-Z], *)?(?:--)?[a-z][a-z-]*)(?: (?:N|PATH|FILE:TYPE))?  +\S', text, re.M)
     found = {word for line in lines for word in re.split(', *', line.strip())}
     return {it for it in found if not it.startswith('-')}, {it for it in found if it.startswith('-')}
 

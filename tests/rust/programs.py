@@ -32,7 +32,7 @@ PROGRAMS = 'layout_tool', 'capnp_canon', 'example_typed'
 MANIFEST = '''[package]
 name = "programs"
 version = "0.0.0"
-edition = "2021"
+edition = "2024"
 
 [dependencies]
 {crate} = {{ path = "{path}", features = ["programs"] }}
@@ -41,6 +41,10 @@ edition = "2021"
 '''
 # What the support and the runtime have in place of `std` and of libraries of the toolchain.
 RUNTIME = 'env', 'fs', 'io', 'process', 'rt', 'time'
+# Modules that only other programs need.
+LEFT_OUT = {'capnpc_schema': ('files', 'input')}
+# Calls of slices that Rust has under the same name, and their names in the runtime.
+RENAMED = {'.to_vec(alloc)': '.to_vec_in(alloc)', '.to_vec(self.alloc)': '.to_vec_in(self.alloc)', '.names.sort()': '.names.sort_texts()'}
 ALLOWED = '#![allow(dead_code, unused_imports, unused_labels, unused_variables)]\n#![forbid(unsafe_code)]\n'
 COUNTS = re.compile(r'(\d+) passed, (\d+) failed')
 
@@ -51,12 +55,19 @@ def with_root(text, lines):
     return f'{head}{lines}\n{text[len(head):]}'
 
 
+def needed_sources(name):
+    """The sources of a crate, without modules that only other programs need."""
+    left_out = LEFT_OUT.get(name, ())
+    found = {path: text for path, text in library.sources_of(TOP / 'crates' / name).items() if path.removesuffix('.rt') not in left_out}
+    return {path: re.sub(rf'(?m)^pub mod ({"|".join(left_out)});\n', '', text) if left_out else text for path, text in found.items()}
+
+
 def files():
     """The files of a package that has the programs, and a library of what they need in addition to the crate."""
     crates = Crates(TOP)
     needed = dict.fromkeys(it for name in PROGRAMS for it in crates.below(name))
     extra = [it for it in needed if it not in crate.LIBRARIES + crate.OF_PROGRAMS]
-    texts = {name: library.without_contracts(name, library.sources_of(TOP / 'crates' / name), Departures([])) for name in (*extra, *PROGRAMS)}
+    texts = {name: library.without_contracts(name, needed_sources(name), Departures([])) for name in (*extra, *PROGRAMS)}
     yield 'Cargo.toml', MANIFEST.format(crate=crate.NAME, path=TOP / 'generated/rust')
     yield 'src/lib.rs', ALLOWED + '#[macro_use]\npub mod runtime;\n' + ''.join(f'pub mod {it};\n' for it in extra)
     for path in (HERE / 'runtime').glob('*.rs'):
@@ -69,6 +80,10 @@ def files():
             own = f'crate::{name}' if name in extra else 'crate'
             for path, text in texts[name].items():
                 text = library.with_paths(text, own, libraries, support, False)
+                if name in LEFT_OUT:
+                    text = with_root(text, 'use crate::runtime::slices::*;\n')
+                    for call, other in RENAMED.items():
+                        text = text.replace(call, other)
                 if name in extra:
                     yield f'src/{library.file_of(name, path)}', text
                 else:

@@ -93,10 +93,10 @@ fn compare_readers<L: Read + Drop, R: Read + Drop, W: BufferedOutput>(
     let form = task.input_form();
     match fault {
         DiffFault::Refused(Side::Left, stop) => {
-            report_refusal(rt, form, Some(names.left), stop, &left_seen);
+            report_refusal(rt, form, Some(names.left), stop, "", &left_seen);
         }
         DiffFault::Refused(Side::Right, stop) => {
-            report_refusal(rt, form, Some(names.right), stop, &right_seen);
+            report_refusal(rt, form, Some(names.right), stop, "", &right_seen);
         }
         DiffFault::TooLong(number) => {
             let _ = eprintln!(rt; "capnp_canon: message {number}: too long to compare");

@@ -7,8 +7,10 @@ ghost use Rattle.capnp_streams.specs.Forms.{IsAnsweredAs};
 ghost use Rattle.capnp_streams.specs.Streams.{stage_of};
 
 use crate::BUFFER;
+use crate::conforming::{stop_of, test_input};
 use crate::lists::verify_all;
 use crate::progress::{CountedInput, Session, Watched};
+use crate::schema::Schema;
 use crate::texts::{NO_MEMORY, error_text};
 use capnp_framing::devices::Output;
 use capnp_framing::framing::FrameError;
@@ -54,6 +56,32 @@ impl Job {
     }
 }
 
+/// What is done with an input.
+#[derive(Clone, Copy)]
+pub enum Work<'a> {
+    /// A job with each message.
+    Do(Job),
+    /// Each message is tested against a schema.
+    Test(Task, &'a Schema),
+}
+
+impl Work<'_> {
+    /// How the input is read.
+    fn input_form(self) -> InputForm {
+        match self {
+            Work::Do(job) => job.input_form(),
+            Work::Test(task, _) => task.input_form(),
+        }
+    }
+}
+
+/// Why an input isn't answered to its end, and what is known of the pointer that is refused.
+#[derive(Drop)]
+struct Refusal {
+    stop: Stop,
+    field: String,
+}
+
 /// Does `task` with each message of each file in turn, or of standard input if there are no files.
 /// Returns `false` if the command is `check` and one of the messages isn't canonical; otherwise
 /// `true`. Ends with an error at the first file that can't be opened or isn't answered to its end.
@@ -61,10 +89,11 @@ impl Job {
 /// If there are several files, each line of `check`, `size` and `validate` begins with the file's
 /// name. Each line of `digest` ends with the file's name, `-` for standard input, and the number of
 /// the message. If the files are lists of such lines, verifies them, and returns whether all
-/// messages are as listed.
+/// messages are as listed. If there is a schema, tests each message against it.
 pub fn answer_all<W: BufferedOutput>(
     session: &Session<'_>,
     task: Task,
+    schema: Option<&Schema>,
     files: &[String],
     output: &mut W,
 ) -> Result<bool, Unanswered> {
@@ -75,7 +104,11 @@ pub fn answer_all<W: BufferedOutput>(
         return digest_all(session, task, files, output);
     }
     let are_named = !matches!(task.command, Command::Canon(_));
-    for_each_file(session, Job::Answer(task), are_named, files, output)
+    let work = match schema {
+        Some(schema) => Work::Test(task, schema),
+        None => Work::Do(Job::Answer(task)),
+    };
+    for_each_file(session, work, are_named, files, output)
 }
 
 /// Shows each message of each file in turn, or of standard input if there are no files. Returns
@@ -88,28 +121,34 @@ pub fn show_all<W: BufferedOutput>(
     files: &[String],
     output: &mut W,
 ) -> Result<bool, Unanswered> {
-    for_each_file(session, Job::Show(task), !task.json, files, output)
+    for_each_file(
+        session,
+        Work::Do(Job::Show(task)),
+        !task.json,
+        files,
+        output,
+    )
 }
 
-/// Does `job` with each message of each file in turn, or of standard input if there are no files.
+/// Does `work` with each message of each file in turn, or of standard input if there are no files.
 /// If `are_named` is set and there are several files, each line begins with the file's name.
 fn for_each_file<W: BufferedOutput>(
     session: &Session<'_>,
-    job: Job,
+    work: Work<'_>,
     are_named: bool,
     files: &[String],
     output: &mut W,
 ) -> Result<bool, Unanswered> {
     if files.is_empty() {
-        return answer_reader(session, job, None, session.rt.reader(), output);
+        return answer_reader(session, work, None, session.rt.reader(), output);
     }
     let mut holds = true;
     for file in files {
         let name = file.as_str();
         let here = if are_named && files.len() > 1 {
-            answer_file(session, job, name, &mut NamedLines::new(name, output))
+            answer_file(session, work, name, &mut NamedLines::new(name, output))
         } else {
-            answer_file(session, job, name, output)
+            answer_file(session, work, name, output)
         };
         holds = here? && holds;
     }
@@ -126,7 +165,7 @@ fn digest_all<W: BufferedOutput>(
     if files.is_empty() {
         return answer_reader(
             session,
-            Job::Answer(task),
+            Work::Do(Job::Answer(task)),
             None,
             session.rt.reader(),
             &mut NumberedLines::new("-", output),
@@ -136,7 +175,7 @@ fn digest_all<W: BufferedOutput>(
         let name = file.as_str();
         answer_file(
             session,
-            Job::Answer(task),
+            Work::Do(Job::Answer(task)),
             name,
             &mut NumberedLines::new(name, output),
         )?;
@@ -144,19 +183,19 @@ fn digest_all<W: BufferedOutput>(
     Ok(true)
 }
 
-/// Does `job` with the file `name`, or with standard input if `name` is `-`. Returns what
+/// Does `work` with the file `name`, or with standard input if `name` is `-`. Returns what
 /// `answer_all` returns.
 pub fn answer_file<W: BufferedOutput>(
     session: &Session<'_>,
-    job: Job,
+    work: Work<'_>,
     name: &str,
     output: &mut W,
 ) -> Result<bool, Unanswered> {
     if name == "-" {
-        return answer_reader(session, job, Some(name), session.rt.reader(), output);
+        return answer_reader(session, work, Some(name), session.rt.reader(), output);
     }
     match File::open(session.rt, name) {
-        Ok(file) => answer_reader(session, job, Some(name), file, output),
+        Ok(file) => answer_reader(session, work, Some(name), file, output),
         Err(error) => report_unopened(session, name, &error, output),
     }
 }
@@ -194,16 +233,16 @@ pub fn flush<W: BufferedOutput>(output: &mut W) -> Result<(), Unanswered> {
     }
 }
 
-/// Does `job` with the bytes of `reader`. Reports a fault with `name`, the name of the input, if
+/// Does `work` with the bytes of `reader`. Reports a fault with `name`, the name of the input, if
 /// there is one. Returns what `answer_all` returns.
 fn answer_reader<R: Read + Drop, W: BufferedOutput>(
     session: &Session<'_>,
-    job: Job,
+    work: Work<'_>,
     name: Option<&str>,
     reader: R,
     output: &mut W,
 ) -> Result<bool, Unanswered> {
-    if job.input_form() == InputForm::RawWords {
+    if work.input_form() == InputForm::RawWords {
         // Raw words are read to the end of the input first, which may take a while.
         flush(output)?;
     }
@@ -217,16 +256,46 @@ fn answer_reader<R: Read + Drop, W: BufferedOutput>(
         let _ = rt.eprintln(NO_MEMORY);
         return Err(Unanswered::Said);
     };
-    match run_job(session, job, BufReaderInput::new(reader), output) {
-        Ok(summary) => Ok(summary.holds),
-        Err(stop) => {
+    match do_work(session, work, BufReaderInput::new(reader), output) {
+        Ok(holds) => Ok(holds),
+        Err(Refusal { stop, field }) => {
             if matches!(stop.fault, StreamError::Frame(FrameError::WriteFailed)) {
                 return Err(Unanswered::WriteFailed);
             }
             flush_to_report(session, output)?;
-            report_refusal(rt, job.input_form(), name, stop, &seen);
+            report_refusal(rt, work.input_form(), name, stop, field.as_str(), &seen);
             Err(Unanswered::Said)
         }
+    }
+}
+
+/// Does `work` with the messages of `input`, and writes the answers to `output`. Precondition:
+/// neither `input` nor `output` has failed.
+fn do_work<R: BufferedInput + Drop, W: BufferedOutput>(
+    session: &Session<'_>,
+    work: Work<'_>,
+    input: R,
+    output: &mut W,
+) -> Result<bool, Refusal>
+    requires reads { R.has_failed input ≡ false }
+    requires writes { W.has_failed output.old ≡ false }
+{
+    let alloc = session.rt.alloc();
+    match work {
+        Work::Do(job) => match run_job(session, job, input, output) {
+            Ok(summary) => Ok(summary.holds),
+            Err(stop) => Err(Refusal {
+                stop,
+                field: String::new(alloc),
+            }),
+        },
+        Work::Test(task, schema) => match test_input(session, task, schema, input, output) {
+            Ok(()) => Ok(true),
+            Err(stop) => Err(Refusal {
+                stop: stop_of(stop),
+                field: schema.field_text(alloc, stop.fault),
+            }),
+        },
     }
 }
 
@@ -282,13 +351,14 @@ fn summary_of_one(answered: Result<bool, StreamError>) -> Result<Summary, Stop>
 }
 
 /// Reports which message is refused, counted from 1, at which byte of the input it begins, why it
-/// is refused, and at which of its pointers, if it is at one. If this is the first message, and the
+/// is refused, and at which of its pointers, if it is at one, followed by `field`. If this is the first message, and the
 /// input doesn't look like what `form` says, also reports what the input looks like.
 pub fn report_refusal(
     rt: &HostRuntime,
     form: InputForm,
     name: Option<&str>,
     stop: Stop,
+    field: &str,
     seen: &DeviceLog,
 ) {
     let (name, colon) = match name {
@@ -304,7 +374,7 @@ pub fn report_refusal(
                 "capnp_canon: {name}{colon}message {number} at byte {byte}: refused {reason}"
             ),
             Some(RefusedPointer { segment, word, .. }) => eprintln!(rt;
-                "capnp_canon: {name}{colon}message {number} at byte {byte}: refused {reason} at segment {segment}, word {word}"
+                "capnp_canon: {name}{colon}message {number} at byte {byte}: refused {reason} at segment {segment}, word {word}{field}"
             ),
         },
         Some(error) => match error_text(rt.alloc(), &error) {

@@ -1,7 +1,7 @@
 //! Verifies lists that `digest` has written: whether the messages that they name still have the
 //! digests that they state.
 
-use crate::inputs::{Job, Unanswered, answer_file, flush, flush_to_report};
+use crate::inputs::{Job, Unanswered, Work, answer_file, flush, flush_to_report};
 use crate::progress::Session;
 use crate::texts::{NO_MEMORY, NO_UTF8, error_text};
 use capnp_framing::devices::{DeviceFault, MemoryOutput, Output, write_all};
@@ -260,7 +260,7 @@ fn compute_digests<W: BufferedOutput>(
 ) -> Result<MemoryOutput, Unanswered> {
     flush(output)?;
     let mut digests = MemoryOutput::new(session.rt.alloc());
-    match answer_file(session, Job::Answer(task), name, &mut digests) {
+    match answer_file(session, Work::Do(Job::Answer(task)), name, &mut digests) {
         Ok(_) => {}
         Err(Unanswered::Said) => found.is_unread = true,
         Err(Unanswered::WriteFailed) => {

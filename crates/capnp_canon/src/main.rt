@@ -4,11 +4,13 @@
 //! `capnp_canon --help` explains the arguments.
 #![tactic(auto)]
 
+mod conforming;
 mod diffs;
 mod inputs;
 mod lists;
 mod own_options;
 mod progress;
+mod schema;
 mod texts;
 
 use capnp_packing::buffered::{BufWriterOutput, BufferedOutput};
@@ -20,8 +22,9 @@ use capnp_streams::streams::{
 };
 use diffs::compare_files;
 use inputs::{Unanswered, answer_all, show_all};
-use own_options::{SplitArguments, split_arguments};
+use own_options::{SchemaFault, split_arguments};
 use progress::{Session, Watched};
+use schema::{Schema, read_schema};
 use std::alloc::AllocError;
 use std::env;
 use std::io::{self, BufWriter};
@@ -45,25 +48,56 @@ fn run_program(rt: &HostRuntime) -> Result<ExitCode, AllocError> {
         let _ = rt.eprintln(NO_TEXT);
         return Ok(print_error(rt, HINT));
     };
-    let SplitArguments { others, progress } = split_arguments(rt.alloc(), args.as_slice())?;
-    let args = others.as_slice();
-    match streams::parse_args(args) {
-        Err(wrong) => Ok(report_usage_error(rt, args, wrong)),
-        Ok(Request::Help) => Ok(print_text(rt, HELP)),
-        Ok(Request::Version) => Ok(print_text(rt, VERSION)),
-        Ok(Request::Run(task)) => {
-            let files = streams::named_files(rt.alloc(), args)?;
-            Ok(run(&Session::new(rt, progress), task, files.as_slice()))
+    let split = split_arguments(rt.alloc(), args.as_slice())?;
+    let args = split.others.as_slice();
+    let request = match streams::parse_args(args) {
+        Err(wrong) => return Ok(report_usage_error(rt, args, wrong)),
+        Ok(Request::Help) => return Ok(print_text(rt, HELP)),
+        Ok(Request::Version) => return Ok(print_text(rt, VERSION)),
+        Ok(request) => request,
+    };
+    if let Some(fault) = split.schema_fault(request) {
+        return Ok(report_schema_fault(rt, split.schema_text(), fault));
+    }
+    let files = streams::named_files(rt.alloc(), args)?;
+    let session = Session::new(rt, split.progress);
+    Ok(run_request(&session, request, split.schema_text(), files.as_slice()))
+}
+
+/// Does what `request` asks for with `files`, and returns the exit status. `schema` is the value of
+/// `--schema`; empty if there is none.
+fn run_request(
+    session: &Session<'_>,
+    request: Request,
+    schema: &str,
+    files: &[String],
+) -> ExitCode {
+    match request {
+        Request::Run(task) if schema.is_empty() => run(session, task, None, files),
+        Request::Run(task) => match read_schema(session.rt, schema) {
+            Some(schema) => run(session, task, Some(&schema), files),
+            None => ExitCode::from(2),
+        },
+        Request::Show(task) => show(session, task, files),
+        Request::Diff(task) => diff(session, task, files),
+        Request::Help | Request::Version => ExitCode::SUCCESS,
+    }
+}
+
+/// Reports why `--schema` with the value `text` is refused, and how to get help, and returns status 2.
+fn report_schema_fault(rt: &HostRuntime, text: &str, fault: SchemaFault) -> ExitCode {
+    match fault {
+        SchemaFault::MissingValue => {
+            print_pieces(rt, "option '", "--schema", "' needs a value", "", "");
         }
-        Ok(Request::Show(task)) => {
-            let files = streams::named_files(rt.alloc(), args)?;
-            Ok(show(&Session::new(rt, progress), task, files.as_slice()))
+        SchemaFault::InvalidValue => {
+            print_pieces(rt, "invalid value '", text, "' for ", "--schema", "");
         }
-        Ok(Request::Diff(task)) => {
-            let files = streams::named_files(rt.alloc(), args)?;
-            Ok(diff(&Session::new(rt, progress), task, files.as_slice()))
+        SchemaFault::NotOfCommand(command) => {
+            print_pieces(rt, "'", command, "' has no option '", "--schema", "'");
         }
     }
+    print_error(rt, HINT)
 }
 
 /// Returns the arguments without the program's name; `None` if one of them isn't UTF-8.
@@ -149,7 +183,7 @@ fn print_pieces(rt: &HostRuntime, start: &str, first: &str, middle: &str, second
 
 /// Does `task` with the messages of `files`, or of standard input if there are no files, and writes
 /// the answers to standard output. Returns the program's exit status.
-fn run(session: &Session<'_>, task: Task, files: &[String]) -> ExitCode {
+fn run(session: &Session<'_>, task: Task, schema: Option<&Schema>, files: &[String]) -> ExitCode {
     let rt = session.rt;
     let seen = DeviceLog::new();
     let writer = Logged::new(Watched::new(io::writer(rt), session), &seen);
@@ -158,24 +192,25 @@ fn run(session: &Session<'_>, task: Task, files: &[String]) -> ExitCode {
     };
     let mut output = BufWriterOutput::new(writer);
     if task.quiet && !task.lists {
-        return run_to(session, task, files, &mut NoOutput, &seen);
+        return run_to(session, task, schema, files, &mut NoOutput, &seen);
     }
     if !task.pack {
-        return run_to(session, task, files, &mut output, &seen);
+        return run_to(session, task, schema, files, &mut output, &seen);
     }
     let mut packing = PackingOutput::new(output);
-    run_to(session, task, files, &mut packing, &seen)
+    run_to(session, task, schema, files, &mut packing, &seen)
 }
 
 /// Does `task`, flushes `output`, and returns the program's exit status.
 fn run_to<W: BufferedOutput>(
     session: &Session<'_>,
     task: Task,
+    schema: Option<&Schema>,
     files: &[String],
     output: &mut W,
     seen: &DeviceLog,
 ) -> ExitCode {
-    let ended = answer_all(session, task, files, output);
+    let ended = answer_all(session, task, schema, files, output);
     flush_and_choose_exit_code(session, ended, output, seen)
 }
 

@@ -14,6 +14,12 @@ impl fmt::Debug for Error {
     }
 }
 
+impl fmt::Display for Error {
+    fn fmt(&self, f: &mut fmt::Formatter<'_>) -> fmt::Result {
+        write!(f, "{}", self.0)
+    }
+}
+
 impl<E: std::error::Error + 'static> From<E> for Error {
     fn from(error: E) -> Error {
         Error(Box::new(error))

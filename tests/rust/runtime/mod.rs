@@ -6,4 +6,5 @@ pub mod fs;
 pub mod io;
 pub mod process;
 pub mod rt;
+pub mod slices;
 pub mod time;
