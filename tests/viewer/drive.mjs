@@ -1,6 +1,6 @@
 // drive.mjs PAGE [SHOTS]: opens the page, a file or a URL, in headless Chromium, tries it as a user would, and prints
 // `N passed, M failed`. With SHOTS it writes screenshots to that folder. CHROMIUM names the browser, PARTS the parts that
-// are tried, and SECONDS how long a large message may take (3). Node 20 needs --experimental-websocket, node 22 doesn't.
+// are tried, and LOOPS how many loops over 60 MB a large message may take (30), which the page runs before and after. Node 20 needs --experimental-websocket, node 22 doesn't.
 import assert from 'node:assert/strict';
 import { spawn } from 'node:child_process';
 import { mkdtempSync, readFileSync, rmSync, writeFileSync } from 'node:fs';
@@ -300,8 +300,17 @@ function contrast(...colours) {
   return Math.max(a, b) / Math.min(a, b);
 }
 
+/** How long a loop over 60 MB takes in the page, in milliseconds: the mean of four. */
+const loop = () => evaluate(`(() => {
+  const bytes = new Uint8Array(60 << 20), begun = performance.now();
+  let sum = 0;
+  for (let times = 0; times < 4; times++) for (let at = 0; at < bytes.length; at++) sum = Math.imul(sum, 31) + bytes[at] | 0;
+  return (performance.now() - begun) / 4 + 0 * sum;
+})()`);
+
 async function large() {
   await goto('');
+  const before = await loop();
   const data = Buffer.alloc(60 << 20, 'Cap’n Proto ');
   const took = { data: await open('large.bin', frame(Buffer.concat([words(BigInt(data.length) << 35n | 2n << 32n | 1n), data]))) };
   check('60 MB, canonical form', await text('copy'), /7,864,321 words/);
@@ -315,9 +324,10 @@ async function large() {
   for (let at = 0; at < many; at++) overlapping.writeBigUInt64LE(BigInt(790000 - at) << 35n | 2n << 32n | BigInt(4 * (many - at - 1)) | 1n, 8 + 8 * at);
   took.overlapping = await open('overlapping.bin', frame(overlapping));
   check('overlapping lists', await text('verdict'), /the rest of the tree is left out/);
+  const one = Math.max(before, await loop()), most = Number(process.env.LOOPS ?? 30);
   for (const [name, ms] of Object.entries(took)) {
-    console.log(`${name}: ${ms} ms`);
-    check(`${name}: within ${process.env.SECONDS ?? 3} seconds`, ms <= 1000 * (process.env.SECONDS ?? 3), true);
+    console.log(`${name}: ${ms} ms, ${(ms / one).toFixed(1)} loops over 60 MB`);
+    check(`${name}: within ${most} loops`, ms <= most * one, true);
   }
 }
 
