@@ -11,7 +11,7 @@ one for the scripts that write the C, and one for each file. So --sums says whic
 It can't say whether the C is what the sources compile to; --check does. The last line is `N passed, M failed`.
 
 If the C of the library has changed, writes bindings/js/capnp_canonical.wasm again too, provided that clang and wasm-ld are
-there."""
+there, and viewer/capnp_view.html, which has it inside. --sums also compares that page with what it is made of."""
 import hashlib
 import pathlib
 import re
@@ -28,6 +28,7 @@ EXPORTS = 'tools/exports.txt'
 CRATES = *FOR_C, 'capnp_canon', 'layout_tool', 'capnpc_layout_rust', 'capnpc_layout_c'
 WRITER = 'tools/generate.py', 'tools/c_of_module'
 WASM = 'bindings/js'
+VIEWER = 'viewer/build.py'
 AGAIN = 'run python3 tools/generated.py'
 
 
@@ -123,6 +124,8 @@ def differing():
     for path in f'generated/{NAME}.c', header_of(NAME), f'{WASM}/{NAME}.wasm', f'{WASM}/{NAME}_small.wasm':
         is_right = said.get(f'sha256 of {pathlib.PurePath(path).name}') == sum_now(path)
         yield f'{WASM}: {path}', None if is_right else f'{path} is not what {WASM}/ORIGIN names: run make wasm'
+    is_right = not page('--check')
+    yield VIEWER, None if is_right else f'the viewer is not what {VIEWER} makes: run it'
 
 
 def compared():
@@ -135,6 +138,11 @@ def compared():
         path = TOP / 'generated' / name
         is_right = path.is_file() and path.read_bytes() == data
         yield name, None if is_right else f'generated/{name} is not what the sources compile to: {AGAIN}'
+
+
+def page(*words):
+    """Makes or checks the viewer's page, and returns the status."""
+    return subprocess.run([sys.executable, '-B', str(TOP / VIEWER), *words], stdout=subprocess.DEVNULL, stderr=subprocess.DEVNULL).returncode
 
 
 def write():
@@ -150,7 +158,7 @@ def write():
     if not all(map(shutil.which, ('clang', 'wasm-ld'))):
         print(f'{WASM}/{NAME}.wasm is of older C: run make wasm where clang and wasm-ld are')
         return 0
-    return subprocess.run(['sh', str(TOP / f'{WASM}/build.sh'), str(TOP / 'generated')]).returncode
+    return subprocess.run(['sh', str(TOP / f'{WASM}/build.sh'), str(TOP / 'generated')]).returncode or page()
 
 
 def main(words):
