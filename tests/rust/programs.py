@@ -44,7 +44,7 @@ RUNTIME = 'env', 'fs', 'io', 'process', 'rt', 'time'
 # Modules that only other programs need.
 LEFT_OUT = {'capnpc_schema': ('files', 'input')}
 # Calls of slices that Rust has under the same name, and their names in the runtime.
-RENAMED = {'.to_vec(alloc)': '.to_vec_in(alloc)', '.to_vec(self.alloc)': '.to_vec_in(self.alloc)', '.names.sort()': '.names.sort_texts()'}
+RENAMED = {'.to_vec(alloc)': '.copied_in(alloc)', '.to_vec(self.alloc)': '.copied_in(self.alloc)', '.names.sort()': '.names.sort_texts()'}
 ALLOWED = '#![allow(dead_code, unused_imports, unused_labels, unused_variables)]\n#![forbid(unsafe_code)]\n'
 COUNTS = re.compile(r'(\d+) passed, (\d+) failed')
 

@@ -1,5 +1,6 @@
 """Uses the program as a coprocess: reads each answer before it writes the next message. Each answer must come within a
 second, while the input is still open."""
+import json
 import os
 import pathlib
 import select
@@ -7,6 +8,7 @@ import subprocess
 import tempfile
 import time
 
+from devices import FOLDER, TYPED
 from hostile import FORMS, MESSAGES, WANTED
 from packing import packed, unpacked
 from shown import shown
@@ -72,7 +74,20 @@ def lines_of(form):
     return [b'%s  -:%d\n' % (it.rstrip(b'\n'), number) for number, it in enumerate(WANTED[form], 1)]
 
 
+def of_type(program, counts):
+    """The same for messages that conform to a schema, and for one after these that doesn't."""
+    cases = [json.loads(line) for line in (FOLDER / 'conforming.jsonl').read_text(encoding='utf-8').splitlines()]
+    alone = [it for it in cases if it['args'] == ['validate', '--schema', 's.bin:Item'] and it['input']]
+    conform = [bytes.fromhex(it['input']) for it in alone if bytes.fromhex(it['output']) == b'conforms\n' and not it['status']]
+    differs = next(bytes.fromhex(it['input']) for it in alone if it['name'] == 'a struct for a text')
+    for asked in parts([*conform, differs]):
+        conversation(program, counts, TYPED, asked, [b'conforms\n'] * len(conform) + [b''])
+    conversation(program, counts, [*TYPED, '--packed'], [packed(it) for it in conform], [b'conforms\n'] * len(conform))
+    counts.told(len(conform) > 5, 'messages that conform', len(conform))
+
+
 def answered(program, counts):
+    of_type(program, counts)
     for form in FORMS:
         args, wanted = form.split(','), lines_of(form)
         for asked in parts(MESSAGES):

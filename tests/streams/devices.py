@@ -10,11 +10,13 @@ import tempfile
 # 1,000 messages with a null root. Each takes 16 bytes, and so does its answer.
 NULL = bytes.fromhex('0000000001000000') + bytes(8)
 MANY = NULL * 1000
-FORMS = ['canon'], ['canon', '--flat'], ['canon', '--pack'], ['canon', '--hex'], ['check'], ['size'], ['digest'], ['validate'], ['show'], ['show', '--json']
+FOLDER = pathlib.Path(__file__).resolve().parent
+# item.bin is the schema of the cases in conforming.jsonl.
+TYPED = ['validate', '--schema', f'{FOLDER / "item.bin"}:Item']
+FORMS = ['canon'], ['canon', '--flat'], ['canon', '--pack'], ['canon', '--hex'], ['check'], ['size'], ['digest'], ['validate'], TYPED, ['show'], ['show', '--json']
 FULL = 2, 'capnp_canon: write error: No space left on device\n'
 # After a closed pipe nothing is printed: the reader closed it.
 LEFT = 2, ''
-FOLDER = pathlib.Path(__file__).resolve().parent
 IS_FOLDER = 'message 1 at byte 0: refused ReadFailed: Is a directory\n'
 # The number of words of a message that is a list of bytes without a zero.
 WORDS = 1 << 17

@@ -8,7 +8,7 @@
   answers of C++ Cap'n Proto 0.9.2 (tests/peer/cases.py). Those of worked.jsonl were worked out by hand from the encoding
   specification; the hashes of `digest` are Python's, over the words of other cases. Those of validate.jsonl are messages
   of tests/vectors and tests/corpus, unchanged or altered. Their answers come from a model of the format outside of this
-  repository, which reads the whole value.
+  repository, which reads the whole value. Those of conforming.jsonl are messages of one schema, and were worked out by hand.
 - vectors.py makes streams from the vectors of tests/vectors, whose answers were made outside of this repository.
 - parts.py takes the rows of tests/library/parts.txt, whose answers are those of C++ Cap'n Proto.
 - devices.py lets standard input and output fail, limits memory, and checks how much memory a run takes.

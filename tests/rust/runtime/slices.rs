@@ -6,11 +6,11 @@ use capnp_proved::support::vec::Vec;
 
 /// A slice that is copied.
 pub trait Copied<T> {
-    fn to_vec_in(&self, alloc: Global) -> Result<Vec<T>, AllocError>;
+    fn copied_in(&self, alloc: Global) -> Result<Vec<T>, AllocError>;
 }
 
 impl<T: Copy> Copied<T> for [T] {
-    fn to_vec_in(&self, alloc: Global) -> Result<Vec<T>, AllocError> {
+    fn copied_in(&self, alloc: Global) -> Result<Vec<T>, AllocError> {
         let mut copy = Vec::new(alloc);
         for item in self {
             copy.push(*item)?;
