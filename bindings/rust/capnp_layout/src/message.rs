@@ -14,7 +14,7 @@ use crate::proved::capnp_walks::walks::{walk_message, WalkedObject, NO_PARENT};
 use crate::proved::capnp_words::error::ErrorKind;
 use crate::proved::capnp_words::read_limiter::ReadLimiter;
 use crate::proved::support::alloc::Global;
-use crate::reading::{Pointer, Struct};
+use crate::reading::{digest_after, Pointer, Struct};
 use crate::searching;
 use crate::segments::{Arena, Held, Segments};
 use core::cell::Cell;
@@ -183,6 +183,32 @@ impl<'a> Message<'a> {
             Some(self.limits.words),
         );
         digest.map_err(|kind| self.error_of(kind))
+    }
+
+    /// The SHA-256 of `prefix` and then the canonical words. Canonical words don't tell their type:
+    /// with the id of the type as the prefix, the digest and a signature of it cover the type. The
+    /// prefixes of all digests that are compared should have one size, or none should begin with
+    /// another. A message that is canonical takes no memory.
+    ///
+    /// ```
+    /// # use capnp_layout::{Builder, Error, Limits, Message, StructSize};
+    /// # let mut built = Builder::new();
+    /// # built.init_root(StructSize { data_words: 1, pointers: 0 }).set_u32(0, 5);
+    /// # let frame = built.to_frame()?;
+    /// const PERSON: u64 = 0x98808e9832e8bc18; // `Person::TYPE_ID` of generated code
+    ///
+    /// let message = Message::open(&frame, Limits::default())?;
+    /// let digest: [u8; 32] = message.digest_with(&PERSON.to_le_bytes())?;
+    /// # assert_ne!(digest, message.digest()?);
+    /// # Ok::<(), Error>(())
+    /// ```
+    pub fn digest_with(&self, prefix: &[u8]) -> Result<[u8; 32], Error> {
+        Ok(
+            match messages::canonical_segment(&self.arena, Some(self.limits.words)) {
+                Some(words) => digest_after(prefix, words),
+                None => digest_after(prefix, &self.canonical()?),
+            },
+        )
     }
 
     /// Where and why the message isn't canonical; `None` if it is.
