@@ -75,9 +75,12 @@ people() {
 
 # Tests each form in which a program can have a message of C++ Cap'n Proto.
 cxx_types() {
+    openssl=
+    if echo '#include <openssl/sha.h>' | "$cxx" -E -x c++ - >/dev/null 2>&1; then openssl='-DWITH_OPENSSL -lcrypto'; fi
+    # shellcheck disable=SC2086
     capnp compile -oc++ people.capnp &&
         "$cxx" -std="$1" -Wall -Wextra -O1 -I"$prefix/include" -I. -o types "$here/capnp_types.cpp" people.capnp.c++ \
-            -L"$prefix/lib" -Wl,-rpath,"$prefix/lib" -lcapnp_canonical -lcapnp -lkj && ./types
+            -L"$prefix/lib" -Wl,-rpath,"$prefix/lib" -lcapnp_canonical -lcapnp -lkj $openssl && ./types
 }
 
 cxx_reader() {
