@@ -5,9 +5,9 @@ tested against schemas, of the viewer, and the comparison with C++ Cap'n Proto.
 
     outside.py [NAME..]
 
-NAMEs choose the parts: start, completion, shell, peer, js, rust, crate, typed, typed_rust, conforming, validating, viewer, library,
-layout_c, clone, release, packages;
-by default all, which takes more than an hour. Some parts prove and build what isn't built yet; start, clone, release and packages test the last commit.
+NAMEs choose the parts: start, completion, shell, peer, js, rust, crate, typed, typed_rust, typed_c, typed_page, conforming, validating,
+viewer, library, layout_c, clone, release, packages; by default all, which takes more than an hour. Some parts prove and build what
+isn't built yet; start, typed_page, clone, release and packages test the last commit.
 
 Prints the last line of each part, and the lines that say what the part itself skipped. If a part fails, also prints the end
 of its output. A part whose tools are missing is skipped and not counted. The last line is `N passed, M failed`, with the
@@ -32,6 +32,7 @@ PARTS = (
     ('typed', (sys.executable, '-B', 'tests/typed/run.py'), ('rt', 'capnp')),
     ('typed_rust', (sys.executable, '-B', 'tests/typed/rust.py'), ('cargo', 'rustfmt', 'capnp', 'make|crates/capnpc_layout_rust/out/capnpc_layout_rust')),
     ('typed_c', (sys.executable, '-B', 'tests/typed/c.py'), ('gcc', 'g++', 'clang', 'clang++', 'capnp', 'make|crates/capnpc_layout_c/out/capnpc_layout_c')),
+    ('typed_page', (sys.executable, '-B', 'tests/typed/page.py'), ('git', 'make', 'cc', 'capnp')),
     ('conforming', (sys.executable, '-B', 'tests/typed/conforming.py'), ('cargo', 'capnp')),
     ('validating', (sys.executable, '-B', 'tests/typed/validating.py'), ('make|build/capnp_canon', 'capnp')),
     ('viewer', ('sh', 'tests/viewer/run.sh'), ('node', os.environ.get('CHROMIUM', 'chromium'))),

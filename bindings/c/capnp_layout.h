@@ -1137,7 +1137,7 @@ CAPNP_INLINE void capnp_set_capability(const struct capnp_struct_builder *of, ui
 /* Whether the message has the number of `size` bytes at byte `offset` of a struct's data section. */
 CAPNP_INLINE bool capnp_has_field(const struct capnp_struct_builder *of, uint32_t offset, uint32_t size) {
     return (uint64_t)of->place.at + of->place.data_words + of->place.pointers <= of->message->used &&
-           (uint64_t)offset + size <= 8u * of->place.data_words && offset % size == 0;
+           (uint64_t)offset + size <= UINT64_C(8) * of->place.data_words && offset % size == 0;
 }
 
 /* Write a field of the data section. `offset` is in bytes from its start, for a bool in bits; it is refused if it isn't a

@@ -113,9 +113,10 @@ Limits limits_of(const Value&) {
     return detail::LARGEST_LIMITS;
 }
 
-// The calls above for a MessageReader or a MessageBuilder. The copies and digests also take a value inside a message: a
-// reader or builder of a struct (also AnyStruct), a list (also AnyList) or AnyPointer. Cap'n Proto reads and copies such a value
-// first, and throws its own exceptions if that fails.
+// The calls above for a MessageReader or a MessageBuilder. The copies, the digests and equal also take a value inside a
+// message: a reader or builder of a struct (also AnyStruct), a list (also AnyList) or AnyPointer. Cap'n Proto reads and copies
+// such a value first, and throws its own exceptions if that fails. (pack takes a frame, such as what messageToFlatArray
+// returns or copy: the frame itself is packed by Cap'n Proto's own writePackedMessage.)
 template <typename Message, typename = detail::IfCopied<Message>>
 [[nodiscard]] std::vector<std::uint8_t> copy(Message&& message, Limits limits) {
     return detail::with_segments(message, [&](const Segments& it) { return copy(it, limits); });
@@ -170,6 +171,31 @@ template <typename Message, typename = detail::IfCopied<Message>>
 template <typename Message, typename = detail::IfCopied<Message>>
 [[nodiscard]] Digest digest(Message&& message) {
     return digest(message, limits_of(message));
+}
+
+// The prefix may be a type's id, such as that of capnp::typeId<Person>(), as its 8 bytes.
+template <typename Message, typename = detail::IfCopied<Message>>
+[[nodiscard]] Digest digest_with(Bytes prefix, Message&& message, Limits limits) {
+    return detail::with_segments(message, [&](const Segments& it) { return digest_with(prefix, it, limits); });
+}
+template <typename Message, typename = detail::IfCopied<Message>>
+[[nodiscard]] Digest digest_with(Bytes prefix, Message&& message) {
+    return digest_with(prefix, message, limits_of(message));
+}
+
+// The two may be of different kinds, such as the reader of a struct and a MessageBuilder. Without limits, each is read
+// within its own; if these differ, the words of both are copied, and compared.
+template <typename Message, typename Other, typename = detail::IfCopied<Message>, typename = detail::IfCopied<Other>>
+[[nodiscard]] bool equal(Message&& message, Other&& other, Limits limits) {
+    return detail::with_segments(message, [&](const Segments& it) {
+        return detail::with_segments(other, [&](const Segments& that) { return equal(it, that, limits); });
+    });
+}
+template <typename Message, typename Other, typename = detail::IfCopied<Message>, typename = detail::IfCopied<Other>>
+[[nodiscard]] bool equal(Message&& message, Other&& other) {
+    const Limits limits = limits_of(message), others = limits_of(other);
+    if (limits == others) return equal(message, other, limits);
+    return copy_flat(message, limits) == copy_flat(other, others);
 }
 
 template <typename Message, typename = detail::IfMessage<Message>>

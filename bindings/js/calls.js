@@ -205,12 +205,14 @@ function announced(lib, prefix, words) {
   return number64(lib, lib.base);
 }
 
-/**
- * Copies the frame at the front into the memory, after `before` bytes. If more bytes may follow the frame, finds out first where it
- * ends.
- */
+/** The bytes from which to read the frame at their front. If more bytes may follow the frame, finds out where it ends. */
+function frameIn(lib, bytes, words) {
+  return bytes.length > 4096 ? bytes.subarray(0, measured(lib, bytes, words)) : bytes;
+}
+
+/** Copies the frame at the front into the memory, after `before` bytes. */
 function lendFrame(lib, bytes, words, before = 0) {
-  return lend(lib, bytes.length > 4096 ? bytes.subarray(0, measured(lib, bytes, words)) : bytes, before);
+  return lend(lib, frameIn(lib, bytes, words), before);
 }
 
 /** The error of a refusal. `bytes` are those that may not be a frame, and `pointer` is the one that is refused. */
@@ -268,6 +270,34 @@ function asked(form, reading, message, limits, run, lent = form.lent) {
   }
 }
 
+/** Puts two messages of a form into the memory, one after the other. Undefined if there is no room for both. */
+function lentBoth(lib, form, one, other, words) {
+  // finding out where a frame ends writes to the memory
+  const [first, second] = form === FRAME ? [frameIn(lib, one, words), frameIn(lib, other, words)] : [one, other];
+  const put = form === SEGMENTS ? lendSegments : lend;
+  const given = put(lib, first), beside = given && put(lib, second, given.end - lib.base - ANSWERS);
+  return beside && reaches(lib, beside.end) ? { given, beside } : undefined;
+}
+
+/** Whether two messages have the same canonical words. `flat` makes those of one message. */
+function compared(form, name, flat, message, other, limits) {
+  const one = form.passed(message), that = form.passed(other), within = limitsOf(limits);
+  try {
+    return called((lib) => {
+      const both = lentBoth(lib, form, one, that, within.words);
+      if (!both) throw noMemory();
+      const { given, beside } = both;
+      const answer = lib.calls[name](given.first, given.second, beside.first, beside.second, within.nesting, within.words, lib.base) >>> 0;
+      if (answer !== 0) throw new Refused(answer);
+      return seen(lib).bytes[lib.base] !== 0;
+    });
+  } catch (error) {
+    if (!(error instanceof Refused)) throw error;
+    // throws as the first of the two does that is refused. None is if there was no memory for both at once
+    return areSame(flat(one, limits), flat(that, limits));
+  }
+}
+
 /** Whether a message is canonical. False also if it is refused. */
 function isYes(form, message, limits, run) {
   const passed = form.passed(message), within = limitsOf(limits);
@@ -322,7 +352,7 @@ export function digestWith(prefix, frame, limits) {
 }
 
 export function equals(frame, other, limits) {
-  return areSame(canonicalizeFlat(frame, limits), canonicalizeFlat(other, limits));
+  return compared(FRAME, 'equal', canonicalizeFlat, frame, other, limits);
 }
 
 export function check(frame, limits) {
@@ -419,7 +449,7 @@ export const segments = Object.freeze({
   digest: (list, limits) => asked(SEGMENTS, Reading.Canonical, list, limits, (lib, given, within) => digested(lib, lib.calls.segments_digest, given, within)),
   digestHex: (list, limits) => hexOf(segments.digest(list, limits)),
   digestWith: (prefix, list, limits) => digestedAfter(SEGMENTS, 'segments_digest_with', prefix, list, limits),
-  equals: (list, other, limits) => areSame(segments.canonicalizeFlat(list, limits), segments.canonicalizeFlat(other, limits)),
+  equals: (list, other, limits) => compared(SEGMENTS, 'segments_equal', segments.canonicalizeFlat, list, other, limits),
   check: (list, limits) => asked(SEGMENTS, Reading.Value, list, limits, (lib, given, within) => checked(lib, lib.calls.segments_check, given, within)),
   isCanonical: (list, limits) => isYes(SEGMENTS, list, limits, (lib, given, within) => checked(lib, lib.calls.segments_check, given, within)),
   size: (list, limits) => asked(SEGMENTS, Reading.Size, list, limits, (lib, given, within) => sized(lib, lib.calls.segments_size, given, within)),
@@ -437,7 +467,7 @@ export const words = Object.freeze({
   digest: (message, limits) => asked(WORDS, Reading.Canonical, message, limits, (lib, given, within) => digested(lib, lib.calls.words_digest, given, within)),
   digestHex: (message, limits) => hexOf(words.digest(message, limits)),
   digestWith: (prefix, message, limits) => digestedAfter(WORDS, 'words_digest_with', prefix, message, limits),
-  equals: (message, other, limits) => areSame(words.canonicalize(message, limits), words.canonicalize(other, limits)),
+  equals: (message, other, limits) => compared(WORDS, 'words_equal', words.canonicalize, message, other, limits),
   check: (message, limits) => asked(WORDS, Reading.Value, message, limits, (lib, given, within) => checked(lib, lib.calls.words_check, given, within)),
   isCanonical: (message, limits) => isYes(WORDS, message, limits, (lib, given, within) => checked(lib, lib.calls.words_check, given, within)),
   size: (message, limits) => asked(WORDS, Reading.Size, message, limits, (lib, given, within) => sized(lib, lib.calls.words_size, given, within)),

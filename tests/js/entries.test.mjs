@@ -7,6 +7,7 @@ import { tmpdir } from 'node:os';
 import { join } from 'node:path';
 import { after, test } from 'node:test';
 import * as capnp from '../../bindings/js/node.js';
+import { use } from '../../bindings/js/library.js';
 import { module as text } from '../../bindings/js/module.js';
 import { framed, hex, hexOf, passed, rowsOf } from './data.mjs';
 
@@ -127,6 +128,74 @@ test('digests and comparisons', () => {
   assert.ok(rows.some((it) => it[3].startsWith(rows[0][3])));
   for (const [one, other] of [[hex(frame), hex('00')], [hex('00'), hex(frame)]]) assert.throws(() => capnp.equals(one, other), { code: 'Truncated' });
   passed('digests and comparisons', count);
+});
+
+/** What `run` returns, and how often it called each function of the library's module. */
+function counted(run) {
+  const { Instance } = WebAssembly, counts = {};
+  WebAssembly.Instance = function instance(...given) {
+    const { exports } = new Instance(...given);
+    const noted = ([name, it]) => [name, typeof it !== 'function' ? it : (...all) => {
+      counts[name] = (counts[name] ?? 0) + 1;
+      return it(...all);
+    }];
+    return { exports: Object.fromEntries(Object.entries(exports).map(noted)) };
+  };
+  try {
+    // a new instance
+    use(new WebAssembly.Module(wasm('capnp_canonical')));
+    return [run(), counts];
+  } finally {
+    WebAssembly.Instance = Instance;
+    use(new WebAssembly.Module(wasm('capnp_canonical')));
+  }
+}
+
+test('comparisons make no copies', () => {
+  // frames of one segment with a text of `size` letters, and more bytes after them
+  const text = (size, letter, after = 0) => {
+    const words = Math.ceil((size + 1) / 8), bytes = new Uint8Array(16 + 8 * words), view = new DataView(bytes.buffer);
+    view.setUint32(4, 1 + words, true);
+    view.setUint32(8, 1, true);
+    view.setUint32(12, 2 + 8 * (size + 1), true);
+    bytes.fill(letter.charCodeAt(0), 16, 16 + size);
+    return Buffer.concat([bytes, new Uint8Array(after)]);
+  };
+  let count = 0;
+  for (const [size, letter, after] of [[3, 'a', 0], [3, 'b', 0], [5000, 'a', 0], [5000, 'b', 9], [9000, 'a', 70000]]) {
+    for (const [otherSize, otherLetter, otherAfter] of [[3, 'a', 5], [5000, 'a', 4000], [5000, 'b', 0], [9000, 'a', 1]]) {
+      const same = size === otherSize && letter === otherLetter, one = text(size, letter, after), other = text(otherSize, otherLetter, otherAfter);
+      const words = (it, length) => it.subarray(8, 16 + 8 * Math.ceil((length + 1) / 8));
+      const forms = [
+        ['capnp_canonical_equal', () => capnp.equals(one, other)],
+        ['capnp_canonical_words_equal', () => capnp.words.equals(words(one, size), words(other, otherSize))],
+        // lists that can be read once
+        ['capnp_canonical_segments_equal', () => capnp.segments.equals([words(one, size)].values(), [words(other, otherSize)].values())],
+      ];
+      for (const [name, run] of forms) {
+        const [answer, counts] = counted(run);
+        assert.equal(answer, same, `${name} ${size} ${letter} ${otherSize} ${otherLetter}`);
+        assert.equal(counts[name], 1);
+        assert.ok(!Object.keys(counts).some((it) => it.includes('copy')), `${Object.keys(counts)}`);
+        count++;
+      }
+    }
+  }
+  // the error is that of the first message that is refused, with its pointer
+  const good = text(3, 'a'), [outside, unknown] = [0x7f, 7].map((it) => {
+    const bytes = Buffer.from(good);
+    bytes[8] = it;
+    return bytes;
+  });
+  for (const [one, other, code] of [[good, outside, 'MessageContainsOutOfBoundsPointer'], [outside, unknown, 'MessageContainsOutOfBoundsPointer'], [unknown, outside, 'UnknownPointerType'], [unknown, hex('00'), 'UnknownPointerType']]) {
+    assert.throws(() => capnp.equals(one, other), { code, pointer: { segment: 0, word: 0 } });
+    assert.throws(() => capnp.words.equals(one.subarray(8), other.subarray(8)), { code });
+    assert.throws(() => capnp.segments.equals([one.subarray(8)].values(), [other.subarray(8)].values()), { code });
+    count += 3;
+  }
+  assert.throws(() => capnp.equals(text(5000, 'a'), text(5000, 'a').subarray(0, 4999)), { code: 'Truncated' });
+  assert.throws(() => capnp.equals(text(5000, 'a'), text(5000, 'a'), { words: 600 }), { code: 'MessageTooLong' });
+  passed('comparisons make no copies', count + 2);
 });
 
 const number = (value) => framed([hex(`0000000001000000${value.toString(16).padStart(2, '0')}00000000000000`)]);

@@ -14,7 +14,9 @@ static int use() {
     auto room = kj::heapArray<capnp::word>(8);
     const bool same = capnp_canonical::copy_flat(message) == buffer && capnp_canonical::digest(message) == capnp_canonical::words_digest(words) &&
                       capnp_canonical::canonicalize_into(room, message).size() == array.size() &&
-                      capnp_canonical::digest(capnp_canonical::copy(message)) == capnp_canonical::words_digest(array);
+                      capnp_canonical::digest(capnp_canonical::copy(message)) == capnp_canonical::words_digest(array) &&
+                      capnp_canonical::digest_with(buffer, message) == capnp_canonical::words_digest_with(buffer, words) &&
+                      capnp_canonical::equal(message, message.getRoot<capnp::AnyPointer>());
     return same && capnp_canonical::check(message).is_canonical() != capnp_canonical::is_canonical(message) ? 1 : int(capnp_canonical::size(message).capabilities);
 }
 

@@ -1,5 +1,6 @@
 // Tests of capnp_canonical.hpp over the types of C++ Cap'n Proto: each form in which a program has a message, beside
 // capnp::canonicalize. A line `ok: NAME` or `FAILED: NAME` for each test.
+// Defined WITH_OPENSSL, it compares digests after a prefix with those of OpenSSL.
 //
 //     capnp_types
 #include "capnp_canonical_capnp.hpp"
@@ -12,6 +13,9 @@
 #include <cstring>
 #include <limits>
 #include <vector>
+#ifdef WITH_OPENSSL
+#include <openssl/sha.h>
+#endif
 
 bool failed = false;
 
@@ -59,6 +63,98 @@ void test_messages(capnp::MallocMessageBuilder& builder) {
     report(digest == capnp_canonical::words_digest(theirs), "of the words of capnp::canonicalize");
     report(!capnp_canonical::is_canonical(reader) && !capnp_canonical::check(builder).is_canonical(), "not canonical");
     report(capnp_canonical::size(builder).words == reader.getRoot<capnp::AnyPointer>().targetSize().wordCount, "size");
+}
+
+// Whether a refusal with this number is thrown.
+template <typename Call>
+bool refused(std::uint32_t number, Call call) {
+    try {
+        static_cast<void>(call());
+        return false;
+    } catch (const capnp_canonical::Error& error) {
+        return error.number() == number;
+    }
+}
+
+#ifdef WITH_OPENSSL
+// A digest of a prefix and words: that of OpenSSL.
+capnp_canonical::Digest expected(const std::vector<std::uint8_t>& prefix, kj::ArrayPtr<const capnp::word> words) {
+    std::vector<std::uint8_t> all(prefix);
+    all.insert(all.end(), words.asBytes().begin(), words.asBytes().end());
+    capnp_canonical::Digest digest;
+    SHA256(all.data(), all.size(), digest.data());
+    return digest;
+}
+
+void test_prefixes(capnp::MallocMessageBuilder& builder) {
+    auto book = builder.getRoot<Book>();
+    auto theirs = capnp::canonicalize(book.asReader());
+    kj::Array<capnp::word> frame = capnp::messageToFlatArray(builder);
+    capnp::FlatArrayMessageReader reader(frame);
+    for (const unsigned size : {0u, 8u, 64u, 100u}) {
+        std::vector<std::uint8_t> prefix(size);
+        const std::uint64_t id = capnp::typeId<Book>();
+        for (std::size_t i = 0; i < size; i++) prefix[i] = std::uint8_t(id >> i % 8 * 8);
+        const auto digest = expected(prefix, theirs);
+        report(capnp_canonical::digest_with(prefix, builder) == digest, "a prefix and a MessageBuilder");
+        report(capnp_canonical::digest_with(prefix, static_cast<capnp::MessageBuilder&>(builder)) == digest, "a MessageBuilder&");
+        report(capnp_canonical::digest_with(prefix, reader) == digest, "a MessageReader");
+        report(capnp_canonical::digest_with(prefix, reader, {64, 1000}) == digest, "limits");
+        report(capnp_canonical::digest_with(prefix, book) == digest, "a builder of a struct");
+        report(capnp_canonical::digest_with(prefix, reader.getRoot<Book>()) == digest, "a reader of a struct");
+        report(capnp_canonical::digest_with(prefix, reader.getRoot<capnp::AnyPointer>()) == digest, "AnyPointer::Reader");
+        report(capnp_canonical::digest_with(prefix, frame) == digest, "a frame");
+        Person::Reader person = book.asReader().getPeople()[1];
+        report(capnp_canonical::digest_with(prefix, person) == expected(prefix, capnp::canonicalize(person)), "a struct of a list");
+    }
+    const std::uint32_t too_deep = CAPNP_CANONICAL_MESSAGE_IS_TOO_DEEPLY_NESTED_OR_CONTAINS_CYCLES;
+    report(refused(too_deep, [&] { return capnp_canonical::digest_with({}, reader, {1, 1000}); }), "a nesting limit");
+}
+#else
+void test_prefixes(capnp::MallocMessageBuilder&) { printf("skipped: digests after a prefix, no openssl/sha.h\n"); }
+#endif
+
+// Two messages with the same value in other segments, and with another one.
+void test_equal(capnp::MallocMessageBuilder& builder) {
+    auto book = builder.getRoot<Book>();
+    capnp::MallocMessageBuilder again, other;
+    build(again.initRoot<Book>());
+    build(other.initRoot<Book>());
+    other.getRoot<Book>().getPeople()[1].setId(8);
+    kj::Array<capnp::word> frame = capnp::messageToFlatArray(builder), others = capnp::messageToFlatArray(other);
+    capnp::FlatArrayMessageReader reader(frame), different(others);
+    report(capnp_canonical::equal(builder, again) && !capnp_canonical::equal(builder, other), "equal: two MessageBuilders");
+    report(capnp_canonical::equal(reader, reader) && !capnp_canonical::equal(reader, different), "two MessageReaders");
+    report(capnp_canonical::equal(reader, again) && !capnp_canonical::equal(reader, other), "one of each");
+    report(capnp_canonical::equal(again, reader) && !capnp_canonical::equal(other, reader), "the other way round");
+    report(capnp_canonical::equal(reader, again, {64, 1000}) && !capnp_canonical::equal(reader, other, {64, 1000}), "limits");
+    report(capnp_canonical::equal(book, again.getRoot<Book>()) && !capnp_canonical::equal(book, other.getRoot<Book>()), "builders of structs");
+    report(capnp_canonical::equal(reader.getRoot<Book>(), again) && !capnp_canonical::equal(reader.getRoot<Book>(), other), "a reader of a struct");
+    auto people = book.asReader().getPeople();
+    report(capnp_canonical::equal(people, again.getRoot<Book>().getPeople()) && !capnp_canonical::equal(people[0], people[1]), "lists and elements");
+    report(capnp_canonical::equal(frame, capnp::messageToFlatArray(again)) && !capnp_canonical::equal(frame, others), "frames");
+    const std::uint32_t too_deep = CAPNP_CANONICAL_MESSAGE_IS_TOO_DEEPLY_NESTED_OR_CONTAINS_CYCLES;
+    report(refused(too_deep, [&] { return capnp_canonical::equal(reader, again, {1, 1000}); }), "a nesting limit");
+    capnp::ReaderOptions shallow;
+    shallow.nestingLimit = 1;
+    capnp::FlatArrayMessageReader within(frame, shallow);
+    report(refused(too_deep, [&] { return capnp_canonical::equal(within, again); }), "that of the first one");
+    report(refused(too_deep, [&] { return capnp_canonical::equal(again, within); }), "that of the second one");
+}
+
+// Packed bytes beside those of Cap'n Proto.
+void test_packing(capnp::MallocMessageBuilder& builder) {
+    kj::VectorOutputStream theirs, canonical;
+    capnp::writePackedMessage(theirs, builder);
+    auto same = [](const std::vector<std::uint8_t>& ours, kj::ArrayPtr<kj::byte> wanted) {
+        return kj::arrayPtr(ours.data(), ours.size()) == wanted;
+    };
+    report(same(capnp_canonical::pack(capnp::messageToFlatArray(builder)), theirs.getArray()), "pack: the array of messageToFlatArray");
+    auto words = capnp::canonicalize(builder.getRoot<Book>().asReader());
+    kj::ArrayPtr<const capnp::word> segment = words;
+    capnp::SegmentArrayMessageReader reader(kj::arrayPtr(&segment, 1));
+    capnp::writePackedMessage(canonical, kj::arrayPtr(&segment, 1));
+    report(same(capnp_canonical::pack(capnp_canonical::copy(builder)), canonical.getArray()), "a canonical copy");
 }
 
 // Levels of people, each the only friend of the one before.
@@ -283,6 +379,9 @@ int main() {
     capnp::MallocMessageBuilder builder(16, capnp::AllocationStrategy::FIXED_SIZE);
     build(builder.initRoot<Book>());
     test_messages(builder);
+    test_prefixes(builder);
+    test_equal(builder);
+    test_packing(builder);
     test_places(builder);
     test_words(builder);
     test_values(builder);

@@ -75,9 +75,12 @@ people() {
 
 # Tests each form in which a program can have a message of C++ Cap'n Proto.
 cxx_types() {
+    openssl=
+    if echo '#include <openssl/sha.h>' | "$cxx" -E -x c++ - >/dev/null 2>&1; then openssl='-DWITH_OPENSSL -lcrypto'; fi
+    # shellcheck disable=SC2086
     capnp compile -oc++ people.capnp &&
         "$cxx" -std="$1" -Wall -Wextra -O1 -I"$prefix/include" -I. -o types "$here/capnp_types.cpp" people.capnp.c++ \
-            -L"$prefix/lib" -Wl,-rpath,"$prefix/lib" -lcapnp_canonical -lcapnp -lkj && ./types
+            -L"$prefix/lib" -Wl,-rpath,"$prefix/lib" -lcapnp_canonical -lcapnp -lkj $openssl && ./types
 }
 
 cxx_reader() {
@@ -161,30 +164,11 @@ cargo_package() {
         cargo_with "$work/nothing" test --config "patch.crates-io.capnp_layout.path='$(echo "$work"/packaged/capnp_layout-*)'"
 }
 
-# Copies the crate that uses the crate `capnp` to a folder, in which cargo may write.
-capnp_crate() {
-    mkdir -p "$1/bindings" "$1/generated/rust" "$1/tests/library" && cp -R "$top/bindings/rust" "$1/bindings/rust" &&
-        cp -R "$top/generated/rust/src" "$1/generated/rust" && cp "$here/messages.txt" "$1/tests/library" && cd "$1/bindings/rust/capnp"
-}
-
 # Runs cargo with the crates of a folder and no others.
 cargo_with() {
     crates=$1
     shift
     cargo "$@" --offline --config 'source.crates-io.replace-with="folder"' --config "source.folder.directory='$crates'"
-}
-
-# Tests the crate that uses the crate `capnp`, which must be where Debian puts it.
-debian_crates=/usr/share/cargo/registry
-cargo_capnp() {
-    capnp_crate "$work/capnp_crate" && cargo_with "$debian_crates" test || return 1
-    cargo_with "$debian_crates" build --no-default-features && echo 'ok: no_std'
-}
-
-# Tests the same crate with a stand-in for the newest version of `capnp`.
-cargo_newest() {
-    capnp_crate "$work/newest_crate" && mkdir "$work/no_crates" && cd tests/newest || return 1
-    cargo_with "$work/no_crates" test && cargo_with "$work/no_crates" test --no-default-features
 }
 
 # Tests the package as pip installs it, in its own environment.
@@ -293,8 +277,7 @@ if [ "$has_cargo" ]; then
     else
         skip 'package for cargo, Rust beside C' python3
     fi
-    if [ -d "$debian_crates" ]; then part 'crate over capnp' cargo_capnp; else skip 'crate over capnp' "$debian_crates"; fi
-    part 'crate over capnp 0.27' cargo_newest
+    part 'crate over capnp' sh "$here/capnp_crate.sh"
 else
     skip Rust cargo
 fi

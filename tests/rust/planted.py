@@ -73,7 +73,7 @@ IN_LAYER = (
     ('the last word of a frame is left out', 'opening', 'all_ways_are_the_same_message', 'opening.rs', '&bytes[TABLE..size]', '&bytes[TABLE..size - 8]'),
     ('bytes after a frame are let through', 'opening', 'bytes_after_a_message', 'opening.rs', 'more => Err(Reason::TrailingBytes(more).into())', '_ => Ok(message)'),
     ('a check without the traversal limit', 'limits', 'the_least_limits', 'message.rs', 'ReadLimiter::new(Some(self.limits.words))', 'ReadLimiter::new(None)'),
-    ('a level too many', 'limits', 'the_least_limits', 'message.rs', 'i32::from(self.depth)', 'i32::from(self.depth) + 1'),
+    ('a level too many', 'limits', 'the_least_limits', 'message.rs', 'i32::from(self.depth.min(Self::MAX_DEPTH))', 'i32::from(self.depth.min(Self::MAX_DEPTH)) + 1'),
     ('lazy readers charge nothing', 'limits', 'lazy_readers_charge_the_message', 'meter.rs', 'self.0.set(lim.left().unwrap_or(0));', 'let _ = lim;'),
     ('the path names another element', 'limits', 'many_pointers_to_one_list_cost_each_time', 'searching.rs', 'Step::Element(index));', 'Step::Element(index + 1));'),
     ('words that are not in use are handed out', 'building', 'the_same_message_as_capnp_encode_makes', 'growing.rs', 'bytes.truncate(8 * used_words as usize);', 'let _ = used_words;'),

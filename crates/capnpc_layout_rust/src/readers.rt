@@ -126,6 +126,7 @@ impl<'m> Schema<'m> {
         piece.push(templates::FROM_STRUCT, &values);
         if !it.is_group {
             self.write_element(&mut piece, node);
+            values.put_id("id", node.id);
             self.put_row(node, &mut values);
             piece.push(templates::STRUCT_TYPE, &values);
         }

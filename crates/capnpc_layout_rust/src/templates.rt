@@ -70,6 +70,7 @@ pub const ELEMENT_END: &str = "        g::struct_at(list, meter, index).into()
 pub const STRUCT_TYPE: &str = "
 impl g::StructType for ~type~<'_> {
     type Builder<'b> = ~own~::Builder<'b>;
+    const TYPE_ID: u64 = 0x~id~;
     const TABLE: &'static [u32] = ~top~TABLE;
     const NAMES: &'static str = ~top~NAMES;
     const ROW: u32 = ~row~;

@@ -4,11 +4,15 @@ use capnp::message::{Builder, Reader, ReaderOptions, SegmentArray};
 use capnp_canonical::{Error, Limits};
 use capnp_canonical_capnp::{
     canonical_copy, canonical_words, canonical_words_into, canonical_words_of,
-    canonical_words_of_reader, check, digest, is_canonical, limits, size, ValueError,
+    canonical_words_of_reader, check, digest, digest_with, digest_with_at, equal, is_canonical,
+    limits, size, ValueError,
 };
 
 /// The ten messages of the library's tests: NAME FRAME COPY FLAT CHECK SIZE DIGEST.
 const MESSAGES: &str = include_str!("../../../../tests/library/messages.txt");
+
+/// Digests of a prefix and words: NAME FRAME PATH PREFIX DIGEST PACKED.
+const PREFIXES: &str = include_str!("../../tests/prefixes.txt");
 
 fn bytes_of(digits: &str) -> Vec<u8> {
     let digits = digits.trim_matches('-');
@@ -52,6 +56,76 @@ fn messages_that_are_read() {
         count += 1;
     }
     assert_eq!(count, 8);
+}
+
+#[test]
+fn digests_after_a_prefix() {
+    let options = ReaderOptions::new();
+    let mut count = 0;
+    for line in PREFIXES.lines().filter(|line| !line.starts_with('#')) {
+        let [name, frame, path, prefix, hash, _] = line.split(' ').collect::<Vec<_>>()[..] else {
+            panic!("not six words: {line}");
+        };
+        let (frame, prefix) = (bytes_of(frame), bytes_of(prefix));
+        let path: Vec<u32> = path
+            .split('.')
+            .filter_map(|index| index.parse().ok())
+            .collect();
+        let segments = capnp::serialize::read_message(&mut &frame[..], options)
+            .unwrap()
+            .into_segments();
+        let limits = limits(&options);
+        let found = digest_with_at(&prefix, &segments, &path, limits).map(Vec::from);
+        assert_eq!(found, Ok(bytes_of(hash)), "{name}");
+        if path.is_empty() {
+            let found = digest_with(&prefix, &segments, limits).map(Vec::from);
+            assert_eq!(found, Ok(bytes_of(hash)), "{name}");
+        }
+        count += 1;
+    }
+    assert_eq!(count, 26);
+}
+
+/// A message with a list of two numbers, in segments of a few words.
+fn numbers(first: u64, second: u64) -> Builder<capnp::message::HeapAllocator> {
+    let allocator = capnp::message::HeapAllocator::new()
+        .first_segment_words(1)
+        .allocation_strategy(capnp::message::AllocationStrategy::FixedSize);
+    let mut message = Builder::new(allocator);
+    let root: capnp::any_pointer::Builder = message.init_root();
+    let mut list = root.initn_as::<capnp::primitive_list::Builder<u64>>(2);
+    list.set(0, first);
+    list.set(1, second);
+    message
+}
+
+#[test]
+fn messages_that_are_compared() {
+    let limits = Limits::default();
+    let (one, same, other) = (numbers(5, 7), numbers(5, 7), numbers(5, 8));
+    assert!(one.get_segments_for_output().len() > 1);
+    assert_eq!(equal(&one, &same, limits), Ok(true));
+    assert_eq!(equal(&one, &other, limits), Ok(false));
+    // the words of the value, and what has the same words and one more
+    let words = [1 | 21 << 32, 5, 7].map(u64::to_le_bytes).concat();
+    let longer = [words.clone(), vec![0; 8]].concat();
+    for bytes in [&words, &longer] {
+        let segments = [&bytes[..]];
+        let alone = SegmentArray::new(&segments);
+        assert_eq!(equal(&one, &alone, limits), Ok(true));
+        assert_eq!(equal(&alone, &other, limits), Ok(false));
+    }
+    let cut = [&words[..16]];
+    let cut = SegmentArray::new(&cut);
+    let outside = Err(Error::MESSAGE_CONTAINS_OUT_OF_BOUNDS_POINTER);
+    assert_eq!(equal(&cut, &one, limits), outside);
+    assert_eq!(equal(&one, &cut, limits), outside);
+    let few = Limits::default().with_words(2);
+    assert_eq!(
+        equal(&one, &same, few),
+        Err(Error::READ_LIMIT_EXCEEDED),
+        "each within both limits"
+    );
 }
 
 #[test]

@@ -224,6 +224,11 @@ impl Builder {
         self.as_message()?.digest()
     }
 
+    /// The SHA-256 of `prefix` and then the canonical words. See [`Message::digest_with`].
+    pub fn digest_with(&self, prefix: &[u8]) -> Result<[u8; 32], Error> {
+        self.as_message()?.digest_with(prefix)
+    }
+
     /// The words of the message's only segment, without a copy.
     pub fn words(&self) -> Result<&[u8], Error> {
         Ok(self.built()?.get_segment(0)?)

@@ -14,7 +14,7 @@ use crate::proved::capnp_walks::walks::{walk_message, WalkedObject, NO_PARENT};
 use crate::proved::capnp_words::error::ErrorKind;
 use crate::proved::capnp_words::read_limiter::ReadLimiter;
 use crate::proved::support::alloc::Global;
-use crate::reading::{Pointer, Struct};
+use crate::reading::{digest_after, Pointer, Struct};
 use crate::searching;
 use crate::segments::{Arena, Held, Segments};
 use core::cell::Cell;
@@ -29,12 +29,18 @@ pub struct Limits {
     /// How many words may be read: the traversal limit. Words that several pointers lead to count
     /// for each of them. A frame with more words isn't opened.
     pub words: usize,
-    /// How many structs and lists may be inside one another: the nesting limit. Each takes
-    /// some 500 bytes of stack, ten times as much without optimization.
+    /// How many structs and lists may be inside one another: the nesting limit. A number above
+    /// [`MAX_DEPTH`](Limits::MAX_DEPTH) counts as that one. A level takes up to 0.5 KB of stack,
+    /// or 0.9 KB if it is shown by `Debug`, and 5.5 KB without optimization: then more than 300
+    /// levels need a thread with more than the usual 2 MiB.
     pub depth: u16,
 }
 
 impl Limits {
+    /// The largest nesting limit that counts, so that no message ends the process: 1,024 levels
+    /// fit in the stack of a thread.
+    pub const MAX_DEPTH: u16 = 1024;
+
     /// Any number of words, and 64 levels: for messages that the program itself has made.
     pub const UNMETERED: Limits = Limits {
         words: usize::MAX,
@@ -44,7 +50,7 @@ impl Limits {
     pub(crate) fn options(self) -> ReaderOptions {
         ReaderOptions {
             traversal_limit_in_words: Some(self.words),
-            nesting_limit: i32::from(self.depth),
+            nesting_limit: i32::from(self.depth.min(Self::MAX_DEPTH)),
         }
     }
 }
@@ -183,6 +189,32 @@ impl<'a> Message<'a> {
             Some(self.limits.words),
         );
         digest.map_err(|kind| self.error_of(kind))
+    }
+
+    /// The SHA-256 of `prefix` and then the canonical words. Canonical words don't tell their type:
+    /// with the id of the type as the prefix, the digest and a signature of it cover the type. The
+    /// prefixes of all digests that are compared should have one size, or none should begin with
+    /// another. A message that is canonical takes no memory.
+    ///
+    /// ```
+    /// # use capnp_layout::{Builder, Error, Limits, Message, StructSize};
+    /// # let mut built = Builder::new();
+    /// # built.init_root(StructSize { data_words: 1, pointers: 0 }).set_u32(0, 5);
+    /// # let frame = built.to_frame()?;
+    /// const PERSON: u64 = 0x98808e9832e8bc18; // `Person::TYPE_ID` of generated code
+    ///
+    /// let message = Message::open(&frame, Limits::default())?;
+    /// let digest: [u8; 32] = message.digest_with(&PERSON.to_le_bytes())?;
+    /// # assert_ne!(digest, message.digest()?);
+    /// # Ok::<(), Error>(())
+    /// ```
+    pub fn digest_with(&self, prefix: &[u8]) -> Result<[u8; 32], Error> {
+        Ok(
+            match messages::canonical_segment(&self.arena, Some(self.limits.words)) {
+                Some(words) => digest_after(prefix, words),
+                None => digest_after(prefix, &self.canonical()?),
+            },
+        )
     }
 
     /// Where and why the message isn't canonical; `None` if it is.

@@ -41,6 +41,14 @@ pub enum Target<'a, M = Sound> {
     Capability(u32),
 }
 
+/// The SHA-256 of `prefix` and then `words`.
+pub(crate) fn digest_after(prefix: &[u8], words: &[u8]) -> [u8; 32] {
+    let mut hash = Sha256::new();
+    hash.update(prefix);
+    hash.update(words);
+    hash.finalize()
+}
+
 fn text_of(bytes: &[u8]) -> Result<&str, Error> {
     str::from_utf8(bytes).map_err(|_| Reason::TextIsNotUtf8.into())
 }
@@ -135,7 +143,13 @@ impl<'a, M: Meter> Pointer<'a, M> {
 
     /// The SHA-256 of the canonical words.
     pub fn digest(&self) -> Result<[u8; 32], Error> {
-        Ok(Sha256::digest(&self.canonical()?))
+        self.digest_with(&[])
+    }
+
+    /// The SHA-256 of `prefix` and then the canonical words. See
+    /// [`Message::digest_with`](crate::Message::digest_with).
+    pub fn digest_with(&self, prefix: &[u8]) -> Result<[u8; 32], Error> {
+        Ok(digest_after(prefix, &self.canonical()?))
     }
 
     /// The words and capabilities of the value. Each capability takes a level here, but not in a
@@ -296,7 +310,13 @@ impl<'a, M: Meter> Struct<'a, M> {
 
     /// The SHA-256 of the canonical words.
     pub fn digest(&self) -> Result<[u8; 32], Error> {
-        Ok(Sha256::digest(&self.canonical()?))
+        self.digest_with(&[])
+    }
+
+    /// The SHA-256 of `prefix` and then the canonical words. See
+    /// [`Message::digest_with`](crate::Message::digest_with).
+    pub fn digest_with(&self, prefix: &[u8]) -> Result<[u8; 32], Error> {
+        Ok(digest_after(prefix, &self.canonical()?))
     }
 
     /// The words and capabilities of the struct and all below it. Each capability takes a level

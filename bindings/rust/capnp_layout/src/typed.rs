@@ -23,6 +23,9 @@ pub trait TypedBuilder<'b>: From<StructBuilder<'b>> {
 pub trait StructType: Element {
     /// The struct while a message is built.
     type Builder<'b>: TypedBuilder<'b>;
+    /// The id of the type in the schema. Canonical words don't tell their type, so sign it with
+    /// them: `message.digest_with(&Person::TYPE_ID.to_le_bytes())`.
+    const TYPE_ID: u64;
     /// What the pointers of the schema's structs may lead to: a table in the form of
     /// `typed_conforming`.
     #[doc(hidden)]

@@ -60,6 +60,7 @@ impl<'b> g::TypedBuilder<'b> for NodeBuilder<'b> {
 
 impl g::StructType for Node<'_> {
     type Builder<'b> = NodeBuilder<'b>;
+    const TYPE_ID: u64 = 0x9c1f_70a4_5e02_b3d8;
     // 3: a text in UTF-8; 5 + 16 * 1: a struct of row 1; 0: anything; 14 + 16 * 6: a list of row 6
     const TABLE: &'static [u32] = &[0, 4, 3, 21, 0, 110, 1, 3];
     const NAMES: &'static str = "1 Node name,next,any,tags\n6 Node.tags\n";

@@ -240,3 +240,48 @@ fn names_and_numbers_of_refusals() {
         assert_eq!(reason.name(), text.split('(').next().unwrap());
     }
 }
+
+/// A message of this many structs, each in the one before.
+fn nested(levels: usize) -> Vec<u8> {
+    // each word is a pointer to a struct of the next word, and the last one to an empty struct
+    let mut words = vec![1 << 48; levels];
+    words[levels - 1] = 0xffff_fffc_u64;
+    words.iter().flat_map(|it| it.to_le_bytes()).collect()
+}
+
+#[test]
+fn no_limit_ends_the_process() {
+    type Call = fn(&Message<'_>) -> Result<(), capnp_layout::Error>;
+    let calls: [Call; 8] = [
+        |it| it.sound().map(drop),
+        |it| it.canonical().map(drop),
+        |it| it.digest().map(drop),
+        |it| it.digest_with(&[1]).map(drop),
+        |it| it.check().map(drop),
+        |it| it.size().map(drop),
+        |it| it.validate().map(drop),
+        |it| it.walk().map(drop),
+    ];
+    let all = move || {
+        for (levels, depth, fits) in [
+            (1024, 1024, true),
+            (1024, u16::MAX, true),
+            (1025, u16::MAX, false),
+            (60_000, u16::MAX, false),
+            (60_000, 1025, false),
+        ] {
+            let bytes = nested(levels);
+            let message = Message::from_words(&bytes, within(1 << 20, depth)).unwrap();
+            for call in calls {
+                match call(&message) {
+                    Ok(()) => assert!(fits, "{levels} levels"),
+                    Err(error) => assert!(!fits && error.is_limit(), "{levels} levels: {error}"),
+                }
+            }
+            assert_eq!(format!("{message:?}").contains("Nest"), !fits);
+        }
+    };
+    // tests are built without optimization
+    let thread = std::thread::Builder::new().stack_size(8 << 20).spawn(all);
+    thread.unwrap().join().unwrap();
+}
