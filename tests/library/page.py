@@ -20,7 +20,7 @@ import subprocess
 import sys
 
 TOP = pathlib.Path(__file__).resolve().parents[2]
-PAGES = 'docs/INSTALL.md', 'docs/C.md', 'docs/CPP.md', 'docs/RUST.md', 'docs/PYTHON.md', 'docs/JAVASCRIPT.md'
+PAGES = 'README.md', 'docs/INSTALL.md', 'docs/C.md', 'docs/CPP.md', 'docs/RUST.md', 'docs/PYTHON.md', 'docs/JAVASCRIPT.md'
 FILE = re.compile(r'`([\w./]+)`:$')
 TOOLS = re.compile(r'^(c\+\+|cargo|cc|node|npm|openssl) |\| (capnp|openssl) ', re.MULTILINE)
 CAPNP = pathlib.Path('/usr/include/capnp/message.h')
