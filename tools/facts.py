@@ -9,7 +9,7 @@ FACTS has each fact with its value and the patterns that find it on pages, where
 any more is an error.
 
 A number with a unit of measured or counted things (UNITS), or a version of a program (TOOLS), that is on two pages and that no fact covers
-is refused: make it a fact, or state it on one page and link to that. ALONE has what only looks like the same fact. Code blocks and
+is refused: make it a fact, or state it on one page and link to that. DIFFERENT has what only looks like the same fact. Code blocks and
 what tools/theorem.py quotes don't count; CHANGELOG.md is history, and isn't read."""
 import collections
 import functools
@@ -25,7 +25,7 @@ UNITS = r'(?:processor )?(?:minutes?|hours?|seconds?|microseconds?|KB|kB|KiB|MB|
 TOOLS = r"(?:gcc|clang|Rust|Python|node|glibc|Debian|LLVM|Meson|version|Cap'n Proto|crate `capnp`|`capnp`)"
 NUMBER = re.compile(rf"(?<![\w.])(?:\d[\d,]*(?:\.\d+)? {UNITS}\b|{TOOLS} \d+(?:\.\d+)*)")
 # Numbers that two pages have about different things.
-ALONE = {
+DIFFERENT = {
     '1.5 times', '2 MB', '21 KB', '256 KiB', '500 messages', '64 MiB', '7 KB', '8 MiB', '9 KB',
     # the compilers and the messages of a measurement
     'clang 14', 'gcc 12', '66 MB', '67 MB',
@@ -170,7 +170,7 @@ def main():
     for path, it in left.items():
         for match in NUMBER.finditer(re.sub(r'\s+', ' ', it)):
             by_hand[match[0]].add(str(path.relative_to(TOP)))
-    twice = {what: on for what, on in by_hand.items() if len(on) > 1 and what not in ALONE}
+    twice = {what: on for what, on in by_hand.items() if len(on) > 1 and what not in DIFFERENT}
     for what, on in sorted(twice.items()):
         print(f'{what} is on {" and ".join(sorted(on))} by hand: make it a fact of tools/facts.py, or say it once')
     results += [not twice]
