@@ -7,7 +7,8 @@ so that each is complete by itself.
 
 The line above a program ends with its name: `bindings/c/example.c`: or `message.c`:. The program is written to the folder, or, if
 the name has a `/`, compared with that file of the repository. Each command (`sh`) runs in the folder. If it makes canonical words,
-the hash of these must be the page's first block of output (`text`). A fragment of C without a name is compiled, in a function, and one
+the hash of these must be the page's first block of output (`text`). If its last line ends in
+`# prints ..`, that is its output. A fragment of C without a name is compiled, in a function, and one
 that begins with `static` outside of it. Rust without a name is a doc test, which tests/rust/layout_crate.py runs. Any other block
 without a name is an error. A block that names the REPOSITORY is run by tests/start.sh.
 Prints a line `ok: COMMAND`, `FAILED: COMMAND` or `skipped: COMMAND: no TOOL` for each."""
@@ -102,7 +103,8 @@ def command(page, text, environment, line):
         return
     run = subprocess.run(['sh', '-ec', text], env=environment, stdout=subprocess.PIPE, text=True)
     hashed = any(it in what for it in ('sha256sum', 'sign.py', 'names.py', '.mjs'))
-    holds = run.returncode == 0 and (run.stdout == line or not hashed)
+    said = re.search(r'# prints `(.*)`$', what)
+    holds = run.returncode == 0 and (run.stdout == line or not hashed) and (not said or run.stdout.rstrip('\n') == said[1])
     if not holds:
         print(run.stdout[:2000])
     report(holds, what)
