@@ -1,5 +1,5 @@
 #!/usr/bin/env python3
-"""The gate. Checks the names of definitions, the prose, the quotations in pages, the header for C and that it keeps to its
+"""The gate. Checks the names of definitions, the prose, the quotations, links and facts in pages, the header for C and that it keeps to its
 earlier versions, whether a crate has changed since the C in generated/ was written, the logic of the toolchain, the scripts at
 the top, the printer of Rust, that doc comments state preconditions, and that generated/rust is what the sources are printed as.
 Then runs `rt ci`, which proves and builds everything; compares what it reports that the proofs rest on with `tests/axioms.txt`;
@@ -121,6 +121,8 @@ def main():
         counted('names', [sys.executable, str(TOP / 'tests/names.py')]),
         counted('prose', [sys.executable, str(TOP / 'tests/prose.py')]),
         counted('pages', [sys.executable, str(TOP / 'tools/theorem.py'), '--check']),
+        counted('links', [sys.executable, '-B', str(TOP / 'tests/release/pages.py'), str(TOP)]),
+        counted('facts', [sys.executable, '-B', str(TOP / 'tools/facts.py'), '--check']),
         counted('header', [sys.executable, str(TOP / 'tests/library/header.py')]),
         counted('interface', [sys.executable, '-B', str(TOP / 'tests/library/interface.py')]),
         counted('generated', [sys.executable, str(TOP / 'tools/generated.py'), '--sums']),

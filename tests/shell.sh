@@ -1,6 +1,6 @@
 #!/bin/sh
-# shell.sh [PROGRAM]: runs the commands of docs/PROGRAM.md, part by part in one folder, and compares the output of each part
-# with the page. PROGRAM is a built capnp_canon. Without it, runs ./capnp_canon at the top of the repository and also
+# shell.sh [PROGRAM]: runs the commands of docs/PROGRAM.md and tests/layout_tool.md, part by part in one folder, and compares the output of
+# each part with the page. PROGRAM is a built capnp_canon. Without it, runs ./capnp_canon at the top of the repository and also
 # ./layout_tool, which run what is built. A part whose tools are missing is skipped.
 #
 # Prints a line `ok: COMMAND`, `FAILED: COMMAND` or `skipped: COMMAND: no TOOL` for each part; the last line is
@@ -23,7 +23,7 @@ take_apart() {
         /^```(sh|bash)$/ { number++; file = to sprintf("%02d", number) "." substr($0, 4); next }
         /^```text$/ { file = to sprintf("%02d", number) ".text"; next }
         /^```$/ { file = ""; next }
-        file { print >file }' "$top/docs/PROGRAM.md"
+        file { print >file }' "$top/docs/PROGRAM.md" "$top/tests/layout_tool.md"
 }
 
 # The tools that a part needs and that are missing.

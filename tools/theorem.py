@@ -1,5 +1,5 @@
 #!/usr/bin/env python3
-"""Updates what pages quote from the sources: `docs/THEOREM.md`, `docs/REFUSALS.md`, `docs/PROVED.md`, `docs/FORMAT.md`, `docs/TYPED.md`, the README, and `crates/*/CALLING.md`.
+"""Updates what pages quote from the sources: `docs/THEOREM.md`, `docs/REFUSALS.md`, `docs/PROVED.md`, `docs/FORMAT.md`, `docs/TYPED.md`, `docs/RATTLE.md`, the README, and `crates/*/CALLING.md`.
 
     theorem.py             rewrites each page that differs
     theorem.py --check     says which pages differ. The last line is `N passed, M failed`, which counts pages
@@ -376,7 +376,7 @@ def contract(path):
 
 
 def pages():
-    return [page for page in (PAGE, REFUSALS, TOP / 'README.md', TOP / 'docs/PROVED.md', TOP / 'docs/FORMAT.md', TOP / 'docs/TYPED.md', *sorted(TOP.glob('crates/*/CALLING.md'))) if page.is_file()]
+    return [page for page in (PAGE, REFUSALS, TOP / 'README.md', TOP / 'docs/PROVED.md', TOP / 'docs/FORMAT.md', TOP / 'docs/TYPED.md', TOP / 'docs/RATTLE.md', *sorted(TOP.glob('crates/*/CALLING.md'))) if page.is_file()]
 
 
 def prose(text):

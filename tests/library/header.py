@@ -25,7 +25,7 @@ VERSIONS = {
     'bindings/rust/capnp/Cargo.toml': r'^version = "(.*)"$', 'share/capnp_canon.1': r'"capnp_canon (.*)"$', 'share/capnp_canonical.3': r'"capnp_canonical (.*)"$',
     'bindings/rust/Cargo.lock': r'^name = "capnp_canonical"\nversion = "(.*)"$', 'bindings/js/package.json': r'^  "version": "(.*)",$',
     'pyproject.toml': r'^version = "(.*)"$', 'crates/capnp_canon/src/texts.rt': r'"capnp_canon (.*)";$',
-    'README.md': r'^This is version ([\d.]*\d)', 'CHANGELOG.md': r'\A[^#]*# Changes\n[^#]*## (\S*)',
+    'README.md': r'\bThis is version ([\d.]*\d)', 'CHANGELOG.md': r'\A[^#]*# Changes\n[^#]*## (\S*)',
 }
 # The other files that have the header's largest nesting limit.
 LEVELS = {

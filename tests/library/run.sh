@@ -315,7 +315,7 @@ else
     [ ! "$has_cxx" ] || part 'example in C++' example_cpp
     [ ! "$has_cargo" ] || part 'example in Rust' example_rust
     part 'example in Python' example_python
-    part docs/LIBRARY.md page
+    part "the pages' examples" page
 fi
 
 echo "$passed passed, $failed failed${skipped:+; skipped: $skipped}"

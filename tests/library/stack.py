@@ -31,7 +31,7 @@ def row(build, column):
 TABLE = {it: row(it, 0) for it in BUILDS}
 TABLE_OF_CALLS = {it: row(it, 1) for it in BUILDS}
 PAGES = {
-    'bindings/c/capnp_canonical.h': (SENTENCE, CALL), 'docs/LIBRARY.md': (TABLE, TABLE_OF_CALLS),
+    'bindings/c/capnp_canonical.h': (SENTENCE, CALL), 'docs/C.md': (TABLE, TABLE_OF_CALLS),
     'release_files/README.md': (TABLE, TABLE_OF_CALLS), 'README.md': (TABLE, TABLE_OF_CALLS),
     'bindings/python/capnp_canonical/__init__.py': (SHORT, None),
 }

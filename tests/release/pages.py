@@ -1,7 +1,7 @@
 #!/usr/bin/env python3
-"""Whether a release has each page that its pages and headers name, and each file and heading that they link to.
+"""Whether a release, or the repository, has each page that its pages and headers name, and each file and heading that they link to.
 
-    pages.py RELEASE
+    pages.py FOLDER
 
 Prints what is missing, and at last `N passed, M failed`: a page or header is one count."""
 import pathlib

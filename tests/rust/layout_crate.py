@@ -3,8 +3,7 @@
 
     layout_crate.py
 
-Runs its tests in place; compares the examples of the repository's README with those of the crate, which are doc tests;
-makes its package, with the printed modules in it, and runs the tests of the package outside of the repository; builds it
+Runs its tests in place; compiles and runs the Rust of the repository's README and of docs/RUST.md; makes its package, with the printed modules in it, and runs the tests of the package outside of the repository; builds it
 without `std`; and asks rustdoc and, if it is there, clippy for remarks. Needs cargo, but no network. CARGO_TARGET_DIR names the folder for what is built; by default one that is removed afterwards. The last line is
 `N passed, M failed`."""
 import os
@@ -44,12 +43,20 @@ def test(name, folder, target):
     part(name, status == 0 and sum(counts) > 40, output)
 
 
-def first_page():
-    """Compares the examples in the repository's README with those of the crate's, which cargo runs as doc tests."""
-    examples = re.findall(r'```rust\n(use capnp_layout::.*?)```', (TOP / 'README.md').read_text(encoding='utf-8'), re.S)
-    tested = (CRATE / 'README.md').read_text(encoding='utf-8')
-    differ = [it for it in examples if f'```rust\n{it}```' not in tested]
-    part('examples of the README', len(examples) == 3 and not differ, '\n'.join(differ))
+def pages(work, target):
+    """Compiles and runs the Rust of the repository's README and of docs/RUST.md in doc tests of a crate that depends on both crates
+    and on what capnpc-layout-rust wrote for tests/typed."""
+    texts = [(TOP / it).read_text(encoding='utf-8') for it in ('README.md', 'docs/RUST.md')]
+    examples = sum(len(re.findall(r'^```rust$', it, re.M)) for it in texts)
+    folder = work / 'pages'
+    (folder / 'src').mkdir(parents=True)
+    crates = {'capnp_layout': 'bindings/rust/capnp_layout', 'capnp_canonical': 'bindings/rust', 'typed_rust': 'tests/typed/rust'}
+    needed = ''.join(f'{name} = {{ path = "{TOP / path}" }}\n' for name, path in crates.items())
+    (folder / 'Cargo.toml').write_text(f'[package]\nname = "pages"\nversion = "0.0.0"\nedition = "2021"\n\n[workspace]\n\n[dependencies]\n{needed}')
+    (folder / 'src/lib.rs').write_text(''.join(f'#[doc = include_str!("{TOP / it}")]\npub mod page{i} {{}}\n' for i, it in enumerate(('README.md', 'docs/RUST.md'))))
+    status, output = cargo(['test', '--doc'], folder, target)
+    counts = [int(it) for it in re.findall(r'^test result: ok\. (\d+) passed', output, re.M)]
+    part('the Rust of README.md and docs/RUST.md', status == 0 and sum(counts) == examples > 0, output)
 
 
 def printed_modules():
@@ -85,7 +92,7 @@ def main():
         test('cargo test', CRATE, target)
         if not shutil.which('capnp'):
             print('skipped: encode and decode of Cap\'n Proto, no capnp')
-        first_page()
+        pages(work, target)
         packaged(work, target)
         status, output = cargo(['build', '--no-default-features'], CRATE, target, RUSTFLAGS='-D warnings')
         part('without std', status == 0, output)
