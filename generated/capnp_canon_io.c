@@ -8,6 +8,7 @@ static NEVER u8 core_fmt_formatter_Formatter_cut_and_fill_bf264aed5fa78656(u8 *a
 static u8 core_fmt_formatter_Formatter_write_char_n_times_bf264a_5c1f4f90(u8 *a_1, u32 a_2, u64 a_3);
 static u8 core_fmt_formatter_Formatter_write_indented_line_b6936_43eaca3d(u8 *a_1, u8 *a_2, u64 a_3, u8 a_4);
 static u8 core_fmt_formatter_Formatter_write_char_n_times_b6936a_f8339ab4(u8 *a_1, u32 a_2, u64 a_3);
+static u8 core_fmt_formatter_Formatter_write_indented_line_e28d6_00a95c6c(u8 *a_1, u8 *a_2, u64 a_3, u8 a_4);
 
 /* std_io::io::print_to::<#98831ff3adad6f75> */
 void std_io_io_print_to_98831ff3adad6f75(u8 *a_1, u32 a_2, u8 *a_3, u64 a_4)
@@ -1787,7 +1788,7 @@ u8 core_fmt_formatter_Formatter_write_piece_cd5e334430faecd3(u8 *a_1, u8 *a_2)
     u64 r_sm;
     u64 common_35;
     u64 r_38;
-    u8 *r_uw;
+    u8 *r_ty;
     u64 r_vj;
     u32 r_yf;
     u8 *r_89;
@@ -2266,7 +2267,7 @@ l_std_xi:;
     core_str_utf8_from_utf8(slot_1, slot_3, common_35);
     u8 t_0c = (ld8(slot_1) == 0u);
     r_38 = ld64((slot_1 + 16));
-    r_uw = (t_0c ? ldp((slot_1 + 8)) : ((u8 *)g_static_297));
+    r_ty = (t_0c ? ldp((slot_1 + 8)) : ((u8 *)g_static_294));
     r_vj = (t_0c ? r_38 : 0ull);
     switch (ld8(r_fx)) {
     case 0u: goto l_arm_cu;
@@ -2286,7 +2287,7 @@ l_arm_cu:;
     r_1x = away(a_1, 4ull);
     r_9w = ld64(r_ym);
     r_uj = r_38;
-    r_35 = r_uw;
+    r_35 = r_ty;
 l_arm_65:;
     r_62 = away(r_35, 1ull);
     r_zn = (r_uj + 0xffffffffffffffffull);
@@ -2307,20 +2308,20 @@ l_std_41:;
     r_35 = r_62;
     goto l_arm_65;
 l_core_o3:;
-    u8 r_q3 = core_fmt_formatter_Formatter_write_indented_bf264aed5fa78656(a_1, r_uw, r_vj);
+    u8 r_q3 = core_fmt_formatter_Formatter_write_indented_bf264aed5fa78656(a_1, r_ty, r_vj);
     if (!(r_q3 == 0u)) { r_ot = 1u; goto l_core_27; }
 l_arm_ju:;
     u64 r_38_2 = ld64(r_89);
     st32(r_p7, 32u);
     memset(r_ix, 0u, 12);
     st64(r_fn, 0xffffffffffffffffull);
-    if (!(r_38_2 == 0ull)) goto l_core_5z;
+    if (!(r_38_2 == 0ull)) goto l_core_5g;
 l_arm_je:;
     r_ym_1 = away(a_1, 1032ull);
     r_1x_1 = away(a_1, 4ull);
     r_pv = ld64(r_ym_1);
     r_m0 = 11ull;
-    r_w9 = ((u8 *)g_static_60);
+    r_w9 = ((u8 *)g_static_62);
 l_arm_td:;
     r_62_1 = away(r_w9, 1ull);
     r_0f = (r_m0 + 0xffffffffffffffffull);
@@ -2340,9 +2341,9 @@ l_std_41_1:;
     r_m0 = r_0f;
     r_w9 = r_62_1;
     goto l_arm_td;
-l_core_5z:;
-    u8 r_9g = core_fmt_formatter_Formatter_write_indented_bf264aed5fa78656(a_1, ((u8 *)g_static_60), 11ull);
-    if (!(r_9g == 0u)) { r_ot = 1u; goto l_core_27; }
+l_core_5g:;
+    u8 r_ub = core_fmt_formatter_Formatter_write_indented_bf264aed5fa78656(a_1, ((u8 *)g_static_62), 11ull);
+    if (!(r_ub == 0u)) { r_ot = 1u; goto l_core_27; }
 l_arm_fl:;
     st32(r_p7, 32u);
     memset(r_ix, 0u, 12);
@@ -2417,7 +2418,7 @@ l_arm_y8:;
     st32(r_p7, 32u);
     memset(r_ix, 0u, 12);
     st64(r_fn, 0xffffffffffffffffull);
-    if (!(ld64(r_89) == 0ull)) goto l_else_g8;
+    if (!(ld64(r_89) == 0ull)) goto l_else_cb;
     r_ym_3 = away(a_1, 1032ull);
     r_1x_3 = away(a_1, 4ull);
     u64 r_38_5 = ld64(r_ym_3);
@@ -2432,9 +2433,9 @@ l_std_ix:;
     st64(r_ym_3, (r_lb_1 + 1ull));
     r_ot = 0u;
     goto l_core_27;
-l_else_g8:;
-    u8 r_ly = core_fmt_formatter_Formatter_write_indented_bf264aed5fa78656(a_1, ((u8 *)g_static_61), 1ull);
-    r_ot = r_ly;
+l_else_cb:;
+    u8 r_vg = core_fmt_formatter_Formatter_write_indented_bf264aed5fa78656(a_1, ((u8 *)g_static_63), 1ull);
+    r_ot = r_vg;
 l_core_27:;
     mv24(r_p7, slot_2);
     r_m4 = r_ot;
@@ -2484,7 +2485,7 @@ l_arm_ks:;
     st8((slot_1 + 40), 40u);
     if (r_47_3 < 41u) goto l_std_87;
     if (ld64(away(a_1, 1160ull)) == 0ull) goto l_then_je;
-    goto l_else_zk;
+    goto l_else_p1;
 l_std_87:;
     r_ts = (ld64(away(a_1, 1160ull)) == 0ull);
     switch (ld8((slot_1 + (i64)((u64)r_47_3)))) {
@@ -2533,12 +2534,12 @@ l_std_87:;
     default: goto l_noarm_e1;
     }
 l_arm_lx:;
-    if (!r_ts) goto l_else_s0;
+    if (!r_ts) goto l_else_5k;
     r_ym_4 = away(a_1, 1032ull);
     r_1x_4 = away(a_1, 4ull);
     r_pv_1 = ld64(r_ym_4);
     r_m0_1 = 16ull;
-    r_w9_1 = ((u8 *)g_static_64);
+    r_w9_1 = ((u8 *)g_static_66);
 l_arm_td_1:;
     r_62_3 = away(r_w9_1, 1ull);
     r_0f_1 = (r_m0_1 + 0xffffffffffffffffull);
@@ -2558,17 +2559,17 @@ l_std_41_3:;
     r_m0_1 = r_0f_1;
     r_w9_1 = r_62_3;
     goto l_arm_td_1;
-l_else_s0:;
-    u8 r_xp = core_fmt_formatter_Formatter_write_indented_bf264aed5fa78656(a_1, ((u8 *)g_static_64), 16ull);
-    r_m4 = r_xp;
+l_else_5k:;
+    u8 r_fh = core_fmt_formatter_Formatter_write_indented_bf264aed5fa78656(a_1, ((u8 *)g_static_66), 16ull);
+    r_m4 = r_fh;
     goto l_std_lh;
 l_arm_lx_1:;
-    if (!r_ts) goto l_else_8e;
+    if (!r_ts) goto l_else_0x;
     r_ym_5 = away(a_1, 1032ull);
     r_1x_5 = away(a_1, 4ull);
     r_pv_2 = ld64(r_ym_5);
     r_m0_2 = 17ull;
-    r_w9_2 = ((u8 *)g_static_65);
+    r_w9_2 = ((u8 *)g_static_67);
 l_arm_td_2:;
     r_62_4 = away(r_w9_2, 1ull);
     r_0f_2 = (r_m0_2 + 0xffffffffffffffffull);
@@ -2588,17 +2589,17 @@ l_std_41_4:;
     r_m0_2 = r_0f_2;
     r_w9_2 = r_62_4;
     goto l_arm_td_2;
-l_else_8e:;
-    u8 r_am = core_fmt_formatter_Formatter_write_indented_bf264aed5fa78656(a_1, ((u8 *)g_static_65), 17ull);
-    r_m4 = r_am;
+l_else_0x:;
+    u8 r_9h = core_fmt_formatter_Formatter_write_indented_bf264aed5fa78656(a_1, ((u8 *)g_static_67), 17ull);
+    r_m4 = r_9h;
     goto l_std_lh;
 l_arm_lx_2:;
-    if (!r_ts) goto l_else_cg;
+    if (!r_ts) goto l_else_0p;
     r_ym_6 = away(a_1, 1032ull);
     r_1x_6 = away(a_1, 4ull);
     r_pv_3 = ld64(r_ym_6);
     r_m0_3 = 18ull;
-    r_w9_3 = ((u8 *)g_static_66);
+    r_w9_3 = ((u8 *)g_static_68);
 l_arm_td_3:;
     r_62_5 = away(r_w9_3, 1ull);
     r_0f_3 = (r_m0_3 + 0xffffffffffffffffull);
@@ -2618,17 +2619,17 @@ l_std_41_5:;
     r_m0_3 = r_0f_3;
     r_w9_3 = r_62_5;
     goto l_arm_td_3;
-l_else_cg:;
-    u8 r_0h = core_fmt_formatter_Formatter_write_indented_bf264aed5fa78656(a_1, ((u8 *)g_static_66), 18ull);
-    r_m4 = r_0h;
+l_else_0p:;
+    u8 r_p8 = core_fmt_formatter_Formatter_write_indented_bf264aed5fa78656(a_1, ((u8 *)g_static_68), 18ull);
+    r_m4 = r_p8;
     goto l_std_lh;
 l_arm_lx_3:;
-    if (!r_ts) goto l_else_ov;
+    if (!r_ts) goto l_else_8u;
     r_ym_7 = away(a_1, 1032ull);
     r_1x_7 = away(a_1, 4ull);
     r_pv_4 = ld64(r_ym_7);
     r_m0_4 = 16ull;
-    r_w9_4 = ((u8 *)g_static_67);
+    r_w9_4 = ((u8 *)g_static_69);
 l_arm_td_4:;
     r_62_6 = away(r_w9_4, 1ull);
     r_0f_4 = (r_m0_4 + 0xffffffffffffffffull);
@@ -2648,17 +2649,17 @@ l_std_41_6:;
     r_m0_4 = r_0f_4;
     r_w9_4 = r_62_6;
     goto l_arm_td_4;
-l_else_ov:;
-    u8 r_d1 = core_fmt_formatter_Formatter_write_indented_bf264aed5fa78656(a_1, ((u8 *)g_static_67), 16ull);
-    r_m4 = r_d1;
+l_else_8u:;
+    u8 r_tm = core_fmt_formatter_Formatter_write_indented_bf264aed5fa78656(a_1, ((u8 *)g_static_69), 16ull);
+    r_m4 = r_tm;
     goto l_std_lh;
 l_arm_lx_4:;
-    if (!r_ts) goto l_else_io;
+    if (!r_ts) goto l_else_c0;
     r_ym_8 = away(a_1, 1032ull);
     r_1x_8 = away(a_1, 4ull);
     r_pv_5 = ld64(r_ym_8);
     r_m0_5 = 16ull;
-    r_w9_5 = ((u8 *)g_static_68);
+    r_w9_5 = ((u8 *)g_static_70);
 l_arm_td_5:;
     r_62_7 = away(r_w9_5, 1ull);
     r_0f_5 = (r_m0_5 + 0xffffffffffffffffull);
@@ -2678,17 +2679,17 @@ l_std_41_7:;
     r_m0_5 = r_0f_5;
     r_w9_5 = r_62_7;
     goto l_arm_td_5;
-l_else_io:;
-    u8 r_df = core_fmt_formatter_Formatter_write_indented_bf264aed5fa78656(a_1, ((u8 *)g_static_68), 16ull);
-    r_m4 = r_df;
+l_else_c0:;
+    u8 r_by = core_fmt_formatter_Formatter_write_indented_bf264aed5fa78656(a_1, ((u8 *)g_static_70), 16ull);
+    r_m4 = r_by;
     goto l_std_lh;
 l_arm_lx_5:;
-    if (!r_ts) goto l_else_o5;
+    if (!r_ts) goto l_else_u1;
     r_ym_9 = away(a_1, 1032ull);
     r_1x_9 = away(a_1, 4ull);
     r_pv_6 = ld64(r_ym_9);
     r_m0_6 = 19ull;
-    r_w9_6 = ((u8 *)g_static_69);
+    r_w9_6 = ((u8 *)g_static_71);
 l_arm_td_6:;
     r_62_8 = away(r_w9_6, 1ull);
     r_0f_6 = (r_m0_6 + 0xffffffffffffffffull);
@@ -2708,17 +2709,17 @@ l_std_41_8:;
     r_m0_6 = r_0f_6;
     r_w9_6 = r_62_8;
     goto l_arm_td_6;
-l_else_o5:;
-    u8 r_6s = core_fmt_formatter_Formatter_write_indented_bf264aed5fa78656(a_1, ((u8 *)g_static_69), 19ull);
-    r_m4 = r_6s;
+l_else_u1:;
+    u8 r_14 = core_fmt_formatter_Formatter_write_indented_bf264aed5fa78656(a_1, ((u8 *)g_static_71), 19ull);
+    r_m4 = r_14;
     goto l_std_lh;
 l_arm_lx_6:;
-    if (!r_ts) goto l_else_d7;
+    if (!r_ts) goto l_else_v0;
     r_ym_10 = away(a_1, 1032ull);
     r_1x_10 = away(a_1, 4ull);
     r_pv_7 = ld64(r_ym_10);
     r_m0_7 = 18ull;
-    r_w9_7 = ((u8 *)g_static_70);
+    r_w9_7 = ((u8 *)g_static_72);
 l_arm_td_7:;
     r_62_9 = away(r_w9_7, 1ull);
     r_0f_7 = (r_m0_7 + 0xffffffffffffffffull);
@@ -2738,17 +2739,17 @@ l_std_41_9:;
     r_m0_7 = r_0f_7;
     r_w9_7 = r_62_9;
     goto l_arm_td_7;
-l_else_d7:;
-    u8 r_59 = core_fmt_formatter_Formatter_write_indented_bf264aed5fa78656(a_1, ((u8 *)g_static_70), 18ull);
-    r_m4 = r_59;
+l_else_v0:;
+    u8 r_8f = core_fmt_formatter_Formatter_write_indented_bf264aed5fa78656(a_1, ((u8 *)g_static_72), 18ull);
+    r_m4 = r_8f;
     goto l_std_lh;
 l_arm_lx_7:;
-    if (!r_ts) goto l_else_tp;
+    if (!r_ts) goto l_else_qk;
     r_ym_11 = away(a_1, 1032ull);
     r_1x_11 = away(a_1, 4ull);
     r_pv_8 = ld64(r_ym_11);
     r_m0_8 = 13ull;
-    r_w9_8 = ((u8 *)g_static_71);
+    r_w9_8 = ((u8 *)g_static_73);
 l_arm_td_8:;
     r_62_10 = away(r_w9_8, 1ull);
     r_0f_8 = (r_m0_8 + 0xffffffffffffffffull);
@@ -2768,17 +2769,17 @@ l_std_41_10:;
     r_m0_8 = r_0f_8;
     r_w9_8 = r_62_10;
     goto l_arm_td_8;
-l_else_tp:;
-    u8 r_w5 = core_fmt_formatter_Formatter_write_indented_bf264aed5fa78656(a_1, ((u8 *)g_static_71), 13ull);
-    r_m4 = r_w5;
+l_else_qk:;
+    u8 r_06_1 = core_fmt_formatter_Formatter_write_indented_bf264aed5fa78656(a_1, ((u8 *)g_static_73), 13ull);
+    r_m4 = r_06_1;
     goto l_std_lh;
 l_arm_lx_8:;
-    if (!r_ts) goto l_else_05;
+    if (!r_ts) goto l_else_6y;
     r_ym_12 = away(a_1, 1032ull);
     r_1x_12 = away(a_1, 4ull);
     r_pv_9 = ld64(r_ym_12);
     r_m0_9 = 14ull;
-    r_w9_9 = ((u8 *)g_static_72);
+    r_w9_9 = ((u8 *)g_static_74);
 l_arm_td_9:;
     r_62_11 = away(r_w9_9, 1ull);
     r_0f_9 = (r_m0_9 + 0xffffffffffffffffull);
@@ -2798,17 +2799,17 @@ l_std_41_11:;
     r_m0_9 = r_0f_9;
     r_w9_9 = r_62_11;
     goto l_arm_td_9;
-l_else_05:;
-    u8 r_u5 = core_fmt_formatter_Formatter_write_indented_bf264aed5fa78656(a_1, ((u8 *)g_static_72), 14ull);
-    r_m4 = r_u5;
+l_else_6y:;
+    u8 r_cw = core_fmt_formatter_Formatter_write_indented_bf264aed5fa78656(a_1, ((u8 *)g_static_74), 14ull);
+    r_m4 = r_cw;
     goto l_std_lh;
 l_arm_lx_9:;
-    if (!r_ts) goto l_else_pw;
+    if (!r_ts) goto l_else_r4;
     r_ym_13 = away(a_1, 1032ull);
     r_1x_13 = away(a_1, 4ull);
     r_pv_10 = ld64(r_ym_13);
     r_m0_10 = 21ull;
-    r_w9_10 = ((u8 *)g_static_73);
+    r_w9_10 = ((u8 *)g_static_75);
 l_arm_td_10:;
     r_62_12 = away(r_w9_10, 1ull);
     r_0f_10 = (r_m0_10 + 0xffffffffffffffffull);
@@ -2828,17 +2829,17 @@ l_std_41_12:;
     r_m0_10 = r_0f_10;
     r_w9_10 = r_62_12;
     goto l_arm_td_10;
-l_else_pw:;
-    u8 r_v1 = core_fmt_formatter_Formatter_write_indented_bf264aed5fa78656(a_1, ((u8 *)g_static_73), 21ull);
-    r_m4 = r_v1;
+l_else_r4:;
+    u8 r_7b = core_fmt_formatter_Formatter_write_indented_bf264aed5fa78656(a_1, ((u8 *)g_static_75), 21ull);
+    r_m4 = r_7b;
     goto l_std_lh;
 l_arm_lx_10:;
-    if (!r_ts) goto l_else_wu;
+    if (!r_ts) goto l_else_d6;
     r_ym_14 = away(a_1, 1032ull);
     r_1x_14 = away(a_1, 4ull);
     r_pv_11 = ld64(r_ym_14);
     r_m0_11 = 12ull;
-    r_w9_11 = ((u8 *)g_static_74);
+    r_w9_11 = ((u8 *)g_static_76);
 l_arm_td_11:;
     r_62_13 = away(r_w9_11, 1ull);
     r_0f_11 = (r_m0_11 + 0xffffffffffffffffull);
@@ -2858,17 +2859,17 @@ l_std_41_13:;
     r_m0_11 = r_0f_11;
     r_w9_11 = r_62_13;
     goto l_arm_td_11;
-l_else_wu:;
-    u8 r_l4 = core_fmt_formatter_Formatter_write_indented_bf264aed5fa78656(a_1, ((u8 *)g_static_74), 12ull);
-    r_m4 = r_l4;
+l_else_d6:;
+    u8 r_gz = core_fmt_formatter_Formatter_write_indented_bf264aed5fa78656(a_1, ((u8 *)g_static_76), 12ull);
+    r_m4 = r_gz;
     goto l_std_lh;
 l_arm_lx_11:;
-    if (!r_ts) goto l_else_p1;
+    if (!r_ts) goto l_else_9l;
     r_ym_15 = away(a_1, 1032ull);
     r_1x_15 = away(a_1, 4ull);
     r_pv_12 = ld64(r_ym_15);
     r_m0_12 = 11ull;
-    r_w9_12 = ((u8 *)g_static_75);
+    r_w9_12 = ((u8 *)g_static_77);
 l_arm_td_12:;
     r_62_14 = away(r_w9_12, 1ull);
     r_0f_12 = (r_m0_12 + 0xffffffffffffffffull);
@@ -2888,17 +2889,17 @@ l_std_41_14:;
     r_m0_12 = r_0f_12;
     r_w9_12 = r_62_14;
     goto l_arm_td_12;
-l_else_p1:;
-    u8 r_iv = core_fmt_formatter_Formatter_write_indented_bf264aed5fa78656(a_1, ((u8 *)g_static_75), 11ull);
-    r_m4 = r_iv;
+l_else_9l:;
+    u8 r_v0 = core_fmt_formatter_Formatter_write_indented_bf264aed5fa78656(a_1, ((u8 *)g_static_77), 11ull);
+    r_m4 = r_v0;
     goto l_std_lh;
 l_arm_lx_12:;
-    if (!r_ts) goto l_else_kb;
+    if (!r_ts) goto l_else_tk;
     r_ym_16 = away(a_1, 1032ull);
     r_1x_16 = away(a_1, 4ull);
     r_pv_13 = ld64(r_ym_16);
     r_m0_13 = 21ull;
-    r_w9_13 = ((u8 *)g_static_76);
+    r_w9_13 = ((u8 *)g_static_78);
 l_arm_td_13:;
     r_62_15 = away(r_w9_13, 1ull);
     r_0f_13 = (r_m0_13 + 0xffffffffffffffffull);
@@ -2918,17 +2919,17 @@ l_std_41_15:;
     r_m0_13 = r_0f_13;
     r_w9_13 = r_62_15;
     goto l_arm_td_13;
-l_else_kb:;
-    u8 r_nq = core_fmt_formatter_Formatter_write_indented_bf264aed5fa78656(a_1, ((u8 *)g_static_76), 21ull);
-    r_m4 = r_nq;
+l_else_tk:;
+    u8 r_uc = core_fmt_formatter_Formatter_write_indented_bf264aed5fa78656(a_1, ((u8 *)g_static_78), 21ull);
+    r_m4 = r_uc;
     goto l_std_lh;
 l_arm_lx_13:;
-    if (!r_ts) goto l_else_aq;
+    if (!r_ts) goto l_else_oq;
     r_ym_17 = away(a_1, 1032ull);
     r_1x_17 = away(a_1, 4ull);
     r_pv_14 = ld64(r_ym_17);
     r_m0_14 = 21ull;
-    r_w9_14 = ((u8 *)g_static_77);
+    r_w9_14 = ((u8 *)g_static_79);
 l_arm_td_14:;
     r_62_16 = away(r_w9_14, 1ull);
     r_0f_14 = (r_m0_14 + 0xffffffffffffffffull);
@@ -2948,17 +2949,17 @@ l_std_41_16:;
     r_m0_14 = r_0f_14;
     r_w9_14 = r_62_16;
     goto l_arm_td_14;
-l_else_aq:;
-    u8 r_ol = core_fmt_formatter_Formatter_write_indented_bf264aed5fa78656(a_1, ((u8 *)g_static_77), 21ull);
-    r_m4 = r_ol;
+l_else_oq:;
+    u8 r_cu = core_fmt_formatter_Formatter_write_indented_bf264aed5fa78656(a_1, ((u8 *)g_static_79), 21ull);
+    r_m4 = r_cu;
     goto l_std_lh;
 l_arm_lx_14:;
-    if (!r_ts) goto l_else_ep;
+    if (!r_ts) goto l_else_p2;
     r_ym_18 = away(a_1, 1032ull);
     r_1x_18 = away(a_1, 4ull);
     r_pv_15 = ld64(r_ym_18);
     r_m0_15 = 15ull;
-    r_w9_15 = ((u8 *)g_static_78);
+    r_w9_15 = ((u8 *)g_static_80);
 l_arm_td_15:;
     r_62_17 = away(r_w9_15, 1ull);
     r_0f_15 = (r_m0_15 + 0xffffffffffffffffull);
@@ -2978,17 +2979,17 @@ l_std_41_17:;
     r_m0_15 = r_0f_15;
     r_w9_15 = r_62_17;
     goto l_arm_td_15;
-l_else_ep:;
-    u8 r_no = core_fmt_formatter_Formatter_write_indented_bf264aed5fa78656(a_1, ((u8 *)g_static_78), 15ull);
-    r_m4 = r_no;
+l_else_p2:;
+    u8 r_92 = core_fmt_formatter_Formatter_write_indented_bf264aed5fa78656(a_1, ((u8 *)g_static_80), 15ull);
+    r_m4 = r_92;
     goto l_std_lh;
 l_arm_lx_15:;
-    if (!r_ts) goto l_else_k1;
+    if (!r_ts) goto l_else_x0;
     r_ym_19 = away(a_1, 1032ull);
     r_1x_19 = away(a_1, 4ull);
     r_pv_16 = ld64(r_ym_19);
     r_m0_16 = 14ull;
-    r_w9_16 = ((u8 *)g_static_79);
+    r_w9_16 = ((u8 *)g_static_81);
 l_arm_td_16:;
     r_62_18 = away(r_w9_16, 1ull);
     r_0f_16 = (r_m0_16 + 0xffffffffffffffffull);
@@ -3008,17 +3009,17 @@ l_std_41_18:;
     r_m0_16 = r_0f_16;
     r_w9_16 = r_62_18;
     goto l_arm_td_16;
-l_else_k1:;
-    u8 r_zf = core_fmt_formatter_Formatter_write_indented_bf264aed5fa78656(a_1, ((u8 *)g_static_79), 14ull);
-    r_m4 = r_zf;
+l_else_x0:;
+    u8 r_w0 = core_fmt_formatter_Formatter_write_indented_bf264aed5fa78656(a_1, ((u8 *)g_static_81), 14ull);
+    r_m4 = r_w0;
     goto l_std_lh;
 l_arm_lx_16:;
-    if (!r_ts) goto l_else_gf;
+    if (!r_ts) goto l_else_98;
     r_ym_20 = away(a_1, 1032ull);
     r_1x_20 = away(a_1, 4ull);
     r_pv_17 = ld64(r_ym_20);
     r_m0_17 = 19ull;
-    r_w9_17 = ((u8 *)g_static_80);
+    r_w9_17 = ((u8 *)g_static_82);
 l_arm_td_17:;
     r_62_19 = away(r_w9_17, 1ull);
     r_0f_17 = (r_m0_17 + 0xffffffffffffffffull);
@@ -3038,17 +3039,17 @@ l_std_41_19:;
     r_m0_17 = r_0f_17;
     r_w9_17 = r_62_19;
     goto l_arm_td_17;
-l_else_gf:;
-    u8 r_zt = core_fmt_formatter_Formatter_write_indented_bf264aed5fa78656(a_1, ((u8 *)g_static_80), 19ull);
-    r_m4 = r_zt;
+l_else_98:;
+    u8 r_rz = core_fmt_formatter_Formatter_write_indented_bf264aed5fa78656(a_1, ((u8 *)g_static_82), 19ull);
+    r_m4 = r_rz;
     goto l_std_lh;
 l_arm_lx_17:;
-    if (!r_ts) goto l_else_ph;
+    if (!r_ts) goto l_else_91;
     r_ym_21 = away(a_1, 1032ull);
     r_1x_21 = away(a_1, 4ull);
     r_pv_18 = ld64(r_ym_21);
     r_m0_18 = 38ull;
-    r_w9_18 = ((u8 *)g_static_81);
+    r_w9_18 = ((u8 *)g_static_83);
 l_arm_td_18:;
     r_62_20 = away(r_w9_18, 1ull);
     r_0f_18 = (r_m0_18 + 0xffffffffffffffffull);
@@ -3068,17 +3069,17 @@ l_std_41_20:;
     r_m0_18 = r_0f_18;
     r_w9_18 = r_62_20;
     goto l_arm_td_18;
-l_else_ph:;
-    u8 r_sh = core_fmt_formatter_Formatter_write_indented_bf264aed5fa78656(a_1, ((u8 *)g_static_81), 38ull);
-    r_m4 = r_sh;
+l_else_91:;
+    u8 r_5i = core_fmt_formatter_Formatter_write_indented_bf264aed5fa78656(a_1, ((u8 *)g_static_83), 38ull);
+    r_m4 = r_5i;
     goto l_std_lh;
 l_arm_lx_18:;
-    if (!r_ts) goto l_else_yq;
+    if (!r_ts) goto l_else_5f;
     r_ym_22 = away(a_1, 1032ull);
     r_1x_22 = away(a_1, 4ull);
     r_pv_19 = ld64(r_ym_22);
     r_m0_19 = 56ull;
-    r_w9_19 = ((u8 *)g_static_82);
+    r_w9_19 = ((u8 *)g_static_84);
 l_arm_td_19:;
     r_62_21 = away(r_w9_19, 1ull);
     r_0f_19 = (r_m0_19 + 0xffffffffffffffffull);
@@ -3098,17 +3099,17 @@ l_std_41_21:;
     r_m0_19 = r_0f_19;
     r_w9_19 = r_62_21;
     goto l_arm_td_19;
-l_else_yq:;
-    u8 r_38_26 = core_fmt_formatter_Formatter_write_indented_bf264aed5fa78656(a_1, ((u8 *)g_static_82), 56ull);
-    r_m4 = r_38_26;
+l_else_5f:;
+    u8 r_kl = core_fmt_formatter_Formatter_write_indented_bf264aed5fa78656(a_1, ((u8 *)g_static_84), 56ull);
+    r_m4 = r_kl;
     goto l_std_lh;
 l_arm_lx_19:;
-    if (!r_ts) goto l_else_kw;
+    if (!r_ts) goto l_else_qx;
     r_ym_23 = away(a_1, 1032ull);
     r_1x_23 = away(a_1, 4ull);
     r_pv_20 = ld64(r_ym_23);
     r_m0_20 = 25ull;
-    r_w9_20 = ((u8 *)g_static_83);
+    r_w9_20 = ((u8 *)g_static_85);
 l_arm_td_20:;
     r_62_22 = away(r_w9_20, 1ull);
     r_0f_20 = (r_m0_20 + 0xffffffffffffffffull);
@@ -3116,9 +3117,9 @@ l_arm_td_20:;
     if (!(r_pv_20 > 1023ull)) { r_km_22 = r_pv_20; goto l_std_41_22; }
     u8 r_ba_23 = std_io_io_buffer_Buffer_flush(a_1);
     if (!r_ba_23) { r_m4 = 1u; goto l_std_lh; }
-    u64 r_38_27 = ld64(r_ym_23);
-    if (r_38_27 > 1023ull) { r_m4 = 1u; goto l_std_lh; }
-    r_km_22 = r_38_27;
+    u64 r_38_26 = ld64(r_ym_23);
+    if (r_38_26 > 1023ull) { r_m4 = 1u; goto l_std_lh; }
+    r_km_22 = r_38_26;
 l_std_41_22:;
     st8((r_1x_23 + (i64)(r_km_22)), r_47_23);
     u64 r_c4_23 = (r_km_22 + 1ull);
@@ -3128,17 +3129,17 @@ l_std_41_22:;
     r_m0_20 = r_0f_20;
     r_w9_20 = r_62_22;
     goto l_arm_td_20;
-l_else_kw:;
-    u8 r_p4 = core_fmt_formatter_Formatter_write_indented_bf264aed5fa78656(a_1, ((u8 *)g_static_83), 25ull);
-    r_m4 = r_p4;
+l_else_qx:;
+    u8 r_3c = core_fmt_formatter_Formatter_write_indented_bf264aed5fa78656(a_1, ((u8 *)g_static_85), 25ull);
+    r_m4 = r_3c;
     goto l_std_lh;
 l_arm_lx_20:;
-    if (!r_ts) goto l_else_w1;
+    if (!r_ts) goto l_else_5h;
     r_ym_24 = away(a_1, 1032ull);
     r_1x_24 = away(a_1, 4ull);
     r_pv_21 = ld64(r_ym_24);
     r_m0_21 = 23ull;
-    r_w9_21 = ((u8 *)g_static_84);
+    r_w9_21 = ((u8 *)g_static_86);
 l_arm_td_21:;
     r_62_23 = away(r_w9_21, 1ull);
     r_0f_21 = (r_m0_21 + 0xffffffffffffffffull);
@@ -3146,9 +3147,9 @@ l_arm_td_21:;
     if (!(r_pv_21 > 1023ull)) { r_km_23 = r_pv_21; goto l_std_41_23; }
     u8 r_ba_24 = std_io_io_buffer_Buffer_flush(a_1);
     if (!r_ba_24) { r_m4 = 1u; goto l_std_lh; }
-    u64 r_38_28 = ld64(r_ym_24);
-    if (r_38_28 > 1023ull) { r_m4 = 1u; goto l_std_lh; }
-    r_km_23 = r_38_28;
+    u64 r_38_27 = ld64(r_ym_24);
+    if (r_38_27 > 1023ull) { r_m4 = 1u; goto l_std_lh; }
+    r_km_23 = r_38_27;
 l_std_41_23:;
     st8((r_1x_24 + (i64)(r_km_23)), r_47_24);
     u64 r_c4_24 = (r_km_23 + 1ull);
@@ -3158,17 +3159,17 @@ l_std_41_23:;
     r_m0_21 = r_0f_21;
     r_w9_21 = r_62_23;
     goto l_arm_td_21;
-l_else_w1:;
-    u8 r_76 = core_fmt_formatter_Formatter_write_indented_bf264aed5fa78656(a_1, ((u8 *)g_static_84), 23ull);
-    r_m4 = r_76;
+l_else_5h:;
+    u8 r_1f = core_fmt_formatter_Formatter_write_indented_bf264aed5fa78656(a_1, ((u8 *)g_static_86), 23ull);
+    r_m4 = r_1f;
     goto l_std_lh;
 l_arm_lx_21:;
-    if (!r_ts) goto l_else_p6;
+    if (!r_ts) goto l_else_7g;
     r_ym_25 = away(a_1, 1032ull);
     r_1x_25 = away(a_1, 4ull);
     r_pv_22 = ld64(r_ym_25);
     r_m0_22 = 12ull;
-    r_w9_22 = ((u8 *)g_static_85);
+    r_w9_22 = ((u8 *)g_static_87);
 l_arm_td_22:;
     r_62_24 = away(r_w9_22, 1ull);
     r_0f_22 = (r_m0_22 + 0xffffffffffffffffull);
@@ -3176,9 +3177,9 @@ l_arm_td_22:;
     if (!(r_pv_22 > 1023ull)) { r_km_24 = r_pv_22; goto l_std_41_24; }
     u8 r_ba_25 = std_io_io_buffer_Buffer_flush(a_1);
     if (!r_ba_25) { r_m4 = 1u; goto l_std_lh; }
-    u64 r_38_29 = ld64(r_ym_25);
-    if (r_38_29 > 1023ull) { r_m4 = 1u; goto l_std_lh; }
-    r_km_24 = r_38_29;
+    u64 r_38_28 = ld64(r_ym_25);
+    if (r_38_28 > 1023ull) { r_m4 = 1u; goto l_std_lh; }
+    r_km_24 = r_38_28;
 l_std_41_24:;
     st8((r_1x_25 + (i64)(r_km_24)), r_47_25);
     u64 r_c4_25 = (r_km_24 + 1ull);
@@ -3188,17 +3189,17 @@ l_std_41_24:;
     r_m0_22 = r_0f_22;
     r_w9_22 = r_62_24;
     goto l_arm_td_22;
-l_else_p6:;
-    u8 r_ry = core_fmt_formatter_Formatter_write_indented_bf264aed5fa78656(a_1, ((u8 *)g_static_85), 12ull);
-    r_m4 = r_ry;
+l_else_7g:;
+    u8 r_qa = core_fmt_formatter_Formatter_write_indented_bf264aed5fa78656(a_1, ((u8 *)g_static_87), 12ull);
+    r_m4 = r_qa;
     goto l_std_lh;
 l_arm_lx_22:;
-    if (!r_ts) goto l_else_ao;
+    if (!r_ts) goto l_else_r7;
     r_ym_26 = away(a_1, 1032ull);
     r_1x_26 = away(a_1, 4ull);
     r_pv_23 = ld64(r_ym_26);
     r_m0_23 = 9ull;
-    r_w9_23 = ((u8 *)g_static_86);
+    r_w9_23 = ((u8 *)g_static_88);
 l_arm_td_23:;
     r_62_25 = away(r_w9_23, 1ull);
     r_0f_23 = (r_m0_23 + 0xffffffffffffffffull);
@@ -3206,9 +3207,9 @@ l_arm_td_23:;
     if (!(r_pv_23 > 1023ull)) { r_km_25 = r_pv_23; goto l_std_41_25; }
     u8 r_ba_26 = std_io_io_buffer_Buffer_flush(a_1);
     if (!r_ba_26) { r_m4 = 1u; goto l_std_lh; }
-    u64 r_38_30 = ld64(r_ym_26);
-    if (r_38_30 > 1023ull) { r_m4 = 1u; goto l_std_lh; }
-    r_km_25 = r_38_30;
+    u64 r_38_29 = ld64(r_ym_26);
+    if (r_38_29 > 1023ull) { r_m4 = 1u; goto l_std_lh; }
+    r_km_25 = r_38_29;
 l_std_41_25:;
     st8((r_1x_26 + (i64)(r_km_25)), r_47_26);
     u64 r_c4_26 = (r_km_25 + 1ull);
@@ -3218,17 +3219,17 @@ l_std_41_25:;
     r_m0_23 = r_0f_23;
     r_w9_23 = r_62_25;
     goto l_arm_td_23;
-l_else_ao:;
-    u8 r_rq = core_fmt_formatter_Formatter_write_indented_bf264aed5fa78656(a_1, ((u8 *)g_static_86), 9ull);
-    r_m4 = r_rq;
+l_else_r7:;
+    u8 r_mo = core_fmt_formatter_Formatter_write_indented_bf264aed5fa78656(a_1, ((u8 *)g_static_88), 9ull);
+    r_m4 = r_mo;
     goto l_std_lh;
 l_arm_lx_23:;
-    if (!r_ts) goto l_else_6r;
+    if (!r_ts) goto l_else_4j;
     r_ym_27 = away(a_1, 1032ull);
     r_1x_27 = away(a_1, 4ull);
     r_pv_24 = ld64(r_ym_27);
     r_m0_24 = 10ull;
-    r_w9_24 = ((u8 *)g_static_87);
+    r_w9_24 = ((u8 *)g_static_89);
 l_arm_td_24:;
     r_62_26 = away(r_w9_24, 1ull);
     r_0f_24 = (r_m0_24 + 0xffffffffffffffffull);
@@ -3236,9 +3237,9 @@ l_arm_td_24:;
     if (!(r_pv_24 > 1023ull)) { r_km_26 = r_pv_24; goto l_std_41_26; }
     u8 r_ba_27 = std_io_io_buffer_Buffer_flush(a_1);
     if (!r_ba_27) { r_m4 = 1u; goto l_std_lh; }
-    u64 r_38_31 = ld64(r_ym_27);
-    if (r_38_31 > 1023ull) { r_m4 = 1u; goto l_std_lh; }
-    r_km_26 = r_38_31;
+    u64 r_38_30 = ld64(r_ym_27);
+    if (r_38_30 > 1023ull) { r_m4 = 1u; goto l_std_lh; }
+    r_km_26 = r_38_30;
 l_std_41_26:;
     st8((r_1x_27 + (i64)(r_km_26)), r_47_27);
     u64 r_c4_27 = (r_km_26 + 1ull);
@@ -3248,17 +3249,17 @@ l_std_41_26:;
     r_m0_24 = r_0f_24;
     r_w9_24 = r_62_26;
     goto l_arm_td_24;
-l_else_6r:;
-    u8 r_82 = core_fmt_formatter_Formatter_write_indented_bf264aed5fa78656(a_1, ((u8 *)g_static_87), 10ull);
-    r_m4 = r_82;
+l_else_4j:;
+    u8 r_3i = core_fmt_formatter_Formatter_write_indented_bf264aed5fa78656(a_1, ((u8 *)g_static_89), 10ull);
+    r_m4 = r_3i;
     goto l_std_lh;
 l_arm_lx_24:;
-    if (!r_ts) goto l_else_3v;
+    if (!r_ts) goto l_else_5a;
     r_ym_28 = away(a_1, 1032ull);
     r_1x_28 = away(a_1, 4ull);
     r_pv_25 = ld64(r_ym_28);
     r_m0_25 = 16ull;
-    r_w9_25 = ((u8 *)g_static_88);
+    r_w9_25 = ((u8 *)g_static_90);
 l_arm_td_25:;
     r_62_27 = away(r_w9_25, 1ull);
     r_0f_25 = (r_m0_25 + 0xffffffffffffffffull);
@@ -3266,9 +3267,9 @@ l_arm_td_25:;
     if (!(r_pv_25 > 1023ull)) { r_km_27 = r_pv_25; goto l_std_41_27; }
     u8 r_ba_28 = std_io_io_buffer_Buffer_flush(a_1);
     if (!r_ba_28) { r_m4 = 1u; goto l_std_lh; }
-    u64 r_38_32 = ld64(r_ym_28);
-    if (r_38_32 > 1023ull) { r_m4 = 1u; goto l_std_lh; }
-    r_km_27 = r_38_32;
+    u64 r_38_31 = ld64(r_ym_28);
+    if (r_38_31 > 1023ull) { r_m4 = 1u; goto l_std_lh; }
+    r_km_27 = r_38_31;
 l_std_41_27:;
     st8((r_1x_28 + (i64)(r_km_27)), r_47_28);
     u64 r_c4_28 = (r_km_27 + 1ull);
@@ -3278,17 +3279,17 @@ l_std_41_27:;
     r_m0_25 = r_0f_25;
     r_w9_25 = r_62_27;
     goto l_arm_td_25;
-l_else_3v:;
-    u8 r_cu = core_fmt_formatter_Formatter_write_indented_bf264aed5fa78656(a_1, ((u8 *)g_static_88), 16ull);
-    r_m4 = r_cu;
+l_else_5a:;
+    u8 r_vc = core_fmt_formatter_Formatter_write_indented_bf264aed5fa78656(a_1, ((u8 *)g_static_90), 16ull);
+    r_m4 = r_vc;
     goto l_std_lh;
 l_arm_lx_25:;
-    if (!r_ts) goto l_else_zp;
+    if (!r_ts) goto l_else_rd;
     r_ym_29 = away(a_1, 1032ull);
     r_1x_29 = away(a_1, 4ull);
     r_pv_26 = ld64(r_ym_29);
     r_m0_26 = 23ull;
-    r_w9_26 = ((u8 *)g_static_89);
+    r_w9_26 = ((u8 *)g_static_91);
 l_arm_td_26:;
     r_62_28 = away(r_w9_26, 1ull);
     r_0f_26 = (r_m0_26 + 0xffffffffffffffffull);
@@ -3296,9 +3297,9 @@ l_arm_td_26:;
     if (!(r_pv_26 > 1023ull)) { r_km_28 = r_pv_26; goto l_std_41_28; }
     u8 r_ba_29 = std_io_io_buffer_Buffer_flush(a_1);
     if (!r_ba_29) { r_m4 = 1u; goto l_std_lh; }
-    u64 r_38_33 = ld64(r_ym_29);
-    if (r_38_33 > 1023ull) { r_m4 = 1u; goto l_std_lh; }
-    r_km_28 = r_38_33;
+    u64 r_38_32 = ld64(r_ym_29);
+    if (r_38_32 > 1023ull) { r_m4 = 1u; goto l_std_lh; }
+    r_km_28 = r_38_32;
 l_std_41_28:;
     st8((r_1x_29 + (i64)(r_km_28)), r_47_29);
     u64 r_c4_29 = (r_km_28 + 1ull);
@@ -3308,17 +3309,17 @@ l_std_41_28:;
     r_m0_26 = r_0f_26;
     r_w9_26 = r_62_28;
     goto l_arm_td_26;
-l_else_zp:;
-    u8 r_pp = core_fmt_formatter_Formatter_write_indented_bf264aed5fa78656(a_1, ((u8 *)g_static_89), 23ull);
-    r_m4 = r_pp;
+l_else_rd:;
+    u8 r_2u = core_fmt_formatter_Formatter_write_indented_bf264aed5fa78656(a_1, ((u8 *)g_static_91), 23ull);
+    r_m4 = r_2u;
     goto l_std_lh;
 l_arm_lx_26:;
-    if (!r_ts) goto l_else_rc;
+    if (!r_ts) goto l_else_3o;
     r_ym_30 = away(a_1, 1032ull);
     r_1x_30 = away(a_1, 4ull);
     r_pv_27 = ld64(r_ym_30);
     r_m0_27 = 14ull;
-    r_w9_27 = ((u8 *)g_static_90);
+    r_w9_27 = ((u8 *)g_static_92);
 l_arm_td_27:;
     r_62_29 = away(r_w9_27, 1ull);
     r_0f_27 = (r_m0_27 + 0xffffffffffffffffull);
@@ -3326,9 +3327,9 @@ l_arm_td_27:;
     if (!(r_pv_27 > 1023ull)) { r_km_29 = r_pv_27; goto l_std_41_29; }
     u8 r_ba_30 = std_io_io_buffer_Buffer_flush(a_1);
     if (!r_ba_30) { r_m4 = 1u; goto l_std_lh; }
-    u64 r_38_34 = ld64(r_ym_30);
-    if (r_38_34 > 1023ull) { r_m4 = 1u; goto l_std_lh; }
-    r_km_29 = r_38_34;
+    u64 r_38_33 = ld64(r_ym_30);
+    if (r_38_33 > 1023ull) { r_m4 = 1u; goto l_std_lh; }
+    r_km_29 = r_38_33;
 l_std_41_29:;
     st8((r_1x_30 + (i64)(r_km_29)), r_47_30);
     u64 r_c4_30 = (r_km_29 + 1ull);
@@ -3338,17 +3339,17 @@ l_std_41_29:;
     r_m0_27 = r_0f_27;
     r_w9_27 = r_62_29;
     goto l_arm_td_27;
-l_else_rc:;
-    u8 r_vq = core_fmt_formatter_Formatter_write_indented_bf264aed5fa78656(a_1, ((u8 *)g_static_90), 14ull);
-    r_m4 = r_vq;
+l_else_3o:;
+    u8 r_g4 = core_fmt_formatter_Formatter_write_indented_bf264aed5fa78656(a_1, ((u8 *)g_static_92), 14ull);
+    r_m4 = r_g4;
     goto l_std_lh;
 l_arm_lx_27:;
-    if (!r_ts) goto l_else_ri;
+    if (!r_ts) goto l_else_ig;
     r_ym_31 = away(a_1, 1032ull);
     r_1x_31 = away(a_1, 4ull);
     r_pv_28 = ld64(r_ym_31);
     r_m0_28 = 14ull;
-    r_w9_28 = ((u8 *)g_static_91);
+    r_w9_28 = ((u8 *)g_static_93);
 l_arm_td_28:;
     r_62_30 = away(r_w9_28, 1ull);
     r_0f_28 = (r_m0_28 + 0xffffffffffffffffull);
@@ -3356,9 +3357,9 @@ l_arm_td_28:;
     if (!(r_pv_28 > 1023ull)) { r_km_30 = r_pv_28; goto l_std_41_30; }
     u8 r_ba_31 = std_io_io_buffer_Buffer_flush(a_1);
     if (!r_ba_31) { r_m4 = 1u; goto l_std_lh; }
-    u64 r_38_35 = ld64(r_ym_31);
-    if (r_38_35 > 1023ull) { r_m4 = 1u; goto l_std_lh; }
-    r_km_30 = r_38_35;
+    u64 r_38_34 = ld64(r_ym_31);
+    if (r_38_34 > 1023ull) { r_m4 = 1u; goto l_std_lh; }
+    r_km_30 = r_38_34;
 l_std_41_30:;
     st8((r_1x_31 + (i64)(r_km_30)), r_47_31);
     u64 r_c4_31 = (r_km_30 + 1ull);
@@ -3368,17 +3369,17 @@ l_std_41_30:;
     r_m0_28 = r_0f_28;
     r_w9_28 = r_62_30;
     goto l_arm_td_28;
-l_else_ri:;
-    u8 r_wy = core_fmt_formatter_Formatter_write_indented_bf264aed5fa78656(a_1, ((u8 *)g_static_91), 14ull);
-    r_m4 = r_wy;
+l_else_ig:;
+    u8 r_r2 = core_fmt_formatter_Formatter_write_indented_bf264aed5fa78656(a_1, ((u8 *)g_static_93), 14ull);
+    r_m4 = r_r2;
     goto l_std_lh;
 l_arm_lx_28:;
-    if (!r_ts) goto l_else_41;
+    if (!r_ts) goto l_else_mt;
     r_ym_32 = away(a_1, 1032ull);
     r_1x_32 = away(a_1, 4ull);
     r_pv_29 = ld64(r_ym_32);
     r_m0_29 = 13ull;
-    r_w9_29 = ((u8 *)g_static_92);
+    r_w9_29 = ((u8 *)g_static_94);
 l_arm_td_29:;
     r_62_31 = away(r_w9_29, 1ull);
     r_0f_29 = (r_m0_29 + 0xffffffffffffffffull);
@@ -3386,9 +3387,9 @@ l_arm_td_29:;
     if (!(r_pv_29 > 1023ull)) { r_km_31 = r_pv_29; goto l_std_41_31; }
     u8 r_ba_32 = std_io_io_buffer_Buffer_flush(a_1);
     if (!r_ba_32) { r_m4 = 1u; goto l_std_lh; }
-    u64 r_38_36 = ld64(r_ym_32);
-    if (r_38_36 > 1023ull) { r_m4 = 1u; goto l_std_lh; }
-    r_km_31 = r_38_36;
+    u64 r_38_35 = ld64(r_ym_32);
+    if (r_38_35 > 1023ull) { r_m4 = 1u; goto l_std_lh; }
+    r_km_31 = r_38_35;
 l_std_41_31:;
     st8((r_1x_32 + (i64)(r_km_31)), r_47_32);
     u64 r_c4_32 = (r_km_31 + 1ull);
@@ -3398,17 +3399,17 @@ l_std_41_31:;
     r_m0_29 = r_0f_29;
     r_w9_29 = r_62_31;
     goto l_arm_td_29;
-l_else_41:;
-    u8 r_x5 = core_fmt_formatter_Formatter_write_indented_bf264aed5fa78656(a_1, ((u8 *)g_static_92), 13ull);
-    r_m4 = r_x5;
+l_else_mt:;
+    u8 r_77 = core_fmt_formatter_Formatter_write_indented_bf264aed5fa78656(a_1, ((u8 *)g_static_94), 13ull);
+    r_m4 = r_77;
     goto l_std_lh;
 l_arm_lx_29:;
-    if (!r_ts) goto l_else_ro;
+    if (!r_ts) goto l_else_2v;
     r_ym_33 = away(a_1, 1032ull);
     r_1x_33 = away(a_1, 4ull);
     r_pv_30 = ld64(r_ym_33);
     r_m0_30 = 20ull;
-    r_w9_30 = ((u8 *)g_static_93);
+    r_w9_30 = ((u8 *)g_static_95);
 l_arm_td_30:;
     r_62_32 = away(r_w9_30, 1ull);
     r_0f_30 = (r_m0_30 + 0xffffffffffffffffull);
@@ -3416,9 +3417,9 @@ l_arm_td_30:;
     if (!(r_pv_30 > 1023ull)) { r_km_32 = r_pv_30; goto l_std_41_32; }
     u8 r_ba_33 = std_io_io_buffer_Buffer_flush(a_1);
     if (!r_ba_33) { r_m4 = 1u; goto l_std_lh; }
-    u64 r_38_37 = ld64(r_ym_33);
-    if (r_38_37 > 1023ull) { r_m4 = 1u; goto l_std_lh; }
-    r_km_32 = r_38_37;
+    u64 r_38_36 = ld64(r_ym_33);
+    if (r_38_36 > 1023ull) { r_m4 = 1u; goto l_std_lh; }
+    r_km_32 = r_38_36;
 l_std_41_32:;
     st8((r_1x_33 + (i64)(r_km_32)), r_47_33);
     u64 r_c4_33 = (r_km_32 + 1ull);
@@ -3428,17 +3429,17 @@ l_std_41_32:;
     r_m0_30 = r_0f_30;
     r_w9_30 = r_62_32;
     goto l_arm_td_30;
-l_else_ro:;
-    u8 r_al = core_fmt_formatter_Formatter_write_indented_bf264aed5fa78656(a_1, ((u8 *)g_static_93), 20ull);
-    r_m4 = r_al;
+l_else_2v:;
+    u8 r_w4 = core_fmt_formatter_Formatter_write_indented_bf264aed5fa78656(a_1, ((u8 *)g_static_95), 20ull);
+    r_m4 = r_w4;
     goto l_std_lh;
 l_arm_lx_30:;
-    if (!r_ts) goto l_else_p2;
+    if (!r_ts) goto l_else_if;
     r_ym_34 = away(a_1, 1032ull);
     r_1x_34 = away(a_1, 4ull);
     r_pv_31 = ld64(r_ym_34);
     r_m0_31 = 8ull;
-    r_w9_31 = ((u8 *)g_static_94);
+    r_w9_31 = ((u8 *)g_static_96);
 l_arm_td_31:;
     r_62_33 = away(r_w9_31, 1ull);
     r_0f_31 = (r_m0_31 + 0xffffffffffffffffull);
@@ -3446,9 +3447,9 @@ l_arm_td_31:;
     if (!(r_pv_31 > 1023ull)) { r_km_33 = r_pv_31; goto l_std_41_33; }
     u8 r_ba_34 = std_io_io_buffer_Buffer_flush(a_1);
     if (!r_ba_34) { r_m4 = 1u; goto l_std_lh; }
-    u64 r_38_38 = ld64(r_ym_34);
-    if (r_38_38 > 1023ull) { r_m4 = 1u; goto l_std_lh; }
-    r_km_33 = r_38_38;
+    u64 r_38_37 = ld64(r_ym_34);
+    if (r_38_37 > 1023ull) { r_m4 = 1u; goto l_std_lh; }
+    r_km_33 = r_38_37;
 l_std_41_33:;
     st8((r_1x_34 + (i64)(r_km_33)), r_47_34);
     u64 r_c4_34 = (r_km_33 + 1ull);
@@ -3458,17 +3459,17 @@ l_std_41_33:;
     r_m0_31 = r_0f_31;
     r_w9_31 = r_62_33;
     goto l_arm_td_31;
-l_else_p2:;
-    u8 r_pb = core_fmt_formatter_Formatter_write_indented_bf264aed5fa78656(a_1, ((u8 *)g_static_94), 8ull);
-    r_m4 = r_pb;
+l_else_if:;
+    u8 r_88 = core_fmt_formatter_Formatter_write_indented_bf264aed5fa78656(a_1, ((u8 *)g_static_96), 8ull);
+    r_m4 = r_88;
     goto l_std_lh;
 l_arm_lx_31:;
-    if (!r_ts) goto l_else_vk;
+    if (!r_ts) goto l_else_n8;
     r_ym_35 = away(a_1, 1032ull);
     r_1x_35 = away(a_1, 4ull);
     r_pv_32 = ld64(r_ym_35);
     r_m0_32 = 27ull;
-    r_w9_32 = ((u8 *)g_static_95);
+    r_w9_32 = ((u8 *)g_static_97);
 l_arm_td_32:;
     r_62_34 = away(r_w9_32, 1ull);
     r_0f_32 = (r_m0_32 + 0xffffffffffffffffull);
@@ -3476,9 +3477,9 @@ l_arm_td_32:;
     if (!(r_pv_32 > 1023ull)) { r_km_34 = r_pv_32; goto l_std_41_34; }
     u8 r_ba_35 = std_io_io_buffer_Buffer_flush(a_1);
     if (!r_ba_35) { r_m4 = 1u; goto l_std_lh; }
-    u64 r_38_39 = ld64(r_ym_35);
-    if (r_38_39 > 1023ull) { r_m4 = 1u; goto l_std_lh; }
-    r_km_34 = r_38_39;
+    u64 r_38_38 = ld64(r_ym_35);
+    if (r_38_38 > 1023ull) { r_m4 = 1u; goto l_std_lh; }
+    r_km_34 = r_38_38;
 l_std_41_34:;
     st8((r_1x_35 + (i64)(r_km_34)), r_47_35);
     u64 r_c4_35 = (r_km_34 + 1ull);
@@ -3488,17 +3489,17 @@ l_std_41_34:;
     r_m0_32 = r_0f_32;
     r_w9_32 = r_62_34;
     goto l_arm_td_32;
-l_else_vk:;
-    u8 r_25 = core_fmt_formatter_Formatter_write_indented_bf264aed5fa78656(a_1, ((u8 *)g_static_95), 27ull);
-    r_m4 = r_25;
+l_else_n8:;
+    u8 r_xi = core_fmt_formatter_Formatter_write_indented_bf264aed5fa78656(a_1, ((u8 *)g_static_97), 27ull);
+    r_m4 = r_xi;
     goto l_std_lh;
 l_arm_lx_32:;
-    if (!r_ts) goto l_else_ft;
+    if (!r_ts) goto l_else_xb;
     r_ym_36 = away(a_1, 1032ull);
     r_1x_36 = away(a_1, 4ull);
     r_pv_33 = ld64(r_ym_36);
     r_m0_33 = 14ull;
-    r_w9_33 = ((u8 *)g_static_96);
+    r_w9_33 = ((u8 *)g_static_98);
 l_arm_td_33:;
     r_62_35 = away(r_w9_33, 1ull);
     r_0f_33 = (r_m0_33 + 0xffffffffffffffffull);
@@ -3506,9 +3507,9 @@ l_arm_td_33:;
     if (!(r_pv_33 > 1023ull)) { r_km_35 = r_pv_33; goto l_std_41_35; }
     u8 r_ba_36 = std_io_io_buffer_Buffer_flush(a_1);
     if (!r_ba_36) { r_m4 = 1u; goto l_std_lh; }
-    u64 r_38_40 = ld64(r_ym_36);
-    if (r_38_40 > 1023ull) { r_m4 = 1u; goto l_std_lh; }
-    r_km_35 = r_38_40;
+    u64 r_38_39 = ld64(r_ym_36);
+    if (r_38_39 > 1023ull) { r_m4 = 1u; goto l_std_lh; }
+    r_km_35 = r_38_39;
 l_std_41_35:;
     st8((r_1x_36 + (i64)(r_km_35)), r_47_36);
     u64 r_c4_36 = (r_km_35 + 1ull);
@@ -3518,17 +3519,17 @@ l_std_41_35:;
     r_m0_33 = r_0f_33;
     r_w9_33 = r_62_35;
     goto l_arm_td_33;
-l_else_ft:;
-    u8 r_bt = core_fmt_formatter_Formatter_write_indented_bf264aed5fa78656(a_1, ((u8 *)g_static_96), 14ull);
-    r_m4 = r_bt;
+l_else_xb:;
+    u8 r_7n = core_fmt_formatter_Formatter_write_indented_bf264aed5fa78656(a_1, ((u8 *)g_static_98), 14ull);
+    r_m4 = r_7n;
     goto l_std_lh;
 l_arm_lx_33:;
-    if (!r_ts) goto l_else_2x;
+    if (!r_ts) goto l_else_3j;
     r_ym_37 = away(a_1, 1032ull);
     r_1x_37 = away(a_1, 4ull);
     r_pv_34 = ld64(r_ym_37);
     r_m0_34 = 16ull;
-    r_w9_34 = ((u8 *)g_static_97);
+    r_w9_34 = ((u8 *)g_static_99);
 l_arm_td_34:;
     r_62_36 = away(r_w9_34, 1ull);
     r_0f_34 = (r_m0_34 + 0xffffffffffffffffull);
@@ -3536,9 +3537,9 @@ l_arm_td_34:;
     if (!(r_pv_34 > 1023ull)) { r_km_36 = r_pv_34; goto l_std_41_36; }
     u8 r_ba_37 = std_io_io_buffer_Buffer_flush(a_1);
     if (!r_ba_37) { r_m4 = 1u; goto l_std_lh; }
-    u64 r_38_41 = ld64(r_ym_37);
-    if (r_38_41 > 1023ull) { r_m4 = 1u; goto l_std_lh; }
-    r_km_36 = r_38_41;
+    u64 r_38_40 = ld64(r_ym_37);
+    if (r_38_40 > 1023ull) { r_m4 = 1u; goto l_std_lh; }
+    r_km_36 = r_38_40;
 l_std_41_36:;
     st8((r_1x_37 + (i64)(r_km_36)), r_47_37);
     u64 r_c4_37 = (r_km_36 + 1ull);
@@ -3548,17 +3549,17 @@ l_std_41_36:;
     r_m0_34 = r_0f_34;
     r_w9_34 = r_62_36;
     goto l_arm_td_34;
-l_else_2x:;
-    u8 r_tt = core_fmt_formatter_Formatter_write_indented_bf264aed5fa78656(a_1, ((u8 *)g_static_97), 16ull);
-    r_m4 = r_tt;
+l_else_3j:;
+    u8 r_vl = core_fmt_formatter_Formatter_write_indented_bf264aed5fa78656(a_1, ((u8 *)g_static_99), 16ull);
+    r_m4 = r_vl;
     goto l_std_lh;
 l_arm_lx_34:;
-    if (!r_ts) goto l_else_de;
+    if (!r_ts) goto l_else_gt;
     r_ym_38 = away(a_1, 1032ull);
     r_1x_38 = away(a_1, 4ull);
     r_pv_35 = ld64(r_ym_38);
     r_m0_35 = 22ull;
-    r_w9_35 = ((u8 *)g_static_98);
+    r_w9_35 = ((u8 *)g_static_100);
 l_arm_td_35:;
     r_62_37 = away(r_w9_35, 1ull);
     r_0f_35 = (r_m0_35 + 0xffffffffffffffffull);
@@ -3566,9 +3567,9 @@ l_arm_td_35:;
     if (!(r_pv_35 > 1023ull)) { r_km_37 = r_pv_35; goto l_std_41_37; }
     u8 r_ba_38 = std_io_io_buffer_Buffer_flush(a_1);
     if (!r_ba_38) { r_m4 = 1u; goto l_std_lh; }
-    u64 r_38_42 = ld64(r_ym_38);
-    if (r_38_42 > 1023ull) { r_m4 = 1u; goto l_std_lh; }
-    r_km_37 = r_38_42;
+    u64 r_38_41 = ld64(r_ym_38);
+    if (r_38_41 > 1023ull) { r_m4 = 1u; goto l_std_lh; }
+    r_km_37 = r_38_41;
 l_std_41_37:;
     st8((r_1x_38 + (i64)(r_km_37)), r_47_38);
     u64 r_c4_38 = (r_km_37 + 1ull);
@@ -3578,17 +3579,17 @@ l_std_41_37:;
     r_m0_35 = r_0f_35;
     r_w9_35 = r_62_37;
     goto l_arm_td_35;
-l_else_de:;
-    u8 r_8j = core_fmt_formatter_Formatter_write_indented_bf264aed5fa78656(a_1, ((u8 *)g_static_98), 22ull);
-    r_m4 = r_8j;
+l_else_gt:;
+    u8 r_hs = core_fmt_formatter_Formatter_write_indented_bf264aed5fa78656(a_1, ((u8 *)g_static_100), 22ull);
+    r_m4 = r_hs;
     goto l_std_lh;
 l_arm_lx_35:;
-    if (!r_ts) goto l_else_uc;
+    if (!r_ts) goto l_else_je;
     r_ym_39 = away(a_1, 1032ull);
     r_1x_39 = away(a_1, 4ull);
     r_pv_36 = ld64(r_ym_39);
     r_m0_36 = 21ull;
-    r_w9_36 = ((u8 *)g_static_99);
+    r_w9_36 = ((u8 *)g_static_101);
 l_arm_td_36:;
     r_62_38 = away(r_w9_36, 1ull);
     r_0f_36 = (r_m0_36 + 0xffffffffffffffffull);
@@ -3596,9 +3597,9 @@ l_arm_td_36:;
     if (!(r_pv_36 > 1023ull)) { r_km_38 = r_pv_36; goto l_std_41_38; }
     u8 r_ba_39 = std_io_io_buffer_Buffer_flush(a_1);
     if (!r_ba_39) { r_m4 = 1u; goto l_std_lh; }
-    u64 r_38_43 = ld64(r_ym_39);
-    if (r_38_43 > 1023ull) { r_m4 = 1u; goto l_std_lh; }
-    r_km_38 = r_38_43;
+    u64 r_38_42 = ld64(r_ym_39);
+    if (r_38_42 > 1023ull) { r_m4 = 1u; goto l_std_lh; }
+    r_km_38 = r_38_42;
 l_std_41_38:;
     st8((r_1x_39 + (i64)(r_km_38)), r_47_39);
     u64 r_c4_39 = (r_km_38 + 1ull);
@@ -3608,17 +3609,17 @@ l_std_41_38:;
     r_m0_36 = r_0f_36;
     r_w9_36 = r_62_38;
     goto l_arm_td_36;
-l_else_uc:;
-    u8 r_ok = core_fmt_formatter_Formatter_write_indented_bf264aed5fa78656(a_1, ((u8 *)g_static_99), 21ull);
-    r_m4 = r_ok;
+l_else_je:;
+    u8 r_l9 = core_fmt_formatter_Formatter_write_indented_bf264aed5fa78656(a_1, ((u8 *)g_static_101), 21ull);
+    r_m4 = r_l9;
     goto l_std_lh;
 l_arm_lx_36:;
-    if (!r_ts) goto l_else_uj;
+    if (!r_ts) goto l_else_8h;
     r_ym_40 = away(a_1, 1032ull);
     r_1x_40 = away(a_1, 4ull);
     r_pv_37 = ld64(r_ym_40);
     r_m0_37 = 11ull;
-    r_w9_37 = ((u8 *)g_static_100);
+    r_w9_37 = ((u8 *)g_static_102);
 l_arm_td_37:;
     r_62_39 = away(r_w9_37, 1ull);
     r_0f_37 = (r_m0_37 + 0xffffffffffffffffull);
@@ -3626,9 +3627,9 @@ l_arm_td_37:;
     if (!(r_pv_37 > 1023ull)) { r_km_39 = r_pv_37; goto l_std_41_39; }
     u8 r_ba_40 = std_io_io_buffer_Buffer_flush(a_1);
     if (!r_ba_40) { r_m4 = 1u; goto l_std_lh; }
-    u64 r_38_44 = ld64(r_ym_40);
-    if (r_38_44 > 1023ull) { r_m4 = 1u; goto l_std_lh; }
-    r_km_39 = r_38_44;
+    u64 r_38_43 = ld64(r_ym_40);
+    if (r_38_43 > 1023ull) { r_m4 = 1u; goto l_std_lh; }
+    r_km_39 = r_38_43;
 l_std_41_39:;
     st8((r_1x_40 + (i64)(r_km_39)), r_47_40);
     u64 r_c4_40 = (r_km_39 + 1ull);
@@ -3638,17 +3639,17 @@ l_std_41_39:;
     r_m0_37 = r_0f_37;
     r_w9_37 = r_62_39;
     goto l_arm_td_37;
-l_else_uj:;
-    u8 r_jz = core_fmt_formatter_Formatter_write_indented_bf264aed5fa78656(a_1, ((u8 *)g_static_100), 11ull);
-    r_m4 = r_jz;
+l_else_8h:;
+    u8 r_mt = core_fmt_formatter_Formatter_write_indented_bf264aed5fa78656(a_1, ((u8 *)g_static_102), 11ull);
+    r_m4 = r_mt;
     goto l_std_lh;
 l_arm_lx_37:;
-    if (!r_ts) goto l_else_sp;
+    if (!r_ts) goto l_else_0k;
     r_ym_41 = away(a_1, 1032ull);
     r_1x_41 = away(a_1, 4ull);
     r_pv_38 = ld64(r_ym_41);
     r_m0_38 = 22ull;
-    r_w9_38 = ((u8 *)g_static_101);
+    r_w9_38 = ((u8 *)g_static_103);
 l_arm_td_38:;
     r_62_40 = away(r_w9_38, 1ull);
     r_0f_38 = (r_m0_38 + 0xffffffffffffffffull);
@@ -3656,9 +3657,9 @@ l_arm_td_38:;
     if (!(r_pv_38 > 1023ull)) { r_km_40 = r_pv_38; goto l_std_41_40; }
     u8 r_ba_41 = std_io_io_buffer_Buffer_flush(a_1);
     if (!r_ba_41) { r_m4 = 1u; goto l_std_lh; }
-    u64 r_38_45 = ld64(r_ym_41);
-    if (r_38_45 > 1023ull) { r_m4 = 1u; goto l_std_lh; }
-    r_km_40 = r_38_45;
+    u64 r_38_44 = ld64(r_ym_41);
+    if (r_38_44 > 1023ull) { r_m4 = 1u; goto l_std_lh; }
+    r_km_40 = r_38_44;
 l_std_41_40:;
     st8((r_1x_41 + (i64)(r_km_40)), r_47_41);
     u64 r_c4_41 = (r_km_40 + 1ull);
@@ -3668,17 +3669,17 @@ l_std_41_40:;
     r_m0_38 = r_0f_38;
     r_w9_38 = r_62_40;
     goto l_arm_td_38;
-l_else_sp:;
-    u8 r_k2 = core_fmt_formatter_Formatter_write_indented_bf264aed5fa78656(a_1, ((u8 *)g_static_101), 22ull);
-    r_m4 = r_k2;
+l_else_0k:;
+    u8 r_6l = core_fmt_formatter_Formatter_write_indented_bf264aed5fa78656(a_1, ((u8 *)g_static_103), 22ull);
+    r_m4 = r_6l;
     goto l_std_lh;
 l_arm_lx_38:;
-    if (!r_ts) goto l_else_6s;
+    if (!r_ts) goto l_else_tf;
     r_ym_42 = away(a_1, 1032ull);
     r_1x_42 = away(a_1, 4ull);
     r_pv_39 = ld64(r_ym_42);
     r_m0_39 = 13ull;
-    r_w9_39 = ((u8 *)g_static_102);
+    r_w9_39 = ((u8 *)g_static_104);
 l_arm_td_39:;
     r_62_41 = away(r_w9_39, 1ull);
     r_0f_39 = (r_m0_39 + 0xffffffffffffffffull);
@@ -3686,9 +3687,9 @@ l_arm_td_39:;
     if (!(r_pv_39 > 1023ull)) { r_km_41 = r_pv_39; goto l_std_41_41; }
     u8 r_ba_42 = std_io_io_buffer_Buffer_flush(a_1);
     if (!r_ba_42) { r_m4 = 1u; goto l_std_lh; }
-    u64 r_38_46 = ld64(r_ym_42);
-    if (r_38_46 > 1023ull) { r_m4 = 1u; goto l_std_lh; }
-    r_km_41 = r_38_46;
+    u64 r_38_45 = ld64(r_ym_42);
+    if (r_38_45 > 1023ull) { r_m4 = 1u; goto l_std_lh; }
+    r_km_41 = r_38_45;
 l_std_41_41:;
     st8((r_1x_42 + (i64)(r_km_41)), r_47_42);
     u64 r_c4_42 = (r_km_41 + 1ull);
@@ -3698,17 +3699,17 @@ l_std_41_41:;
     r_m0_39 = r_0f_39;
     r_w9_39 = r_62_41;
     goto l_arm_td_39;
-l_else_6s:;
-    u8 r_fg = core_fmt_formatter_Formatter_write_indented_bf264aed5fa78656(a_1, ((u8 *)g_static_102), 13ull);
-    r_m4 = r_fg;
+l_else_tf:;
+    u8 r_ol = core_fmt_formatter_Formatter_write_indented_bf264aed5fa78656(a_1, ((u8 *)g_static_104), 13ull);
+    r_m4 = r_ol;
     goto l_std_lh;
 l_arm_lx_39:;
-    if (!r_ts) goto l_else_6y;
+    if (!r_ts) goto l_else_pn;
     r_ym_43 = away(a_1, 1032ull);
     r_1x_43 = away(a_1, 4ull);
     r_pv_40 = ld64(r_ym_43);
     r_m0_40 = 11ull;
-    r_w9_40 = ((u8 *)g_static_103);
+    r_w9_40 = ((u8 *)g_static_105);
 l_arm_td_40:;
     r_62_42 = away(r_w9_40, 1ull);
     r_0f_40 = (r_m0_40 + 0xffffffffffffffffull);
@@ -3716,9 +3717,9 @@ l_arm_td_40:;
     if (!(r_pv_40 > 1023ull)) { r_km_42 = r_pv_40; goto l_std_41_42; }
     u8 r_ba_43 = std_io_io_buffer_Buffer_flush(a_1);
     if (!r_ba_43) { r_m4 = 1u; goto l_std_lh; }
-    u64 r_38_47 = ld64(r_ym_43);
-    if (r_38_47 > 1023ull) { r_m4 = 1u; goto l_std_lh; }
-    r_km_42 = r_38_47;
+    u64 r_38_46 = ld64(r_ym_43);
+    if (r_38_46 > 1023ull) { r_m4 = 1u; goto l_std_lh; }
+    r_km_42 = r_38_46;
 l_std_41_42:;
     st8((r_1x_43 + (i64)(r_km_42)), r_47_43);
     u64 r_c4_43 = (r_km_42 + 1ull);
@@ -3728,17 +3729,17 @@ l_std_41_42:;
     r_m0_40 = r_0f_40;
     r_w9_40 = r_62_42;
     goto l_arm_td_40;
-l_else_6y:;
-    u8 r_3x = core_fmt_formatter_Formatter_write_indented_bf264aed5fa78656(a_1, ((u8 *)g_static_103), 11ull);
-    r_m4 = r_3x;
+l_else_pn:;
+    u8 r_z2 = core_fmt_formatter_Formatter_write_indented_bf264aed5fa78656(a_1, ((u8 *)g_static_105), 11ull);
+    r_m4 = r_z2;
     goto l_std_lh;
 l_arm_lx_40:;
-    if (!r_ts) goto l_else_ed;
+    if (!r_ts) goto l_else_p5;
     r_ym_44 = away(a_1, 1032ull);
     r_1x_44 = away(a_1, 4ull);
     r_pv_41 = ld64(r_ym_44);
     r_m0_41 = 11ull;
-    r_w9_41 = ((u8 *)g_static_104);
+    r_w9_41 = ((u8 *)g_static_106);
 l_arm_td_41:;
     r_62_43 = away(r_w9_41, 1ull);
     r_0f_41 = (r_m0_41 + 0xffffffffffffffffull);
@@ -3746,9 +3747,9 @@ l_arm_td_41:;
     if (!(r_pv_41 > 1023ull)) { r_km_43 = r_pv_41; goto l_std_41_43; }
     u8 r_ba_44 = std_io_io_buffer_Buffer_flush(a_1);
     if (!r_ba_44) { r_m4 = 1u; goto l_std_lh; }
-    u64 r_38_48 = ld64(r_ym_44);
-    if (r_38_48 > 1023ull) { r_m4 = 1u; goto l_std_lh; }
-    r_km_43 = r_38_48;
+    u64 r_38_47 = ld64(r_ym_44);
+    if (r_38_47 > 1023ull) { r_m4 = 1u; goto l_std_lh; }
+    r_km_43 = r_38_47;
 l_std_41_43:;
     st8((r_1x_44 + (i64)(r_km_43)), r_47_44);
     u64 r_c4_44 = (r_km_43 + 1ull);
@@ -3758,18 +3759,18 @@ l_std_41_43:;
     r_m0_41 = r_0f_41;
     r_w9_41 = r_62_43;
     goto l_arm_td_41;
-l_else_ed:;
-    u8 r_5b = core_fmt_formatter_Formatter_write_indented_bf264aed5fa78656(a_1, ((u8 *)g_static_104), 11ull);
-    r_m4 = r_5b;
+l_else_p5:;
+    u8 r_vb = core_fmt_formatter_Formatter_write_indented_bf264aed5fa78656(a_1, ((u8 *)g_static_106), 11ull);
+    r_m4 = r_vb;
     goto l_std_lh;
 l_arm_lx_41:;
-    if (!r_ts) goto l_else_zk;
+    if (!r_ts) goto l_else_p1;
 l_then_je:;
     r_ym_45 = away(a_1, 1032ull);
     r_1x_45 = away(a_1, 4ull);
     r_pv_42 = ld64(r_ym_45);
     r_m0_42 = 19ull;
-    r_w9_42 = ((u8 *)g_static_105);
+    r_w9_42 = ((u8 *)g_static_107);
 l_arm_td_42:;
     r_62_44 = away(r_w9_42, 1ull);
     r_0f_42 = (r_m0_42 + 0xffffffffffffffffull);
@@ -3777,9 +3778,9 @@ l_arm_td_42:;
     if (!(r_pv_42 > 1023ull)) { r_km_44 = r_pv_42; goto l_std_41_44; }
     u8 r_ba_45 = std_io_io_buffer_Buffer_flush(a_1);
     if (!r_ba_45) { r_m4 = 1u; goto l_std_lh; }
-    u64 r_38_49 = ld64(r_ym_45);
-    if (r_38_49 > 1023ull) { r_m4 = 1u; goto l_std_lh; }
-    r_km_44 = r_38_49;
+    u64 r_38_48 = ld64(r_ym_45);
+    if (r_38_48 > 1023ull) { r_m4 = 1u; goto l_std_lh; }
+    r_km_44 = r_38_48;
 l_std_41_44:;
     st8((r_1x_45 + (i64)(r_km_44)), r_47_45);
     u64 r_c4_45 = (r_km_44 + 1ull);
@@ -3789,9 +3790,9 @@ l_std_41_44:;
     r_m0_42 = r_0f_42;
     r_w9_42 = r_62_44;
     goto l_arm_td_42;
-l_else_zk:;
-    u8 r_wx = core_fmt_formatter_Formatter_write_indented_bf264aed5fa78656(a_1, ((u8 *)g_static_105), 19ull);
-    r_m4 = r_wx;
+l_else_p1:;
+    u8 r_6d = core_fmt_formatter_Formatter_write_indented_bf264aed5fa78656(a_1, ((u8 *)g_static_107), 19ull);
+    r_m4 = r_6d;
     goto l_std_lh;
 l_noarm_e1:;
     UNREACHABLE();
@@ -3804,7 +3805,7 @@ l_default_5w:;
     r_1x_46 = away(a_1, 4ull);
     r_9w_2 = ld64(r_ym_46);
     r_uj_2 = r_38;
-    r_35_2 = r_uw;
+    r_35_2 = r_ty;
 l_arm_65_2:;
     r_62_45 = away(r_35_2, 1ull);
     r_zn_3 = (r_uj_2 + 0xffffffffffffffffull);
@@ -3812,9 +3813,9 @@ l_arm_65_2:;
     if (!(r_9w_2 > 1023ull)) { r_km_45 = r_9w_2; goto l_std_41_45; }
     u8 r_ba_46 = std_io_io_buffer_Buffer_flush(a_1);
     if (!r_ba_46) { r_m4 = 1u; goto l_std_lh; }
-    u64 r_38_50 = ld64(r_ym_46);
-    if (r_38_50 > 1023ull) { r_m4 = 1u; goto l_std_lh; }
-    r_km_45 = r_38_50;
+    u64 r_38_49 = ld64(r_ym_46);
+    if (r_38_49 > 1023ull) { r_m4 = 1u; goto l_std_lh; }
+    r_km_45 = r_38_49;
 l_std_41_45:;
     st8((r_1x_46 + (i64)(r_km_45)), r_47_46);
     u64 r_c4_46 = (r_km_45 + 1ull);
@@ -3825,11 +3826,11 @@ l_std_41_45:;
     r_35_2 = r_62_45;
     goto l_arm_65_2;
 l_else_xg:;
-    u8 r_q3_2 = core_fmt_formatter_Formatter_write_indented_bf264aed5fa78656(a_1, r_uw, r_vj);
+    u8 r_q3_2 = core_fmt_formatter_Formatter_write_indented_bf264aed5fa78656(a_1, r_ty, r_vj);
     r_m4 = r_q3_2;
     goto l_std_lh;
 l_after_03:;
-    u8 r_rr = core_fmt_formatter_Formatter_cut_and_fill_bf264aed5fa78656(a_1, r_uw, r_vj);
+    u8 r_rr = core_fmt_formatter_Formatter_cut_and_fill_bf264aed5fa78656(a_1, r_ty, r_vj);
     r_m4 = r_rr;
 l_std_lh:;
     return r_m4;
@@ -4455,6 +4456,441 @@ l_std_jl:;
     return;
 }
 
+/* core::fmt::formatter::Formatter::write_piece::<#27b95e09ebc76fa9> */
+u8 core_fmt_formatter_Formatter_write_piece_27b95e09ebc76fa9(u8 *a_1, u8 *a_2)
+{
+    A(1) u8 slot_1[24];
+    u64 r_10;
+    u64 r_hc;
+    u64 r_zp;
+    u64 r_c0;
+    u8 r_qb_1;
+    u64 common_h4;
+    u8 *t_5f;
+    u64 r_pu;
+    u8 *r_tr;
+    u64 r_52_1;
+    u8 r_m4;
+    st32(away(a_1, 136ull), 32u);
+    memset(away(a_1, 140ull), 0u, 12);
+    st64(away(a_1, 152ull), 0xffffffffffffffffull);
+    u64 r_52 = ld64(ldp(a_2));
+    memset(slot_1, 0u, 24);
+    if (r_52 > 99ull) { r_10 = 24ull; r_hc = r_52; goto l_join_rc; }
+    r_zp = r_52;
+    r_c0 = 24ull;
+    goto l_after_6x;
+l_join_rc:;
+    u8 r_qb = (u8)(r_hc % 100ull);
+    u8 *t_2b = away(slot_1, r_10);
+    st8(away(t_2b, 0xffffffffffffffffull), (u8)((u8)(r_qb % 10u) | 48u));
+    st8(away(t_2b, 0xfffffffffffffffeull), (u8)((u8)(r_qb / 10u) | 48u));
+    u64 r_kj = (r_hc / 100ull);
+    u64 r_50 = (r_10 + 0xfffffffffffffffeull);
+    if (r_hc > 9999ull) { r_10 = r_50; r_hc = r_kj; goto l_join_rc; }
+    r_zp = r_kj;
+    r_c0 = r_50;
+l_after_6x:;
+    r_qb_1 = (u8)r_zp;
+    if (!(r_zp > 9ull)) goto l_join_qo;
+    u8 *t_2b_1 = away(slot_1, r_c0);
+    st8(away(t_2b_1, 0xffffffffffffffffull), (u8)((u8)(r_qb_1 % 10u) | 48u));
+    st8(away(t_2b_1, 0xfffffffffffffffeull), (u8)((u8)(r_qb_1 / 10u) | 48u));
+    common_h4 = (r_c0 + 0xfffffffffffffffeull);
+    goto l_core_f9;
+l_join_qo:;
+    u64 r_zn = (r_c0 + 0xffffffffffffffffull);
+    st8((slot_1 + (i64)(r_zn)), (u8)(r_qb_1 | 48u));
+    common_h4 = r_zn;
+l_core_f9:;
+    t_5f = away(slot_1, common_h4);
+    st8(away(t_5f, 0xffffffffffffffffull), 45u);
+    r_pu = (24ull - common_h4);
+    if (!(ld64(away(a_1, 160ull)) == 0ull)) goto l_else_5d;
+    if ((u8)(ld8(away(a_1, 128ull)) & 1)) { r_m4 = 1u; goto l_core_lh; }
+    r_tr = away(a_1, 120ull);
+    r_52_1 = ld64(r_tr);
+    if (r_52_1 > 120ull) { r_m4 = 1u; goto l_core_lh; }
+    if (r_pu > (120ull - r_52_1)) goto l_join_uo;
+    memcpy_or_none(away(a_1, r_52_1), t_5f, r_pu);
+    st64(r_tr, (r_52_1 + r_pu));
+    r_m4 = 0u;
+    goto l_core_lh;
+l_join_uo:;
+    core_fmt_inline_InlineText_cut_at_capacity_120(a_1, t_5f, r_pu);
+    r_m4 = 1u;
+    goto l_core_lh;
+l_else_5d:;
+    u8 r_zy = core_fmt_formatter_Formatter_write_indented_e28d62ad0fc89b16(a_1, t_5f, r_pu);
+    r_m4 = r_zy;
+l_core_lh:;
+    return r_m4;
+}
+
+/* core::fmt::formatter::Formatter::write_indented::<#e28d62ad0fc89b16> */
+NEVER COLD u8 core_fmt_formatter_Formatter_write_indented_e28d62ad0fc89b16(u8 *a_1, u8 *a_2, u64 a_3)
+{
+    u64 r_4q;
+    u64 r_11;
+    u64 r_36;
+    u64 r_9y;
+    u64 r_c4;
+    u8 r_fk;
+    if (a_3 == 0ull) { r_c4 = 0ull; goto l_after_xu; }
+    r_4q = 0ull;
+    r_11 = 0ull;
+l_core_q2:;
+    r_36 = (r_11 + 1ull);
+    if (!(ld8((a_2 + (i64)(r_11))) == 10u)) { r_9y = r_4q; goto l_join_lk; }
+    u8 r_4m = core_fmt_formatter_Formatter_write_indented_line_e28d6_00a95c6c(a_1, away(a_2, ((r_4q > r_36) ? 0ull : r_4q)), usub_sat64(r_36, r_4q), 1u);
+    if ((u8)(r_4m & 1)) { r_fk = 1u; goto l_return_ri; }
+    r_9y = r_36;
+l_join_lk:;
+    if (r_36 == a_3) { r_c4 = r_9y; goto l_after_xu; }
+    r_4q = r_9y;
+    r_11 = r_36;
+    goto l_core_q2;
+l_after_xu:;
+    u8 r_sl = core_fmt_formatter_Formatter_write_indented_line_e28d6_00a95c6c(a_1, away(a_2, ((r_c4 > a_3) ? 0ull : r_c4)), usub_sat64(a_3, r_c4), 0u);
+    r_fk = r_sl;
+l_return_ri:;
+    return r_fk;
+}
+
+/* core::fmt::formatter::Formatter::write_indented_line::<#e28d62ad0fc89b16> */
+static u8 core_fmt_formatter_Formatter_write_indented_line_e28d6_00a95c6c(u8 *a_1, u8 *a_2, u64 a_3, u8 a_4)
+{
+    u8 *r_yg;
+    u64 r_52;
+    u8 *r_3m;
+    u8 *r_tr;
+    u64 r_zj;
+    u64 r_52_1;
+    u8 *r_tr_1;
+    u64 r_52_2;
+    u8 *r_8z;
+    u64 r_31;
+    u8 r_fk;
+    if (a_3 == 0ull) { r_fk = 0u; goto l_return_ri; }
+    r_yg = away(a_1, 168ull);
+    if (!(u8)(ld8(r_yg) & 1)) goto l_arm_an;
+    r_52 = ld64(away(a_1, 160ull));
+    if (r_52 == 0ull) goto l_arm_an;
+    r_3m = away(a_1, 128ull);
+    r_tr = away(a_1, 120ull);
+    r_zj = 0ull;
+l_join_1c:;
+    if ((u8)(ld8(r_3m) & 1)) { r_fk = 1u; goto l_return_ri; }
+    r_52_1 = ld64(r_tr);
+    if (r_52_1 > 120ull) { r_fk = 1u; goto l_return_ri; }
+    if (r_52_1 > 116ull) goto l_join_8u;
+    st32(away(a_1, r_52_1), 0x20202020u);
+    st64(r_tr, (r_52_1 + 4ull));
+    u64 r_36 = (r_zj + 1ull);
+    if (r_36 == r_52) goto l_arm_an;
+    r_zj = r_36;
+    goto l_join_1c;
+l_join_8u:;
+    core_fmt_inline_InlineText_cut_at_capacity_120(a_1, ((u8 *)g_static_9), 4ull);
+    r_fk = 1u;
+    goto l_return_ri;
+l_arm_an:;
+    st8(r_yg, (u8)a_4);
+    u8 r_ne = core_fmt_utf8_is_utf8(a_2, a_3);
+    if (!r_ne) { r_fk = 1u; goto l_return_ri; }
+    if ((u8)(ld8(away(a_1, 128ull)) & 1)) { r_fk = 1u; goto l_return_ri; }
+    r_tr_1 = away(a_1, 120ull);
+    r_52_2 = ld64(r_tr_1);
+    if (r_52_2 > 120ull) { r_fk = 1u; goto l_return_ri; }
+    if (a_3 > (120ull - r_52_2)) goto l_join_8t;
+    r_8z = away(a_1, r_52_2);
+    if (((u64)(uptr)r_8z - (u64)(uptr)a_2) < a_3) { r_31 = 0ull; goto l_join_sz; }
+    memmove_or_none(r_8z, a_2, a_3);
+    goto l_core_qk;
+l_join_sz:;
+    st8((r_8z + (i64)(r_31)), ld8((a_2 + (i64)(r_31))));
+    u64 r_36_1 = (r_31 + 1ull);
+    if (!(r_36_1 == a_3)) { r_31 = r_36_1; goto l_join_sz; }
+l_core_qk:;
+    st64(r_tr_1, (r_52_2 + a_3));
+    r_fk = 0u;
+    goto l_return_ri;
+l_join_8t:;
+    core_fmt_inline_InlineText_cut_at_capacity_120(a_1, a_2, a_3);
+    r_fk = 1u;
+l_return_ri:;
+    return r_fk;
+}
+
+/* core::fmt::formatter::Formatter::write_piece::<#4802effef235a1ad> */
+u8 core_fmt_formatter_Formatter_write_piece_4802effef235a1ad(u8 *a_1, u8 *a_2)
+{
+    u8 *r_mb;
+    u64 r_qw;
+    u8 *r_tr;
+    u64 r_52;
+    u8 *r_8z;
+    u64 r_il;
+    u8 r_fk;
+    st32(away(a_1, 136ull), 32u);
+    memset(away(a_1, 140ull), 0u, 12);
+    st64(away(a_1, 152ull), 0xffffffffffffffffull);
+    r_mb = ldp(a_2);
+    r_qw = ld64((a_2 + 8));
+    if (!(ld64(away(a_1, 160ull)) == 0ull)) goto l_else_hz;
+    if ((u8)(ld8(away(a_1, 128ull)) & 1)) { r_fk = 1u; goto l_core_ri; }
+    r_tr = away(a_1, 120ull);
+    r_52 = ld64(r_tr);
+    if (r_52 > 120ull) { r_fk = 1u; goto l_core_ri; }
+    if (r_qw > (120ull - r_52)) goto l_join_qz;
+    r_8z = away(a_1, r_52);
+    if (((u64)(uptr)r_8z - (u64)(uptr)r_mb) < r_qw) { r_il = 0ull; goto l_join_fh; }
+    memmove_or_none(r_8z, r_mb, r_qw);
+    goto l_core_f7;
+l_join_fh:;
+    st8((r_8z + (i64)(r_il)), ld8((r_mb + (i64)(r_il))));
+    u64 r_36 = (r_il + 1ull);
+    if (!(r_36 == r_qw)) { r_il = r_36; goto l_join_fh; }
+l_core_f7:;
+    st64(r_tr, (r_52 + r_qw));
+    r_fk = 0u;
+    goto l_core_ri;
+l_join_qz:;
+    core_fmt_inline_InlineText_cut_at_capacity_120(a_1, r_mb, r_qw);
+    r_fk = 1u;
+    goto l_core_ri;
+l_else_hz:;
+    u8 r_2p = core_fmt_formatter_Formatter_write_indented_e28d62ad0fc89b16(a_1, r_mb, r_qw);
+    r_fk = r_2p;
+l_core_ri:;
+    return r_fk;
+}
+
+/* core::fmt::inline::InlineText::cut_at_capacity::<=120> */
+void core_fmt_inline_InlineText_cut_at_capacity_120(u8 *a_1, u8 *a_2, u64 a_3)
+{
+    A(8) u8 slot_1[24];
+    u8 *r_tr;
+    u64 r_52;
+    u8 *spec_ty;
+    u64 r_p7;
+    u64 r_ml;
+    u64 r_by;
+    u64 common_4i;
+    u8 *r_8z;
+    u8 *r_qf;
+    u64 common_92;
+    u64 r_31;
+    u64 common_ms;
+    u64 storemerge_v5;
+    u8 *r_h1;
+    u64 r_8n;
+    r_tr = away(a_1, 120ull);
+    r_52 = ld64(r_tr);
+    if (!(r_52 > 117ull)) goto l_else_cg;
+    memset(slot_1, 0u, 24);
+    core_str_utf8_from_utf8(slot_1, a_1, umin64(r_52, 120ull));
+    u8 t_0c = (ld8(slot_1) == 0u);
+    spec_ty = (t_0c ? ldp((slot_1 + 8)) : ((u8 *)g_static_294));
+    u64 spec_vj = (t_0c ? ld64((slot_1 + 16)) : 0ull);
+    if (spec_vj > 117ull) { r_p7 = 117ull; goto l_join_bi; }
+    storemerge_v5 = spec_vj;
+    goto l_join_x3;
+l_join_bi:;
+    if ((i8)ld8((spec_ty + (i64)(r_p7))) > (i8)191u) { storemerge_v5 = r_p7; goto l_join_x3; }
+    u64 r_0f = (r_p7 + 0xffffffffffffffffull);
+    if (r_0f == 0ull) { storemerge_v5 = 0ull; goto l_join_x3; }
+    r_p7 = r_0f;
+    goto l_join_bi;
+l_else_cg:;
+    r_ml = (117ull - r_52);
+    if (!(a_3 > r_ml)) { common_4i = a_3; goto l_core_sr; }
+    if (r_52 == 117ull) goto l_core_ba;
+    r_by = r_ml;
+l_join_da:;
+    if ((i8)ld8((a_2 + (i64)(r_by))) > (i8)191u) { common_4i = r_by; goto l_core_sr; }
+    u64 r_zn = (r_by + 0xffffffffffffffffull);
+    if (!(r_zn == 0ull)) { r_by = r_zn; goto l_join_da; }
+l_core_ba:;
+    r_qf = away(a_1, r_52);
+    common_92 = 0ull;
+    goto l_apart_su;
+l_core_sr:;
+    r_8z = away(a_1, r_52);
+    if (((u64)(uptr)r_8z - (u64)(uptr)a_2) < common_4i) { r_31 = 0ull; goto l_join_sz; }
+    r_qf = r_8z;
+    common_92 = common_4i;
+l_apart_su:;
+    memmove_or_none(r_qf, a_2, common_92);
+    common_ms = common_92;
+    goto l_core_79;
+l_join_sz:;
+    st8((r_8z + (i64)(r_31)), ld8((a_2 + (i64)(r_31))));
+    u64 r_36 = (r_31 + 1ull);
+    if (r_36 == common_4i) { common_ms = common_4i; goto l_core_79; }
+    r_31 = r_36;
+    goto l_join_sz;
+l_core_79:;
+    storemerge_v5 = (common_ms + r_52);
+l_join_x3:;
+    st64(r_tr, storemerge_v5);
+    r_h1 = away(a_1, storemerge_v5);
+    if (((u64)(uptr)r_h1 - (u64)(uptr)(((u8 *)g_static_126) + 16)) < 3ull) { r_8n = 0ull; goto l_join_pr; }
+    mv3(r_h1, (((u8 *)g_static_126) + 16));
+    goto l_core_96;
+l_join_pr:;
+    st8((r_h1 + (i64)(r_8n)), ld8(((((u8 *)g_static_126) + 16) + (i64)(r_8n))));
+    u64 r_c4 = (r_8n + 1ull);
+    if (!(r_c4 == 3ull)) { r_8n = r_c4; goto l_join_pr; }
+l_core_96:;
+    st64(r_tr, (storemerge_v5 + 3ull));
+    st8(away(a_1, 128ull), 1u);
+    return;
+}
+
+/* core::fmt::formatter::Formatter::write_piece::<#9d414b38dae91653> */
+u8 core_fmt_formatter_Formatter_write_piece_9d414b38dae91653(u8 *a_1, u8 *a_2)
+{
+    A(1) u8 slot_1[24];
+    u64 r_10;
+    u64 r_hc;
+    u64 r_zp;
+    u64 r_c0;
+    u8 r_qb_1;
+    u64 common_h4;
+    u8 *t_5f;
+    u64 r_pu;
+    u8 *r_tr;
+    u64 r_52;
+    u8 r_m4;
+    st32(away(a_1, 136ull), 32u);
+    memset(away(a_1, 140ull), 0u, 12);
+    st64(away(a_1, 152ull), 0xffffffffffffffffull);
+    u32 r_yf = ld32(ldp(a_2));
+    u64 r_24 = (u64)r_yf;
+    memset(slot_1, 0u, 24);
+    if (r_yf > 99u) { r_10 = 24ull; r_hc = r_24; goto l_join_rc; }
+    r_zp = r_24;
+    r_c0 = 24ull;
+    goto l_after_6x;
+l_join_rc:;
+    u8 r_qb = (u8)(r_hc % 100ull);
+    u8 *t_2b = away(slot_1, r_10);
+    st8(away(t_2b, 0xffffffffffffffffull), (u8)((u8)(r_qb % 10u) | 48u));
+    st8(away(t_2b, 0xfffffffffffffffeull), (u8)((u8)(r_qb / 10u) | 48u));
+    u64 r_kj = (r_hc / 100ull);
+    u64 r_50 = (r_10 + 0xfffffffffffffffeull);
+    if (r_hc > 9999ull) { r_10 = r_50; r_hc = r_kj; goto l_join_rc; }
+    r_zp = r_kj;
+    r_c0 = r_50;
+l_after_6x:;
+    r_qb_1 = (u8)r_zp;
+    if (!(r_zp > 9ull)) goto l_join_qo;
+    u8 *t_2b_1 = away(slot_1, r_c0);
+    st8(away(t_2b_1, 0xffffffffffffffffull), (u8)((u8)(r_qb_1 % 10u) | 48u));
+    st8(away(t_2b_1, 0xfffffffffffffffeull), (u8)((u8)(r_qb_1 / 10u) | 48u));
+    common_h4 = (r_c0 + 0xfffffffffffffffeull);
+    goto l_core_f9;
+l_join_qo:;
+    u64 r_zn = (r_c0 + 0xffffffffffffffffull);
+    st8((slot_1 + (i64)(r_zn)), (u8)(r_qb_1 | 48u));
+    common_h4 = r_zn;
+l_core_f9:;
+    t_5f = away(slot_1, common_h4);
+    st8(away(t_5f, 0xffffffffffffffffull), 45u);
+    r_pu = (24ull - common_h4);
+    if (!(ld64(away(a_1, 160ull)) == 0ull)) goto l_else_5d;
+    if ((u8)(ld8(away(a_1, 128ull)) & 1)) { r_m4 = 1u; goto l_core_lh; }
+    r_tr = away(a_1, 120ull);
+    r_52 = ld64(r_tr);
+    if (r_52 > 120ull) { r_m4 = 1u; goto l_core_lh; }
+    if (r_pu > (120ull - r_52)) goto l_join_uo;
+    memcpy_or_none(away(a_1, r_52), t_5f, r_pu);
+    st64(r_tr, (r_52 + r_pu));
+    r_m4 = 0u;
+    goto l_core_lh;
+l_join_uo:;
+    core_fmt_inline_InlineText_cut_at_capacity_120(a_1, t_5f, r_pu);
+    r_m4 = 1u;
+    goto l_core_lh;
+l_else_5d:;
+    u8 r_zy = core_fmt_formatter_Formatter_write_indented_e28d62ad0fc89b16(a_1, t_5f, r_pu);
+    r_m4 = r_zy;
+l_core_lh:;
+    return r_m4;
+}
+
+/* core::fmt::formatter::Formatter::write_piece::<#50509cbadb0dc36c> */
+u8 core_fmt_formatter_Formatter_write_piece_50509cbadb0dc36c(u8 *a_1, u8 *a_2)
+{
+    A(1) u8 slot_1[24];
+    u64 r_10;
+    u64 r_hc;
+    u64 r_zp;
+    u64 r_c0;
+    u8 r_qb_1;
+    u64 common_h4;
+    u8 *t_5f;
+    u64 r_pu;
+    u8 *r_tr;
+    u64 r_52_1;
+    u8 r_m4;
+    st32(away(a_1, 136ull), 32u);
+    memset(away(a_1, 140ull), 0u, 12);
+    st64(away(a_1, 152ull), 0xffffffffffffffffull);
+    u64 r_52 = ld64(ldp(a_2));
+    memset(slot_1, 0u, 24);
+    if (r_52 > 99ull) { r_10 = 24ull; r_hc = r_52; goto l_join_rc; }
+    r_zp = r_52;
+    r_c0 = 24ull;
+    goto l_after_6x;
+l_join_rc:;
+    u8 r_qb = (u8)(r_hc % 100ull);
+    u8 *t_2b = away(slot_1, r_10);
+    st8(away(t_2b, 0xffffffffffffffffull), (u8)((u8)(r_qb % 10u) | 48u));
+    st8(away(t_2b, 0xfffffffffffffffeull), (u8)((u8)(r_qb / 10u) | 48u));
+    u64 r_kj = (r_hc / 100ull);
+    u64 r_50 = (r_10 + 0xfffffffffffffffeull);
+    if (r_hc > 9999ull) { r_10 = r_50; r_hc = r_kj; goto l_join_rc; }
+    r_zp = r_kj;
+    r_c0 = r_50;
+l_after_6x:;
+    r_qb_1 = (u8)r_zp;
+    if (!(r_zp > 9ull)) goto l_join_qo;
+    u8 *t_2b_1 = away(slot_1, r_c0);
+    st8(away(t_2b_1, 0xffffffffffffffffull), (u8)((u8)(r_qb_1 % 10u) | 48u));
+    st8(away(t_2b_1, 0xfffffffffffffffeull), (u8)((u8)(r_qb_1 / 10u) | 48u));
+    common_h4 = (r_c0 + 0xfffffffffffffffeull);
+    goto l_core_f9;
+l_join_qo:;
+    u64 r_zn = (r_c0 + 0xffffffffffffffffull);
+    st8((slot_1 + (i64)(r_zn)), (u8)(r_qb_1 | 48u));
+    common_h4 = r_zn;
+l_core_f9:;
+    t_5f = away(slot_1, common_h4);
+    st8(away(t_5f, 0xffffffffffffffffull), 45u);
+    r_pu = (24ull - common_h4);
+    if (!(ld64(away(a_1, 160ull)) == 0ull)) goto l_else_5d;
+    if ((u8)(ld8(away(a_1, 128ull)) & 1)) { r_m4 = 1u; goto l_core_lh; }
+    r_tr = away(a_1, 120ull);
+    r_52_1 = ld64(r_tr);
+    if (r_52_1 > 120ull) { r_m4 = 1u; goto l_core_lh; }
+    if (r_pu > (120ull - r_52_1)) goto l_join_uo;
+    memcpy_or_none(away(a_1, r_52_1), t_5f, r_pu);
+    st64(r_tr, (r_52_1 + r_pu));
+    r_m4 = 0u;
+    goto l_core_lh;
+l_join_uo:;
+    core_fmt_inline_InlineText_cut_at_capacity_120(a_1, t_5f, r_pu);
+    r_m4 = 1u;
+    goto l_core_lh;
+l_else_5d:;
+    u8 r_zy = core_fmt_formatter_Formatter_write_indented_e28d62ad0fc89b16(a_1, t_5f, r_pu);
+    r_m4 = r_zy;
+l_core_lh:;
+    return r_m4;
+}
+
 /* std_io::io::LibcRuntimeEprint::eprintln::<#3fcc4dc1eb5f1358> */
 void std_io_io_LibcRuntimeEprint_eprintln_3fcc4dc1eb5f1358(u8 *a_1, u8 *a_2)
 {
@@ -5065,8 +5501,8 @@ l_arm_9c:;
     memset(r_uy, 0u, 12);
     st64(r_ky, 0xffffffffffffffffull);
     if (ld64(r_lp) == 0ull) { r_bu = 1u; goto l_core_pf_1; }
-    u8 r_by = core_fmt_formatter_Formatter_write_indented_bf264aed5fa78656(slot_5, ((u8 *)g_static_297), 0ull);
-    r_bu = (r_by == 0u);
+    u8 r_6f = core_fmt_formatter_Formatter_write_indented_bf264aed5fa78656(slot_5, ((u8 *)g_static_294), 0ull);
+    r_bu = (r_6f == 0u);
 l_core_pf_1:;
     mv24(r_s4, slot_1);
     r_b2 = r_bu;

@@ -176,12 +176,12 @@ l_capnp_4s:;
     r_38_1 = ld64((slot_19 + 208));
     r_dd_5 = ld8((slot_19 + 217));
     memset(slot_18, 0u, 224);
-    r_5a = ((u8 *)g_static_20);
+    r_5a = ((u8 *)g_static_22);
     r_2l = 21ull;
 l_loop_7z:;
     if (r_2l == 0ull) goto l_arm_qj;
     r_dd_6 = ld8(r_5a);
-    u8 r_a9 = core_cmp_bytes_equal(ldp((((u8 *)switch_table_main_62) + (i64)(8 * (u64)r_dd_6))), ld64((((u8 *)switch_table_main_61) + (i64)(8 * (u64)r_dd_6))), a_3, a_4);
+    u8 r_a9 = core_cmp_bytes_equal(ldp((((u8 *)switch_table_main_75) + (i64)(8 * (u64)r_dd_6))), ld64((((u8 *)switch_table_main_74) + (i64)(8 * (u64)r_dd_6))), a_3, a_4);
     if (!r_a9) { u8 *r_1 = away(r_5a, 1ull); u64 r_2 = (r_2l + 0xffffffffffffffffull); r_5a = r_1; r_2l = r_2; goto l_loop_7z; }
     memset(slot_1, 0u, 240);
     memset(slot_2, 0u, 137);
@@ -716,13 +716,13 @@ l_arm_qj:;
     u64 r_38_3 = ld64((slot_2 + 16));
     r_8z = away(a_3, r_38_3);
     r_0j = (a_4 - r_38_3);
-    r_c8 = ((u8 *)g_static_20);
+    r_c8 = ((u8 *)g_static_22);
     r_tr = 21ull;
 l_loop_jj:;
     r_ts = (r_tr == 0ull);
     if (r_ts) { r_m4 = 0u; goto l_capnp_xs; }
     u8 r_dd_7 = ld8(r_c8);
-    u8 r_jq = core_cmp_bytes_equal(ldp((((u8 *)switch_table_main_62) + (i64)(8 * (u64)r_dd_7))), ld64((((u8 *)switch_table_main_61) + (i64)(8 * (u64)r_dd_7))), a_3, r_38_2);
+    u8 r_jq = core_cmp_bytes_equal(ldp((((u8 *)switch_table_main_75) + (i64)(8 * (u64)r_dd_7))), ld64((((u8 *)switch_table_main_74) + (i64)(8 * (u64)r_dd_7))), a_3, r_38_2);
     if (r_jq) { r_m4 = r_dd_7; goto l_capnp_xs; }
     u8 *r_3 = away(r_c8, 1ull);
     u64 r_4 = (r_tr + 0xffffffffffffffffull);
@@ -851,7 +851,7 @@ l_join_cx:;
     r_r5_11 = ld8((slot_19 + 200));
     r_38_5 = ld64((slot_19 + 208));
     r_dd_12 = ld8((slot_19 + 217));
-    if (!(ld8(slot_19) == 1u)) goto l_arm_3d;
+    if (!(ld8(slot_19) == 1u)) goto l_arm_bh;
     memset(slot_3, 0u, 224);
     r_1w_1 = 0u;
     r_b0_1 = 0u;
@@ -859,30 +859,30 @@ l_join_cx:;
     r_5c_1 = 0u;
     r_tc_1 = 1u;
     goto l_capnp_59_1;
-l_arm_3d:;
-    u8 r_vq = core_cmp_bytes_equal(a_3, a_4, ((u8 *)g_static_36), 5ull);
-    if (r_vq) { r_0s = 0u; goto l_capnp_cj; }
-    u8 r_35 = core_cmp_bytes_equal(a_3, a_4, ((u8 *)g_static_37), 5ull);
-    if (r_35) { r_0s = 1u; goto l_capnp_cj; }
-    u8 r_3p = core_cmp_bytes_equal(a_3, a_4, ((u8 *)g_static_38), 4ull);
-    if (r_3p) { r_0s = 2u; goto l_capnp_cj; }
-    u8 r_d4 = core_cmp_bytes_equal(a_3, a_4, ((u8 *)g_static_39), 6ull);
-    if (r_d4) { r_0s = 3u; goto l_capnp_cj; }
-    u8 r_aa = core_cmp_bytes_equal(a_3, a_4, ((u8 *)g_static_40), 8ull);
-    if (r_aa) { r_0s = 4u; goto l_capnp_cj; }
-    u8 r_v8 = core_cmp_bytes_equal(a_3, a_4, ((u8 *)g_static_41), 4ull);
-    if (r_v8) { r_0s = 5u; goto l_capnp_cj; }
-    goto l_capnp_0z;
+l_arm_bh:;
+    u8 r_8i = core_cmp_bytes_equal(a_3, a_4, ((u8 *)g_static_38), 5ull);
+    if (r_8i) { r_0s = 0u; goto l_capnp_cj; }
+    u8 r_wr = core_cmp_bytes_equal(a_3, a_4, ((u8 *)g_static_39), 5ull);
+    if (r_wr) { r_0s = 1u; goto l_capnp_cj; }
+    u8 r_rb = core_cmp_bytes_equal(a_3, a_4, ((u8 *)g_static_40), 4ull);
+    if (r_rb) { r_0s = 2u; goto l_capnp_cj; }
+    u8 r_8u = core_cmp_bytes_equal(a_3, a_4, ((u8 *)g_static_41), 6ull);
+    if (r_8u) { r_0s = 3u; goto l_capnp_cj; }
+    u8 r_pa = core_cmp_bytes_equal(a_3, a_4, ((u8 *)g_static_42), 8ull);
+    if (r_pa) { r_0s = 4u; goto l_capnp_cj; }
+    u8 r_8o = core_cmp_bytes_equal(a_3, a_4, ((u8 *)g_static_43), 4ull);
+    if (r_8o) { r_0s = 5u; goto l_capnp_cj; }
+    goto l_capnp_d0;
 l_capnp_cj:;
     memset(slot_1, 0u, 240);
     memset(slot_2, 0u, 224);
     r_w4 = r_0s;
     goto l_arm_x3_10;
-l_capnp_0z:;
-    u8 r_k8 = core_cmp_bytes_equal(a_3, a_4, ((u8 *)g_static_42), 4ull);
+l_capnp_d0:;
+    u8 r_5v = core_cmp_bytes_equal(a_3, a_4, ((u8 *)g_static_44), 4ull);
     memset(slot_1, 0u, 240);
     memset(slot_2, 0u, 224);
-    if (r_k8) { r_w4 = 6u; goto l_arm_x3_10; }
+    if (r_5v) { r_w4 = 6u; goto l_arm_x3_10; }
     r_9w = 0u;
     t_1a = 0u;
     t_au = 0u;
@@ -1263,6 +1263,8 @@ l_arm_h4_1:;
     if (!(r_z7_1.f0 == 1u)) { r_23 = slot_22; r_0b = slot_23; r_tp = slot_24; r_5q = 0u; r_09 = 0u; r_zx = 0u; r_ff = 0u; r_9b = 0u; r_2j = 0ull; r_ra = 0u; r_5p = 0u; r_y6 = 0u; r_h9 = 0u; r_j0 = 0u; r_2w = 0u; r_4x = 0u; r_ng = 0u; r_61 = 0u; r_ob = 0u; r_jl = 0u; r_by = 0ull; r_n9 = 0u; r_m3 = 0u; r_4f = 0u; goto l_capnp_0w; }
     memcpy((slot_25 + 1), (a_2 + 40), 136);
     memcpy(slot_22, slot_25, 137);
+    memset(slot_23, 0u, 3);
+    memset(slot_24, 0u, 5);
     r_23 = slot_22;
     r_0b = slot_23;
     r_tp = slot_24;
@@ -1375,7 +1377,7 @@ l_join_rf:;
 /* capnp_streams::streams::path::Path::with_parsed_index */
 static void capnp_streams_streams_path_Path_with_parsed_index(u8 *a_1, u8 *a_2, u8 *a_3, u64 a_4)
 {
-    A(4) u8 slot_1[128];
+    A(8) u8 slot_1[128];
     A(8) u8 slot_2[128];
     u64 r_qw;
     u8 r_pe;
@@ -1391,35 +1393,25 @@ static void capnp_streams_streams_path_Path_with_parsed_index(u8 *a_1, u8 *a_2, 
     u32 r_to_2;
     u32 r_to_3;
     u32 r_ae;
-    u8 *r_td;
-    u64 r_3u;
+    u8 *r_rg;
+    u64 r_8s;
     u32 r_4a;
     u8 r_9f;
     u64 r_ko;
     u8 *r_gt;
     u32 r_to_4;
     u32 r_to_5;
-    u32 r_yf;
-    u64 r_j1_1;
-    u64 r_3n_1;
-    u8 r_47_1;
-    u64 r_b2;
-    u64 r_3z;
-    u64 r_lc;
-    u64 r_j1;
-    u64 r_3n;
-    u8 r_47_2;
-    u64 r_b2_1;
-    u64 r_3z_1;
-    u64 r_lc_1;
-    u64 r_sx;
+    u32 r_22;
+    u64 r_wz;
+    u8 *r_1u;
+    u32 r_wt;
     u64 sink_rh;
     u64 r_hg;
     u64 r_zt;
     u64 r_er;
     r_qw = ld64((a_2 + 128));
     memset(slot_2, 0u, 128);
-    if (!(a_4 > 1ull)) { r_td = a_3; r_3u = a_4; goto l_capnp_p1; }
+    if (!(a_4 > 1ull)) { r_rg = a_3; r_8s = a_4; goto l_capnp_2k; }
     r_pe = ld8(a_3);
     r_cf = (u32)r_pe;
     if ((i8)r_pe > (i8)255u) { r_qm = r_cf; goto l_core_rq; }
@@ -1458,72 +1450,45 @@ l_join_pb:;
     r_ae = (((u32)(r_to_3 << 6u) | ((u32)(r_to_2 << 12u) | ((u32)(r_cf_1 << 18u) & 0x1c0000u))) | (u32)(u8)(ld8((r_i7 + 3)) & 63u));
 l_core_3t:;
     if (!(r_ae == 93u)) { r_4a = r_cf; r_9f = r_pe; r_ko = a_4; r_gt = a_3; goto l_join_js; }
-    r_td = away(a_3, 1ull);
-    r_3u = (a_4 + 0xfffffffffffffffeull);
-l_capnp_p1:;
-    if (r_3u == 0ull) { r_zt = 0ull; r_er = 0ull; goto l_join_71; }
-    u8 r_dd = ld8(r_td);
+    r_rg = away(a_3, 1ull);
+    r_8s = (a_4 + 0xfffffffffffffffeull);
+l_capnp_2k:;
+    if (r_8s == 0ull) { r_wz = 0ull; r_1u = r_rg; goto l_capnp_ta; }
+    u8 r_dd = ld8(r_rg);
     r_4a = (u32)r_dd;
     r_9f = r_dd;
-    r_ko = r_3u;
-    r_gt = r_td;
+    r_ko = r_8s;
+    r_gt = r_rg;
 l_join_js:;
-    if ((i8)r_9f > (i8)255u) { r_yf = r_4a; goto l_core_fi; }
+    if ((i8)r_9f > (i8)255u) { r_22 = r_4a; goto l_core_gz; }
     r_to_4 = (u32)(u8)(ld8((r_gt + 1)) & 63u);
     if (!(r_9f < 224u)) goto l_join_zf_1;
-    r_yf = (((u32)(r_4a << 6u) & 1984u) | r_to_4);
-    goto l_core_fi;
+    r_22 = (((u32)(r_4a << 6u) & 1984u) | r_to_4);
+    goto l_core_gz;
 l_join_zf_1:;
     r_to_5 = (u32)(u8)(ld8((r_gt + 2)) & 63u);
     if (!(r_9f < 240u)) goto l_join_pb_1;
-    r_yf = (((u32)(r_to_4 << 6u) | ((u32)(r_4a << 12u) & 61440u)) | r_to_5);
-    goto l_core_fi;
+    r_22 = (((u32)(r_to_4 << 6u) | ((u32)(r_4a << 12u) & 61440u)) | r_to_5);
+    goto l_core_gz;
 l_join_pb_1:;
-    r_yf = (((u32)(r_to_5 << 6u) | ((u32)(r_to_4 << 12u) | ((u32)(r_4a << 18u) & 0x1c0000u))) | (u32)(u8)(ld8((r_gt + 3)) & 63u));
-l_core_fi:;
-    if (r_yf == 43u) { r_zt = 0ull; r_er = 0ull; goto l_join_71; }
-    if (!(r_9f == 43u)) { r_j1 = 0ull; r_3n = 0ull; goto l_join_t6; }
-    if (r_ko == 1ull) { r_zt = 0ull; r_er = 0ull; goto l_join_71; }
-    r_j1_1 = 0ull;
-    r_3n_1 = 1ull;
-    goto l_join_t6_1;
-l_loop_w5:;
-    u64 r_7n = (r_3n_1 + 1ull);
-    if (r_7n == r_ko) { r_sx = r_lc; goto l_arm_0h; }
-    r_j1_1 = r_lc;
-    r_3n_1 = r_7n;
-l_join_t6_1:;
-    r_47_1 = ld8((r_gt + (i64)(r_3n_1)));
-    if (!((u8)(r_47_1 + 208u) < 10u)) { r_zt = 0ull; r_er = 0ull; goto l_join_71; }
-    r_b2 = (r_j1_1 * 10ull);
-    r_3z = (u64)(u8)(r_47_1 & 15u);
-    if (r_b2 > (r_3z ^ 0xffffffffffffffffull)) { r_zt = 0ull; r_er = 0ull; goto l_join_71; }
-    r_lc = (r_b2 + r_3z);
-    if (r_lc > 0xffffffffull) { r_zt = 0ull; r_er = 0ull; goto l_join_71; }
-    goto l_loop_w5;
-l_loop_2r:;
-    u64 r_36 = (r_3n + 1ull);
-    if (r_36 == r_ko) { r_sx = r_lc_1; goto l_arm_0h; }
-    r_j1 = r_lc_1;
-    r_3n = r_36;
-l_join_t6:;
-    r_47_2 = ld8((r_gt + (i64)(r_3n)));
-    if (!((u8)(r_47_2 + 208u) < 10u)) { r_zt = 0ull; r_er = 0ull; goto l_join_71; }
-    r_b2_1 = (r_j1 * 10ull);
-    r_3z_1 = (u64)(u8)(r_47_2 & 15u);
-    if (r_b2_1 > (r_3z_1 ^ 0xffffffffffffffffull)) { r_zt = 0ull; r_er = 0ull; goto l_join_71; }
-    r_lc_1 = (r_b2_1 + r_3z_1);
-    if (r_lc_1 > 0xffffffffull) { r_zt = 0ull; r_er = 0ull; goto l_join_71; }
-    goto l_loop_2r;
-l_arm_0h:;
-    if (!(r_qw > 31ull)) goto l_join_kg;
+    r_22 = (((u32)(r_to_5 << 6u) | ((u32)(r_to_4 << 12u) | ((u32)(r_4a << 18u) & 0x1c0000u))) | (u32)(u8)(ld8((r_gt + 3)) & 63u));
+l_core_gz:;
+    if (r_22 == 43u) { r_zt = 0ull; r_er = 0ull; goto l_join_71; }
+    r_wz = r_ko;
+    r_1u = r_gt;
+l_capnp_ta:;
+    memset(slot_1, 0u, 16);
+    core_str_parse_unsigned(slot_1, r_1u, r_wz, 10u, 0xffffffffull);
+    r_wt = (u32)ld64((slot_1 + 8));
+    if (!(ld8(slot_1) == 0u)) { r_zt = 0ull; r_er = 0ull; goto l_join_71; }
+    if (!(r_qw > 31ull)) goto l_join_aq;
     memset(slot_2, 0u, 128);
     sink_rh = 0ull;
     r_hg = 0ull;
     goto l_capnp_nb;
-l_join_kg:;
+l_join_aq:;
     memcpy(slot_1, a_2, 128);
-    st32((slot_1 + (i64)((u64)(r_qw << 2ull))), (u32)r_sx);
+    st32((slot_1 + (i64)((u64)(r_qw << 2ull))), r_wt);
     memcpy(slot_2, slot_1, 128);
     sink_rh = 1ull;
     r_hg = (r_qw + 1ull);
@@ -1540,33 +1505,24 @@ l_join_71:;
 /* capnp_streams::streams::arguments::parse_i32 */
 static struct s_i8_i32 capnp_streams_streams_arguments_parse_i32(u8 *a_1, u64 a_2)
 {
+    A(8) u8 slot_1[16];
     u8 r_pe;
     u32 r_cf;
     u32 r_to;
     u32 r_to_1;
     u32 r_gt;
-    u64 r_8j_1;
-    u64 r_w9_1;
-    u8 r_47;
-    u64 r_b2;
-    u64 r_3z;
-    u64 r_lc;
-    u64 r_8j_2;
-    u64 r_w9_2;
-    u8 r_47_1;
-    u64 r_b2_1;
-    u64 r_3z_1;
-    u64 r_lc_1;
     u64 r_8j;
     u64 r_w9;
-    u8 r_47_2;
-    u64 r_b2_2;
-    u64 r_3z_2;
-    u64 r_lc_2;
-    u64 r_mu;
+    u8 r_47;
+    u64 r_6x;
+    u64 r_3z;
+    u64 r_lc;
     u8 r_us;
     u32 r_1x;
-    if (a_2 == 0ull) { r_us = 0u; r_1x = 0u; goto l_capnp_pr; }
+    if (!(a_2 == 0ull)) goto l_join_ea;
+    memset(slot_1, 0u, 16);
+    goto l_core_l6;
+l_join_ea:;
     r_pe = ld8(a_1);
     r_cf = (u32)r_pe;
     if ((i8)r_pe > (i8)255u) { r_gt = r_cf; goto l_core_dy; }
@@ -1583,70 +1539,39 @@ l_join_7m:;
     r_gt = (((u32)(r_to_1 << 6u) | ((u32)(r_to << 12u) | ((u32)(r_cf << 18u) & 0x1c0000u))) | (u32)(u8)(ld8((a_1 + 3)) & 63u));
 l_core_dy:;
     if (r_gt == 43u) { r_us = 0u; r_1x = 0u; goto l_capnp_pr; }
-    switch (r_pe) {
-    case 45u: goto l_then_2h;
-    case 43u: goto l_then_2h_1;
-    default: { r_8j = 0ull; r_w9 = 0ull; goto l_join_bs; }
-    }
-l_then_2h:;
-    if (a_2 == 1ull) { r_us = 0u; r_1x = 0u; goto l_capnp_pr; }
-    r_8j_1 = 0ull;
-    r_w9_1 = 1ull;
-    goto l_join_bs_1;
-l_loop_pf:;
-    u64 r_36 = (r_w9_1 + 1ull);
-    if (r_36 == a_2) goto l_arm_92;
-    r_8j_1 = r_lc;
-    r_w9_1 = r_36;
-l_join_bs_1:;
-    r_47 = ld8((a_1 + (i64)(r_w9_1)));
-    if (!((u8)(r_47 + 208u) < 10u)) { r_us = 0u; r_1x = 0u; goto l_capnp_pr; }
-    r_b2 = (r_8j_1 * 10ull);
+    memset(slot_1, 0u, 16);
+    if (!(r_pe == 45u)) goto l_core_l6;
+    if (a_2 == 1ull) goto l_core_8g;
+    r_8j = 0ull;
+    r_w9 = 1ull;
+    goto l_join_bs;
+l_loop_66:;
+    u64 r_36 = (r_w9 + 1ull);
+    if (r_36 == a_2) goto l_core_jc;
+    r_8j = r_lc;
+    r_w9 = r_36;
+l_join_bs:;
+    r_47 = ld8((a_1 + (i64)(r_w9)));
+    if (!((u8)(r_47 + 208u) < 10u)) goto l_core_8g;
+    r_6x = (r_8j * 10ull);
     r_3z = (u64)(u8)(r_47 & 15u);
-    if (r_b2 > (r_3z ^ 0xffffffffffffffffull)) { r_us = 0u; r_1x = 0u; goto l_capnp_pr; }
-    r_lc = (r_b2 + r_3z);
-    if (r_lc > 0x80000000ull) { r_us = 0u; r_1x = 0u; goto l_capnp_pr; }
-    goto l_loop_pf;
-l_arm_92:;
+    if (r_6x > (r_3z ^ 0xffffffffffffffffull)) goto l_core_8g;
+    r_lc = (r_6x + r_3z);
+    if (r_lc > 0x80000000ull) goto l_core_8g;
+    goto l_loop_66;
+l_core_jc:;
     r_us = 1u;
     r_1x = (0u - (u32)r_lc);
     goto l_capnp_pr;
-l_then_2h_1:;
-    if (a_2 == 1ull) { r_us = 0u; r_1x = 0u; goto l_capnp_pr; }
-    r_8j_2 = 0ull;
-    r_w9_2 = 1ull;
-    goto l_join_bs_2;
-l_loop_g0:;
-    u64 r_7n = (r_w9_2 + 1ull);
-    if (r_7n == a_2) { r_mu = r_lc_1; goto l_arm_ps; }
-    r_8j_2 = r_lc_1;
-    r_w9_2 = r_7n;
-l_join_bs_2:;
-    r_47_1 = ld8((a_1 + (i64)(r_w9_2)));
-    if (!((u8)(r_47_1 + 208u) < 10u)) { r_us = 0u; r_1x = 0u; goto l_capnp_pr; }
-    r_b2_1 = (r_8j_2 * 10ull);
-    r_3z_1 = (u64)(u8)(r_47_1 & 15u);
-    if (r_b2_1 > (r_3z_1 ^ 0xffffffffffffffffull)) { r_us = 0u; r_1x = 0u; goto l_capnp_pr; }
-    r_lc_1 = (r_b2_1 + r_3z_1);
-    if (r_lc_1 > 0x7fffffffull) { r_us = 0u; r_1x = 0u; goto l_capnp_pr; }
-    goto l_loop_g0;
-l_loop_pf_1:;
-    u64 r_36_1 = (r_w9 + 1ull);
-    if (r_36_1 == a_2) { r_mu = r_lc_2; goto l_arm_ps; }
-    r_8j = r_lc_2;
-    r_w9 = r_36_1;
-l_join_bs:;
-    r_47_2 = ld8((a_1 + (i64)(r_w9)));
-    if (!((u8)(r_47_2 + 208u) < 10u)) { r_us = 0u; r_1x = 0u; goto l_capnp_pr; }
-    r_b2_2 = (r_8j * 10ull);
-    r_3z_2 = (u64)(u8)(r_47_2 & 15u);
-    if (r_b2_2 > (r_3z_2 ^ 0xffffffffffffffffull)) { r_us = 0u; r_1x = 0u; goto l_capnp_pr; }
-    r_lc_2 = (r_b2_2 + r_3z_2);
-    if (r_lc_2 > 0x7fffffffull) { r_us = 0u; r_1x = 0u; goto l_capnp_pr; }
-    goto l_loop_pf_1;
-l_arm_ps:;
-    r_us = 1u;
-    r_1x = (u32)r_mu;
+l_core_8g:;
+    r_us = 0u;
+    r_1x = 0u;
+    goto l_capnp_pr;
+l_core_l6:;
+    core_str_parse_unsigned(slot_1, a_1, a_2, 10u, 0x7fffffffull);
+    u8 t_0c = (ld8(slot_1) == 0u);
+    r_us = (u8)t_0c;
+    r_1x = (t_0c ? (u32)ld64((slot_1 + 8)) : 0u);
 l_capnp_pr:;
     struct s_i8_i32 r_9l = (struct s_i8_i32){ 0 };
     r_9l.f0 = r_us;
@@ -1658,27 +1583,18 @@ l_capnp_pr:;
 /* capnp_streams::streams::arguments::parse_number_or_none */
 static void capnp_streams_streams_arguments_parse_number_or_none(u8 *a_1, u8 *a_2, u64 a_3)
 {
+    A(8) u8 slot_1[16];
     u8 r_pe;
     u32 r_cf;
     u32 r_to;
     u32 r_to_1;
     u32 r_u3;
-    u64 r_8j_1;
-    u64 r_w9_1;
-    u8 r_47;
-    u64 r_b2;
-    u64 r_3z;
-    u64 r_8j;
-    u64 r_w9;
-    u8 r_47_1;
-    u64 r_b2_1;
-    u64 r_3z_1;
     u64 r_vt;
     u64 r_8t;
     u64 r_49;
-    u8 r_1a = core_cmp_bytes_equal(a_2, a_3, ((u8 *)g_static_19), 4ull);
-    if (r_1a) { r_vt = 1ull; r_8t = 0ull; r_49 = 0ull; goto l_capnp_s8; }
-    if (a_3 == 0ull) { r_vt = 0ull; r_8t = 0ull; r_49 = 0ull; goto l_capnp_s8; }
+    u8 r_pc = core_cmp_bytes_equal(a_2, a_3, ((u8 *)g_static_21), 4ull);
+    if (r_pc) { r_vt = 1ull; r_8t = 0ull; r_49 = 0ull; goto l_capnp_s8; }
+    if (a_3 == 0ull) goto l_join_ya;
     r_pe = ld8(a_2);
     r_cf = (u32)r_pe;
     if ((i8)r_pe > (i8)255u) { r_u3 = r_cf; goto l_core_zg; }
@@ -1695,34 +1611,14 @@ l_join_7m:;
     r_u3 = (((u32)(r_to_1 << 6u) | ((u32)(r_to << 12u) | ((u32)(r_cf << 18u) & 0x1c0000u))) | (u32)(u8)(ld8((a_2 + 3)) & 63u));
 l_core_zg:;
     if (r_u3 == 43u) { r_vt = 0ull; r_8t = 0ull; r_49 = 0ull; goto l_capnp_s8; }
-    if (!(r_pe == 43u)) { r_8j = 0ull; r_w9 = 0ull; goto l_join_bs; }
-    if (a_3 == 1ull) { r_vt = 0ull; r_8t = 0ull; r_49 = 0ull; goto l_capnp_s8; }
-    r_8j_1 = 0ull;
-    r_w9_1 = 1ull;
-l_join_bs_1:;
-    r_47 = ld8((a_2 + (i64)(r_w9_1)));
-    if (!(u8)((u8)(r_8j_1 < 0x199999999999999aull) & (u8)((u8)(r_47 + 208u) < 10u))) { r_vt = 0ull; r_8t = 0ull; r_49 = 0ull; goto l_capnp_s8; }
-    r_b2 = (r_8j_1 * 10ull);
-    r_3z = (u64)(u8)(r_47 & 15u);
-    if (r_b2 > (r_3z ^ 0xffffffffffffffffull)) { r_vt = 0ull; r_8t = 0ull; r_49 = 0ull; goto l_capnp_s8; }
-    u64 r_5q = (r_b2 + r_3z);
-    u64 r_7n = (r_w9_1 + 1ull);
-    if (r_7n == a_3) { r_vt = 1ull; r_8t = 1ull; r_49 = r_5q; goto l_capnp_s8; }
-    r_8j_1 = r_5q;
-    r_w9_1 = r_7n;
-    goto l_join_bs_1;
-l_join_bs:;
-    r_47_1 = ld8((a_2 + (i64)(r_w9)));
-    if (!(u8)((u8)(r_8j < 0x199999999999999aull) & (u8)((u8)(r_47_1 + 208u) < 10u))) { r_vt = 0ull; r_8t = 0ull; r_49 = 0ull; goto l_capnp_s8; }
-    r_b2_1 = (r_8j * 10ull);
-    r_3z_1 = (u64)(u8)(r_47_1 & 15u);
-    if (r_b2_1 > (r_3z_1 ^ 0xffffffffffffffffull)) { r_vt = 0ull; r_8t = 0ull; r_49 = 0ull; goto l_capnp_s8; }
-    u64 r_5q_1 = (r_b2_1 + r_3z_1);
-    u64 r_36 = (r_w9 + 1ull);
-    if (r_36 == a_3) { r_vt = 1ull; r_8t = 1ull; r_49 = r_5q_1; goto l_capnp_s8; }
-    r_8j = r_5q_1;
-    r_w9 = r_36;
-    goto l_join_bs;
+l_join_ya:;
+    memset(slot_1, 0u, 16);
+    core_str_parse_unsigned(slot_1, a_2, a_3, 10u, 0xffffffffffffffffull);
+    u8 t_0c = (ld8(slot_1) == 0u);
+    u64 t_8p = (u64)t_0c;
+    r_vt = t_8p;
+    r_8t = t_8p;
+    r_49 = (t_0c ? ld64((slot_1 + 8)) : 0ull);
 l_capnp_s8:;
     st64(a_1, r_vt);
     st64(away(a_1, 8ull), r_8t);
@@ -1987,6 +1883,243 @@ l_join_xi:;
     return;
 }
 
+/* capnp_streams::streams::task::named_files */
+void capnp_streams_streams_task_named_files(u8 *a_1, u8 *a_2, u64 a_3)
+{
+    A(8) u8 slot_1[1];
+    A(1) u8 slot_2[31];
+    A(8) u8 slot_3[24];
+    A(4) u8 slot_4[11];
+    A(1) u8 slot_5[136];
+    A(8) u8 slot_6[48];
+    A(8) u8 slot_7[240];
+    A(8) u8 slot_8[224];
+    u8 *r_x5;
+    u8 *r_x5_1;
+    u8 *r_zd;
+    u8 *r_lk;
+    u8 *r_nk;
+    u8 *r_eo;
+    u8 *r_a8;
+    u8 *r_6x;
+    u8 *r_x5_2;
+    u8 *r_zd_1;
+    u8 *r_zd_2;
+    u8 *r_lk_1;
+    u8 *r_89;
+    u8 *r_a8_1;
+    u8 *r_f3;
+    u8 *r_lr;
+    u8 *r_6c;
+    u8 *r_vb;
+    u8 *r_1p;
+    u8 *r_bh;
+    u64 r_oy;
+    u8 *r_u5;
+    u32 r_kl;
+    u64 r_na;
+    u64 r_45;
+    u64 r_el;
+    u8 r_y2;
+    u8 *r_3q;
+    u64 r_zn;
+    u8 *r_ps;
+    u8 *r_lz;
+    u64 r_52;
+    u8 r_ts;
+    struct s_i64_i64 r_1y;
+    u8 *r_zb;
+    u64 r_il;
+    u8 *r_m7;
+    u64 r_wf;
+    u8 *r_b9;
+    u64 r_38_3;
+    u64 r_38_4;
+    u64 r_iu;
+    u8 *r_a7_1;
+    u8 *r_xw;
+    u64 r_38_5;
+    u64 r_38_6;
+    u64 r_iu_1;
+    u8 *r_a7_2;
+    u8 *r_6i;
+    u8 *r_an;
+    u8 r_9v;
+    u64 r_w8;
+    u64 r_ek;
+    u64 r_ln;
+    u32 r_3i;
+    memset(slot_2, 0u, 31);
+    memset(slot_7, 0u, 240);
+    stp(slot_3, slot_1);
+    r_x5 = (slot_3 + 8);
+    memset(r_x5, 0u, 16);
+    memset(slot_5, 0u, 136);
+    memset(slot_4, 0u, 11);
+    memset(slot_6, 0u, 48);
+    if (a_3 == 0ull) goto l_after_zm;
+    r_x5_1 = (slot_8 + 8);
+    r_zd = (slot_8 + 16);
+    r_lk = (slot_8 + 24);
+    r_nk = (slot_8 + 28);
+    r_eo = (slot_8 + 39);
+    r_a8 = (slot_8 + 40);
+    r_6x = (slot_8 + 176);
+    r_x5_2 = (slot_7 + 8);
+    r_zd_1 = (slot_3 + 16);
+    r_zd_2 = (slot_7 + 16);
+    r_lk_1 = (slot_7 + 24);
+    r_89 = (slot_7 + 32);
+    r_a8_1 = (slot_7 + 40);
+    r_f3 = (slot_7 + 44);
+    r_lr = (slot_7 + 55);
+    r_6c = (slot_7 + 56);
+    r_vb = (slot_7 + 192);
+    r_1p = slot_1;
+    r_bh = slot_1;
+    r_oy = a_3;
+    r_u5 = a_2;
+    r_kl = 64u;
+    r_na = 0x800000ull;
+    r_45 = 1ull;
+    r_el = 0ull;
+    r_y2 = 0u;
+l_arm_uw:;
+    r_3q = away(r_u5, 24ull);
+    r_zn = (r_oy + 0xffffffffffffffffull);
+    st64(slot_8, r_el);
+    st64(r_x5_1, r_45);
+    st64(r_zd, r_na);
+    st32(r_lk, r_kl);
+    mv11(r_nk, slot_4);
+    st8(r_eo, r_y2);
+    memcpy(r_a8, slot_5, 136);
+    mv48(r_6x, slot_6);
+    r_ps = away(r_u5, 8ull);
+    capnp_streams_streams_arguments_ParsedArguments_parse_argument(slot_7, slot_8, ldp(r_u5), ld64(r_ps));
+    if (!(ld8(slot_7) == 0u)) goto l_after_zm_1;
+    switch (ld8(r_x5_2)) {
+    case 0u: goto l_arm_lv;
+    case 1u: goto l_arm_vx;
+    case 2u: goto l_after_zm_1;
+    default: goto l_noarm_e1;
+    }
+l_arm_lv:;
+    u64 r_38 = ld64(r_zd_2);
+    u64 r_38_1 = ld64(r_lk_1);
+    u64 r_38_2 = ld64(r_89);
+    u32 r_z4 = ld32(r_a8_1);
+    u8 r_dd = ld8(r_lr);
+    mv11(slot_4, r_f3);
+    memcpy(slot_5, r_6c, 136);
+    mv48(slot_6, r_vb);
+    r_6i = r_1p;
+    r_an = r_bh;
+    r_9v = r_dd;
+    r_w8 = r_38;
+    r_ek = r_38_1;
+    r_ln = r_38_2;
+    r_3i = r_z4;
+    goto l_after_tm;
+l_arm_vx:;
+    r_lz = ldp(r_u5);
+    r_52 = ld64(r_ps);
+    r_ts = (r_52 == 0ull);
+    if (r_ts) { r_zb = slot_1; goto l_arm_r3; }
+    if (!((i64)r_52 > (i64)0xffffffffffffffffull)) goto l_arm_pi;
+    struct s_i64_i64 r_35 = rattle_alloc(r_52, 1ull);
+    r_1y = r_35;
+    if (!(u8)(r_1y.f0 & 1)) goto l_arm_pi;
+    r_zb = ((u8 *)(uptr)r_1y.f1);
+l_arm_r3:;
+    if (((u64)(uptr)r_zb - (u64)(uptr)r_lz) < r_52) { r_il = 0ull; goto l_join_fh; }
+    memmove_or_none(r_zb, r_lz, r_52);
+    goto l_arm_k5;
+l_join_fh:;
+    st8((r_zb + (i64)(r_il)), ld8((r_lz + (i64)(r_il))));
+    u64 r_36 = (r_il + 1ull);
+    if (!(r_36 == r_52)) { r_il = r_36; goto l_join_fh; }
+l_arm_k5:;
+    u64 r_52_1 = ld64(r_x5);
+    if (!(ld64(r_zd_1) == r_52_1)) { r_m7 = r_1p; r_wf = r_52_1; goto l_core_bw; }
+    u8 r_43 = std_alloc_vec_Vec_grow_amortized_4bfbfd015d35923a(slot_3);
+    if (!r_43) goto l_arm_ci;
+    r_m7 = ldp(slot_3);
+    r_wf = ld64(r_x5);
+l_core_bw:;
+    u8 *r_a7 = (r_m7 + (i64)((r_wf * 24ull)));
+    stp(r_a7, r_zb);
+    st64((r_a7 + 8), r_52);
+    st64((r_a7 + 16), r_52);
+    st64(r_x5, (r_wf + 1ull));
+    r_6i = r_m7;
+    r_an = r_m7;
+    r_9v = r_y2;
+    r_w8 = r_el;
+    r_ek = r_45;
+    r_ln = r_na;
+    r_3i = r_kl;
+    goto l_after_tm;
+l_common_68:;
+    return;
+l_arm_pi:;
+    r_b9 = (slot_2 + 7);
+    memset((slot_2 + 7), 0u, 24);
+    r_38_3 = ld64(r_x5);
+    r_38_4 = ld64(r_zd_1);
+    if (r_38_3 == 0ull) goto l_std_p4;
+    r_iu = 0ull;
+l_join_9n:;
+    r_a7_1 = away(r_bh, (r_iu * 24ull));
+    if (ld64((r_a7_1 + 16)) == 0ull) goto l_core_jc;
+    rattle_dealloc(ldp(r_a7_1));
+l_core_jc:;
+    u64 r_36_1 = (r_iu + 1ull);
+    if (!(r_36_1 == r_38_3)) { r_iu = r_36_1; goto l_join_9n; }
+l_std_p4:;
+    if (r_38_4 == 0ull) goto l_std_u1;
+    rattle_dealloc(r_bh);
+l_std_u1:;
+    st8(a_1, 1u);
+    mv24(away(a_1, 8ull), r_b9);
+    goto l_common_68;
+l_arm_ci:;
+    if (r_ts) goto l_core_tl;
+    rattle_dealloc(r_zb);
+l_core_tl:;
+    r_xw = ldp(slot_3);
+    r_38_5 = ld64(r_x5);
+    r_38_6 = ld64(r_zd_1);
+    if (r_38_5 == 0ull) goto l_std_p4_1;
+    r_iu_1 = 0ull;
+l_join_9n_1:;
+    r_a7_2 = away(r_xw, (r_iu_1 * 24ull));
+    if (ld64((r_a7_2 + 16)) == 0ull) goto l_core_jc_1;
+    rattle_dealloc(ldp(r_a7_2));
+l_core_jc_1:;
+    u64 r_36_2 = (r_iu_1 + 1ull);
+    if (!(r_36_2 == r_38_5)) { r_iu_1 = r_36_2; goto l_join_9n_1; }
+l_std_p4_1:;
+    if (r_38_6 == 0ull) goto l_std_st;
+    rattle_dealloc(r_xw);
+l_std_st:;
+    st8(a_1, 1u);
+    memset(away(a_1, 8ull), 0u, 24);
+    goto l_common_68;
+l_after_zm_1:;
+    st8(a_1, 0u);
+    mv24(away(a_1, 8ull), slot_3);
+    goto l_common_68;
+l_after_tm:;
+    if (!(r_zn == 0ull)) { r_1p = r_6i; r_bh = r_an; r_oy = r_zn; r_u5 = r_3q; r_kl = r_3i; r_na = r_ln; r_45 = r_ek; r_el = r_w8; r_y2 = r_9v; goto l_arm_uw; }
+l_after_zm:;
+    st8(a_1, 0u);
+    mv24(away(a_1, 8ull), slot_3);
+    goto l_common_68;
+l_noarm_e1:;
+    UNREACHABLE();
+}
+
 /* capnp_streams::streams::answers::answer::<#9ba1beceb8aac8a5> */
 void capnp_streams_streams_answers_answer_9ba1beceb8aac8a5(u8 *a_1, u8 *a_2, u8 *a_3, u8 *a_4, u8 *a_5)
 {
@@ -2093,7 +2226,7 @@ void capnp_streams_streams_answers_answer_9ba1beceb8aac8a5(u8 *a_1, u8 *a_2, u8 
     u64 r_ob;
     u8 *r_fx;
     u8 *r_2b;
-    u64 r_az;
+    u64 r_1j;
     u8 r_ug;
     u8 r_xl;
     u8 r_9h;
@@ -2105,7 +2238,7 @@ void capnp_streams_streams_answers_answer_9ba1beceb8aac8a5(u8 *a_1, u8 *a_2, u8 
     u64 r_87;
     u8 *r_fx_1;
     u8 *r_2b_1;
-    u64 r_if;
+    u64 r_jt;
     u64 switch_xq;
     u8 *switch_mb;
     u8 *r_0q;
@@ -2114,20 +2247,20 @@ void capnp_streams_streams_answers_answer_9ba1beceb8aac8a5(u8 *a_1, u8 *a_2, u8 
     u64 r_km;
     u8 *r_2b_2;
     u64 r_qx;
-    u8 *r_2t;
-    u64 r_lw;
-    u64 r_7n;
+    u8 *r_bv;
+    u64 r_w4;
+    u64 r_75;
     u64 r_4y;
     u8 *r_2b_3;
-    u64 r_9u_2;
+    u64 r_oj;
     u64 r_nb;
     u64 r_0s;
     u64 r_nq;
     u64 r_xe;
     u8 *r_fx_2;
     u8 *r_2b_4;
-    u64 r_ef;
-    u64 r_w4;
+    u64 r_6w;
+    u64 r_w4_1;
     u64 r_61;
     u8 r_ug_1;
     u8 r_xl_1;
@@ -2147,13 +2280,13 @@ void capnp_streams_streams_answers_answer_9ba1beceb8aac8a5(u8 *a_1, u8 *a_2, u8 
     u64 r_vx;
     u8 *r_fx_4;
     u8 *r_2b_5;
-    u64 r_0u;
+    u64 r_wz;
     u64 r_xc_1;
     u64 r_jl_1;
     u64 r_vx_1;
     u8 *r_fx_5;
     u8 *r_2b_6;
-    u64 r_un;
+    u64 r_og;
     u8 r_4f;
     u8 r_bg;
     u8 r_hg;
@@ -2189,13 +2322,13 @@ void capnp_streams_streams_answers_answer_9ba1beceb8aac8a5(u8 *a_1, u8 *a_2, u8 
     u64 r_dr;
     u8 *r_fx_6;
     u8 *r_2b_7;
-    u64 r_uy;
+    u64 r_7h;
     u64 r_di;
     u64 r_ju;
     u64 r_5q_2;
     u8 *r_fx_7;
     u8 *r_2b_8;
-    u64 r_rz;
+    u64 r_zs;
     u8 r_4f_1;
     u8 r_bg_1;
     u8 r_hg_1;
@@ -2506,13 +2639,13 @@ l_join_67:;
     r_ob = (r_wh + 10ull);
     r_fx = ldp(a_5);
     r_2b = away(r_fx, r_wh);
-    if (((u64)(uptr)r_2b - (u64)(uptr)((u8 *)g_static_129)) < 10ull) { r_az = 0ull; goto l_join_yo; }
-    mv10(r_2b, ((u8 *)g_static_129));
+    if (((u64)(uptr)r_2b - (u64)(uptr)((u8 *)g_static_198)) < 10ull) { r_1j = 0ull; goto l_join_3f; }
+    mv10(r_2b, ((u8 *)g_static_198));
     goto l_arm_ga;
-l_join_yo:;
-    st8((r_2b + (i64)(r_az)), ld8((((u8 *)g_static_129) + (i64)(r_az))));
-    u64 r_c4_1 = (r_az + 1ull);
-    if (!(r_c4_1 == 10ull)) { r_az = r_c4_1; goto l_join_yo; }
+l_join_3f:;
+    st8((r_2b + (i64)(r_1j)), ld8((((u8 *)g_static_198) + (i64)(r_1j))));
+    u64 r_c4_1 = (r_1j + 1ull);
+    if (!(r_c4_1 == 10ull)) { r_1j = r_c4_1; goto l_join_3f; }
 l_arm_ga:;
     stp(a_5, r_fx);
     st64(r_rq_1, r_ob);
@@ -2551,19 +2684,19 @@ l_join_uj:;
     r_87 = (r_tr + 15ull);
     r_fx_1 = ldp(a_5);
     r_2b_1 = away(r_fx_1, r_tr);
-    if (((u64)(uptr)r_2b_1 - (u64)(uptr)((u8 *)g_static_130)) < 15ull) { r_if = 0ull; goto l_join_sx; }
-    mv15(r_2b_1, ((u8 *)g_static_130));
+    if (((u64)(uptr)r_2b_1 - (u64)(uptr)((u8 *)g_static_199)) < 15ull) { r_jt = 0ull; goto l_join_5n; }
+    mv15(r_2b_1, ((u8 *)g_static_199));
     goto l_arm_3c;
-l_join_sx:;
-    st8((r_2b_1 + (i64)(r_if)), ld8((((u8 *)g_static_130) + (i64)(r_if))));
-    u64 r_c4_2 = (r_if + 1ull);
-    if (!(r_c4_2 == 15ull)) { r_if = r_c4_2; goto l_join_sx; }
+l_join_5n:;
+    st8((r_2b_1 + (i64)(r_jt)), ld8((((u8 *)g_static_199) + (i64)(r_jt))));
+    u64 r_c4_2 = (r_jt + 1ull);
+    if (!(r_c4_2 == 15ull)) { r_jt = r_c4_2; goto l_join_5n; }
 l_arm_3c:;
     stp(a_5, r_fx_1);
     st64(r_rq_2, r_87);
     st64(r_08_1, r_7x);
     switch_xq = ld64((((u8 *)switch_table_capnp_streams_streams_answers_answer_7b3c_8a69267f) + (i64)(8 * (r_ep & 255ull))));
-    switch_mb = ldp((((u8 *)switch_table_capnp_streams_streams_answers_answer_7b3c_65dcea49) + (i64)(8 * (r_ep & 255ull))));
+    switch_mb = ldp((((u8 *)switch_table_capnp_streams_streams_answers_answer_7b3c_ef5e0832) + (i64)(8 * (r_ep & 255ull))));
     if (!(switch_xq > (r_7x - r_87))) { r_0q = r_fx_1; r_1g = r_7x; r_6f = r_87; goto l_join_j2; }
     u8 r_qf = std_alloc_vec_Vec_grow_amortized_ffd95af9aab10bcd(a_5, switch_xq);
     if (!r_qf) goto l_arm_eo_1;
@@ -2585,26 +2718,26 @@ l_arm_hk:;
     stp(a_5, r_0q);
     st64(r_rq_2, r_km);
     st64(r_08_1, r_1g);
-    if (!((r_1g - r_km) < 12ull)) { r_2t = r_0q; r_lw = r_1g; r_7n = r_km; goto l_join_1x; }
+    if (!((r_1g - r_km) < 12ull)) { r_bv = r_0q; r_w4 = r_1g; r_75 = r_km; goto l_join_zf; }
     u8 r_t0 = std_alloc_vec_Vec_grow_amortized_ffd95af9aab10bcd(a_5, 12ull);
     if (!r_t0) goto l_arm_eo_1;
-    r_2t = ldp(a_5);
-    r_lw = ld64(r_08_1);
-    r_7n = ld64(r_rq_2);
-l_join_1x:;
-    r_4y = (r_7n + 12ull);
-    r_2b_3 = away(r_2t, r_7n);
-    if (((u64)(uptr)r_2b_3 - (u64)(uptr)((u8 *)g_static_145)) < 12ull) { r_9u_2 = 0ull; goto l_join_r3; }
-    mv12(r_2b_3, ((u8 *)g_static_145));
+    r_bv = ldp(a_5);
+    r_w4 = ld64(r_08_1);
+    r_75 = ld64(r_rq_2);
+l_join_zf:;
+    r_4y = (r_75 + 12ull);
+    r_2b_3 = away(r_bv, r_75);
+    if (((u64)(uptr)r_2b_3 - (u64)(uptr)((u8 *)g_static_214)) < 12ull) { r_oj = 0ull; goto l_join_qv; }
+    mv12(r_2b_3, ((u8 *)g_static_214));
     goto l_capnp_nm;
-l_join_r3:;
-    st8((r_2b_3 + (i64)(r_9u_2)), ld8((((u8 *)g_static_145) + (i64)(r_9u_2))));
-    u64 r_c4_4 = (r_9u_2 + 1ull);
-    if (!(r_c4_4 == 12ull)) { r_9u_2 = r_c4_4; goto l_join_r3; }
+l_join_qv:;
+    st8((r_2b_3 + (i64)(r_oj)), ld8((((u8 *)g_static_214) + (i64)(r_oj))));
+    u64 r_c4_4 = (r_oj + 1ull);
+    if (!(r_c4_4 == 12ull)) { r_oj = r_c4_4; goto l_join_qv; }
 l_capnp_nm:;
-    stp(a_5, r_2t);
+    stp(a_5, r_bv);
     st64(r_rq_2, r_4y);
-    st64(r_08_1, r_lw);
+    st64(r_08_1, r_w4);
     u8 r_a6 = capnp_messages_text_write_number_ebb589c36e6b8e33(a_5, r_38_12);
     if ((u8)(r_a6 & 1)) { r_ug_1 = 1u; r_xl_1 = 5u; goto l_capnp_56_1; }
     r_nb = (r_38_13 & 0xffffffffull);
@@ -2619,13 +2752,13 @@ l_join_me:;
     r_xe = (r_nq + 7ull);
     r_fx_2 = ldp(a_5);
     r_2b_4 = away(r_fx_2, r_nq);
-    if (((u64)(uptr)r_2b_4 - (u64)(uptr)((u8 *)g_static_146)) < 7ull) { r_ef = 0ull; goto l_join_qh; }
-    mv7(r_2b_4, ((u8 *)g_static_146));
+    if (((u64)(uptr)r_2b_4 - (u64)(uptr)((u8 *)g_static_215)) < 7ull) { r_6w = 0ull; goto l_join_zx; }
+    mv7(r_2b_4, ((u8 *)g_static_215));
     goto l_arm_zu;
-l_join_qh:;
-    st8((r_2b_4 + (i64)(r_ef)), ld8((((u8 *)g_static_146) + (i64)(r_ef))));
-    u64 r_c4_5 = (r_ef + 1ull);
-    if (!(r_c4_5 == 7ull)) { r_ef = r_c4_5; goto l_join_qh; }
+l_join_zx:;
+    st8((r_2b_4 + (i64)(r_6w)), ld8((((u8 *)g_static_215) + (i64)(r_6w))));
+    u64 r_c4_5 = (r_6w + 1ull);
+    if (!(r_c4_5 == 7ull)) { r_6w = r_c4_5; goto l_join_zx; }
 l_arm_zu:;
     stp(a_5, r_fx_2);
     st64(r_rq_2, r_xe);
@@ -2634,17 +2767,17 @@ l_arm_zu:;
     if ((u8)(r_p9 & 1)) { r_ug_1 = 1u; r_xl_1 = 5u; goto l_capnp_56_1; }
     u64 r_52_6 = ld64(r_08_1);
     u64 r_52_7 = ld64(r_rq_2);
-    if (!(r_52_6 == r_52_7)) { r_w4 = r_52_6; r_61 = r_52_7; goto l_arm_e4; }
+    if (!(r_52_6 == r_52_7)) { r_w4_1 = r_52_6; r_61 = r_52_7; goto l_arm_e4; }
     u8 r_q2 = std_alloc_vec_Vec_grow_amortized_ffd95af9aab10bcd(a_5, 1ull);
     if (!r_q2) goto l_arm_eo_1;
-    r_w4 = ld64(r_08_1);
+    r_w4_1 = ld64(r_08_1);
     r_61 = ld64(r_rq_2);
 l_arm_e4:;
     u8 *r_fx_3 = ldp(a_5);
     st8(away(r_fx_3, r_61), 10u);
     stp(a_5, r_fx_3);
     st64(r_rq_2, (r_61 + 1ull));
-    st64(r_08_1, r_w4);
+    st64(r_08_1, r_w4_1);
     r_ug_1 = 0u;
     r_xl_1 = 0u;
     goto l_capnp_56_1;
@@ -2698,13 +2831,13 @@ l_join_1w:;
     r_vx = (r_jl + 6ull);
     r_fx_4 = ldp(a_5);
     r_2b_5 = away(r_fx_4, r_jl);
-    if (((u64)(uptr)r_2b_5 - (u64)(uptr)((u8 *)g_static_147)) < 6ull) { r_0u = 0ull; goto l_join_ov; }
-    mv6(r_2b_5, ((u8 *)g_static_147));
+    if (((u64)(uptr)r_2b_5 - (u64)(uptr)((u8 *)g_static_216)) < 6ull) { r_wz = 0ull; goto l_join_oo; }
+    mv6(r_2b_5, ((u8 *)g_static_216));
     goto l_arm_zo;
-l_join_ov:;
-    st8((r_2b_5 + (i64)(r_0u)), ld8((((u8 *)g_static_147) + (i64)(r_0u))));
-    u64 r_c4_6 = (r_0u + 1ull);
-    if (!(r_c4_6 == 6ull)) { r_0u = r_c4_6; goto l_join_ov; }
+l_join_oo:;
+    st8((r_2b_5 + (i64)(r_wz)), ld8((((u8 *)g_static_216) + (i64)(r_wz))));
+    u64 r_c4_6 = (r_wz + 1ull);
+    if (!(r_c4_6 == 6ull)) { r_wz = r_c4_6; goto l_join_oo; }
 l_arm_zo:;
     stp(a_5, r_fx_4);
     st64(r_rq_3, r_vx);
@@ -2722,13 +2855,13 @@ l_join_1w_1:;
     r_vx_1 = (r_jl_1 + 6ull);
     r_fx_5 = ldp(a_5);
     r_2b_6 = away(r_fx_5, r_jl_1);
-    if (((u64)(uptr)r_2b_6 - (u64)(uptr)((u8 *)g_static_148)) < 6ull) { r_un = 0ull; goto l_join_rw; }
-    mv6(r_2b_6, ((u8 *)g_static_148));
+    if (((u64)(uptr)r_2b_6 - (u64)(uptr)((u8 *)g_static_217)) < 6ull) { r_og = 0ull; goto l_join_0u; }
+    mv6(r_2b_6, ((u8 *)g_static_217));
     goto l_arm_l9;
-l_join_rw:;
-    st8((r_2b_6 + (i64)(r_un)), ld8((((u8 *)g_static_148) + (i64)(r_un))));
-    u64 r_c4_7 = (r_un + 1ull);
-    if (!(r_c4_7 == 6ull)) { r_un = r_c4_7; goto l_join_rw; }
+l_join_0u:;
+    st8((r_2b_6 + (i64)(r_og)), ld8((((u8 *)g_static_217) + (i64)(r_og))));
+    u64 r_c4_7 = (r_og + 1ull);
+    if (!(r_c4_7 == 6ull)) { r_og = r_c4_7; goto l_join_0u; }
 l_arm_l9:;
     stp(a_5, r_fx_5);
     st64(r_rq_3, r_vx_1);
@@ -2863,13 +2996,13 @@ l_join_jf:;
     r_dr = (r_v4 + 13ull);
     r_fx_6 = ldp(a_5);
     r_2b_7 = away(r_fx_6, r_v4);
-    if (((u64)(uptr)r_2b_7 - (u64)(uptr)((u8 *)g_static_151)) < 13ull) { r_uy = 0ull; goto l_join_qv; }
-    mv13(r_2b_7, ((u8 *)g_static_151));
+    if (((u64)(uptr)r_2b_7 - (u64)(uptr)((u8 *)g_static_220)) < 13ull) { r_7h = 0ull; goto l_join_2a; }
+    mv13(r_2b_7, ((u8 *)g_static_220));
     goto l_arm_l9_1;
-l_join_qv:;
-    st8((r_2b_7 + (i64)(r_uy)), ld8((((u8 *)g_static_151) + (i64)(r_uy))));
-    u64 r_c4_8 = (r_uy + 1ull);
-    if (!(r_c4_8 == 13ull)) { r_uy = r_c4_8; goto l_join_qv; }
+l_join_2a:;
+    st8((r_2b_7 + (i64)(r_7h)), ld8((((u8 *)g_static_220) + (i64)(r_7h))));
+    u64 r_c4_8 = (r_7h + 1ull);
+    if (!(r_c4_8 == 13ull)) { r_7h = r_c4_8; goto l_join_2a; }
 l_arm_l9_1:;
     stp(a_5, r_fx_6);
     st64(r_rq_5, r_dr);
@@ -2887,21 +3020,21 @@ l_join_sq:;
     r_5q_2 = (r_ju + 8ull);
     r_fx_7 = ldp(a_5);
     r_2b_8 = away(r_fx_7, r_ju);
-    if (((u64)(uptr)r_2b_8 - (u64)(uptr)((u8 *)g_static_152)) < 8ull) { r_rz = 0ull; goto l_join_jy; }
+    if (((u64)(uptr)r_2b_8 - (u64)(uptr)((u8 *)g_static_221)) < 8ull) { r_zs = 0ull; goto l_join_j7; }
     st64(r_2b_8, 0x207364726f77202cull);
     goto l_arm_zo_1;
-l_join_jy:;
-    st8((r_2b_8 + (i64)(r_rz)), ld8((((u8 *)g_static_152) + (i64)(r_rz))));
-    u64 r_c4_9 = (r_rz + 1ull);
-    if (!(r_c4_9 == 8ull)) { r_rz = r_c4_9; goto l_join_jy; }
+l_join_j7:;
+    st8((r_2b_8 + (i64)(r_zs)), ld8((((u8 *)g_static_221) + (i64)(r_zs))));
+    u64 r_c4_9 = (r_zs + 1ull);
+    if (!(r_c4_9 == 8ull)) { r_zs = r_c4_9; goto l_join_j7; }
 l_arm_zo_1:;
     stp(a_5, r_fx_7);
     st64(r_rq_5, r_5q_2);
     st64(r_08_3, r_di);
     u8 r_9d_3 = capnp_messages_text_write_number_ebb589c36e6b8e33(a_5, r_38_17);
     if ((u8)(r_9d_3 & 1)) goto l_capnp_9n_1;
-    u8 r_62 = capnp_framing_devices_writing_write_all_ebb589c36e6b8e33(a_5, ((u8 *)g_static_153), 15ull);
-    if ((u8)(r_62 & 1)) goto l_capnp_9n_1;
+    u8 r_n2 = capnp_framing_devices_writing_write_all_ebb589c36e6b8e33(a_5, ((u8 *)g_static_222), 15ull);
+    if ((u8)(r_n2 & 1)) goto l_capnp_9n_1;
     u8 r_9d_4 = capnp_messages_text_write_number_ebb589c36e6b8e33(a_5, r_38_18);
     if ((u8)(r_9d_4 & 1)) goto l_capnp_9n_1;
     goto l_capnp_tq_1;
@@ -3118,8 +3251,8 @@ l_join_kl:;
 l_join_jf:;
     u8 r_47 = ld8((r_x9 + (i64)(r_pt)));
     u8 *r_a7 = (slot_1 + (i64)((u64)(r_pt << 1ull)));
-    st8(r_a7, ld8((((u8 *)g_static_127) + (i64)((u64)(u8)((u32)r_47 >> 4u)))));
-    st8((r_a7 + 1), ld8((((u8 *)g_static_127) + (i64)((u64)(u8)(r_47 & 15u)))));
+    st8(r_a7, ld8((((u8 *)g_static_197) + (i64)((u64)(u8)((u32)r_47 >> 4u)))));
+    st8((r_a7 + 1), ld8((((u8 *)g_static_197) + (i64)((u64)(u8)(r_47 & 15u)))));
     u64 r_c4 = (r_pt + 1ull);
     if (!(r_c4 == a_3q)) { r_pt = r_c4; goto l_join_jf; }
     r_yb = (u64)(a_3q << 1ull);
@@ -5239,7 +5372,7 @@ l_capnp_t3:;
     if (!(r_r5_3 == 0u)) goto l_arm_lx;
     r_xm = away(a_5, 32ull);
     r_xz_1 = away(a_5, 24ull);
-    r_ld = ((u8 *)g_static_129);
+    r_ld = ((u8 *)g_static_198);
     r_9g = 10ull;
 l_join_e2:;
     if (!(ld8(r_ld) == 10u)) goto l_join_q3;
@@ -5298,7 +5431,7 @@ l_arm_lx:;
     r_ep = (u64)(r_38_13 >> 32ull);
     r_xm_1 = away(a_5, 32ull);
     r_xz_2 = away(a_5, 24ull);
-    r_ld_1 = ((u8 *)g_static_130);
+    r_ld_1 = ((u8 *)g_static_199);
     r_9g_1 = 15ull;
 l_join_e2_1:;
     if (!(ld8(r_ld_1) == 10u)) goto l_join_q3_1;
@@ -5337,7 +5470,7 @@ l_arm_v0:;
     if (!(r_t9_3 == 0ull)) { u8 *r_11 = away(r_ld_1, r_n3); u64 r_12 = r_t9_3; r_ld_1 = r_11; r_9g_1 = r_12; goto l_join_e2_1; }
     r_ld_2 = r_5s;
     r_9g_2 = r_5s;
-    r_h7 = ldp((((u8 *)switch_table_capnp_streams_streams_answers_answer_7b3c_65dcea49) + (i64)(8 * (r_ep & 255ull))));
+    r_h7 = ldp((((u8 *)switch_table_capnp_streams_streams_answers_answer_7b3c_ef5e0832) + (i64)(8 * (r_ep & 255ull))));
     r_jx = ld64((((u8 *)switch_table_capnp_streams_streams_answers_answer_7b3c_8a69267f) + (i64)(8 * (r_ep & 255ull))));
 l_join_e2_3:;
     if (!(ld8(r_h7) == 10u)) goto l_join_6o;
@@ -5376,7 +5509,7 @@ l_capnp_if_2:;
     r_a7_4 = ((r_to_2 ? 1u : (r_pm_2 == 0ull)) ? r_jx : r_pm_2);
 l_arm_4h:;
     u64 r_t9_4 = (r_jx - r_a7_4);
-    if (r_t9_4 == 0ull) { r_ld_3 = r_x5_1; r_9g_3 = ((u8 *)g_static_145); r_h7_1 = 12ull; goto l_join_e2_2; }
+    if (r_t9_4 == 0ull) { r_ld_3 = r_x5_1; r_9g_3 = ((u8 *)g_static_214); r_h7_1 = 12ull; goto l_join_e2_2; }
     u8 r_16 = r_x5_1;
     u8 r_17 = r_rc;
     u8 *r_18 = away(r_h7, r_a7_4);
@@ -5424,7 +5557,7 @@ l_arm_on_1:;
     u8 r_rn = capnp_messages_text_write_number_2f3bb032c6266247(a_5, r_38_12);
     if ((u8)(r_rn & 1)) { r_ug_1 = 1u; r_xl_1 = 5u; goto l_capnp_56_1; }
     r_nb = (r_38_13 & 0xffffffffull);
-    r_ld_4 = ((u8 *)g_static_146);
+    r_ld_4 = ((u8 *)g_static_215);
     r_9g_4 = 7ull;
 l_join_e2_4:;
     if (!(ld8(r_ld_4) == 10u)) goto l_join_q3_2;
@@ -5508,7 +5641,7 @@ l_arm_42:;
     r_z4_1 = ld32((slot_15 + 16));
     r_xm_2 = away(a_5, 32ull);
     r_xz_3 = away(a_5, 24ull);
-    r_ld_5 = ((u8 *)g_static_147);
+    r_ld_5 = ((u8 *)g_static_216);
     r_9g_5 = 6ull;
 l_join_e2_5:;
     if (!(ld8(r_ld_5) == 10u)) goto l_join_q3_3;
@@ -5545,7 +5678,7 @@ l_arm_8s_1:;
     if (!(r_t9_7 == 0ull)) { u8 *r_34 = away(r_ld_5, r_4j_1); u64 r_35 = r_t9_7; r_ld_5 = r_34; r_9g_5 = r_35; goto l_join_e2_5; }
     u8 r_k1 = capnp_messages_text_write_number_2f3bb032c6266247(a_5, r_38_14);
     if ((u8)(r_k1 & 1)) goto l_capnp_9n;
-    r_ld_6 = ((u8 *)g_static_148);
+    r_ld_6 = ((u8 *)g_static_217);
     r_9g_6 = 6ull;
 l_join_e2_6:;
     if (!(ld8(r_ld_6) == 10u)) goto l_join_q3_4;
@@ -5699,7 +5832,7 @@ l_arm_91:;
     r_38_18 = ld64((slot_17 + 24));
     r_xm_3 = away(a_5, 32ull);
     r_xz_4 = away(a_5, 24ull);
-    r_ld_7 = ((u8 *)g_static_151);
+    r_ld_7 = ((u8 *)g_static_220);
     r_9g_7 = 13ull;
 l_join_e2_7:;
     if (!(ld8(r_ld_7) == 10u)) goto l_join_q3_5;
@@ -5736,7 +5869,7 @@ l_arm_8s_3:;
     if (!(r_t9_9 == 0ull)) { u8 *r_47 = away(r_ld_7, r_4j_3); u64 r_48 = r_t9_9; r_ld_7 = r_47; r_9g_7 = r_48; goto l_join_e2_7; }
     u8 r_k1_2 = capnp_messages_text_write_number_2f3bb032c6266247(a_5, (u64)r_z4_2);
     if ((u8)(r_k1_2 & 1)) goto l_capnp_9n_1;
-    r_ld_8 = ((u8 *)g_static_152);
+    r_ld_8 = ((u8 *)g_static_221);
     r_9g_8 = 8ull;
 l_join_e2_8:;
     if (!(ld8(r_ld_8) == 10u)) goto l_join_q3_6;
@@ -5773,8 +5906,8 @@ l_arm_8s_4:;
     if (!(r_t9_10 == 0ull)) { u8 *r_53 = away(r_ld_8, r_4j_4); u64 r_54 = r_t9_10; r_ld_8 = r_53; r_9g_8 = r_54; goto l_join_e2_8; }
     u8 r_k1_3 = capnp_messages_text_write_number_2f3bb032c6266247(a_5, r_38_17);
     if ((u8)(r_k1_3 & 1)) goto l_capnp_9n_1;
-    u8 r_w2 = capnp_framing_devices_writing_write_all_2f3bb032c6266247(a_5, ((u8 *)g_static_153), 15ull);
-    if ((u8)(r_w2 & 1)) goto l_capnp_9n_1;
+    u8 r_lt = capnp_framing_devices_writing_write_all_2f3bb032c6266247(a_5, ((u8 *)g_static_222), 15ull);
+    if ((u8)(r_lt & 1)) goto l_capnp_9n_1;
     u8 r_k1_4 = capnp_messages_text_write_number_2f3bb032c6266247(a_5, r_38_18);
     if ((u8)(r_k1_4 & 1)) goto l_capnp_9n_1;
     goto l_capnp_o4_1;
@@ -6057,8 +6190,8 @@ l_join_kl:;
 l_join_jf:;
     u8 r_47 = ld8((r_x9 + (i64)(r_pt)));
     u8 *r_a7 = (slot_1 + (i64)((u64)(r_pt << 1ull)));
-    st8(r_a7, ld8((((u8 *)g_static_127) + (i64)((u64)(u8)((u32)r_47 >> 4u)))));
-    st8((r_a7 + 1), ld8((((u8 *)g_static_127) + (i64)((u64)(u8)(r_47 & 15u)))));
+    st8(r_a7, ld8((((u8 *)g_static_197) + (i64)((u64)(u8)((u32)r_47 >> 4u)))));
+    st8((r_a7 + 1), ld8((((u8 *)g_static_197) + (i64)((u64)(u8)(r_47 & 15u)))));
     u64 r_c4 = (r_pt + 1ull);
     if (!(r_c4 == a_3q)) { r_pt = r_c4; goto l_join_jf; }
     r_ld = slot_1;
@@ -7628,8 +7761,8 @@ l_capnp_t3:;
     r_38_13 = ld64((slot_1 + 24));
     if (!(ld8(slot_1) == 0u)) goto l_arm_4t;
     r_xz = away(a_5, 24ull);
-    if (r_r5_3 == 0u) { r_4n = ((u8 *)g_static_129); r_ep = 10ull; goto l_join_m6; }
-    r_4n_1 = ((u8 *)g_static_130);
+    if (r_r5_3 == 0u) { r_4n = ((u8 *)g_static_198); r_ep = 10ull; goto l_join_m6; }
+    r_4n_1 = ((u8 *)g_static_199);
     r_ep_1 = 15ull;
     goto l_join_m6_1;
 l_join_m6:;
@@ -7687,7 +7820,7 @@ l_capnp_je_1:;
     if (!(r_k1_1 == 0ull)) { r_4n_1 = t_dx_1; r_ep_1 = r_k1_1; goto l_join_m6_1; }
     u64 r_ep_2 = (u64)(r_38_13 >> 32ull);
     r_yl_2 = r_dg;
-    r_gh = ldp((((u8 *)switch_table_capnp_streams_streams_answers_answer_7b3c_65dcea49) + (i64)(8 * (r_ep_2 & 255ull))));
+    r_gh = ldp((((u8 *)switch_table_capnp_streams_streams_answers_answer_7b3c_ef5e0832) + (i64)(8 * (r_ep_2 & 255ull))));
     r_61 = ld64((((u8 *)switch_table_capnp_streams_streams_answers_answer_7b3c_8a69267f) + (i64)(8 * (r_ep_2 & 255ull))));
 l_join_ax:;
     if (!r_yl_2) goto l_arm_m6;
@@ -7714,7 +7847,7 @@ l_capnp_je_2:;
     u8 r_dg_1 = (ld8(away(t_dx_2, 0xffffffffffffffffull)) == 10u);
     st8(r_xz, (u8)r_dg_1);
     u64 r_k1_2 = (r_61 - t_1m_2);
-    if (r_k1_2 == 0ull) { r_4n_2 = ((u8 *)g_static_145); r_ep_3 = 12ull; goto l_join_m6_2; }
+    if (r_k1_2 == 0ull) { r_4n_2 = ((u8 *)g_static_214); r_ep_3 = 12ull; goto l_join_m6_2; }
     r_yl_2 = r_dg_1;
     r_gh = t_dx_2;
     r_61 = r_k1_2;
@@ -7743,7 +7876,7 @@ l_capnp_je_3:;
     if (!(r_k1_3 == 0ull)) { r_4n_2 = t_dx_3; r_ep_3 = r_k1_3; goto l_join_m6_2; }
     u8 r_l7 = capnp_messages_text_write_number_48bcd249c6a62d53(a_5, r_38_12);
     if ((u8)(r_l7 & 1)) { r_ug = 1u; r_xl_1 = 5u; goto l_capnp_56; }
-    r_4n_3 = ((u8 *)g_static_146);
+    r_4n_3 = ((u8 *)g_static_215);
     r_ep_4 = 7ull;
 l_join_m6_3:;
     r_jv_4 = r_4n_3;
@@ -7806,7 +7939,7 @@ l_arm_42:;
     r_38_14 = ld64(r_x5_1);
     r_z4_1 = ld32((slot_15 + 16));
     r_xz_1 = away(a_5, 24ull);
-    r_4n_4 = ((u8 *)g_static_147);
+    r_4n_4 = ((u8 *)g_static_216);
     r_ep_5 = 6ull;
 l_join_m6_4:;
     r_jv_5 = r_4n_4;
@@ -7832,7 +7965,7 @@ l_capnp_je_5:;
     if (!(r_k1_5 == 0ull)) { r_4n_4 = t_dx_5; r_ep_5 = r_k1_5; goto l_join_m6_4; }
     u8 r_w8 = capnp_messages_text_write_number_48bcd249c6a62d53(a_5, r_38_14);
     if ((u8)(r_w8 & 1)) goto l_capnp_9n;
-    r_4n_5 = ((u8 *)g_static_148);
+    r_4n_5 = ((u8 *)g_static_217);
     r_ep_6 = 6ull;
 l_join_m6_5:;
     r_jv_6 = r_4n_5;
@@ -7940,8 +8073,8 @@ l_join_zw:;
 l_join_jf:;
     u8 r_47 = ld8((slot_3 + (i64)(r_pt)));
     u8 *r_a7_4 = (slot_1 + (i64)((u64)(r_pt << 1ull)));
-    st8(r_a7_4, ld8((((u8 *)g_static_127) + (i64)((u64)(u8)((u32)r_47 >> 4u)))));
-    st8((r_a7_4 + 1), ld8((((u8 *)g_static_127) + (i64)((u64)(u8)(r_47 & 15u)))));
+    st8(r_a7_4, ld8((((u8 *)g_static_197) + (i64)((u64)(u8)((u32)r_47 >> 4u)))));
+    st8((r_a7_4 + 1), ld8((((u8 *)g_static_197) + (i64)((u64)(u8)(r_47 & 15u)))));
     u64 r_c4_1 = (r_pt + 1ull);
     if (r_c4_1 == 32ull) { r_4n_6 = slot_1; r_ep_7 = 64ull; goto l_join_m6_6; }
     r_pt = r_c4_1;
@@ -7993,7 +8126,7 @@ l_arm_91:;
     r_38_17 = ld64((slot_17 + 16));
     r_38_18 = ld64((slot_17 + 24));
     r_xz_3 = away(a_5, 24ull);
-    r_4n_7 = ((u8 *)g_static_151);
+    r_4n_7 = ((u8 *)g_static_220);
     r_ep_8 = 13ull;
 l_join_m6_7:;
     r_jv_8 = r_4n_7;
@@ -8019,7 +8152,7 @@ l_capnp_je_7:;
     if (!(r_k1_8 == 0ull)) { r_4n_7 = t_dx_7; r_ep_8 = r_k1_8; goto l_join_m6_7; }
     u8 r_w8_2 = capnp_messages_text_write_number_48bcd249c6a62d53(a_5, (u64)r_z4_2);
     if ((u8)(r_w8_2 & 1)) goto l_capnp_9n_1;
-    r_4n_8 = ((u8 *)g_static_152);
+    r_4n_8 = ((u8 *)g_static_221);
     r_ep_9 = 8ull;
 l_join_m6_8:;
     r_jv_9 = r_4n_8;
@@ -8045,8 +8178,8 @@ l_capnp_je_8:;
     if (!(r_k1_9 == 0ull)) { r_4n_8 = t_dx_8; r_ep_9 = r_k1_9; goto l_join_m6_8; }
     u8 r_w8_3 = capnp_messages_text_write_number_48bcd249c6a62d53(a_5, r_38_17);
     if ((u8)(r_w8_3 & 1)) goto l_capnp_9n_1;
-    u8 r_qu = capnp_framing_devices_writing_write_all_48bcd249c6a62d53(a_5, ((u8 *)g_static_153), 15ull);
-    if ((u8)(r_qu & 1)) goto l_capnp_9n_1;
+    u8 r_8g = capnp_framing_devices_writing_write_all_48bcd249c6a62d53(a_5, ((u8 *)g_static_222), 15ull);
+    if ((u8)(r_8g & 1)) goto l_capnp_9n_1;
     u8 r_w8_4 = capnp_messages_text_write_number_48bcd249c6a62d53(a_5, r_38_18);
     if (!(u8)(r_w8_4 & 1)) goto l_capnp_kt_1;
 l_capnp_9n_1:;
@@ -8153,8 +8286,8 @@ l_join_kl:;
 l_join_jf:;
     u8 r_47 = ld8((r_x9 + (i64)(r_pt)));
     u8 *r_a7 = (slot_1 + (i64)((u64)(r_pt << 1ull)));
-    st8(r_a7, ld8((((u8 *)g_static_127) + (i64)((u64)(u8)((u32)r_47 >> 4u)))));
-    st8((r_a7 + 1), ld8((((u8 *)g_static_127) + (i64)((u64)(u8)(r_47 & 15u)))));
+    st8(r_a7, ld8((((u8 *)g_static_197) + (i64)((u64)(u8)((u32)r_47 >> 4u)))));
+    st8((r_a7 + 1), ld8((((u8 *)g_static_197) + (i64)((u64)(u8)(r_47 & 15u)))));
     u64 r_c4 = (r_pt + 1ull);
     if (!(r_c4 == a_3q)) { r_pt = r_c4; goto l_join_jf; }
     r_4n = slot_1;
@@ -8631,9 +8764,9 @@ l_join_st:;
     if ((u8)(ld8(r_t9) & 1)) { r_fk = 1u; goto l_return_ri; }
     r_47 = ld8(away(a_2, r_6o));
     switch (r_47) {
-    case 92u: { r_7u = ((u8 *)g_static_283); r_j3 = 2ull; goto l_join_c8; }
-    case 10u: { r_7u_1 = ((u8 *)g_static_284); r_j3_1 = 2ull; goto l_join_c8_1; }
-    case 13u: { r_7u_2 = ((u8 *)g_static_285); r_j3_2 = 2ull; goto l_join_c8_2; }
+    case 92u: { r_7u = ((u8 *)g_static_316); r_j3 = 2ull; goto l_join_c8; }
+    case 10u: { r_7u_1 = ((u8 *)g_static_317); r_j3_1 = 2ull; goto l_join_c8_1; }
+    case 13u: { r_7u_2 = ((u8 *)g_static_318); r_j3_2 = 2ull; goto l_join_c8_2; }
     default: goto l_default_wn;
     }
 l_join_c8:;
@@ -8802,7 +8935,7 @@ l_after_rg:;
     r_su_1 = away(a_1, 40ull);
     r_xm_1 = away(a_1, 32ull);
     r_x5_4 = (slot_1 + 8);
-    r_7u_4 = ((u8 *)g_static_235);
+    r_7u_4 = ((u8 *)g_static_269);
     r_j3_4 = 1ull;
 l_join_c8_4:;
     memset(slot_1, 0u, 96);
@@ -9281,28 +9414,28 @@ l_capnp_t3:;
     r_38_12 = ld64((slot_1 + 16));
     r_38_13 = ld64((slot_1 + 24));
     if (!(ld8(slot_1) == 0u)) goto l_arm_4t;
-    if (!(r_r5_3 == 0u)) goto l_arm_ab;
-    u8 r_xu = capnp_framing_devices_writing_write_all_c55655458b275944(a_5, ((u8 *)g_static_129), 10ull);
+    if (!(r_r5_3 == 0u)) goto l_arm_j4;
+    u8 r_4e = capnp_framing_devices_writing_write_all_c55655458b275944(a_5, ((u8 *)g_static_198), 10ull);
     memset(slot_14, 0u, 32);
-    r_5y = r_xu;
-    r_6j = (u8)(r_xu ^ 1u);
+    r_5y = r_4e;
+    r_6j = (u8)(r_4e ^ 1u);
     r_sk = 0ull;
-    r_ly = ((u8)(r_xu & 1) ? 5u : 0u);
+    r_ly = ((u8)(r_4e & 1) ? 5u : 0u);
     r_yx = 0u;
     r_1v = 0ull;
     goto l_join_s7;
-l_arm_ab:;
-    u8 r_62 = capnp_framing_devices_writing_write_all_c55655458b275944(a_5, ((u8 *)g_static_130), 15ull);
-    if ((u8)(r_62 & 1)) goto l_capnp_9n;
+l_arm_j4:;
+    u8 r_oh = capnp_framing_devices_writing_write_all_c55655458b275944(a_5, ((u8 *)g_static_199), 15ull);
+    if ((u8)(r_oh & 1)) goto l_capnp_9n;
     u64 r_ep = (u64)(r_38_13 >> 32ull);
-    u8 r_p2_1 = capnp_framing_devices_writing_write_all_c55655458b275944(a_5, ldp((((u8 *)switch_table_capnp_streams_streams_answers_answer_7b3c_65dcea49) + (i64)(8 * (r_ep & 255ull)))), ld64((((u8 *)switch_table_capnp_streams_streams_answers_answer_7b3c_8a69267f) + (i64)(8 * (r_ep & 255ull)))));
+    u8 r_p2_1 = capnp_framing_devices_writing_write_all_c55655458b275944(a_5, ldp((((u8 *)switch_table_capnp_streams_streams_answers_answer_7b3c_ef5e0832) + (i64)(8 * (r_ep & 255ull)))), ld64((((u8 *)switch_table_capnp_streams_streams_answers_answer_7b3c_8a69267f) + (i64)(8 * (r_ep & 255ull)))));
     if ((u8)(r_p2_1 & 1)) goto l_capnp_9n;
-    u8 r_kn = capnp_framing_devices_writing_write_all_c55655458b275944(a_5, ((u8 *)g_static_145), 12ull);
-    if ((u8)(r_kn & 1)) goto l_capnp_9n;
+    u8 r_xl = capnp_framing_devices_writing_write_all_c55655458b275944(a_5, ((u8 *)g_static_214), 12ull);
+    if ((u8)(r_xl & 1)) goto l_capnp_9n;
     u8 r_e9 = capnp_messages_text_write_number_c55655458b275944(a_5, r_38_12);
     if ((u8)(r_e9 & 1)) goto l_capnp_9n;
-    u8 r_li = capnp_framing_devices_writing_write_all_c55655458b275944(a_5, ((u8 *)g_static_146), 7ull);
-    if ((u8)(r_li & 1)) goto l_capnp_9n;
+    u8 r_ok = capnp_framing_devices_writing_write_all_c55655458b275944(a_5, ((u8 *)g_static_215), 7ull);
+    if ((u8)(r_ok & 1)) goto l_capnp_9n;
     u8 r_q9 = capnp_messages_text_write_number_c55655458b275944(a_5, (r_38_13 & 0xffffffffull));
     if (!(u8)(r_q9 & 1)) goto l_capnp_2e;
 l_capnp_9n:;
@@ -9347,12 +9480,12 @@ l_arm_42:;
     if (!(ld8(slot_15) == 0u)) goto l_arm_cc_1;
     r_38_14 = ld64(r_x5_1);
     r_z4_1 = ld32((slot_15 + 16));
-    u8 r_ch = capnp_framing_devices_writing_write_all_c55655458b275944(a_5, ((u8 *)g_static_147), 6ull);
-    if ((u8)(r_ch & 1)) goto l_capnp_9n_1;
+    u8 r_dl = capnp_framing_devices_writing_write_all_c55655458b275944(a_5, ((u8 *)g_static_216), 6ull);
+    if ((u8)(r_dl & 1)) goto l_capnp_9n_1;
     u8 r_c2 = capnp_messages_text_write_number_c55655458b275944(a_5, r_38_14);
     if ((u8)(r_c2 & 1)) goto l_capnp_9n_1;
-    u8 r_8z = capnp_framing_devices_writing_write_all_c55655458b275944(a_5, ((u8 *)g_static_148), 6ull);
-    if ((u8)(r_8z & 1)) goto l_capnp_9n_1;
+    u8 r_u5 = capnp_framing_devices_writing_write_all_c55655458b275944(a_5, ((u8 *)g_static_217), 6ull);
+    if ((u8)(r_u5 & 1)) goto l_capnp_9n_1;
     u8 r_c2_1 = capnp_messages_text_write_number_c55655458b275944(a_5, (u64)r_z4_1);
     if (!(u8)(r_c2_1 & 1)) goto l_capnp_cc;
 l_capnp_9n_1:;
@@ -9436,8 +9569,8 @@ l_join_x6:;
 l_join_jf:;
     u8 r_47 = ld8((slot_3 + (i64)(r_pt)));
     u8 *r_a7_4 = (slot_1 + (i64)((u64)(r_pt << 1ull)));
-    st8(r_a7_4, ld8((((u8 *)g_static_127) + (i64)((u64)(u8)((u32)r_47 >> 4u)))));
-    st8((r_a7_4 + 1), ld8((((u8 *)g_static_127) + (i64)((u64)(u8)(r_47 & 15u)))));
+    st8(r_a7_4, ld8((((u8 *)g_static_197) + (i64)((u64)(u8)((u32)r_47 >> 4u)))));
+    st8((r_a7_4 + 1), ld8((((u8 *)g_static_197) + (i64)((u64)(u8)(r_47 & 15u)))));
     u64 r_c4_1 = (r_pt + 1ull);
     if (!(r_c4_1 == 32ull)) { r_pt = r_c4_1; goto l_join_jf; }
     u8 r_rt = capnp_framing_devices_writing_write_all_c55655458b275944(a_5, slot_1, 64ull);
@@ -9488,16 +9621,16 @@ l_arm_91:;
     r_z4_2 = ld32(r_x5_2);
     r_38_17 = ld64((slot_17 + 16));
     r_38_18 = ld64((slot_17 + 24));
-    u8 r_wu = capnp_framing_devices_writing_write_all_c55655458b275944(a_5, ((u8 *)g_static_151), 13ull);
-    if ((u8)(r_wu & 1)) goto l_capnp_9n_2;
+    u8 r_0p = capnp_framing_devices_writing_write_all_c55655458b275944(a_5, ((u8 *)g_static_220), 13ull);
+    if ((u8)(r_0p & 1)) goto l_capnp_9n_2;
     u8 r_c2_2 = capnp_messages_text_write_number_c55655458b275944(a_5, (u64)r_z4_2);
     if ((u8)(r_c2_2 & 1)) goto l_capnp_9n_2;
-    u8 r_rc = capnp_framing_devices_writing_write_all_c55655458b275944(a_5, ((u8 *)g_static_152), 8ull);
-    if ((u8)(r_rc & 1)) goto l_capnp_9n_2;
+    u8 r_6r = capnp_framing_devices_writing_write_all_c55655458b275944(a_5, ((u8 *)g_static_221), 8ull);
+    if ((u8)(r_6r & 1)) goto l_capnp_9n_2;
     u8 r_c2_3 = capnp_messages_text_write_number_c55655458b275944(a_5, r_38_17);
     if ((u8)(r_c2_3 & 1)) goto l_capnp_9n_2;
-    u8 r_aa = capnp_framing_devices_writing_write_all_c55655458b275944(a_5, ((u8 *)g_static_153), 15ull);
-    if ((u8)(r_aa & 1)) goto l_capnp_9n_2;
+    u8 r_jd = capnp_framing_devices_writing_write_all_c55655458b275944(a_5, ((u8 *)g_static_222), 15ull);
+    if ((u8)(r_jd & 1)) goto l_capnp_9n_2;
     u8 r_c2_4 = capnp_messages_text_write_number_c55655458b275944(a_5, r_38_18);
     if (!(u8)(r_c2_4 & 1)) goto l_capnp_cc_1;
 l_capnp_9n_2:;
@@ -9573,8 +9706,8 @@ l_join_r9:;
 l_join_jf:;
     u8 r_47 = ld8((r_dm + (i64)(r_pt)));
     u8 *r_a7 = (slot_1 + (i64)((u64)(r_pt << 1ull)));
-    st8(r_a7, ld8((((u8 *)g_static_127) + (i64)((u64)(u8)((u32)r_47 >> 4u)))));
-    st8((r_a7 + 1), ld8((((u8 *)g_static_127) + (i64)((u64)(u8)(r_47 & 15u)))));
+    st8(r_a7, ld8((((u8 *)g_static_197) + (i64)((u64)(u8)((u32)r_47 >> 4u)))));
+    st8((r_a7 + 1), ld8((((u8 *)g_static_197) + (i64)((u64)(u8)(r_47 & 15u)))));
     u64 r_c4 = (r_pt + 1ull);
     if (!(r_c4 == a_gc)) { r_pt = r_c4; goto l_join_jf; }
     u8 r_e7 = capnp_framing_devices_writing_write_all_c55655458b275944(a_1, slot_1, (u64)(a_gc << 1ull));
@@ -10325,7 +10458,7 @@ l_capnp_t3:;
     r_su_1 = away(a_5, 40ull);
     r_xm = away(a_5, 32ull);
     r_x5_1 = (slot_1 + 8);
-    r_7u = ((u8 *)g_static_129);
+    r_7u = ((u8 *)g_static_198);
     r_j3 = 10ull;
 l_join_c8:;
     memset(slot_1, 0u, 96);
@@ -10382,7 +10515,7 @@ l_arm_lt:;
     r_su_2 = away(a_5, 40ull);
     r_xm_1 = away(a_5, 32ull);
     r_x5_2 = (slot_1 + 8);
-    r_7u_1 = ((u8 *)g_static_130);
+    r_7u_1 = ((u8 *)g_static_199);
     r_j3_1 = 15ull;
 l_join_c8_1:;
     memset(slot_1, 0u, 96);
@@ -10414,7 +10547,7 @@ l_arm_v0:;
     u64 r_t9_3 = (r_j3_1 - r_5s);
     if (!(r_t9_3 == 0ull)) { u8 *r_5 = away(r_7u_1, r_5s); u64 r_6 = r_t9_3; r_7u_1 = r_5; r_j3_1 = r_6; goto l_join_c8_1; }
     r_x5_3 = (slot_1 + 8);
-    r_7u_2 = ldp((((u8 *)switch_table_capnp_streams_streams_answers_answer_7b3c_65dcea49) + (i64)(8 * (r_ep & 255ull))));
+    r_7u_2 = ldp((((u8 *)switch_table_capnp_streams_streams_answers_answer_7b3c_ef5e0832) + (i64)(8 * (r_ep & 255ull))));
     r_j3_2 = ld64((((u8 *)switch_table_capnp_streams_streams_answers_answer_7b3c_8a69267f) + (i64)(8 * (r_ep & 255ull))));
 l_join_c8_2:;
     memset(slot_1, 0u, 96);
@@ -10447,7 +10580,7 @@ l_arm_8s:;
     u64 r_t9_4 = (r_j3_2 - r_4j);
     if (!(r_t9_4 == 0ull)) { u8 *r_7 = away(r_7u_2, r_4j); u64 r_8 = r_t9_4; r_7u_2 = r_7; r_j3_2 = r_8; goto l_join_c8_2; }
     r_x5_4 = (slot_1 + 8);
-    r_7u_3 = ((u8 *)g_static_145);
+    r_7u_3 = ((u8 *)g_static_214);
     r_j3_3 = 12ull;
 l_join_c8_3:;
     memset(slot_1, 0u, 96);
@@ -10482,7 +10615,7 @@ l_arm_on_1:;
     if ((u8)(r_3a & 1)) { r_ug_1 = 1u; r_xl_1 = 5u; goto l_capnp_56_1; }
     r_nb = (r_38_13 & 0xffffffffull);
     r_x5_5 = (slot_1 + 8);
-    r_7u_4 = ((u8 *)g_static_146);
+    r_7u_4 = ((u8 *)g_static_215);
     r_j3_4 = 7ull;
 l_join_c8_4:;
     memset(slot_1, 0u, 96);
@@ -10593,7 +10726,7 @@ l_arm_42:;
     r_su_3 = away(a_5, 40ull);
     r_xm_2 = away(a_5, 32ull);
     r_x5_8 = (slot_1 + 8);
-    r_7u_6 = ((u8 *)g_static_147);
+    r_7u_6 = ((u8 *)g_static_216);
     r_j3_6 = 6ull;
 l_join_c8_6:;
     memset(slot_1, 0u, 96);
@@ -10627,7 +10760,7 @@ l_arm_8s_2:;
     u8 r_wz = capnp_messages_text_write_number_45b6cc80abe1f805(a_5, r_38_20);
     if ((u8)(r_wz & 1)) goto l_capnp_9n;
     r_x5_9 = (slot_1 + 8);
-    r_7u_7 = ((u8 *)g_static_148);
+    r_7u_7 = ((u8 *)g_static_217);
     r_j3_7 = 6ull;
 l_join_c8_7:;
     memset(slot_1, 0u, 96);
@@ -10779,7 +10912,7 @@ l_arm_91:;
     r_su_4 = away(a_5, 40ull);
     r_xm_3 = away(a_5, 32ull);
     r_x5_11 = (slot_1 + 8);
-    r_7u_8 = ((u8 *)g_static_151);
+    r_7u_8 = ((u8 *)g_static_220);
     r_j3_8 = 13ull;
 l_join_c8_8:;
     memset(slot_1, 0u, 96);
@@ -10813,7 +10946,7 @@ l_arm_8s_4:;
     u8 r_wz_2 = capnp_messages_text_write_number_45b6cc80abe1f805(a_5, (u64)r_z4_2);
     if ((u8)(r_wz_2 & 1)) goto l_capnp_9n_1;
     r_x5_12 = (slot_1 + 8);
-    r_7u_9 = ((u8 *)g_static_152);
+    r_7u_9 = ((u8 *)g_static_221);
     r_j3_9 = 8ull;
 l_join_c8_9:;
     memset(slot_1, 0u, 96);
@@ -10846,8 +10979,8 @@ l_arm_8s_5:;
     if (!(r_t9_11 == 0ull)) { u8 *r_21 = away(r_7u_9, r_4j_5); u64 r_22 = r_t9_11; r_7u_9 = r_21; r_j3_9 = r_22; goto l_join_c8_9; }
     u8 r_wz_3 = capnp_messages_text_write_number_45b6cc80abe1f805(a_5, r_38_25);
     if ((u8)(r_wz_3 & 1)) goto l_capnp_9n_1;
-    u8 r_if = capnp_framing_devices_writing_write_all_45b6cc80abe1f805(a_5, ((u8 *)g_static_153), 15ull);
-    if ((u8)(r_if & 1)) goto l_capnp_9n_1;
+    u8 r_zu = capnp_framing_devices_writing_write_all_45b6cc80abe1f805(a_5, ((u8 *)g_static_222), 15ull);
+    if ((u8)(r_zu & 1)) goto l_capnp_9n_1;
     u8 r_wz_4 = capnp_messages_text_write_number_45b6cc80abe1f805(a_5, r_38_26);
     if ((u8)(r_wz_4 & 1)) goto l_capnp_9n_1;
     goto l_capnp_ie_1;
@@ -11139,8 +11272,8 @@ l_join_r9:;
 l_join_jf:;
     u8 r_47 = ld8((r_dm + (i64)(r_pt)));
     u8 *r_a7 = (slot_2 + (i64)((u64)(r_pt << 1ull)));
-    st8(r_a7, ld8((((u8 *)g_static_127) + (i64)((u64)(u8)((u32)r_47 >> 4u)))));
-    st8((r_a7 + 1), ld8((((u8 *)g_static_127) + (i64)((u64)(u8)(r_47 & 15u)))));
+    st8(r_a7, ld8((((u8 *)g_static_197) + (i64)((u64)(u8)((u32)r_47 >> 4u)))));
+    st8((r_a7 + 1), ld8((((u8 *)g_static_197) + (i64)((u64)(u8)(r_47 & 15u)))));
     u64 r_c4 = (r_pt + 1ull);
     if (!(r_c4 == a_gc)) { r_pt = r_c4; goto l_join_jf; }
     r_7u = slot_2;
@@ -11943,28 +12076,28 @@ l_capnp_t3:;
     r_38_12 = ld64((slot_1 + 16));
     r_38_13 = ld64((slot_1 + 24));
     if (!(ld8(slot_1) == 0u)) goto l_arm_4t;
-    if (!(r_r5_3 == 0u)) goto l_arm_ak;
-    u8 r_c4_1 = capnp_framing_devices_writing_write_all_2158b5bf3a48d838(a_5, ((u8 *)g_static_129), 10ull);
+    if (!(r_r5_3 == 0u)) goto l_arm_pf;
+    u8 r_fd = capnp_framing_devices_writing_write_all_2158b5bf3a48d838(a_5, ((u8 *)g_static_198), 10ull);
     memset(slot_14, 0u, 32);
-    r_5y = r_c4_1;
-    r_6j = (u8)(r_c4_1 ^ 1u);
+    r_5y = r_fd;
+    r_6j = (u8)(r_fd ^ 1u);
     r_sk = 0ull;
-    r_ly = ((u8)(r_c4_1 & 1) ? 5u : 0u);
+    r_ly = ((u8)(r_fd & 1) ? 5u : 0u);
     r_yx = 0u;
     r_1v = 0ull;
     goto l_join_s7;
-l_arm_ak:;
-    u8 r_ja = capnp_framing_devices_writing_write_all_2158b5bf3a48d838(a_5, ((u8 *)g_static_130), 15ull);
-    if ((u8)(r_ja & 1)) goto l_capnp_9n;
+l_arm_pf:;
+    u8 r_79 = capnp_framing_devices_writing_write_all_2158b5bf3a48d838(a_5, ((u8 *)g_static_199), 15ull);
+    if ((u8)(r_79 & 1)) goto l_capnp_9n;
     u64 r_ep = (u64)(r_38_13 >> 32ull);
-    u8 r_oo = capnp_framing_devices_writing_write_all_2158b5bf3a48d838(a_5, ldp((((u8 *)switch_table_capnp_streams_streams_answers_answer_7b3c_65dcea49) + (i64)(8 * (r_ep & 255ull)))), ld64((((u8 *)switch_table_capnp_streams_streams_answers_answer_7b3c_8a69267f) + (i64)(8 * (r_ep & 255ull)))));
+    u8 r_oo = capnp_framing_devices_writing_write_all_2158b5bf3a48d838(a_5, ldp((((u8 *)switch_table_capnp_streams_streams_answers_answer_7b3c_ef5e0832) + (i64)(8 * (r_ep & 255ull)))), ld64((((u8 *)switch_table_capnp_streams_streams_answers_answer_7b3c_8a69267f) + (i64)(8 * (r_ep & 255ull)))));
     if ((u8)(r_oo & 1)) goto l_capnp_9n;
-    u8 r_c8 = capnp_framing_devices_writing_write_all_2158b5bf3a48d838(a_5, ((u8 *)g_static_145), 12ull);
-    if ((u8)(r_c8 & 1)) goto l_capnp_9n;
+    u8 r_4c = capnp_framing_devices_writing_write_all_2158b5bf3a48d838(a_5, ((u8 *)g_static_214), 12ull);
+    if ((u8)(r_4c & 1)) goto l_capnp_9n;
     u8 r_jz = capnp_messages_text_write_number_2158b5bf3a48d838(a_5, r_38_12);
     if ((u8)(r_jz & 1)) goto l_capnp_9n;
-    u8 r_pf = capnp_framing_devices_writing_write_all_2158b5bf3a48d838(a_5, ((u8 *)g_static_146), 7ull);
-    if ((u8)(r_pf & 1)) goto l_capnp_9n;
+    u8 r_ga = capnp_framing_devices_writing_write_all_2158b5bf3a48d838(a_5, ((u8 *)g_static_215), 7ull);
+    if ((u8)(r_ga & 1)) goto l_capnp_9n;
     u8 r_jv = capnp_messages_text_write_number_2158b5bf3a48d838(a_5, (r_38_13 & 0xffffffffull));
     if (!(u8)(r_jv & 1)) goto l_capnp_sb;
 l_capnp_9n:;
@@ -12009,12 +12142,12 @@ l_arm_42:;
     if (!(ld8(slot_15) == 0u)) goto l_arm_cc_1;
     r_38_14 = ld64(r_x5_1);
     r_z4_1 = ld32((slot_15 + 16));
-    u8 r_9a = capnp_framing_devices_writing_write_all_2158b5bf3a48d838(a_5, ((u8 *)g_static_147), 6ull);
-    if ((u8)(r_9a & 1)) goto l_capnp_9n_1;
+    u8 r_7r = capnp_framing_devices_writing_write_all_2158b5bf3a48d838(a_5, ((u8 *)g_static_216), 6ull);
+    if ((u8)(r_7r & 1)) goto l_capnp_9n_1;
     u8 r_nr = capnp_messages_text_write_number_2158b5bf3a48d838(a_5, r_38_14);
     if ((u8)(r_nr & 1)) goto l_capnp_9n_1;
-    u8 r_7n = capnp_framing_devices_writing_write_all_2158b5bf3a48d838(a_5, ((u8 *)g_static_148), 6ull);
-    if ((u8)(r_7n & 1)) goto l_capnp_9n_1;
+    u8 r_2n = capnp_framing_devices_writing_write_all_2158b5bf3a48d838(a_5, ((u8 *)g_static_217), 6ull);
+    if ((u8)(r_2n & 1)) goto l_capnp_9n_1;
     u8 r_nr_1 = capnp_messages_text_write_number_2158b5bf3a48d838(a_5, (u64)r_z4_1);
     if (!(u8)(r_nr_1 & 1)) goto l_capnp_q8;
 l_capnp_9n_1:;
@@ -12098,10 +12231,10 @@ l_join_x6:;
 l_join_jf:;
     u8 r_47 = ld8((slot_3 + (i64)(r_pt)));
     u8 *r_a7_4 = (slot_1 + (i64)((u64)(r_pt << 1ull)));
-    st8(r_a7_4, ld8((((u8 *)g_static_127) + (i64)((u64)(u8)((u32)r_47 >> 4u)))));
-    st8((r_a7_4 + 1), ld8((((u8 *)g_static_127) + (i64)((u64)(u8)(r_47 & 15u)))));
-    u64 r_c4_2 = (r_pt + 1ull);
-    if (!(r_c4_2 == 32ull)) { r_pt = r_c4_2; goto l_join_jf; }
+    st8(r_a7_4, ld8((((u8 *)g_static_197) + (i64)((u64)(u8)((u32)r_47 >> 4u)))));
+    st8((r_a7_4 + 1), ld8((((u8 *)g_static_197) + (i64)((u64)(u8)(r_47 & 15u)))));
+    u64 r_c4_1 = (r_pt + 1ull);
+    if (!(r_c4_1 == 32ull)) { r_pt = r_c4_1; goto l_join_jf; }
     u8 r_6b = capnp_framing_devices_writing_write_all_2158b5bf3a48d838(a_5, slot_1, 64ull);
     if (!(u8)(r_6b & 1)) goto l_arm_sb;
     memset(slot_1, 0u, 32);
@@ -12150,16 +12283,16 @@ l_arm_91:;
     r_z4_2 = ld32(r_x5_2);
     r_38_17 = ld64((slot_17 + 16));
     r_38_18 = ld64((slot_17 + 24));
-    u8 r_li = capnp_framing_devices_writing_write_all_2158b5bf3a48d838(a_5, ((u8 *)g_static_151), 13ull);
-    if ((u8)(r_li & 1)) goto l_capnp_9n_2;
+    u8 r_st = capnp_framing_devices_writing_write_all_2158b5bf3a48d838(a_5, ((u8 *)g_static_220), 13ull);
+    if ((u8)(r_st & 1)) goto l_capnp_9n_2;
     u8 r_nr_2 = capnp_messages_text_write_number_2158b5bf3a48d838(a_5, (u64)r_z4_2);
     if ((u8)(r_nr_2 & 1)) goto l_capnp_9n_2;
-    u8 r_eq = capnp_framing_devices_writing_write_all_2158b5bf3a48d838(a_5, ((u8 *)g_static_152), 8ull);
-    if ((u8)(r_eq & 1)) goto l_capnp_9n_2;
+    u8 r_rd = capnp_framing_devices_writing_write_all_2158b5bf3a48d838(a_5, ((u8 *)g_static_221), 8ull);
+    if ((u8)(r_rd & 1)) goto l_capnp_9n_2;
     u8 r_nr_3 = capnp_messages_text_write_number_2158b5bf3a48d838(a_5, r_38_17);
     if ((u8)(r_nr_3 & 1)) goto l_capnp_9n_2;
-    u8 r_r2 = capnp_framing_devices_writing_write_all_2158b5bf3a48d838(a_5, ((u8 *)g_static_153), 15ull);
-    if ((u8)(r_r2 & 1)) goto l_capnp_9n_2;
+    u8 r_bb = capnp_framing_devices_writing_write_all_2158b5bf3a48d838(a_5, ((u8 *)g_static_222), 15ull);
+    if ((u8)(r_bb & 1)) goto l_capnp_9n_2;
     u8 r_nr_4 = capnp_messages_text_write_number_2158b5bf3a48d838(a_5, r_38_18);
     if (!(u8)(r_nr_4 & 1)) goto l_capnp_q8_1;
 l_capnp_9n_2:;
@@ -12235,8 +12368,8 @@ l_join_r9:;
 l_join_jf:;
     u8 r_47 = ld8((r_dm + (i64)(r_pt)));
     u8 *r_a7 = (slot_1 + (i64)((u64)(r_pt << 1ull)));
-    st8(r_a7, ld8((((u8 *)g_static_127) + (i64)((u64)(u8)((u32)r_47 >> 4u)))));
-    st8((r_a7 + 1), ld8((((u8 *)g_static_127) + (i64)((u64)(u8)(r_47 & 15u)))));
+    st8(r_a7, ld8((((u8 *)g_static_197) + (i64)((u64)(u8)((u32)r_47 >> 4u)))));
+    st8((r_a7 + 1), ld8((((u8 *)g_static_197) + (i64)((u64)(u8)(r_47 & 15u)))));
     u64 r_c4 = (r_pt + 1ull);
     if (!(r_c4 == a_gc)) { r_pt = r_c4; goto l_join_jf; }
     u8 r_h8 = capnp_framing_devices_writing_write_all_2158b5bf3a48d838(a_1, slot_1, (u64)(a_gc << 1ull));
@@ -12461,9 +12594,9 @@ l_join_st:;
     if ((u8)(ld8(r_un) & 1)) { r_fk = 1u; goto l_return_ri; }
     r_47 = ld8(away(a_2, r_6o));
     switch (r_47) {
-    case 92u: { r_0m = ((u8 *)g_static_283); r_1s = 2ull; goto l_join_u4; }
-    case 10u: { r_0m_1 = ((u8 *)g_static_284); r_1s_1 = 2ull; goto l_join_u4_1; }
-    case 13u: { r_0m_2 = ((u8 *)g_static_285); r_1s_2 = 2ull; goto l_join_u4_2; }
+    case 92u: { r_0m = ((u8 *)g_static_316); r_1s = 2ull; goto l_join_u4; }
+    case 10u: { r_0m_1 = ((u8 *)g_static_317); r_1s_1 = 2ull; goto l_join_u4_1; }
+    case 13u: { r_0m_2 = ((u8 *)g_static_318); r_1s_2 = 2ull; goto l_join_u4_2; }
     default: goto l_default_wn;
     }
 l_join_u4:;
@@ -12514,7 +12647,7 @@ l_after_k5:;
     if (!(r_36 == a_3)) { r_6o = r_36; goto l_join_st; }
 l_after_uu:;
     if ((u8)(ld8(away(a_1, 8264ull)) & 1)) { r_fk = 1u; goto l_return_ri; }
-    r_0m_4 = ((u8 *)g_static_235);
+    r_0m_4 = ((u8 *)g_static_269);
     r_1s_4 = 1ull;
 l_join_u4_4:;
     r_la_4 = capnp_packing_packing_packing_output_PackingOutputOutp_687cfcb2(a_1, r_0m_4, r_1s_4);
@@ -12966,28 +13099,28 @@ l_capnp_t3:;
     r_38_12 = ld64((slot_1 + 16));
     r_38_13 = ld64((slot_1 + 24));
     if (!(ld8(slot_1) == 0u)) goto l_arm_4t;
-    if (!(r_r5_3 == 0u)) goto l_arm_63;
-    u8 r_6b = capnp_framing_devices_writing_write_all_b4ea5f78962d5b24(a_5, ((u8 *)g_static_129), 10ull);
+    if (!(r_r5_3 == 0u)) goto l_arm_6e;
+    u8 r_9u_2 = capnp_framing_devices_writing_write_all_b4ea5f78962d5b24(a_5, ((u8 *)g_static_198), 10ull);
     memset(slot_14, 0u, 32);
-    r_5y = r_6b;
-    r_6j = (u8)(r_6b ^ 1u);
+    r_5y = r_9u_2;
+    r_6j = (u8)(r_9u_2 ^ 1u);
     r_sk = 0ull;
-    r_ly = ((u8)(r_6b & 1) ? 5u : 0u);
+    r_ly = ((u8)(r_9u_2 & 1) ? 5u : 0u);
     r_yx = 0u;
     r_1v = 0ull;
     goto l_join_s7;
-l_arm_63:;
-    u8 r_3c = capnp_framing_devices_writing_write_all_b4ea5f78962d5b24(a_5, ((u8 *)g_static_130), 15ull);
-    if ((u8)(r_3c & 1)) goto l_capnp_9n;
+l_arm_6e:;
+    u8 r_a5 = capnp_framing_devices_writing_write_all_b4ea5f78962d5b24(a_5, ((u8 *)g_static_199), 15ull);
+    if ((u8)(r_a5 & 1)) goto l_capnp_9n;
     u64 r_ep = (u64)(r_38_13 >> 32ull);
-    u8 r_53 = capnp_framing_devices_writing_write_all_b4ea5f78962d5b24(a_5, ldp((((u8 *)switch_table_capnp_streams_streams_answers_answer_7b3c_65dcea49) + (i64)(8 * (r_ep & 255ull)))), ld64((((u8 *)switch_table_capnp_streams_streams_answers_answer_7b3c_8a69267f) + (i64)(8 * (r_ep & 255ull)))));
+    u8 r_53 = capnp_framing_devices_writing_write_all_b4ea5f78962d5b24(a_5, ldp((((u8 *)switch_table_capnp_streams_streams_answers_answer_7b3c_ef5e0832) + (i64)(8 * (r_ep & 255ull)))), ld64((((u8 *)switch_table_capnp_streams_streams_answers_answer_7b3c_8a69267f) + (i64)(8 * (r_ep & 255ull)))));
     if ((u8)(r_53 & 1)) goto l_capnp_9n;
-    u8 r_xz_1 = capnp_framing_devices_writing_write_all_b4ea5f78962d5b24(a_5, ((u8 *)g_static_145), 12ull);
-    if ((u8)(r_xz_1 & 1)) goto l_capnp_9n;
+    u8 r_cb = capnp_framing_devices_writing_write_all_b4ea5f78962d5b24(a_5, ((u8 *)g_static_214), 12ull);
+    if ((u8)(r_cb & 1)) goto l_capnp_9n;
     u8 r_ta = capnp_messages_text_write_number_b4ea5f78962d5b24(a_5, r_38_12);
     if ((u8)(r_ta & 1)) goto l_capnp_9n;
-    u8 r_t1 = capnp_framing_devices_writing_write_all_b4ea5f78962d5b24(a_5, ((u8 *)g_static_146), 7ull);
-    if ((u8)(r_t1 & 1)) goto l_capnp_9n;
+    u8 r_vq_2 = capnp_framing_devices_writing_write_all_b4ea5f78962d5b24(a_5, ((u8 *)g_static_215), 7ull);
+    if ((u8)(r_vq_2 & 1)) goto l_capnp_9n;
     u8 r_yd = capnp_messages_text_write_number_b4ea5f78962d5b24(a_5, (r_38_13 & 0xffffffffull));
     if (!(u8)(r_yd & 1)) goto l_capnp_rp;
 l_capnp_9n:;
@@ -13032,12 +13165,12 @@ l_arm_42:;
     if (!(ld8(slot_15) == 0u)) goto l_arm_cc_1;
     r_38_14 = ld64(r_x5_1);
     r_z4_1 = ld32((slot_15 + 16));
-    u8 r_1l = capnp_framing_devices_writing_write_all_b4ea5f78962d5b24(a_5, ((u8 *)g_static_147), 6ull);
-    if ((u8)(r_1l & 1)) goto l_capnp_9n_1;
+    u8 r_2v = capnp_framing_devices_writing_write_all_b4ea5f78962d5b24(a_5, ((u8 *)g_static_216), 6ull);
+    if ((u8)(r_2v & 1)) goto l_capnp_9n_1;
     u8 r_q0 = capnp_messages_text_write_number_b4ea5f78962d5b24(a_5, r_38_14);
     if ((u8)(r_q0 & 1)) goto l_capnp_9n_1;
-    u8 r_5t = capnp_framing_devices_writing_write_all_b4ea5f78962d5b24(a_5, ((u8 *)g_static_148), 6ull);
-    if ((u8)(r_5t & 1)) goto l_capnp_9n_1;
+    u8 r_k3 = capnp_framing_devices_writing_write_all_b4ea5f78962d5b24(a_5, ((u8 *)g_static_217), 6ull);
+    if ((u8)(r_k3 & 1)) goto l_capnp_9n_1;
     u8 r_q0_1 = capnp_messages_text_write_number_b4ea5f78962d5b24(a_5, (u64)r_z4_1);
     if (!(u8)(r_q0_1 & 1)) goto l_capnp_fr;
 l_capnp_9n_1:;
@@ -13121,8 +13254,8 @@ l_join_x6:;
 l_join_jf:;
     u8 r_47 = ld8((slot_3 + (i64)(r_pt)));
     u8 *r_a7_4 = (slot_1 + (i64)((u64)(r_pt << 1ull)));
-    st8(r_a7_4, ld8((((u8 *)g_static_127) + (i64)((u64)(u8)((u32)r_47 >> 4u)))));
-    st8((r_a7_4 + 1), ld8((((u8 *)g_static_127) + (i64)((u64)(u8)(r_47 & 15u)))));
+    st8(r_a7_4, ld8((((u8 *)g_static_197) + (i64)((u64)(u8)((u32)r_47 >> 4u)))));
+    st8((r_a7_4 + 1), ld8((((u8 *)g_static_197) + (i64)((u64)(u8)(r_47 & 15u)))));
     u64 r_c4_1 = (r_pt + 1ull);
     if (!(r_c4_1 == 32ull)) { r_pt = r_c4_1; goto l_join_jf; }
     u8 r_pt_1 = capnp_framing_devices_writing_write_all_b4ea5f78962d5b24(a_5, slot_1, 64ull);
@@ -13173,16 +13306,16 @@ l_arm_91:;
     r_z4_2 = ld32(r_x5_2);
     r_38_17 = ld64((slot_17 + 16));
     r_38_18 = ld64((slot_17 + 24));
-    u8 r_ov = capnp_framing_devices_writing_write_all_b4ea5f78962d5b24(a_5, ((u8 *)g_static_151), 13ull);
-    if ((u8)(r_ov & 1)) goto l_capnp_9n_2;
+    u8 r_m5 = capnp_framing_devices_writing_write_all_b4ea5f78962d5b24(a_5, ((u8 *)g_static_220), 13ull);
+    if ((u8)(r_m5 & 1)) goto l_capnp_9n_2;
     u8 r_q0_2 = capnp_messages_text_write_number_b4ea5f78962d5b24(a_5, (u64)r_z4_2);
     if ((u8)(r_q0_2 & 1)) goto l_capnp_9n_2;
-    u8 r_9q = capnp_framing_devices_writing_write_all_b4ea5f78962d5b24(a_5, ((u8 *)g_static_152), 8ull);
-    if ((u8)(r_9q & 1)) goto l_capnp_9n_2;
+    u8 r_8z = capnp_framing_devices_writing_write_all_b4ea5f78962d5b24(a_5, ((u8 *)g_static_221), 8ull);
+    if ((u8)(r_8z & 1)) goto l_capnp_9n_2;
     u8 r_q0_3 = capnp_messages_text_write_number_b4ea5f78962d5b24(a_5, r_38_17);
     if ((u8)(r_q0_3 & 1)) goto l_capnp_9n_2;
-    u8 r_hz = capnp_framing_devices_writing_write_all_b4ea5f78962d5b24(a_5, ((u8 *)g_static_153), 15ull);
-    if ((u8)(r_hz & 1)) goto l_capnp_9n_2;
+    u8 r_pv = capnp_framing_devices_writing_write_all_b4ea5f78962d5b24(a_5, ((u8 *)g_static_222), 15ull);
+    if ((u8)(r_pv & 1)) goto l_capnp_9n_2;
     u8 r_q0_4 = capnp_messages_text_write_number_b4ea5f78962d5b24(a_5, r_38_18);
     if (!(u8)(r_q0_4 & 1)) goto l_capnp_fr_1;
 l_capnp_9n_2:;
@@ -13258,8 +13391,8 @@ l_join_r9:;
 l_join_jf:;
     u8 r_47 = ld8((r_dm + (i64)(r_pt)));
     u8 *r_a7 = (slot_1 + (i64)((u64)(r_pt << 1ull)));
-    st8(r_a7, ld8((((u8 *)g_static_127) + (i64)((u64)(u8)((u32)r_47 >> 4u)))));
-    st8((r_a7 + 1), ld8((((u8 *)g_static_127) + (i64)((u64)(u8)(r_47 & 15u)))));
+    st8(r_a7, ld8((((u8 *)g_static_197) + (i64)((u64)(u8)((u32)r_47 >> 4u)))));
+    st8((r_a7 + 1), ld8((((u8 *)g_static_197) + (i64)((u64)(u8)(r_47 & 15u)))));
     u64 r_c4 = (r_pt + 1ull);
     if (!(r_c4 == a_gc)) { r_pt = r_c4; goto l_join_jf; }
     u8 r_90 = capnp_framing_devices_writing_write_all_b4ea5f78962d5b24(a_1, slot_1, (u64)(a_gc << 1ull));
@@ -13939,7 +14072,7 @@ l_capnp_t3:;
     r_38_12 = ld64((slot_1 + 16));
     r_38_13 = ld64((slot_1 + 24));
     if (!(ld8(slot_1) == 0u)) goto l_arm_4t;
-    if (r_r5_3 == 0u) { r_3r = ((u8 *)g_static_129); r_mc = 10ull; goto l_join_77; }
+    if (r_r5_3 == 0u) { r_3r = ((u8 *)g_static_198); r_mc = 10ull; goto l_join_77; }
     goto l_arm_bz;
 l_join_77:;
     r_ey = capnp_packing_packing_packing_output_PackingOutputOutp_687cfcb2(a_5, r_3r, r_mc);
@@ -13964,7 +14097,7 @@ l_capnp_56:;
     goto l_join_s7;
 l_arm_bz:;
     r_ep = (u64)(r_38_13 >> 32ull);
-    r_3r_1 = ((u8 *)g_static_130);
+    r_3r_1 = ((u8 *)g_static_199);
     r_mc_1 = 15ull;
 l_join_77_1:;
     r_ey_1 = capnp_packing_packing_packing_output_PackingOutputOutp_687cfcb2(a_5, r_3r_1, r_mc_1);
@@ -13972,14 +14105,14 @@ l_join_77_1:;
     u64 r_h9_1 = r_ey_1.f1;
     u64 r_t9_3 = (r_mc_1 - r_h9_1);
     if (!(r_t9_3 == 0ull)) { u8 *r_5 = away(r_3r_1, r_h9_1); u64 r_6 = r_t9_3; r_3r_1 = r_5; r_mc_1 = r_6; goto l_join_77_1; }
-    r_3r_2 = ldp((((u8 *)switch_table_capnp_streams_streams_answers_answer_7b3c_65dcea49) + (i64)(8 * (r_ep & 255ull))));
+    r_3r_2 = ldp((((u8 *)switch_table_capnp_streams_streams_answers_answer_7b3c_ef5e0832) + (i64)(8 * (r_ep & 255ull))));
     r_mc_2 = ld64((((u8 *)switch_table_capnp_streams_streams_answers_answer_7b3c_8a69267f) + (i64)(8 * (r_ep & 255ull))));
 l_join_77_3:;
     r_ey_2 = capnp_packing_packing_packing_output_PackingOutputOutp_687cfcb2(a_5, r_3r_2, r_mc_2);
     if (!(r_ey_2.f0 == 0u)) { r_ug_1 = 1u; r_xl_1 = 5u; goto l_capnp_56_1; }
     u64 r_h9_2 = r_ey_2.f1;
     u64 r_t9_4 = (r_mc_2 - r_h9_2);
-    if (r_t9_4 == 0ull) { r_3r_3 = ((u8 *)g_static_145); r_mc_3 = 12ull; goto l_join_77_2; }
+    if (r_t9_4 == 0ull) { r_3r_3 = ((u8 *)g_static_214); r_mc_3 = 12ull; goto l_join_77_2; }
     u8 *r_7 = away(r_3r_2, r_h9_2);
     u64 r_8 = r_t9_4;
     r_3r_2 = r_7;
@@ -13994,7 +14127,7 @@ l_join_77_2:;
     u8 r_7i = capnp_messages_text_write_number_91097057b640ab3c(a_5, r_38_12);
     if ((u8)(r_7i & 1)) { r_ug_1 = 1u; r_xl_1 = 5u; goto l_capnp_56_1; }
     r_nb = (r_38_13 & 0xffffffffull);
-    r_3r_4 = ((u8 *)g_static_146);
+    r_3r_4 = ((u8 *)g_static_215);
     r_mc_4 = 7ull;
 l_join_77_4:;
     r_ey_4 = capnp_packing_packing_packing_output_PackingOutputOutp_687cfcb2(a_5, r_3r_4, r_mc_4);
@@ -14050,7 +14183,7 @@ l_arm_42:;
     if (!(ld8(slot_15) == 0u)) goto l_arm_cc_1;
     r_38_14 = ld64(r_x5_1);
     r_z4_1 = ld32((slot_15 + 16));
-    r_0h = ((u8 *)g_static_147);
+    r_0h = ((u8 *)g_static_216);
     r_sp = 6ull;
 l_join_sy:;
     r_3q = capnp_packing_packing_packing_output_PackingOutputOutp_687cfcb2(a_5, r_0h, r_sp);
@@ -14060,7 +14193,7 @@ l_join_sy:;
     if (!(r_t9_8 == 0ull)) { u8 *r_15 = away(r_0h, r_h9_6); u64 r_16 = r_t9_8; r_0h = r_15; r_sp = r_16; goto l_join_sy; }
     u8 r_om = capnp_messages_text_write_number_91097057b640ab3c(a_5, r_38_14);
     if ((u8)(r_om & 1)) { r_ug_2 = 1u; r_xl_2 = 0u; r_9h_1 = 5u; goto l_capnp_56_2; }
-    r_0h_1 = ((u8 *)g_static_148);
+    r_0h_1 = ((u8 *)g_static_217);
     r_sp_1 = 6ull;
 l_join_sy_1:;
     r_3q_1 = capnp_packing_packing_packing_output_PackingOutputOutp_687cfcb2(a_5, r_0h_1, r_sp_1);
@@ -14154,8 +14287,8 @@ l_join_zw:;
 l_join_jf:;
     u8 r_47 = ld8((slot_3 + (i64)(r_pt)));
     u8 *r_a7_4 = (slot_1 + (i64)((u64)(r_pt << 1ull)));
-    st8(r_a7_4, ld8((((u8 *)g_static_127) + (i64)((u64)(u8)((u32)r_47 >> 4u)))));
-    st8((r_a7_4 + 1), ld8((((u8 *)g_static_127) + (i64)((u64)(u8)(r_47 & 15u)))));
+    st8(r_a7_4, ld8((((u8 *)g_static_197) + (i64)((u64)(u8)((u32)r_47 >> 4u)))));
+    st8((r_a7_4 + 1), ld8((((u8 *)g_static_197) + (i64)((u64)(u8)(r_47 & 15u)))));
     u64 r_c4_1 = (r_pt + 1ull);
     if (r_c4_1 == 32ull) { r_il = slot_1; r_x8 = 64ull; goto l_join_ad; }
     r_pt = r_c4_1;
@@ -14208,7 +14341,7 @@ l_arm_91:;
     r_z4_2 = ld32(r_x5_2);
     r_38_17 = ld64((slot_17 + 16));
     r_38_18 = ld64((slot_17 + 24));
-    r_0h_3 = ((u8 *)g_static_151);
+    r_0h_3 = ((u8 *)g_static_220);
     r_sp_3 = 13ull;
 l_join_sy_3:;
     r_3q_3 = capnp_packing_packing_packing_output_PackingOutputOutp_687cfcb2(a_5, r_0h_3, r_sp_3);
@@ -14218,7 +14351,7 @@ l_join_sy_3:;
     if (!(r_t9_13 == 0ull)) { u8 *r_25 = away(r_0h_3, r_h9_11); u64 r_26 = r_t9_13; r_0h_3 = r_25; r_sp_3 = r_26; goto l_join_sy_3; }
     u8 r_om_2 = capnp_messages_text_write_number_91097057b640ab3c(a_5, (u64)r_z4_2);
     if ((u8)(r_om_2 & 1)) { r_ug_3 = 1u; r_xl_3 = 0u; r_9h_2 = 5u; goto l_capnp_56_3; }
-    r_0h_4 = ((u8 *)g_static_152);
+    r_0h_4 = ((u8 *)g_static_221);
     r_sp_4 = 8ull;
 l_join_sy_4:;
     r_3q_4 = capnp_packing_packing_packing_output_PackingOutputOutp_687cfcb2(a_5, r_0h_4, r_sp_4);
@@ -14228,7 +14361,7 @@ l_join_sy_4:;
     if (!(r_t9_14 == 0ull)) { u8 *r_27 = away(r_0h_4, r_h9_12); u64 r_28 = r_t9_14; r_0h_4 = r_27; r_sp_4 = r_28; goto l_join_sy_4; }
     u8 r_om_3 = capnp_messages_text_write_number_91097057b640ab3c(a_5, r_38_17);
     if ((u8)(r_om_3 & 1)) { r_ug_3 = 1u; r_xl_3 = 0u; r_9h_2 = 5u; goto l_capnp_56_3; }
-    r_0h_5 = ((u8 *)g_static_153);
+    r_0h_5 = ((u8 *)g_static_222);
     r_sp_5 = 15ull;
 l_join_sy_5:;
     r_3q_5 = capnp_packing_packing_packing_output_PackingOutputOutp_687cfcb2(a_5, r_0h_5, r_sp_5);
@@ -14331,8 +14464,8 @@ l_join_r9:;
 l_join_jf:;
     u8 r_47 = ld8((r_dm + (i64)(r_pt)));
     u8 *r_a7 = (slot_1 + (i64)((u64)(r_pt << 1ull)));
-    st8(r_a7, ld8((((u8 *)g_static_127) + (i64)((u64)(u8)((u32)r_47 >> 4u)))));
-    st8((r_a7 + 1), ld8((((u8 *)g_static_127) + (i64)((u64)(u8)(r_47 & 15u)))));
+    st8(r_a7, ld8((((u8 *)g_static_197) + (i64)((u64)(u8)((u32)r_47 >> 4u)))));
+    st8((r_a7 + 1), ld8((((u8 *)g_static_197) + (i64)((u64)(u8)(r_47 & 15u)))));
     u64 r_c4 = (r_pt + 1ull);
     if (!(r_c4 == a_gc)) { r_pt = r_c4; goto l_join_jf; }
     r_il = slot_1;
@@ -14728,7 +14861,7 @@ void capnp_streams_streams_answers_answer_d51dc028acbf2054(u8 *a_1, u8 *a_2, u8 
     u8 *r_m4;
     u32 r_uq_2;
     u64 r_38_16;
-    u8 *r_lk_1;
+    u8 *r_lk;
     u8 *r_rv_2;
     u64 r_pt;
     u8 r_ld;
@@ -15040,28 +15173,28 @@ l_capnp_t3:;
     r_38_12 = ld64((slot_1 + 16));
     r_38_13 = ld64((slot_1 + 24));
     if (!(ld8(slot_1) == 0u)) goto l_arm_4t;
-    if (!(r_r5_3 == 0u)) goto l_arm_hd;
-    u8 r_lk = capnp_framing_devices_writing_write_all_3cc97480b80713a4(a_5, ((u8 *)g_static_129), 10ull);
+    if (!(r_r5_3 == 0u)) goto l_arm_0h;
+    u8 r_8o = capnp_framing_devices_writing_write_all_3cc97480b80713a4(a_5, ((u8 *)g_static_198), 10ull);
     memset(slot_14, 0u, 32);
-    r_5y = r_lk;
-    r_6j = (u8)(r_lk ^ 1u);
+    r_5y = r_8o;
+    r_6j = (u8)(r_8o ^ 1u);
     r_sk = 0ull;
-    r_ly = ((u8)(r_lk & 1) ? 5u : 0u);
+    r_ly = ((u8)(r_8o & 1) ? 5u : 0u);
     r_yx = 0u;
     r_1v = 0ull;
     goto l_join_s7;
-l_arm_hd:;
-    u8 r_gz = capnp_framing_devices_writing_write_all_3cc97480b80713a4(a_5, ((u8 *)g_static_130), 15ull);
-    if ((u8)(r_gz & 1)) goto l_capnp_9n;
+l_arm_0h:;
+    u8 r_0e = capnp_framing_devices_writing_write_all_3cc97480b80713a4(a_5, ((u8 *)g_static_199), 15ull);
+    if ((u8)(r_0e & 1)) goto l_capnp_9n;
     u64 r_ep = (u64)(r_38_13 >> 32ull);
-    u8 r_dg = capnp_framing_devices_writing_write_all_3cc97480b80713a4(a_5, ldp((((u8 *)switch_table_capnp_streams_streams_answers_answer_7b3c_65dcea49) + (i64)(8 * (r_ep & 255ull)))), ld64((((u8 *)switch_table_capnp_streams_streams_answers_answer_7b3c_8a69267f) + (i64)(8 * (r_ep & 255ull)))));
+    u8 r_dg = capnp_framing_devices_writing_write_all_3cc97480b80713a4(a_5, ldp((((u8 *)switch_table_capnp_streams_streams_answers_answer_7b3c_ef5e0832) + (i64)(8 * (r_ep & 255ull)))), ld64((((u8 *)switch_table_capnp_streams_streams_answers_answer_7b3c_8a69267f) + (i64)(8 * (r_ep & 255ull)))));
     if ((u8)(r_dg & 1)) goto l_capnp_9n;
-    u8 r_q3 = capnp_framing_devices_writing_write_all_3cc97480b80713a4(a_5, ((u8 *)g_static_145), 12ull);
-    if ((u8)(r_q3 & 1)) goto l_capnp_9n;
+    u8 r_dy_1 = capnp_framing_devices_writing_write_all_3cc97480b80713a4(a_5, ((u8 *)g_static_214), 12ull);
+    if ((u8)(r_dy_1 & 1)) goto l_capnp_9n;
     u8 r_7c = capnp_messages_text_write_number_3cc97480b80713a4(a_5, r_38_12);
     if ((u8)(r_7c & 1)) goto l_capnp_9n;
-    u8 r_hd = capnp_framing_devices_writing_write_all_3cc97480b80713a4(a_5, ((u8 *)g_static_146), 7ull);
-    if ((u8)(r_hd & 1)) goto l_capnp_9n;
+    u8 r_zu = capnp_framing_devices_writing_write_all_3cc97480b80713a4(a_5, ((u8 *)g_static_215), 7ull);
+    if ((u8)(r_zu & 1)) goto l_capnp_9n;
     u8 r_fr = capnp_messages_text_write_number_3cc97480b80713a4(a_5, (r_38_13 & 0xffffffffull));
     if (!(u8)(r_fr & 1)) goto l_capnp_3x;
 l_capnp_9n:;
@@ -15106,12 +15239,12 @@ l_arm_42:;
     if (!(ld8(slot_15) == 0u)) goto l_arm_cc_1;
     r_38_14 = ld64(r_x5_1);
     r_z4_1 = ld32((slot_15 + 16));
-    u8 r_qq = capnp_framing_devices_writing_write_all_3cc97480b80713a4(a_5, ((u8 *)g_static_147), 6ull);
-    if ((u8)(r_qq & 1)) goto l_capnp_9n_1;
+    u8 r_re = capnp_framing_devices_writing_write_all_3cc97480b80713a4(a_5, ((u8 *)g_static_216), 6ull);
+    if ((u8)(r_re & 1)) goto l_capnp_9n_1;
     u8 r_uo = capnp_messages_text_write_number_3cc97480b80713a4(a_5, r_38_14);
     if ((u8)(r_uo & 1)) goto l_capnp_9n_1;
-    u8 r_94 = capnp_framing_devices_writing_write_all_3cc97480b80713a4(a_5, ((u8 *)g_static_148), 6ull);
-    if ((u8)(r_94 & 1)) goto l_capnp_9n_1;
+    u8 r_90 = capnp_framing_devices_writing_write_all_3cc97480b80713a4(a_5, ((u8 *)g_static_217), 6ull);
+    if ((u8)(r_90 & 1)) goto l_capnp_9n_1;
     u8 r_uo_1 = capnp_messages_text_write_number_3cc97480b80713a4(a_5, (u64)r_z4_1);
     if (!(u8)(r_uo_1 & 1)) goto l_capnp_d0;
 l_capnp_9n_1:;
@@ -15169,7 +15302,7 @@ l_arm_xs:;
     r_m4 = (slot_5 + 9);
     r_uq_2 = ld32((slot_5 + 12));
     r_38_16 = ld64((slot_5 + 16));
-    r_lk_1 = (slot_5 + 24);
+    r_lk = (slot_5 + 24);
     r_rv_2 = ldp(r_rq_1);
     u8 r_dh_4 = ld8(a_2);
     u64 r_qw_2 = ld64(away(a_2, 24ull));
@@ -15189,14 +15322,14 @@ l_join_x6:;
     mv3((slot_3 + 8), r_m4);
     st32((slot_3 + 11), r_uq_2);
     st64((slot_3 + 15), r_38_16);
-    mv9((slot_3 + 23), r_lk_1);
+    mv9((slot_3 + 23), r_lk);
     memset(slot_1, 0u, 1024);
     r_pt = 0ull;
 l_join_jf:;
     u8 r_47 = ld8((slot_3 + (i64)(r_pt)));
     u8 *r_a7_4 = (slot_1 + (i64)((u64)(r_pt << 1ull)));
-    st8(r_a7_4, ld8((((u8 *)g_static_127) + (i64)((u64)(u8)((u32)r_47 >> 4u)))));
-    st8((r_a7_4 + 1), ld8((((u8 *)g_static_127) + (i64)((u64)(u8)(r_47 & 15u)))));
+    st8(r_a7_4, ld8((((u8 *)g_static_197) + (i64)((u64)(u8)((u32)r_47 >> 4u)))));
+    st8((r_a7_4 + 1), ld8((((u8 *)g_static_197) + (i64)((u64)(u8)(r_47 & 15u)))));
     u64 r_c4_1 = (r_pt + 1ull);
     if (!(r_c4_1 == 32ull)) { r_pt = r_c4_1; goto l_join_jf; }
     u8 r_g5 = capnp_framing_devices_writing_write_all_3cc97480b80713a4(a_5, slot_1, 64ull);
@@ -15247,16 +15380,16 @@ l_arm_91:;
     r_z4_2 = ld32(r_x5_2);
     r_38_17 = ld64((slot_17 + 16));
     r_38_18 = ld64((slot_17 + 24));
-    u8 r_aj = capnp_framing_devices_writing_write_all_3cc97480b80713a4(a_5, ((u8 *)g_static_151), 13ull);
-    if ((u8)(r_aj & 1)) goto l_capnp_9n_2;
+    u8 r_yp = capnp_framing_devices_writing_write_all_3cc97480b80713a4(a_5, ((u8 *)g_static_220), 13ull);
+    if ((u8)(r_yp & 1)) goto l_capnp_9n_2;
     u8 r_uo_2 = capnp_messages_text_write_number_3cc97480b80713a4(a_5, (u64)r_z4_2);
     if ((u8)(r_uo_2 & 1)) goto l_capnp_9n_2;
-    u8 r_9i = capnp_framing_devices_writing_write_all_3cc97480b80713a4(a_5, ((u8 *)g_static_152), 8ull);
-    if ((u8)(r_9i & 1)) goto l_capnp_9n_2;
+    u8 r_mj = capnp_framing_devices_writing_write_all_3cc97480b80713a4(a_5, ((u8 *)g_static_221), 8ull);
+    if ((u8)(r_mj & 1)) goto l_capnp_9n_2;
     u8 r_uo_3 = capnp_messages_text_write_number_3cc97480b80713a4(a_5, r_38_17);
     if ((u8)(r_uo_3 & 1)) goto l_capnp_9n_2;
-    u8 r_2v = capnp_framing_devices_writing_write_all_3cc97480b80713a4(a_5, ((u8 *)g_static_153), 15ull);
-    if ((u8)(r_2v & 1)) goto l_capnp_9n_2;
+    u8 r_7d = capnp_framing_devices_writing_write_all_3cc97480b80713a4(a_5, ((u8 *)g_static_222), 15ull);
+    if ((u8)(r_7d & 1)) goto l_capnp_9n_2;
     u8 r_uo_4 = capnp_messages_text_write_number_3cc97480b80713a4(a_5, r_38_18);
     if (!(u8)(r_uo_4 & 1)) goto l_capnp_d0_1;
 l_capnp_9n_2:;
@@ -15332,8 +15465,8 @@ l_join_r9:;
 l_join_jf:;
     u8 r_47 = ld8((r_dm + (i64)(r_pt)));
     u8 *r_a7 = (slot_1 + (i64)((u64)(r_pt << 1ull)));
-    st8(r_a7, ld8((((u8 *)g_static_127) + (i64)((u64)(u8)((u32)r_47 >> 4u)))));
-    st8((r_a7 + 1), ld8((((u8 *)g_static_127) + (i64)((u64)(u8)(r_47 & 15u)))));
+    st8(r_a7, ld8((((u8 *)g_static_197) + (i64)((u64)(u8)((u32)r_47 >> 4u)))));
+    st8((r_a7 + 1), ld8((((u8 *)g_static_197) + (i64)((u64)(u8)(r_47 & 15u)))));
     u64 r_c4 = (r_pt + 1ull);
     if (!(r_c4 == a_gc)) { r_pt = r_c4; goto l_join_jf; }
     u8 r_dr = capnp_framing_devices_writing_write_all_3cc97480b80713a4(a_1, slot_1, (u64)(a_gc << 1ull));
@@ -16098,7 +16231,7 @@ l_capnp_t3:;
     r_su_1 = away(a_5, 40ull);
     r_xm = away(a_5, 32ull);
     r_x5_1 = (slot_1 + 8);
-    r_qs = ((u8 *)g_static_129);
+    r_qs = ((u8 *)g_static_198);
     r_tv = 10ull;
 l_join_r6:;
     if ((u8)(ld8(r_h6) & 1)) goto l_join_vw;
@@ -16166,7 +16299,7 @@ l_arm_4r:;
     r_su_2 = away(a_5, 40ull);
     r_xm_1 = away(a_5, 32ull);
     r_x5_2 = (slot_1 + 8);
-    r_qs_1 = ((u8 *)g_static_130);
+    r_qs_1 = ((u8 *)g_static_199);
     r_tv_1 = 15ull;
 l_join_r6_1:;
     if ((u8)(ld8(r_h6_1) & 1)) goto l_join_vw_1;
@@ -16212,7 +16345,7 @@ l_arm_qd_1:;
     if (!(r_t9_4 == 0ull)) { u8 *r_5 = away(r_qs_1, r_3a_1); u64 r_6 = r_t9_4; r_qs_1 = r_5; r_tv_1 = r_6; goto l_join_r6_1; }
     r_x5_3 = (slot_1 + 8);
     r_ic = r_t9_3;
-    r_qw_2 = ldp((((u8 *)switch_table_capnp_streams_streams_answers_answer_7b3c_65dcea49) + (i64)(8 * (r_ep & 255ull))));
+    r_qw_2 = ldp((((u8 *)switch_table_capnp_streams_streams_answers_answer_7b3c_ef5e0832) + (i64)(8 * (r_ep & 255ull))));
     r_fd = ld64((((u8 *)switch_table_capnp_streams_streams_answers_answer_7b3c_8a69267f) + (i64)(8 * (r_ep & 255ull))));
 l_join_u1:;
     if (!(u8)((u8)(r_ic < r_fd) | (u8)(u8)(ld8(r_h6_1) & 1))) goto l_after_c8_2;
@@ -16257,7 +16390,7 @@ l_arm_qd_2:;
     if (!(r_t9_6 == 0ull)) { u64 r_7 = r_t9_5; u8 *r_8 = away(r_qw_2, r_3a_2); u64 r_9 = r_t9_6; r_ic = r_7; r_qw_2 = r_8; r_fd = r_9; goto l_join_u1; }
     r_x5_4 = (slot_1 + 8);
     r_ic_1 = r_t9_5;
-    r_qw_3 = ((u8 *)g_static_145);
+    r_qw_3 = ((u8 *)g_static_214);
     r_fd_1 = 12ull;
 l_join_u1_1:;
     if (!(u8)((u8)(r_ic_1 < r_fd_1) | (u8)(u8)(ld8(r_h6_1) & 1))) goto l_after_c8_3;
@@ -16303,7 +16436,7 @@ l_arm_qd_3:;
     if ((u8)(r_n2 & 1)) { r_ug_1 = 1u; r_xl_1 = 5u; goto l_capnp_56_1; }
     r_nb = (r_38_13 & 0xffffffffull);
     r_x5_5 = (slot_1 + 8);
-    r_qs_2 = ((u8 *)g_static_146);
+    r_qs_2 = ((u8 *)g_static_215);
     r_tv_2 = 7ull;
 l_join_r6_2:;
     if ((u8)(ld8(r_h6_1) & 1)) goto l_join_vw_2;
@@ -16436,7 +16569,7 @@ l_arm_42:;
     r_su_3 = away(a_5, 40ull);
     r_xm_2 = away(a_5, 32ull);
     r_x5_8 = (slot_1 + 8);
-    r_qs_4 = ((u8 *)g_static_147);
+    r_qs_4 = ((u8 *)g_static_216);
     r_tv_4 = 6ull;
 l_join_r6_4:;
     if ((u8)(ld8(r_h6_2) & 1)) goto l_join_vw_4;
@@ -16478,7 +16611,7 @@ l_arm_qd_6:;
     u8 r_zy = capnp_messages_text_write_number_4ccd004bee0474d0(a_5, r_38_20);
     if ((u8)(r_zy & 1)) goto l_capnp_9n;
     r_x5_9 = (slot_1 + 8);
-    r_qs_5 = ((u8 *)g_static_148);
+    r_qs_5 = ((u8 *)g_static_217);
     r_tv_5 = 6ull;
 l_join_r6_5:;
     if ((u8)(ld8(r_h6_2) & 1)) goto l_join_vw_5;
@@ -16637,7 +16770,7 @@ l_arm_91:;
     r_su_4 = away(a_5, 40ull);
     r_xm_3 = away(a_5, 32ull);
     r_x5_11 = (slot_1 + 8);
-    r_qs_6 = ((u8 *)g_static_151);
+    r_qs_6 = ((u8 *)g_static_220);
     r_tv_6 = 13ull;
 l_join_r6_6:;
     if ((u8)(ld8(r_h6_3) & 1)) goto l_join_vw_6;
@@ -16679,7 +16812,7 @@ l_arm_qd_8:;
     u8 r_zy_2 = capnp_messages_text_write_number_4ccd004bee0474d0(a_5, (u64)r_z4_2);
     if ((u8)(r_zy_2 & 1)) goto l_capnp_9n_1;
     r_x5_12 = (slot_1 + 8);
-    r_qs_7 = ((u8 *)g_static_152);
+    r_qs_7 = ((u8 *)g_static_221);
     r_tv_7 = 8ull;
 l_join_r6_7:;
     if ((u8)(ld8(r_h6_3) & 1)) goto l_join_vw_7;
@@ -16720,8 +16853,8 @@ l_arm_qd_9:;
     if (!(r_t9_14 == 0ull)) { u8 *r_23 = away(r_qs_7, r_3a_9); u64 r_24 = r_t9_14; r_qs_7 = r_23; r_tv_7 = r_24; goto l_join_r6_7; }
     u8 r_zy_3 = capnp_messages_text_write_number_4ccd004bee0474d0(a_5, r_38_25);
     if ((u8)(r_zy_3 & 1)) goto l_capnp_9n_1;
-    u8 r_be = capnp_framing_devices_writing_write_all_4ccd004bee0474d0(a_5, ((u8 *)g_static_153), 15ull);
-    if ((u8)(r_be & 1)) goto l_capnp_9n_1;
+    u8 r_lb = capnp_framing_devices_writing_write_all_4ccd004bee0474d0(a_5, ((u8 *)g_static_222), 15ull);
+    if ((u8)(r_lb & 1)) goto l_capnp_9n_1;
     u8 r_zy_4 = capnp_messages_text_write_number_4ccd004bee0474d0(a_5, r_38_26);
     if (!(u8)(r_zy_4 & 1)) goto l_capnp_9f_1;
 l_capnp_9n_1:;
@@ -17049,8 +17182,8 @@ l_join_r9:;
 l_join_jf:;
     u8 r_47 = ld8((r_dm + (i64)(r_pt)));
     u8 *r_a7 = (slot_2 + (i64)((u64)(r_pt << 1ull)));
-    st8(r_a7, ld8((((u8 *)g_static_127) + (i64)((u64)(u8)((u32)r_47 >> 4u)))));
-    st8((r_a7 + 1), ld8((((u8 *)g_static_127) + (i64)((u64)(u8)(r_47 & 15u)))));
+    st8(r_a7, ld8((((u8 *)g_static_197) + (i64)((u64)(u8)((u32)r_47 >> 4u)))));
+    st8((r_a7 + 1), ld8((((u8 *)g_static_197) + (i64)((u64)(u8)(r_47 & 15u)))));
     u64 r_c4 = (r_pt + 1ull);
     if (!(r_c4 == a_gc)) { r_pt = r_c4; goto l_join_jf; }
     r_qs = slot_2;
@@ -17777,28 +17910,28 @@ l_capnp_t3:;
     r_38_12 = ld64((slot_1 + 16));
     r_38_13 = ld64((slot_1 + 24));
     if (!(ld8(slot_1) == 0u)) goto l_arm_4t;
-    if (!(r_r5_3 == 0u)) goto l_arm_o2;
-    u8 r_45 = capnp_framing_devices_writing_write_all_e52bf6e83dfc30a4(a_5, ((u8 *)g_static_129), 10ull);
+    if (!(r_r5_3 == 0u)) goto l_arm_52;
+    u8 r_mq = capnp_framing_devices_writing_write_all_e52bf6e83dfc30a4(a_5, ((u8 *)g_static_198), 10ull);
     memset(slot_14, 0u, 32);
-    r_5y = r_45;
-    r_6j = (u8)(r_45 ^ 1u);
+    r_5y = r_mq;
+    r_6j = (u8)(r_mq ^ 1u);
     r_sk = 0ull;
-    r_ly = ((u8)(r_45 & 1) ? 5u : 0u);
+    r_ly = ((u8)(r_mq & 1) ? 5u : 0u);
     r_yx = 0u;
     r_1v = 0ull;
     goto l_join_s7;
-l_arm_o2:;
-    u8 r_76 = capnp_framing_devices_writing_write_all_e52bf6e83dfc30a4(a_5, ((u8 *)g_static_130), 15ull);
-    if ((u8)(r_76 & 1)) goto l_capnp_9n;
+l_arm_52:;
+    u8 r_py = capnp_framing_devices_writing_write_all_e52bf6e83dfc30a4(a_5, ((u8 *)g_static_199), 15ull);
+    if ((u8)(r_py & 1)) goto l_capnp_9n;
     u64 r_ep = (u64)(r_38_13 >> 32ull);
-    u8 r_xl = capnp_framing_devices_writing_write_all_e52bf6e83dfc30a4(a_5, ldp((((u8 *)switch_table_capnp_streams_streams_answers_answer_7b3c_65dcea49) + (i64)(8 * (r_ep & 255ull)))), ld64((((u8 *)switch_table_capnp_streams_streams_answers_answer_7b3c_8a69267f) + (i64)(8 * (r_ep & 255ull)))));
+    u8 r_xl = capnp_framing_devices_writing_write_all_e52bf6e83dfc30a4(a_5, ldp((((u8 *)switch_table_capnp_streams_streams_answers_answer_7b3c_ef5e0832) + (i64)(8 * (r_ep & 255ull)))), ld64((((u8 *)switch_table_capnp_streams_streams_answers_answer_7b3c_8a69267f) + (i64)(8 * (r_ep & 255ull)))));
     if ((u8)(r_xl & 1)) goto l_capnp_9n;
-    u8 r_nk = capnp_framing_devices_writing_write_all_e52bf6e83dfc30a4(a_5, ((u8 *)g_static_145), 12ull);
-    if ((u8)(r_nk & 1)) goto l_capnp_9n;
+    u8 r_il = capnp_framing_devices_writing_write_all_e52bf6e83dfc30a4(a_5, ((u8 *)g_static_214), 12ull);
+    if ((u8)(r_il & 1)) goto l_capnp_9n;
     u8 r_cr = capnp_messages_text_write_number_e52bf6e83dfc30a4(a_5, r_38_12);
     if ((u8)(r_cr & 1)) goto l_capnp_9n;
-    u8 r_jq_2 = capnp_framing_devices_writing_write_all_e52bf6e83dfc30a4(a_5, ((u8 *)g_static_146), 7ull);
-    if ((u8)(r_jq_2 & 1)) goto l_capnp_9n;
+    u8 r_2o = capnp_framing_devices_writing_write_all_e52bf6e83dfc30a4(a_5, ((u8 *)g_static_215), 7ull);
+    if ((u8)(r_2o & 1)) goto l_capnp_9n;
     u8 r_xs = capnp_messages_text_write_number_e52bf6e83dfc30a4(a_5, (r_38_13 & 0xffffffffull));
     if (!(u8)(r_xs & 1)) goto l_capnp_sx;
 l_capnp_9n:;
@@ -17843,12 +17976,12 @@ l_arm_42:;
     if (!(ld8(slot_15) == 0u)) goto l_arm_cc_1;
     r_38_14 = ld64(r_x5_1);
     r_z4_1 = ld32((slot_15 + 16));
-    u8 r_89 = capnp_framing_devices_writing_write_all_e52bf6e83dfc30a4(a_5, ((u8 *)g_static_147), 6ull);
-    if ((u8)(r_89 & 1)) goto l_capnp_9n_1;
+    u8 r_dz = capnp_framing_devices_writing_write_all_e52bf6e83dfc30a4(a_5, ((u8 *)g_static_216), 6ull);
+    if ((u8)(r_dz & 1)) goto l_capnp_9n_1;
     u8 r_wn = capnp_messages_text_write_number_e52bf6e83dfc30a4(a_5, r_38_14);
     if ((u8)(r_wn & 1)) goto l_capnp_9n_1;
-    u8 r_gm = capnp_framing_devices_writing_write_all_e52bf6e83dfc30a4(a_5, ((u8 *)g_static_148), 6ull);
-    if ((u8)(r_gm & 1)) goto l_capnp_9n_1;
+    u8 r_as = capnp_framing_devices_writing_write_all_e52bf6e83dfc30a4(a_5, ((u8 *)g_static_217), 6ull);
+    if ((u8)(r_as & 1)) goto l_capnp_9n_1;
     u8 r_wn_1 = capnp_messages_text_write_number_e52bf6e83dfc30a4(a_5, (u64)r_z4_1);
     if (!(u8)(r_wn_1 & 1)) goto l_capnp_w2;
 l_capnp_9n_1:;
@@ -17932,8 +18065,8 @@ l_join_x6:;
 l_join_jf:;
     u8 r_47 = ld8((slot_3 + (i64)(r_pt)));
     u8 *r_a7_5 = (slot_1 + (i64)((u64)(r_pt << 1ull)));
-    st8(r_a7_5, ld8((((u8 *)g_static_127) + (i64)((u64)(u8)((u32)r_47 >> 4u)))));
-    st8((r_a7_5 + 1), ld8((((u8 *)g_static_127) + (i64)((u64)(u8)(r_47 & 15u)))));
+    st8(r_a7_5, ld8((((u8 *)g_static_197) + (i64)((u64)(u8)((u32)r_47 >> 4u)))));
+    st8((r_a7_5 + 1), ld8((((u8 *)g_static_197) + (i64)((u64)(u8)(r_47 & 15u)))));
     u64 r_c4_1 = (r_pt + 1ull);
     if (!(r_c4_1 == 32ull)) { r_pt = r_c4_1; goto l_join_jf; }
     u8 r_u5 = capnp_framing_devices_writing_write_all_e52bf6e83dfc30a4(a_5, slot_1, 64ull);
@@ -17984,16 +18117,16 @@ l_arm_91:;
     r_z4_2 = ld32(r_x5_2);
     r_38_17 = ld64((slot_17 + 16));
     r_38_18 = ld64((slot_17 + 24));
-    u8 r_6p = capnp_framing_devices_writing_write_all_e52bf6e83dfc30a4(a_5, ((u8 *)g_static_151), 13ull);
-    if ((u8)(r_6p & 1)) goto l_capnp_9n_2;
+    u8 r_mx = capnp_framing_devices_writing_write_all_e52bf6e83dfc30a4(a_5, ((u8 *)g_static_220), 13ull);
+    if ((u8)(r_mx & 1)) goto l_capnp_9n_2;
     u8 r_wn_2 = capnp_messages_text_write_number_e52bf6e83dfc30a4(a_5, (u64)r_z4_2);
     if ((u8)(r_wn_2 & 1)) goto l_capnp_9n_2;
-    u8 r_dt_1 = capnp_framing_devices_writing_write_all_e52bf6e83dfc30a4(a_5, ((u8 *)g_static_152), 8ull);
-    if ((u8)(r_dt_1 & 1)) goto l_capnp_9n_2;
+    u8 r_ll = capnp_framing_devices_writing_write_all_e52bf6e83dfc30a4(a_5, ((u8 *)g_static_221), 8ull);
+    if ((u8)(r_ll & 1)) goto l_capnp_9n_2;
     u8 r_wn_3 = capnp_messages_text_write_number_e52bf6e83dfc30a4(a_5, r_38_17);
     if ((u8)(r_wn_3 & 1)) goto l_capnp_9n_2;
-    u8 r_ij_1 = capnp_framing_devices_writing_write_all_e52bf6e83dfc30a4(a_5, ((u8 *)g_static_153), 15ull);
-    if ((u8)(r_ij_1 & 1)) goto l_capnp_9n_2;
+    u8 r_1k = capnp_framing_devices_writing_write_all_e52bf6e83dfc30a4(a_5, ((u8 *)g_static_222), 15ull);
+    if ((u8)(r_1k & 1)) goto l_capnp_9n_2;
     u8 r_wn_4 = capnp_messages_text_write_number_e52bf6e83dfc30a4(a_5, r_38_18);
     if (!(u8)(r_wn_4 & 1)) goto l_capnp_w2_1;
 l_capnp_9n_2:;
@@ -18069,8 +18202,8 @@ l_join_r9:;
 l_join_jf:;
     u8 r_47 = ld8((r_dm + (i64)(r_pt)));
     u8 *r_a7 = (slot_1 + (i64)((u64)(r_pt << 1ull)));
-    st8(r_a7, ld8((((u8 *)g_static_127) + (i64)((u64)(u8)((u32)r_47 >> 4u)))));
-    st8((r_a7 + 1), ld8((((u8 *)g_static_127) + (i64)((u64)(u8)(r_47 & 15u)))));
+    st8(r_a7, ld8((((u8 *)g_static_197) + (i64)((u64)(u8)((u32)r_47 >> 4u)))));
+    st8((r_a7 + 1), ld8((((u8 *)g_static_197) + (i64)((u64)(u8)(r_47 & 15u)))));
     u64 r_c4 = (r_pt + 1ull);
     if (!(r_c4 == a_gc)) { r_pt = r_c4; goto l_join_jf; }
     u8 r_en = capnp_framing_devices_writing_write_all_e52bf6e83dfc30a4(a_1, slot_1, (u64)(a_gc << 1ull));
@@ -18263,243 +18396,6 @@ l_join_0b:;
     memset(away(a_1, 20ull), 0u, 20);
     mv32(away(a_1, 40ull), slot_7);
     return;
-}
-
-/* capnp_streams::streams::task::named_files */
-void capnp_streams_streams_task_named_files(u8 *a_1, u8 *a_2, u64 a_3)
-{
-    A(8) u8 slot_1[1];
-    A(1) u8 slot_2[31];
-    A(8) u8 slot_3[24];
-    A(4) u8 slot_4[11];
-    A(1) u8 slot_5[136];
-    A(8) u8 slot_6[48];
-    A(8) u8 slot_7[240];
-    A(8) u8 slot_8[224];
-    u8 *r_x5;
-    u8 *r_x5_1;
-    u8 *r_zd;
-    u8 *r_lk;
-    u8 *r_nk;
-    u8 *r_eo;
-    u8 *r_a8;
-    u8 *r_6x;
-    u8 *r_x5_2;
-    u8 *r_zd_1;
-    u8 *r_zd_2;
-    u8 *r_lk_1;
-    u8 *r_89;
-    u8 *r_a8_1;
-    u8 *r_f3;
-    u8 *r_lr;
-    u8 *r_6c;
-    u8 *r_vb;
-    u8 *r_1p;
-    u8 *r_bh;
-    u64 r_oy;
-    u8 *r_u5;
-    u32 r_kl;
-    u64 r_na;
-    u64 r_45;
-    u64 r_el;
-    u8 r_y2;
-    u8 *r_3q;
-    u64 r_zn;
-    u8 *r_ps;
-    u8 *r_lz;
-    u64 r_52;
-    u8 r_ts;
-    struct s_i64_i64 r_1y;
-    u8 *r_zb;
-    u64 r_il;
-    u8 *r_m7;
-    u64 r_wf;
-    u8 *r_b9;
-    u64 r_38_3;
-    u64 r_38_4;
-    u64 r_iu;
-    u8 *r_a7_1;
-    u8 *r_xw;
-    u64 r_38_5;
-    u64 r_38_6;
-    u64 r_iu_1;
-    u8 *r_a7_2;
-    u8 *r_6i;
-    u8 *r_an;
-    u8 r_9v;
-    u64 r_w8;
-    u64 r_ek;
-    u64 r_ln;
-    u32 r_3i;
-    memset(slot_2, 0u, 31);
-    memset(slot_7, 0u, 240);
-    stp(slot_3, slot_1);
-    r_x5 = (slot_3 + 8);
-    memset(r_x5, 0u, 16);
-    memset(slot_5, 0u, 136);
-    memset(slot_4, 0u, 11);
-    memset(slot_6, 0u, 48);
-    if (a_3 == 0ull) goto l_after_zm;
-    r_x5_1 = (slot_8 + 8);
-    r_zd = (slot_8 + 16);
-    r_lk = (slot_8 + 24);
-    r_nk = (slot_8 + 28);
-    r_eo = (slot_8 + 39);
-    r_a8 = (slot_8 + 40);
-    r_6x = (slot_8 + 176);
-    r_x5_2 = (slot_7 + 8);
-    r_zd_1 = (slot_3 + 16);
-    r_zd_2 = (slot_7 + 16);
-    r_lk_1 = (slot_7 + 24);
-    r_89 = (slot_7 + 32);
-    r_a8_1 = (slot_7 + 40);
-    r_f3 = (slot_7 + 44);
-    r_lr = (slot_7 + 55);
-    r_6c = (slot_7 + 56);
-    r_vb = (slot_7 + 192);
-    r_1p = slot_1;
-    r_bh = slot_1;
-    r_oy = a_3;
-    r_u5 = a_2;
-    r_kl = 64u;
-    r_na = 0x800000ull;
-    r_45 = 1ull;
-    r_el = 0ull;
-    r_y2 = 0u;
-l_arm_uw:;
-    r_3q = away(r_u5, 24ull);
-    r_zn = (r_oy + 0xffffffffffffffffull);
-    st64(slot_8, r_el);
-    st64(r_x5_1, r_45);
-    st64(r_zd, r_na);
-    st32(r_lk, r_kl);
-    mv11(r_nk, slot_4);
-    st8(r_eo, r_y2);
-    memcpy(r_a8, slot_5, 136);
-    mv48(r_6x, slot_6);
-    r_ps = away(r_u5, 8ull);
-    capnp_streams_streams_arguments_ParsedArguments_parse_argument(slot_7, slot_8, ldp(r_u5), ld64(r_ps));
-    if (!(ld8(slot_7) == 0u)) goto l_after_zm_1;
-    switch (ld8(r_x5_2)) {
-    case 0u: goto l_arm_lv;
-    case 1u: goto l_arm_vx;
-    case 2u: goto l_after_zm_1;
-    default: goto l_noarm_e1;
-    }
-l_arm_lv:;
-    u64 r_38 = ld64(r_zd_2);
-    u64 r_38_1 = ld64(r_lk_1);
-    u64 r_38_2 = ld64(r_89);
-    u32 r_z4 = ld32(r_a8_1);
-    u8 r_dd = ld8(r_lr);
-    mv11(slot_4, r_f3);
-    memcpy(slot_5, r_6c, 136);
-    mv48(slot_6, r_vb);
-    r_6i = r_1p;
-    r_an = r_bh;
-    r_9v = r_dd;
-    r_w8 = r_38;
-    r_ek = r_38_1;
-    r_ln = r_38_2;
-    r_3i = r_z4;
-    goto l_after_tm;
-l_arm_vx:;
-    r_lz = ldp(r_u5);
-    r_52 = ld64(r_ps);
-    r_ts = (r_52 == 0ull);
-    if (r_ts) { r_zb = slot_1; goto l_arm_r3; }
-    if (!((i64)r_52 > (i64)0xffffffffffffffffull)) goto l_arm_pi;
-    struct s_i64_i64 r_35 = rattle_alloc(r_52, 1ull);
-    r_1y = r_35;
-    if (!(u8)(r_1y.f0 & 1)) goto l_arm_pi;
-    r_zb = ((u8 *)(uptr)r_1y.f1);
-l_arm_r3:;
-    if (((u64)(uptr)r_zb - (u64)(uptr)r_lz) < r_52) { r_il = 0ull; goto l_join_fh; }
-    memmove_or_none(r_zb, r_lz, r_52);
-    goto l_arm_k5;
-l_join_fh:;
-    st8((r_zb + (i64)(r_il)), ld8((r_lz + (i64)(r_il))));
-    u64 r_36 = (r_il + 1ull);
-    if (!(r_36 == r_52)) { r_il = r_36; goto l_join_fh; }
-l_arm_k5:;
-    u64 r_52_1 = ld64(r_x5);
-    if (!(ld64(r_zd_1) == r_52_1)) { r_m7 = r_1p; r_wf = r_52_1; goto l_core_bw; }
-    u8 r_43 = std_alloc_vec_Vec_grow_amortized_4bfbfd015d35923a(slot_3);
-    if (!r_43) goto l_arm_ci;
-    r_m7 = ldp(slot_3);
-    r_wf = ld64(r_x5);
-l_core_bw:;
-    u8 *r_a7 = (r_m7 + (i64)((r_wf * 24ull)));
-    stp(r_a7, r_zb);
-    st64((r_a7 + 8), r_52);
-    st64((r_a7 + 16), r_52);
-    st64(r_x5, (r_wf + 1ull));
-    r_6i = r_m7;
-    r_an = r_m7;
-    r_9v = r_y2;
-    r_w8 = r_el;
-    r_ek = r_45;
-    r_ln = r_na;
-    r_3i = r_kl;
-    goto l_after_tm;
-l_common_68:;
-    return;
-l_arm_pi:;
-    r_b9 = (slot_2 + 7);
-    memset((slot_2 + 7), 0u, 24);
-    r_38_3 = ld64(r_x5);
-    r_38_4 = ld64(r_zd_1);
-    if (r_38_3 == 0ull) goto l_std_p4;
-    r_iu = 0ull;
-l_join_9n:;
-    r_a7_1 = away(r_bh, (r_iu * 24ull));
-    if (ld64((r_a7_1 + 16)) == 0ull) goto l_core_jc;
-    rattle_dealloc(ldp(r_a7_1));
-l_core_jc:;
-    u64 r_36_1 = (r_iu + 1ull);
-    if (!(r_36_1 == r_38_3)) { r_iu = r_36_1; goto l_join_9n; }
-l_std_p4:;
-    if (r_38_4 == 0ull) goto l_std_u1;
-    rattle_dealloc(r_bh);
-l_std_u1:;
-    st8(a_1, 1u);
-    mv24(away(a_1, 8ull), r_b9);
-    goto l_common_68;
-l_arm_ci:;
-    if (r_ts) goto l_core_tl;
-    rattle_dealloc(r_zb);
-l_core_tl:;
-    r_xw = ldp(slot_3);
-    r_38_5 = ld64(r_x5);
-    r_38_6 = ld64(r_zd_1);
-    if (r_38_5 == 0ull) goto l_std_p4_1;
-    r_iu_1 = 0ull;
-l_join_9n_1:;
-    r_a7_2 = away(r_xw, (r_iu_1 * 24ull));
-    if (ld64((r_a7_2 + 16)) == 0ull) goto l_core_jc_1;
-    rattle_dealloc(ldp(r_a7_2));
-l_core_jc_1:;
-    u64 r_36_2 = (r_iu_1 + 1ull);
-    if (!(r_36_2 == r_38_5)) { r_iu_1 = r_36_2; goto l_join_9n_1; }
-l_std_p4_1:;
-    if (r_38_6 == 0ull) goto l_std_st;
-    rattle_dealloc(r_xw);
-l_std_st:;
-    st8(a_1, 1u);
-    memset(away(a_1, 8ull), 0u, 24);
-    goto l_common_68;
-l_after_zm_1:;
-    st8(a_1, 0u);
-    mv24(away(a_1, 8ull), slot_3);
-    goto l_common_68;
-l_after_tm:;
-    if (!(r_zn == 0ull)) { r_1p = r_6i; r_bh = r_an; r_oy = r_zn; r_u5 = r_3q; r_kl = r_3i; r_na = r_ln; r_45 = r_ek; r_el = r_w8; r_y2 = r_9v; goto l_arm_uw; }
-l_after_zm:;
-    st8(a_1, 0u);
-    mv24(away(a_1, 8ull), slot_3);
-    goto l_common_68;
-l_noarm_e1:;
-    UNREACHABLE();
 }
 
 /* capnp_streams::streams::diffs::read_next::<#5c1e7eb3de607c93> */
@@ -21971,7 +21867,7 @@ u8 capnp_streams_streams_diffs_write_end_45b6cc80abe1f805(u8 *a_1, u64 a_2, u8 a
     r_su = away(a_1, 40ull);
     r_xm = away(a_1, 32ull);
     r_x5 = (slot_1 + 8);
-    r_7u = ((u8 *)g_static_226);
+    r_7u = ((u8 *)g_static_260);
     r_j3 = 8ull;
 l_join_c8:;
     memset(slot_1, 0u, 96);
@@ -22006,7 +21902,7 @@ l_arm_on:;
     if ((u8)(r_t0 & 1)) { r_fk = 1u; goto l_join_ri; }
     if (!(a_4 == 0u)) goto l_arm_qn;
     r_x5_1 = (slot_1 + 8);
-    r_7u_1 = ((u8 *)g_static_301);
+    r_7u_1 = ((u8 *)g_static_333);
     r_j3_1 = 25ull;
 l_join_c8_1:;
     memset(slot_1, 0u, 96);
@@ -22045,7 +21941,7 @@ l_arm_4h:;
     goto l_join_c8_1;
 l_arm_qn:;
     r_x5_3 = (slot_1 + 8);
-    r_7u_2 = ((u8 *)g_static_302);
+    r_7u_2 = ((u8 *)g_static_334);
     r_j3_2 = 26ull;
 l_join_c8_2:;
     memset(slot_1, 0u, 96);

@@ -55,7 +55,7 @@ BY_HAND = (
     ('segments that aren\'t returned', 'a_dropped_arena_returns_each_segment_once_in_order', 'tools/rust/departures/drop.txt', 'deallocate_all(&mut allocator, listed, apart);\n        }\n    }\n}\n\n/// What', 'let _ = (&mut allocator, listed, apart);\n        }\n    }\n}\n\n/// What'),
     ('an error that is forgotten', 'the_error_of_a_device_is_noted', 'tools/rust/departures/io_error.txt', 'self.fault.set(fault.as_ref().map(same_error));\n', ''),
     ('a list that is cut short', 'lists', 'tools/rust/support/vec.rs', 'self.0.resize(n, value);\n        Ok(())', 'self.0.resize(n.min(999), value);\n        Ok(())'),
-    ('another digest', 'digests', 'tools/rust/support/sha2.rs', 'rest.len() < 56', 'rest.len() < 57'),
+    ('another digest', 'digests', 'tools/rust/support/sha2.rs', 'self.held < 56', 'self.held < 57'),
     ('lanes in another order', 'lanes', 'tools/rust/support/simd.rs', 'self.0[0].to_le_bytes()', 'self.0[0].to_be_bytes()'),
 )
 # In what a doc comment says that its function requires.

@@ -18,7 +18,7 @@ SECONDS = 1
 
 class Coprocess:
     def __init__(self, program, args):
-        self.run = subprocess.Popen([program.path, *args], stdin=subprocess.PIPE, stdout=subprocess.PIPE, bufsize=0)
+        self.run = subprocess.Popen([program.path, *args], stdin=subprocess.PIPE, stdout=subprocess.PIPE, stderr=subprocess.DEVNULL, bufsize=0)
 
     def asked(self, data, enough):
         """Writes these bytes, and returns the answer, read until there is enough or the time is over."""

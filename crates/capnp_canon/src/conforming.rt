@@ -1,6 +1,9 @@
 //! Tests the messages of an input against a schema.
 
-ghost use Rattle.std.specs.Prelude.{◌≡◌, false};
+ghost use Rattle.std.specs.Prelude.{◌≡◌, Ok, false, IfOk, OnOk};
+ghost use Rattle.capnp_streams.specs.Forms.{form_of_options};
+ghost use Rattle.capnp_streams.specs.Streams.{stage_of};
+ghost use Rattle.typed_streams.specs.TestedForms.{AreTestedAs};
 
 use crate::progress::{CountedInput, Session};
 use crate::schema::Schema;
@@ -9,7 +12,8 @@ use capnp_refusals::refusals::RefusedPointer;
 use capnp_streams::streams::{InputForm, Stop, StreamError, Task};
 use typed_conforming::schema::Misfit;
 use typed_streams::conforming::{
-    ConformingFault, ConformingStop, test_packed_stream, test_raw_words, test_stream,
+    ConformingFault, ConformingStop, TestedMessages, test_packed_stream, test_raw_words,
+    test_stream,
 };
 
 /// Tests each message of `input` against `schema`, and writes the answers to `output`. Precondition:
@@ -20,32 +24,46 @@ pub fn test_input<R: BufferedInput + Drop, W: BufferedOutput>(
     schema: &Schema,
     input: R,
     output: &mut W,
-) -> Result<(), ConformingStop>
+) -> Result<TestedMessages, ConformingStop>
     requires reads { R.has_failed input ≡ false }
     requires writes { W.has_failed output.old ≡ false }
+    ensures tested { IfOk result (AreTestedAs (form_of_options task.unpack task.from_flat)
+        (record { table = schema.now.table.words.items; row = schema.now.row; limits = task.limits })
+        (stage_of R.Input W.Output input output.old) (W.contents output.new)) }
 {
     let alloc = session.rt.alloc();
     let (table, row) = (schema.table.words.as_slice(), schema.row);
     let mut input = CountedInput::new(input, session);
-    let tested = match task.input_form() {
+    match task.input_form() {
         InputForm::Frames => test_stream(alloc, table, row, task.limits, &mut input, output),
         InputForm::PackedFrames => {
             test_packed_stream(alloc, table, row, task.limits, input, output)
         }
-        InputForm::RawWords => {
-            return match test_raw_words(alloc, table, row, task.limits, &mut input, output) {
-                Ok(()) => Ok(()),
-                Err(fault) => Err(ConformingStop {
-                    tested: 0,
-                    byte: 0,
-                    fault,
-                }),
-            };
-        }
-    };
+        InputForm::RawWords => tested_one(test_raw_words(
+            alloc,
+            table,
+            row,
+            task.limits,
+            &mut input,
+            output,
+        )),
+    }
+}
+
+/// The result of a test of one message.
+fn tested_one(tested: Result<(), ConformingFault>) -> Result<TestedMessages, ConformingStop>
+    ensures { OnOk result (tested ≡ Ok tt) }
+{
     match tested {
-        Ok(_) => Ok(()),
-        Err(stop) => Err(stop),
+        Ok(()) => Ok(TestedMessages {
+            messages: 1,
+            bytes: 0,
+        }),
+        Err(fault) => Err(ConformingStop {
+            tested: 0,
+            byte: 0,
+            fault,
+        }),
     }
 }
 

@@ -290,7 +290,7 @@ fn do_work<R: BufferedInput + Drop, W: BufferedOutput>(
             }),
         },
         Work::Test(task, schema) => match test_input(session, task, schema, input, output) {
-            Ok(()) => Ok(true),
+            Ok(_) => Ok(true),
             Err(stop) => Err(Refusal {
                 stop: stop_of(stop),
                 field: schema.field_text(alloc, stop.fault),
@@ -351,8 +351,9 @@ fn summary_of_one(answered: Result<bool, StreamError>) -> Result<Summary, Stop>
 }
 
 /// Reports which message is refused, counted from 1, at which byte of the input it begins, why it
-/// is refused, and at which of its pointers, if it is at one, followed by `field`. If this is the first message, and the
-/// input doesn't look like what `form` says, also reports what the input looks like.
+/// is refused, and at which of its pointers, if it is at one, followed by `field`. If this is the
+/// first message, and the input doesn't look like what `form` says, also reports what the input
+/// looks like.
 pub fn report_refusal(
     rt: &HostRuntime,
     form: InputForm,

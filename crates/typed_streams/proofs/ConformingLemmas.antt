@@ -1,5 +1,5 @@
 -- A stream is read and tested message by message.
-use Rattle.std.proofs.Common.{◌≡◌, ◌⊎◌, inl, inr, ◌<◌, ◌≤◌, ℕ, ◌+◌, ◌-◌, ◌^◌, min, List, [], ◌∷◌, ◌++◌, All, Option, Some, None, length}
+use Rattle.std.proofs.Common.{◌≡◌, ◌⊎◌, inl, inr, ◌<◌, ◌≤◌, ℕ, ◌+◌, ◌-◌, ◌^◌, min, Bool, List, [], ◌∷◌, ◌++◌, All, Option, Some, None, IsSomeAnd, length}
 use Rattle.std.proofs.Common.{refl, sym, ap, subst, ◌∙◌, append_assoc, append-nil, arith, length-append}
 use Rattle.std.specs.Io.KnownBytes.{Appends, Consumes, IsAtEnd, Keeps}
 use Rattle.std.proofs.lemmas.List.Elements.{All-append, All-cons, All-nil}
@@ -9,10 +9,15 @@ use Rattle.capnp_framing.specs.Limits.{most_words}
 use Rattle.capnp_framing.specs.Reading.{total}
 use Rattle.capnp_framing.proofs.ReadingLemmas.{consumes_both}
 use Rattle.capnp_framing.proofs.WritingLemmas.{appends_both}
+use Rattle.capnp_framing.specs.declared.framing.frame_error.FrameError.TheVariants.{WriteFailed}
 use Rattle.capnp_packing.proofs.PackingLemmas.{kept_appends}
-use Rattle.capnp_streams.specs.Streams.{Stage}
-use Rattle.capnp_streams.proofs.StreamLemmas.{appends_keeps, appends_none, consumes_none, frames_both, length_framed}
-use Rattle.typed_streams.specs.Conforming.{AreTested, IsConforming, Wanted, yes_line, yes_lines}
+use Rattle.capnp_streams.specs.Streams.{AreFrames, Stage}
+use Rattle.capnp_streams.proofs.FramesLemmas.{frames_behind}
+use Rattle.capnp_streams.proofs.StreamLemmas.{appends_keeps, appends_none, begins, consumes_none, frames_both, length_framed}
+use Rattle.typed_streams.proofs.FrameLemmas.{all_left, frame_is_there, front_has}
+use Rattle.typed_streams.specs.Conforming.{AreConforming, AreTested, IsConforming, IsNoMisfit, StopsTest, Wanted, yes_line, yes_lines}
+use Rattle.typed_streams.specs.declared.conforming.ConformingFault.{ConformingFault}
+use Rattle.typed_streams.specs.declared.conforming.ConformingFault.TheVariants.{Frame, Misfit, TooManyMessages}
 
 -- lines after others
 lines_both : (Ss Ts : List Segments) → yes_lines (Ss ++ Ts) ≡ yes_lines Ss ++ yes_lines Ts
@@ -103,3 +108,29 @@ tested_after input a b {new = new} kept done = record {
 pub ends_test : {P Q K U : Type 0} → P ⊎ (Q × K) → P ⊎ (K × (Q ⊎ U))
 ends_test (inl p) = inl p
 ends_test (inr (stops, kept)) = inr (kept, inl stops)
+
+-- the test of messages that conform stops only for memory or a device
+stops_so : (w : Wanted) (more : List Segments) (left : List ℕ) (after : Option (List ℕ)) (failed : Bool) (fault : ConformingFault) →
+    AreFrames (most_words w.limits) more left → All (IsConforming w) more → StopsTest w (Some left) after failed fault → IsNoMisfit fault
+stops_so w more left after failed (Frame e) framed all (inl memory) = inl memory
+stops_so w more left after failed (Frame e) framed all (inr (inl (named, device))) = inr (inl named)
+stops_so w more left after failed (Frame e) framed all (inr (inr none)) =
+    absurd (frame_is_there (most_words w.limits) more left e framed none)
+stops_so w more left after failed (Misfit x) framed all (S, bytes, is, short, consumed, differs, blamed) =
+    absurd (differs (front_has (IsConforming w) (most_words w.limits) more left S framed all (begins (Some left) after consumed is short)))
+stops_so w more left after failed TooManyMessages framed all stops = absurd stops
+
+pub step_conforming : {w : Wanted} {count size : ℕ} {P Q : Type 0} (old : Stage) (left between after : Option (List ℕ))
+    (failed : Bool) (fault : ConformingFault) → AreTested w old (record { input = left; output = between }) count size →
+    ((fault ≡ Frame WriteFailed) × P) ⊎ (StopsTest w left after failed fault × Q) →
+    IsSomeAnd old.input (AreConforming w) → IsNoMisfit fault
+step_conforming old left between after failed fault tested (inl (named, device)) = λ can. subst IsNoMisfit (sym named) (inr (inr refl))
+step_conforming {w} old left between after failed fault tested (inr (stops, same)) = λ can. go old.input left tested.consumed can stops
+  where
+    go : (a b : Option (List ℕ)) → Consumes a b tested.bytes → IsSomeAnd a (AreConforming w) → StopsTest w b after failed fault → IsNoMisfit fault
+    go None b consumed given stopped = absurd given
+    go (Some x) None consumed given stopped = absurd consumed
+    go (Some x) (Some y) consumed (messages, framed, all) stopped =
+        let (more, is, others) = frames_behind (most_words w.limits) tested.messages messages tested.bytes y x tested.framed framed consumed in
+        let rest = all_left (IsConforming w) tested.messages more (subst (All (IsConforming w)) is all) in
+        stops_so w more y after failed fault others rest stopped

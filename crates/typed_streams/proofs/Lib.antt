@@ -1,1 +1,5 @@
 pub mod ConformingLemmas
+pub mod FrameLemmas
+pub mod PackedLemmas
+pub mod RawLemmas
+pub mod WalkLemmas

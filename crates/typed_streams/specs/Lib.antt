@@ -1,1 +1,2 @@
 pub mod Conforming
+pub mod TestedForms

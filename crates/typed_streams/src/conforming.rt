@@ -1,17 +1,21 @@
 //! Tests whether the root of each message of a stream conforms to a row of a table.
-ghost use Rattle.std.specs.Prelude.{◌≡◌, ◌⊎◌, ◌↔◌, [], Some, false, true, Ok, None, IsOk, OnOk, IfOk, IfErr, IfSome};
+ghost use Rattle.std.specs.Prelude.{◌≡◌, ◌⊎◌, ◌↔◌, ℕ, List, [], Option, Some, false, true, Ok, None, IsOk, OnOk, IfOk, IfErr, IfSome, IsSomeAnd};
 ghost use Rattle.std.specs.Io.KnownBytes.{IsAtEnd, Keeps};
 ghost use Rattle.capnp_format.specs.Bytes.{message};
 ghost use Rattle.capnp_arena_traits.specs.Limits.{IsSmall};
-ghost use Rattle.capnp_framing.specs.Writing.{Writes};
+ghost use Rattle.capnp_framing.specs.Wholeness.{KeepsWhole};
+ghost use Rattle.capnp_framing.specs.Writing.{IsUnwritten, Writes};
+ghost use Rattle.capnp_framing.specs.declared.framing.frame_error.FrameError.TheVariants.{ReadFailed};
+ghost use Rattle.capnp_packing.specs.Packing.{IsWhole, unpacked_bytes};
+ghost use Rattle.capnp_packing.specs.declared.packing.place.Place.TheVariants.{Tag};
 ghost use Rattle.capnp_streams.specs.Packed.{unpacked_stage};
-ghost use Rattle.capnp_streams.specs.Streams.{AreWorking, Stage, stage_of};
-ghost use Rattle.typed_streams.specs.Conforming.{AreRawWordsTested, AreTested, EndsTest, IsConforming, FailsToWrite, StopsTest, Wanted, yes_line};
+ghost use Rattle.capnp_streams.specs.Streams.{AreWorking, RunsToEnd, Stage, stage_of};
+ghost use Rattle.typed_streams.specs.Conforming.{AreConforming, AreConformingWords, AreRawWordsTested, AreTested, CutsTest, EndsTest, FailsToWrite, IsConforming, IsMisfitOf, IsNoMisfit, StopsRawTest, StopsTest, Wanted, yes_line};
 
 use capnp_arena::arena::{ReaderArenaImpl, ReaderOptions, ReaderSegments};
 use capnp_framing::devices::{DeviceFault, Input, Output, write_all};
 use capnp_framing::framing::{FrameError, OwnedSegments, most_words, read_into, read_segment_into};
-use capnp_objects::pointers::Pointer;
+use capnp_messages::messages::read_root;
 use capnp_packing::buffered::{BufferedInput, BufferedOutput, flush_before_waiting};
 use capnp_packing::packing::UnpackingInput;
 use capnp_words::read_limiter::ReadLimiter;
@@ -56,7 +60,9 @@ pub struct ConformingStop {
 /// Tests whether the root of the message in `segments` means a value within `limits` that conforms
 /// to the row at `row` of `table`.
 ///
-/// Refuses with what can't be read or doesn't conform first, in the order of `conforms`.
+/// Refuses like `read_root`, then at word 0 of segment 0, and like `conforms`: with the first pointer,
+/// in its order, that can't be read or doesn't conform. Precondition: `segments` has fewer than 2^32
+/// segments, each of fewer than 2^32 words.
 pub fn test_message<S: ReaderSegments + Drop>(
     table: &[u32],
     row: u32,
@@ -64,12 +70,14 @@ pub fn test_message<S: ReaderSegments + Drop>(
     segments: S,
 ) -> Result<(), Misfit>
     requires { IsSmall (S.segments segments) }
-    ensures { let w : Wanted = record { table = table.now; row = row; limits = limits } in
+    ensures exactly { let w : Wanted = record { table = table.now; row = row; limits = limits } in
         IsOk result ↔ IsConforming w (message (S.segments segments)) }
+    ensures refused { let w : Wanted = record { table = table.now; row = row; limits = limits } in
+        IfErr result (IsMisfitOf w (message (S.segments segments))) }
 {
     let arena = ReaderArenaImpl::new(segments, limits);
     let mut lim = ReadLimiter::new(limits.traversal_limit_in_words);
-    match Pointer::get_root_from_arena(&arena, &mut lim) {
+    match read_root(&arena, &mut lim) {
         Ok(root) => conforms(table, Kind::Struct(row), &root, &mut lim),
         Err(error) => Err(Misfit {
             error,
@@ -112,7 +120,10 @@ fn test_next<R: BufferedInput, W: BufferedOutput>(
         AreTested (record { table = table.now; row = row; limits = limits })
         (stage_of R.Input W.Output input.old output.old)
         (stage_of R.Input W.Output input.new output.new) 1 size)) }
+    ensures whole { OnOk result (KeepsWhole (R.ends_whole input.old) (R.ends_whole input.new)) }
     ensures work { OnOk result (AreWorking R.Input W.Output input.new output.new) }
+    ensures failed { IfErr result (λ e. R.has_failed input.new ≡ true
+        → e ≡ ConformingFault.Frame ReadFailed) }
     ensures refused { IfErr result (λ e. FailsToWrite W.Output output.new e
         ⊎ (StopsTest (record { table = table.now; row = row; limits = limits })
         (R.remaining input.old) (R.remaining input.new) (R.has_failed input.new) e
@@ -149,7 +160,10 @@ fn flush_and_test_next<R: BufferedInput, W: BufferedOutput>(
         AreTested (record { table = table.now; row = row; limits = limits })
         (stage_of R.Input W.Output input.old output.old)
         (stage_of R.Input W.Output input.new output.new) 1 size)) }
+    ensures whole { OnOk result (KeepsWhole (R.ends_whole input.old) (R.ends_whole input.new)) }
     ensures work { OnOk result (AreWorking R.Input W.Output input.new output.new) }
+    ensures failed { IfErr result (λ e. R.has_failed input.new ≡ true
+        → e ≡ ConformingFault.Frame ReadFailed) }
     ensures refused { IfErr result (λ e. FailsToWrite W.Output output.new e
         ⊎ (StopsTest (record { table = table.now; row = row; limits = limits })
         (R.remaining input.old) (R.remaining input.new) (R.has_failed input.new) e
@@ -167,8 +181,10 @@ fn flush_and_test_next<R: BufferedInput, W: BufferedOutput>(
 /// `output` has failed.
 ///
 /// Stops at the first message that doesn't conform or whose frame can't be read, and then writes
-/// nothing about this message. Before a read that may wait for input, flushes all lines. Memory
-/// comes from the heap, and is reused from one message to the next.
+/// nothing about this message. If all messages of the input conform, stops only if memory runs out,
+/// if the input or the output fails, or if there are more messages than a `u64` can count. Before a
+/// read that may wait for input, flushes all lines. Memory comes from the heap, and is reused from
+/// one message to the next.
 pub fn test_stream<R: BufferedInput, W: BufferedOutput>(
     alloc: Global,
     table: &[u32],
@@ -181,13 +197,18 @@ pub fn test_stream<R: BufferedInput, W: BufferedOutput>(
     ensures done { IfOk result (λ t. AreTested (record { table = table.now; row = row; limits = limits })
         (stage_of R.Input W.Output input.old output.old)
         (record { input = Some []; output = W.contents output.new }) t.messages t.bytes) }
-    ensures work { OnOk result (AreWorking R.Input W.Output input.new output.new) }
+    ensures ended { OnOk result (RunsToEnd R.Input W.Output input.old input.new output.new) }
     ensures refused { IfErr result (λ s. (behind : Stage)
         × AreTested (record { table = table.now; row = row; limits = limits })
         (stage_of R.Input W.Output input.old output.old) behind s.tested s.byte
         × (FailsToWrite W.Output output.new s.fault
         ⊎ EndsTest (record { table = table.now; row = row; limits = limits }) behind
         (stage_of R.Input W.Output input.new output.new) (R.has_failed input.new) s)) }
+    ensures exactly { IfErr result (λ s. IsSomeAnd (R.remaining input.old)
+        (AreConforming (record { table = table.now; row = row; limits = limits }))
+        → IsNoMisfit s.fault) }
+    ensures failed { IfErr result (λ s. R.has_failed input.new ≡ true
+        → s.fault ≡ ConformingFault.Frame ReadFailed) }
 {
     let mut segments = OwnedSegments::new(alloc);
     let mut bytes = 0u64;
@@ -211,11 +232,25 @@ pub fn test_stream<R: BufferedInput, W: BufferedOutput>(
     })
 }
 
+/// Returns the stop with the fault `error`, after the messages that `tested` counts.
+fn stop_after(tested: TestedMessages, error: FrameError) -> ConformingStop
+    ensures tested { result.tested ≡ tested.messages }
+    ensures byte { result.byte ≡ tested.bytes }
+    ensures fault { result.fault ≡ ConformingFault.Frame error }
+{
+    ConformingStop {
+        tested: tested.messages,
+        byte: tested.bytes,
+        fault: ConformingFault::Frame(error),
+    }
+}
+
 /// Unpacks the input `packed` (encoding specification, "Packing"), and tests the messages of the
 /// unpacked bytes like `test_stream`. Precondition: neither `packed` nor `output` has failed.
 ///
 /// If the packed bytes end inside a packed word, or where the count after a tag is missing, stops
-/// with `Truncated`, after the messages whose frames are complete.
+/// with `Truncated`, after the messages whose frames are complete. The fault `ReadFailed` means that
+/// reading from `packed` failed.
 pub fn test_packed_stream<R: Input + Drop, W: BufferedOutput>(
     alloc: Global,
     table: &[u32],
@@ -228,24 +263,40 @@ pub fn test_packed_stream<R: Input + Drop, W: BufferedOutput>(
     ensures done { IfOk result (λ t. AreTested (record { table = table.now; row = row; limits = limits })
         (unpacked_stage (stage_of R.Input W.Output packed output.old))
         (record { input = Some []; output = W.contents output.new }) t.messages t.bytes) }
+    ensures whole { OnOk result (IfSome (R.remaining packed) (IsWhole Tag)) }
+    ensures refused { IfErr result (λ s. (behind : Stage)
+        × AreTested (record { table = table.now; row = row; limits = limits })
+        (unpacked_stage (stage_of R.Input W.Output packed output.old)) behind s.tested s.byte
+        × (FailsToWrite W.Output output.new s.fault
+        ⊎ CutsTest (R.remaining packed) behind (W.contents output.new) s.fault
+        ⊎ ((left : Option (List ℕ))
+        × EndsTest (record { table = table.now; row = row; limits = limits }) behind
+        (record { input = left; output = W.contents output.new }) true s))) }
+    ensures failed { IfErr result (λ s. s.fault ≡ ConformingFault.Frame ReadFailed
+        → IfSome (R.remaining packed) (λ _. (device : R) × (R.has_failed device ≡ true))) }
+    ensures exactly { IfErr result (λ s. IsSomeAnd (R.remaining packed) (λ bytes. IsWhole Tag bytes
+        × AreConforming (record { table = table.now; row = row; limits = limits })
+        (unpacked_bytes Tag bytes)) → IsNoMisfit s.fault) }
+    ensures works { OnOk result (W.has_failed output.new ≡ false) }
 {
     let mut input = UnpackingInput::new(packed);
-    let tested = test_stream(alloc, table, row, limits, &mut input, output)?;
-    let error = match input.is_whole_at_end() {
-        Ok(true) => return Ok(tested),
-        Ok(false) => FrameError::Truncated,
-        Err(DeviceFault) => FrameError::ReadFailed,
-    };
-    Err(ConformingStop {
-        tested: tested.messages,
-        byte: tested.bytes,
-        fault: ConformingFault::Frame(error),
-    })
+    match test_stream(alloc, table, row, limits, &mut input, output) {
+        Ok(tested) => match input.is_whole_at_end() {
+            Ok(true) => Ok(tested),
+            Ok(false) => Err(stop_after(tested, FrameError::Truncated)),
+            Err(DeviceFault) => Err(stop_after(tested, FrameError::ReadFailed)),
+        },
+        Err(stop) => Err(stop),
+    }
 }
 
 /// Tests the one message that the input holds as raw words, without a frame, like `test_message`,
-/// and writes the line `conforms` if it conforms. Precondition: neither `input` nor `output` has
-/// failed.
+/// and writes the line `conforms` if it conforms. The number of these words may be at most the
+/// traversal limit. Precondition: neither `input` nor `output` has failed.
+///
+/// Refusals: `Truncated` if the bytes end inside a word; `MessageTooLong` if there are more words
+/// than the limit; the misfit of the message; `WriteFailed` if the output failed. After any refusal
+/// except `WriteFailed`, nothing has been written.
 pub fn test_raw_words<R: Input, W: Output>(
     alloc: Global,
     table: &[u32],
@@ -259,6 +310,16 @@ pub fn test_raw_words<R: Input, W: Output>(
         (record { table = table.now; row = row; limits = limits })
         (stage_of R.Input W.Output input.old output.old)
         (stage_of R.Input W.Output input.new output.new)) }
+    ensures ended { OnOk result (RunsToEnd R.Input W.Output input.old input.new output.new) }
+    ensures refused { IfErr result (λ fault. FailsToWrite W.Output output.new fault
+        ⊎ (StopsRawTest (record { table = table.now; row = row; limits = limits })
+        (R.remaining input.old) (R.has_failed input.new) fault
+        × IsUnwritten W.Output output.old output.new)) }
+    ensures exactly { IfErr result (λ fault. IsSomeAnd (R.remaining input.old)
+        (AreConformingWords (record { table = table.now; row = row; limits = limits }))
+        → IsNoMisfit fault) }
+    ensures failed { IfErr result (λ fault. R.has_failed input.new ≡ true
+        → fault ≡ ConformingFault.Frame ReadFailed) }
 {
     let mut segments = OwnedSegments::new(alloc);
     match read_segment_into(input, most_words(limits), &mut segments) {

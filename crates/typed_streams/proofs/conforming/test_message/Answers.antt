@@ -1,27 +1,32 @@
 use Rattle.std.proofs.Common.{true, refl}
-use Rattle.typed_reading.proofs.Root.{root_affords}
-use Rattle.typed_conforming.proofs.Checking.{affords_both}
+use Rattle.capnp_format.specs.Bytes.{message}
+use Rattle.capnp_messages.proofs.MessageLemmas.{AtRoot, at_root}
+use Rattle.typed_streams.specs.Conforming.{Wanted}
+use Rattle.typed_streams.proofs.WalkLemmas.{accepted, blamed, root_blamed, root_unaccepted}
 use Rattle.typed_streams.proofs.conforming.test_message.Goals as goal
 
-pub returns-in-Ok : goal.returns-in-Ok
-returns-in-Ok g c =
-    let root = c.in-Ok.ensures in
-    let first = root.exactly.0 refl in (
-      λ ok.
-          let found = c.conforms.ensures.exactly.0 ok in
-          record {
-            root = rw c.new-arena.ensures.words at first.0;
-            value = found.0;
-            cost = found.1;
-            conforms = found.2;
-            means = rw (root.source, root.place.0, root.place.1, root.nesting, c.new-arena.ensures.words, c.new-arena.ensures.nesting) at found.3;
-            covered = rw c.new-lim.ensures at (affords_both true c.new-lim.result found.1 first.1 (rw (root.source, root.granted) at found.4));
-          },
-      λ it. c.conforms.ensures.exactly.1 (
-        it.value,
-        it.cost,
-        it.conforms,
-        rw (root.source, root.place.0, root.place.1, root.nesting, c.new-arena.ensures.words, c.new-arena.ensures.nesting) it.means,
-        rw (root.source, root.granted) (root_affords true c.new-lim.result it.cost (rw c.new-lim.ensures it.covered)).1,
-      ),
-    )
+pub returns-in-Ok-clause-exactly : goal.returns-in-Ok-clause-exactly
+returns-in-Ok-clause-exactly g c =
+    let w : Wanted = record { table = c.args.table.now; row = c.args.row; limits = c.args.limits } in
+    let root : AtRoot (message (g.S.ReaderSegments.segments c.args.segments)) c.args.limits _ c.read_root.new.lim =
+    at_root c.new-arena.ensures.words c.new-arena.ensures.nesting c.new-lim.ensures c.in-Ok.ensures.place
+    c.in-Ok.ensures.charged (c.in-Ok.ensures.exactly.0 (refl {a = true})) in
+    accepted w root c.conforms.ensures.exactly
+
+pub returns-in-Ok-clause-refused : goal.returns-in-Ok-clause-refused
+returns-in-Ok-clause-refused g c =
+    let w : Wanted = record { table = c.args.table.now; row = c.args.row; limits = c.args.limits } in
+    let root : AtRoot (message (g.S.ReaderSegments.segments c.args.segments)) c.args.limits _ c.read_root.new.lim =
+    at_root c.new-arena.ensures.words c.new-arena.ensures.nesting c.new-lim.ensures c.in-Ok.ensures.place
+    c.in-Ok.ensures.charged (c.in-Ok.ensures.exactly.0 (refl {a = true})) in
+    blamed w c.conforms.result c.conforms.new.lim root c.conforms.ensures.walk c.conforms.ensures.refused
+
+pub returns-clause-exactly : goal.returns-clause-exactly
+returns-clause-exactly g c =
+    let w : Wanted = record { table = c.args.table.now; row = c.args.row; limits = c.args.limits } in
+    root_unaccepted w (record { error = c.in-Err.error; segment = 0; word = 0; row = 0; index = 0 }) c.new-arena.ensures.words c.new-lim.ensures c.in-Err.ensures.refused
+
+pub returns-clause-refused : goal.returns-clause-refused
+returns-clause-refused g c =
+    let w : Wanted = record { table = c.args.table.now; row = c.args.row; limits = c.args.limits } in
+    root_blamed w c.new-arena.ensures.words c.new-lim.ensures c.in-Err.ensures.refused

@@ -1,3 +1,4 @@
+use Rattle.capnp_framing.specs.Wholeness.{KeepsWhole}
 use Rattle.capnp_streams.specs.Streams.{AreWorking, stage_of}
 use Rattle.typed_streams.specs.Conforming.{AreTested}
 use Rattle.typed_streams.proofs.conforming.test_stream.Given as goal
@@ -8,5 +9,6 @@ invariant-loop-messages g l = record {
       (stage_of g.R.Input g.W.Output l.fn.input l.fn.output)
       (stage_of g.R.Input g.W.Output l.input l.output)
       l.messages l.bytes;
+  whole : KeepsWhole (g.R.Input.ends_whole l.fn.input) (g.R.Input.ends_whole l.input);
   work : AreWorking g.R.Input g.W.Output l.input l.output;
 }
