@@ -173,7 +173,7 @@ template <typename Message, typename = detail::IfCopied<Message>>
     return digest(message, limits_of(message));
 }
 
-// The prefix may be a type's id, such as that of capnp::typeId<Person>(), as its 8 bytes.
+// The prefix may be the 8 bytes of a type's id, such as capnp::typeId<Person>().
 template <typename Message, typename = detail::IfCopied<Message>>
 [[nodiscard]] Digest digest_with(Bytes prefix, Message&& message, Limits limits) {
     return detail::with_segments(message, [&](const Segments& it) { return digest_with(prefix, it, limits); });

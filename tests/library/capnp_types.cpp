@@ -142,7 +142,7 @@ void test_equal(capnp::MallocMessageBuilder& builder) {
     report(refused(too_deep, [&] { return capnp_canonical::equal(again, within); }), "that of the second one");
 }
 
-// Packed bytes beside those of Cap'n Proto.
+// Packed bytes are those of Cap'n Proto.
 void test_packing(capnp::MallocMessageBuilder& builder) {
     kj::VectorOutputStream theirs, canonical;
     capnp::writePackedMessage(theirs, builder);

@@ -166,7 +166,7 @@ class Equal(unittest.TestCase):
 class LimitsByName(unittest.TestCase):
     def calls(self):
         """Each call that takes limits, and the rest of what it needs."""
-        more = {'most': 9, 'path': [], 'to': bytearray(99)}
+        more = {'most': 9, 'path': [], 'prefix': b'id', 'to': bytearray(99)}
         given = {'frame': TEXT_FRAME, 'segments': [TEXT], 'message': TEXT}
         others = {'equal': TEXT_FRAME, 'segments_equal': [TEXT], 'words_equal': TEXT}
         for name in capnp_canonical.__all__:

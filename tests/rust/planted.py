@@ -74,6 +74,10 @@ IN_LAYER = (
     ('bytes after a frame are let through', 'opening', 'bytes_after_a_message', 'opening.rs', 'more => Err(Reason::TrailingBytes(more).into())', '_ => Ok(message)'),
     ('a check without the traversal limit', 'limits', 'the_least_limits', 'message.rs', 'ReadLimiter::new(Some(self.limits.words))', 'ReadLimiter::new(None)'),
     ('a level too many', 'limits', 'the_least_limits', 'message.rs', 'i32::from(self.depth.min(Self::MAX_DEPTH))', 'i32::from(self.depth.min(Self::MAX_DEPTH)) + 1'),
+    ('more levels than count', 'limits', 'no_limit_ends_the_process', 'message.rs', 'self.depth.min(Self::MAX_DEPTH)', 'self.depth.min(Self::MAX_DEPTH + 1)'),
+    ('a digest without its prefix', 'digests', 'digests_after_a_prefix', 'reading.rs', '    hash.update(prefix);\n', '    let _ = prefix;\n'),
+    ('the prefix after the words', 'digests', 'digests_after_a_prefix', 'reading.rs', 'hash.update(prefix);\n    hash.update(words);', 'hash.update(words);\n    hash.update(prefix);'),
+    ('a canonical message without the prefix', 'digests', 'digests_after_a_prefix', 'message.rs', 'Some(words) => digest_after(prefix, words),', 'Some(words) => digest_after(&[], words),'),
     ('lazy readers charge nothing', 'limits', 'lazy_readers_charge_the_message', 'meter.rs', 'self.0.set(lim.left().unwrap_or(0));', 'let _ = lim;'),
     ('the path names another element', 'limits', 'many_pointers_to_one_list_cost_each_time', 'searching.rs', 'Step::Element(index));', 'Step::Element(index + 1));'),
     ('words that are not in use are handed out', 'building', 'the_same_message_as_capnp_encode_makes', 'growing.rs', 'bytes.truncate(8 * used_words as usize);', 'let _ = used_words;'),
@@ -195,7 +199,7 @@ def tests_of_layer(room, *words):
 
 def in_layer(room, counts):
     """Plants each of these bugs, and runs its test, which passes without it."""
-    is_right, printed = tests_of_layer(room, *(it for name in ('building', 'limits', 'opening', 'reading') for it in ('--test', name)))
+    is_right, printed = tests_of_layer(room, *(it for name in ('building', 'digests', 'limits', 'opening', 'reading') for it in ('--test', name)))
     if not is_right:
         sys.exit(f'{printed}planted.py: tests of {LAYER} fail without a bug')
     for what, tests, test, path, *bug in IN_LAYER:

@@ -51,3 +51,16 @@ fn push_zeros(to: &mut Text, count: usize) {
         to.push("0");
     }
 }
+
+/// Appends the 16 digits of an id.
+pub fn push_hex(to: &mut Text, id: u64) {
+    for place in 0..16u32 {
+        let digit = (id >> (60 - place * 4)) & 15;
+        let letter = match u8::try_from(digit) {
+            Ok(small) if small < 10 => b'0'.saturating_add(small),
+            Ok(large) => b'a'.saturating_add(large.saturating_sub(10)),
+            Err(_) => b'0',
+        };
+        to.push_char(char::from(letter));
+    }
+}

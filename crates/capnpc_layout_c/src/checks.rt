@@ -27,7 +27,7 @@ impl<'m> Schema<'m> {
             return;
         }
         let mut values = Values::new(self.alloc);
-        values.put_id("id", self.file_id);
+        values.put("id", self.file_id.as_str());
         values.put_text("words", words_of(self.alloc, self.table.words.as_slice()));
         values.put_text("names", names_of(self.alloc, self.table.rows.as_slice()));
         self.push(templates::TABLE, &values);
@@ -37,7 +37,7 @@ impl<'m> Schema<'m> {
     pub fn write_checks(&mut self, node: &Node, values: &mut Values) {
         if let Some(row) = self.table.row_of(node.id) {
             values.put_number("row", u64::from(row));
-            values.put_id("id", self.file_id);
+            values.put("id", self.file_id.as_str());
             self.push(templates::CHECKS, values);
         }
     }

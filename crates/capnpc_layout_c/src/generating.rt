@@ -1,5 +1,6 @@
 //! Writes the header of C for each requested file of a schema.
 
+use crate::bytes::push_hex;
 use crate::checks::table_of_file;
 use crate::comments::{push_comment, push_escaped};
 use crate::files::{add_headers, file_of, is_foreign};
@@ -62,7 +63,7 @@ fn generate_file(
         nodes,
         text: Text::new(alloc),
         skipped: Text::new(alloc),
-        file_id: file.id,
+        file_id: hex_of(alloc, file.id),
         table: table_of_file(alloc, nodes, file.id),
     };
     schema.note_names(file.id);
@@ -89,7 +90,7 @@ impl<'m> Schema<'m> {
         push_escaped(&mut self.text, name);
         self.text.push(". Don't edit. */\n");
         let mut values = Values::new(self.alloc);
-        values.put_id("id", self.file_id);
+        values.put("id", self.file_id.as_str());
         self.push(templates::FILE_HEAD, &values);
         self.text.push(templates::OPEN);
     }
@@ -111,7 +112,7 @@ impl<'m> Schema<'m> {
     // Writes the types of a struct.
     fn write_struct_types(&mut self, node: &Node, it: &Struct) {
         let mut values = self.node_values(node);
-        values.put_id("id", node.id);
+        values.put_text("id", hex_of(self.alloc, node.id));
         self.text.push("\n");
         push_comment(&mut self.text, node.comment.as_str(), node.full.as_str());
         self.push(
@@ -221,3 +222,10 @@ impl<'m> Schema<'m> {
 
 // Why a field isn't written whose type is in a file with names of this one.
 const FOREIGN: &str = "the file of its type has a declaration with a name of this file";
+
+// The digits of an id.
+fn hex_of(alloc: Global, id: u64) -> Text {
+    let mut digits = Text::new(alloc);
+    push_hex(&mut digits, id);
+    digits
+}

@@ -21,8 +21,8 @@ pub struct Schema<'m> {
     pub text: Text,
     /// What isn't written, and why: a line for each.
     pub skipped: Text,
-    /// The file's id.
-    pub file_id: u64,
+    /// The digits of the file's id.
+    pub file_id: Text,
     /// The table of the file's structs.
     pub table: Table,
 }

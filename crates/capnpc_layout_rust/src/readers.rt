@@ -13,6 +13,16 @@ use capnpc_schema::table::Table;
 use capnpc_schema::text::{Text, Values};
 use std::alloc::Global;
 
+// The 16 hexadecimal digits of an id.
+fn digits_of(alloc: Global, id: u64) -> Text {
+    let mut digits = Text::new(alloc);
+    match format!(in alloc; "{id:016x}") {
+        Ok(text) => digits.push(text.as_str()),
+        Err(_) => digits.note_if_failed(true),
+    }
+    digits
+}
+
 /// A schema as it is printed.
 #[derive(Drop)]
 pub struct Schema<'m> {
@@ -126,7 +136,7 @@ impl<'m> Schema<'m> {
         piece.push(templates::FROM_STRUCT, &values);
         if !it.is_group {
             self.write_element(&mut piece, node);
-            values.put_id("id", node.id);
+            values.put_text("id", digits_of(self.alloc, node.id));
             self.put_row(node, &mut values);
             piece.push(templates::STRUCT_TYPE, &values);
         }

@@ -57,13 +57,6 @@ impl Text {
         }
     }
 
-    /// Appends the 16 hexadecimal digits of an id.
-    pub fn push_id(&mut self, id: u64) {
-        if write!(self.text, "{id:016x}").is_err() {
-            self.has_failed = true;
-        }
-    }
-
     /// Appends `\x` and the two digits of a byte.
     pub fn push_escaped_byte(&mut self, byte: u8) {
         if write!(self.text, "\\x{byte:02x}").is_err() {
@@ -159,13 +152,6 @@ impl Values {
     pub fn put_number(&mut self, word: &'static str, number: u64) {
         let mut text = Text::new(self.alloc);
         text.push_number(number);
-        self.put_text(word, text);
-    }
-
-    /// Adds a word that stands for the 16 hexadecimal digits of an id.
-    pub fn put_id(&mut self, word: &'static str, id: u64) {
-        let mut text = Text::new(self.alloc);
-        text.push_id(id);
         self.put_text(word, text);
     }
 

@@ -7,7 +7,7 @@ const ALL: [&[u8]; 2] = [
     include_bytes!("data/all-segments.bin"),
 ];
 
-/// An id, as its bytes.
+/// The bytes of an id.
 const ID: [u8; 8] = 0x98808e9832e8bc18_u64.to_le_bytes();
 
 /// `(id = 123, name = "Alice", phones = [(number = "555-1212", kind = 1), (number = "555-3434")])`

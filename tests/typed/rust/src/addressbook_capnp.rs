@@ -95,6 +95,7 @@ impl g::Element for Person<'_> {
 
 impl g::StructType for Person<'_> {
     type Builder<'b> = person::Builder<'b>;
+    const TYPE_ID: u64 = 0x98808e9832e8bc18;
     const TABLE: &'static [u32] = TABLE;
     const NAMES: &'static str = NAMES;
     const ROW: u32 = 3;
@@ -357,6 +358,7 @@ pub mod person {
 
     impl g::StructType for PhoneNumber<'_> {
         type Builder<'b> = phone_number::Builder<'b>;
+        const TYPE_ID: u64 = 0x814e90b29c9e8ad0;
         const TABLE: &'static [u32] = super::TABLE;
         const NAMES: &'static str = super::NAMES;
         const ROW: u32 = 16;
@@ -507,6 +509,7 @@ impl g::Element for AddressBook<'_> {
 
 impl g::StructType for AddressBook<'_> {
     type Builder<'b> = address_book::Builder<'b>;
+    const TYPE_ID: u64 = 0xf934d9b354a8a134;
     const TABLE: &'static [u32] = TABLE;
     const NAMES: &'static str = NAMES;
     const ROW: u32 = 1;

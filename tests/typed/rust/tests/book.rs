@@ -3,7 +3,7 @@
 
 use capnp_layout::{
     Builder, Checked, Error, Limits, Lists, Message, Meter, Outcome, Reason, Struct, StructBuilder,
-    StructSize,
+    StructSize, StructType,
 };
 use typed_rust::addressbook_capnp::person::employment::Which;
 use typed_rust::addressbook_capnp::person::phone_number::Type;
@@ -30,6 +30,30 @@ fn book() -> Builder {
     });
     bob.employment().set_unemployed();
     message
+}
+
+/// What is signed. The ids are those of `capnp compile`, and the digests those of Python's hashlib over
+/// an id and what `capnp convert text:canonical` writes.
+#[test]
+fn digests_with_the_type() {
+    let hex = |digest: [u8; 32]| digest.map(|byte| format!("{byte:02x}")).concat();
+    assert_eq!(AddressBook::TYPE_ID, 0xf934d9b354a8a134);
+    assert_eq!(Person::TYPE_ID, 0x98808e9832e8bc18);
+    let of_book = "afc5a525592abc7ec4f6823347ca57c4bd00b1b8777468cb9cb77f0dc0d97c6d";
+    let of_alice = "3ea3f7207bba51a29bf0d52c1043ba00f09df94a0b4d3f73821397be6774df07";
+    let (book_id, person_id) = (
+        AddressBook::TYPE_ID.to_le_bytes(),
+        Person::TYPE_ID.to_le_bytes(),
+    );
+    let built = book();
+    assert_eq!(hex(built.digest_with(&book_id).unwrap()), of_book);
+    let frame = built.to_frame().unwrap();
+    let message = Message::open(&frame, Limits::default()).unwrap();
+    assert_eq!(hex(message.digest_with(&book_id).unwrap()), of_book);
+    let alice = message.root::<AddressBook>().unwrap().people().at(0);
+    let alice = Struct::from(alice);
+    assert_eq!(hex(alice.digest_with(&person_id).unwrap()), of_alice);
+    assert_ne!(alice.digest_with(&book_id), alice.digest_with(&person_id));
 }
 
 /// What a program does with a book, by readers of every kind.

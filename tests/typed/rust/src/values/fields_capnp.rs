@@ -97,6 +97,7 @@ impl g::Element for Inner<'_> {
 
 impl g::StructType for Inner<'_> {
     type Builder<'b> = inner::Builder<'b>;
+    const TYPE_ID: u64 = 0x8c6f8fb5138f0846;
     const TABLE: &'static [u32] = TABLE;
     const NAMES: &'static str = NAMES;
     const ROW: u32 = 1;
@@ -951,6 +952,7 @@ impl g::Element for Root<'_> {
 
 impl g::StructType for Root<'_> {
     type Builder<'b> = root::Builder<'b>;
+    const TYPE_ID: u64 = 0x9b966dae52f8e240;
     const TABLE: &'static [u32] = TABLE;
     const NAMES: &'static str = NAMES;
     const ROW: u32 = 8;
