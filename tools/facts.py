@@ -107,9 +107,9 @@ def facts():
 
 # The patterns of the facts of facts.txt.
 STATED = {
-    'least gcc': ('gcc # or clang', 'gcc # and later'),
+    'least gcc': ('gcc # or clang',),
     'least clang': ('or clang # or later',),
-    'tested gcc': ('with gcc #,', 'tested: gcc #,'),
+    'tested gcc': ('tested, with gcc #,', 'tested: gcc #,'),
     'tested clang': (', clang #(?=\\)| \\|)',),
     'tested Debian': ('Debian #(?=,|\\))',),
     "C++ Cap'n Proto": ("C\\+\\+ Cap'n Proto #",),
