@@ -1,5 +1,5 @@
 #!/usr/bin/env python3
-"""Tests the scripts at the top that run programs, ./prove, and tests/toolchain.py, with a made-up toolchain. For the scripts that
+"""Tests the scripts at the top that run programs, ./prove, tests/toolchain.py and tools/facts.py, with a made-up toolchain. For the scripts that
 run programs, its command `rt` only names a version, and leaves a mark if it is called for anything else. For ./prove it proves
 everything in which the word `wrong` isn't.
 
@@ -8,6 +8,7 @@ everything in which the word `wrong` isn't.
 Works in a copy of the scripts with a few made-up files, whose Makefile writes programs in no time: so this tests which program is
 run, what is built first, and what is said. tests/start.sh tests the same with the real programs, in a clone. The last line is
 `N passed, M failed`."""
+import importlib.util
 import os
 import pathlib
 import re
@@ -225,8 +226,9 @@ def proving(tree):
     yield 'then the script runs what was proved', tree.run('./capnp_canon', '--version') == (f'capnp_canon 0\n{BY_RT}', '', 0)
     yield 'nothing is proved twice', prove('capnp_canon', 'capnp_words') == ('prove: proved already: capnp_words capnp_canon\n', 0, [])
     tree.write('crates/capnp_show/src/lib.rt', 'changed')
-    said = 'prove: 3 crates are to be proved\n' + ''.join(f'prove: {n} of 3 proved: {it}\n' for n, it in enumerate(('capnp_show', 'capnp_streams', 'capnp_canon'), 1))
-    yield 'after a change, it and what is above it', prove('capnp_canon') == (said, 0, ['build capnp_show', 'build capnp_streams', 'build capnp_canon'])
+    above = 'capnp_show', 'capnp_streams', 'typed_streams', 'capnp_canon'
+    said = 'prove: 4 crates are to be proved\n' + ''.join(f'prove: {n} of 4 proved: {it}\n' for n, it in enumerate(above, 1))
+    yield 'after a change, it and what is above it', prove('capnp_canon') == (said, 0, [f'build {it}' for it in above])
     above = 'capnp_walks', 'capnp_numbers', 'capnp_canonical'
     said = 'prove: 3 crates are to be proved\n' + ''.join(f'prove: {n} of 3 proved: {it}\n' for n, it in enumerate(above, 1))
     yield 'the library for C', prove('capnp_canonical') == (said, 0, [f'build {it}' for it in above]) and (tree.top / 'crates/capnp_canonical/out/libcapnp_canonical.a').is_file()
@@ -258,6 +260,20 @@ def toolchains(tree):
     yield 'a page names another logic', status == 1 and 'README.md names 0123456789abcdef' in out
 
 
+def facts_of_pages():
+    """Facts about tools/facts.py, with made-up pages."""
+    spec = importlib.util.spec_from_file_location('facts', TOP / 'tools/facts.py')
+    facts = importlib.util.module_from_spec(spec)
+    spec.loader.exec_module(facts)
+    fact = 'least Rust', '1.88', ('Rust # or later',)
+    texts = {'one.md': 'It needs Rust\n1.88 or later, and 12 KB.', 'two.md': 'Rust 1.87 or later. It takes 12\nKB. `x`\n```\n7 minutes\n```', 'three.md': '7 minutes'}
+    yield 'a page with another value', facts.differences(texts, *fact) == ['two.md has 1.87 for least Rust, which is 1.88']
+    yield 'a fact that no page has', len(facts.differences({'three.md': ''}, *fact)) == 1
+    yield 'the value is written', facts.with_value(texts['two.md'], '1.88', fact[2]).startswith('Rust 1.88 or later. It takes')
+    yield 'a number on two pages by hand', facts.by_hand(texts, [fact]) == {'12 KB': ['one.md', 'two.md']}
+    yield 'a version on two pages by hand', 'Rust 1.88' in facts.by_hand({'one.md': 'Rust 1.88', 'two.md': 'Rust 1.88'}, [fact])
+
+
 def main():
     passed = failed = 0
     with tempfile.TemporaryDirectory(prefix='scripts-') as folder:
@@ -266,6 +282,7 @@ def main():
         facts = [it for part in (by_make, changed_sources, proved, toolchains) for it in part(tree)]
         facts.append(('no script that runs a program has called rt', not tree.called.exists()))
         facts += proving(tree)
+        facts += facts_of_pages()
     for what, holds in facts:
         passed, failed = passed + bool(holds), failed + (not holds)
         if not holds:

@@ -107,9 +107,9 @@ def facts():
 
 # The patterns of the facts of facts.txt.
 STATED = {
-    'least gcc': ('gcc # or clang', 'gcc # and later'),
+    'least gcc': ('gcc # or clang',),
     'least clang': ('or clang # or later',),
-    'tested gcc': ('with gcc #,', 'tested: gcc #,'),
+    'tested gcc': ('tested, with gcc #,', 'tested: gcc #,'),
     'tested clang': (', clang #(?=\\)| \\|)',),
     'tested Debian': ('Debian #(?=,|\\))',),
     "C++ Cap'n Proto": ("C\\+\\+ Cap'n Proto #",),
@@ -138,49 +138,62 @@ def compiled(pattern):
 
 
 def pages():
-    return [path for it in PAGES for path in sorted(TOP.glob(it)) if path.is_file()]
+    return {str(path.relative_to(TOP)): path.read_text(encoding='utf-8') for it in PAGES for path in sorted(TOP.glob(it)) if path.is_file()}
 
 
-def blank(match):
-    return ' ' * len(match[0])
+def places(text, patterns):
+    """Where these patterns find a value in a text."""
+    return [match for pattern in patterns for match in compiled(pattern).finditer(text)]
+
+
+def differences(texts, name, value, patterns):
+    """What is wrong with a fact on these pages."""
+    found_there = [(page, match[1]) for page, text in texts.items() for match in places(text, patterns)]
+    wrong = [f'{page} has {there} for {name}, which is {value}' for page, there in found_there if there != value]
+    return wrong if found_there else [f'no page has {name}: remove the fact, or mend its pattern']
+
+
+def with_value(text, value, patterns):
+    """The text with this value in each place."""
+    for match in sorted(places(text, patterns), key=lambda it: it.start(1), reverse=True):
+        text = text[:match.start(1)] + value + text[match.end(1):]
+    return text
+
+
+def by_hand(texts, known):
+    """The numbers with a unit, and the versions, that two pages have outside of these facts: for each the pages."""
+    on = collections.defaultdict(set)
+    for page, text in texts.items():
+        left = QUOTED.sub(lambda it: ' ' * len(it[0]), text)
+        for _, _, patterns in known:
+            for match in places(text, patterns):
+                left = left[:match.start()] + ' ' * len(match[0]) + left[match.end():]
+        for match in NUMBER.finditer(re.sub(r'\s+', ' ', left)):
+            on[match[0]].add(page)
+    return {what: sorted(it) for what, it in sorted(on.items()) if len(it) > 1 and what not in DIFFERENT}
 
 
 def main():
     if sys.argv[1:] not in ([], ['--check']):
         sys.exit(__doc__)
-    check, results = sys.argv[1:] == ['--check'], []
-    texts = {path: path.read_text(encoding='utf-8') for path in pages()}
-    left = {path: QUOTED.sub(blank, it) for path, it in texts.items()}
-    written = dict(texts)
-    for name, value, patterns in facts():
-        wrong, seen = [], 0
-        for path in texts:
-            for pattern in patterns:
-                for match in reversed([*compiled(pattern).finditer(texts[path])]):
-                    seen += 1
-                    if match[1] != value:
-                        wrong.append(f'{path.relative_to(TOP)} has {match[1]} for {name}, which is {value}')
-                    left[path] = left[path][:match.start()] + blank(match) + left[path][match.end():]
-                written[path] = compiled(pattern).sub(lambda it: it[0][:it.start(1) - it.start()] + value + it[0][it.end(1) - it.start():], written[path])
-        if not seen:
-            wrong.append(f'no page has {name}: remove the fact, or mend its pattern')
-        results.append(not (wrong if check else not seen))
-        print(*wrong, sep='\n', end='\n' if wrong else '')
-    by_hand = collections.defaultdict(set)
-    for path, it in left.items():
-        for match in NUMBER.finditer(re.sub(r'\s+', ' ', it)):
-            by_hand[match[0]].add(str(path.relative_to(TOP)))
-    twice = {what: on for what, on in by_hand.items() if len(on) > 1 and what not in DIFFERENT}
-    for what, on in sorted(twice.items()):
-        print(f'{what} is on {" and ".join(sorted(on))} by hand: make it a fact of tools/facts.py, or say it once')
-    results += [not twice]
-    if not check:
-        for path, it in written.items():
-            if it != texts[path]:
-                path.write_text(it, encoding='utf-8')
-                print(f'{path.relative_to(TOP)} is updated')
-    print(f'{sum(results)} passed, {len(results) - sum(results)} failed')
-    return 0 if all(results) else 1
+    texts, known = pages(), [*facts()]
+    if not sys.argv[1:]:
+        for page, text in texts.items():
+            for _, value, patterns in known:
+                text = with_value(text, value, patterns)
+            if text != texts[page]:
+                (TOP / page).write_text(text, encoding='utf-8')
+                print(f'{page} is updated')
+        texts = pages()
+    wrong = [differences(texts, *fact) for fact in known]
+    twice = by_hand(texts, known)
+    wrong.append([f'{what} is on {" and ".join(on)} by hand: make it a fact of tools/facts.py, or say it once' for what, on in twice.items()])
+    for line in (line for lines in wrong for line in lines):
+        print(line)
+    failed = sum(bool(it) for it in wrong)
+    print(f'{len(wrong) - failed} passed, {failed} failed')
+    return 1 if failed else 0
 
 
-sys.exit(main())
+if __name__ == '__main__':
+    sys.exit(main())

@@ -123,7 +123,7 @@ def run_page(page, prefix, folder):
         named = FILE.search(above)
         if language == 'sh' and 'REPOSITORY' not in text:
             command(page, text, environment, line)
-        elif language in ('sh', 'text', 'rust', 'html', 'console') and not named:
+        elif language in ('sh', 'text', 'rust', 'rust,ignore', 'html', 'console') and not named:
             continue
         elif named:
             program(page, named.group(1), text)

@@ -35,7 +35,7 @@ def lacking(top, page):
 
 def main(release):
     top = pathlib.Path(release)
-    pages = [it for folder in ('.', 'docs', 'bindings', 'crates', 'generated') for it in sorted((top / folder).glob('*.md' if folder in '.docs' else '**/*'))]
+    pages = [it for folder in ('.', 'docs', 'tests', 'bindings', 'crates', 'generated') for it in sorted((top / folder).glob('*.md' if folder in ('.', 'docs', 'tests') else '**/*'))]
     pages = [it for it in pages if it.is_file() and it.suffix in ('.md', '.h', '.hpp', '.rs', '.py')]
     failed = 0
     for page in pages:

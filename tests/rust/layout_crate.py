@@ -57,6 +57,10 @@ def pages(work, target):
     status, output = cargo(['test', '--doc'], folder, target)
     counts = [int(it) for it in re.findall(r'^test result: ok\. (\d+) passed', output, re.M)]
     part('the Rust of README.md and docs/RUST.md', status == 0 and sum(counts) == examples > 0, output)
+    # what needs the crate `capnp` is a doc test of the crate over it
+    tested = re.sub(r'(?m)^//! ?', '', (TOP / 'bindings/rust/capnp/src/lib.rs').read_text(encoding='utf-8'))
+    others = [it for text in texts for it in re.findall(r'```rust,ignore\n(.*?)```', text, re.S)]
+    part('the Rust of docs/RUST.md that is a doc test elsewhere', others and all(it in tested for it in others), '\n'.join(others))
 
 
 def printed_modules():
