@@ -3,6 +3,7 @@ pub mod TextBytes
 pub mod Steps
 pub mod Fitting
 pub mod Agreement
+pub mod Ascii
 pub mod Exact
 pub mod Blamed
 pub mod Checking

@@ -23,7 +23,7 @@ low_digits (suc n) [] l h = absurd (omega arith)
 low_digits (suc n) (d ∷ ds) l h =
     ap₂ (λ x xs. x ∷ xs) (low 256 d (from_digits 256 ds) h.0) (ap (digits 256 n) (high 256 d (from_digits 256 ds) h.0) ∙ low_digits n ds (omega arith) h.1)
 
-take-digits : (n m x : ℕ) → n ≤ m → take n (digits 256 m x) ≡ digits 256 n x
+pub take-digits : (n m x : ℕ) → n ≤ m → take n (digits 256 m x) ≡ digits 256 n x
 take-digits zero m x l = refl
 take-digits (suc n) zero x l = absurd (omega arith)
 take-digits (suc n) (suc m) x l = ap (λ ds. x % 256 ∷ ds) (take-digits n m (x / 256) (omega arith))

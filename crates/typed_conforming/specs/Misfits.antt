@@ -1,6 +1,6 @@
 -- Which objects a pointer of some kind may not lead to, and with which error they are refused: that
 -- of the getter for the kind.
-use Rattle.std.specs.Prelude.{ℕ, ◌-◌, Bool, ◌&&◌, nat_eq, nat_lt, if◌then◌else◌, List, get_or, take}
+use Rattle.std.specs.Prelude.{◌≡◌, ℕ, ◌-◌, ◌^◌, ◌<◌, bit_and, Bool, ◌&&◌, nat_eq, nat_lt, if◌then◌else◌, List, get_or, take}
 use Rattle.std.specs.Prelude.{Option, Some, None}
 use Rattle.std.specs.Option.{option_or}
 use Rattle.std.specs.Str.{is_utf8}
@@ -35,6 +35,10 @@ bytes_end_in_zero S s p n = nat_lt 0 n && nat_eq (get_or (list_bytes S s p n) (n
 -- Whether the n bytes at position p of segment s, without the last one, are UTF-8.
 abbrev pub bytes_are_utf8 : Segments → ℕ → ℕ → ℕ → Bool
 bytes_are_utf8 S s p n = is_utf8 (take (n - 1) (list_bytes S s p n))
+
+-- A word whose eight bytes are ASCII: none has its highest bit.
+abbrev pub IsAsciiWord : ℕ → Type 0
+IsAsciiWord w = (w < 2 ^ 64) × (bit_and w 0x8080_8080_8080_8080 ≡ 0)
 
 -- The refusal of a text that isn't UTF-8.
 abbrev pub not_utf8 : ErrorKind

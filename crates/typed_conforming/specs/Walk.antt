@@ -9,7 +9,7 @@ use Rattle.capnp_objects.specs.Reading.{Reading, place_past, words_from}
 use Rattle.typed_conforming.specs.declared.conforms.SchemaPointer.{SchemaPointer}
 use Rattle.typed_conforming.specs.declared.schema.Kind.{Kind}
 use Rattle.typed_conforming.specs.declared.schema.Misfit.{Misfit}
-use Rattle.typed_conforming.specs.Tables.{row_below, table_below, wanted}
+use Rattle.typed_conforming.specs.Tables.{row_below, table_below, wanted, word_kind}
 use Rattle.typed_conforming.specs.Misfits.{kind_misfit}
 
 -- The result of a test, and what the limiter has left after it.
@@ -37,6 +37,10 @@ rowless_pointer k = record { kind = k; row = 0; index = 0 }
 -- Pointer i of a struct with the data words ws and this row of the table T.
 abbrev pub schema_pointer : List ℕ → ℕ → List ℕ → ℕ → SchemaPointer
 schema_pointer T row ws i = record { kind = wanted T row ws i; row = row; index = i }
+
+-- Pointer i of a row, of which the table has this kind word.
+abbrev pub worded_pointer : ℕ → ℕ → ℕ → SchemaPointer
+worded_pointer w row i = record { kind = word_kind w; row = row; index = i }
 
 -- Tests q consecutive pointers from r on: those of a struct whose pointers are ps, from index i on.
 -- f tests one.

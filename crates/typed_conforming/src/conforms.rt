@@ -1,5 +1,6 @@
 //! The walk that tests whether a value conforms to a schema.
 ghost use Rattle.std.specs.Prelude.{◌≡◌, ◌↔◌, ◌<◌, ◌≤◌, ◌+◌, ◌*◌, length, take, drop, slice_index, List, ℕ, IfErr, IsOk, OnOk, MatchOption};
+ghost use Rattle.std.specs.Bool.{OnTrue};
 ghost use Rattle.std.specs.Str.{is_utf8};
 ghost use Rattle.capnp_format.specs.Bytes.{words_of};
 ghost use Rattle.capnp_format.specs.Numbers.{words_for};
@@ -21,12 +22,12 @@ ghost use Rattle.capnp_objects.specs.Enter.{object_shape};
 ghost use Rattle.capnp_objects.specs.Entering.{IsAtHand, IsObjectHeld};
 ghost use Rattle.capnp_objects.specs.Reading.{place_past, words_from};
 ghost use Rattle.typed_conforming.specs.Rows.{AreElementsOf};
-ghost use Rattle.typed_conforming.specs.Misfits.{bytes_are_utf8, bytes_end_in_zero, data_misfit, kind_misfit, list_misfit, text_misfit, utf8_misfit};
+ghost use Rattle.typed_conforming.specs.Misfits.{bytes_are_utf8, bytes_end_in_zero, data_misfit, kind_misfit, list_misfit, text_misfit, utf8_misfit, IsAsciiWord};
 ghost use Rattle.typed_conforming.specs.Blame.{IsTrueFrom, first_visit};
-ghost use Rattle.typed_conforming.specs.Walk.{check_elements, check_place, check_pointers, check_within, rowless_pointer, misfit_at, schema_pointer};
+ghost use Rattle.typed_conforming.specs.Walk.{check_elements, check_place, check_pointers, check_within, rowless_pointer, misfit_at, schema_pointer, worded_pointer};
 
 use crate::schema::{Kind, Misfit, NOT_UTF8};
-use crate::table::{row_below, wanted};
+use crate::table::{TEXT, UTF8, row_below, wanted_word, word_kind};
 use capnp_arena_traits::arena::ReaderArena;
 use capnp_objects::nesting::one_level_less;
 use capnp_objects::object::{Object, Place, PointerWord};
@@ -38,6 +39,9 @@ use capnp_words::wire_pointer::{
     is_primitive_list, words_for_elements,
 };
 use capnp_words::words::word_at;
+
+// The highest bit of each byte of a word, which ASCII doesn't have.
+const HIGH_BITS: u64 = 0x8080_8080_8080_8080;
 
 // The refusal for elements of a list that are too narrow, if they are.
 fn narrow_elements_error(expected: ElementSize, found: ElementSize) -> Option<ErrorKind>
@@ -104,13 +108,44 @@ fn are_utf8(bytes: &[u8]) -> bool
     str::from_utf8(bytes).is_ok()
 }
 
-// Whether the `count` bytes from a place on are UTF-8, without the last one.
-fn is_utf8_text(start: Place, count: u32) -> bool
+// Whether the bytes of `words` words from word `start` of a segment on are all ASCII.
+#[inline(always)]
+fn are_ascii(bytes: &[u8], start: u32, words: u32) -> bool
+    requires { 8 * (start + words) ≤ length bytes.now }
+    ensures { OnTrue result ((k : ℕ) → k < words
+        → IsAsciiWord (slice_index (words_of bytes.now) (start + k))) }
+{
+    for i in 0..words {
+        let word = word_at(bytes, start as usize + i as usize);
+        if word & HIGH_BITS != 0 {
+            return false;
+        }
+    }
+    true
+}
+
+// Whether the `count` bytes from a place on are UTF-8, without the last one. Tests each of them.
+#[inline(never)]
+fn is_utf8_by_bytes(start: Place, count: u32) -> bool
     requires { 8 * (start.at + words_for 2 count) ≤ length start.bytes.now }
     ensures { (S : Segments) → IsHeld S start.entry
         → result ≡ bytes_are_utf8 S start.entry.segment start.entry.at count }
 {
     are_utf8(bytes_at(start, count.saturating_sub(1)))
+}
+
+// Whether the `count` bytes from a place on are UTF-8, without the last one.
+#[inline(always)]
+fn is_utf8_text(start: Place, count: u32) -> bool
+    requires { 8 * (start.at + words_for 2 count) ≤ length start.bytes.now }
+    ensures { (S : Segments) → IsHeld S start.entry
+        → result ≡ bytes_are_utf8 S start.entry.segment start.entry.at count }
+{
+    let words = (u64::from(count) + 7) / 8;
+    if are_ascii(start.bytes, start.at, words as u32) {
+        return true;
+    }
+    is_utf8_by_bytes(start, count)
 }
 
 // The refusal for an object that isn't a text, if it isn't.
@@ -141,6 +176,7 @@ fn text_error(object: Object) -> Option<ErrorKind>
 }
 
 // The refusal for a text that isn't UTF-8, if it isn't.
+#[inline(always)]
 fn utf8_error(object: Object) -> Option<ErrorKind>
     requires { IsAtHand object }
     ensures { (S : Segments) → IsObjectHeld S object.entry
@@ -340,30 +376,94 @@ fn check_primitive_list<A: ReaderArena>(
     }
 }
 
-// Tests what the pointer at `at` leads to. A list of bits or numbers in the same segment, such as a
-// text, is tested in place.
+// Tests the list of bits or numbers that the word at `at` describes, for pointer `index` of the row
+// at `row`, of which the table has the kind word `wanted`. Texts are told apart first: most lists are
+// texts, and of a constant kind little is left to test.
+#[inline(always)]
+fn check_wanted_list<A: ReaderArena>(
+    wanted: u32,
+    row: u32,
+    index: u32,
+    from: &Pointer<'_, A>,
+    at: u32,
+    word: WirePointer,
+    lim: &mut ReadLimiter,
+) -> Result<(), Misfit>
+    requires word { IsWordAt word.0
+        (reading_on A.ReaderArena from.now at from.now.nesting_limit) }
+    requires is_list { kind word.0 ≡ 1 }
+    requires of_bits { (0 < element_size word.0) × (element_size word.0 ≤ 5) }
+    ensures { (T : List ℕ) → check_place T (worded_pointer wanted row index)
+        (reading_on A.ReaderArena from.now at from.now.nesting_limit) lim.old
+        ≡ (result, lim.new) }
+{
+    if wanted == TEXT {
+        let text = SchemaPointer {
+            kind: Kind::Text,
+            row,
+            index,
+        };
+        return check_primitive_list(text, from, at, word, lim);
+    }
+    if wanted == UTF8 {
+        let text = SchemaPointer {
+            kind: Kind::Utf8,
+            row,
+            index,
+        };
+        return check_primitive_list(text, from, at, word, lim);
+    }
+    let list = SchemaPointer {
+        kind: word_kind(wanted),
+        row,
+        index,
+    };
+    check_primitive_list(list, from, at, word, lim)
+}
+
+// Tests what pointer `index` of the element at `at` leads to. A list of bits or numbers in the same
+// segment, such as a text, is tested in place.
 #[cycle(conforming)]
 #[inline(always)]
 fn check_pointer<A: ReaderArena>(
     table: &[u32],
-    pointer: SchemaPointer,
+    row: u32,
     from: &Pointer<'_, A>,
     at: u32,
+    data_words: u32,
+    index: u32,
     lim: &mut ReadLimiter,
 ) -> Result<(), Misfit>
-    ensures { check_place table.now pointer
-        (reading_on A.ReaderArena from.now at from.now.nesting_limit) lim.old
-        ≡ (result, lim.new) }
+    requires inside { at + data_words + index
+        < length (segment_read (reading A.ReaderArena from.now)) }
+    ensures { let r = reading_on A.ReaderArena from.now at from.now.nesting_limit in
+        check_within table.now r.levels
+        (schema_pointer table.now row (words_from r data_words) index)
+        (place_past (place_past r data_words) index) lim.old ≡ (result, lim.new) }
 {
-    let word = Place { at, ..from.place }.word();
+    let position = at + data_words + index;
+    let word = Place {
+        at: position,
+        ..from.place
+    }
+    .word();
     if word.is_null() {
         return Ok(());
     }
+    let element = Place { at, ..from.place };
+    let wanted = wanted_word(table, row, element, data_words, index);
     match word.kind() {
         WirePointerKind::List if is_primitive_list(word) => {
-            check_primitive_list(pointer, from, at, word, lim)
+            check_wanted_list(wanted, row, index, from, position, word, lim)
         }
-        _ => check_object(table, pointer, from, at, lim),
+        _ => {
+            let pointer = SchemaPointer {
+                kind: word_kind(wanted),
+                row,
+                index,
+            };
+            check_object(table, pointer, from, position, lim)
+        }
     }
 }
 
@@ -460,15 +560,8 @@ fn check_pointers<A: ReaderArena>(
         (schema_pointer table.now row (words_from r data_words)) 0 pointers
         (place_past r data_words) lim.old ≡ (result, lim.new) }
 {
-    let element = Place { at, ..from.place };
     for i in 0..pointers {
-        let kind = wanted(table, row, element, data_words, i);
-        let pointer = SchemaPointer {
-            kind,
-            row,
-            index: i,
-        };
-        match check_pointer(table, pointer, from, at + data_words + i, lim) {
+        match check_pointer(table, row, from, at, data_words, i, lim) {
             Ok(()) => {}
             Err(misfit) => return Err(misfit),
         }
@@ -509,5 +602,5 @@ pub fn conforms<A: ReaderArena>(
         row: 0,
         index: 0,
     };
-    check_pointer(table, first, pointer, pointer.place.at, lim)
+    check_object(table, first, pointer, pointer.place.at, lim)
 }

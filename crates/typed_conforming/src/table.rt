@@ -9,6 +9,12 @@ use capnp_objects::object::Place;
 use capnp_words::wire_pointer::ElementSize;
 use capnp_words::words::word_at;
 
+// The kind word of a text.
+pub(crate) const TEXT: u32 = 2;
+
+// The kind word of a text that is UTF-8.
+pub(crate) const UTF8: u32 = 3;
+
 // The tag of a kind word that names a test.
 const TEST: u32 = 7;
 
@@ -25,7 +31,7 @@ fn table_word(table: &[u32], position: usize) -> u32
 
 // The kind that a kind word says by itself: `Any` if it names a test.
 #[inline(always)]
-fn word_kind(word: u32) -> Kind
+pub(crate) fn word_kind(word: u32) -> Kind
     ensures { result ≡ word_kind word }
 {
     let argument = word / 16;
@@ -77,24 +83,24 @@ fn next_word(table: &[u32], test: usize, data: Place, count: u32) -> u32
     }
 }
 
-// The kind that a kind word says, in a struct with `count` data words at `data`.
+// The kind word that a kind word leads to, in a struct with `count` data words at `data`.
 #[inline(never)]
-fn tested_kind(table: &[u32], word: u32, data: Place, count: u32) -> Kind
+fn tested_word(table: &[u32], word: u32, data: Place, count: u32) -> u32
     requires inside { data.at + count ≤ length (words_of data.bytes.now) }
     ensures { let ws = take count (drop data.entry.at (words_of data.entry.bytes.now)) in
-        result ≡ tested_kind table.now ws (length table.now) 0 word }
+        word_kind result ≡ tested_kind table.now ws (length table.now) 0 word }
 {
     let mut word = word;
     let mut first = 0;
     while word % 16 == TEST {
         let test = (word / 16) as usize;
         if test < first || test >= table.len() {
-            return Kind::Any;
+            return 0;
         }
         word = next_word(table, test, data, count);
         first = test + 1;
     }
-    word_kind(word)
+    word
 }
 
 // The kind word of pointer `index` of the row at `row`; 0 if the row doesn't have it.
@@ -109,19 +115,19 @@ fn kind_word(table: &[u32], row: u32, index: u32) -> u32
     table_word(table, row + 1 + index as usize)
 }
 
-// What pointer `index` of the row at `row` may lead to, in a struct with `count` data words at
-// `data`.
+// The kind word that says what pointer `index` of the row at `row` may lead to, in a struct with
+// `count` data words at `data`. It names no test, or counts as 0.
 #[inline(always)]
-pub(crate) fn wanted(table: &[u32], row: u32, data: Place, count: u32, index: u32) -> Kind
+pub(crate) fn wanted_word(table: &[u32], row: u32, data: Place, count: u32, index: u32) -> u32
     requires inside { data.at + count ≤ length (words_of data.bytes.now) }
     ensures { let ws = take count (drop data.entry.at (words_of data.entry.bytes.now)) in
-        result ≡ wanted table.now row ws index }
+        word_kind result ≡ wanted table.now row ws index }
 {
     let word = kind_word(table, row, index);
     if word % 16 == TEST {
-        return tested_kind(table, word, data, count);
+        return tested_word(table, word, data, count);
     }
-    word_kind(word)
+    word
 }
 
 // A row of a table, by its position.

@@ -7,16 +7,35 @@ use Rattle.capnp_objects.specs.Reading.{Reading, place_past, word_of, words_from
 use Rattle.capnp_objects.specs.Pointers.{reading, reading_on}
 use Rattle.capnp_objects.proofs.Falls.{falls_in}
 use Rattle.capnp_objects.proofs.Returned.{inner_levels}
-use Rattle.typed_conforming.specs.Tables.{wanted}
-use Rattle.typed_conforming.specs.Walk.{check_within, schema_pointer}
+use Rattle.typed_conforming.specs.Tables.{wanted, word_kind}
+use Rattle.typed_conforming.specs.Walk.{check_place, check_within, schema_pointer}
 use Rattle.typed_conforming.proofs.Steps.{held, inside, level, no_pointers, not_read, null_conforms, object_ends, object_opens, object_unfit, one_more, one_stops, row_more, row_stops}
 use Rattle.typed_conforming.proofs.conforms.+conforming.Goals as goal
 
 pub check_pointer-returns-then-is_null : goal.check_pointer-returns-then-is_null
 check_pointer-returns-then-is_null g t c =
     let r : Reading = reading_on g.A.ReaderArena c.args.from.now c.args.at c.args.from.now.nesting_limit in
-    let word : c.word-word.result.0 ≡ word_of r = c.word-word.ensures.value ∙ ap (λ ws. get_or ws c.args.at 0) c.args.from.now.held.0 in
-    null_conforms c.args.table.now c.args.pointer r c.args.lim.now (sym word ∙ c.if-is_null.ensures.0 refl)
+    let d : ℕ = c.args.data_words in
+    let i : ℕ = c.args.index in
+    let there : Reading = place_past (place_past r d) i in
+    let word : c.word-word.result.0 ≡ word_of there = c.word-word.ensures.value ∙ ap (λ ws. get_or ws (c.args.at + d + i) 0) c.args.from.now.held.0 in
+    null_conforms c.args.table.now (schema_pointer c.args.table.now c.args.row (words_from r d) i) there c.args.lim.now (sym word ∙ c.if-is_null.ensures.0 refl)
+
+pub check_pointer-returns-in-List : goal.check_pointer-returns-in-List
+check_pointer-returns-in-List g t c =
+    let r : Reading = reading_on g.A.ReaderArena c.args.from.now c.args.at c.args.from.now.nesting_limit in
+    let d : ℕ = c.args.data_words in
+    let i : ℕ = c.args.index in
+    let kind_is : word_kind c.wanted_word-wanted.result ≡ wanted c.args.table.now c.args.row (words_from r d) i = c.wanted_word-wanted.ensures ∙ ap (λ ws. wanted c.args.table.now c.args.row (take d (drop c.args.at ws)) i) c.args.from.now.held.0 in
+    ap (λ k. check_place c.args.table.now (record { kind = k; row = c.args.row; index = i }) (place_past (place_past r d) i) c.args.lim.now) (sym kind_is) ∙ c.check_wanted_list.ensures c.args.table.now
+
+pub check_pointer-returns-in_default : goal.check_pointer-returns-in_default
+check_pointer-returns-in_default g t c =
+    let r : Reading = reading_on g.A.ReaderArena c.args.from.now c.args.at c.args.from.now.nesting_limit in
+    let d : ℕ = c.args.data_words in
+    let i : ℕ = c.args.index in
+    let kind_is : word_kind c.wanted_word-wanted.result ≡ wanted c.args.table.now c.args.row (words_from r d) i = c.wanted_word-wanted.ensures ∙ ap (λ ws. wanted c.args.table.now c.args.row (take d (drop c.args.at ws)) i) c.args.from.now.held.0 in
+    ap (λ k. check_place c.args.table.now (record { kind = k; row = c.args.row; index = i }) (place_past (place_past r d) i) c.args.lim.now) (sym kind_is ∙ sym c.word_kind.ensures) ∙ c.check_object.ensures
 
 pub check_object-returns-in-Err : goal.check_object-returns-in-Err
 check_object-returns-in-Err g t c =
@@ -60,17 +79,15 @@ check_pointers-returns-in-Err g t c =
     let r : Reading = reading_on g.A.ReaderArena c.args.from.now c.args.at c.args.from.now.nesting_limit in
     let d : ℕ = c.args.data_words in
     let i : ℕ = c.loop-i.i in
-    let kind_is : c.wanted-kind.result ≡ wanted c.args.table.now c.args.row (words_from r d) i = c.wanted-kind.ensures ∙ ap (λ ws. wanted c.args.table.now c.args.row (take d (drop c.args.at ws)) i) c.args.from.now.held.0 in
     c.loop-i.invariant (suc (c.args.pointers - i - 1)) (omega (arith, c.loop-i-test.true))
-    ∙ one_stops (check_within c.args.table.now r.levels) (schema_pointer c.args.table.now c.args.row (words_from r d)) (place_past (place_past r d) i) i (c.args.pointers - i - 1) _ _ _ (rw kind_is at c.in-Err.ensures)
+    ∙ one_stops (check_within c.args.table.now r.levels) (schema_pointer c.args.table.now c.args.row (words_from r d)) (place_past (place_past r d) i) i (c.args.pointers - i - 1) _ _ _ c.in-Err.ensures
 
 pub check_pointers-loop-i-preserved : goal.check_pointers-loop-i-preserved
 check_pointers-loop-i-preserved g t c =
     let r : Reading = reading_on g.A.ReaderArena c.args.from.now c.args.at c.args.from.now.nesting_limit in
     let d : ℕ = c.args.data_words in
     let i : ℕ = c.loop-i.i in
-    let kind_is : c.wanted-kind.result ≡ wanted c.args.table.now c.args.row (words_from r d) i = c.wanted-kind.ensures ∙ ap (λ ws. wanted c.args.table.now c.args.row (take d (drop c.args.at ws)) i) c.args.from.now.held.0 in
-    λ k e. c.loop-i.invariant (suc k) (omega (arith, e)) ∙ one_more (check_within c.args.table.now r.levels) (schema_pointer c.args.table.now c.args.row (words_from r d)) (place_past r d) i k _ _ (rw kind_is at c.in-Ok.ensures)
+    λ k e. c.loop-i.invariant (suc k) (omega (arith, e)) ∙ one_more (check_within c.args.table.now r.levels) (schema_pointer c.args.table.now c.args.row (words_from r d)) (place_past r d) i k _ _ c.in-Ok.ensures
 
 pub check_pointers-returns : goal.check_pointers-returns
 check_pointers-returns g t c =

@@ -16,10 +16,10 @@ pub returns : goal.returns
 returns g c =
     let r = reading g.A.ReaderArena c.args.pointer.now in
     let p = rowless_pointer c.args.kind in
-    let walk = c.check_pointer.ensures in
+    let walk = c.check_object.ensures in
     record {
-      exactly = exactly c.args.table.now p r c.args.lim.now c.check_pointer.new.lim c.check_pointer.result walk;
-      spent = spent c.args.table.now p r c.args.lim.now c.check_pointer.new.lim c.check_pointer.result walk;
+      exactly = exactly c.args.table.now p r c.args.lim.now c.check_object.new.lim c.check_object.result walk;
+      spent = spent c.args.table.now p r c.args.lim.now c.check_object.new.lim c.check_object.result walk;
       walk = walk;
-      refused = true_refusal (first_visit c.args.table.now c.args.kind r) c.args.lim.now c.check_pointer.new.lim c.check_pointer.result walk;
+      refused = true_refusal (first_visit c.args.table.now c.args.kind r) c.args.lim.now c.check_object.new.lim c.check_object.result walk;
     }

@@ -12,7 +12,10 @@ use crate::proved::capnp_words::wire_pointer::{
 };
 use crate::proved::capnp_words::words::word_at;
 use crate::proved::typed_conforming::schema::{Kind, Misfit, NOT_UTF8};
-use crate::proved::typed_conforming::table::{row_below, wanted};
+use crate::proved::typed_conforming::table::{row_below, wanted_word, word_kind, TEXT, UTF8};
+
+// The highest bit of each byte of a word, which ASCII doesn't have.
+const HIGH_BITS: u64 = 0x8080_8080_8080_8080;
 
 /// # Preconditions
 ///
@@ -87,12 +90,44 @@ fn are_utf8(bytes: &[u8]) -> bool {
 /// # Preconditions
 ///
 /// ```text
+/// requires { 8 * (start + words) ≤ length bytes.now }
+/// ```
+// Whether the bytes of `words` words from word `start` of a segment on are all ASCII.
+#[inline(always)]
+fn are_ascii(bytes: &[u8], start: u32, words: u32) -> bool {
+    for i in 0..words {
+        let word = word_at(bytes, start as usize + i as usize);
+        if word & HIGH_BITS != 0 {
+            return false;
+        }
+    }
+    true
+}
+
+/// # Preconditions
+///
+/// ```text
+/// requires { 8 * (start.at + words_for 2 count) ≤ length start.bytes.now }
+/// ```
+// Whether the `count` bytes from a place on are UTF-8, without the last one. Tests each of them.
+#[inline(never)]
+fn is_utf8_by_bytes(start: Place, count: u32) -> bool {
+    are_utf8(bytes_at(start, count.saturating_sub(1)))
+}
+
+/// # Preconditions
+///
+/// ```text
 /// requires { 8 * (start.at + words_for 2 count) ≤ length start.bytes.now }
 /// ```
 // Whether the `count` bytes from a place on are UTF-8, without the last one.
-#[inline]
+#[inline(always)]
 fn is_utf8_text(start: Place, count: u32) -> bool {
-    are_utf8(bytes_at(start, count.saturating_sub(1)))
+    let words = (u64::from(count) + 7) / 8;
+    if are_ascii(start.bytes, start.at, words as u32) {
+        return true;
+    }
+    is_utf8_by_bytes(start, count)
 }
 
 /// # Preconditions
@@ -129,7 +164,7 @@ fn text_error(object: Object) -> Option<ErrorKind> {
 /// requires { IsAtHand object }
 /// ```
 // The refusal for a text that isn't UTF-8, if it isn't.
-#[inline]
+#[inline(always)]
 fn utf8_error(object: Object) -> Option<ErrorKind> {
     match object {
         Object::Flat {
@@ -319,25 +354,92 @@ fn check_primitive_list<A: ReaderArena>(
     }
 }
 
-// Tests what the pointer at `at` leads to. A list of bits or numbers in the same segment, such as a
-// text, is tested in place.
+/// # Preconditions
+///
+/// ```text
+/// requires word { IsWordAt word.0
+///     (reading_on A.ReaderArena from.now at from.now.nesting_limit) }
+/// requires is_list { kind word.0 ≡ 1 }
+/// requires of_bits { (0 < element_size word.0) × (element_size word.0 ≤ 5) }
+/// ```
+// Tests the list of bits or numbers that the word at `at` describes, for pointer `index` of the row
+// at `row`, of which the table has the kind word `wanted`. Texts are told apart first: most lists are
+// texts, and of a constant kind little is left to test.
+#[inline(always)]
+fn check_wanted_list<A: ReaderArena>(
+    wanted: u32,
+    row: u32,
+    index: u32,
+    from: &Pointer<'_, A>,
+    at: u32,
+    word: WirePointer,
+    lim: &mut ReadLimiter,
+) -> Result<(), Misfit> {
+    if wanted == TEXT {
+        let text = SchemaPointer {
+            kind: Kind::Text,
+            row,
+            index,
+        };
+        return check_primitive_list(text, from, at, word, lim);
+    }
+    if wanted == UTF8 {
+        let text = SchemaPointer {
+            kind: Kind::Utf8,
+            row,
+            index,
+        };
+        return check_primitive_list(text, from, at, word, lim);
+    }
+    let list = SchemaPointer {
+        kind: word_kind(wanted),
+        row,
+        index,
+    };
+    check_primitive_list(list, from, at, word, lim)
+}
+
+/// # Preconditions
+///
+/// ```text
+/// requires inside { at + data_words + index
+///     < length (segment_read (reading A.ReaderArena from.now)) }
+/// ```
+// Tests what pointer `index` of the element at `at` leads to. A list of bits or numbers in the same
+// segment, such as a text, is tested in place.
 #[inline(always)]
 fn check_pointer<A: ReaderArena>(
     table: &[u32],
-    pointer: SchemaPointer,
+    row: u32,
     from: &Pointer<'_, A>,
     at: u32,
+    data_words: u32,
+    index: u32,
     lim: &mut ReadLimiter,
 ) -> Result<(), Misfit> {
-    let word = Place { at, ..from.place }.word();
+    let position = at + data_words + index;
+    let word = Place {
+        at: position,
+        ..from.place
+    }
+    .word();
     if word.is_null() {
         return Ok(());
     }
+    let element = Place { at, ..from.place };
+    let wanted = wanted_word(table, row, element, data_words, index);
     match word.kind() {
         WirePointerKind::List if is_primitive_list(word) => {
-            check_primitive_list(pointer, from, at, word, lim)
+            check_wanted_list(wanted, row, index, from, position, word, lim)
         }
-        _ => check_object(table, pointer, from, at, lim),
+        _ => {
+            let pointer = SchemaPointer {
+                kind: word_kind(wanted),
+                row,
+                index,
+            };
+            check_object(table, pointer, from, position, lim)
+        }
     }
 }
 
@@ -428,15 +530,8 @@ fn check_pointers<A: ReaderArena>(
     pointers: u32,
     lim: &mut ReadLimiter,
 ) -> Result<(), Misfit> {
-    let element = Place { at, ..from.place };
     for i in 0..pointers {
-        let kind = wanted(table, row, element, data_words, i);
-        let pointer = SchemaPointer {
-            kind,
-            row,
-            index: i,
-        };
-        match check_pointer(table, pointer, from, at + data_words + i, lim) {
+        match check_pointer(table, row, from, at, data_words, i, lim) {
             Ok(()) => {}
             Err(misfit) => return Err(misfit),
         }
@@ -468,5 +563,5 @@ pub fn conforms<A: ReaderArena>(
         row: 0,
         index: 0,
     };
-    check_pointer(table, first, pointer, pointer.place.at, lim)
+    check_object(table, first, pointer, pointer.place.at, lim)
 }

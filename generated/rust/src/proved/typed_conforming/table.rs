@@ -5,6 +5,12 @@ use crate::proved::capnp_words::wire_pointer::ElementSize;
 use crate::proved::capnp_words::words::word_at;
 use crate::proved::typed_conforming::schema::Kind;
 
+// The kind word of a text.
+pub(in crate::proved::typed_conforming) const TEXT: u32 = 2;
+
+// The kind word of a text that is UTF-8.
+pub(in crate::proved::typed_conforming) const UTF8: u32 = 3;
+
 // The tag of a kind word that names a test.
 const TEST: u32 = 7;
 
@@ -19,7 +25,7 @@ fn table_word(table: &[u32], position: usize) -> u32 {
 
 // The kind that a kind word says by itself: `Any` if it names a test.
 #[inline(always)]
-fn word_kind(word: u32) -> Kind {
+pub(in crate::proved::typed_conforming) fn word_kind(word: u32) -> Kind {
     let argument = word / 16;
     match word % 16 {
         1 => Kind::Capability,
@@ -78,20 +84,20 @@ fn next_word(table: &[u32], test: usize, data: Place, count: u32) -> u32 {
 /// ```text
 /// requires inside { data.at + count ≤ length (words_of data.bytes.now) }
 /// ```
-// The kind that a kind word says, in a struct with `count` data words at `data`.
+// The kind word that a kind word leads to, in a struct with `count` data words at `data`.
 #[inline(never)]
-fn tested_kind(table: &[u32], word: u32, data: Place, count: u32) -> Kind {
+fn tested_word(table: &[u32], word: u32, data: Place, count: u32) -> u32 {
     let mut word = word;
     let mut first = 0;
     while word % 16 == TEST {
         let test = (word / 16) as usize;
         if test < first || test >= table.len() {
-            return Kind::Any;
+            return 0;
         }
         word = next_word(table, test, data, count);
         first = test + 1;
     }
-    word_kind(word)
+    word
 }
 
 // The kind word of pointer `index` of the row at `row`; 0 if the row doesn't have it.
@@ -109,21 +115,21 @@ fn kind_word(table: &[u32], row: u32, index: u32) -> u32 {
 /// ```text
 /// requires inside { data.at + count ≤ length (words_of data.bytes.now) }
 /// ```
-// What pointer `index` of the row at `row` may lead to, in a struct with `count` data words at
-// `data`.
+// The kind word that says what pointer `index` of the row at `row` may lead to, in a struct with
+// `count` data words at `data`. It names no test, or counts as 0.
 #[inline(always)]
-pub(in crate::proved::typed_conforming) fn wanted(
+pub(in crate::proved::typed_conforming) fn wanted_word(
     table: &[u32],
     row: u32,
     data: Place,
     count: u32,
     index: u32,
-) -> Kind {
+) -> u32 {
     let word = kind_word(table, row, index);
     if word % 16 == TEST {
-        return tested_kind(table, word, data, count);
+        return tested_word(table, word, data, count);
     }
-    word_kind(word)
+    word
 }
 
 // A row of a table, by its position.

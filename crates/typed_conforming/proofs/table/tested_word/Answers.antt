@@ -1,7 +1,7 @@
 use Rattle.std.proofs.Common.{sym, ◌∙◌}
 use Rattle.typed_conforming.proofs.Tests.{at_start, backward, follow, no_test, outside}
-use Rattle.typed_conforming.proofs.table.tested_kind.Goals as goal
-use Rattle.typed_conforming.proofs.table.tested_kind.Goals.{then-test-first-via-then-test-first, then-test-first-via-else-test-first+then-test-table}
+use Rattle.typed_conforming.proofs.table.tested_word.Goals as goal
+use Rattle.typed_conforming.proofs.table.tested_word.Goals.{then-test-first-via-then-test-first, then-test-first-via-else-test-first+then-test-table}
 
 pub loop-word-init : goal.loop-word-init
 loop-word-init c = at_start c.args.table.now _ c.args.word
@@ -19,4 +19,4 @@ returns-then-test-first c =
     ∙ sym c.loop-word.invariant.same
 
 pub returns : goal.returns
-returns c = c.word_kind.ensures ∙ no_test c.args.table.now _ c.loop-word.invariant.tests c.loop-word.first c.loop-word.word c.loop-word-test.false ∙ sym c.loop-word.invariant.same
+returns c = no_test c.args.table.now _ c.loop-word.invariant.tests c.loop-word.first c.loop-word.word c.loop-word-test.false ∙ sym c.loop-word.invariant.same

@@ -1,7 +1,7 @@
 use Rattle.std.proofs.Common.{◌-◌, take, drop, length}
 use Rattle.capnp_format.specs.Bytes.{words_of}
 use Rattle.typed_conforming.proofs.Tests.{IsFollowed}
-use Rattle.typed_conforming.proofs.table.tested_kind.Given as goal
+use Rattle.typed_conforming.proofs.table.tested_word.Given as goal
 
 abbrev pub invariant-loop-word : goal.invariant-loop-word
 invariant-loop-word l =
