@@ -1,24 +1,24 @@
 -- Any value at a place where a list of structs is requested.
-use Rattle.std.proofs.Common.{◌≡◌, ℕ, length, Option, Some, None, Result, Ok, Err, refl, sym, ap, ◌∙◌, subst, arith}
+use Rattle.std.proofs.Common.{Err, None, Ok, Option, Result, Some, ap, arith, length, refl, subst, sym, ℕ, ◌∙◌, ◌≡◌, ◌≤◌}
 use Rattle.capnp_words.specs.declared.error.ErrorKind.{ErrorKind}
 use Rattle.capnp_words.specs.declared.error.ErrorKind.TheVariants.{FoundBitListWhereStructListWasExpected}
 use Rattle.capnp_format.specs.Segments.{Segments, Target}
-use Rattle.capnp_format.specs.Tree.{Tree, Null, Capability, Struct, Flat, Pointers, Structs, element_count, count}
+use Rattle.capnp_format.specs.Tree.{Capability, Elements, Flat, Null, Pointers, Struct, Structs, Tree, element_count}
 use Rattle.capnp_format.specs.Forest.{target}
 use Rattle.capnp_words.specs.Sizes.{size_number}
 use Rattle.capnp_words.specs.declared.wire_pointer.StructSize.{StructSize}
-use Rattle.capnp_words.specs.declared.wire_pointer.ElementSize.TheVariants.{Void, Pointer}
+use Rattle.capnp_words.specs.declared.wire_pointer.ElementSize.TheVariants.{Void}
 use Rattle.capnp_contents.specs.declared.existing.ExistingList.{ExistingList}
-use Rattle.capnp_contents.specs.Existing.{list_in, plain_list, struct_list, size_of, unless}
+use Rattle.capnp_contents.specs.Existing.{list_in, plain_list, size_of, struct_list, unless}
 use Rattle.capnp_making.specs.Stored.{IsStored}
 use Rattle.capnp_making.proofs.Filling.{unchanged}
 use Rattle.capnp_contents.specs.RowsRemade.{BecomesList, IsList, WidensTo}
-use Rattle.capnp_contents.specs.Widened.{list_widened}
-use Rattle.capnp_contents.proofs.ListSteps.{structs_stored}
-use Rattle.capnp_contents.proofs.Listed.{same_list, same_tree, no_list, not_a_list, flat_found, void_fits}
-use Rattle.capnp_contents.proofs.PlainLists.{are_numbers}
-use Rattle.capnp_contents.proofs.PointerSteps.{flat_stored, pointers_stored}
-use Rattle.capnp_contents.proofs.Statements.{ListLiesIn, WidensList, LeadsToWiderList, rewriting}
+use Rattle.capnp_contents.specs.Widened.{HasSections, list_widened}
+use Rattle.capnp_contents.proofs.ListSteps.{flat_stored, pointers_stored, structs_stored}
+use Rattle.capnp_contents.proofs.Listed.{are_numbers, by_list, flat_width, number_of_size, same_tree, structs_stay, void_fits}
+use Rattle.capnp_contents.proofs.Statements.{LeadsToWiderList, ListLiesIn, WidensList, WidensListAnew, rewriting}
+use Rattle.capnp_arena_traits.specs.View.{View}
+use Rattle.capnp_making.specs.Makes.{call_at}
 
 -- A list of bits.
 pub bits_refused : (S : Segments) (s p : ℕ) (t : Tree) (l : ExistingList) (d q : ℕ) → size_number l.size ≡ 1 → IsList S s p l t → list_widened d q t ≡ Err FoundBitListWhereStructListWasExpected
@@ -61,12 +61,7 @@ null_leads S s p size found = λ t u x e.
 -- A list is found.
 
 pub list_inside : (R : Segments) (s p : ℕ) (u : Tree) (m : ExistingList) → IsStored R s p u → list_in (target R s p) Void u ≡ Ok (Some m) → ListLiesIn R m
-list_inside R s p Null m x e = absurd (no_list m e)
-list_inside R s p (Capability i) m x e = absurd (not_a_list _ m e)
-list_inside R s p (Struct ws ts) m x e = absurd (not_a_list _ m e)
-list_inside R s p (Flat w ns) m x e = subst (ListLiesIn R) (flat_found (target R s p) w ns m e) (omega (arith, (flat_stored R s p w ns x).fits))
-list_inside R s p (Pointers ts) m x e = subst (ListLiesIn R) (same_list (plain_list (target R s p) Pointer (count ts)) m e) (omega (arith, (pointers_stored R s p ts x).fits))
-list_inside R s p (Structs d q es) m x e = subst (ListLiesIn R) (same_list (struct_list (target R s p) d q (element_count es)) m e) (omega (arith, (structs_stored R s p d q es x).fits))
+list_inside R s p u m x e = by_list R s p m (λ v o. ListLiesIn R o) (λ w ns y. omega (arith, (flat_stored R s p w ns y).fits)) (λ ts y. omega (arith, (pointers_stored R s p ts y).fits)) (λ d q es y. omega (arith, (structs_stored R s p d q es y).fits)) u (x, e)
 
 pub list_widens : (S R : Segments) (s p : ℕ) (size : StructSize) (l m : ExistingList) → ((t : Tree) → IsStored S s p t → Ok (Some l) ≡ list_in (target S s p) Void t) → WidensTo l size (rewriting s p S R) m → WidensList size (rewriting s p S R)
 list_widens S R s p size l m found w = λ t x.
@@ -79,3 +74,26 @@ list_leads S R s p size l m found w = λ t u x e.
     let same : v ≡ u = same_tree v u (sym f ∙ e) in
     let there : BecomesList (rewriting s p S R) m t u = subst (λ z. BecomesList (rewriting s p S R) m t z) same b in
     (there.1, list_inside R s p u m there.0.stored there.1))
+
+-- What a list of structs is, from what is found.
+pub record AreStructs (S : Segments) (s p : ℕ) (t : Tree) (l : ExistingList) : Type 0 where
+  pub elements : Elements
+  pub tree : t ≡ Structs l.struct_size.data_words l.struct_size.pointers elements
+  pub list : l ≡ struct_list (target S s p) l.struct_size.data_words l.struct_size.pointers (element_count elements)
+
+pub are_structs : (S : Segments) (s p : ℕ) (t : Tree) (l : ExistingList) → size_number l.size ≡ 7 → IsList S s p l t → AreStructs S s p t l
+are_structs S s p t l is i =
+    by_list S s p l (λ u o. size_number o.size ≡ 7 → AreStructs S s p u o) (λ w ns x seven. absurd (omega (arith, seven, number_of_size w (flat_width S s p w ns x), flat_width S s p w ns x))) (λ ts x seven. absurd (omega arith))
+    (λ d k es x seven. record { elements = es; tree = refl; list = refl }) t i is
+
+-- A list of structs that is wide enough stays.
+pub structs_kept : (S : Segments) (s p : ℕ) (l : ExistingList) (size : StructSize) → size_number l.size ≡ 7 → size.data_words ≤ l.struct_size.data_words → size.pointers ≤ l.struct_size.pointers → WidensTo l size (rewriting s p S S) l
+structs_kept S s p l size is wide many = λ t i.
+    (let k = are_structs S s p t l is i in
+    (t, ap (list_widened size.data_words size.pointers) k.tree ∙ structs_stay size.data_words size.pointers l.struct_size.data_words l.struct_size.pointers k.elements wide many ∙ ap Ok (sym k.tree), (unchanged S s p t i.0, i.1)))
+
+-- Structs that are large enough aren't remade.
+pub structs_not_anew : (a : View) (s p : ℕ) (l : ExistingList) (size : StructSize) → size_number l.size ≡ 7 → size.data_words ≤ l.struct_size.data_words → size.pointers ≤ l.struct_size.pointers → WidensListAnew (IsList a.words s p l) size (call_at s p a a)
+structs_not_anew a s p l size is wide many = λ t u i some e narrow.
+    (let k = are_structs a.words s p t l is i in
+    absurd (narrow (subst (λ z. HasSections size z) (sym k.tree) (wide, many))))

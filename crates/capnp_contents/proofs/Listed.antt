@@ -1,20 +1,23 @@
 -- Which list a value is, and what it becomes.
-use Rattle.std.proofs.Common.{◌≡◌, ℕ, zero, suc, ◌+◌, ◌*◌, ◌^◌, ◌<◌, ◌≤◌, max, true, false, cond, ◌&&◌, nat_lt, nat_le, Option, Some, None, Result, Ok, Err, OnErr, IfErr, List, length, refl, sym, ap, ◌∙◌, arith}
+use Rattle.std.proofs.Common.{Err, IfErr, List, None, Ok, OnErr, Option, Result, Some, [], ap, ap₂, arith, cond, false, length, max, nat_le, nat_lt, refl, subst, suc, sym, true, zero, ℕ, ◌&&◌, ◌*◌, ◌+◌, ◌<◌, ◌^◌, ◌∙◌, ◌∷◌, ◌≡◌, ◌≤◌}
 use Rattle.std.proofs.lemmas.Bool.Decides.{nat_tests}
 use Rattle.capnp_words.specs.declared.error.ErrorKind.{ErrorKind}
 use Rattle.capnp_words.specs.declared.error.ErrorKind.TheVariants.{MessageTooLarge}
 use Rattle.capnp_format.specs.Segments.{Segments, Target}
-use Rattle.capnp_format.specs.Tree.{Tree, Null, Capability, Struct, Flat, Pointers, Structs, Elements, no_elements, element, element_count}
+use Rattle.capnp_format.specs.Tree.{Capability, Elements, Flat, Null, Pointers, Struct, Structs, Tree, Trees, count, element, element_count, no_elements, no_trees, tree}
 use Rattle.capnp_format.specs.Means.{Means, MeansElements}
 use Rattle.capnp_format.specs.Forest.{target}
 use Rattle.capnp_words.specs.Sizes.{size_number}
 use Rattle.capnp_words.specs.declared.wire_pointer.ElementSize.{ElementSize}
-use Rattle.capnp_words.specs.declared.wire_pointer.ElementSize.TheVariants.{Void, Bit, Byte, TwoBytes, FourBytes, EightBytes, Pointer, InlineComposite}
+use Rattle.capnp_words.specs.declared.wire_pointer.ElementSize.TheVariants.{Bit, Byte, EightBytes, FourBytes, InlineComposite, Pointer, TwoBytes, Void}
 use Rattle.capnp_contents.specs.declared.existing.ExistingList.{ExistingList}
-use Rattle.capnp_contents.specs.Existing.{list_in, plain_list, plain_misfit, size_of, unless}
+use Rattle.capnp_contents.specs.Existing.{list_in, plain_list, plain_misfit, size_of, struct_list, unless}
 use Rattle.capnp_making.specs.Stored.{IsStored}
-use Rattle.capnp_contents.specs.Widened.{fill_words, fill_trees, fill_elements, limited, list_widened}
-use Rattle.capnp_contents.proofs.Filled.{greater_words, greater_trees}
+use Rattle.capnp_contents.specs.Widened.{fill_elements, fill_trees, fill_words, limited, list_widened, struct_for_each, struct_for_each_tree}
+use Rattle.capnp_contents.proofs.Filled.{greater_trees, greater_words}
+use Rattle.capnp_contents.specs.RowsRemade.{IsList, as_structs}
+use Rattle.capnp_words.specs.declared.wire_pointer.StructSize.{StructSize}
+use Rattle.capnp_making.specs.Made.{nulls, words_of_zero}
 
 pub same_list : (x y : ExistingList) → ◌≡◌ {A = Result (Option ExistingList) ErrorKind} (Ok (Some x)) (Ok (Some y)) → x ≡ y
 same_list x y e = cc
@@ -57,20 +60,19 @@ flat_width S s p w ns x = at_level x.means.0 x.means.1 x.means.2
     at_level : (n c : ℕ) → Means S n s p (Flat w ns) c → w ≤ 5
     at_level n c (a, some, small, o, claim, e, g) = small
 
--- The number of a list's element size.
-abbrev pub tree_size : Tree → ℕ
-tree_size (Flat w ns) = w
-tree_size (Pointers ts) = 6
-tree_size (Structs d q es) = 7
-tree_size t = 8
-
-pub listed_size : (S : Segments) (s p : ℕ) (t : Tree) (l : ExistingList) → IsStored S s p t → list_in (target S s p) Void t ≡ Ok (Some l) → size_number l.size ≡ tree_size t
-listed_size S s p Null l x e = absurd (no_list l e)
-listed_size S s p (Capability i) l x e = absurd (not_a_list _ l e)
-listed_size S s p (Struct ws ts) l x e = absurd (not_a_list _ l e)
-listed_size S s p (Flat w ns) l x e = ap (λ (m : ExistingList). size_number m.size) (sym (flat_found (target S s p) w ns l e)) ∙ number_of_size w (flat_width S s p w ns x)
-listed_size S s p (Pointers ts) l x e = ap (λ (m : ExistingList). size_number m.size) (sym (same_list _ l e))
-listed_size S s p (Structs d q es) l x e = ap (λ (m : ExistingList). size_number m.size) (sym (same_list _ l e))
+-- What holds of each kind of list at its place holds of the list l that is found there.
+pub by_list : (S : Segments) (s p : ℕ) (l : ExistingList) (P : Tree → ExistingList → Type 0) → ((w : ℕ) (ns : List ℕ) → IsStored S s p (Flat w ns) → P (Flat w ns) (plain_list (target S s p) (size_of w) (length ns))) →
+    ((ts : Trees) → IsStored S s p (Pointers ts) → P (Pointers ts) (plain_list (target S s p) Pointer (count ts))) →
+    ((d k : ℕ) (es : Elements) → IsStored S s p (Structs d k es) → P (Structs d k es) (struct_list (target S s p) d k (element_count es))) → (t : Tree) → IsList S s p l t → P t l
+by_list S s p l P flat pointers structs t i = go t i.0 i.1
+  where
+    go : (u : Tree) → IsStored S s p u → list_in (target S s p) Void u ≡ Ok (Some l) → P u l
+    go (Flat w ns) x e = subst (P (Flat w ns)) (flat_found (target S s p) w ns l e) (flat w ns x)
+    go (Pointers ts) x e = subst (P (Pointers ts)) (same_list (plain_list (target S s p) Pointer (count ts)) l e) (pointers ts x)
+    go (Structs d k es) x e = subst (P (Structs d k es)) (same_list (struct_list (target S s p) d k (element_count es)) l e) (structs d k es x)
+    go Null x e = absurd (no_list l e)
+    go (Capability n) x e = absurd (not_a_list _ l e)
+    go (Struct ws ts) x e = absurd (not_a_list _ l e)
 
 -- How many words the structs may take.
 
@@ -122,3 +124,34 @@ same_refusal j k r e f = cc
 
 pub never_refused : (u : Tree) (k : ErrorKind) (r : Result Tree ErrorKind) → r ≡ Ok u → r ≡ Err k → ⊥
 never_refused u k r e f = cc
+
+pub first_pointers : (d k : ℕ) (ts : Trees) → struct_for_each_tree d (max 1 k) ts ≡ struct_for_each_tree d k ts
+first_pointers d k no_trees = refl
+first_pointers d k (tree t ts) =
+    ap₂ (λ us es. element (words_of_zero d) us es) (greater_trees k (tree t no_trees)) (first_pointers d k ts)
+
+-- A list of numbers, or of void.
+
+pub record AreNumbers (S : Segments) (s p : ℕ) (t : Tree) (l : ExistingList) : Type 0 where
+  pub numbers : List ℕ
+  pub tree_of : t ≡ Flat (size_number l.size) numbers
+  pub list : l ≡ plain_list (target S s p) l.size (length numbers)
+
+pub are_numbers : (S : Segments) (s p : ℕ) (t : Tree) (l : ExistingList) → size_number l.size ≤ 5 → IsList S s p l t → AreNumbers S s p t l
+are_numbers S s p t l is i =
+    by_list S s p l (λ u o. size_number o.size ≤ 5 → AreNumbers S s p u o)
+    (λ w ns x five. record { numbers = ns; tree_of = ap (λ v. Flat v ns) (sym (number_of_size w (flat_width S s p w ns x))); list = refl }) (λ ts x five. absurd (omega arith)) (λ d k es x five. absurd (omega arith)) t i is
+
+pub first_numbers : (d k : ℕ) (ns : List ℕ) → struct_for_each (max 1 d) k ns ≡ struct_for_each d k ns
+first_numbers d k [] = refl
+first_numbers d k (x ∷ xs) = ap₂ (λ ws es. element ws (nulls k) es) (greater_words d (x ∷ [])) (first_numbers d k xs)
+
+-- Numbers that are as wide as bytes or wider.
+pub numbers_limited : (d q w : ℕ) (ns : List ℕ) → 2 ≤ w → list_widened d q (Flat w ns) ≡ limited (length ns * (max 1 d + q)) (Structs (max 1 d) q (struct_for_each d q ns))
+numbers_limited d q zero ns l = absurd (omega arith)
+numbers_limited d q (suc zero) ns l = absurd (omega arith)
+numbers_limited d q (suc (suc w)) ns l = refl
+
+pub numbers_as_structs : (size : StructSize) (w : ℕ) (ns : List ℕ) → 2 ≤ w → as_structs size (Flat w ns) ≡ Structs size.data_words size.pointers (struct_for_each size.data_words size.pointers ns)
+numbers_as_structs size zero ns l = absurd (omega arith)
+numbers_as_structs size (suc w) ns l = refl

@@ -1,28 +1,27 @@
 -- What a list becomes if structs of at least a size are wanted.
-use Rattle.std.proofs.Common.{◌≡◌, ℕ, zero, suc, ◌+◌, ◌-◌, ◌*◌, ◌<◌, ◌≤◌, max, List, length, Some, Ok, Err, Result, inl, inr, refl, sym, ap, ap₂, ◌∙◌, subst, arith}
+use Rattle.std.proofs.Common.{Err, List, Ok, Option, Result, Some, ap, ap₂, arith, inl, inr, length, max, refl, subst, suc, sym, zero, ℕ, ◌*◌, ◌+◌, ◌<◌, ◌∙◌, ◌≡◌, ◌≤◌}
 use Rattle.capnp_words.specs.declared.error.ErrorKind.{ErrorKind}
 use Rattle.capnp_arena_traits.specs.View.{View}
 use Rattle.capnp_format.specs.Segments.{Segments, Target}
-use Rattle.capnp_format.specs.Tree.{Tree, Null, Capability, Struct, Flat, Pointers, Structs, Trees, Elements, count, element_count}
+use Rattle.capnp_format.specs.Tree.{Elements, Flat, Pointers, Structs, Tree, Trees, count, element_count}
 use Rattle.capnp_format.specs.Forest.{target}
 use Rattle.capnp_words.specs.Sizes.{size_number}
 use Rattle.capnp_words.specs.declared.wire_pointer.StructSize.{StructSize}
-use Rattle.capnp_words.specs.declared.wire_pointer.ElementSize.TheVariants.{Void, Pointer}
+use Rattle.capnp_words.specs.declared.wire_pointer.ElementSize.TheVariants.{Pointer, Void}
 use Rattle.capnp_contents.specs.declared.existing.ExistingList.{ExistingList}
-use Rattle.capnp_contents.specs.Existing.{list_in, plain_list, size_of, struct_list}
+use Rattle.capnp_contents.specs.Existing.{plain_list, size_of, struct_list}
 use Rattle.capnp_making.specs.Made.{zero_elements}
 use Rattle.capnp_making.specs.Makes.{CallAt, call_at}
 use Rattle.capnp_making.specs.Memory.{SpendsMemory}
 use Rattle.capnp_making.specs.Stored.{IsStored}
-use Rattle.capnp_making.proofs.Outcomes.{if_ok_so, on_err_so, on_made_so, if_err_so}
+use Rattle.capnp_making.proofs.Outcomes.{if_err_so, if_ok_so, on_err_so, on_made_so}
 use Rattle.capnp_contents.specs.declared.remaking.ElementRows.{ElementRows}
 use Rattle.capnp_contents.specs.Anew.{BecomesAnew}
 use Rattle.capnp_contents.specs.Rooms.{GrowsByAtMost, HasRoomFor, direct_pointers, widened_words}
-use Rattle.capnp_contents.specs.RowsRemade.{IsList, MakesListOfStructs, StoresRows, WidensList, as_structs, rows_in, element_rows, struct_for}
+use Rattle.capnp_contents.specs.RowsRemade.{IsList, MakesListOfStructs, StoresRows, WidensList, as_structs, element_rows, rows_in, struct_for}
 use Rattle.capnp_contents.specs.Widened.{fill_elements, limited, list_widened, struct_for_each, struct_for_each_tree}
-use Rattle.capnp_contents.proofs.Listed.{filled_to_greater, flat_found, flat_width, listed_size, never_refused, no_list, not_a_list, same_list, same_refusal, same_tree, structs_widen}
+use Rattle.capnp_contents.proofs.Listed.{by_list, filled_to_greater, first_numbers, first_pointers, flat_width, never_refused, number_of_size, numbers_as_structs, numbers_limited, same_refusal, same_tree, structs_widen}
 use Rattle.capnp_contents.proofs.ListRooms.{not_refused}
-use Rattle.capnp_contents.proofs.PlainLists.{first_numbers, first_pointers, numbers_as_structs, numbers_limited}
 use Rattle.capnp_contents.proofs.StructSteps.{nothing_grown}
 
 -- A list that is neither one of bits nor one of large enough structs, and the size of the structs
@@ -74,53 +73,33 @@ from_structs S s p d k es size wide x w =
     structs_widen e f d k es (w.narrow refl)
     ∙ sym (ap₂ limited (ap₂ (λ y z. element_count es * (y + z)) w.data_words w.pointers) (ap₂ (λ y z. Structs y z (fill_elements y z es)) w.data_words w.pointers ∙ ap (Structs (max d e) (max k f)) (filled_to_greater S s p d k es e f x)))
 
-pub becomes : (S : Segments) (s p : ℕ) (t : Tree) (l : ExistingList) (size wide : StructSize) → Widens l size wide → IsList S s p l t → list_widened size.data_words size.pointers t ≡ limited (l.count * (wide.data_words + wide.pointers)) (as_structs wide t)
-becomes S s p t l size wide w i = go t i.0 i.1
-  where
-    found : (u : Tree) (o : ExistingList) → o ≡ l → (Widens o size wide → list_widened size.data_words size.pointers u ≡ limited (o.count * (wide.data_words + wide.pointers)) (as_structs wide u)) →
-        list_widened size.data_words size.pointers u ≡ limited (l.count * (wide.data_words + wide.pointers)) (as_structs wide u)
-    found u o same from =
-        subst (λ (x : ExistingList). list_widened size.data_words size.pointers u ≡ limited (x.count * (wide.data_words + wide.pointers)) (as_structs wide u)) same (from (subst (λ x. Widens x size wide) (sym same) w))
+from_flat : (S : Segments) (s p w : ℕ) (ns : List ℕ) (size wide : StructSize) → IsStored S s p (Flat w ns) → Widens (plain_list (target S s p) (size_of w) (length ns)) size wide →
+    list_widened size.data_words size.pointers (Flat w ns) ≡ limited (length ns * (wide.data_words + wide.pointers)) (as_structs wide (Flat w ns))
+from_flat S s p zero ns size wide x h = from_void (target S s p) ns size wide h
+from_flat S s p (suc zero) ns size wide x h = absurd (h.kind refl)
+from_flat S s p (suc (suc n)) ns size wide x h = from_numbers (target S s p) (suc (suc n)) ns size wide (omega arith) (flat_width S s p (suc (suc n)) ns x) h
 
-    go : (u : Tree) → IsStored S s p u → list_in (target S s p) Void u ≡ Ok (Some l) → list_widened size.data_words size.pointers u ≡ limited (l.count * (wide.data_words + wide.pointers)) (as_structs wide u)
-    go Null x e = absurd (no_list l e)
-    go (Capability n) x e = absurd (not_a_list _ l e)
-    go (Struct ws ts) x e = absurd (not_a_list _ l e)
-    go (Flat zero ns) x e = found (Flat 0 ns) (plain_list (target S s p) Void (length ns)) (flat_found (target S s p) 0 ns l e) (from_void (target S s p) ns size wide)
-    go (Flat (suc zero) ns) x e = absurd (w.kind (listed_size S s p (Flat 1 ns) l x e))
-    go (Flat (suc (suc n)) ns) x e =
-        found (Flat (suc (suc n)) ns) (plain_list (target S s p) (size_of (suc (suc n))) (length ns)) (flat_found (target S s p) (suc (suc n)) ns l e) (from_numbers (target S s p) (suc (suc n)) ns size wide (omega arith) (flat_width S s p (suc (suc n)) ns x))
-    go (Pointers ts) x e =
-        let o = plain_list (target S s p) Pointer (count ts) in
-        found (Pointers ts) o (same_list o l e) (from_pointers (target S s p) ts size wide)
-    go (Structs d k es) x e =
-        let o = struct_list (target S s p) d k (element_count es) in
-        found (Structs d k es) o (same_list o l e) (from_structs S s p d k es size wide x)
+pub becomes : (S : Segments) (s p : ℕ) (t : Tree) (l : ExistingList) (size wide : StructSize) → Widens l size wide → IsList S s p l t → list_widened size.data_words size.pointers t ≡ limited (l.count * (wide.data_words + wide.pointers)) (as_structs wide t)
+becomes S s p t l size wide w i =
+    by_list S s p l (λ u o. Widens o size wide → list_widened size.data_words size.pointers u ≡ limited (o.count * (wide.data_words + wide.pointers)) (as_structs wide u)) (λ n ns x. from_flat S s p n ns size wide x)
+    (λ ts x. from_pointers (target S s p) ts size wide) (λ d k es x. from_structs S s p d k es size wide x) t i w
 
 -- A list of void, of pointers or of structs, by its rows.
 pub in_rows : (S : Segments) (s p : ℕ) (t : Tree) (l : ExistingList) → (0 < size_number l.size → 6 ≤ size_number l.size) → IsList S s p l t → StoresRows S s p (element_rows l) t
-in_rows S s p t l whole i = (i.0, go t i.0 i.1)
+in_rows S s p t l whole i = (i.0, by_list S s p l (λ u o. (0 < size_number o.size → 6 ≤ size_number o.size) → rows_in (target S s p) u ≡ Some (element_rows o)) flat pointers structs t i whole)
   where
-    rows : ℕ → ℕ → StructSize → ℕ → ElementRows
-    rows at tag size n = record { segment = (target S s p).segment; at = at; tag = tag; size = size; count = n }
+    rows : ℕ → StructSize → ℕ → ℕ → Option ElementRows
+    rows tag size n at = Some (record { segment = (target S s p).segment; at = at; tag = tag; size = size; count = n })
 
-    go : (u : Tree) → IsStored S s p u → list_in (target S s p) Void u ≡ Ok (Some l) → rows_in (target S s p) u ≡ Some (element_rows l)
-    go Null x e = absurd (no_list l e)
-    go (Capability n) x e = absurd (not_a_list _ l e)
-    go (Struct ws ts) x e = absurd (not_a_list _ l e)
-    go (Flat zero ns) x e =
-        let a = target S s p in
-        let same : a.start ≡ a.start - 0 = omega arith in
-        ap (λ y. Some (record { segment = a.segment; at = y; tag = 0; size = record { data_words = 0; pointers = 0 }; count = length ns })) same ∙ ap (λ o. Some (element_rows o)) (flat_found a 0 ns l e)
-    go (Flat (suc n) ns) x e = absurd (omega (arith, listed_size S s p (Flat (suc n) ns) l x e, flat_width S s p (suc n) ns x, whole))
-    go (Pointers ts) x e =
-        let a = target S s p in
-        let same : a.start ≡ a.start - 0 = omega arith in
-        ap (λ y. Some (record { segment = a.segment; at = y; tag = 0; size = record { data_words = 0; pointers = 1 }; count = count ts })) same ∙ ap (λ o. Some (element_rows o)) (same_list (plain_list a Pointer (count ts)) l e)
-    go (Structs d k es) x e =
-        let a = target S s p in
-        let same : a.start ≡ a.start + 1 - 1 = omega arith in
-        ap (λ y. Some (record { segment = a.segment; at = y; tag = 1; size = record { data_words = d; pointers = k }; count = element_count es })) same ∙ ap (λ o. Some (element_rows o)) (same_list (struct_list a d k (element_count es)) l e)
+    flat : (w : ℕ) (ns : List ℕ) → IsStored S s p (Flat w ns) → (0 < size_number (size_of w) → 6 ≤ size_number (size_of w)) → rows_in (target S s p) (Flat w ns) ≡ Some (element_rows (plain_list (target S s p) (size_of w) (length ns)))
+    flat zero ns x many = ap (rows 0 (record { data_words = 0; pointers = 0 }) (length ns)) (omega arith)
+    flat (suc n) ns x many = absurd (omega (arith, number_of_size (suc n) (flat_width S s p (suc n) ns x), flat_width S s p (suc n) ns x, many))
+
+    pointers : (ts : Trees) → IsStored S s p (Pointers ts) → (0 < 6 → 6 ≤ 6) → rows_in (target S s p) (Pointers ts) ≡ Some (element_rows (plain_list (target S s p) Pointer (count ts)))
+    pointers ts x many = ap (rows 0 (record { data_words = 0; pointers = 1 }) (count ts)) (omega arith)
+
+    structs : (d k : ℕ) (es : Elements) → IsStored S s p (Structs d k es) → (0 < 7 → 6 ≤ 7) → rows_in (target S s p) (Structs d k es) ≡ Some (element_rows (struct_list (target S s p) d k (element_count es)))
+    structs d k es x many = ap (rows 1 (record { data_words = d; pointers = k }) (element_count es)) (omega arith)
 
 -- A list whose elements are made structs becomes what is wanted.
 pub widens : (r : Result ExistingList ErrorKind) (Stands : Tree → Type 0) (l : ExistingList) (size wide : StructSize) (c : CallAt) → ((t : Tree) → IsList c.old.words c.segment c.at l t → Stands t) →

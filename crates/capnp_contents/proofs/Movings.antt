@@ -14,8 +14,7 @@ use Rattle.capnp_making.specs.Zeroed.{row}
 use Rattle.capnp_making.proofs.Zeros.{in_row}
 use Rattle.capnp_making.proofs.Extents.{once_held, times-first}
 use Rattle.capnp_contents.specs.Moved.{Move, new_places, fresh_pads, IsMoved, HasValueInside, CanMove, AreMoved, Moves, MovesSome}
-use Rattle.capnp_contents.proofs.Moves.{moved_kept}
-use Rattle.capnp_contents.proofs.Single.{old_pads_inside}
+use Rattle.capnp_contents.proofs.Single.{moved_kept, old_pads_inside}
 use Rattle.capnp_contents.proofs.NewObjects.{pads_from, old_pads, new_pads, own_pads}
 use Rattle.capnp_contents.proofs.Statements.{old_places, Extends, HaveValuesInside, AllMoved, a_move, row_moves}
 

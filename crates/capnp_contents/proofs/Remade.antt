@@ -1,28 +1,28 @@
 -- An object is remade, step by step: words are allocated and written, pointers are moved, the
 -- pointer is set, and the old object is zeroed.
-use Rattle.std.proofs.Common.{◌≡◌, inl, inr, ℕ, ◌+◌, ◌<◌, ◌≤◌, List, [], ◌∷◌, ◌++◌, length, refl, sym, ap, ap₂, ◌∙◌, subst, arith}
+use Rattle.std.proofs.Common.{List, [], ap, ap₂, arith, inl, inr, length, refl, subst, sym, ℕ, ◌++◌, ◌+◌, ◌<◌, ◌∙◌, ◌∷◌, ◌≡◌, ◌≤◌}
 use Rattle.std.proofs.lemmas.Bool.{cases_eq, cases_lt}
-use Rattle.capnp_format.specs.Segments.{Segments, segment, word_at, Target}
+use Rattle.capnp_format.specs.Segments.{Segments, Target, segment, word_at}
 use Rattle.capnp_format.specs.Means.{Leads}
-use Rattle.capnp_format.specs.Forest.{times, pads_of, object_of, target, target_in}
+use Rattle.capnp_format.specs.Forest.{object_of, pads_of, target, target_in, times}
 use Rattle.capnp_format.proofs.Frame.{leads_agree}
 use Rattle.capnp_arena_traits.specs.View.{View}
 use Rattle.capnp_arena_traits.specs.Written.{with_word}
 use Rattle.capnp_making.specs.Makes.{call_at}
-use Rattle.capnp_making.specs.Memory.{KeepsMemory, ComesAfter, TakesWords, start_of}
+use Rattle.capnp_making.specs.Memory.{ComesAfter, KeepsMemory, TakesWords, start_of}
 use Rattle.capnp_arena_traits.specs.declared.arena.WordPlace.{WordPlace}
 use Rattle.capnp_format.specs.Path.{word_interval}
-use Rattle.capnp_making.specs.Zeroed.{row, IsZeroed}
+use Rattle.capnp_making.specs.Zeroed.{IsZeroed, row}
 use Rattle.capnp_making.specs.Made.{IsGrown}
 use Rattle.capnp_making.proofs.Below.{split_row}
 use Rattle.capnp_making.proofs.Extents.{times-first}
-use Rattle.capnp_making.proofs.MadeWords.{IsPut, word_put, outside, once_row}
+use Rattle.capnp_making.proofs.MadeWords.{IsPut, once_row, outside, word_put}
 use Rattle.capnp_making.proofs.Zeros.{in_row, of_row}
-use Rattle.capnp_contents.specs.Moved.{Move, CanMove, AreMoved, Moves, MovesSome, Unmoves, new_places, fresh_pads}
+use Rattle.capnp_contents.specs.Moved.{AreMoved, CanMove, Move, Moves, MovesSome, Unmoves, fresh_pads, new_places}
 use Rattle.capnp_contents.specs.Anew.{OnlyWrites, StandsAnew, WritesAnew}
 use Rattle.capnp_contents.specs.Widened.{GrowsByZeros}
-use Rattle.capnp_contents.proofs.Movings.{SameMoves, StaysMoved, same_moves, moved_still, all_old_inside, fresh_pads-append, can_left, old_place_inside, unwritten, left_null}
-use Rattle.capnp_contents.proofs.NewObjects.{IsRehoused, old_pads, new_pads}
+use Rattle.capnp_contents.proofs.Movings.{SameMoves, StaysMoved, all_old_inside, can_left, fresh_pads-append, left_null, moved_still, old_place_inside, same_moves, unwritten}
+use Rattle.capnp_contents.proofs.NewObjects.{IsRehoused, new_pads, old_pads}
 use Rattle.capnp_contents.proofs.WrittenAnew.{pads_after, pads_before, written_later}
 use Rattle.capnp_contents.proofs.Statements.{AllMoved, IsSettled}
 
@@ -227,18 +227,18 @@ module _ (S T D P R Q : Segments) (u q : ℕ) (a : Target) (size : ℕ) (b : Tar
 
 -- The object is new, in the words allocated for it and its pads; its pointers are moved to where it
 -- starts.
-pub object_anew : (s t d p r q : View) (T : Segments) (u i : ℕ) (a : Target) (size : ℕ) (b : Target) (v at pads wide : ℕ) (moves : WordPlace → List Move) →
-    IsRemade s.words T d.words p.words r.words q.words u i a size b v at pads wide (moves (record { segment = v; at = at + pads })) → KeepsMemory s t → TakesWords s t u wide → ComesAfter s u wide (record { segment = v; at = at + pads }) → OnlyWrites t d →
+pub object_anew : (s t d p q : View) (T R : Segments) (u i : ℕ) (a : Target) (size : ℕ) (b : Target) (v at pads wide : ℕ) (moves : WordPlace → List Move) →
+    IsRemade s.words T d.words p.words R q.words u i a size b v at pads wide (moves (record { segment = v; at = at + pads })) → KeepsMemory s t → TakesWords s t u wide → ComesAfter s u wide (record { segment = v; at = at + pads }) → OnlyWrites t d →
     WritesAnew d p (moves (record { segment = v; at = at + pads })) → OnlyWrites p q → StandsAnew (call_at u i s q) wide (moves (start_of (target q.words u i)))
-object_anew s t d p r q T u i a size b v at pads wide moves h kept taken behind first w last =
+object_anew s t d p q T R u i a size b v at pads wide moves h kept taken behind first w last =
     let start : ℕ → ℕ → WordPlace = λ x y. record { segment = x; at = y } in
     let ms = moves (start v (at + pads)) in
     let written = w s.words h.begun.can in
-    let goes : target q.words u i ≡ b = ap target_in (leads_last s.words T d.words p.words r.words q.words u i a size b v at pads wide ms h).1 in
+    let goes : target q.words u i ≡ b = ap target_in (leads_last s.words T d.words p.words R q.words u i a size b v at pads wide ms h).1 in
     let there : start v (at + pads) ≡ start_of (target q.words u i) = ap₂ start (sym h.segment_of) (sym h.start_of) ∙ ap start_of (sym goes) in
     subst (λ (x : WordPlace). StandsAnew (call_at u i s q) wide (moves x)) there (record {
       behind = subst (λ (x : WordPlace). ComesAfter s u wide x) there behind;
-      forms = written_later s.words p.words q.words ms (new_last s.words T d.words p.words r.words q.words u i a size b v at pads wide ms h) written.0;
+      forms = written_later s.words p.words q.words ms (new_last s.words T d.words p.words R q.words u i a size b v at pads wide ms h) written.0;
       begun = t;
       kept = kept;
       object = taken;

@@ -1,5 +1,5 @@
--- Words of rows copied row after row.
-use Rattle.std.proofs.Common.{◌≡◌, inl, inr, ℕ, ◌+◌, ◌*◌, ◌<◌, ◌≤◌, [], ◌∷◌, length, refl, sym, ◌∙◌, subst, arith, ap}
+-- Words of rows copied row after row, and what new rows hold then.
+use Rattle.std.proofs.Common.{[], ap, arith, inl, inr, length, refl, subst, sym, zero, ℕ, ◌*◌, ◌+◌, ◌<◌, ◌∙◌, ◌∷◌, ◌≡◌, ◌≤◌}
 use Rattle.std.proofs.lemmas.Bool.{cases_eq}
 use Rattle.capnp_format.specs.Segments.{Segments, segment, word_at}
 use Rattle.capnp_format.specs.Means.{IsTag}
@@ -9,11 +9,12 @@ use Rattle.capnp_making.specs.Made.{IsGrown}
 use Rattle.capnp_making.specs.Zeroed.{row}
 use Rattle.capnp_making.proofs.Below.{split_row}
 use Rattle.capnp_making.proofs.BelowElements.{element_within, next_place}
-use Rattle.capnp_making.proofs.MadeWords.{outside}
 use Rattle.capnp_making.proofs.Zeros.{in_row, of_row}
-use Rattle.capnp_contents.specs.Housed.{AreWordsCopied}
-use Rattle.capnp_contents.specs.RowsRemade.{IsTagWritten}
-use Rattle.capnp_contents.proofs.ListRemade.{RowsCopied}
+use Rattle.capnp_contents.specs.declared.remaking.ElementRows.{ElementRows}
+use Rattle.capnp_contents.specs.declared.widening.Allocation.{Allocation}
+use Rattle.capnp_contents.specs.Housed.{AreWordsCopied, object_start}
+use Rattle.capnp_contents.specs.RowsRemade.{CopiesData, IsTagWritten, RowsInside}
+use Rattle.capnp_arena_traits.specs.declared.arena.WordPlace.{WordPlace}
 use Rattle.capnp_contents.proofs.Statements.{CopiedRows}
 
 pub no_words_copied : (S : Segments) (s p w v r z n : ℕ) → CopiedRows S S s p w v r z 0 n
@@ -57,24 +58,70 @@ rows_copied_next S M R s p w v r z d i n b apart narrow narrower l c =
     within : (x y : ℕ) → times (row v r ((i + 1) * z) ∷ []) x y ≡ 0 → x ≡ v → r ≤ y → y < r + (i + 1) * z → ⊥
     within x y e f g h = omega (arith, subst (λ u. times (row v r ((i + 1) * z) ∷ []) u y ≡ 0) f e, of_row v r ((i + 1) * z) y g h)
 
--- What new words after a tag hold: copies of rows of S, and zeros.
-pub data_copied : (S T B D : Segments) (s p d k n v at pads : ℕ) (size : StructSize) → IsGrown S T v at (pads + (1 + n * (size.data_words + size.pointers))) → IsTagWritten T B (record { segment = v; at = (at + pads) }) n size →
-    CopiedRows B D s p (d + k) v (at + pads + 1) (size.data_words + size.pointers) d n → p + n * (d + k) ≤ length (segment S s) → RowsCopied S D d k n s p v (at + pads + 1) size.data_words size.pointers
-data_copied S T B D s p d k n v at pads size g t c fits =
-    let z = size.data_words + size.pointers in
-    record {
-      data_there = λ i j l m. (let inside : p + i * (d + k) + j < length (segment S s) = omega (arith, fits, element_within (d + k) n i l) in
-          c.here i j l m
-          ∙ t.kept s (p + i * (d + k) + j) (outside v (at + pads) s (p + i * (d + k) + j) (λ e f. omega (arith, inside, g.behind, f, ap (λ u. length (segment S u)) e)))
-          ∙ g.kept s (p + i * (d + k) + j) inside);
-      zero = λ i j l m o. c.behind i j l m o ∙ t.kept v (at + pads + 1 + i * z + j) (outside v (at + pads) v (at + pads + 1 + i * z + j) (λ e f. omega (arith, f)))
-          ∙ g.zero v (at + pads + 1 + i * z + j) (omega (arith, g.behind));
-    }
+-- Where the first of some new rows starts, after a tag; and how many words they take.
+abbrev pub first_row : Allocation → ℕ → WordPlace
+first_row h tag = record { segment = h.segment; at = h.at + h.pads + tag }
 
-pub tag_copied : (T B D : Segments) (s p w d n v at z : ℕ) (size : StructSize) → IsTagWritten T B (record { segment = v; at = at }) n size → CopiedRows B D s p w v (at + 1) z d n → IsTag (word_at D v at) n size.data_words size.pointers
-tag_copied T B D s p w d n v at z size t c =
-    subst (λ x. IsTag x n size.data_words size.pointers) (sym (c.kept v at (beside_row v (at + 1) (n * z) v at (λ e f g. omega arith)))) t.tag
+abbrev pub rows_words : ℕ → ℕ → StructSize → ℕ
+rows_words tag n size = tag + n * (size.data_words + size.pointers)
 
-pub list_written : (T B D : Segments) (s p w d n v at z : ℕ) (size : StructSize) → IsTagWritten T B (record { segment = v; at = at }) n size → CopiedRows B D s p w v (at + 1) z d n →
-    (x y : ℕ) → times (row v at (1 + n * z) ∷ []) x y ≡ 0 → word_at D x y ≡ word_at T x y
-list_written T B D s p w d n v at z size t c x y e = c.kept x y (omega (arith, e, split_row v at 1 (n * z) x y)) ∙ t.kept x y (omega (arith, e, split_row v at 1 (n * z) x y))
+-- Words are allocated for n rows after a tag, and written; the new pointers are null.
+pub record RowsFilled (S T D : Segments) (tag n : ℕ) (size : StructSize) (h : Allocation) : Type 0 where
+  pub grown : IsGrown S T h.segment h.at (h.pads + rows_words tag n size)
+  pub segments : length D ≡ length T
+  pub words : (x : ℕ) → length (segment D x) ≡ length (segment T x)
+  pub written : (x y : ℕ) → times (row h.segment (h.at + h.pads) (rows_words tag n size) ∷ []) x y ≡ 0 → word_at D x y ≡ word_at T x y
+  pub empty : (i j : ℕ) → i < n → size.data_words ≤ j → j < size.data_words + size.pointers → word_at D h.segment (h.at + h.pads + tag + i * (size.data_words + size.pointers) + j) ≡ 0
+
+-- New rows hold the data of old ones, and zeros after it.
+pub record RowsCopied (S D : Segments) (old : ElementRows) (tag : ℕ) (size : StructSize) (h : Allocation) : Type 0 where
+  pub data_there : (i j : ℕ) → i < old.count → j < old.size.data_words →
+      word_at D h.segment (h.at + h.pads + tag + i * (size.data_words + size.pointers) + j) ≡ word_at S old.segment (old.at + old.tag + i * (old.size.data_words + old.size.pointers) + j)
+  pub zero : (i j : ℕ) → i < old.count → old.size.data_words ≤ j → j < size.data_words + size.pointers → word_at D h.segment (h.at + h.pads + tag + i * (size.data_words + size.pointers) + j) ≡ 0
+
+-- What is written into allocated words, from T to B, comes before the new rows: nothing, or a tag.
+pub record HeadWritten (T B : Segments) (tag : ℕ) (h : Allocation) : Type 0 where
+  pub segments : length B ≡ length T
+  pub words : (x : ℕ) → length (segment B x) ≡ length (segment T x)
+  pub kept : (x y : ℕ) → times (row h.segment (h.at + h.pads) tag ∷ []) x y ≡ 0 → word_at B x y ≡ word_at T x y
+
+pub no_head : (T : Segments) (h : Allocation) → HeadWritten T T 0 h
+no_head T h = record { segments = refl; words = λ x. refl; kept = λ x y e. refl }
+
+pub tag_head : (T B : Segments) (n : ℕ) (size : StructSize) (h : Allocation) → IsTagWritten T B (object_start h) n size → HeadWritten T B 1 h
+tag_head T B n size h t = record { segments = t.segments; words = t.words; kept = t.kept }
+
+module _ (S T B D : Segments) (old : ElementRows) (tag : ℕ) (size : StructSize) (h : Allocation) (inside : RowsInside S old) (grown : IsGrown S T h.segment h.at (h.pads + rows_words tag old.count size)) (head : HeadWritten T B tag h)
+    (c : CopiesData B D old (first_row h tag) size) where
+  -- The rows are copied after what comes before them.
+  pub rows_copied : RowsCopied S D old tag size h
+  rows_copied =
+      let v = h.segment in
+      let p = old.at + old.tag in
+      let w = old.size.data_words + old.size.pointers in
+      let z = size.data_words + size.pointers in
+      record {
+        data_there = λ i j l m. (let here : p + i * w + j < length (segment S old.segment) = omega (arith, inside, element_within w old.count i l) in
+            c.here i j l m
+            ∙ head.kept old.segment (p + i * w + j) (beside_row v (h.at + h.pads) tag old.segment (p + i * w + j) (λ e f g. omega (arith, here, grown.behind, f, ap (λ u. length (segment S u)) e)))
+            ∙ grown.kept old.segment (p + i * w + j) here);
+        zero = λ i j l m o. c.behind i j l m o ∙ head.kept v (h.at + h.pads + tag + i * z + j) (beside_row v (h.at + h.pads) tag v (h.at + h.pads + tag + i * z + j) (λ e f g. omega arith))
+            ∙ grown.zero v (h.at + h.pads + tag + i * z + j) (omega (arith, grown.behind));
+      }
+
+  pub rows_filled : old.size.data_words ≤ size.data_words → RowsFilled S T D tag old.count size h
+  rows_filled narrow =
+      let beside = λ (x y : ℕ). split_row h.segment (h.at + h.pads) tag (old.count * (size.data_words + size.pointers)) x y in
+      record {
+        grown = grown;
+        segments = c.segments ∙ head.segments;
+        words = λ x. c.words x ∙ head.words x;
+        written = λ x y e. c.kept x y (omega (arith, e, beside x y)) ∙ head.kept x y (omega (arith, e, beside x y));
+        empty = λ i j l m o. rows_copied.zero i j l (omega (arith, narrow)) o;
+      }
+
+pub tag_copied : (T B D : Segments) (old : ElementRows) (size : StructSize) (h : Allocation) → IsTagWritten T B (object_start h) old.count size → CopiesData B D old (first_row h 1) size →
+    IsTag (word_at D h.segment (h.at + h.pads)) old.count size.data_words size.pointers
+tag_copied T B D old size h t c =
+    let at = h.at + h.pads in
+    subst (λ x. IsTag x old.count size.data_words size.pointers) (sym (c.kept h.segment at (beside_row h.segment (at + 1) (old.count * (size.data_words + size.pointers)) h.segment at (λ e f g. omega arith)))) t.tag

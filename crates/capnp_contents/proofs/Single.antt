@@ -1,29 +1,68 @@
 -- One pointer is moved.
-use Rattle.std.proofs.Common.{◌≡◌, ◌≢◌, ◌⊎◌, inl, inr, ℕ, ◌+◌, ◌*◌, ◌%◌, ◌^◌, ◌<◌, ◌≤◌, cond, [], ◌∷◌, ◌++◌, List, length, Some, None, sym, ap, ◌∙◌, subst, le_of_eq, arith, eq-eqb, ne_eqb}
+use Rattle.std.proofs.Common.{List, None, Some, [], ap, arith, cond, eq-eqb, inl, inr, le_of_eq, le_trans, length, ne_eqb, refl, subst, sym, ℕ, ◌%◌, ◌*◌, ◌++◌, ◌+◌, ◌<◌, ◌^◌, ◌∙◌, ◌∷◌, ◌≡◌, ◌≢◌, ◌≤◌, ◌⊎◌}
 use Rattle.std.proofs.lemmas.Bool.{cases_eq}
 use Rattle.std.proofs.lemmas.List.{get_or_past}
-use Rattle.capnp_format.specs.Word.{kind, offset_bits, upper_half, is_double, far_position}
-use Rattle.capnp_format.specs.Segments.{Segments, Grows, segment, word_at, Target, offset_leads}
+use Rattle.capnp_format.specs.Word.{far_position, is_double, kind, offset_bits, upper_half}
+use Rattle.capnp_format.specs.Segments.{Grows, Segments, Target, offset_leads, segment, word_at}
 use Rattle.capnp_format.specs.Numbers.{words_for}
-use Rattle.capnp_format.specs.Tree.{Tree, Null, Capability, Struct, Flat, Pointers, Structs, count, element_count}
+use Rattle.capnp_format.specs.Tree.{Capability, Flat, Null, Pointers, Struct, Structs, Tree, count, element_count}
 use Rattle.capnp_format.specs.Means.{Leads, Means}
-use Rattle.capnp_format.specs.Forest.{Interval, times, pads_of, object_of, target, cover, cover_all, cover_elements}
+use Rattle.capnp_format.specs.Forest.{Interval, cover, cover_all, cover_elements, object_of, pads_of, target, times}
 use Rattle.capnp_format.proofs.Following.{offset_is}
-use Rattle.capnp_format.proofs.Frame.{Agree, times-append, frame, leads_agree}
+use Rattle.capnp_format.proofs.Frame.{Agree, frame, leads_agree, times-append}
 use Rattle.capnp_arena_traits.specs.Written.{with_word}
 use Rattle.capnp_format.specs.Path.{word_interval}
 use Rattle.capnp_making.specs.Made.{IsShape}
 use Rattle.capnp_making.specs.declared.making.Shape.{Shape}
-use Rattle.capnp_making.specs.declared.making.Shape.TheVariants.{Struct as StructShape, List as ListShape}
+use Rattle.capnp_making.specs.declared.making.Shape.TheVariants.{List as ListShape, Struct as StructShape}
 use Rattle.capnp_arena_traits.specs.declared.arena.WordPlace.{WordPlace}
 use Rattle.capnp_making.proofs.Extents.{once_held, times-first}
-use Rattle.capnp_making.proofs.MadeWords.{word_put, not_far, is_far, once_row}
-use Rattle.capnp_contents.specs.Moved.{SameObject, IsMoved, HasValueInside, fresh_pads, CanMove, AreMoved}
+use Rattle.capnp_making.proofs.MadeWords.{is_far, not_far, once_row, word_put}
+use Rattle.capnp_contents.specs.Moved.{AreMoved, CanMove, HasValueInside, IsMoved, SameObject, fresh_pads}
 use Rattle.capnp_contents.specs.Pointed.{PointsTo}
-use Rattle.capnp_contents.proofs.SameObjects.{near_leads, near_found}
-use Rattle.capnp_contents.proofs.Moves.{moved_far, moved_capability}
+use Rattle.capnp_contents.proofs.SameObjects.{copied_far_leads, near_found, near_leads}
 use Rattle.capnp_contents.proofs.NewObjects.{own_pads}
-use Rattle.capnp_contents.proofs.Statements.{Extends, IsPointed, points_at, a_move}
+use Rattle.capnp_contents.proofs.Statements.{Extends, IsPointed, SameStart, a_move, is_pointed}
+
+-- A far pointer is copied unchanged.
+pub moved_far : (S : Segments) (s p v r : ℕ) (a : Target) → Leads S s p a → kind (word_at S s p) ≡ 2 → word_at S v r ≡ word_at S s p → IsMoved S s p v r
+moved_far S s p v r a l far e = inr (a, a, l, copied_far_leads S s p v r a e far l, record { same_kind = refl; same_sizes = refl; capability = λ low. low; same_start = inl (refl, refl) })
+
+no_offset : (x : ℕ) → x % 2 ^ 32 ≡ 3 → (kind x ≡ 3) × (offset_bits x ≡ 0)
+no_offset x low = (omega arith, omega arith)
+
+-- A near capability is copied unchanged.
+pub moved_capability : (S : Segments) (s p v r : ℕ) (a : Target) → Leads S s p a → kind (word_at S s p) ≢ 2 → a.word % 2 ^ 32 ≡ 3 → word_at S v r ≡ word_at S s p → r < length (segment S v) → IsMoved S s p v r
+moved_capability S s p v r a l near low e place =
+    let n = near_found S s p a near l.1 in
+    let x = word_at S v r in
+    let same : x ≡ a.word = e ∙ sym n.0 in
+    let its : x % 2 ^ 32 ≡ 3 = ap (λ y. y % 2 ^ 32) same ∙ low in
+    let f = no_offset x its in
+    let there = near_leads S v r (r + 1) (λ z. l.0 (sym e ∙ z)) (λ z. omega (arith, f.0)) (omega arith) (inl (omega (arith, f.1), omega (arith, f.1))) in
+    inr (a, record { word = x; segment = v; start = r + 1; pads = 0 }, l, there, record { same_kind = ap kind same; same_sizes = ap upper_half same; capability = λ z. its; same_start = inr (inr low) })
+
+-- Later writes elsewhere leave a moved pointer moved.
+pub moved_kept : (S R : Segments) (s p v r : ℕ) → Grows S R → word_at R s p ≡ word_at S s p → word_at R v r ≡ word_at S v r → Agree S R (pads_of (word_at S s p)) → Agree S R (pads_of (word_at S v r)) → IsMoved S s p v r → IsMoved R s p v r
+moved_kept S R s p v r grows e f here there (inl (y, z)) = inl (e ∙ y, f ∙ z)
+moved_kept S R s p v r grows e f here there (inr (a, b, l, k, same)) =
+    inr (
+      a,
+      b,
+      leads_agree (record { grows = grows; same = e }) here l,
+      leads_agree (record { grows = grows; same = f }) there k,
+      record {
+        same_kind = same.same_kind;
+        same_sizes = same.same_sizes;
+        capability = same.capability;
+        same_start = start same.same_start;
+      },
+    )
+  where
+    start : SameStart S a b → SameStart R a b
+    start (inl same) = inl same
+    start (inr (inl (y, z, w))) = inr (inl (y, z, le_trans w (grows.words b.segment)))
+    start (inr (inr y)) = inr (inr y)
 
 -- A value inside B is also in each message R that extends B.
 pub stands_later : (B R : Segments) (s p : ℕ) → Extends B R → HasValueInside B s p → (t : Tree) × (n : ℕ) × (c : ℕ) × Means R n s p t c × (word_at R s p ≡ word_at B s p)
@@ -141,7 +180,10 @@ copied_moves B S R s p v r some other e c =
 pub near_moves : (B S R : Segments) (s p v r start : ℕ) (shape : Shape) (h at : WordPlace) → word_at S s p ≢ 0 → IsShape shape (word_at S s p) → offset_leads (length (segment S s)) p (offset_bits (word_at S s p)) ≡ Some start →
     h.segment ≡ s → h.at ≡ start → at.segment ≡ v → at.at ≡ r → PointsTo S R shape h at → CanMove B S (a_move s p v r ∷ []) → AreMoved S R (a_move s p v r ∷ [])
 near_moves B S R s p v r start shape h at some shaped goes hs ha vs rs points c =
-    let (b, w, kind_of, lies) = points_at points in
+    let b = points.object in
+    let w = is_pointed points in
+    let kind_of = points.is_shape in
+    let lies = points.starts in
     let x = word_at S s p in
     let here = place_there B S s p v r c in
     let w' : IsPointed S R v r b = subst (λ z. IsPointed S R z r b) vs (subst (λ z. IsPointed S R at.segment z b) rs w) in

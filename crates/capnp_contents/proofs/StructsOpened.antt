@@ -1,39 +1,43 @@
 -- Structs that are opened for writing.
-use Rattle.std.proofs.Common.{[], ◌≡◌, inl, Bool, true, false, ℕ, ◌+◌, ◌≤◌, max, List, length, Some, None, Ok, Err, refl, sym, ap, ap₂, ◌∙◌, subst, arith, IfOk, IfErr, Result}
+use Rattle.std.proofs.Common.{Bool, Err, IfErr, IfOk, List, None, Ok, Result, Some, [], ap, ap₂, arith, false, inl, length, max, refl, subst, sym, true, ℕ, ◌*◌, ◌+◌, ◌∙◌, ◌≡◌, ◌≤◌}
 use Rattle.std.proofs.lemmas.Grind.{common_steps}
 use Rattle.capnp_words.specs.declared.error.ErrorKind.{ErrorKind}
 use Rattle.capnp_words.specs.declared.error.ErrorKind.TheVariants.{AllocationFailed}
-use Rattle.capnp_format.specs.Segments.{Segments, segment, word_at, Target, IsPlace}
-use Rattle.capnp_format.specs.Tree.{Tree, Null, Capability, Struct, Flat, Pointers, Structs, Trees, count}
-use Rattle.capnp_format.specs.Means.{Means}
-use Rattle.capnp_format.specs.Forest.{target, target_in}
+use Rattle.capnp_format.specs.Segments.{IsPlace, Segments, word_at}
+use Rattle.capnp_format.specs.Tree.{Null, Struct, Tree, Trees, count}
+use Rattle.capnp_format.specs.Forest.{target}
 use Rattle.capnp_words.specs.declared.wire_pointer.StructSize.{StructSize}
 use Rattle.capnp_arena_traits.specs.View.{View}
 use Rattle.capnp_contents.specs.declared.existing.ExistingStruct.{ExistingStruct}
 use Rattle.capnp_arena_traits.specs.declared.arena.WordPlace.{WordPlace}
-use Rattle.capnp_contents.specs.Existing.{struct_in, IsStructInside}
-use Rattle.capnp_making.specs.Made.{zero_struct, words_of_zero, nulls, LeadsToStart}
-use Rattle.capnp_making.specs.Memory.{HasRoom, KeepsMemory, SpendsMemory, IsRefusedFor, RefusesWords, ComesAfter, TakesWords, start_of}
-use Rattle.capnp_making.specs.Stored.{IsStored, IsReplaced}
+use Rattle.capnp_contents.specs.Existing.{IsStructInside, struct_in}
+use Rattle.capnp_making.specs.Made.{LeadsToStart, nulls, words_of_zero, zero_struct}
+use Rattle.capnp_making.specs.Memory.{ComesAfter, HasRoom, IsRefusedFor, KeepsMemory, RefusesWords, SpendsMemory, TakesWords, start_of}
+use Rattle.capnp_making.specs.Stored.{IsReplaced, IsStored}
 use Rattle.capnp_making.proofs.Filling.{unchanged}
 use Rattle.capnp_making.proofs.FillingMade.{null_stored}
-use Rattle.capnp_making.proofs.Memory.{keeps_itself, spends_nothing, not_the_allocator, made_refused}
+use Rattle.capnp_making.proofs.Memory.{keeps_itself, made_refused, not_the_allocator, spends_nothing}
 use Rattle.capnp_making.proofs.Placed.{count-nulls}
 use Rattle.capnp_making.proofs.Replaced.{grown}
 use Rattle.capnp_making.specs.Makes.{call_at}
-use Rattle.capnp_contents.specs.Anew.{StandsAnew, MakesStructWider}
+use Rattle.capnp_contents.specs.Anew.{MakesStructWider, StandsAnew}
 use Rattle.capnp_contents.specs.Opening.{LeadsToOne, OpensStruct, struct_opened}
-use Rattle.capnp_contents.specs.Rooms.{direct_pointers, RefusesGrowth, RefusesToBecome, widened_words}
-use Rattle.capnp_contents.specs.Widened.{fill_words, fill_trees, GrowsByZeros, widened}
-use Rattle.capnp_contents.proofs.Filled.{already_wide, wide_words, wide_trees}
+use Rattle.capnp_contents.specs.Rooms.{GrowsByAtMost, RefusesGrowth, RefusesToBecome, direct_pointers, widened_words}
+use Rattle.capnp_contents.specs.Widened.{GrowsByZeros, fill_trees, fill_words, widened}
+use Rattle.capnp_contents.proofs.Filled.{already_wide, wide_trees, wide_words}
 use Rattle.capnp_contents.proofs.Listed.{same_tree}
 use Rattle.capnp_contents.proofs.Refusing.{growth_named}
 use Rattle.capnp_contents.proofs.Rooms.{all_words}
-use Rattle.capnp_contents.proofs.StructRooms.{no_struct}
-use Rattle.capnp_contents.proofs.StructSteps.{the_struct, same_struct}
-use Rattle.capnp_contents.proofs.Widenings.{length-fill_words, count-fill_trees}
+use Rattle.capnp_contents.proofs.StructSteps.{by_struct, same_struct, struct_inside, the_struct}
+use Rattle.capnp_contents.proofs.Widenings.{count-fill_trees, length-fill_words}
 use Rattle.capnp_contents.proofs.WrittenAnew.{writes_nothing}
-use Rattle.capnp_contents.proofs.Statements.{GrowsForStruct, LeadsToWiderStruct, LeavesAll, WidensStruct, WidensStructAnew, rewriting}
+
+-- What a refused call leaves.
+abbrev pub GrowsForStruct : Segments → Segments → ℕ → ℕ → StructSize → Type 0
+GrowsForStruct S R s p size = (ws : List ℕ) (ts : Trees) → IsStored S s p (Struct ws ts) → GrowsByAtMost S R (widened_words (widened size ws ts) + 1 + 2 * count ts)
+
+abbrev pub LeavesAll : (Tree → Type 0) → Segments → Segments → Type 0
+LeavesAll Stands S R = (t : Tree) → Stands t → GrowsByZeros S R
 
 -- A refusal that spends nothing.
 pub nothing_spent : (v : View) (k : ErrorKind) → (k ≡ AllocationFailed → ⊥) → SpendsMemory v v k
@@ -45,14 +49,6 @@ no_truth b x y = cc
 -- What was stored is still stored if only zeros are new.
 pub stands_grown : (S R : Segments) (s p : ℕ) (t : Tree) → IsStored S s p t → GrowsByZeros S R → IsReplaced S R s p t t
 stands_grown S R s p t stored g = grown S R s p t g.grows stored g.kept g.zero
-
--- The sections of a struct are inside their segment.
-struct_lies : (S : Segments) (s p : ℕ) (ws : List ℕ) (ts : Trees) → IsStored S s p (Struct ws ts) → IsStructInside S (the_struct S s p ws ts)
-struct_lies S s p ws ts stored = at_level stored.means.0 stored.means.1 stored.means.2
-  where
-    at_level : (n c : ℕ) → Means S n s p (Struct ws ts) c → IsStructInside S (the_struct S s p ws ts)
-    at_level n c (a, k, some, o, claim, words, all, g) =
-        subst (λ (b : Target). b.start + length ws + count ts ≤ length (segment S b.segment)) (sym (ap target_in o.leads_to.1)) (omega (arith, claim))
 
 -- A struct that is large enough.
 struct_wide_at : (v : View) (s p : ℕ) (ws : List ℕ) (ts : Trees) (e : ExistingStruct) (size : StructSize) → IsStored v.words s p (Struct ws ts) → the_struct v.words s p ws ts ≡ e →
@@ -66,7 +62,7 @@ struct_wide_at v s p ws ts e size stored is l m =
     ap₂ (λ vs us. struct_in (target v.words s p) (Struct vs us)) (wide_words size.data_words ws wide) (wide_trees size.pointers ts many) ∙ ap (λ x. Some x) is in
     record {
       replaced = already_wide v.words s p size.data_words size.pointers ws ts stored wide many;
-      leads = (found, subst (IsStructInside v.words) is (struct_lies v.words s p ws ts stored));
+      leads = (found, subst (IsStructInside v.words) is (struct_inside v.words s p ws ts stored));
       memory = keeps_itself v;
       unchanged = λ h. refl;
       anew = λ narrow. absurd (narrow (wide, many));
@@ -74,12 +70,8 @@ struct_wide_at v s p ws ts e size stored is l m =
 
 pub struct_wide : (v : View) (s p : ℕ) (t : Tree) (e : ExistingStruct) (size : StructSize) → IsStored v.words s p t → struct_in (target v.words s p) t ≡ Some e →
     size.data_words ≤ e.size.data_words → size.pointers ≤ e.size.pointers → OpensStruct LeadsToOne size (Ok e) (call_at s p v v) t
-struct_wide v s p Null e size stored found l m = absurd (no_struct e found)
-struct_wide v s p (Capability i) e size stored found l m = absurd (no_struct e found)
-struct_wide v s p (Struct ws ts) e size stored found l m = struct_wide_at v s p ws ts e size stored (same_struct _ e found) l m
-struct_wide v s p (Flat w ns) e size stored found l m = absurd (no_struct e found)
-struct_wide v s p (Pointers ts) e size stored found l m = absurd (no_struct e found)
-struct_wide v s p (Structs d q es) e size stored found l m = absurd (no_struct e found)
+struct_wide v s p t e size stored found l m =
+    by_struct v.words s p e (λ u. OpensStruct LeadsToOne size (Ok e) (call_at s p v v) u) (λ ws ts i. struct_wide_at v s p ws ts e size i.0 (same_struct _ e i.1) l m) t (stored, found)
 
 -- A struct at a place, with its numbers of data words and pointers.
 abbrev struct_at : ℕ → ℕ → ℕ → ℕ → ExistingStruct
@@ -89,18 +81,11 @@ same_place : (s p d q t r e k : ℕ) → s ≡ t → p ≡ r → d ≡ e → q �
 same_place s p d q t r e k a b c f = ap₂ (λ x y. struct_at x y d q) a b ∙ ap₂ (λ x y. struct_at t r x y) c f
 
 -- A struct that is widened.
-pub record Wider (a b : View) (s p : ℕ) (e f : ExistingStruct) (size : StructSize) : Type 0 where
-  pub widened : WidensStruct (IsStored a.words s p) size (rewriting s p a.words b.words)
-  pub leads : LeadsToWiderStruct (IsStored a.words s p) b.words s p f
-  pub memory : KeepsMemory a b
-  pub anew : WidensStructAnew (IsStored a.words s p) size (call_at s p a b)
-  pub narrow : size.data_words ≤ e.size.data_words → size.pointers ≤ e.size.pointers → ⊥
-
-struct_wider_at : (a b : View) (s p : ℕ) (ws : List ℕ) (ts : Trees) (e f : ExistingStruct) (size greater : StructSize) → IsStored a.words s p (Struct ws ts) → the_struct a.words s p ws ts ≡ e → Wider a b s p e f size →
+struct_wider_at : (a b : View) (s p : ℕ) (ws : List ℕ) (ts : Trees) (e f : ExistingStruct) (size greater : StructSize) → IsStored a.words s p (Struct ws ts) → the_struct a.words s p ws ts ≡ e → MakesStructWider (Ok f) (IsStored a.words s p) size (call_at s p a b) → (size.data_words ≤ e.size.data_words → size.pointers ≤ e.size.pointers → ⊥) →
     greater.data_words ≡ max e.size.data_words size.data_words → greater.pointers ≡ max e.size.pointers size.pointers →
     OpensStruct LeadsToOne size (Ok (struct_at f.segment f.start greater.data_words greater.pointers)) (call_at s p a b) (Struct ws ts)
-struct_wider_at a b s p ws ts e f size greater stored is w l m =
-    let made = w.widened ws ts stored in
+struct_wider_at a b s p ws ts e f size greater stored is w narrow l m =
+    let made = w.replaced ws ts stored in
     let leads = w.leads ws ts stored in
     let d : length ws ≡ e.size.data_words = ap (λ (x : ExistingStruct). x.size.data_words) is in
     let q : count ts ≡ e.size.pointers = ap (λ (x : ExistingStruct). x.size.pointers) is in
@@ -112,60 +97,49 @@ struct_wider_at a b s p ws ts e f size greater stored is w l m =
     same_place (target b.words s p).segment (target b.words s p).start (length vs) (count us) f.segment f.start greater.data_words greater.pointers (sym leads.0) (sym leads.1) words pointers in
     record {
       replaced = made;
-      leads = (ap (λ x. Some x) same, subst (IsStructInside b.words) same (struct_lies b.words s p vs us made.stored));
-      memory = w.memory;
-      unchanged = λ h. absurd (w.narrow (omega (arith, h.0, d)) (omega (arith, h.1, q)));
+      leads = (ap (λ x. Some x) same, subst (IsStructInside b.words) same (struct_inside b.words s p vs us made.stored));
+      memory = w.granted;
+      unchanged = λ h. absurd (narrow (omega (arith, h.0, d)) (omega (arith, h.1, q)));
       anew = λ h. w.anew ws ts stored;
     }
 
-pub struct_wider : (a b : View) (s p : ℕ) (t : Tree) (e f : ExistingStruct) (size greater : StructSize) → IsStored a.words s p t → struct_in (target a.words s p) t ≡ Some e → Wider a b s p e f size →
+pub struct_wider : (a b : View) (s p : ℕ) (t : Tree) (e f : ExistingStruct) (size greater : StructSize) → IsStored a.words s p t → struct_in (target a.words s p) t ≡ Some e → MakesStructWider (Ok f) (IsStored a.words s p) size (call_at s p a b) → (size.data_words ≤ e.size.data_words → size.pointers ≤ e.size.pointers → ⊥) →
     greater.data_words ≡ max e.size.data_words size.data_words → greater.pointers ≡ max e.size.pointers size.pointers →
     OpensStruct LeadsToOne size (Ok (struct_at f.segment f.start greater.data_words greater.pointers)) (call_at s p a b) t
-struct_wider a b s p Null e f size greater stored found w l m = absurd (no_struct e found)
-struct_wider a b s p (Capability i) e f size greater stored found w l m = absurd (no_struct e found)
-struct_wider a b s p (Struct ws ts) e f size greater stored found w l m = struct_wider_at a b s p ws ts e f size greater stored (same_struct _ e found) w l m
-struct_wider a b s p (Flat n ns) e f size greater stored found w l m = absurd (no_struct e found)
-struct_wider a b s p (Pointers ts) e f size greater stored found w l m = absurd (no_struct e found)
-struct_wider a b s p (Structs d q es) e f size greater stored found w l m = absurd (no_struct e found)
+struct_wider a b s p t e f size greater stored found w narrow l m =
+    by_struct a.words s p e (λ u. OpensStruct LeadsToOne size (Ok (struct_at f.segment f.start greater.data_words greater.pointers)) (call_at s p a b) u)
+    (λ ws ts i. struct_wider_at a b s p ws ts e f size greater i.0 (same_struct _ e i.1) w narrow l m) t (stored, found)
 
 -- Or there is no memory for it.
 pub struct_unwidened : (a b : View) (s p : ℕ) (e : ExistingStruct) (size : StructSize) (k : ErrorKind) → ((t : Tree) → IsStored a.words s p t → struct_in (target a.words s p) t ≡ Some e) → SpendsMemory a b k →
     RefusesGrowth a b (max e.size.data_words size.data_words + max e.size.pointers size.pointers) e.size.pointers k → RefusesToBecome (IsStored a.words s p) (struct_opened size) a b k
-struct_unwidened a b s p e size k known memory full = record { name = growth_named a b _ _ k full; memory = memory; full = λ t u stored opened. of_value t u (known t stored) opened }
-  where
-    of_value : (t u : Tree) → struct_in (target a.words s p) t ≡ Some e → struct_opened size t ≡ Ok u → RefusesGrowth a b (widened_words u) (direct_pointers t) k
-    of_value Null u found opened = absurd (no_struct e found)
-    of_value (Capability i) u found opened = absurd (no_struct e found)
-    of_value (Struct ws ts) u found opened =
-        let is = same_struct (the_struct a.words s p ws ts) e found in
-        let d : length ws ≡ e.size.data_words = ap (λ (x : ExistingStruct). x.size.data_words) is in
-        let q : count ts ≡ e.size.pointers = ap (λ (x : ExistingStruct). x.size.pointers) is in
-        let words : max e.size.data_words size.data_words + max e.size.pointers size.pointers ≡ widened_words (widened size ws ts) =
-        omega (arith, d, q, length-fill_words size.data_words ws, count-fill_trees size.pointers ts) in
-        subst (λ x. RefusesGrowth a b (widened_words x) (count ts) k) (same_tree (widened size ws ts) u opened)
-        (subst (λ n. RefusesGrowth a b n (count ts) k) words (subst (λ n. RefusesGrowth a b (max e.size.data_words size.data_words + max e.size.pointers size.pointers) n k) (sym q) full))
-    of_value (Flat n ns) u found opened = absurd (no_struct e found)
-    of_value (Pointers ts) u found opened = absurd (no_struct e found)
-    of_value (Structs d q es) u found opened = absurd (no_struct e found)
+struct_unwidened a b s p e size k known memory full = record {
+  name = growth_named a b _ _ k full;
+  memory = memory;
+  full = λ t u stored opened. by_struct a.words s p e (λ v. struct_opened size v ≡ Ok u → RefusesGrowth a b (widened_words u) (direct_pointers v) k) (λ ws ts i opens.
+      (let is = same_struct (the_struct a.words s p ws ts) e i.1 in
+      let d : length ws ≡ e.size.data_words = ap (λ (x : ExistingStruct). x.size.data_words) is in
+      let q : count ts ≡ e.size.pointers = ap (λ (x : ExistingStruct). x.size.pointers) is in
+      let words : max e.size.data_words size.data_words + max e.size.pointers size.pointers ≡ widened_words (widened size ws ts) =
+      omega (arith, d, q, length-fill_words size.data_words ws, count-fill_trees size.pointers ts) in
+      subst (λ x. RefusesGrowth a b (widened_words x) (count ts) k) (same_tree (widened size ws ts) u opens)
+      (subst (λ n. RefusesGrowth a b n (count ts) k) words (subst (λ n. RefusesGrowth a b (max e.size.data_words size.data_words + max e.size.pointers size.pointers) n k) (sym q) full)))) t (stored, known t stored) opened;
+}
 
 pub struct_kept : (a b : View) (s p : ℕ) (t : Tree) (e : ExistingStruct) (size : StructSize) (k : ErrorKind) → IsStored a.words s p t → struct_in (target a.words s p) t ≡ Some e →
     (size.data_words ≤ e.size.data_words → size.pointers ≤ e.size.pointers → ⊥) → LeavesAll (IsStored a.words s p) a.words b.words → RefusesToBecome (IsStored a.words s p) (struct_opened size) a b k → GrowsForStruct a.words b.words s p size → OpensStruct LeadsToOne size (Err k) (call_at s p a b) t
-struct_kept a b s p Null e size k stored found narrow leaves named few = absurd (no_struct e found)
-struct_kept a b s p (Capability i) e size k stored found narrow leaves named few = absurd (no_struct e found)
-struct_kept a b s p (Struct ws ts) e size k stored found narrow leaves named few =
-    let is = same_struct (the_struct a.words s p ws ts) e found in
+struct_kept a b s p t e size k stored found narrow leaves named few =
+    by_struct a.words s p e (λ u. OpensStruct LeadsToOne size (Err k) (call_at s p a b) u) (λ ws ts i.
+    (let is = same_struct (the_struct a.words s p ws ts) e i.1 in
     let d : length ws ≡ e.size.data_words = ap (λ (x : ExistingStruct). x.size.data_words) is in
     let q : count ts ≡ e.size.pointers = ap (λ (x : ExistingStruct). x.size.pointers) is in
     record {
-      stands = stands_grown a.words b.words s p (Struct ws ts) stored (leaves (Struct ws ts) stored);
+      stands = stands_grown a.words b.words s p (Struct ws ts) i.0 (leaves (Struct ws ts) i.0);
       narrow = λ h. narrow (omega (arith, h.0, d)) (omega (arith, h.1, q));
       memory = named.memory;
-      taken = few ws ts stored;
-      full = named.full (Struct ws ts) (widened size ws ts) stored refl;
-    }
-struct_kept a b s p (Flat n ns) e size k stored found narrow leaves named few = absurd (no_struct e found)
-struct_kept a b s p (Pointers ts) e size k stored found narrow leaves named few = absurd (no_struct e found)
-struct_kept a b s p (Structs d q es) e size k stored found narrow leaves named few = absurd (no_struct e found)
+      taken = few ws ts i.0;
+      full = named.full (Struct ws ts) (widened size ws ts) i.0 refl;
+    })) t (stored, found)
 
 -- A value that isn't a struct, and isn't null.
 pub some_struct : (e : ExistingStruct) → Some e ≡ None → ⊥
@@ -186,7 +160,7 @@ struct_made a b s p size h made memory taken behind leads =
     same_place (target b.words s p).segment (target b.words s p).start (length vs) (count us) h.segment h.at size.data_words size.pointers (sym leads.0) (sym leads.1) (zero_count size.data_words) (count-nulls size.pointers) in
     record {
       replaced = made;
-      leads = (ap (λ x. Some x) same, subst (IsStructInside b.words) same (struct_lies b.words s p vs us made.stored));
+      leads = (ap (λ x. Some x) same, subst (IsStructInside b.words) same (struct_inside b.words s p vs us made.stored));
       memory = memory;
       unchanged = λ h. absurd h;
       anew = λ narrow. subst (λ n. StandsAnew (call_at s p a b) n []) long (record {
@@ -218,6 +192,6 @@ pub known_opened : (a b : View) (s p : ℕ) (t : Tree) (old : ExistingStruct) (s
     IfOk r (λ e. (e.size.data_words ≡ max old.size.data_words size.data_words) × (e.size.pointers ≡ max old.size.pointers size.pointers)) →
     IfErr r (RefusesGrowth a b (max old.size.data_words size.data_words + max old.size.pointers size.pointers) old.size.pointers) → GrowsForStruct a.words b.words s p size → OpensStruct LeadsToOne size r (call_at s p a b) t
 known_opened a b s p t old size (Ok f) stored found known narrow w sizes full few =
-    struct_wider a b s p t old f size f.size stored found (record { widened = w.replaced; leads = w.leads; memory = w.granted; anew = w.anew; narrow = narrow }) sizes.0 sizes.1
+    struct_wider a b s p t old f size f.size stored found w narrow sizes.0 sizes.1
 known_opened a b s p t old size (Err k) stored found known narrow w sizes full few =
     struct_kept a b s p t old size k stored found narrow w.refused (struct_unwidened a b s p old size k known w.memory full) few

@@ -1,14 +1,20 @@
 -- Pointers rewritten one after the other, and the words that their landing pads take.
-use Rattle.std.proofs.Common.{◌≡◌, inl, inr, ℕ, suc, ◌+◌, ◌*◌, ◌<◌, ◌≤◌, max, List, [], ◌∷◌, ◌++◌, length, refl, sym, ap, ◌∙◌, subst, arith}
-use Rattle.capnp_format.specs.Segments.{Segments, segment, word_at}
+use Rattle.std.proofs.Common.{List, [], ap, arith, inl, inr, length, max, refl, subst, suc, sym, ℕ, ◌*◌, ◌++◌, ◌+◌, ◌<◌, ◌∙◌, ◌∷◌, ◌≡◌, ◌≤◌}
+use Rattle.capnp_format.specs.Segments.{Grows, Segments, segment, word_at}
 use Rattle.capnp_format.specs.Forest.{times}
-use Rattle.capnp_arena_traits.specs.View.{View}
+use Rattle.capnp_arena_traits.specs.View.{KeepsLimits, View}
+use Rattle.capnp_arena_traits.specs.declared.arena.WordPlace.{WordPlace}
+use Rattle.capnp_making.specs.declared.making.Shape.{Shape}
+use Rattle.capnp_making.proofs.Written.{same_grows}
+use Rattle.capnp_contents.specs.declared.widening.Allocation.{Allocation}
+use Rattle.capnp_contents.specs.Housed.{Settles}
+use Rattle.capnp_contents.proofs.Rooms.{all_words, same_words}
 use Rattle.capnp_making.specs.Makes.{call_at}
-use Rattle.capnp_making.specs.Memory.{KeepsMemory, IsNextRoom, Lengthens, TakesWords}
+use Rattle.capnp_making.specs.Memory.{IsNextRoom, KeepsMemory, Lengthens, TakesWords}
 use Rattle.capnp_making.proofs.Extents.{once_held}
 use Rattle.capnp_making.proofs.Memory.{keeps_both}
-use Rattle.capnp_contents.specs.Moved.{Move, new_places, Moves}
-use Rattle.capnp_contents.specs.Anew.{IsWrittenAnew, pad_words, OnlyWrites, AreWrittenAnew, TakesPadsInTurn, WritesAnew}
+use Rattle.capnp_contents.specs.Moved.{Move, Moves, new_places}
+use Rattle.capnp_contents.specs.Anew.{AreWrittenAnew, IsWrittenAnew, OnlyWrites, TakesPadsInTurn, WritesAnew, pad_words}
 use Rattle.capnp_contents.proofs.Movings.{can_left, can_right, new_places-append, row_next}
 use Rattle.capnp_contents.proofs.Rows.{rows_next}
 use Rattle.capnp_contents.proofs.Single.{place_there}
@@ -31,6 +37,16 @@ room_kept a b x j = ap (λ (v : View). v.room j) x.limits
 
 pub keeps_writes : (a b : View) → OnlyWrites a b → KeepsMemory a b
 keeps_writes a b x = subst (KeepsMemory a) (sym x.limits) (refl, λ k l. refl)
+
+pub writes_grow : {a b : View} → OnlyWrites a b → Grows a.words b.words
+writes_grow {a = a} {b = b} x = same_grows a.words b.words (record { segments = x.segments; words = x.words })
+
+pub writes_few : {a b : View} → OnlyWrites a b → all_words b.words ≡ all_words a.words
+writes_few {a = a} {b = b} x = same_words a.words b.words x.segments x.words
+
+-- The pointer is set to a new object, and the old one and its pads are zeroed.
+pub ended : (p r z q : View) {place : WordPlace} {h : Allocation} {shape : Shape} → Settles p.words r.words place h shape → KeepsLimits p r → OnlyWrites r z → OnlyWrites z q → OnlyWrites p q
+ended p r z q s limits zeroed cleared = writes_both p r q (record { limits = limits; segments = s.segments; words = s.words }) (writes_both r z q zeroed cleared)
 
 -- Words are allocated before a write, and after one.
 

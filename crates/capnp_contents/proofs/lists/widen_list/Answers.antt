@@ -12,7 +12,7 @@ use Rattle.capnp_contents.specs.Widened.{limited}
 use Rattle.capnp_contents.proofs.AnyList.{bits_refused}
 use Rattle.capnp_contents.proofs.Listed.{few_enough, too_many}
 use Rattle.capnp_contents.proofs.ListsBecome.{Widens, becomes, in_rows, unwidened, widens}
-use Rattle.capnp_contents.proofs.Unspent.{bits_spent, too_large_spent}
+use Rattle.capnp_contents.proofs.Refusing.{bits_spent, too_large_spent}
 use Rattle.capnp_contents.proofs.lists.widen_list.Goals as goal
 
 is_bit : (size : ElementSize) → size_number size ≡ 1 → size ≡ Bit

@@ -1,13 +1,11 @@
-use Rattle.std.proofs.Common.{◌≡◌, ℕ, ◌+◌, ◌*◌, ◌<◌, length, refl, ap, subst, le_antisymm, arith}
-use Rattle.capnp_format.specs.Numbers.{element_bits}
+use Rattle.std.proofs.Common.{ap, arith, le_antisymm, length, refl, subst, ℕ, ◌*◌, ◌+◌, ◌<◌, ◌≡◌}
 use Rattle.capnp_format.specs.Segments.{Segments, segment}
 use Rattle.capnp_words.specs.Sizes.{size_number}
-use Rattle.capnp_making.proofs.Memory.{words_in, limits_again, limits_written}
-use Rattle.capnp_contents.proofs.NumbersRead.{in_words}
-use Rattle.capnp_contents.proofs.NumberSteps.{no_numbers_copied, numbers_copied_next}
+use Rattle.capnp_making.proofs.Memory.{limits_again, limits_written, words_in}
+use Rattle.capnp_contents.proofs.NumberSteps.{first_numbers_of, in_words, no_numbers_copied, numbers_copied_next}
 use Rattle.capnp_contents.proofs.RowPlaces.{next_row, start_inside, step_fits}
 use Rattle.capnp_making.proofs.WordsInside.{first_place}
-use Rattle.capnp_contents.proofs.Statements.{CopiedNumbers, numbers_copied}
+use Rattle.capnp_contents.specs.RowsRemade.{AreNumbersCopied}
 use Rattle.capnp_contents.proofs.number_lists.copy_numbers.Goals as goal
 
 -- A row starts within the words of its segment, and the next one a step after it.
@@ -31,7 +29,7 @@ set_word-requires g c =
 pub loop-i-init : goal.loop-i-init
 loop-i-init g c =
     record {
-      copied = no_numbers_copied (g.A.BuilderArena.view c.args.arena.now).words c.args.old.segment c.args.old.start (element_bits (size_number c.args.old.size)) c.args.to.segment c.args.to.at c.args.step;
+      copied = no_numbers_copied (g.A.BuilderArena.view c.args.arena.now).words c.args.old (record { segment = c.args.to.segment; at = c.args.to.at; step = c.args.step });
       place_at = first_place c.args.to.at c.args.step;
       limits = refl;
     }
@@ -42,7 +40,6 @@ loop-i-preserved g c =
     let S : Segments = (g.A.BuilderArena.view c.args.arena.now).words in
     let M : Segments = (g.A.BuilderArena.view c.loop-i.arena).words in
     let R : Segments = (g.A.BuilderArena.view c.set_word.new.arena).words in
-    let width : ℕ = element_bits (size_number c.args.old.size) in
     let i : ℕ = c.loop-i.i in
     let inner = in_words (size_number c.args.old.size) i c.args.old.count c.requires.kind.0 c.requires.kind.1 c.loop-i-test.true in
     let inside : c.args.to.at + i * c.args.step < length (segment M c.args.to.segment) =
@@ -50,7 +47,7 @@ loop-i-preserved g c =
     c.requires.to c.requires.some
     c.loop-i-test.true refl (c.loop-i.invariant.copied.words c.args.to.segment) in
     record {
-      copied = numbers_copied_next S M R c.args.old.segment c.args.old.start width c.args.to.segment c.args.to.at c.args.step i c.number_at-number.result c.loop-i.invariant.copied (λ e. omega (arith, c.requires.apart e, inner)) c.requires.some inside
+      copied = numbers_copied_next S M R c.args.old (record { segment = c.args.to.segment; at = c.args.to.at; step = c.args.step }) i c.number_at-number.result c.loop-i.invariant.copied (λ e. omega (arith, c.requires.apart e, inner)) c.requires.some inside
           (rw c.loop-i.invariant.place_at at (ap words_in c.set_word.ensures)) c.number_at-number.ensures;
       place_at = next_row c.args.to.at c.args.step i c.loop-i.place c.loop-i.invariant.place_at;
       limits = limits_again (g.A.BuilderArena.view c.args.arena.now) (g.A.BuilderArena.view c.loop-i.arena)
@@ -62,6 +59,5 @@ loop-i-preserved g c =
 pub returns-clause-copied : goal.returns-clause-copied
 returns-clause-copied g c =
     let all : c.loop-i.i ≡ c.args.old.count = le_antisymm c.loop-i.auto.i-end c.loop-i-test.false in
-    numbers_copied (g.A.BuilderArena.view c.args.arena.now).words (g.A.BuilderArena.view c.loop-i.arena).words c.args.old (record { segment = c.args.to.segment; at = c.args.to.at; step = c.args.step })
-    (subst (λ n. CopiedNumbers (g.A.BuilderArena.view c.args.arena.now).words (g.A.BuilderArena.view c.loop-i.arena).words c.args.old.segment c.args.old.start (element_bits (size_number c.args.old.size)) c.args.to.segment c.args.to.at c.args.step n) all
-    c.loop-i.invariant.copied)
+    subst (λ n. AreNumbersCopied (g.A.BuilderArena.view c.args.arena.now).words (g.A.BuilderArena.view c.loop-i.arena).words (first_numbers_of c.args.old n) (record { segment = c.args.to.segment; at = c.args.to.at; step = c.args.step })) all
+    c.loop-i.invariant.copied

@@ -1,23 +1,23 @@
 use Rattle.std.proofs.lemmas.Result.{err_from_is_err_and}
-use Rattle.std.proofs.Common.{◌+◌, ◌*◌, ◌^◌, ◌∙◌, ◌<◌, ◌≤◌, ℕ, length, ap, sym, subst, le_of_eq}
-use Rattle.std.proofs.Common.{le_trans, lt_of_lt_of_le}
-use Rattle.capnp_arena_traits.specs.View.{View}
-use Rattle.capnp_format.specs.Segments.{Segments, segment}
+use Rattle.std.proofs.Common.{ap, arith, le_of_eq, le_trans, length, lt_of_lt_of_le, refl, subst, sym, ℕ, ◌*◌, ◌+◌, ◌<◌, ◌^◌, ◌∙◌, ◌≤◌}
+use Rattle.capnp_format.specs.Segments.{Grows, Segments, segment}
 use Rattle.capnp_format.proofs.Slices.{there}
 use Rattle.capnp_making.proofs.Memory.{keeps_both}
-use Rattle.capnp_contents.proofs.NumberLists.{NumbersMade, numbers_made, numbers_made_anew}
-use Rattle.capnp_contents.proofs.PadRooms.{no_pads}
 use Rattle.capnp_contents.proofs.Kept.{few_after}
-use Rattle.capnp_contents.proofs.Rooms.{same_words}
-use Rattle.capnp_contents.proofs.RowPlaces.{first_fits, near_or_behind, product_fits, rows_fit, some_total}
-use Rattle.capnp_contents.proofs.RowPlaces.{some_words, stands_before, tag_fits, tag_inside}
-use Rattle.capnp_contents.specs.Anew.{OnlyWrites}
+use Rattle.capnp_contents.proofs.RowPlaces.{first_fits, near_or_behind, product_fits, rows_fit, some_total, some_words, stands_before, tag_fits, tag_inside}
+use Rattle.capnp_contents.specs.Anew.{OnlyWrites, WritesAnew}
 use Rattle.capnp_contents.proofs.StructSteps.{nothing_grown}
 use Rattle.capnp_contents.proofs.TakingWords.{pruned_writes}
-use Rattle.capnp_contents.proofs.WrittenAnew.{keeps_writes, writes_both}
-use Rattle.capnp_contents.proofs.Statements.{copied_numbers, settled_room}
-use Rattle.capnp_contents.proofs.Growing.{grows_again, pruned_grows}
+use Rattle.capnp_contents.proofs.WrittenAnew.{ended, keeps_writes, writes_both, writes_few, writes_grow, writes_none}
+use Rattle.capnp_contents.proofs.Growing.{grows_again}
 use Rattle.capnp_making.proofs.Written.{same_grows}
+use Rattle.capnp_contents.proofs.ListSteps.{ListSteps}
+use Rattle.capnp_contents.proofs.Movings.{none_moved}
+use Rattle.capnp_contents.proofs.NumberSteps.{NumbersCopied, number_moves, number_rows, number_words, numbers_are, numbers_become, numbers_filled, numbers_tag}
+use Rattle.capnp_contents.proofs.RowSteps.{RowsTaken, rows_anew}
+use Rattle.capnp_contents.specs.Moved.{Moves}
+use Rattle.capnp_arena_traits.specs.View.{View}
+use Rattle.capnp_contents.proofs.PadRooms.{no_pads}
 use Rattle.capnp_contents.proofs.number_lists.widen_numbers_inside.Goals as goal
 
 -- The room is inside its segment, which has fewer than 2^29 words.
@@ -123,43 +123,64 @@ returns-in_err-room-clause-full g c =
 pub returns-in_err-room-clause-few : goal.returns-in_err-room-clause-few
 returns-in_err-room-clause-few g c = c.allocate_struct_list.ensures.room.few
 
-pub returns-clause-made : goal.returns-clause-made
-returns-clause-made g c =
+pub returns : goal.returns
+returns g c =
     let s : View = g.A.BuilderArena.view c.args.arena.now in
     let b : View = g.A.BuilderArena.view c.allocate_struct_list.new.arena in
     let d : View = g.A.BuilderArena.view c.copy_numbers.new.arena in
     let r : View = g.A.BuilderArena.view c.point_to_object.new.arena in
     let z : View = g.A.BuilderArena.view c.zero_if_inside.new.arena in
     let q : View = g.A.BuilderArena.view c.zero_pads.new.arena in
+    let old = c.args.old in
+    let size = c.args.size in
+    let h = c.in_ok-room.room in
+    let (two, five) = c.requires.kind in
     let (T, room, tagged) = c.in_ok-room.ensures.begun in
-    let (o, settled, shaped, segment_of, start_of) = settled_room c.point_to_object.ensures.settled in
     let first : OnlyWrites b d = record { limits = c.copy_numbers.ensures.limits; segments = c.copy_numbers.ensures.copied.segments; words = c.copy_numbers.ensures.copied.words } in
-    let set : OnlyWrites d r = record { limits = c.point_to_object.ensures.limits; segments = settled.segments; words = settled.words } in
-    let zeroed = pruned_writes r z c.zero_if_inside.ensures.limits c.zero_if_inside.ensures.pruned in
-    let cleared = pruned_writes z q c.zero_pads.ensures.limits c.zero_pads.ensures.pruned in
-    let last = writes_both d r q set (writes_both r z q zeroed cleared) in
-    let steps : NumbersMade s.words T b.words d.words r.words z.words q.words c.args.id c.args.at c.args.old c.args.size c.in_ok-room.room = record {
-      place = c.requires.place;
-      room = room;
+    let last : OnlyWrites d q = ended d r z q c.point_to_object.ensures.settled c.point_to_object.ensures.limits (pruned_writes r z c.zero_if_inside.ensures.limits c.zero_if_inside.ensures.pruned)
+    (pruned_writes z q c.zero_pads.ensures.limits c.zero_pads.ensures.pruned) in
+    let written : OnlyWrites b q = writes_both b d q first last in
+    let begun : Grows s.words b.words = grows_again s.words T b.words room.0.grows (same_grows T b.words (record { segments = tagged.segments; words = tagged.words })) in
+    let copied : NumbersCopied s.words T b.words d.words old size h = record {
+      grown = room.0;
       tagged = tagged;
-      copied = rw c.total.ensures at (copied_numbers c.copy_numbers.ensures.copied);
-      settled = rw c.total-2.ensures at (settled_room c.point_to_object.ensures.settled);
-      object_zeroed = rw c.words_of_numbers.ensures.value at c.zero_if_inside.ensures.zeroed;
-      pads_zeroed = rw c.pointer_word-pointer.ensures at c.zero_pads.ensures.zeroed;
+      copied = rw c.total.ensures at c.copy_numbers.ensures.copied;
+      some = c.requires.data;
+    } in
+    let none = number_moves old size h in
+    let steps : ListSteps s.words T d.words d.words r.words z.words q.words c.args.id c.args.at (number_rows old) (number_words old) size h = record {
+      steps = record {
+        place = c.requires.place;
+        filled = numbers_filled copied;
+        narrow = omega arith;
+        moves = subst (λ ms. Moves d.words d.words ms) none (none_moved d.words);
+        settled = rw c.total-2.ensures at c.point_to_object.ensures.settled;
+        object_zeroed = rw c.words_of_numbers.ensures.value at c.zero_if_inside.ensures.zeroed;
+        pads_zeroed = rw c.pointer_word-pointer.ensures at c.zero_pads.ensures.zeroed;
+      };
+      tag = numbers_tag copied;
+    } in
+    let taken : RowsTaken s b d d q c.args.id (number_rows old) 1 size h = record {
+      kept = c.in_ok-room.ensures.room.granted;
+      taken = c.in_ok-room.ensures.room.words;
+      behind = c.in_ok-room.ensures.room.behind;
+      first = first;
+      written = subst (λ ms. WritesAnew d d ms) none (writes_none d);
+      last = last;
     } in
     record {
-      remade = numbers_made s.words T b.words d.words r.words z.words q.words c.args.id c.args.at c.args.old c.args.size c.in_ok-room.room c.requires.kind.0 c.requires.kind.1 c.requires.data steps;
-      anew = numbers_made_anew s b d r z q T c.args.id c.args.at c.args.old c.args.size c.in_ok-room.room c.requires.kind.0 c.requires.kind.1 c.requires.data steps (record {
-        kept = c.in_ok-room.ensures.room.granted;
-        taken = c.in_ok-room.ensures.room.words;
-        behind = c.in_ok-room.ensures.room.behind;
-        first = first;
-        last = last;
-      });
-      granted = keeps_both s b q (le_trans room.0.grows.segments (le_of_eq (sym tagged.segments)))
-          c.in_ok-room.ensures.room.granted (keeps_writes b q (writes_both b d q first last));
-      memory = tt;
+      made = record {
+        remade = λ t x. numbers_become old size h t two five x copied steps;
+        anew = λ t x. rows_anew (numbers_are s.words c.args.id c.args.at old size t two five x) steps.steps taken;
+        granted = keeps_both s b q begun.segments c.in_ok-room.ensures.room.granted (keeps_writes b q written);
+        memory = tt;
+        refused = tt;
+      };
       refused = tt;
+      full = tt;
+      few = few_after _ _ _ _ c.allocate_struct_list.ensures.room.few (writes_few written);
+      grows = grows_again s.words b.words q.words begun (writes_grow written);
+      fits = λ room. refl;
     }
 
 pub returns-in_err-room-clause-made : goal.returns-in_err-room-clause-made
@@ -174,43 +195,9 @@ returns-in_err-room-clause-made g c =
       refused = λ t i. nothing_grown (g.A.BuilderArena.view c.args.arena.now).words (g.A.BuilderArena.view c.allocate_struct_list.new.arena).words e.refused;
     })
 
--- The words of the list are allocated, and at most one pad.
-pub returns-clause-few : goal.returns-clause-few
-returns-clause-few g c =
-    let B : Segments = (g.A.BuilderArena.view c.allocate_struct_list.new.arena).words in
-    let D : Segments = (g.A.BuilderArena.view c.copy_numbers.new.arena).words in
-    let R : Segments = (g.A.BuilderArena.view c.point_to_object.new.arena).words in
-    let Z : Segments = (g.A.BuilderArena.view c.zero_if_inside.new.arena).words in
-    let Q : Segments = (g.A.BuilderArena.view c.zero_pads.new.arena).words in
-    let (b, settled, shaped, segment_of, start_of) = settled_room c.point_to_object.ensures.settled in
-    let copied = same_words B D c.copy_numbers.ensures.copied.segments c.copy_numbers.ensures.copied.words in
-    let set = same_words D R settled.segments settled.words in
-    let zeroed = same_words R Z c.zero_if_inside.ensures.pruned.segments c.zero_if_inside.ensures.pruned.words in
-    let cleared = same_words Z Q c.zero_pads.ensures.pruned.segments c.zero_pads.ensures.pruned.words in
-    few_after _ _ _ _ c.allocate_struct_list.ensures.room.few (cleared ∙ zeroed ∙ set ∙ copied)
-
 pub returns-in_err-room-clause-fits : goal.returns-in_err-room-clause-fits
 returns-in_err-room-clause-fits g c =
     let p = err_from_is_err_and c.from_residual.result c.from_residual.ensures.1 in rw p.1 (λ h.
     (let v : View = g.A.BuilderArena.view c.args.arena.now in
     let n : ℕ = 1 + c.args.old.count * (c.args.size.data_words + c.args.size.pointers) in
     (c.in_err-room.ensures.room.fits c.args.id 0 (no_pads v c.args.id n c.args.id h)).0))
-
--- No segment becomes shorter.
-pub returns-clause-grows : goal.returns-clause-grows
-returns-clause-grows g c =
-    let S : Segments = (g.A.BuilderArena.view c.args.arena.now).words in
-    let B : Segments = (g.A.BuilderArena.view c.allocate_struct_list.new.arena).words in
-    let D : Segments = (g.A.BuilderArena.view c.copy_numbers.new.arena).words in
-    let R : Segments = (g.A.BuilderArena.view c.point_to_object.new.arena).words in
-    let Z : Segments = (g.A.BuilderArena.view c.zero_if_inside.new.arena).words in
-    let Q : Segments = (g.A.BuilderArena.view c.zero_pads.new.arena).words in
-    let (T, room, tagged) = c.in_ok-room.ensures.begun in
-    let (o, settled, shaped, segment_of, start_of) = settled_room c.point_to_object.ensures.settled in
-    let copied = c.copy_numbers.ensures.copied in
-    let tag = same_grows T B (record { segments = tagged.segments; words = tagged.words }) in
-    let copy = same_grows B D (record { segments = copied.segments; words = copied.words }) in
-    let set = same_grows D R (record { segments = settled.segments; words = settled.words }) in
-    let zeroed = grows_again R Z Q (pruned_grows c.zero_if_inside.ensures.pruned) (pruned_grows c.zero_pads.ensures.pruned) in
-    let written = grows_again B D Q copy (grows_again D R Q set zeroed) in
-    grows_again S T Q room.0.grows (grows_again T B Q tag written)

@@ -1,31 +1,28 @@
 use Rattle.std.proofs.lemmas.Result.{err_from_is_err_and}
-use Rattle.std.proofs.Common.{◌∙◌, ◌+◌, ◌<◌, ◌≤◌, ◌*◌, ◌^◌, inl, inr, ℕ, length, refl, ap, sym, subst}
-use Rattle.std.proofs.Common.{le_of_eq, le_trans, lt_of_lt_of_le, arith}
+use Rattle.std.proofs.Common.{ap, arith, inl, inr, le_of_eq, le_trans, length, lt_of_lt_of_le, refl, subst, sym, ℕ, ◌*◌, ◌+◌, ◌<◌, ◌^◌, ◌∙◌, ◌≤◌}
 use Rattle.std.proofs.Math.Nat.{mul-le-mul_left}
 use Rattle.std.proofs.lemmas.Bool.{cases_eq}
-use Rattle.capnp_arena_traits.specs.View.{View}
-use Rattle.capnp_format.specs.Segments.{Segments, segment}
+use Rattle.capnp_format.specs.Segments.{Grows, Segments, segment}
 use Rattle.capnp_format.proofs.Slices.{there}
 use Rattle.capnp_making.specs.Made.{structs_words}
 use Rattle.capnp_making.proofs.Memory.{keeps_both, keeps_then_spends, spends_then_limits, words_refused_after, words_refused_before}
-use Rattle.capnp_contents.proofs.AnyRows.{rows_anew, rows_remade, rows_left}
-use Rattle.capnp_contents.proofs.ListSteps.{ListSteps, ListUndone}
+use Rattle.capnp_contents.proofs.AnyRows.{are_rows, rows_become}
+use Rattle.capnp_contents.proofs.ListSteps.{ListSteps, old_words}
 use Rattle.capnp_contents.proofs.Kept.{few_after, few_again, few_at_most}
 use Rattle.capnp_contents.specs.Moved.{near_pointers}
 use Rattle.capnp_contents.specs.Rooms.{HasPadRoom}
 use Rattle.capnp_contents.specs.RowsRemade.{element_moves}
 use Rattle.capnp_contents.proofs.PadRooms.{near_rows_few, near_same_rows, none_elsewhere}
-use Rattle.capnp_contents.proofs.Rooms.{same_words}
-use Rattle.capnp_contents.proofs.RowPlaces.{first_fits, near_or_behind, product_fits, product_small, rows_fit}
-use Rattle.capnp_contents.proofs.RowPlaces.{rows_small, stands_before, sum_fits, sum_small, tag_fits}
-use Rattle.capnp_contents.proofs.RowPlaces.{tag_inside}
+use Rattle.capnp_contents.proofs.RowPlaces.{first_fits, near_or_behind, product_fits, product_small, rows_fit, rows_small, stands_before, sum_fits, sum_small, tag_fits, tag_inside}
 use Rattle.capnp_contents.proofs.StructSteps.{nothing_grown}
 use Rattle.capnp_contents.specs.Anew.{OnlyWrites}
 use Rattle.capnp_contents.proofs.TakingWords.{pruned_writes}
-use Rattle.capnp_contents.proofs.WrittenAnew.{keeps_writes, writes_both}
-use Rattle.capnp_contents.proofs.Statements.{settled_room}
-use Rattle.capnp_contents.proofs.Growing.{grows_again, pruned_grows}
+use Rattle.capnp_contents.proofs.WrittenAnew.{ended, keeps_writes, writes_few, writes_grow}
+use Rattle.capnp_contents.proofs.Growing.{grows_again}
 use Rattle.capnp_making.proofs.Written.{same_grows}
+use Rattle.capnp_contents.proofs.RowSteps.{RowsTaken, RowsUndone, rows_anew, rows_left}
+use Rattle.capnp_contents.proofs.RowsCopied.{rows_copied, rows_filled, tag_copied, tag_head}
+use Rattle.capnp_arena_traits.specs.View.{View}
 use Rattle.capnp_contents.proofs.remaking.widen_rows_inside.Goals as goal
 
 -- The room is inside its segment, which has fewer than 2^29 words.
@@ -137,97 +134,119 @@ zero_if_inside-requires g c = sum_small (rows_small c.args.old.at c.args.old.tag
     (g.met.A.BuilderArena.small c.args.arena.now c.args.old.segment))
     c.from.ensures c.from-in-Ok.ensures (c.from-step.ensures ∙ c.total-in-Ok.ensures)
 
-pub returns-in-Ok-clause-remakes : goal.returns-in-Ok-clause-remakes
-returns-in-Ok-clause-remakes g c = record {
-  made = (let s : View = g.A.BuilderArena.view c.args.arena.now in
-      let b : View = g.A.BuilderArena.view c.allocate_struct_list.new.arena in
-      let p : View = g.A.BuilderArena.view c.move_elements.new.arena in
-      let r : View = g.A.BuilderArena.view c.point_to_object.new.arena in
-      let z : View = g.A.BuilderArena.view c.zero_if_inside.new.arena in
-      let q : View = g.A.BuilderArena.view c.zero_pads.new.arena in
-      let (T, room, tagged) = c.in_ok-room.ensures.begun in
-      let filled = c.in-Ok.ensures.filled in
-      let d : View = filled.between in
-      let (o, settled, shaped, segment_of, start_of) = settled_room c.point_to_object.ensures.settled in
-      let set : OnlyWrites p r = record { limits = c.point_to_object.ensures.limits; segments = settled.segments; words = settled.words } in
-      let zeroed = pruned_writes r z c.zero_if_inside.ensures.limits c.zero_if_inside.ensures.pruned in
-      let cleared = pruned_writes z q c.zero_pads.ensures.limits c.zero_pads.ensures.pruned in
-      let last = writes_both p r q set (writes_both r z q zeroed cleared) in
-      let begun : length s.words ≤ length b.words = le_trans room.0.grows.segments
-      (le_of_eq (sym tagged.segments)) in
-      let steps : ListSteps s.words T b.words d.words p.words r.words z.words q.words c.args.id c.args.at c.args.old c.args.size c.in_ok-room.room = record {
+pub returns-in-Ok : goal.returns-in-Ok
+returns-in-Ok g c =
+    let s : View = g.A.BuilderArena.view c.args.arena.now in
+    let b : View = g.A.BuilderArena.view c.allocate_struct_list.new.arena in
+    let p : View = g.A.BuilderArena.view c.move_elements.new.arena in
+    let r : View = g.A.BuilderArena.view c.point_to_object.new.arena in
+    let z : View = g.A.BuilderArena.view c.zero_if_inside.new.arena in
+    let q : View = g.A.BuilderArena.view c.zero_pads.new.arena in
+    let old = c.args.old in
+    let size = c.args.size in
+    let h = c.in_ok-room.room in
+    let (T, room, tagged) = c.in_ok-room.ensures.begun in
+    let filled = c.in-Ok.ensures.filled in
+    let d : View = filled.between in
+    let head = tag_head T b.words old.count size h tagged in
+    let last : OnlyWrites p q = ended p r z q c.point_to_object.ensures.settled c.point_to_object.ensures.limits (pruned_writes r z c.zero_if_inside.ensures.limits c.zero_if_inside.ensures.pruned)
+    (pruned_writes z q c.zero_pads.ensures.limits c.zero_pads.ensures.pruned) in
+    let begun : Grows s.words b.words = grows_again s.words T b.words room.0.grows (same_grows T b.words (record { segments = tagged.segments; words = tagged.words })) in
+    let steps : ListSteps s.words T d.words p.words r.words z.words q.words c.args.id c.args.at old (old_words old) size h = record {
+      steps = record {
         place = c.requires.place;
-        room = room;
-        tagged = tagged;
-        copied = filled.copied;
+        filled = rows_filled s.words T b.words d.words old 1 size h c.requires.inside room.0 head filled.copied c.requires.wider.data_words;
+        narrow = c.requires.wider.pointers;
         moves = filled.moved;
-        settled = rw c.total.ensures at (settled_room c.point_to_object.ensures.settled);
+        settled = rw c.total.ensures at c.point_to_object.ensures.settled;
         object_zeroed = rw (c.from.ensures, c.from-in-Ok.ensures, c.from-step.ensures, c.total-in-Ok.ensures) at c.zero_if_inside.ensures.zeroed;
         pads_zeroed = rw c.pointer_word-pointer.ensures at c.zero_pads.ensures.zeroed;
-        wider = (c.requires.wider.data_words, c.requires.wider.pointers);
-      } in
-      record {
-        remade = rows_remade s.words T b.words d.words p.words r.words z.words q.words c.args.id c.args.at c.args.old c.args.size c.in_ok-room.room steps;
-        anew = rows_anew s b d p r z q T c.args.id c.args.at c.args.old c.args.size c.in_ok-room.room steps (record {
-          kept = c.in_ok-room.ensures.room.granted;
-          taken = c.in_ok-room.ensures.room.words;
-          behind = c.in_ok-room.ensures.room.behind;
-          first = filled.only;
-          written = filled.written;
-          last = last;
-        });
-        granted = keeps_both s p q (le_trans begun c.move_elements.ensures.longer.segments)
-            (keeps_both s b p begun c.in_ok-room.ensures.room.granted c.in-Ok.ensures.memory.granted)
-            (keeps_writes p q last);
-        memory = tt;
-        refused = tt;
-      });
-  few = (let P : Segments = (g.A.BuilderArena.view c.move_elements.new.arena).words in
-      let R : Segments = (g.A.BuilderArena.view c.point_to_object.new.arena).words in
-      let Z : Segments = (g.A.BuilderArena.view c.zero_if_inside.new.arena).words in
-      let Q : Segments = (g.A.BuilderArena.view c.zero_pads.new.arena).words in
-      let (b, settled, shaped, segment_of, start_of) = settled_room c.point_to_object.ensures.settled in
-      let set = same_words P R settled.segments settled.words in
-      let zeroed = same_words R Z c.zero_if_inside.ensures.pruned.segments c.zero_if_inside.ensures.pruned.words in
-      let cleared = same_words Z Q c.zero_pads.ensures.pruned.segments c.zero_pads.ensures.pruned.words in
-      few_after _ _ _ _ (few_again _ _ _ (structs_words c.args.old.count c.args.size + 1)
-      (2 * (c.args.old.count * c.args.old.size.pointers)) c.allocate_struct_list.ensures.room.few c.move_elements.ensures.few)
-      (cleared ∙ zeroed ∙ set));
-}
+      };
+      tag = tag_copied T b.words d.words old size h tagged filled.copied;
+    } in
+    let copied = rows_copied s.words T b.words d.words old 1 size h c.requires.inside room.0 head filled.copied in
+    let taken : RowsTaken s b d p q c.args.id old 1 size h = record {
+      kept = c.in_ok-room.ensures.room.granted;
+      taken = c.in_ok-room.ensures.room.words;
+      behind = c.in_ok-room.ensures.room.behind;
+      first = filled.only;
+      written = filled.written;
+      last = last;
+    } in
+    record {
+      remakes = record {
+        made = record {
+          remade = λ t x. rows_become t old size h x steps copied c.requires.wider.data_words;
+          anew = λ t x. rows_anew (are_rows s.words c.args.id c.args.at t old size x) steps.steps taken;
+          granted = keeps_both s p q (le_trans begun.segments c.move_elements.ensures.longer.segments)
+              (keeps_both s b p begun.segments c.in_ok-room.ensures.room.granted c.in-Ok.ensures.memory.granted) (keeps_writes p q last);
+          memory = tt;
+          refused = tt;
+        };
+        few = few_after _ _ _ _ (few_again _ _ _ (structs_words old.count size + 1) (2 * (old.count * old.size.pointers)) c.allocate_struct_list.ensures.room.few c.move_elements.ensures.few) (writes_few last);
+      };
+      full = tt;
+      grows = grows_again s.words b.words q.words begun (grows_again b.words p.words q.words c.move_elements.ensures.longer (writes_grow last));
+      fits = λ to room. refl;
+    }
 
-pub returns-in-Err-clause-remakes : goal.returns-in-Err-clause-remakes
-returns-in-Err-clause-remakes g c = record {
-  made = (let s : View = g.A.BuilderArena.view c.args.arena.now in
-      let b : View = g.A.BuilderArena.view c.allocate_struct_list.new.arena in
-      let u : View = g.A.BuilderArena.view c.move_elements.new.arena in
-      let z : View = g.A.BuilderArena.view c.zero_if_inside-in-Err.new.arena in
-      let k = c.in-Err.k in
-      let (T, room, tagged) = c.in_ok-room.ensures.begun in
-      let (D, P, copied, some, unmoves) = c.in-Err.ensures.undone in
-      let begun : length s.words ≤ length b.words = le_trans room.0.grows.segments
-      (le_of_eq (sym tagged.segments)) in
-      let steps : ListUndone s.words T b.words D P u.words z.words c.args.id c.args.old c.args.size c.in_ok-room.room = record {
-        room = room;
-        tagged = tagged;
-        copied = copied;
-        some = some;
-        unmoves = unmoves;
-        zeroed = rw (c.from-in-Err.ensures, c.total.ensures) at c.zero_if_inside-in-Err.ensures.zeroed;
-        wider = (c.requires.wider.data_words, c.requires.wider.pointers);
-      } in
-      record {
-        remade = tt;
-        anew = tt;
-        granted = tt;
-        memory = spends_then_limits s u z k (keeps_then_spends s b u k begun c.in_ok-room.ensures.room.granted c.in-Err.ensures.memory.refused) c.zero_if_inside-in-Err.ensures.limits;
-        refused = rows_left s.words T b.words D P u.words z.words c.args.id c.args.at c.args.old c.args.size c.in_ok-room.room steps;
-      });
-  few = (let U : Segments = (g.A.BuilderArena.view c.move_elements.new.arena).words in
-      let Z : Segments = (g.A.BuilderArena.view c.zero_if_inside-in-Err.new.arena).words in
-      few_after _ _ _ _ (few_again _ _ _ (structs_words c.args.old.count c.args.size + 1)
-      (2 * (c.args.old.count * c.args.old.size.pointers)) c.allocate_struct_list.ensures.room.few c.move_elements.ensures.few)
-      (same_words U Z c.zero_if_inside-in-Err.ensures.pruned.segments c.zero_if_inside-in-Err.ensures.pruned.words));
-}
+pub returns-in-Err : goal.returns-in-Err
+returns-in-Err g c =
+    let s : View = g.A.BuilderArena.view c.args.arena.now in
+    let b : View = g.A.BuilderArena.view c.allocate_struct_list.new.arena in
+    let u : View = g.A.BuilderArena.view c.move_elements.new.arena in
+    let z : View = g.A.BuilderArena.view c.zero_if_inside-in-Err.new.arena in
+    let k = c.in-Err.k in
+    let old = c.args.old in
+    let size = c.args.size in
+    let h = c.in_ok-room.room in
+    let (T, room, tagged) = c.in_ok-room.ensures.begun in
+    let (D, P, copied, part, unmoves) = c.in-Err.ensures.undone in
+    let (some, refused) = c.in-Err.ensures.full in
+    let back : OnlyWrites u z = pruned_writes u z c.zero_if_inside-in-Err.ensures.limits c.zero_if_inside-in-Err.ensures.pruned in
+    let begun : Grows s.words b.words = grows_again s.words T b.words room.0.grows (same_grows T b.words (record { segments = tagged.segments; words = tagged.words })) in
+    let steps : RowsUndone s.words T D P u.words z.words old 1 size h = record {
+      filled = rows_filled s.words T b.words D old 1 size h c.requires.inside room.0 (tag_head T b.words old.count size h tagged) copied c.requires.wider.data_words;
+      narrow = c.requires.wider.pointers;
+      some = part;
+      unmoves = unmoves;
+      zeroed = rw (c.from-in-Err.ensures, c.total.ensures) at c.zero_if_inside-in-Err.ensures.zeroed;
+    } in
+    record {
+      remakes = record {
+        made = record {
+          remade = tt;
+          anew = tt;
+          granted = tt;
+          memory = spends_then_limits s u z k (keeps_then_spends s b u k begun.segments c.in_ok-room.ensures.room.granted c.in-Err.ensures.memory.refused) c.zero_if_inside-in-Err.ensures.limits;
+          refused = λ t x. rows_left (are_rows s.words c.args.id c.args.at t old size x) steps;
+        };
+        few = few_after _ _ _ _ (few_again _ _ _ (structs_words old.count size + 1) (2 * (old.count * old.size.pointers)) c.allocate_struct_list.ensures.room.few c.move_elements.ensures.few) (writes_few back);
+      };
+      full = inr (some, words_refused_before s u z 1 k (words_refused_after s b u 1 k c.in_ok-room.ensures.room.granted refused) c.zero_if_inside-in-Err.ensures.limits c.zero_if_inside-in-Err.ensures.pruned);
+      grows = grows_again s.words b.words z.words begun (grows_again b.words u.words z.words c.move_elements.ensures.longer (writes_grow back));
+      fits = λ to enough.
+          (let k : ℕ = old.segment in
+          let v : ℕ = h.segment in
+          let w : ℕ = old.size.data_words + old.size.pointers in
+          let y : ℕ = size.data_words + size.pointers in
+          let p : ℕ = old.at + old.tag + old.size.data_words in
+          let r : ℕ = h.at + h.pads + 1 + size.data_words in
+          let n : ℕ = near_pointers s.words (element_moves old to size) in
+          let exists = there s.words k 0 (omega (arith, some, c.requires.inside)) in
+          let few : n ≤ structs_words old.count size = omega (
+            arith,
+            near_rows_few s.words k p w to.segment (to.at + size.data_words) y old.size.pointers old.count,
+            mul-le-mul_left old.count c.requires.wider.pointers,
+          ) in
+          elim (cases_eq k v) [
+            | inl here ↦ c.in-Err.ensures.near here
+            | inr other ↦ (let left = (c.in_ok-room.ensures.room.fits k n enough).1 exists (λ e. other (sym e)) few in
+                let same = near_same_rows s.words b.words k p w v r y to.segment (to.at + size.data_words) y old.size.pointers old.count (length (segment s.words k)) (omega (arith, c.requires.inside))
+                (λ x l. tagged.kept k x (none_elsewhere _ _ _ k x other) ∙ room.0.kept k x l) in
+                c.in-Err.ensures.fits other (subst (λ i. HasPadRoom b k i) (sym same) left))
+          ]);
+    }
 
 pub returns-in_err-room-clause-remakes : goal.returns-in_err-room-clause-remakes
 returns-in_err-room-clause-remakes g c = record {
@@ -248,76 +267,9 @@ pub returns-in_err-room-clause-full : goal.returns-in_err-room-clause-full
 returns-in_err-room-clause-full g c =
     let p = err_from_is_err_and c.from_residual.result c.from_residual.ensures.1 in rw (p.1, p.2) (inl (c.in_err-room.ensures.room.full, c.in_err-room.ensures.room.refused))
 
-pub returns-in-Err-clause-full : goal.returns-in-Err-clause-full
-returns-in-Err-clause-full g c =
-    let S : View = g.A.BuilderArena.view c.args.arena.now in
-    let B : View = g.A.BuilderArena.view c.allocate_struct_list.new.arena in
-    let U : View = g.A.BuilderArena.view c.move_elements.new.arena in
-    let Z : View = g.A.BuilderArena.view c.zero_if_inside-in-Err.new.arena in
-    let k = c.in-Err.k in
-    let (some, refused) = c.in-Err.ensures.full in
-    inr (some, words_refused_before S U Z 1 k (words_refused_after S B U 1 k c.in_ok-room.ensures.room.granted refused) c.zero_if_inside-in-Err.ensures.limits c.zero_if_inside-in-Err.ensures.pruned)
-
 -- If there is room for the list and for the landing pads that its pointers need, nothing is
 -- refused.
 pub returns-in_err-room-clause-fits : goal.returns-in_err-room-clause-fits
 returns-in_err-room-clause-fits g c =
     let p = err_from_is_err_and c.from_residual.result c.from_residual.ensures.1 in
     rw p.1 (λ to h. (c.in_err-room.ensures.room.fits c.args.old.segment _ h).0)
-
-pub returns-in-Err-clause-fits : goal.returns-in-Err-clause-fits
-returns-in-Err-clause-fits g c = λ to h.
-    (let S : View = g.A.BuilderArena.view c.args.arena.now in
-    let B : View = g.A.BuilderArena.view c.allocate_struct_list.new.arena in
-    let (T, room, tagged) = c.in_ok-room.ensures.begun in
-    let old = c.args.old in
-    let size = c.args.size in
-    let k : ℕ = old.segment in
-    let v : ℕ = c.in_ok-room.room.segment in
-    let w : ℕ = old.size.data_words + old.size.pointers in
-    let z : ℕ = size.data_words + size.pointers in
-    let p : ℕ = old.at + old.tag + old.size.data_words in
-    let r : ℕ = c.in_ok-room.room.at + c.in_ok-room.room.pads + 1 + size.data_words in
-    let n : ℕ = near_pointers S.words (element_moves old to size) in
-    let (some, refused) = c.in-Err.ensures.full in
-    let exists = there S.words k 0 (omega (arith, some, c.requires.inside)) in
-    let few : n ≤ structs_words old.count size = omega (
-      arith,
-      near_rows_few S.words k p w to.segment (to.at + size.data_words) z old.size.pointers old.count,
-      mul-le-mul_left old.count c.requires.wider.pointers,
-    ) in
-    elim (cases_eq k v) [
-      | inl here ↦ c.in-Err.ensures.near here
-      | inr other ↦ (let left = (c.in_ok-room.ensures.room.fits k n h).1 exists (λ e. other (sym e)) few in
-          let same = near_same_rows S.words B.words k p w v r z to.segment (to.at + size.data_words) z old.size.pointers old.count (length (segment S.words k)) (omega (arith, c.requires.inside))
-          (λ y l. tagged.kept k y (none_elsewhere _ _ _ k y other) ∙ room.0.kept k y l) in
-          c.in-Err.ensures.fits other (subst (λ i. HasPadRoom B k i) (sym same) left))
-    ])
-
--- No segment becomes shorter.
-pub returns-in-Ok-clause-grows : goal.returns-in-Ok-clause-grows
-returns-in-Ok-clause-grows g c =
-    let S : Segments = (g.A.BuilderArena.view c.args.arena.now).words in
-    let B : Segments = (g.A.BuilderArena.view c.allocate_struct_list.new.arena).words in
-    let P : Segments = (g.A.BuilderArena.view c.move_elements.new.arena).words in
-    let R : Segments = (g.A.BuilderArena.view c.point_to_object.new.arena).words in
-    let Z : Segments = (g.A.BuilderArena.view c.zero_if_inside.new.arena).words in
-    let Q : Segments = (g.A.BuilderArena.view c.zero_pads.new.arena).words in
-    let (T, room, tagged) = c.in_ok-room.ensures.begun in
-    let (o, settled, shaped, segment_of, start_of) = settled_room c.point_to_object.ensures.settled in
-    let tag = same_grows T B (record { segments = tagged.segments; words = tagged.words }) in
-    let set = same_grows P R (record { segments = settled.segments; words = settled.words }) in
-    let zeroed = grows_again R Z Q (pruned_grows c.zero_if_inside.ensures.pruned) (pruned_grows c.zero_pads.ensures.pruned) in
-    let filled = grows_again B P Q c.move_elements.ensures.longer (grows_again P R Q set zeroed) in
-    grows_again S T Q room.0.grows (grows_again T B Q tag filled)
-
-pub returns-in-Err-clause-grows : goal.returns-in-Err-clause-grows
-returns-in-Err-clause-grows g c =
-    let S : Segments = (g.A.BuilderArena.view c.args.arena.now).words in
-    let B : Segments = (g.A.BuilderArena.view c.allocate_struct_list.new.arena).words in
-    let U : Segments = (g.A.BuilderArena.view c.move_elements.new.arena).words in
-    let Z : Segments = (g.A.BuilderArena.view c.zero_if_inside-in-Err.new.arena).words in
-    let (T, room, tagged) = c.in_ok-room.ensures.begun in
-    let tag = same_grows T B (record { segments = tagged.segments; words = tagged.words }) in
-    let filled = grows_again B U Z c.move_elements.ensures.longer (pruned_grows c.zero_if_inside-in-Err.ensures.pruned) in
-    grows_again S T Z room.0.grows (grows_again T B Z tag filled)

@@ -9,8 +9,7 @@ use Rattle.capnp_making.proofs.Outcomes.{on_err_so, on_made_so, if_ok_so}
 use Rattle.capnp_contents.specs.Moved.{near_pointers}
 use Rattle.capnp_contents.specs.Rooms.{HasRoomAndPads}
 use Rattle.capnp_contents.proofs.Filled.{greater_size, same_wide}
-use Rattle.capnp_contents.proofs.StructRooms.{wider_words}
-use Rattle.capnp_contents.proofs.StructSteps.{the_struct, same_struct}
+use Rattle.capnp_contents.proofs.StructSteps.{same_struct, the_struct, wider_words}
 use Rattle.capnp_making.specs.Makes.{call_at}
 use Rattle.capnp_contents.specs.Anew.{BecomesAnew}
 use Rattle.capnp_contents.proofs.Statements.{row_moves}

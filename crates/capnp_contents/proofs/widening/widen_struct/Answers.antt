@@ -1,25 +1,28 @@
 use Rattle.std.proofs.lemmas.Result.{err_from_is_err_and}
-use Rattle.std.proofs.Common.{◌≡◌, inl, inr, ◌+◌, ◌*◌, ◌^◌, ◌<◌, ◌≤◌, ℕ, length, sym, ap, subst, ◌∙◌}
-use Rattle.std.proofs.Common.{le_of_eq, le_trans, lt_of_lt_of_le, arith}
+use Rattle.std.proofs.Common.{[], ap, arith, inl, inr, le_of_eq, le_trans, length, lt_of_lt_of_le, refl, subst, sym, ℕ, ◌*◌, ◌+◌, ◌<◌, ◌^◌, ◌∙◌, ◌∷◌, ◌≡◌, ◌≤◌}
 use Rattle.std.proofs.lemmas.Bool.{cases_eq}
-use Rattle.capnp_arena_traits.specs.View.{View}
-use Rattle.capnp_format.specs.Segments.{Segments, segment}
+use Rattle.capnp_format.specs.Segments.{Grows, Segments, segment}
 use Rattle.capnp_format.proofs.Slices.{there}
 use Rattle.capnp_arena_traits.specs.declared.arena.WordPlace.{WordPlace}
-use Rattle.capnp_making.proofs.Memory.{keeps_both, keeps_then_spends, keeps_written, spends_then_limits, words_refused_after, words_refused_before}
-use Rattle.capnp_contents.specs.Moved.{near_pointers}
+use Rattle.capnp_making.proofs.Memory.{keeps_both, keeps_then_spends, spends_then_limits, words_refused_after, words_refused_before}
+use Rattle.capnp_contents.specs.Moved.{Moves, MovesSome, Unmoves, near_pointers}
 use Rattle.capnp_contents.specs.Rooms.{HasPadRoom, HasRoomAndPads}
 use Rattle.capnp_contents.proofs.Kept.{few_after, few_again, few_at_most, few_before}
 use Rattle.capnp_contents.proofs.RowPlaces.{near_or_behind}
 use Rattle.capnp_contents.proofs.PadRooms.{near_row_few, near_same_row, none_elsewhere, pads_written}
-use Rattle.capnp_contents.proofs.Rooms.{same_words}
-use Rattle.capnp_contents.proofs.StructSteps.{StructSteps, struct_rehoused, struct_leads, struct_anew, StructUndone, struct_left, nothing_grown}
-use Rattle.capnp_contents.specs.Anew.{OnlyWrites}
+use Rattle.capnp_contents.proofs.StructSteps.{by_struct, nothing_grown, row_words, struct_becomes, struct_copied, struct_filled, struct_is, struct_moves, struct_row}
+use Rattle.capnp_contents.specs.Anew.{OnlyWrites, WritesAnew}
 use Rattle.capnp_contents.proofs.TakingWords.{pruned_writes}
-use Rattle.capnp_contents.proofs.WrittenAnew.{keeps_writes, writes_both}
-use Rattle.capnp_contents.proofs.Statements.{settled_room, row_moves}
-use Rattle.capnp_contents.proofs.Growing.{grows_again, pruned_grows}
-use Rattle.capnp_making.proofs.Written.{same_grows}
+use Rattle.capnp_contents.proofs.WrittenAnew.{ended, keeps_writes, writes_both, writes_few, writes_grow}
+use Rattle.capnp_contents.proofs.Statements.{row_moves}
+use Rattle.capnp_contents.proofs.Growing.{grows_again}
+use Rattle.capnp_contents.proofs.RowSteps.{RowSteps, RowsTaken, RowsUndone, rows_anew, rows_left}
+use Rattle.capnp_contents.specs.Housed.{object_start}
+use Rattle.capnp_contents.specs.Widened.{GrowsByZeros}
+use Rattle.capnp_making.specs.Memory.{ComesAfter, TakesWords}
+use Rattle.capnp_making.specs.Zeroed.{IsZeroed, row}
+use Rattle.capnp_making.specs.declared.making.Shape.TheVariants.{Struct as StructShape}
+use Rattle.capnp_arena_traits.specs.View.{View}
 use Rattle.capnp_contents.proofs.widening.widen_struct.Goals as goal
 
 data_inside : (start d q : ℕ) {length : ℕ} → start + d + q ≤ length → start + d ≤ length
@@ -155,8 +158,8 @@ zero_if_inside-requires g c =
     (g.met.A.BuilderArena.within c.args.arena.now c.args.old.segment)
     (g.met.A.BuilderArena.small c.args.arena.now c.args.old.segment))
 
-pub returns-in-Ok-clause-wider : goal.returns-in-Ok-clause-wider
-returns-in-Ok-clause-wider g c =
+pub returns-in-Ok : goal.returns-in-Ok
+returns-in-Ok g c =
     let s : View = g.A.BuilderArena.view c.args.arena.now in
     let t : View = g.A.BuilderArena.view c.allocate_object.new.arena in
     let d : View = g.A.BuilderArena.view c.copy_words.new.arena in
@@ -164,46 +167,54 @@ returns-in-Ok-clause-wider g c =
     let r : View = g.A.BuilderArena.view c.point_to_object.new.arena in
     let z : View = g.A.BuilderArena.view c.zero_if_inside.new.arena in
     let q : View = g.A.BuilderArena.view c.zero_pads.new.arena in
-    let (b, settled, shaped, segment_of, start_of) = settled_room c.point_to_object.ensures.settled in
-    let (grown, near) = c.in_ok-room.ensures.taken in
+    let old = c.args.old in
+    let size = c.args.size in
+    let h = c.in_ok-room.room in
     let moves = c.in-Ok.ensures.moves in
-    let first : OnlyWrites t d = record { limits = c.copy_words.ensures.limits; segments = c.copy_words.ensures.copied.segments; words = c.copy_words.ensures.copied.words } in
-    let set : OnlyWrites p r = record { limits = c.point_to_object.ensures.limits; segments = settled.segments; words = settled.words } in
-    let zeroed = pruned_writes r z c.zero_if_inside.ensures.limits c.zero_if_inside.ensures.pruned in
-    let cleared = pruned_writes z q c.zero_pads.ensures.limits c.zero_pads.ensures.pruned in
-    let last = writes_both p r q set (writes_both r z q zeroed cleared) in
-    let copied : length s.words ≤ length d.words = le_trans grown.grows.segments
-    (le_of_eq (sym first.segments)) in
-    let kept = keeps_both s t d grown.grows.segments c.in_ok-room.ensures.room.granted (keeps_writes t d first) in
-    let steps : StructSteps s.words t.words d.words p.words r.words z.words q.words c.args.id c.args.at c.args.old c.args.size c.in_ok-room.room = record {
+    let allocated = rw c.total.ensures at c.in_ok-room.ensures.taken in
+    let copied = rw (c.data_place.ensures, c.data_place-2.ensures, c.from.ensures) at c.copy_words.ensures.copied in
+    let first : OnlyWrites t d = record { limits = c.copy_words.ensures.limits; segments = copied.segments; words = copied.words } in
+    let last : OnlyWrites p q = ended p r z q c.point_to_object.ensures.settled c.point_to_object.ensures.limits (pruned_writes r z c.zero_if_inside.ensures.limits c.zero_if_inside.ensures.pruned)
+    (pruned_writes z q c.zero_pads.ensures.limits c.zero_pads.ensures.pruned) in
+    let begun : Grows s.words d.words = grows_again s.words t.words d.words allocated.0.grows (writes_grow first) in
+    let steps : RowSteps s.words t.words d.words p.words r.words z.words q.words c.args.id c.args.at (struct_row old) (old.size.data_words + old.size.pointers) 0 size h (StructShape size) = record {
       place = c.requires.place;
-      room = rw c.total.ensures at c.in_ok-room.ensures.taken;
-      copied = rw (c.data_place.ensures, c.data_place-2.ensures, c.from.ensures) at c.copy_words.ensures.copied;
-      moves = rw (c.pointers_place-from.ensures, c.pointers_place-to.ensures, c.from-count.ensures) at moves.moved;
-      settled = settled_room c.point_to_object.ensures.settled;
+      filled = struct_filled s.words t.words d.words c.args.id old size h c.requires.inside allocated copied c.requires.data;
+      narrow = c.requires.pointers;
+      moves = subst (λ ms. Moves d.words p.words ms) (struct_moves old size h) (rw (c.pointers_place-from.ensures, c.pointers_place-to.ensures, c.from-count.ensures) at moves.moved);
+      settled = c.point_to_object.ensures.settled;
       object_zeroed = rw (c.from-in-Ok.ensures ∙ c.total-in-Ok.ensures) at c.zero_if_inside.ensures.zeroed;
       pads_zeroed = rw c.pointer_word-pointer.ensures at c.zero_pads.ensures.zeroed;
-      wider = (c.requires.data, c.requires.pointers);
     } in
+    let taken : RowsTaken s t d p q c.args.id (struct_row old) 0 size h = record {
+      kept = c.in_ok-room.ensures.room.granted;
+      taken = subst (λ n. TakesWords s t c.args.id n) (row_words size) (rw c.total.ensures at c.in_ok-room.ensures.room.words);
+      behind = subst (λ n. ComesAfter s c.args.id n (object_start h)) (row_words size) (rw c.total.ensures at c.in_ok-room.ensures.room.behind);
+      first = first;
+      written = subst (λ ms. WritesAnew d p ms) (struct_moves old size h) (rw (c.pointers_place-from.ensures, c.pointers_place-to.ensures, c.from-count.ensures) at moves.written);
+      last = last;
+    } in
+    let wide = struct_becomes old size c.requires.data c.requires.pointers steps (struct_copied s.words t.words d.words c.args.id old size h c.requires.inside allocated copied c.requires.data) in
     record {
-      replaced = struct_rehoused s.words t.words d.words p.words r.words z.words q.words c.args.id c.args.at c.args.old c.args.size c.in_ok-room.room steps;
-      leads = struct_leads s.words t.words d.words p.words r.words z.words q.words c.args.id c.args.at c.args.old c.args.size c.in_ok-room.room steps;
-      anew = struct_anew s t d p r z q c.args.id c.args.at c.args.old c.args.size c.in_ok-room.room steps (record {
-        kept = c.in_ok-room.ensures.room.granted;
-        taken = rw c.total.ensures at c.in_ok-room.ensures.room.words;
-        behind = rw c.total.ensures at c.in_ok-room.ensures.room.behind;
-        first = first;
-        written = rw (c.pointers_place-from.ensures, c.pointers_place-to.ensures, c.from-count.ensures) at moves.written;
-        last = last;
-      });
-      granted = keeps_both s p q (le_trans copied moves.longer.segments)
-          (keeps_both s d p copied kept moves.granted) (keeps_writes p q last);
-      memory = tt;
-      refused = tt;
+      wider = record {
+        replaced = λ ws ts i. (wide ws ts i).replaced;
+        leads = λ ws ts i. (let w = wide ws ts i in (w.segment_of, w.start_of, w.inside));
+        anew = λ ws ts i. rows_anew (struct_is old size c.requires.data c.requires.pointers ws ts i) steps taken;
+        granted = keeps_both s p q (le_trans begun.segments moves.longer.segments)
+            (keeps_both s d p begun.segments (keeps_both s t d allocated.0.grows.segments c.in_ok-room.ensures.room.granted (keeps_writes t d first)) moves.granted) (keeps_writes p q last);
+        memory = tt;
+        refused = tt;
+      };
+      size = refl;
+      full = tt;
+      few = few_after _ _ _ _ (few_again _ _ _ (size.data_words + size.pointers + 1) (2 * old.size.pointers) (rw c.total.ensures at c.allocate_object.ensures.room.few)
+          (few_before _ (writes_few first) (rw c.from-count.ensures at c.transfer_row.ensures.moves.few))) (writes_few last);
+      grows = grows_again s.words d.words q.words begun (grows_again d.words p.words q.words moves.longer (writes_grow last));
+      fits = λ to room. refl;
     }
 
-pub returns-in-Err-clause-wider : goal.returns-in-Err-clause-wider
-returns-in-Err-clause-wider g c =
+pub returns-in-Err : goal.returns-in-Err
+returns-in-Err g c =
     let s : View = g.A.BuilderArena.view c.args.arena.now in
     let t : View = g.A.BuilderArena.view c.allocate_object.new.arena in
     let d : View = g.A.BuilderArena.view c.copy_words.new.arena in
@@ -211,26 +222,60 @@ returns-in-Err-clause-wider g c =
     let u : View = g.A.BuilderArena.view c.zero_pads_of_row.new.arena in
     let z : View = g.A.BuilderArena.view c.zero_if_inside-in-Err.new.arena in
     let k = c.in-Err.k in
-    let (grown, near) = c.in_ok-room.ensures.taken in
+    let old = c.args.old in
+    let size = c.args.size in
+    let h = c.in_ok-room.room in
     let moves = c.in-Err.ensures.moves in
-    let copied : length s.words ≤ length d.words =
-    le_trans grown.grows.segments (le_of_eq (sym c.copy_words.ensures.copied.segments)) in
-    let kept = keeps_both s t d grown.grows.segments c.in_ok-room.ensures.room.granted (keeps_written t d d.words c.copy_words.ensures.limits) in
-    let steps : StructUndone s.words t.words d.words p.words u.words z.words c.args.id c.args.old c.args.size c.in_ok-room.room = record {
-      room = rw c.total.ensures at c.in_ok-room.ensures.taken;
-      copied = rw (c.data_place.ensures, c.data_place-2.ensures, c.from.ensures) at c.copy_words.ensures.copied;
-      some = rw (c.pointers_place-from.ensures, c.pointers_place-to.ensures, c.from-count.ensures) at moves.some;
-      unmoves = rw (c.pointers_place-from.ensures, c.pointers_place-to.ensures, c.from-count.ensures) at c.zero_pads_of_row.ensures.zeroed;
-      zeroed = rw (c.from-in-Err.ensures ∙ c.total-in-Err.ensures) at c.zero_if_inside-in-Err.ensures.zeroed;
-      wider = (c.requires.data, c.requires.pointers);
+    let (more, refused) = moves.full in
+    let allocated = rw c.total.ensures at c.in_ok-room.ensures.taken in
+    let copied = rw (c.data_place.ensures, c.data_place-2.ensures, c.from.ensures) at c.copy_words.ensures.copied in
+    let first : OnlyWrites t d = record { limits = c.copy_words.ensures.limits; segments = copied.segments; words = copied.words } in
+    let back : OnlyWrites p z = writes_both p u z (pruned_writes p u c.zero_pads_of_row.ensures.limits c.zero_pads_of_row.ensures.pruned)
+    (pruned_writes u z c.zero_if_inside-in-Err.ensures.limits c.zero_if_inside-in-Err.ensures.pruned) in
+    let begun : Grows s.words d.words = grows_again s.words t.words d.words allocated.0.grows (writes_grow first) in
+    let kept = keeps_both s t d allocated.0.grows.segments c.in_ok-room.ensures.room.granted (keeps_writes t d first) in
+    let undone = words_refused_before s p u 1 k (words_refused_after s d p 1 k kept refused) c.zero_pads_of_row.ensures.limits c.zero_pads_of_row.ensures.pruned in
+    let steps : RowsUndone s.words t.words d.words p.words u.words z.words (struct_row old) 0 size h = record {
+      filled = struct_filled s.words t.words d.words c.args.id old size h c.requires.inside allocated copied c.requires.data;
+      narrow = c.requires.pointers;
+      some = subst (λ ms. MovesSome d.words p.words ms) (struct_moves old size h) (rw (c.pointers_place-from.ensures, c.pointers_place-to.ensures, c.from-count.ensures) at moves.some);
+      unmoves = subst (λ ms. Unmoves p.words u.words ms) (struct_moves old size h) (rw (c.pointers_place-from.ensures, c.pointers_place-to.ensures, c.from-count.ensures) at c.zero_pads_of_row.ensures.zeroed);
+      zeroed = subst (λ n. h.at + h.pads + n ≤ length (segment u.words h.segment) → IsZeroed u.words z.words (row h.segment (h.at + h.pads) n ∷ [])) (row_words size)
+          (rw (c.from-in-Err.ensures ∙ c.total-in-Err.ensures) at c.zero_if_inside-in-Err.ensures.zeroed);
     } in
     record {
-      replaced = tt;
-      leads = tt;
-      anew = tt;
-      granted = tt;
-      memory = spends_then_limits s u z k (spends_then_limits s p u k (keeps_then_spends s d p k copied kept moves.memory) c.zero_pads_of_row.ensures.limits) c.zero_if_inside-in-Err.ensures.limits;
-      refused = struct_left s.words t.words d.words p.words u.words z.words c.args.id c.args.at c.args.old c.args.size c.in_ok-room.room steps;
+      wider = record {
+        replaced = tt;
+        leads = tt;
+        anew = tt;
+        granted = tt;
+        memory = spends_then_limits s u z k (spends_then_limits s p u k (keeps_then_spends s d p k begun.segments kept moves.memory) c.zero_pads_of_row.ensures.limits) c.zero_if_inside-in-Err.ensures.limits;
+        refused = by_struct s.words c.args.id c.args.at old (λ t. GrowsByZeros s.words z.words) (λ ws ts i. rows_left (struct_is old size c.requires.data c.requires.pointers ws ts i) steps);
+      };
+      size = tt;
+      full = inr (rw c.from-count.ensures at more, words_refused_before s u z 1 k undone c.zero_if_inside-in-Err.ensures.limits c.zero_if_inside-in-Err.ensures.pruned);
+      few = few_after _ _ _ _ (few_again _ _ _ (size.data_words + size.pointers + 1) (2 * old.size.pointers) (rw c.total.ensures at c.allocate_object.ensures.room.few)
+          (few_before _ (writes_few first) (rw c.from-count.ensures at c.transfer_row.ensures.moves.few))) (writes_few back);
+      grows = grows_again s.words d.words z.words begun (grows_again d.words p.words z.words moves.longer (writes_grow back));
+      fits = λ to room.
+          (let k : ℕ = old.segment in
+          let v : ℕ = h.segment in
+          let p : ℕ = old.start + old.size.data_words in
+          let r : ℕ = h.at + h.pads + size.data_words in
+          let n : ℕ = near_pointers s.words (row_moves k p to.segment to.at old.size.pointers) in
+          let some : 0 < old.size.pointers = rw c.from-count.ensures at more in
+          let exists = there s.words k p (omega (arith, some, c.requires.inside)) in
+          let few : n ≤ c.total.result = omega (arith, near_row_few s.words k p to.segment to.at old.size.pointers, c.requires.pointers, c.total.ensures) in
+          elim (cases_eq k v) [
+            | inl here ↦ c.in-Err.ensures.near (ap (λ (x : WordPlace). x.segment) c.pointers_place-from.ensures ∙ (here ∙ sym (ap (λ (x : WordPlace). x.segment) c.pointers_place-to.ensures)))
+            | inr other ↦ (let moved = rw (c.pointers_place-from.ensures, c.pointers_place-to.ensures, c.from-count.ensures) at c.in-Err.ensures.apart in
+                let left = (c.in_ok-room.ensures.room.fits k n (subst (λ m. HasRoomAndPads s c.args.id m k n) (sym c.total.ensures) room)).1 exists (λ e. other (sym e)) few in
+                let pads = pads_written t d k n first left in
+                let same = near_same_row s.words d.words k p v r to.segment to.at old.size.pointers
+                (λ y l. copied.kept k y (none_elsewhere v _ _ k y other) ∙ allocated.0.kept k y (lt_of_lt_of_le l c.requires.inside)) in
+                let e : n ≡ near_pointers d.words (row_moves k p v r old.size.pointers) + 0 = omega (arith, same) in
+                ((moved other).fits 0 (subst (λ i. HasPadRoom d k i) e pads)).0)
+          ]);
     }
 
 pub returns-in_err-room-clause-wider : goal.returns-in_err-room-clause-wider
@@ -250,55 +295,6 @@ pub returns-in_err-room-clause-full : goal.returns-in_err-room-clause-full
 returns-in_err-room-clause-full g c =
     let p = err_from_is_err_and c.from_residual.result c.from_residual.ensures.1 in rw (p.1, p.2) (inl (rw c.total.ensures at c.in_err-room.ensures.room.full, c.in_err-room.ensures.room.refused))
 
-pub returns-in-Err-clause-full : goal.returns-in-Err-clause-full
-returns-in-Err-clause-full g c =
-    let old : View = g.A.BuilderArena.view c.args.arena.now in
-    let T : View = g.A.BuilderArena.view c.allocate_object.new.arena in
-    let D : View = g.A.BuilderArena.view c.copy_words.new.arena in
-    let P : View = g.A.BuilderArena.view c.transfer_row.new.arena in
-    let U : View = g.A.BuilderArena.view c.zero_pads_of_row.new.arena in
-    let Z : View = g.A.BuilderArena.view c.zero_if_inside-in-Err.new.arena in
-    let k = c.in-Err.k in
-    let (some, refused) = c.in-Err.ensures.moves.full in
-    let (grown, near) = c.in_ok-room.ensures.taken in
-    let keeps = keeps_both old T D grown.grows.segments c.in_ok-room.ensures.room.granted (keeps_written T D D.words c.copy_words.ensures.limits) in
-    let undone = words_refused_before old P U 1 k (words_refused_after old D P 1 k keeps refused) c.zero_pads_of_row.ensures.limits c.zero_pads_of_row.ensures.pruned in
-    inr (rw c.from-count.ensures at some, words_refused_before old U Z 1 k undone c.zero_if_inside-in-Err.ensures.limits c.zero_if_inside-in-Err.ensures.pruned)
-
--- Words are allocated for the struct, and then at most two for a pointer.
-pub returns-in-Ok-clause-few : goal.returns-in-Ok-clause-few
-returns-in-Ok-clause-few g c =
-    let T : Segments = (g.A.BuilderArena.view c.allocate_object.new.arena).words in
-    let D : Segments = (g.A.BuilderArena.view c.copy_words.new.arena).words in
-    let P : Segments = (g.A.BuilderArena.view c.transfer_row.new.arena).words in
-    let R : Segments = (g.A.BuilderArena.view c.point_to_object.new.arena).words in
-    let Z : Segments = (g.A.BuilderArena.view c.zero_if_inside.new.arena).words in
-    let Q : Segments = (g.A.BuilderArena.view c.zero_pads.new.arena).words in
-    let (b, settled, shaped, segment_of, start_of) = settled_room c.point_to_object.ensures.settled in
-    let taken = rw c.total.ensures at c.allocate_object.ensures.room.few in
-    let moved = rw c.from-count.ensures at c.transfer_row.ensures.moves.few in
-    let copied = same_words T D c.copy_words.ensures.copied.segments c.copy_words.ensures.copied.words in
-    let set = same_words P R settled.segments settled.words in
-    let zeroed = same_words R Z c.zero_if_inside.ensures.pruned.segments c.zero_if_inside.ensures.pruned.words in
-    let cleared = same_words Z Q c.zero_pads.ensures.pruned.segments c.zero_pads.ensures.pruned.words in
-    few_after _ _ _ _ (few_again _ _ _ (c.args.size.data_words + c.args.size.pointers + 1)
-    (2 * c.args.old.size.pointers) taken (few_before _ copied moved)) (cleared ∙ zeroed ∙ set)
-
-pub returns-in-Err-clause-few : goal.returns-in-Err-clause-few
-returns-in-Err-clause-few g c =
-    let T : Segments = (g.A.BuilderArena.view c.allocate_object.new.arena).words in
-    let D : Segments = (g.A.BuilderArena.view c.copy_words.new.arena).words in
-    let P : Segments = (g.A.BuilderArena.view c.transfer_row.new.arena).words in
-    let U : Segments = (g.A.BuilderArena.view c.zero_pads_of_row.new.arena).words in
-    let Z : Segments = (g.A.BuilderArena.view c.zero_if_inside-in-Err.new.arena).words in
-    let taken = rw c.total.ensures at c.allocate_object.ensures.room.few in
-    let moved = rw c.from-count.ensures at c.transfer_row.ensures.moves.few in
-    let copied = same_words T D c.copy_words.ensures.copied.segments c.copy_words.ensures.copied.words in
-    let undone = same_words P U c.zero_pads_of_row.ensures.pruned.segments c.zero_pads_of_row.ensures.pruned.words in
-    let zeroed = same_words U Z c.zero_if_inside-in-Err.ensures.pruned.segments c.zero_if_inside-in-Err.ensures.pruned.words in
-    few_after _ _ _ _ (few_again _ _ _ (c.args.size.data_words + c.args.size.pointers + 1)
-    (2 * c.args.old.size.pointers) taken (few_before _ copied moved)) (zeroed ∙ undone)
-
 pub returns-in_err-room-clause-few : goal.returns-in_err-room-clause-few
 returns-in_err-room-clause-few g c = let taken = rw c.total.ensures at c.allocate_object.ensures.room.few in few_at_most _ _
     (c.args.size.data_words + c.args.size.pointers + 1) _ taken
@@ -312,63 +308,3 @@ returns-in_err-room-clause-fits g c =
     (let old = c.args.old in
     let n : ℕ = near_pointers v.words (row_moves old.segment (old.start + old.size.data_words) to.segment to.at old.size.pointers) in
     (c.in_err-room.ensures.room.fits old.segment n (subst (λ m. HasRoomAndPads v c.args.id m old.segment n) (sym c.total.ensures) h)).0))
-
-pub returns-in-Err-clause-fits : goal.returns-in-Err-clause-fits
-returns-in-Err-clause-fits g c = λ to h.
-    (let S : View = g.A.BuilderArena.view c.args.arena.now in
-    let T : View = g.A.BuilderArena.view c.allocate_object.new.arena in
-    let D : View = g.A.BuilderArena.view c.copy_words.new.arena in
-    let (grown, near) = c.in_ok-room.ensures.taken in
-    let copied = rw (c.data_place.ensures, c.data_place-2.ensures, c.from.ensures) at c.copy_words.ensures.copied in
-    let old = c.args.old in
-    let k : ℕ = old.segment in
-    let v : ℕ = c.in_ok-room.room.segment in
-    let p : ℕ = old.start + old.size.data_words in
-    let r : ℕ = c.in_ok-room.room.at + c.in_ok-room.room.pads + c.args.size.data_words in
-    let n : ℕ = near_pointers S.words (row_moves k p to.segment to.at old.size.pointers) in
-    let (more, refused) = c.in-Err.ensures.moves.full in
-    let some : 0 < old.size.pointers = rw c.from-count.ensures at more in
-    let exists = there S.words k p (omega (arith, some, c.requires.inside)) in
-    let few : n ≤ c.total.result = omega (arith, near_row_few S.words k p to.segment to.at old.size.pointers, c.requires.pointers, c.total.ensures) in
-    elim (cases_eq k v) [
-      | inl here ↦ c.in-Err.ensures.near (ap (λ (x : WordPlace). x.segment) c.pointers_place-from.ensures ∙ (here ∙ sym (ap (λ (x : WordPlace). x.segment) c.pointers_place-to.ensures)))
-      | inr other ↦ (let moved = rw (c.pointers_place-from.ensures, c.pointers_place-to.ensures, c.from-count.ensures) at c.in-Err.ensures.apart in
-          let left = (c.in_ok-room.ensures.room.fits k n (subst (λ m. HasRoomAndPads S c.args.id m k n) (sym c.total.ensures) h)).1 exists (λ e. other (sym e)) few in
-          let first = pads_written T D k n (record { limits = c.copy_words.ensures.limits; segments = copied.segments; words = copied.words }) left in
-          let same = near_same_row S.words D.words k p v r to.segment to.at old.size.pointers
-          (λ y l. copied.kept k y (none_elsewhere v _ _ k y other) ∙ grown.kept k y (lt_of_lt_of_le l c.requires.inside)) in
-          let e : n ≡ near_pointers D.words (row_moves k p v r old.size.pointers) + 0 = omega (arith, same) in
-          ((moved other).fits 0 (subst (λ i. HasPadRoom D k i) e first)).0)
-    ])
-
--- No segment becomes shorter.
-pub returns-in-Ok-clause-grows : goal.returns-in-Ok-clause-grows
-returns-in-Ok-clause-grows g c =
-    let S : Segments = (g.A.BuilderArena.view c.args.arena.now).words in
-    let T : Segments = (g.A.BuilderArena.view c.allocate_object.new.arena).words in
-    let D : Segments = (g.A.BuilderArena.view c.copy_words.new.arena).words in
-    let P : Segments = (g.A.BuilderArena.view c.transfer_row.new.arena).words in
-    let R : Segments = (g.A.BuilderArena.view c.point_to_object.new.arena).words in
-    let Z : Segments = (g.A.BuilderArena.view c.zero_if_inside.new.arena).words in
-    let Q : Segments = (g.A.BuilderArena.view c.zero_pads.new.arena).words in
-    let (b, settled, shaped, segment_of, start_of) = settled_room c.point_to_object.ensures.settled in
-    let copied = c.copy_words.ensures.copied in
-    let copy = same_grows T D (record { segments = copied.segments; words = copied.words }) in
-    let set = same_grows P R (record { segments = settled.segments; words = settled.words }) in
-    let zeroed = grows_again R Z Q (pruned_grows c.zero_if_inside.ensures.pruned) (pruned_grows c.zero_pads.ensures.pruned) in
-    let moved = grows_again D P Q c.in-Ok.ensures.moves.longer (grows_again P R Q set zeroed) in
-    grows_again S T Q c.in_ok-room.ensures.taken.0.grows (grows_again T D Q copy moved)
-
-pub returns-in-Err-clause-grows : goal.returns-in-Err-clause-grows
-returns-in-Err-clause-grows g c =
-    let S : Segments = (g.A.BuilderArena.view c.args.arena.now).words in
-    let T : Segments = (g.A.BuilderArena.view c.allocate_object.new.arena).words in
-    let D : Segments = (g.A.BuilderArena.view c.copy_words.new.arena).words in
-    let P : Segments = (g.A.BuilderArena.view c.transfer_row.new.arena).words in
-    let U : Segments = (g.A.BuilderArena.view c.zero_pads_of_row.new.arena).words in
-    let Z : Segments = (g.A.BuilderArena.view c.zero_if_inside-in-Err.new.arena).words in
-    let copied = c.copy_words.ensures.copied in
-    let copy = same_grows T D (record { segments = copied.segments; words = copied.words }) in
-    let undone = grows_again P U Z (pruned_grows c.zero_pads_of_row.ensures.pruned) (pruned_grows c.zero_if_inside-in-Err.ensures.pruned) in
-    let moved = grows_again D P Z c.in-Err.ensures.moves.longer undone in
-    grows_again S T Z c.in_ok-room.ensures.taken.0.grows (grows_again T D Z copy moved)
