@@ -76,7 +76,7 @@ pub fn list_or<'a, T: Element + ?Sized, M: Meter>(
 }
 
 /// A null pointer of a message that was checked.
-fn null<'a>() -> Pointer<'a, Typed> {
+fn null_pointer<'a>() -> Pointer<'a, Typed> {
     Pointer {
         raw: PointerReader::new_default(),
         meter: Typed::NEW,
@@ -85,12 +85,12 @@ fn null<'a>() -> Pointer<'a, Typed> {
 
 /// The struct of a constant: a message of one segment.
 pub fn constant_struct<T: From<Struct<'static, Typed>> + fmt::Debug>(words: &'static [u8]) -> T {
-    Typed::give(struct_or(null(), words))
+    Typed::give(struct_or(null_pointer(), words))
 }
 
 /// The list of a constant: a message of one segment.
 pub fn constant_list<T: Element + ?Sized>(words: &'static [u8]) -> List<'static, T, Typed> {
-    Typed::give(list_or(null(), words))
+    Typed::give(list_or(null_pointer(), words))
 }
 
 /// The index of the capability; `None` if the pointer is null. A far pointer may lead to it: no
@@ -136,6 +136,17 @@ pub fn shown<T, O: Outcome<T>>(read: O) -> Shown<T> {
     Shown(read.into_result())
 }
 
+/// What a getter of a struct returned, to be shown as `null` unless its pointer is set. A null struct is read as its default
+/// value, which may have the same field: without end, if all of it were shown.
+pub fn shown_struct<T, O: Outcome<T>>(is_set: bool, read: O) -> ShownStruct<T> {
+    ShownStruct(is_set.then(|| shown(read)))
+}
+
+/// A member of a union that is set and null, to be shown by its name.
+pub fn null(member: &'static str) -> NullMember {
+    NullMember(member)
+}
+
 /// What a getter returned, shown as the value or as its refusal.
 pub struct Shown<T>(Result<T>);
 
@@ -145,5 +156,26 @@ impl<T: fmt::Debug> fmt::Debug for Shown<T> {
             Ok(value) => value.fmt(f),
             Err(error) => write!(f, "<{}>", error.reason()),
         }
+    }
+}
+
+/// A struct, shown as the value, as its refusal, or as `null`.
+pub struct ShownStruct<T>(Option<Shown<T>>);
+
+impl<T: fmt::Debug> fmt::Debug for ShownStruct<T> {
+    fn fmt(&self, f: &mut fmt::Formatter<'_>) -> fmt::Result {
+        match &self.0 {
+            Some(read) => read.fmt(f),
+            None => f.write_str("null"),
+        }
+    }
+}
+
+/// A member of a union that is set and null, shown by its name.
+pub struct NullMember(&'static str);
+
+impl fmt::Debug for NullMember {
+    fn fmt(&self, f: &mut fmt::Formatter<'_>) -> fmt::Result {
+        write!(f, "{}(null)", self.0)
     }
 }
