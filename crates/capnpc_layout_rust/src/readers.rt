@@ -8,9 +8,11 @@ use crate::piece::{PUBLIC, Piece};
 use crate::templates;
 use crate::types::{lacking_in_rust, path_to};
 use crate::unions::{is_fallible, is_member, push_which_call};
-use capnpc_schema::model::{Field, FieldKind, Node, Slot, Struct, find_node, lacking, type_name};
+use capnpc_schema::model::{
+    Default, Field, FieldKind, Node, Slot, Struct, find_node, lacking, type_name,
+};
 use capnpc_schema::table::Table;
-use capnpc_schema::text::{Text, Values};
+use capnpc_schema::text::{Lines, Text, Values};
 use capnpc_schema::types::BaseKind;
 use std::alloc::Global;
 
@@ -196,6 +198,7 @@ impl<'m> Schema<'m> {
             if self.skip_reason(field).is_empty() && !is_member(field) && !is_void(field) {
                 let mut values = self.field_values(node, field, node.scope);
                 let is_result = !values.get("fails").is_empty();
+                values.put_lines(has_of(field));
                 values.put_lines(if is_struct(field) {
                     SHOW_STRUCT
                 } else if is_result {
@@ -221,6 +224,7 @@ impl<'m> Schema<'m> {
                 let mut values = self.field_values(node, field, node.scope);
                 values.put_number("tag", u64::from(it.tag_offset));
                 values.put_lines("show=&g::null(\"~variant~\")");
+                values.put_lines(has_of(field));
                 values.put("before", if is_first { "        " } else { " else " });
                 piece.push(templates::DEBUG_NULL, &values);
                 piece.push_shown("            ", "which", values.get("show"));
@@ -243,8 +247,19 @@ impl<'m> Schema<'m> {
     }
 }
 
-// Whether a field is a pointer to a struct.
-fn is_struct(field: &Field) -> bool {
+// The test whether a struct is followed when it is shown: whether it isn't null, or has a default value in a
+// reader of a message.
+fn has_of(field: &Field) -> Lines {
+    match &field.kind {
+        FieldKind::Slot(slot) if !matches!(slot.default, Default::Zero) => {
+            "has=g::has_or_default(&self.0, ~index~)"
+        }
+        _ => "has=self.0.has(~index~)",
+    }
+}
+
+/// Whether a field is a pointer to a struct.
+pub fn is_struct(field: &Field) -> bool {
     match &field.kind {
         FieldKind::Slot(slot) => {
             slot.of.lists == 0 && matches!(slot.of.base.kind, BaseKind::Struct)
@@ -258,7 +273,7 @@ const SHOW: &str = "show=&self.~call~()";
 
 // How a field is shown that is a struct: one that is null isn't followed, since what it is read as may have
 // the same field, without end.
-const SHOW_STRUCT: &str = "show=&g::shown_struct(self.0.has(~index~), self.~call~())";
+const SHOW_STRUCT: &str = "show=&g::shown_struct(~has~, self.~call~())";
 
 // How a field is shown whose call may return a `Result`.
 const SHOW_RESULT: &str = "show=&g::shown(self.~call~())";

@@ -95,8 +95,7 @@ impl<M: g::Meter> g::fmt::Debug for ~type~<'_, M> {
 ";
 
 /// The test whether a member of a union is set, and null.
-pub const DEBUG_NULL: &str =
-    "~before~if self.0.get::<u16>(~tag~) == ~number~ && !self.0.has(~index~) {
+pub const DEBUG_NULL: &str = "~before~if self.0.get::<u16>(~tag~) == ~number~ && !~has~ {
 ";
 
 /// How that ends.

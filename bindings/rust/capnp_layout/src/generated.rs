@@ -1,6 +1,7 @@
 //! What code is made of that `capnpc-layout-rust` generates from a schema. Programs name the types
 //! by the crate's root.
 
+use crate::proved::capnp_objects::source::Source;
 use crate::proved::capnp_readers::readers::{ListReader, PointerReader};
 use crate::segments::Arena;
 use crate::Outcome;
@@ -136,10 +137,16 @@ pub fn shown<T, O: Outcome<T>>(read: O) -> Shown<T> {
     Shown(read.into_result())
 }
 
-/// What a getter of a struct returned, to be shown as `null` unless its pointer is set. A null struct is read as its default
-/// value, which may have the same field: without end, if all of it were shown.
+/// What a getter of a struct returned, to be shown as `null` unless it is followed. A null struct may have the same field: without
+/// end, if all of it were shown.
 pub fn shown_struct<T, O: Outcome<T>>(is_set: bool, read: O) -> ShownStruct<T> {
     ShownStruct(is_set.then(|| shown(read)))
+}
+
+/// Whether the pointer isn't null, or is one of a message. In a default value, a null pointer may have the same default value:
+/// without end, if all of it were followed.
+pub fn has_or_default<M: Meter>(fields: &Struct<'_, M>, index: u16) -> bool {
+    fields.has(index) || !matches!(fields.raw.source, Source::Default(_))
 }
 
 /// A member of a union that is set and null, to be shown by its name.

@@ -25,17 +25,16 @@ fn null_structs_are_shown_as_null() -> Result<(), Error> {
         assert_eq!(shown(message.root::<Term>()?), "Term { which: Not(null) }");
         assert_eq!(
             shown(message.root::<Chain>()?),
-            "Chain { number: 0, next: null }"
+            "Chain { number: 0, next: Chain { number: 7, next: null } }"
         );
         assert_eq!(
             shown(message.root::<Ring>()?),
-            "Ring { number: 0, which: Again(null) }"
+            "Ring { number: 0, which: Again(Ring { number: 9, which: Again(null) }) }"
         );
         let ring = lazy::Ring::from(message.lazy()?);
-        assert_eq!(shown(ring), "Ring { number: 0, which: Again(null) }");
         assert_eq!(
-            shown(ring.which()?),
-            "Again(Ring { number: 9, which: Again(null) })"
+            shown(ring),
+            "Ring { number: 0, which: Again(Ring { number: 9, which: Again(null) }) }"
         );
         Ok(())
     })
@@ -78,14 +77,23 @@ fn structs_that_are_set_are_shown() -> Result<(), Error> {
 }
 
 #[test]
-fn null_structs_have_no_value() -> Result<(), Error> {
+fn null_structs_have_no_value_or_their_default_value() -> Result<(), Error> {
     with_empty_root(|message| {
         assert_eq!(tree::Value::from(message.root::<Tree>()?).left, None);
         let term = term::Value::from(message.root::<Term>()?);
         assert_eq!(term.which, term::WhichValue::Not(None));
-        assert_eq!(chain::Value::from(message.root::<Chain>()?).next, None);
+        let last = chain::Value {
+            number: 7,
+            next: None,
+        };
+        let chain = chain::Value::from(message.root::<Chain>()?);
+        assert_eq!(chain.next, Some(Box::new(last)));
+        let last = ring::Value {
+            number: 9,
+            which: ring::WhichValue::Again(None),
+        };
         let ring = ring::Value::from(message.root::<Ring>()?);
-        assert_eq!(ring.which, ring::WhichValue::Again(None));
+        assert_eq!(ring.which, ring::WhichValue::Again(Some(Box::new(last))));
         assert_eq!(term, term::Value::default());
         assert_eq!(ring, ring::Value::default());
         Ok(())
@@ -98,21 +106,22 @@ fn values_are_written_and_read() -> Result<(), Error> {
         number: 4,
         which: ring::WhichValue::End,
     };
-    for value in [
-        ring::Value {
-            number: 3,
-            which: ring::WhichValue::Again(None),
-        },
-        ring::Value {
-            number: 2,
-            which: ring::WhichValue::Again(Some(Box::new(end))),
-        },
-    ] {
-        let mut message = Builder::new();
-        value.write_to(message.init::<Ring>());
-        let bytes = message.to_frame()?;
-        let message = Message::open(&bytes, Limits::default())?;
-        assert_eq!(ring::Value::from(message.root::<Ring>()?), value);
-    }
+    let value = ring::Value {
+        number: 2,
+        which: ring::WhichValue::Again(Some(Box::new(end))),
+    };
+    let mut message = Builder::new();
+    value.write_to(message.init::<Ring>());
+    let bytes = message.to_frame()?;
+    let message = Message::open(&bytes, Limits::default())?;
+    assert_eq!(ring::Value::from(message.root::<Ring>()?), value);
+    let value = term::Value {
+        which: term::WhichValue::Not(None),
+    };
+    let mut message = Builder::new();
+    value.write_to(message.init::<Term>());
+    let bytes = message.to_frame()?;
+    let message = Message::open(&bytes, Limits::default())?;
+    assert_eq!(term::Value::from(message.root::<Term>()?), value);
     Ok(())
 }
