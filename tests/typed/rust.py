@@ -5,7 +5,7 @@
 
 The parts, by default all of them:
 
-- `ours`: for `addressbook.capnp` and `fields.capnp` the generator writes the files of `rust/src`, and with `--values` those of
+- `ours`: for `addressbook.capnp`, `fields.capnp` and `recursive.capnp` the generator writes the files of `rust/src`, and with `--values` those of
   `rust/src/values`, byte for byte; and they are as rustfmt writes them. With `--write` it writes these files.
 - `package`: the package `rust` is built without a warning of rustc and clippy, and its tests pass.
 - `fields`: a program over the code for `fields.capnp` prints M random messages (by default 300), made by `capnp encode`, as
@@ -49,7 +49,7 @@ from schema import Schema
 HERE = pathlib.Path(__file__).resolve().parent
 LAYOUT = run.TOP / 'bindings/rust/capnp_layout'
 BUILD = run.TOP / 'bindings/rust/capnpc_layout_rust'
-SCHEMAS = 'addressbook', 'fields'
+SCHEMAS = 'addressbook', 'fields', 'recursive'
 PARTS = 'ours', 'package', 'fields', 'random', 'large', 'versions', 'altered', 'bugs', 'build', 'odd'
 MANIFEST = f'''[package]
 name = "made"

@@ -87,6 +87,7 @@ ARM = '''            {which} => (|| {{
                 match (word.as_str(), i % 3) {{
                     ("check", _) => return Ok(agreed(checked(), sound(), lazy())),
                     ("value", _) => {{
+                        let _shown = format!("{{:?}}", message.root::<{type}>()?);
                         let value = {module}::Value::from(message.root::<{type}>()?);
                         value.write_to(built.init::<{type}>());
                         let made = built.as_message()?;

@@ -53,7 +53,7 @@ impl Piece {
         line.push_filled(start, values);
         line.push_joined(values.get("params"));
         line.push_filled(") -> ~gives~ {\n", values);
-        if line.as_str().len() <= self.width.saturating_add(1) {
+        if self.has_room_for(&line) {
             self.text.append(&line);
             return;
         }
@@ -65,22 +65,22 @@ impl Piece {
         self.push("    ) -> ~gives~ {\n", values);
     }
 
-    /// Appends what shows a field: its name and how it is read.
-    pub fn push_shown(&mut self, name: &str, read: &str) {
+    /// Whether a line, with its end, fits.
+    pub fn has_room_for(&self, line: &Text) -> bool {
+        line.as_str().len() <= self.width.saturating_add(1)
+    }
+
+    /// Appends what shows a field, after `indent`: its name and how it is read.
+    pub fn push_shown(&mut self, indent: &str, name: &str, read: &str) {
         let width = name.len().saturating_add(read.len()).saturating_add(4);
-        let line = width.saturating_add(22);
+        let line = width.saturating_add(14).saturating_add(indent.len());
+        let text = &mut self.text;
         if width <= CALL_WIDTH && line <= self.width {
-            self.text
-                .push_all(&["        shown.field(\"", name, "\", ", read, ");\n"]);
+            text.push_all(&[indent, "shown.field(\"", name, "\", ", read, ");\n"]);
             return;
         }
-        self.text.push_all(&[
-            "        shown.field(\n            \"",
-            name,
-            "\",\n            ",
-            read,
-            ",\n        );\n",
-        ]);
+        text.push_all(&[indent, "shown.field(\n", indent, "    \"", name, "\",\n"]);
+        text.push_all(&[indent, "    ", read, ",\n", indent, ");\n"]);
     }
 
     /// Appends the constant of a default value, if there is one.

@@ -8,9 +8,12 @@ use crate::piece::{PUBLIC, Piece};
 use crate::templates;
 use crate::types::{lacking_in_rust, path_to};
 use crate::unions::{is_fallible, is_member, push_which_call};
-use capnpc_schema::model::{Field, FieldKind, Node, Slot, Struct, find_node, lacking, type_name};
+use capnpc_schema::model::{
+    Default, Field, FieldKind, Node, Slot, Struct, find_node, lacking, type_name,
+};
 use capnpc_schema::table::Table;
-use capnpc_schema::text::{Text, Values};
+use capnpc_schema::text::{Lines, Text, Values};
+use capnpc_schema::types::BaseKind;
 use std::alloc::Global;
 
 // The 16 hexadecimal digits of an id.
@@ -206,25 +209,82 @@ impl<'m> Schema<'m> {
             if self.skip_reason(field).is_empty() && !is_member(field) && !is_void(field) {
                 let mut values = self.field_values(node, field, node.scope);
                 let is_result = !values.get("fails").is_empty();
-                values.put_lines(if is_result { SHOW_RESULT } else { SHOW });
-                piece.push_shown(field.name.as_str(), values.get("show"));
+                values.put_lines(has_of(field));
+                values.put_lines(if is_struct(field) {
+                    SHOW_STRUCT
+                } else if is_result {
+                    SHOW_RESULT
+                } else {
+                    SHOW
+                });
+                piece.push_shown("        ", field.name.as_str(), values.get("show"));
             }
         }
         if it.members > 0 {
-            let is_result = is_fallible(it);
-            let read = if is_result {
-                "&g::shown(self.which())"
-            } else {
-                "&self.which()"
-            };
-            piece.push_shown("which", read);
+            self.write_debug_of_union(piece, node, it);
         }
         piece.push(templates::DEBUG_END, &values);
+    }
+
+    // Writes what `{:?}` shows of a union. A member that is a struct isn't followed if it is null, since what
+    // it is read as may have the same member, without end.
+    fn write_debug_of_union(&self, piece: &mut Piece, node: &Node, it: &Struct) {
+        let mut is_first = true;
+        for field in it.fields.iter() {
+            if self.skip_reason(field).is_empty() && is_member(field) && is_struct(field) {
+                let mut values = self.field_values(node, field, node.scope);
+                values.put_number("tag", u64::from(it.tag_offset));
+                values.put_lines("show=&g::null(\"~variant~\")");
+                values.put_lines(has_of(field));
+                values.put("before", if is_first { "        " } else { " else " });
+                piece.push(templates::DEBUG_NULL, &values);
+                piece.push_shown("            ", "which", values.get("show"));
+                piece.push("        }", &values);
+                is_first = false;
+            }
+        }
+        let read = if is_fallible(it) {
+            "&g::shown(self.which())"
+        } else {
+            "&self.which()"
+        };
+        if is_first {
+            piece.push_shown("        ", "which", read);
+        } else {
+            piece.text.push(" else {\n");
+            piece.push_shown("            ", "which", read);
+            piece.text.push("        }\n");
+        }
+    }
+}
+
+// The test whether a struct is followed when it is shown: whether it isn't null, or has a default value in a
+// reader of a message.
+fn has_of(field: &Field) -> Lines {
+    match &field.kind {
+        FieldKind::Slot(slot) if !matches!(slot.default, Default::Zero) => {
+            "has=g::has_or_default(&self.0, ~index~)"
+        }
+        _ => "has=self.0.has(~index~)",
+    }
+}
+
+/// Whether a field is a pointer to a struct.
+pub fn is_struct(field: &Field) -> bool {
+    match &field.kind {
+        FieldKind::Slot(slot) => {
+            slot.of.lists == 0 && matches!(slot.of.base.kind, BaseKind::Struct)
+        }
+        _ => false,
     }
 }
 
 // How a field is shown.
 const SHOW: &str = "show=&self.~call~()";
+
+// How a field is shown that is a struct: one that is null isn't followed, since what it is read as may have
+// the same field, without end.
+const SHOW_STRUCT: &str = "show=&g::shown_struct(~has~, self.~call~())";
 
 // How a field is shown whose call may return a `Result`.
 const SHOW_RESULT: &str = "show=&g::shown(self.~call~())";

@@ -95,6 +95,10 @@ impl<M: g::Meter> g::fmt::Debug for ~type~<'_, M> {
         let mut shown = f.debug_struct(\"~type~\");
 ";
 
+/// The test whether a member of a union is set, and null.
+pub const DEBUG_NULL: &str = "~before~if self.0.get::<u16>(~tag~) == ~number~ && !~has~ {
+";
+
 /// How that ends.
 pub const DEBUG_END: &str = "        shown.finish()
     }

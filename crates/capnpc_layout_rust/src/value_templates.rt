@@ -60,7 +60,7 @@ pub const WHICH: &str = "    /// The member of the union that is set.
 ";
 
 /// How that is read.
-pub const OWN_WHICH: &str = "            which: it.which().into(),
+pub const OWN_WHICH: &str = "            which: WhichValue::own(it),
 ";
 
 /// How that is written.
@@ -137,7 +137,7 @@ pub const PUT_CAPABILITY: &str = "        if let Some(value) = self.~call~ {
         }
 ";
 
-/// A union as a value: its type, from what is read, and into a builder.
+/// A union as a value: its type, from a reader, and into a builder.
 pub const WHICH_VALUE: &str = "
 /// The members of the union of `~full~` as plain values.
 #[allow(clippy::large_enum_variant)]
@@ -147,15 +147,13 @@ pub enum WhichValue {
     Unknown(u16),
 }
 
-impl From<Which~life~> for WhichValue {
-    fn from(which: Which~life~) -> Self {
-        match which {
+impl WhichValue {
+    fn own(it: &super::~type~<'_>) -> Self {
+        match it.which() {
 ~owned~            Which::Unknown(number) => WhichValue::Unknown(number),
         }
     }
-}
 
-impl WhichValue {
     /// Sets the member, with its value.
     pub fn write_to(&self, mut to: Builder<'_>) {
         match self {
@@ -165,6 +163,36 @@ impl WhichValue {
         }
     }
 }
+";
+
+/// How members are read. One without a value.
+pub const OWN_VOID: &str = "            Which::~variant~ => WhichValue::~variant~,
+";
+
+/// The same in three lines.
+pub const OWN_VOID_LONG: &str = "            Which::~variant~ => {
+                WhichValue::~variant~
+            }
+";
+
+/// One whose value isn't kept.
+pub const OWN_TAG: &str = "            Which::~variant~(_) => WhichValue::~variant~,
+";
+
+/// The same in three lines.
+pub const OWN_TAG_LONG: &str = "            Which::~variant~(_) => {
+                WhichValue::~variant~
+            }
+";
+
+/// One with a value.
+pub const OWN_MEMBER: &str = "            Which::~variant~(member) => WhichValue::~variant~(~mown~),
+";
+
+/// The same in three lines.
+pub const OWN_MEMBER_LONG: &str = "            Which::~variant~(member) => {
+                WhichValue::~variant~(~mown~)
+            }
 ";
 
 /// How members are written. One without a value.
@@ -191,8 +219,17 @@ pub const MEMBER_BYTES: &str = "            WhichValue::~variant~(value) => {
             }
 ";
 
-/// A struct, or a group.
-pub const MEMBER_STRUCT: &str = "            WhichValue::~variant~(value) => {
+/// A struct.
+pub const MEMBER_STRUCT: &str = "            WhichValue::~variant~(Some(value)) => {
+                value.write_to(to.init_~snake~());
+            }
+            WhichValue::~variant~(None) => {
+                to.0.set(~tag~, ~number~u16);
+            }
+";
+
+/// A group.
+pub const MEMBER_GROUP: &str = "            WhichValue::~variant~(value) => {
                 value.write_to(to.init_~snake~());
             }
 ";

@@ -2,9 +2,9 @@
 //! a builder.
 
 use crate::piece::Piece;
-use crate::readers::{Schema, is_void};
+use crate::readers::{Schema, is_struct, is_void};
 use crate::types::{element_value, is_bytes};
-use crate::unions::{is_member, parameters};
+use crate::unions::is_member;
 use crate::value_templates;
 use capnpc_schema::model::{Default, Field, FieldKind, Node, Slot, Struct, Type};
 use capnpc_schema::text::{Lines, Text, Values};
@@ -86,18 +86,13 @@ fn value_of(schema: &Schema<'_>, node: &Node, field: &Field) -> Values {
             let element = element_value(schema.alloc, schema.nodes, node.id, slot.of);
             values.put_text("evalue", element);
             values.put_lines(form_of(slot.of));
-            if !matches!(slot.default, Default::Zero) && is_struct(slot.of) {
-                values.put_lines("own=g::boxed(true, it.~call~())");
+            if is_struct(field) && !matches!(slot.default, Default::Zero) {
+                values.put_lines(STRUCT_OR_DEFAULT);
             }
         }
         _ => values.put_lines(GROUP),
     }
     values
-}
-
-// Whether the type is a struct.
-fn is_struct(of: Type) -> bool {
-    of.lists == 0 && matches!(of.base.kind, BaseKind::Struct)
 }
 
 // Whether the type has values: whether nothing in it is a pointer of any kind, or a list of capabilities.
@@ -117,30 +112,33 @@ fn form_of(of: Type) -> Lines {
         _ if of.lists > 0 => LIST,
         BaseKind::Text | BaseKind::Data => BYTES,
         BaseKind::Struct => STRUCT,
-        BaseKind::Capability => "vtype=Option<u32>\nown=it.~call~()\nmtype=~vtype~\nmown=it",
-        _ => "vtype=~payload~\nown=it.~call~()\nmtype=~payload~\nmown=it",
+        BaseKind::Capability => "vtype=Option<u32>\nown=it.~call~()\nmtype=~vtype~\nmown=member",
+        _ => "vtype=~payload~\nown=it.~call~()\nmtype=~payload~\nmown=member",
     }
 }
 
 const GROUP: Lines = "vtype=~path~~module~::Value
 own=it.~call~().into()
 mtype=~vtype~
-mown=it.into()";
+mown=member.into()";
 
 const LIST: Lines = "vtype=~evalue~
 own=g::own_list(it.~call~())
 mtype=~evalue~
-mown=g::own_list(it)";
+mown=g::own_list(member)";
 
 const BYTES: Lines = "vtype=~evalue~
 own=it.~call~().into()
 mtype=~evalue~
-mown=it.into()";
+mown=member.into()";
 
 const STRUCT: Lines = "vtype=Option<g::Box<~evalue~>>
 own=g::boxed(it.0.has(~index~), it.~call~())
-mtype=g::Box<~evalue~>
-mown=g::Box::new(it.into())";
+mtype=~vtype~
+mown=g::boxed(it.0.has(~index~), member)";
+
+const STRUCT_OR_DEFAULT: Lines = "own=g::boxed(g::has_or_default(&it.0, ~index~), it.~call~())
+mown=g::boxed(g::has_or_default(&it.0, ~index~), member)";
 
 // How a field of a value is written. An empty text or list that has no default value is left out.
 fn put_of(field: &Field) -> &'static str {
@@ -175,25 +173,42 @@ fn write_members(schema: &Schema<'_>, piece: &mut Piece, node: &Node, it: &Struc
             values.put_number("tag", u64::from(it.tag_offset));
             let forms = forms_of_member(field, &values);
             declared.push_filled(forms.declared, &values);
-            owned.push_filled(forms.owned, &values);
+            push_owned(schema, piece, forms, &values, &mut owned);
             puts.push_filled(forms.put, &values);
         }
     }
     let mut values = schema.node_values(node);
     values.put_number("tag", u64::from(it.tag_offset));
-    let is_plain = parameters(schema, it).is_empty();
-    values.put("life", if is_plain { "" } else { "<'_>" });
     values.put_text("declared", declared);
     values.put_text("owned", owned);
     values.put_text("puts", puts);
     piece.push(value_templates::WHICH_VALUE, &values);
 }
 
-// The templates of a member of a union: its variant, how it is read, and how it is written.
+// Appends the arm of a member that is read: in three lines if one is too long.
+fn push_owned(
+    schema: &Schema<'_>,
+    piece: &Piece,
+    forms: MemberForms,
+    values: &Values,
+    owned: &mut Text,
+) {
+    let mut line = Text::new(schema.alloc);
+    line.push_filled(forms.owned, values);
+    if piece.has_room_for(&line) {
+        owned.append(&line);
+    } else {
+        owned.push_filled(forms.long, values);
+    }
+}
+
+// The templates of a member of a union: its variant, how it is read, in one line and in three, and how
+// it is written.
 #[derive(Clone, Copy)]
 struct MemberForms {
     declared: &'static str,
     owned: &'static str,
+    long: &'static str,
     put: &'static str,
 }
 
@@ -202,20 +217,23 @@ fn forms_of_member(field: &Field, values: &Values) -> MemberForms {
     if is_void(field) {
         return MemberForms {
             declared: "    /// `~line~`\n    ~variant~,\n",
-            owned: "            Which::~variant~ => WhichValue::~variant~,\n",
+            owned: value_templates::OWN_VOID,
+            long: value_templates::OWN_VOID_LONG,
             put: value_templates::MEMBER_VOID,
         };
     }
     if values.get("mtype").is_empty() {
         return MemberForms {
             declared: "    /// `~line~`, which has no plain value\n    ~variant~,\n",
-            owned: "            Which::~variant~(_) => WhichValue::~variant~,\n",
+            owned: value_templates::OWN_TAG,
+            long: value_templates::OWN_TAG_LONG,
             put: value_templates::MEMBER_TAG,
         };
     }
     MemberForms {
         declared: "    /// `~line~`\n    ~variant~(~mtype~),\n",
-        owned: "            Which::~variant~(it) => WhichValue::~variant~(~mown~),\n",
+        owned: value_templates::OWN_MEMBER,
+        long: value_templates::OWN_MEMBER_LONG,
         put: put_of_member(field),
     }
 }
@@ -230,6 +248,6 @@ fn put_of_member(field: &Field) -> &'static str {
             BaseKind::Capability => value_templates::MEMBER_CAPABILITY,
             _ => value_templates::MEMBER_NUMBER,
         },
-        _ => value_templates::MEMBER_STRUCT,
+        _ => value_templates::MEMBER_GROUP,
     }
 }

@@ -1,6 +1,7 @@
 //! What code is made of that `capnpc-layout-rust` generates from a schema. Programs name the types
 //! by the crate's root.
 
+use crate::proved::capnp_objects::source::Source;
 use crate::proved::capnp_readers::readers::{ListReader, PointerReader};
 use crate::segments::Arena;
 use crate::Outcome;
@@ -76,7 +77,7 @@ pub fn list_or<'a, T: Element + ?Sized, M: Meter>(
 }
 
 /// A null pointer of a message that was checked.
-fn null<'a>() -> Pointer<'a, Typed> {
+fn null_pointer<'a>() -> Pointer<'a, Typed> {
     Pointer {
         raw: PointerReader::new_default(),
         meter: Typed::NEW,
@@ -85,12 +86,12 @@ fn null<'a>() -> Pointer<'a, Typed> {
 
 /// The struct of a constant: a message of one segment.
 pub fn constant_struct<T: From<Struct<'static, Typed>> + fmt::Debug>(words: &'static [u8]) -> T {
-    Typed::give(struct_or(null(), words))
+    Typed::give(struct_or(null_pointer(), words))
 }
 
 /// The list of a constant: a message of one segment.
 pub fn constant_list<T: Element + ?Sized>(words: &'static [u8]) -> List<'static, T, Typed> {
-    Typed::give(list_or(null(), words))
+    Typed::give(list_or(null_pointer(), words))
 }
 
 /// The index of the capability; `None` if the pointer is null. A far pointer may lead to it: no
@@ -136,6 +137,23 @@ pub fn shown<T, O: Outcome<T>>(read: O) -> Shown<T> {
     Shown(read.into_result())
 }
 
+/// What a getter of a struct returned, to be shown as `null` unless it is followed. A null struct may have the same field: without
+/// end, if all of it were shown.
+pub fn shown_struct<T, O: Outcome<T>>(is_set: bool, read: O) -> ShownStruct<T> {
+    ShownStruct(is_set.then(|| shown(read)))
+}
+
+/// Whether the pointer isn't null, or is one of a message. In a default value, a null pointer may have the same default value:
+/// without end, if all of it were followed.
+pub fn has_or_default<M: Meter>(fields: &Struct<'_, M>, index: u16) -> bool {
+    fields.has(index) || !matches!(fields.raw.source, Source::Default(_))
+}
+
+/// A member of a union that is set and null, to be shown by its name.
+pub fn null(member: &'static str) -> NullMember {
+    NullMember(member)
+}
+
 /// What a getter returned, shown as the value or as its refusal.
 pub struct Shown<T>(Result<T>);
 
@@ -145,5 +163,26 @@ impl<T: fmt::Debug> fmt::Debug for Shown<T> {
             Ok(value) => value.fmt(f),
             Err(error) => write!(f, "<{}>", error.reason()),
         }
+    }
+}
+
+/// A struct, shown as the value, as its refusal, or as `null`.
+pub struct ShownStruct<T>(Option<Shown<T>>);
+
+impl<T: fmt::Debug> fmt::Debug for ShownStruct<T> {
+    fn fmt(&self, f: &mut fmt::Formatter<'_>) -> fmt::Result {
+        match &self.0 {
+            Some(read) => read.fmt(f),
+            None => f.write_str("null"),
+        }
+    }
+}
+
+/// A member of a union that is set and null, shown by its name.
+pub struct NullMember(&'static str);
+
+impl fmt::Debug for NullMember {
+    fn fmt(&self, f: &mut fmt::Formatter<'_>) -> fmt::Result {
+        write!(f, "{}(null)", self.0)
     }
 }

@@ -886,8 +886,8 @@ impl<M: g::Meter> g::fmt::Debug for Root<'_, M> {
         shown.field("greeting", &g::shown(self.greeting()));
         shown.field("blob", &g::shown(self.blob()));
         shown.field("magic", &g::shown(self.magic()));
-        shown.field("inner", &g::shown(self.inner()));
-        shown.field("next", &g::shown(self.next()));
+        shown.field("inner", &g::shown_struct(self.0.has(4), self.inner()));
+        shown.field("next", &g::shown_struct(self.0.has(5), self.next()));
         shown.field("any", &self.any());
         shown.field("voids", &g::shown(self.voids()));
         shown.field("flags", &g::shown(self.flags()));
@@ -906,7 +906,7 @@ impl<M: g::Meter> g::fmt::Debug for Root<'_, M> {
         shown.field("result", &self.result());
         shown.field("data", &self.data());
         shown.field("record", &self.record());
-        shown.field("filled", &g::shown(self.filled()));
+        shown.field("filled", &g::shown_struct(self.0.has(20), self.filled()));
         shown.field("counted", &g::shown(self.counted()));
         shown.field("listed", &g::shown(self.listed()));
         shown.field("named", &g::shown(self.named()));
@@ -1566,7 +1566,11 @@ pub mod root {
     impl<M: g::Meter> g::fmt::Debug for Shape<'_, M> {
         fn fmt(&self, f: &mut g::fmt::Formatter<'_>) -> g::fmt::Result {
             let mut shown = f.debug_struct("Shape");
-            shown.field("which", &g::shown(self.which()));
+            if self.0.get::<u16>(27) == 4 && !self.0.has(24) {
+                shown.field("which", &g::null("Other"));
+            } else {
+                shown.field("which", &g::shown(self.which()));
+            }
             shown.finish()
         }
     }

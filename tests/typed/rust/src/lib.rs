@@ -6,4 +6,6 @@
 pub mod addressbook_capnp;
 /// `fields.capnp`
 pub mod fields_capnp;
+/// `recursive.capnp`
+pub mod recursive_capnp;
 pub mod values;

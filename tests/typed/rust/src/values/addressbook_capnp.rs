@@ -390,7 +390,7 @@ pub mod person {
             fn from(it: super::Employment<'_>) -> Self {
                 let it = &it;
                 Value {
-                    which: it.which().into(),
+                    which: WhichValue::own(it),
                 }
             }
         }
@@ -425,19 +425,17 @@ pub mod person {
             Unknown(u16),
         }
 
-        impl From<Which<'_>> for WhichValue {
-            fn from(which: Which<'_>) -> Self {
-                match which {
+        impl WhichValue {
+            fn own(it: &super::Employment<'_>) -> Self {
+                match it.which() {
                     Which::Unemployed => WhichValue::Unemployed,
-                    Which::Employer(it) => WhichValue::Employer(it.into()),
-                    Which::School(it) => WhichValue::School(it.into()),
+                    Which::Employer(member) => WhichValue::Employer(member.into()),
+                    Which::School(member) => WhichValue::School(member.into()),
                     Which::SelfEmployed => WhichValue::SelfEmployed,
                     Which::Unknown(number) => WhichValue::Unknown(number),
                 }
             }
-        }
 
-        impl WhichValue {
             /// Sets the member, with its value.
             pub fn write_to(&self, mut to: Builder<'_>) {
                 match self {

@@ -218,7 +218,7 @@ pub mod inner {
             Value {
                 match_: it.match_(),
                 where_: it.where_().into(),
-                which: it.which().into(),
+                which: WhichValue::own(it),
             }
         }
     }
@@ -275,18 +275,16 @@ pub mod inner {
         Unknown(u16),
     }
 
-    impl From<Which<'_>> for WhichValue {
-        fn from(which: Which<'_>) -> Self {
-            match which {
-                Which::Self_(it) => WhichValue::Self_(it),
-                Which::Type(it) => WhichValue::Type(it.into()),
+    impl WhichValue {
+        fn own(it: &super::Inner<'_>) -> Self {
+            match it.which() {
+                Which::Self_(member) => WhichValue::Self_(member),
+                Which::Type(member) => WhichValue::Type(member.into()),
                 Which::Mod => WhichValue::Mod,
                 Which::Unknown(number) => WhichValue::Unknown(number),
             }
         }
-    }
 
-    impl WhichValue {
         /// Sets the member, with its value.
         pub fn write_to(&self, mut to: Builder<'_>) {
             match self {
@@ -991,8 +989,8 @@ impl<M: g::Meter> g::fmt::Debug for Root<'_, M> {
         shown.field("greeting", &g::shown(self.greeting()));
         shown.field("blob", &g::shown(self.blob()));
         shown.field("magic", &g::shown(self.magic()));
-        shown.field("inner", &g::shown(self.inner()));
-        shown.field("next", &g::shown(self.next()));
+        shown.field("inner", &g::shown_struct(self.0.has(4), self.inner()));
+        shown.field("next", &g::shown_struct(self.0.has(5), self.next()));
         shown.field("any", &self.any());
         shown.field("voids", &g::shown(self.voids()));
         shown.field("flags", &g::shown(self.flags()));
@@ -1011,7 +1009,7 @@ impl<M: g::Meter> g::fmt::Debug for Root<'_, M> {
         shown.field("result", &self.result());
         shown.field("data", &self.data());
         shown.field("record", &self.record());
-        shown.field("filled", &g::shown(self.filled()));
+        shown.field("filled", &g::shown_struct(self.0.has(20), self.filled()));
         shown.field("counted", &g::shown(self.counted()));
         shown.field("listed", &g::shown(self.listed()));
         shown.field("named", &g::shown(self.named()));
@@ -1763,7 +1761,7 @@ pub mod root {
                 result: it.result(),
                 data: it.data(),
                 record: it.record(),
-                filled: g::boxed(true, it.filled()),
+                filled: g::boxed(it.0.has(20), it.filled()),
                 counted: g::own_list(it.counted()),
                 listed: g::own_list(it.listed()),
                 named: g::own_list(it.named()),
@@ -2017,7 +2015,11 @@ pub mod root {
     impl<M: g::Meter> g::fmt::Debug for Shape<'_, M> {
         fn fmt(&self, f: &mut g::fmt::Formatter<'_>) -> g::fmt::Result {
             let mut shown = f.debug_struct("Shape");
-            shown.field("which", &g::shown(self.which()));
+            if self.0.get::<u16>(27) == 4 && !self.0.has(24) {
+                shown.field("which", &g::null("Other"));
+            } else {
+                shown.field("which", &g::shown(self.which()));
+            }
             shown.finish()
         }
     }
@@ -2221,7 +2223,7 @@ pub mod root {
             fn from(it: super::Shape<'_>) -> Self {
                 let it = &it;
                 Value {
-                    which: it.which().into(),
+                    which: WhichValue::own(it),
                 }
             }
         }
@@ -2253,7 +2255,7 @@ pub mod root {
             /// `corners @49 :List(Inner)`
             Corners(g::Vec<super::super::inner::Value>),
             /// `other @50 :Inner`
-            Other(g::Box<super::super::inner::Value>),
+            Other(Option<g::Box<super::super::inner::Value>>),
             /// `count @51 :Int16`
             Count(i16),
             /// `sign @52 :Bool`
@@ -2272,27 +2274,25 @@ pub mod root {
             Unknown(u16),
         }
 
-        impl From<Which<'_>> for WhichValue {
-            fn from(which: Which<'_>) -> Self {
-                match which {
+        impl WhichValue {
+            fn own(it: &super::Shape<'_>) -> Self {
+                match it.which() {
                     Which::None => WhichValue::None,
-                    Which::Radius(it) => WhichValue::Radius(it),
-                    Which::Side(it) => WhichValue::Side(it.into()),
-                    Which::Corners(it) => WhichValue::Corners(g::own_list(it)),
-                    Which::Other(it) => WhichValue::Other(g::Box::new(it.into())),
-                    Which::Count(it) => WhichValue::Count(it),
-                    Which::Sign(it) => WhichValue::Sign(it),
-                    Which::Paint(it) => WhichValue::Paint(it),
-                    Which::Photo(it) => WhichValue::Photo(it.into()),
-                    Which::Sizes(it) => WhichValue::Sizes(g::own_list(it)),
-                    Which::Agent(it) => WhichValue::Agent(it),
+                    Which::Radius(member) => WhichValue::Radius(member),
+                    Which::Side(member) => WhichValue::Side(member.into()),
+                    Which::Corners(member) => WhichValue::Corners(g::own_list(member)),
+                    Which::Other(member) => WhichValue::Other(g::boxed(it.0.has(24), member)),
+                    Which::Count(member) => WhichValue::Count(member),
+                    Which::Sign(member) => WhichValue::Sign(member),
+                    Which::Paint(member) => WhichValue::Paint(member),
+                    Which::Photo(member) => WhichValue::Photo(member.into()),
+                    Which::Sizes(member) => WhichValue::Sizes(g::own_list(member)),
+                    Which::Agent(member) => WhichValue::Agent(member),
                     Which::Extra(_) => WhichValue::Extra,
                     Which::Unknown(number) => WhichValue::Unknown(number),
                 }
             }
-        }
 
-        impl WhichValue {
             /// Sets the member, with its value.
             pub fn write_to(&self, mut to: Builder<'_>) {
                 match self {
@@ -2309,8 +2309,11 @@ pub mod root {
                         let list = to.init_corners(value.len());
                         g::fill(list, value);
                     }
-                    WhichValue::Other(value) => {
+                    WhichValue::Other(Some(value)) => {
                         value.write_to(to.init_other());
+                    }
+                    WhichValue::Other(None) => {
+                        to.0.set(27, 4u16);
                     }
                     WhichValue::Count(value) => {
                         to.set_count(*value);
@@ -2552,7 +2555,7 @@ pub mod root {
                     fn from(it: super::Unit<'_>) -> Self {
                         let it = &it;
                         Value {
-                            which: it.which().into(),
+                            which: WhichValue::own(it),
                         }
                     }
                 }
@@ -2583,17 +2586,15 @@ pub mod root {
                     Unknown(u16),
                 }
 
-                impl From<Which<'_>> for WhichValue {
-                    fn from(which: Which<'_>) -> Self {
-                        match which {
+                impl WhichValue {
+                    fn own(it: &super::Unit<'_>) -> Self {
+                        match it.which() {
                             Which::Metre => WhichValue::Metre,
-                            Which::Foot(it) => WhichValue::Foot(it.into()),
+                            Which::Foot(member) => WhichValue::Foot(member.into()),
                             Which::Unknown(number) => WhichValue::Unknown(number),
                         }
                     }
-                }
 
-                impl WhichValue {
                     /// Sets the member, with its value.
                     pub fn write_to(&self, mut to: Builder<'_>) {
                         match self {

@@ -4,3 +4,5 @@
 pub mod addressbook_capnp;
 /// `fields.capnp`
 pub mod fields_capnp;
+/// `recursive.capnp`
+pub mod recursive_capnp;
