@@ -19,7 +19,6 @@ use Rattle.capnp_format.specs.Segments.{HasWords, Segments, Target, segment, wor
 use Rattle.capnp_format.specs.Tree.{Capability, Flat, Null, Pointers, Struct, Structs, Tree, Trees, count}
 use Rattle.capnp_making.proofs.Below.{split_row}
 use Rattle.capnp_making.proofs.Extents.{times-first, times-object}
-use Rattle.capnp_making.specs.Memory.{start_of}
 use Rattle.capnp_making.specs.Stored.{IsReplaced, IsStored}
 use Rattle.capnp_making.specs.Zeroed.{row}
 use Rattle.capnp_making.specs.declared.making.Shape.TheVariants.{Struct as StructShape}

@@ -12,7 +12,6 @@ use Rattle.capnp_contents.specs.Moved.{IsMoved}
 use Rattle.capnp_making.specs.Made.{nulls, words_of_zero}
 use Rattle.capnp_contents.specs.Widened.{fill_elements, fill_trees, fill_words}
 use Rattle.capnp_format.proofs.Frame.{SameWords, frame_all, has_words_kept}
-use Rattle.capnp_format.proofs.Slices.{moved}
 use Rattle.capnp_making.proofs.Extents.{times-first, times-object}
 use Rattle.capnp_making.proofs.Placed.{count-nulls}
 use Rattle.capnp_making.proofs.Tidy.{tidy_kept_all}
