@@ -1,7 +1,6 @@
 -- What is asked of each message of an input, and how the input is read.
 use Rattle.capnp_canon.specs.declared.inputs.Job.{Job}
 use Rattle.capnp_canon.specs.declared.inputs.Job.TheVariants.{Answer, Show}
-use Rattle.capnp_streams.specs.Forms.{form_of_options}
 use Rattle.capnp_streams.specs.Jobs.{Job as Asked, answering, showing}
 use Rattle.capnp_streams.specs.declared.streams.input_form.InputForm.{InputForm}
 
@@ -10,5 +9,5 @@ asked_by (Answer task) = answering task
 asked_by (Show task) = showing task
 
 abbrev pub form_of_job : Job → InputForm
-form_of_job (Answer task) = form_of_options task.unpack task.from_flat
-form_of_job (Show task) = form_of_options task.unpack task.from_flat
+form_of_job (Answer task) = task.input_form
+form_of_job (Show task) = task.input_form

@@ -27,7 +27,7 @@ pub fn test_input<R: BufferedInput + Drop, W: BufferedOutput>(
     let alloc = session.rt.alloc();
     let (table, row) = (schema.table.words.as_slice(), schema.row);
     let mut input = CountedInput::new(input, session);
-    let tested = match task.input_form() {
+    let tested = match task.input_form {
         InputForm::Frames => test_stream(alloc, table, row, task.limits, &mut input, output),
         InputForm::PackedFrames => {
             test_packed_stream(alloc, table, row, task.limits, input, output)

@@ -50,8 +50,8 @@ impl Job {
         ensures { result ≡ form_of_job self }
     {
         match self {
-            Job::Answer(task) => task.input_form(),
-            Job::Show(task) => task.input_form(),
+            Job::Answer(task) => task.input_form,
+            Job::Show(task) => task.input_form,
         }
     }
 }
@@ -70,7 +70,7 @@ impl Work<'_> {
     fn input_form(self) -> InputForm {
         match self {
             Work::Do(job) => job.input_form(),
-            Work::Test(task, _) => task.input_form(),
+            Work::Test(task, _) => task.input_form,
         }
     }
 }
@@ -315,14 +315,14 @@ fn run_job<R: BufferedInput + Drop, W: BufferedOutput>(
     let alloc = session.rt.alloc();
     let mut input = CountedInput::new(input, session);
     match job {
-        Job::Answer(task) => match task.input_form() {
+        Job::Answer(task) => match task.input_form {
             InputForm::Frames => streams::run(alloc, task, &mut input, output),
             InputForm::PackedFrames => streams::run_packed(alloc, task, input, output),
             InputForm::RawWords => summary_of_one(streams::run_flat(
                 alloc, task, &mut input, output,
             )),
         },
-        Job::Show(task) => match task.input_form() {
+        Job::Show(task) => match task.input_form {
             InputForm::Frames => streams::run_show(alloc, task, &mut input, output),
             InputForm::PackedFrames => streams::run_show_packed(alloc, task, input, output),
             InputForm::RawWords => summary_of_one(streams::run_show_flat(

@@ -17,6 +17,8 @@ use Rattle.capnp_streams.specs.declared.streams.arguments.ArgumentFault.TheVaria
 use Rattle.capnp_streams.specs.declared.streams.arguments.ArgumentFault.TheVariants.{MissingValue, InvalidValue, InvalidAssignment, UnwantedValue}
 use Rattle.capnp_streams.specs.declared.streams.arguments.ArgumentFault.TheVariants.{NotOfCommand, Excluded, Needs}
 use Rattle.capnp_streams.specs.declared.streams.arguments.ParsedArguments.{ParsedArguments}
+use Rattle.capnp_streams.specs.declared.streams.input_form.InputForm.{InputForm}
+use Rattle.capnp_streams.specs.declared.streams.input_form.InputForm.TheVariants.{Frames, PackedFrames, RawWords}
 use Rattle.capnp_streams.specs.declared.streams.options.OptionName.{OptionName}
 use Rattle.capnp_streams.specs.declared.streams.options.OptionName.TheVariants.{Help, HelpLetter, Version, VersionLetter, End}
 use Rattle.capnp_streams.specs.declared.streams.options.OptionName.TheVariants.{Packed, Pack, Flat as FlatName, FromFlat, Hex, Quiet, Nesting, Words}
@@ -152,6 +154,11 @@ verb_reads_flat (Some subcommand) flat from_flat = flat || from_flat
 
 abbrev pub parsed_reads_flat : ParsedArguments → Bool
 parsed_reads_flat line = verb_reads_flat line.subcommand line.flat line.from_flat
+
+-- How a line requests to read the input. No request is for both packed frames and raw words.
+abbrev pub parsed_input_form : ParsedArguments → InputForm
+parsed_input_form line =
+    if line.unpack then PackedFrames else if parsed_reads_flat line then RawWords else Frames
 
 -- An option of the line that its command doesn't have. Only `canon` has options for what it writes,
 -- and only `digest` one for its lists, which `--quiet` needs there; `check`, `validate` and `diff`
@@ -334,8 +341,7 @@ abbrev pub parsed_task : Command → ParsedArguments → Task
 parsed_task command line = record {
   command = command;
   limits = line.limits;
-  unpack = line.unpack;
-  from_flat = parsed_reads_flat line;
+  input_form = parsed_input_form line;
   pack = line.pack;
   hex = line.hex;
   quiet = line.quiet;
@@ -354,16 +360,14 @@ parsed_show line = record {
   bytes = unwrap_or line.bytes (Some 1073741824);
   path = line.path;
   limits = line.limits;
-  unpack = line.unpack;
-  from_flat = parsed_reads_flat line;
+  input_form = parsed_input_form line;
 }
 
 -- How a line requests to compare messages.
 abbrev pub parsed_diff : ParsedArguments → DiffTask
 parsed_diff line = record {
   limits = line.limits;
-  unpack = line.unpack;
-  from_flat = parsed_reads_flat line;
+  input_form = parsed_input_form line;
   quiet = line.quiet;
 }
 

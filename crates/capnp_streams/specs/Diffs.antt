@@ -35,6 +35,7 @@ use Rattle.capnp_streams.specs.declared.streams.diffs.DiffFault.{DiffFault}
 use Rattle.capnp_streams.specs.declared.streams.diffs.DiffFault.TheVariants.{Refused, TooLong, AllocationFailed, WriteFailed}
 use Rattle.capnp_streams.specs.declared.streams.diffs.Side.{Side}
 use Rattle.capnp_streams.specs.declared.streams.diffs.Side.TheVariants.{Left, Right}
+use Rattle.capnp_streams.specs.declared.streams.input_form.InputForm.TheVariants.{Frames}
 use Rattle.capnp_streams.specs.declared.streams.runs.Stop.{Stop}
 use Rattle.capnp_streams.specs.declared.streams.stream_error.StreamError.{StreamError}
 use Rattle.capnp_streams.specs.declared.streams.stream_error.StreamError.TheVariants.{Frame, Layout}
@@ -44,8 +45,7 @@ abbrev pub validating : ReaderOptions → Job
 validating limits = answering (record {
   command = Validate;
   limits = limits;
-  unpack = false;
-  from_flat = false;
+  input_form = Frames;
   pack = false;
   hex = false;
   quiet = false;

@@ -1,7 +1,8 @@
 //! Parses the arguments, one by one.
 ghost use Rattle.std.specs.Prelude.{◌≡◌};
-ghost use Rattle.capnp_streams.specs.Arguments.{assigned_step, budget_of, command_step, end_of, option_fault_of, conflicting_options_fault, lacks_check, parsed_diff, parsed_form, parsed_reads_flat, parsed_request, parsed_show, parsed_with_value, named_step, nesting_of, operand_step, option_named, option_step, parted_step, no_arguments, show_option_fault, step_if_allowed, argument_step, step_or, parsed_task, unsupported_option_fault};
+ghost use Rattle.capnp_streams.specs.Arguments.{assigned_step, budget_of, command_step, end_of, option_fault_of, conflicting_options_fault, lacks_check, parsed_diff, parsed_form, parsed_input_form, parsed_reads_flat, parsed_request, parsed_show, parsed_with_value, named_step, nesting_of, operand_step, option_named, option_step, parted_step, no_arguments, show_option_fault, step_if_allowed, argument_step, step_or, parsed_task, unsupported_option_fault};
 
+use super::input_form::InputForm;
 use super::options::{
     OptionName, Subcommand, ValueOption, looks_like_option, option_of, split_at_equals,
     subcommand_of,
@@ -114,6 +115,20 @@ impl ParsedArguments {
         match self.subcommand {
             Some(Subcommand::Canon) | None => self.from_flat,
             Some(_) => self.flat || self.from_flat,
+        }
+    }
+
+    /// Returns how the line asks to read the input. Raw words are never packed:
+    /// `conflicting_options_fault` refuses to ask for both.
+    fn input_form(&self) -> InputForm
+        ensures { result ≡ parsed_input_form self.now }
+    {
+        if self.unpack {
+            InputForm::PackedFrames
+        } else if self.reads_flat() {
+            InputForm::RawWords
+        } else {
+            InputForm::Frames
         }
     }
 
@@ -564,8 +579,7 @@ impl ParsedArguments {
         Task {
             command,
             limits: self.limits,
-            unpack: self.unpack,
-            from_flat: self.reads_flat(),
+            input_form: self.input_form(),
             pack: self.pack,
             hex: self.hex,
             quiet: self.quiet,
@@ -586,8 +600,7 @@ impl ParsedArguments {
             bytes: self.bytes.unwrap_or(Some(PLAIN_BYTES)),
             path: self.path,
             limits: self.limits,
-            unpack: self.unpack,
-            from_flat: self.reads_flat(),
+            input_form: self.input_form(),
         }
     }
 
@@ -597,8 +610,7 @@ impl ParsedArguments {
     {
         DiffTask {
             limits: self.limits,
-            unpack: self.unpack,
-            from_flat: self.reads_flat(),
+            input_form: self.input_form(),
             quiet: self.quiet,
         }
     }
