@@ -20,7 +20,7 @@ pub use capnp_messages::messages::{Command, Form};
 pub use diffs::{Compared, DiffFault, Side, run_diff, run_diff_flat, run_diff_packed};
 pub use flat::{run_flat, run_flat_with};
 pub use input_form::InputForm;
-pub use options::{OptionName, Subcommand, ValueOption};
+pub use options::{OptionName, PlainOption, Subcommand, ValueOption, option_of};
 pub use packed::{run_packed, run_packed_with};
 pub use path::{Path, paths_parsed};
 pub use runs::{Stop, Summary, run, run_with};
