@@ -5,7 +5,7 @@ use Rattle.capnp_packing.specs.Packing.{IsWhole}
 use Rattle.capnp_packing.specs.declared.packing.place.Place.TheVariants.{Tag}
 use Rattle.capnp_streams.specs.Diffs.{AreAllCompared, AreFlatCompared, DiffStage, IsPackedCompared}
 use Rattle.capnp_streams.specs.Flat.{IsFlatDone}
-use Rattle.capnp_streams.specs.Jobs.{Job}
+use Rattle.capnp_streams.specs.declared.streams.task.Job.{Job}
 use Rattle.capnp_streams.specs.Packed.{unpacked_stage}
 use Rattle.capnp_streams.specs.Streams.{AreDone, Stage}
 use Rattle.capnp_streams.specs.declared.streams.diffs.Compared.{Compared}

@@ -4,8 +4,8 @@ ghost use Rattle.capnp_streams.specs.Arguments.{assigned_step, budget_of, comman
 
 use super::input_form::InputForm;
 use super::options::{
-    OptionName, PlainOption, Subcommand, ValueOption, looks_like_option, option_of, split_at_equals,
-    subcommand_of,
+    OptionName, PlainOption, Subcommand, ValueOption, looks_like_option, option_of,
+    split_at_equals, subcommand_of,
 };
 use super::path::{Path, parse_path};
 use super::task::{DiffTask, Request, ShowTask, Task};

@@ -1,6 +1,7 @@
 //! The task for each message, and the arguments that ask for it.
 ghost use Rattle.std.specs.Prelude.{◌≡◌, ◌<◌, ◌+◌, ◌++◌, ℕ, List, IfErr, IfOk, length, map, string_bytes, take};
 ghost use Rattle.capnp_streams.specs.Arguments.{files_of, request_of};
+ghost use Rattle.capnp_streams.specs.Jobs.{job_form, job_limits};
 
 use super::arguments::{ArgumentFault, ArgumentStep, ParsedArguments};
 use super::input_form::InputForm;
@@ -50,6 +51,37 @@ pub struct ShowTask {
     pub limits: ReaderOptions,
     /// How the input is read.
     pub input_form: InputForm,
+}
+
+/// What to do with each message of an input.
+#[derive(Clone, Copy)]
+pub enum Job {
+    /// To answer it.
+    Answer(Task),
+    /// To show it.
+    Show(ShowTask),
+}
+
+impl Job {
+    /// The limits for reading each message.
+    pub fn limits(&self) -> ReaderOptions
+        ensures { result ≡ job_limits self.now }
+    {
+        match self {
+            Job::Answer(task) => task.limits,
+            Job::Show(task) => task.limits,
+        }
+    }
+
+    /// How the input is read.
+    pub fn input_form(&self) -> InputForm
+        ensures { result ≡ job_form self.now }
+    {
+        match self {
+            Job::Answer(task) => task.input_form,
+            Job::Show(task) => task.input_form,
+        }
+    }
 }
 
 /// How to compare the messages of two files, and the limits for reading them.
