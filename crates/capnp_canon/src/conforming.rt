@@ -1,7 +1,6 @@
 //! Tests the messages of an input against a schema.
 
 ghost use Rattle.std.specs.Prelude.{◌≡◌, Ok, false, IfOk, OnOk};
-ghost use Rattle.capnp_streams.specs.Forms.{form_of_options};
 ghost use Rattle.capnp_streams.specs.Streams.{stage_of};
 ghost use Rattle.typed_streams.specs.TestedForms.{AreTestedAs};
 
@@ -27,14 +26,14 @@ pub fn test_input<R: BufferedInput + Drop, W: BufferedOutput>(
 ) -> Result<TestedMessages, ConformingStop>
     requires reads { R.has_failed input ≡ false }
     requires writes { W.has_failed output.old ≡ false }
-    ensures tested { IfOk result (AreTestedAs (form_of_options task.unpack task.from_flat)
+    ensures tested { IfOk result (AreTestedAs task.input_form
         (record { table = schema.now.table.words.items; row = schema.now.row; limits = task.limits })
         (stage_of R.Input W.Output input output.old) (W.contents output.new)) }
 {
     let alloc = session.rt.alloc();
     let (table, row) = (schema.table.words.as_slice(), schema.row);
     let mut input = CountedInput::new(input, session);
-    match task.input_form() {
+    match task.input_form {
         InputForm::Frames => test_stream(alloc, table, row, task.limits, &mut input, output),
         InputForm::PackedFrames => {
             test_packed_stream(alloc, table, row, task.limits, input, output)

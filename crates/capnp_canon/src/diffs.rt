@@ -2,7 +2,7 @@
 
 ghost use Rattle.std.specs.Prelude.{◌≡◌, false, IfOk};
 ghost use Rattle.capnp_streams.specs.Diffs.{diff_stage};
-ghost use Rattle.capnp_streams.specs.Forms.{IsComparedAs, form_of_options};
+ghost use Rattle.capnp_streams.specs.Forms.{IsComparedAs};
 
 use crate::BUFFER;
 use crate::inputs::{Unanswered, flush_to_report, report_refusal, report_unopened};
@@ -90,7 +90,7 @@ fn compare_readers<L: Read + Drop, R: Read + Drop, W: BufferedOutput>(
         Err(fault) => fault,
     };
     flush_to_report(session, output)?;
-    let form = task.input_form();
+    let form = task.input_form;
     match fault {
         DiffFault::Refused(Side::Left, stop) => {
             report_refusal(rt, form, Some(names.left), stop, "", &left_seen);
@@ -119,13 +119,13 @@ fn compare_inputs<L: BufferedInput + Drop, R: BufferedInput + Drop, W: BufferedO
     requires left { L.has_failed left ≡ false }
     requires right { R.has_failed right ≡ false }
     requires writes { W.has_failed output.old ≡ false }
-    ensures compared { IfOk result (IsComparedAs (form_of_options task.unpack task.from_flat)
-        task.limits (diff_stage L.Input R.Input W.Output left right output.old)
+    ensures compared { IfOk result (IsComparedAs task.input_form task.limits
+        (diff_stage L.Input R.Input W.Output left right output.old)
         (W.contents output.new)) }
 {
     let alloc = session.rt.alloc();
     let mut left = CountedInput::new(left, session);
-    match task.input_form() {
+    match task.input_form {
         InputForm::Frames => match streams::run_diff(alloc, task, &mut left, &mut right, output) {
             Ok(compared) => Ok(compared.is_same),
             Err(fault) => Err(fault),

@@ -2,8 +2,8 @@
 //! error which message can't be answered.
 
 ghost use Rattle.std.specs.Prelude.{◌≡◌, Ok, false, IfErr, IfOk};
-ghost use Rattle.capnp_canon.specs.Asked.{asked_by, form_of_job};
 ghost use Rattle.capnp_streams.specs.Forms.{IsAnsweredAs};
+ghost use Rattle.capnp_streams.specs.Jobs.{job_form};
 ghost use Rattle.capnp_streams.specs.Streams.{stage_of};
 
 use crate::BUFFER;
@@ -14,13 +14,14 @@ use crate::schema::Schema;
 use crate::texts::{NO_MEMORY, error_text};
 use capnp_framing::devices::Output;
 use capnp_framing::framing::FrameError;
+use capnp_messages::messages::CopyMemory;
 use capnp_packing::buffered::{BufReaderInput, BufferedInput, BufferedOutput};
 use capnp_refusals::refusals::RefusedPointer;
 use capnp_streams::device_log::{DeviceLog, Logged};
 use capnp_streams::devices::{NamedLines, NumberedLines};
 use capnp_streams::looks::guess_input;
 use capnp_streams::streams::{
-    self, Command, InputForm, ShowTask, Stop, StreamError, Summary, Task,
+    self, Command, InputForm, Job, ShowTask, Stop, StreamError, Summary, Task,
 };
 use std::alloc::AllocError;
 use std::fs::File;
@@ -33,27 +34,6 @@ pub enum Unanswered {
     Said,
     /// Writing the output failed.
     WriteFailed,
-}
-
-/// What is done with each message of an input.
-#[derive(Clone, Copy)]
-pub enum Job {
-    /// It is answered.
-    Answer(Task),
-    /// It is shown.
-    Show(ShowTask),
-}
-
-impl Job {
-    /// How the input is read.
-    fn input_form(self) -> InputForm
-        ensures { result ≡ form_of_job self }
-    {
-        match self {
-            Job::Answer(task) => task.input_form(),
-            Job::Show(task) => task.input_form(),
-        }
-    }
 }
 
 /// What is done with an input.
@@ -70,9 +50,19 @@ impl Work<'_> {
     fn input_form(self) -> InputForm {
         match self {
             Work::Do(job) => job.input_form(),
-            Work::Test(task, _) => task.input_form(),
+            Work::Test(task, _) => task.input_form,
         }
     }
+}
+
+/// What is added to each line that a message is answered with.
+#[derive(Clone, Copy)]
+enum AddedToLines {
+    Nothing,
+    /// The file's name before it, if there are several files.
+    Name,
+    /// The file's name, `-` for standard input, and the number of the message after it.
+    NameAndNumber,
 }
 
 /// Why an input isn't answered to its end, and what is known of the pointer that is refused.
@@ -100,15 +90,16 @@ pub fn answer_all<W: BufferedOutput>(
     if task.lists {
         return verify_all(session, task, files, output);
     }
-    if matches!(task.command, Command::Digest) {
-        return digest_all(session, task, files, output);
-    }
-    let are_named = !matches!(task.command, Command::Canon(_));
+    let added = match task.command {
+        Command::Canon(_) => AddedToLines::Nothing,
+        Command::Digest => AddedToLines::NameAndNumber,
+        Command::Check | Command::Size | Command::Validate => AddedToLines::Name,
+    };
     let work = match schema {
         Some(schema) => Work::Test(task, schema),
         None => Work::Do(Job::Answer(task)),
     };
-    for_each_file(session, work, are_named, files, output)
+    for_each_file(session, work, added, files, output)
 }
 
 /// Shows each message of each file in turn, or of standard input if there are no files. Returns
@@ -121,66 +112,53 @@ pub fn show_all<W: BufferedOutput>(
     files: &[String],
     output: &mut W,
 ) -> Result<bool, Unanswered> {
-    for_each_file(
-        session,
-        Work::Do(Job::Show(task)),
-        !task.json,
-        files,
-        output,
-    )
+    let added = if task.json {
+        AddedToLines::Nothing
+    } else {
+        AddedToLines::Name
+    };
+    for_each_file(session, Work::Do(Job::Show(task)), added, files, output)
 }
 
-/// Does `work` with each message of each file in turn, or of standard input if there are no files.
-/// If `are_named` is set and there are several files, each line begins with the file's name.
+/// Does `work` with each message of each file in turn, or of standard input if there are no files,
+/// and adds to each line what `added` says.
 fn for_each_file<W: BufferedOutput>(
     session: &Session<'_>,
     work: Work<'_>,
-    are_named: bool,
+    added: AddedToLines,
     files: &[String],
     output: &mut W,
 ) -> Result<bool, Unanswered> {
     if files.is_empty() {
-        return answer_reader(session, work, None, session.rt.reader(), output);
+        let reader = session.rt.reader();
+        return match added {
+            AddedToLines::NameAndNumber => {
+                answer_reader(
+                    session,
+                    work,
+                    None,
+                    reader,
+                    &mut NumberedLines::new("-", output),
+                )
+            }
+            _ => answer_reader(session, work, None, reader, output),
+        };
     }
     let mut holds = true;
     for file in files {
         let name = file.as_str();
-        let here = if are_named && files.len() > 1 {
-            answer_file(session, work, name, &mut NamedLines::new(name, output))
-        } else {
-            answer_file(session, work, name, output)
+        let here = match added {
+            AddedToLines::NameAndNumber => {
+                answer_file(session, work, name, &mut NumberedLines::new(name, output))
+            }
+            AddedToLines::Name if files.len() > 1 => {
+                answer_file(session, work, name, &mut NamedLines::new(name, output))
+            }
+            _ => answer_file(session, work, name, output),
         };
         holds = here? && holds;
     }
     Ok(holds)
-}
-
-/// Does the task of `digest`, like `answer_all`.
-fn digest_all<W: BufferedOutput>(
-    session: &Session<'_>,
-    task: Task,
-    files: &[String],
-    output: &mut W,
-) -> Result<bool, Unanswered> {
-    if files.is_empty() {
-        return answer_reader(
-            session,
-            Work::Do(Job::Answer(task)),
-            None,
-            session.rt.reader(),
-            &mut NumberedLines::new("-", output),
-        );
-    }
-    for file in files {
-        let name = file.as_str();
-        answer_file(
-            session,
-            Work::Do(Job::Answer(task)),
-            name,
-            &mut NumberedLines::new(name, output),
-        )?;
-    }
-    Ok(true)
 }
 
 /// Does `work` with the file `name`, or with standard input if `name` is `-`. Returns what
@@ -309,26 +287,25 @@ fn run_job<R: BufferedInput + Drop, W: BufferedOutput>(
 ) -> Result<Summary, Stop>
     requires reads { R.has_failed input ≡ false }
     requires writes { W.has_failed output.old ≡ false }
-    ensures answered { IfOk result (IsAnsweredAs (form_of_job job) (asked_by job)
+    ensures answered { IfOk result (IsAnsweredAs (job_form job) job
         (stage_of R.Input W.Output input output.old) (W.contents output.new)) }
 {
     let alloc = session.rt.alloc();
+    let memory = CopyMemory::new(alloc);
     let mut input = CountedInput::new(input, session);
-    match job {
-        Job::Answer(task) => match task.input_form() {
-            InputForm::Frames => streams::run(alloc, task, &mut input, output),
-            InputForm::PackedFrames => streams::run_packed(alloc, task, input, output),
-            InputForm::RawWords => summary_of_one(streams::run_flat(
-                alloc, task, &mut input, output,
-            )),
-        },
-        Job::Show(task) => match task.input_form() {
-            InputForm::Frames => streams::run_show(alloc, task, &mut input, output),
-            InputForm::PackedFrames => streams::run_show_packed(alloc, task, input, output),
-            InputForm::RawWords => summary_of_one(streams::run_show_flat(
-                alloc, task, &mut input, output,
-            )),
-        },
+    match job.input_form() {
+        InputForm::Frames => {
+            let (summary, _) = streams::run(alloc, memory, job, &mut input, output);
+            summary
+        }
+        InputForm::PackedFrames => {
+            let (summary, _) = streams::run_packed(alloc, memory, job, input, output);
+            summary
+        }
+        InputForm::RawWords => {
+            let (holds, _) = streams::run_flat(alloc, memory, job, &mut input, output);
+            summary_of_one(holds)
+        }
     }
 }
 

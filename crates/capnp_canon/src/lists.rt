@@ -1,13 +1,13 @@
 //! Verifies lists that `digest` has written: whether the messages that they name still have the
 //! digests that they state.
 
-use crate::inputs::{Job, Unanswered, Work, answer_file, flush, flush_to_report};
+use crate::inputs::{Unanswered, Work, answer_file, flush, flush_to_report};
 use crate::progress::Session;
 use crate::texts::{NO_MEMORY, NO_UTF8, error_text};
 use capnp_framing::devices::{DeviceFault, MemoryOutput, Output, write_all};
 use capnp_packing::buffered::BufferedOutput;
 use capnp_streams::devices::{write_escape_mark, write_name_and_number};
-use capnp_streams::streams::Task;
+use capnp_streams::streams::{Job, Task};
 use std::alloc::{AllocError, Global};
 use std::fs::File;
 use std::io::{self, Read};

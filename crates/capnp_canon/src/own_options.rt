@@ -2,7 +2,7 @@
 
 use crate::progress::ProgressDisplay;
 use capnp_messages::messages::Command;
-use capnp_streams::streams::{Request, ValueOption};
+use capnp_streams::streams::{OptionName, Request, option_of};
 use std::alloc::{AllocError, Global};
 
 /// The arguments without `--progress`, `--no-progress` and `--schema`, and what these say.
@@ -110,9 +110,5 @@ fn command_of(request: Request) -> &'static str {
 
 /// Whether the argument after `text` is the value of the option `text`.
 fn takes_value(text: &str) -> bool {
-    text == ValueOption::Nesting.text()
-        || text == ValueOption::Words.text()
-        || text == ValueOption::At.text()
-        || text == ValueOption::Depth.text()
-        || text == ValueOption::Bytes.text()
+    matches!(option_of(text), Some(OptionName::Valued(_)))
 }

@@ -16,7 +16,9 @@ use Rattle.capnp_messages.proofs.FramesLemmas.{no_bytes_begin}
 use Rattle.capnp_words.specs.declared.error.ErrorKind.TheVariants.{AllocationFailed}
 use Rattle.capnp_refusals.specs.declared.refusals.search.RefusedPointer.{RefusedPointer}
 use Rattle.capnp_streams.specs.Asked.{RefusesAsked}
-use Rattle.capnp_streams.specs.Jobs.{Job, answering, showing, most_of}
+use Rattle.capnp_streams.specs.Jobs.{most_of}
+use Rattle.capnp_streams.specs.declared.streams.task.Job.{Job}
+use Rattle.capnp_streams.specs.declared.streams.task.Job.TheVariants.{Answer, Show}
 use Rattle.capnp_streams.specs.Streams.{AnswerIs, Answers, AreDone, AreFrames, CanBeAnswered, EndsAfter, HasJobAnswer, IsOfDevices}
 use Rattle.capnp_streams.specs.Streams.{JobRefuses, Question, Stage, StopsAt}
 use Rattle.capnp_framing.specs.declared.framing.frame_error.FrameError.{FrameError}
@@ -48,8 +50,8 @@ first_has P most (T ∷ more) left S (first, rest, is, framed, short, others) al
 
 -- a job that has an answer isn't refused for what a message holds
 pub job_refused : (job : Job) (S : Segments) (k : ErrorKind) (p : Option RefusedPointer) → HasJobAnswer job S → JobRefuses job S k p → k ≡ AllocationFailed
-job_refused (answering task) S k p has (refused, told) = asked_refused task.command task S has refused
-job_refused (showing task) S k p has refused = absurd refused
+job_refused (Answer task) S k p has (refused, told) = asked_refused task.command task S has refused
+job_refused (Show task) S k p has (memory, told) = memory
 
 stops_so : (job : Job) (more : List Segments) (left : List ℕ) (after : Option (List ℕ)) (failed : Bool) (fault : StreamError) →
     AreFrames (most_of job) more left → All (HasJobAnswer job) more →

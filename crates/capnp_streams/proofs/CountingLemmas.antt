@@ -45,7 +45,7 @@ written_uncounted command result (Err e) holds is failed =
 -- memory
 pub memory_counted : {A : Type 0} (refusals : A → ℕ) (old new : Option A) (command : Command) (result : Result Bool StreamError) →
     IsSome new → option_map_or refusals new 0 ≡ option_map_or refusals old 0 →
-    IfErr result (λ fault. (n : ℕ) → refusals_behind command fault n ≡ n) → CountsRefusals refusals old new command result
+    IfErr result (λ fault. (n : ℕ) → refusals_behind command fault n ≡ n) → CountsRefusals refusals old new (refusals_behind command) result
 memory_counted refusals old new command (Ok holds) there same uncounted = record { there = there; kept = same; counted = tt }
 memory_counted refusals old new command (Err fault) there same uncounted =
     record { there = there; kept = tt; counted = same ∙ sym (uncounted (option_map_or refusals old 0)) }

@@ -1,25 +1,25 @@
 -- An input that is one message without a frame is answered, or is not.
-use Rattle.std.proofs.Common.{◌≡◌, ◌⊎◌, inl, inr, ℕ, List, [], ◌∷◌, Bool, Option, Some, None, IfSome, IsSomeAnd, refl, sym, ap, subst}
+use Rattle.std.proofs.Common.{◌≡◌, ◌⊎◌, inl, inr, ℕ, List, [], ◌∷◌, Bool, Option, Some, None, IfSome, IsSomeAnd, Result, Ok, Err, IfOk, refl, sym, subst}
 use Rattle.std.specs.Io.KnownBytes.{Appends, Consumes, IsAtEnd}
 use Rattle.capnp_format.specs.Bytes.{message}
 use Rattle.capnp_framing.proofs.BareLemmas.{all_so, bare_words_are_read}
 use Rattle.capnp_framing.specs.Bare.{AreBareWords}
 use Rattle.capnp_framing.specs.declared.framing.frame_error.FrameError.TheVariants.{WriteFailed}
 use Rattle.capnp_streams.proofs.AnsweredLemmas.{job_refused}
-use Rattle.capnp_streams.specs.Asked.{RefusesAsked, pointer_asked}
 use Rattle.capnp_streams.specs.Flat.{CanFlatBeAnswered, IsFlatDone, StopsFlat}
-use Rattle.capnp_streams.specs.Jobs.{Job, answering, most_of}
-use Rattle.capnp_streams.specs.Streams.{IsOfDevices, JobAnswerIs, JobRefuses, RefusesBy, with_pointer}
+use Rattle.capnp_streams.specs.Jobs.{most_of}
+use Rattle.capnp_streams.specs.declared.streams.task.Job.{Job}
+use Rattle.capnp_streams.specs.Streams.{IsOfDevices, JobAnswerIs, JobRefuses, RefusesJob}
 use Rattle.capnp_streams.specs.declared.streams.stream_error.StreamError.{StreamError}
 use Rattle.capnp_streams.specs.declared.streams.stream_error.StreamError.TheVariants.{Frame, Layout, TooManyMessages}
-use Rattle.capnp_streams.specs.declared.streams.task.Task.{Task}
 
 -- the message is answered
-pub flat_done : (job : Job) (holds : Bool) (from to before after : Option (List ℕ)) (segments : List (List ℕ)) (bytes : List ℕ) →
+pub flat_done : {E : Type 0} (job : Job) (result : Result Bool E) (from to before after : Option (List ℕ)) (segments : List (List ℕ)) (bytes : List ℕ) →
     AreBareWords bytes (most_of job) → Consumes from to bytes → segments ≡ bytes ∷ [] →
-    ((answer : List ℕ) × JobAnswerIs job (message segments) holds answer × Appends before after answer) →
-    IsFlatDone job (record { input = from; output = before }) (record { input = to; output = after }) holds
-flat_done job holds from to before after segments bytes bare consumed only (answer, is, written) = record {
+    IfOk result (λ holds. (answer : List ℕ) × JobAnswerIs job (message segments) holds answer × Appends before after answer) →
+    IfOk result (IsFlatDone job (record { input = from; output = before }) (record { input = to; output = after }))
+flat_done job (Err e) from to before after segments bytes bare consumed only answered = tt
+flat_done job (Ok holds) from to before after segments bytes bare consumed only (answer, is, written) = record {
   bytes = bytes;
   answer = answer;
   bare = bare;
@@ -29,18 +29,15 @@ flat_done job holds from to before after segments bytes bare consumed only (answ
 }
 
 -- the message is refused
-pub flat_refused : {R Q : Type 0} (task : Task) (from to : Option (List ℕ)) (segments : List (List ℕ)) (bytes : List ℕ) (failed : Bool) (fault : StreamError) →
-    AreBareWords bytes (most_of (answering task)) → Consumes from to bytes → IsAtEnd to → segments ≡ bytes ∷ [] →
-    ((fault ≡ Frame WriteFailed) × R) ⊎ (RefusesBy task.command task (message segments) fault × Q) →
-    ((with_pointer task (message segments) fault ≡ Frame WriteFailed) × R) ⊎ (StopsFlat (answering task) from failed (with_pointer task (message segments) fault) × Q)
-flat_refused task from to segments bytes failed fault bare consumed end only (inl (named, device)) = inl (ap (with_pointer task (message segments)) named, device)
-flat_refused task from to segments bytes failed (Frame e) bare consumed end only (inr (refused, kept)) = absurd refused
-flat_refused task from to segments bytes failed (Layout k p) bare consumed end only (inr (refused, kept)) =
+pub flat_refused : {P Q : Type 0} (job : Job) (from to : Option (List ℕ)) (segments : List (List ℕ)) (bytes : List ℕ) (failed : Bool) (fault : StreamError) →
+    AreBareWords bytes (most_of job) → Consumes from to bytes → IsAtEnd to → segments ≡ bytes ∷ [] →
+    P ⊎ (RefusesJob job (message segments) fault × Q) → P ⊎ (StopsFlat job from failed fault × Q)
+flat_refused job from to segments bytes failed fault bare consumed end only (inl written) = inl written
+flat_refused job from to segments bytes failed (Frame e) bare consumed end only (inr (refused, kept)) = absurd refused
+flat_refused job from to segments bytes failed (Layout k p) bare consumed end only (inr (refused, kept)) =
     let all : IfSome from (λ all. all ≡ bytes) = all_so from to bytes (λ all. all ≡ bytes) consumed end refl in
-    let why = subst (λ (B : List (List ℕ)). RefusesAsked task.command task (message B) k) only refused in
-    let told = ap (λ (B : List (List ℕ)). pointer_asked k task (message B)) only in
-    inr ((bytes, all, bare, (why, told)), kept)
-flat_refused task from to segments bytes failed TooManyMessages bare consumed end only (inr (refused, kept)) = absurd refused
+    inr ((bytes, all, bare, subst (λ (B : List (List ℕ)). JobRefuses job (message B) k p) only refused), kept)
+flat_refused job from to segments bytes failed TooManyMessages bare consumed end only (inr (refused, kept)) = absurd refused
 
 -- a message that has an answer is never refused for what it holds
 answerable_so : (job : Job) (bytes : List ℕ) (failed : Bool) (fault : StreamError) → CanFlatBeAnswered job bytes →

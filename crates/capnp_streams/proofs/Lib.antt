@@ -8,6 +8,7 @@ pub mod DiffStepLemmas
 pub mod DigitLemmas
 pub mod FlatLemmas
 pub mod FramesLemmas
+pub mod JobLemmas
 pub mod PackedLemmas
 pub mod PartLemmas
 pub mod PathLemmas

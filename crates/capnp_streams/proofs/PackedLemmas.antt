@@ -10,7 +10,7 @@ use Rattle.capnp_packing.specs.declared.packing.place.Place.TheVariants.{Tag}
 use Rattle.capnp_framing.proofs.WholenessLemmas.{keeps_whole_both}
 use Rattle.capnp_framing.specs.declared.framing.frame_error.FrameError.TheVariants.{ReadFailed, Truncated, WriteFailed}
 use Rattle.capnp_streams.proofs.StreamLemmas.{keeps_same}
-use Rattle.capnp_streams.specs.Jobs.{Job}
+use Rattle.capnp_streams.specs.declared.streams.task.Job.{Job}
 use Rattle.capnp_streams.specs.Packed.{IsCutAfter}
 use Rattle.capnp_streams.specs.Streams.{AreDone, EndsAfter, Stage, StopsAt, WereAnswered}
 use Rattle.capnp_streams.specs.declared.streams.stream_error.StreamError.{StreamError}

@@ -10,7 +10,8 @@ use Rattle.capnp_framing.specs.Frames.{IsFrameOf, frame, padding_size}
 use Rattle.capnp_framing.specs.Reading.{total}
 use Rattle.capnp_framing.proofs.ReadingLemmas.{consumes_both, length-frame_with}
 use Rattle.capnp_framing.proofs.WritingLemmas.{appends_both}
-use Rattle.capnp_streams.specs.Jobs.{Job, most_of}
+use Rattle.capnp_streams.specs.Jobs.{most_of}
+use Rattle.capnp_streams.specs.declared.streams.task.Job.{Job}
 use Rattle.capnp_streams.specs.Streams.{AreAnswered, AreDone, AreFrames, JobAnswerIs, Stage}
 use Rattle.capnp_streams.specs.declared.streams.runs.Summary.{Summary}
 use Rattle.capnp_packing.proofs.PackingLemmas.{kept_appends}

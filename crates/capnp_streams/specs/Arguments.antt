@@ -17,12 +17,15 @@ use Rattle.capnp_streams.specs.declared.streams.arguments.ArgumentFault.TheVaria
 use Rattle.capnp_streams.specs.declared.streams.arguments.ArgumentFault.TheVariants.{MissingValue, InvalidValue, InvalidAssignment, UnwantedValue}
 use Rattle.capnp_streams.specs.declared.streams.arguments.ArgumentFault.TheVariants.{NotOfCommand, Excluded, Needs}
 use Rattle.capnp_streams.specs.declared.streams.arguments.ParsedArguments.{ParsedArguments}
+use Rattle.capnp_streams.specs.declared.streams.input_form.InputForm.{InputForm}
+use Rattle.capnp_streams.specs.declared.streams.input_form.InputForm.TheVariants.{Frames, PackedFrames, RawWords}
 use Rattle.capnp_streams.specs.declared.streams.options.OptionName.{OptionName}
-use Rattle.capnp_streams.specs.declared.streams.options.OptionName.TheVariants.{Help, HelpLetter, Version, VersionLetter, End}
-use Rattle.capnp_streams.specs.declared.streams.options.OptionName.TheVariants.{Packed, Pack, Flat as FlatName, FromFlat, Hex, Quiet, Nesting, Words}
-use Rattle.capnp_streams.specs.declared.streams.options.OptionName.TheVariants.{Check as CheckName, CheckLetter, At, Json, Values, Depth, Color, Bytes}
+use Rattle.capnp_streams.specs.declared.streams.options.OptionName.TheVariants.{Help, HelpLetter, Version, VersionLetter, End, Plain, Valued}
+use Rattle.capnp_streams.specs.declared.streams.options.PlainOption.{PlainOption}
+use Rattle.capnp_streams.specs.declared.streams.options.PlainOption.TheVariants.{Packed, Pack, Flat as FlatName, FromFlat, Hex, Quiet}
+use Rattle.capnp_streams.specs.declared.streams.options.PlainOption.TheVariants.{Check as CheckName, CheckLetter, Json, Values, Color}
 use Rattle.capnp_streams.specs.declared.streams.options.ValueOption.{ValueOption}
-use Rattle.capnp_streams.specs.declared.streams.options.ValueOption.TheVariants.{Nesting as SetNesting, Words as SetWords, At as SetAt, Depth as SetDepth, Bytes as SetBytes}
+use Rattle.capnp_streams.specs.declared.streams.options.ValueOption.TheVariants.{Nesting, Words, At, Depth, Bytes}
 use Rattle.capnp_streams.specs.declared.streams.arguments.ArgumentStep.{ArgumentStep}
 use Rattle.capnp_streams.specs.declared.streams.arguments.ArgumentStep.TheVariants.{Goes, File, Stops}
 use Rattle.capnp_streams.specs.declared.streams.options.Subcommand.{Subcommand}
@@ -34,6 +37,28 @@ use Rattle.capnp_streams.specs.declared.streams.task.ShowTask.{ShowTask}
 use Rattle.capnp_streams.specs.declared.streams.task.Task.{Task}
 use Rattle.capnp_streams.specs.declared.streams.task.WrongArgument.{WrongArgument}
 
+-- The text of an option that takes no value and says something about the task.
+abbrev pub plain_option_text : PlainOption → List ℕ
+plain_option_text Packed = codes "--packed"
+plain_option_text Pack = codes "--pack"
+plain_option_text FlatName = codes "--flat"
+plain_option_text FromFlat = codes "--from-flat"
+plain_option_text Hex = codes "--hex"
+plain_option_text Quiet = codes "--quiet"
+plain_option_text CheckName = codes "--check"
+plain_option_text CheckLetter = codes "-c"
+plain_option_text Json = codes "--json"
+plain_option_text Values = codes "--values"
+plain_option_text Color = codes "--color"
+
+-- The text of an option with a value.
+abbrev pub value_option_text : ValueOption → List ℕ
+value_option_text Nesting = codes "--nesting"
+value_option_text Words = codes "--words"
+value_option_text At = codes "--at"
+value_option_text Depth = codes "--depth"
+value_option_text Bytes = codes "--bytes"
+
 -- The text of an option.
 abbrev pub option_text : OptionName → List ℕ
 option_text Help = codes "--help"
@@ -41,27 +66,15 @@ option_text HelpLetter = codes "-h"
 option_text Version = codes "--version"
 option_text VersionLetter = codes "-V"
 option_text End = codes "--"
-option_text Packed = codes "--packed"
-option_text Pack = codes "--pack"
-option_text FlatName = codes "--flat"
-option_text FromFlat = codes "--from-flat"
-option_text Hex = codes "--hex"
-option_text Quiet = codes "--quiet"
-option_text Nesting = codes "--nesting"
-option_text Words = codes "--words"
-option_text CheckName = codes "--check"
-option_text CheckLetter = codes "-c"
-option_text At = codes "--at"
-option_text Json = codes "--json"
-option_text Values = codes "--values"
-option_text Depth = codes "--depth"
-option_text Color = codes "--color"
-option_text Bytes = codes "--bytes"
+option_text (Plain option) = plain_option_text option
+option_text (Valued option) = value_option_text option
 
 abbrev pub all_options : List OptionName
 all_options =
-    Help ∷ HelpLetter ∷ Version ∷ VersionLetter ∷ End ∷ Packed ∷ Pack ∷ FlatName ∷ FromFlat ∷ Hex ∷ Quiet ∷ Nesting ∷ Words
-    ∷ CheckName ∷ CheckLetter ∷ At ∷ Json ∷ Values ∷ Depth ∷ Color ∷ Bytes ∷ []
+    Help ∷ HelpLetter ∷ Version ∷ VersionLetter ∷ End
+    ∷ Plain Packed ∷ Plain Pack ∷ Plain FlatName ∷ Plain FromFlat ∷ Plain Hex ∷ Plain Quiet ∷ Plain CheckName ∷ Plain CheckLetter
+    ∷ Plain Json ∷ Plain Values ∷ Plain Color
+    ∷ Valued Nesting ∷ Valued Words ∷ Valued At ∷ Valued Depth ∷ Valued Bytes ∷ []
 
 -- The option among `options` that has this text.
 abbrev pub option_among : List OptionName → List ℕ → Option OptionName
@@ -91,14 +104,6 @@ subcommand_named text =
     if bytes_eq text (subcommand_text ToValidate) then Some ToValidate else
     if bytes_eq text (subcommand_text ToShow) then Some ToShow else
     if bytes_eq text (subcommand_text ToDiff) then Some ToDiff else None
-
--- The text of an option with a value.
-abbrev pub value_option_text : ValueOption → List ℕ
-value_option_text SetNesting = option_text Nesting
-value_option_text SetWords = option_text Words
-value_option_text SetAt = option_text At
-value_option_text SetDepth = option_text Depth
-value_option_text SetBytes = option_text Bytes
 
 -- What follows an optional `-`, and the number that both write.
 abbrev pub unsigned_text : List ℕ → List ℕ
@@ -153,53 +158,61 @@ verb_reads_flat (Some subcommand) flat from_flat = flat || from_flat
 abbrev pub parsed_reads_flat : ParsedArguments → Bool
 parsed_reads_flat line = verb_reads_flat line.subcommand line.flat line.from_flat
 
--- An option of the line that its command doesn't have. Only `canon` has options for what it writes,
--- and only `digest` one for its lists, which `--quiet` needs there; `check`, `validate` and `diff`
--- take no path; `--flat` is for all of them.
+-- How a line requests to read the input. No request is for both packed frames and raw words.
+abbrev pub parsed_input_form : ParsedArguments → InputForm
+parsed_input_form line =
+    if line.unpack then PackedFrames else if parsed_reads_flat line then RawWords else Frames
+
+-- Which options a command has. All commands have the other options.
+abbrev pub writes_words : Subcommand → Bool
+writes_words ToCanon = true
+writes_words _ = false
+
+abbrev pub can_be_quiet : Subcommand → Bool
+can_be_quiet ToCheck = true
+can_be_quiet ToDigest = true
+can_be_quiet ToValidate = true
+can_be_quiet ToDiff = true
+can_be_quiet _ = false
+
+abbrev pub reads_lists : Subcommand → Bool
+reads_lists ToDigest = true
+reads_lists _ = false
+
+abbrev pub takes_path : Subcommand → Bool
+takes_path ToCanon = true
+takes_path ToSize = true
+takes_path ToDigest = true
+takes_path ToShow = true
+takes_path _ = false
+
+abbrev pub shows : Subcommand → Bool
+shows ToShow = true
+shows _ = false
+
+-- An option of the line that only `show` has.
+abbrev pub option_of_show : ParsedArguments → Option OptionName
+option_of_show line =
+    if line.json then Some (Plain Json) else
+    if line.values then Some (Plain Values) else
+    if is_some line.depth then Some (Valued Depth) else
+    if line.colors then Some (Plain Color) else
+    if is_some line.bytes then Some (Valued Bytes) else None
+
+-- An option of the line that a command doesn't have.
+abbrev pub unsupported_option : Subcommand → ParsedArguments → Option OptionName
+unsupported_option subcommand line =
+    if line.pack && not (writes_words subcommand) then Some (Plain Pack) else
+    if line.hex && not (writes_words subcommand) then Some (Plain Hex) else
+    if line.quiet && not (can_be_quiet subcommand) then Some (Plain Quiet) else
+    if line.lists && not (reads_lists subcommand) then Some (Plain CheckName) else
+    if not (is_whole_path line.path) && not (takes_path subcommand) then Some (Valued At) else
+    if shows subcommand then None else option_of_show line
+
 abbrev pub unsupported_option_fault : Option Subcommand → ParsedArguments → Option ArgumentFault
 unsupported_option_fault None line = None
-unsupported_option_fault (Some ToCanon) line =
-    if line.quiet then Some (NotOfCommand ToCanon Quiet) else
-    if line.lists then Some (NotOfCommand ToCanon CheckName) else None
-unsupported_option_fault (Some ToCheck) line =
-    if line.pack then Some (NotOfCommand ToCheck Pack) else
-    if line.hex then Some (NotOfCommand ToCheck Hex) else
-    if line.lists then Some (NotOfCommand ToCheck CheckName) else
-    if not (is_whole_path line.path) then Some (NotOfCommand ToCheck At) else None
-unsupported_option_fault (Some ToSize) line =
-    if line.pack then Some (NotOfCommand ToSize Pack) else
-    if line.hex then Some (NotOfCommand ToSize Hex) else
-    if line.quiet then Some (NotOfCommand ToSize Quiet) else
-    if line.lists then Some (NotOfCommand ToSize CheckName) else None
-unsupported_option_fault (Some ToDigest) line =
-    if line.pack then Some (NotOfCommand ToDigest Pack) else
-    if line.hex then Some (NotOfCommand ToDigest Hex) else None
-unsupported_option_fault (Some ToValidate) line =
-    if line.pack then Some (NotOfCommand ToValidate Pack) else
-    if line.hex then Some (NotOfCommand ToValidate Hex) else
-    if line.lists then Some (NotOfCommand ToValidate CheckName) else
-    if not (is_whole_path line.path) then Some (NotOfCommand ToValidate At) else None
-unsupported_option_fault (Some ToShow) line =
-    if line.pack then Some (NotOfCommand ToShow Pack) else
-    if line.hex then Some (NotOfCommand ToShow Hex) else
-    if line.quiet then Some (NotOfCommand ToShow Quiet) else
-    if line.lists then Some (NotOfCommand ToShow CheckName) else None
-unsupported_option_fault (Some ToDiff) line =
-    if line.pack then Some (NotOfCommand ToDiff Pack) else
-    if line.hex then Some (NotOfCommand ToDiff Hex) else
-    if line.lists then Some (NotOfCommand ToDiff CheckName) else
-    if not (is_whole_path line.path) then Some (NotOfCommand ToDiff At) else None
-
--- An option of the line that only `show` has, if it has another command.
-abbrev pub show_option_fault : Option Subcommand → ParsedArguments → Option ArgumentFault
-show_option_fault None line = None
-show_option_fault (Some ToShow) line = None
-show_option_fault (Some subcommand) line =
-    if line.json then Some (NotOfCommand subcommand Json) else
-    if line.values then Some (NotOfCommand subcommand Values) else
-    if is_some line.depth then Some (NotOfCommand subcommand Depth) else
-    if line.colors then Some (NotOfCommand subcommand Color) else
-    if is_some line.bytes then Some (NotOfCommand subcommand Bytes) else None
+unsupported_option_fault (Some subcommand) line =
+    option_map (NotOfCommand subcommand) (unsupported_option subcommand line)
 
 -- Two options of the line that exclude each other: hex digits are written neither as raw words nor
 -- packed, JSON has no colors, and raw words aren't unpacked.
@@ -214,8 +227,7 @@ conflicting_options_fault line =
 -- Why the arguments of the line don't go together; `None` if they do.
 abbrev pub option_fault_of : ParsedArguments → Option ArgumentFault
 option_fault_of line =
-    option_or (unsupported_option_fault line.subcommand line)
-    (option_or (show_option_fault line.subcommand line) (conflicting_options_fault line))
+    option_or (unsupported_option_fault line.subcommand line) (conflicting_options_fault line)
 
 abbrev pub step_unless : Option ArgumentFault → ParsedArguments → Result ArgumentStep ArgumentFault
 step_unless None line = Ok (Goes line)
@@ -227,20 +239,20 @@ step_if_allowed line = step_unless (option_fault_of line) line
 
 -- The line with the value of an option added, if the text writes one.
 abbrev pub parsed_with_value : ValueOption → List ℕ → ParsedArguments → Option ParsedArguments
-parsed_with_value SetNesting text line = option_map (λ n. record line {
+parsed_with_value Nesting text line = option_map (λ n. record line {
   limits = record line.limits { nesting_limit = n };
   expects = None;
 }) (nesting_of text)
-parsed_with_value SetWords text line = option_map (λ n. record line {
+parsed_with_value Words text line = option_map (λ n. record line {
   limits = record line.limits { traversal_limit_in_words = n };
   expects = None;
 }) (budget_of text)
-parsed_with_value SetAt text line = option_map (λ p. record line { path = p; expects = None }) (path_of text)
-parsed_with_value SetDepth text line = option_map (λ n. record line {
+parsed_with_value At text line = option_map (λ p. record line { path = p; expects = None }) (path_of text)
+parsed_with_value Depth text line = option_map (λ n. record line {
   depth = Some n;
   expects = None;
 }) (nesting_of text)
-parsed_with_value SetBytes text line = option_map (λ n. record line {
+parsed_with_value Bytes text line = option_map (λ n. record line {
   bytes = Some n;
   expects = None;
 }) (budget_of text)
@@ -249,6 +261,20 @@ abbrev pub step_or : ArgumentFault → Option ParsedArguments → Result Argumen
 step_or fault None = Err fault
 step_or fault (Some line) = step_if_allowed line
 
+-- The line with an option that takes no value.
+abbrev pub with_option : PlainOption → ParsedArguments → ParsedArguments
+with_option Packed line = record line { unpack = true }
+with_option Pack line = record line { pack = true }
+with_option FlatName line = record line { flat = true }
+with_option FromFlat line = record line { from_flat = true }
+with_option Hex line = record line { hex = true }
+with_option Quiet line = record line { quiet = true }
+with_option CheckName line = record line { lists = true }
+with_option CheckLetter line = record line { lists = true }
+with_option Json line = record line { json = true }
+with_option Values line = record line { values = true }
+with_option Color line = record line { colors = true }
+
 -- The step of an option without a `=` and a value after it.
 abbrev pub option_step : OptionName → ParsedArguments → Result ArgumentStep ArgumentFault
 option_step Help line = Ok (Stops AskHelp)
@@ -256,31 +282,13 @@ option_step HelpLetter line = Ok (Stops AskHelp)
 option_step Version line = Ok (Stops AskVersion)
 option_step VersionLetter line = Ok (Stops AskVersion)
 option_step End line = Ok (Goes (record line { ended = true }))
-option_step Packed line = step_if_allowed (record line { unpack = true })
-option_step Pack line = step_if_allowed (record line { pack = true })
-option_step FlatName line = step_if_allowed (record line { flat = true })
-option_step FromFlat line = step_if_allowed (record line { from_flat = true })
-option_step Hex line = step_if_allowed (record line { hex = true })
-option_step Quiet line = step_if_allowed (record line { quiet = true })
-option_step CheckName line = step_if_allowed (record line { lists = true })
-option_step CheckLetter line = step_if_allowed (record line { lists = true })
-option_step Json line = step_if_allowed (record line { json = true })
-option_step Values line = step_if_allowed (record line { values = true })
-option_step Color line = step_if_allowed (record line { colors = true })
-option_step Depth line = Ok (Goes (record line { expects = Some SetDepth }))
-option_step Bytes line = Ok (Goes (record line { expects = Some SetBytes }))
-option_step Nesting line = Ok (Goes (record line { expects = Some SetNesting }))
-option_step Words line = Ok (Goes (record line { expects = Some SetWords }))
-option_step At line = Ok (Goes (record line { expects = Some SetAt }))
+option_step (Plain option) line = step_if_allowed (with_option option line)
+option_step (Valued option) line = Ok (Goes (record line { expects = Some option }))
 
 -- The step of an option with a `=` and a value after it.
 abbrev pub assigned_step : Option OptionName → List ℕ → ParsedArguments → Result ArgumentStep ArgumentFault
 assigned_step None value line = Err UnknownOption
-assigned_step (Some Nesting) value line = step_or (InvalidAssignment SetNesting) (parsed_with_value SetNesting value line)
-assigned_step (Some Words) value line = step_or (InvalidAssignment SetWords) (parsed_with_value SetWords value line)
-assigned_step (Some At) value line = step_or (InvalidAssignment SetAt) (parsed_with_value SetAt value line)
-assigned_step (Some Depth) value line = step_or (InvalidAssignment SetDepth) (parsed_with_value SetDepth value line)
-assigned_step (Some Bytes) value line = step_or (InvalidAssignment SetBytes) (parsed_with_value SetBytes value line)
+assigned_step (Some (Valued option)) value line = step_or (InvalidAssignment option) (parsed_with_value option value line)
 assigned_step (Some option) value line = Err (UnwantedValue option)
 
 -- Whether a byte separates an option from its value.
@@ -334,8 +342,7 @@ abbrev pub parsed_task : Command → ParsedArguments → Task
 parsed_task command line = record {
   command = command;
   limits = line.limits;
-  unpack = line.unpack;
-  from_flat = parsed_reads_flat line;
+  input_form = parsed_input_form line;
   pack = line.pack;
   hex = line.hex;
   quiet = line.quiet;
@@ -354,16 +361,14 @@ parsed_show line = record {
   bytes = unwrap_or line.bytes (Some 1073741824);
   path = line.path;
   limits = line.limits;
-  unpack = line.unpack;
-  from_flat = parsed_reads_flat line;
+  input_form = parsed_input_form line;
 }
 
 -- How a line requests to compare messages.
 abbrev pub parsed_diff : ParsedArguments → DiffTask
 parsed_diff line = record {
   limits = line.limits;
-  unpack = line.unpack;
-  from_flat = parsed_reads_flat line;
+  input_form = parsed_input_form line;
   quiet = line.quiet;
 }
 
@@ -379,13 +384,7 @@ parsed_request ToDiff line = Diff (parsed_diff line)
 
 -- Whether `digest` has `--quiet` without `--check`.
 abbrev pub lacks_check : Subcommand → ParsedArguments → Bool
-lacks_check ToDigest line = line.quiet && not line.lists
-lacks_check ToCanon line = false
-lacks_check ToCheck line = false
-lacks_check ToSize line = false
-lacks_check ToValidate line = false
-lacks_check ToShow line = false
-lacks_check ToDiff line = false
+lacks_check subcommand line = reads_lists subcommand && line.quiet && not line.lists
 
 abbrev pub end_by : Option ValueOption → Option Subcommand → ParsedArguments → Result Request ArgumentFault
 end_by (Some value_option) subcommand line = Err (MissingValue value_option)

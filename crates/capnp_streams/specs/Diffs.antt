@@ -22,7 +22,8 @@ use Rattle.capnp_packing.specs.declared.packing.place.Place.TheVariants.{Tag}
 use Rattle.capnp_show.specs.ShownParts.{HasShortLine}
 use Rattle.capnp_show.specs.declared.show.compare.CompareFault.{CompareFault}
 use Rattle.capnp_show.specs.declared.show.compare.CompareFault.TheVariants.{AllocationFailed as LacksMemory, TooLong as LineTooLong, WriteFailed as OutputFailed}
-use Rattle.capnp_streams.specs.Jobs.{Job, answering}
+use Rattle.capnp_streams.specs.declared.streams.task.Job.{Job}
+use Rattle.capnp_streams.specs.declared.streams.task.Job.TheVariants.{Answer}
 use Rattle.capnp_streams.specs.Flat.{StopsFlat}
 use Rattle.capnp_streams.specs.Packed.{unpacked_known_input}
 use Rattle.capnp_streams.specs.Paths.{no_path}
@@ -35,17 +36,17 @@ use Rattle.capnp_streams.specs.declared.streams.diffs.DiffFault.{DiffFault}
 use Rattle.capnp_streams.specs.declared.streams.diffs.DiffFault.TheVariants.{Refused, TooLong, AllocationFailed, WriteFailed}
 use Rattle.capnp_streams.specs.declared.streams.diffs.Side.{Side}
 use Rattle.capnp_streams.specs.declared.streams.diffs.Side.TheVariants.{Left, Right}
+use Rattle.capnp_streams.specs.declared.streams.input_form.InputForm.TheVariants.{Frames}
 use Rattle.capnp_streams.specs.declared.streams.runs.Stop.{Stop}
 use Rattle.capnp_streams.specs.declared.streams.stream_error.StreamError.{StreamError}
 use Rattle.capnp_streams.specs.declared.streams.stream_error.StreamError.TheVariants.{Frame, Layout}
 
 -- Each input is read as `validate` reads it: a message that isn't sound is refused.
 abbrev pub validating : ReaderOptions → Job
-validating limits = answering (record {
+validating limits = Answer (record {
   command = Validate;
   limits = limits;
-  unpack = false;
-  from_flat = false;
+  input_form = Frames;
   pack = false;
   hex = false;
   quiet = false;

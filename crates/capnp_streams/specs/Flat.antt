@@ -7,7 +7,8 @@ use Rattle.capnp_framing.specs.Bare.{AreBareWords, HasTakenBare, NoBareWords}
 use Rattle.capnp_framing.specs.declared.devices.Input.{Ghosts}
 use Rattle.capnp_framing.specs.declared.framing.frame_error.FrameError.TheVariants.{AllocationFailed as NoMemory}
 use Rattle.capnp_framing.specs.declared.framing.frame_error.FrameError.TheVariants.{ReadFailed}
-use Rattle.capnp_streams.specs.Jobs.{Job, most_of}
+use Rattle.capnp_streams.specs.Jobs.{most_of}
+use Rattle.capnp_streams.specs.declared.streams.task.Job.{Job}
 use Rattle.capnp_streams.specs.Streams.{HasJobAnswer, JobAnswerIs, JobRefuses, Stage}
 use Rattle.capnp_streams.specs.declared.streams.stream_error.StreamError.{StreamError}
 use Rattle.capnp_streams.specs.declared.streams.stream_error.StreamError.TheVariants.{Frame, Layout, TooManyMessages}

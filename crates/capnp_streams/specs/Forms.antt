@@ -1,23 +1,17 @@
 -- How a task reads its input, and what is answered to an input in each form.
-use Rattle.std.specs.Prelude.{◌≡◌, Bool, true, false, List, [], ℕ, Option, Some, IfSome}
+use Rattle.std.specs.Prelude.{◌≡◌, Bool, List, [], ℕ, Option, Some, IfSome}
 use Rattle.capnp_arena.specs.declared.arena.reader_arena_impl.ReaderOptions.{ReaderOptions}
 use Rattle.capnp_packing.specs.Packing.{IsWhole}
 use Rattle.capnp_packing.specs.declared.packing.place.Place.TheVariants.{Tag}
 use Rattle.capnp_streams.specs.Diffs.{AreAllCompared, AreFlatCompared, DiffStage, IsPackedCompared}
 use Rattle.capnp_streams.specs.Flat.{IsFlatDone}
-use Rattle.capnp_streams.specs.Jobs.{Job}
+use Rattle.capnp_streams.specs.declared.streams.task.Job.{Job}
 use Rattle.capnp_streams.specs.Packed.{unpacked_stage}
 use Rattle.capnp_streams.specs.Streams.{AreDone, Stage}
 use Rattle.capnp_streams.specs.declared.streams.diffs.Compared.{Compared}
 use Rattle.capnp_streams.specs.declared.streams.input_form.InputForm.{InputForm}
 use Rattle.capnp_streams.specs.declared.streams.input_form.InputForm.TheVariants.{Frames, PackedFrames, RawWords}
 use Rattle.capnp_streams.specs.declared.streams.runs.Summary.{Summary}
-
--- The form for the options `--packed` and `--from-flat`: no request has both.
-abbrev pub form_of_options : (unpack from_flat : Bool) → InputForm
-form_of_options true from_flat = PackedFrames
-form_of_options false true = RawWords
-form_of_options false false = Frames
 
 -- The whole input, which was read in this form, is answered, and the output has `output` now.
 abbrev pub IsAnsweredAs : InputForm → Job → Stage → Option (List ℕ) → Summary → Type 0

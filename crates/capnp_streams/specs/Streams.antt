@@ -40,8 +40,11 @@ use Rattle.capnp_messages.specs.declared.messages.command.Form.{Form}
 use Rattle.capnp_messages.specs.declared.messages.validation.MessageExtent.{MessageExtent}
 use Rattle.capnp_streams.specs.declared.streams.task.Task.{Task}
 use Rattle.capnp_messages.specs.Commands.{form_bytes}
+use Rattle.capnp_show.specs.Show.{PrintsAtMost}
 use Rattle.capnp_streams.specs.Asked.{HasAskedAnswer, HasSizeAt, IsDigestAt, IsValueAt, RefusesAsked, pointer_asked}
-use Rattle.capnp_streams.specs.Jobs.{Job, answering, showing, most_of}
+use Rattle.capnp_streams.specs.Jobs.{most_of}
+use Rattle.capnp_streams.specs.declared.streams.task.Job.{Job}
+use Rattle.capnp_streams.specs.declared.streams.task.Job.TheVariants.{Answer, Show}
 use Rattle.capnp_streams.specs.Paths.{path_indexes}
 use Rattle.capnp_streams.specs.Shows.{IsShown}
 use Rattle.capnp_refusals.specs.declared.refusals.search.RefusedPointer.{RefusedPointer}
@@ -126,16 +129,23 @@ refusals_behind Size (Layout k p) n = n
 refusals_behind Digest (Layout k p) n = refusals_for k n
 refusals_behind Validate (Layout k p) n = n
 
--- The allocator is there after a command, and has counted one more refusal if there was no memory,
--- and otherwise none.
+-- The same after a fault of a job. Memory for texts that are shown isn't the allocator's.
+abbrev pub job_refusals_behind : Job → StreamError → ℕ → ℕ
+job_refusals_behind job (Frame e) n = frame_refusals e n
+job_refusals_behind job TooManyMessages n = n
+job_refusals_behind (Answer task) (Layout k p) n = refusals_behind task.command (Layout k p) n
+job_refusals_behind (Show task) (Layout k p) n = n
+
+-- The allocator is there afterwards, and has counted as many refusals more as the fault says, and
+-- none if there is no fault.
 pub record CountsRefusals {A B : Type 0} (refusals : A → ℕ) (old new : Option A)
-    (command : Command) (result : Result B StreamError) : Type 0 where
+    (behind : StreamError → ℕ → ℕ) (result : Result B StreamError) : Type 0 where
   pub there : IsSome new
   pub kept : OnOk result (option_map_or refusals new 0 ≡ option_map_or refusals old 0)
   pub counted :
       IfErr result
       (λ fault. option_map_or refusals new 0
-      ≡ refusals_behind command fault (option_map_or refusals old 0))
+      ≡ behind fault (option_map_or refusals old 0))
 
 -- What is asked of a message: a command, with the other settings of a task.
 pub record Question : Type 0 where
@@ -167,18 +177,42 @@ module _ {W : Type 0} (g : OutputGhosts W) where
 
 -- What a job writes of S: `holds` is yes or no.
 abbrev pub JobAnswerIs : Job → Segments → Bool → List ℕ → Type 0
-JobAnswerIs (answering task) S holds bytes = AnswerIs task.command task S holds bytes
-JobAnswerIs (showing task) S holds bytes = IsShown task S holds bytes
+JobAnswerIs (Answer task) S holds bytes = AnswerIs task.command task S holds bytes
+JobAnswerIs (Show task) S holds bytes = IsShown task S holds bytes
 
--- A job is refused for S with k, at the pointer p. A message is shown also if it isn't sound.
+-- A job is refused for S with k, at the pointer p. A message is shown also if it isn't sound: only
+-- memory can run out.
 abbrev pub JobRefuses : Job → Segments → ErrorKind → Option RefusedPointer → Type 0
-JobRefuses (answering task) S k p = RefusesAsked task.command task S k × (p ≡ pointer_asked k task S)
-JobRefuses (showing task) S k p = ⊥
+JobRefuses (Answer task) S k p = RefusesAsked task.command task S k × (p ≡ pointer_asked k task S)
+JobRefuses (Show task) S k p = (k ≡ AllocationFailed) × (p ≡ None)
+
+-- The fault says why a job has no answer to S.
+abbrev pub RefusesJob : Job → Segments → StreamError → Type 0
+RefusesJob job S (Layout k p) = JobRefuses job S k p
+RefusesJob job S _ = ⊥
+
+module _ {W : Type 0} (g : OutputGhosts W) where
+  -- A job is done with S: what it writes was written, from one state of an output to another, which
+  -- works; the result is yes or no. Or it isn't done: the output has failed; or the job is refused,
+  -- and nothing was written.
+  pub record IsJobDone (from to : W) (job : Job) (S : Segments) (result : Result Bool StreamError)
+      : Type 0 where
+    pub answered :
+        IfOk result
+        (λ holds. (bytes : List ℕ) × JobAnswerIs job S holds bytes × Prints g from to bytes)
+    pub works : OnOk result (g.has_failed to ≡ false)
+    pub refused : IfErr result (λ fault. IsWriteFault g to fault
+        ⊎ (RefusesJob job S fault × IsUnwritten g from to))
+
+  -- A message is shown in at most 67,108,864 bytes.
+  abbrev pub IsShortIfShown : Job → W → W → Type 0
+  IsShortIfShown (Answer task) from to = ⊤
+  IsShortIfShown (Show task) from to = PrintsAtMost g 67108864 from to
 
 -- A job has an answer to S if this holds.
 abbrev pub HasJobAnswer : Job → Segments → Type 0
-HasJobAnswer (answering task) S = HasAskedAnswer task.command task S
-HasJobAnswer (showing task) S = ⊤
+HasJobAnswer (Answer task) S = HasAskedAnswer task.command task S
+HasJobAnswer (Show task) S = ⊤
 
 -- The bytes are the frames of these messages, one after the other, each of at most `most` words.
 abbrev pub AreFrames : ℕ → List Segments → List ℕ → Type 0

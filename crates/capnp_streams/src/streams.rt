@@ -1,4 +1,4 @@
-//! Does a task with each message of a stream.
+//! Does a job with each message of a stream.
 
 mod answers;
 mod arguments;
@@ -18,12 +18,11 @@ mod writing;
 pub use arguments::ArgumentFault;
 pub use capnp_messages::messages::{Command, Form};
 pub use diffs::{Compared, DiffFault, Side, run_diff, run_diff_flat, run_diff_packed};
-pub use flat::{run_flat, run_flat_with};
+pub use flat::run_flat;
 pub use input_form::InputForm;
-pub use options::{OptionName, Subcommand, ValueOption};
-pub use packed::{run_packed, run_packed_with};
+pub use options::{OptionName, PlainOption, Subcommand, ValueOption, option_of};
+pub use packed::run_packed;
 pub use path::{Path, paths_parsed};
-pub use runs::{Stop, Summary, run, run_with};
-pub use shows::{run_show, run_show_flat, run_show_packed};
+pub use runs::{Stop, Summary, run};
 pub use stream_error::StreamError;
-pub use task::{DiffTask, Request, ShowTask, Task, WrongArgument, named_files, parse_args};
+pub use task::{DiffTask, Job, Request, ShowTask, Task, WrongArgument, named_files, parse_args};

@@ -3,15 +3,16 @@ ghost use Rattle.std.specs.Prelude.{◌≡◌, Some, Ok, Err, false, IsSome, OnO
 ghost use Rattle.capnp_arena_traits.specs.Limits.{IsSmall};
 ghost use Rattle.capnp_framing.specs.declared.framing.frame_error.FrameError.TheVariants.{WriteFailed};
 ghost use Rattle.capnp_format.specs.Bytes.{message};
-ghost use Rattle.capnp_streams.specs.Streams.{Answers, CountsRefusals, question_on, with_pointer};
+ghost use Rattle.capnp_streams.specs.Streams.{Answers, CountsRefusals, IsJobDone, IsShortIfShown, job_refusals_behind, question_on, refusals_behind, with_pointer};
 
 use super::parts::{canonicalize_for_task, check, digest_for_task, size_for_task, validate};
+use super::shows::show;
 use super::stream_error::StreamError;
-use super::task::Task;
+use super::task::{Job, Task};
 use super::writing::{write_canonical_line, write_canonical_words, write_fault, write_hex_line};
 use capnp_arena::arena::{Allocator, ReaderArena, ReaderArenaImpl, ReaderSegments};
 use capnp_framing::devices::{DeviceFault, Output};
-use capnp_framing::framing::FrameError;
+use capnp_framing::framing::{FrameError, OwnedSegments};
 use capnp_messages::messages::{Command, Form, canonical_bytes, canonical_segment};
 use capnp_messages::text::{write_extent, write_size};
 use capnp_refusals::refusals::pointer_of_refusal;
@@ -94,7 +95,7 @@ fn write_canonical_copy<A: Allocator, S: ReaderSegments, W: Output>(
     ensures answer { Answers W.Output output.old output.new (question_on (Command.Canon form) task
         (⟦<ReaderArenaImpl<S> as ReaderArena>⟧.segments source.now)) result }
     ensures memory { CountsRefusals A.refusals memory.old.allocator memory.new.allocator
-        (Command.Canon form) result }
+        (refusals_behind (Command.Canon form)) result }
 {
     let Some(allocator) = memory.allocator.take() else {
         unreachable!()
@@ -130,7 +131,7 @@ fn answer_canon<A: Allocator, S: ReaderSegments + Drop, W: Output>(
     ensures answer { Answers W.Output output.old output.new
         (question_on (Command.Canon form) task (S.segments segments)) result }
     ensures memory { CountsRefusals A.refusals memory.old.allocator memory.new.allocator
-        (Command.Canon form) result }
+        (refusals_behind (Command.Canon form)) result }
 {
     let source = ReaderArenaImpl::new(segments, task.limits);
     if memory.was_canonical && task.path.is_empty() {
@@ -155,7 +156,7 @@ fn answer_digest<A: Allocator, S: ReaderSegments + Drop, W: Output>(
     ensures answer { Answers W.Output output.old output.new
         (question_on Command.Digest task (S.segments segments)) result }
     ensures memory { CountsRefusals A.refusals memory.old.allocator memory.new.allocator
-        Command.Digest result }
+        (refusals_behind Command.Digest) result }
 {
     let Some(allocator) = memory.allocator.take() else {
         unreachable!()
@@ -170,7 +171,7 @@ fn answer_digest<A: Allocator, S: ReaderSegments + Drop, W: Output>(
 
 /// Answers one message: writes what `task` asks for. Returns `false` if the command is `Check` and
 /// the message isn't canonical; returns `true` after any other answer.
-pub(super) fn answer<A: Allocator, S: ReaderSegments + Drop, W: Output>(
+fn answer<A: Allocator, S: ReaderSegments + Drop, W: Output>(
     memory: &mut Memory<A>,
     task: Task,
     segments: S,
@@ -182,7 +183,7 @@ pub(super) fn answer<A: Allocator, S: ReaderSegments + Drop, W: Output>(
     ensures answer { Answers W.Output output.old output.new
         (question_on task.command task (S.segments segments)) result }
     ensures memory { CountsRefusals A.refusals memory.old.allocator memory.new.allocator
-        task.command result }
+        (refusals_behind task.command) result }
 {
     match task.command {
         Command::Canon(form) => answer_canon(memory, form, task, segments, output),
@@ -203,10 +204,38 @@ pub(super) fn answer<A: Allocator, S: ReaderSegments + Drop, W: Output>(
     }
 }
 
+/// Does `job` with message `number`, which is in `segments`: answers it like `answer`, or shows it
+/// like `show`. Tells at which of its pointers a message is refused, if it is at one.
+#[tactic(auto, using(crate::proofs::JobLemmas::answered_job, crate::proofs::JobLemmas::refused_job, crate::proofs::JobLemmas::shown_job, crate::proofs::JobLemmas::refused_counted))]
+pub(super) fn do_job<A: Allocator, W: Output>(
+    memory: &mut Memory<A>,
+    job: Job,
+    number: u64,
+    segments: &OwnedSegments,
+    output: &mut W,
+) -> Result<bool, StreamError>
+    requires there { IsSome memory.old.allocator }
+    requires small { IsSmall (⟦<OwnedSegments as ReaderSegments>⟧.segments segments.now) }
+    requires works { W.has_failed output.old ≡ false }
+    ensures done { IsJobDone W.Output output.old output.new job
+        (message (⟦<OwnedSegments as ReaderSegments>⟧.segments segments.now)) result }
+    ensures bounded { OnOk result (IsShortIfShown W.Output job output.old output.new) }
+    ensures memory { CountsRefusals A.refusals memory.old.allocator memory.new.allocator
+        (job_refusals_behind job) result }
+{
+    match job {
+        Job::Answer(task) => match answer(memory, task, segments, output) {
+            Ok(holds) => Ok(holds),
+            Err(fault) => Err(locate_refusal(fault, task, segments)),
+        },
+        Job::Show(task) => show(memory.alloc, task, number, segments, output),
+    }
+}
+
 /// Adds to `fault` the pointer at which the message in `segments` is refused, if `fault` is the
 /// refusal of a pointer and `task` is about the whole message. The message is read once more for
 /// this.
-pub(super) fn locate_refusal<S: ReaderSegments + Drop>(
+fn locate_refusal<S: ReaderSegments + Drop>(
     fault: StreamError,
     task: Task,
     segments: S,

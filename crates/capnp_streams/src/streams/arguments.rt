@@ -1,10 +1,11 @@
 //! Parses the arguments, one by one.
 ghost use Rattle.std.specs.Prelude.{◌≡◌};
-ghost use Rattle.capnp_streams.specs.Arguments.{assigned_step, budget_of, command_step, end_of, option_fault_of, conflicting_options_fault, lacks_check, parsed_diff, parsed_form, parsed_reads_flat, parsed_request, parsed_show, parsed_with_value, named_step, nesting_of, operand_step, option_named, option_step, parted_step, no_arguments, show_option_fault, step_if_allowed, argument_step, step_or, parsed_task, unsupported_option_fault};
+ghost use Rattle.capnp_streams.specs.Arguments.{assigned_step, budget_of, command_step, end_of, option_fault_of, conflicting_options_fault, lacks_check, parsed_diff, parsed_form, parsed_input_form, parsed_reads_flat, parsed_request, parsed_show, parsed_with_value, named_step, nesting_of, operand_step, option_named, option_of_show, option_step, parted_step, no_arguments, step_if_allowed, argument_step, step_or, parsed_task, unsupported_option, unsupported_option_fault, with_option};
 
+use super::input_form::InputForm;
 use super::options::{
-    OptionName, Subcommand, ValueOption, looks_like_option, option_of, split_at_equals,
-    subcommand_of,
+    OptionName, PlainOption, Subcommand, ValueOption, looks_like_option, option_of,
+    split_at_equals, subcommand_of,
 };
 use super::path::{Path, parse_path};
 use super::task::{DiffTask, Request, ShowTask, Task};
@@ -38,9 +39,9 @@ pub enum ArgumentFault {
     /// The command doesn't have the option.
     NotOfCommand(Subcommand, OptionName),
     /// The two options can't be used together.
-    Excluded(OptionName, OptionName),
+    Excluded(PlainOption, PlainOption),
     /// The command has the first option only together with the second.
-    Needs(OptionName, OptionName),
+    Needs(PlainOption, PlainOption),
 }
 
 /// What the arguments so far ask for.
@@ -117,76 +118,67 @@ impl ParsedArguments {
         }
     }
 
+    /// Returns how the line asks to read the input. Raw words are never packed:
+    /// `conflicting_options_fault` refuses to ask for both.
+    fn input_form(&self) -> InputForm
+        ensures { result ≡ parsed_input_form self.now }
+    {
+        if self.unpack {
+            InputForm::PackedFrames
+        } else if self.reads_flat() {
+            InputForm::RawWords
+        } else {
+            InputForm::Frames
+        }
+    }
+
     /// Returns the fault if the line's command doesn't have one of the line's options. Returns
     /// `None` if the command has all of them, or if there is no command yet.
     fn unsupported_option_fault(&self) -> Option<ArgumentFault>
         ensures { result ≡ unsupported_option_fault self.now.subcommand self.now }
     {
-        let (subcommand, option) = match self.subcommand {
-            None => return None,
-            Some(Subcommand::Canon) if self.quiet => (Subcommand::Canon, OptionName::Quiet),
-            Some(Subcommand::Canon) if self.lists => (Subcommand::Canon, OptionName::Check),
-            Some(Subcommand::Canon) => return None,
-            Some(Subcommand::Check) if self.pack => (Subcommand::Check, OptionName::Pack),
-            Some(Subcommand::Check) if self.hex => (Subcommand::Check, OptionName::Hex),
-            Some(Subcommand::Check) if self.lists => (Subcommand::Check, OptionName::Check),
-            Some(Subcommand::Check) if !self.path.is_empty() => (Subcommand::Check, OptionName::At),
-            Some(Subcommand::Check) => return None,
-            Some(Subcommand::Size) if self.pack => (Subcommand::Size, OptionName::Pack),
-            Some(Subcommand::Size) if self.hex => (Subcommand::Size, OptionName::Hex),
-            Some(Subcommand::Size) if self.quiet => (Subcommand::Size, OptionName::Quiet),
-            Some(Subcommand::Size) if self.lists => (Subcommand::Size, OptionName::Check),
-            Some(Subcommand::Size) => return None,
-            Some(Subcommand::Digest) if self.pack => (Subcommand::Digest, OptionName::Pack),
-            Some(Subcommand::Digest) if self.hex => (Subcommand::Digest, OptionName::Hex),
-            Some(Subcommand::Digest) => return None,
-            Some(Subcommand::Validate) if self.pack => (Subcommand::Validate, OptionName::Pack),
-            Some(Subcommand::Validate) if self.hex => (Subcommand::Validate, OptionName::Hex),
-            Some(Subcommand::Validate) if self.lists => (Subcommand::Validate, OptionName::Check),
-            Some(Subcommand::Validate) if !self.path.is_empty() => (
-                Subcommand::Validate,
-                OptionName::At,
-            ),
-            Some(Subcommand::Validate) => return None,
-            Some(Subcommand::Show) if self.pack => (Subcommand::Show, OptionName::Pack),
-            Some(Subcommand::Show) if self.hex => (Subcommand::Show, OptionName::Hex),
-            Some(Subcommand::Show) if self.quiet => (Subcommand::Show, OptionName::Quiet),
-            Some(Subcommand::Show) if self.lists => (Subcommand::Show, OptionName::Check),
-            Some(Subcommand::Show) => return None,
-            Some(Subcommand::Diff) if self.pack => (Subcommand::Diff, OptionName::Pack),
-            Some(Subcommand::Diff) if self.hex => (Subcommand::Diff, OptionName::Hex),
-            Some(Subcommand::Diff) if self.lists => (Subcommand::Diff, OptionName::Check),
-            Some(Subcommand::Diff) if !self.path.is_empty() => (Subcommand::Diff, OptionName::At),
-            Some(Subcommand::Diff) => return None,
-        };
+        let subcommand = self.subcommand?;
+        let option = self.unsupported_option(subcommand)?;
         Some(ArgumentFault::NotOfCommand(subcommand, option))
     }
 
-    /// Returns the fault if the line has an option of `show`, and another command. Returns `None`
-    /// if it has no such option, or no command yet.
-    fn show_option_fault(&self) -> Option<ArgumentFault>
-        ensures { result ≡ show_option_fault self.now.subcommand self.now }
+    /// Returns an option of the line that `subcommand` doesn't have; `None` if it has all of them.
+    fn unsupported_option(&self, subcommand: Subcommand) -> Option<OptionName>
+        ensures { result ≡ unsupported_option subcommand self.now }
     {
-        match self.subcommand {
-            None | Some(Subcommand::Show) => None,
-            Some(subcommand) if self.json => Some(ArgumentFault::NotOfCommand(
-                subcommand,
-                OptionName::Json,
-            )),
-            Some(subcommand) if self.values => {
-                Some(ArgumentFault::NotOfCommand(subcommand, OptionName::Values))
-            }
-            Some(subcommand) if self.depth.is_some() => {
-                Some(ArgumentFault::NotOfCommand(subcommand, OptionName::Depth))
-            }
-            Some(subcommand) if self.colors => Some(ArgumentFault::NotOfCommand(
-                subcommand,
-                OptionName::Color,
-            )),
-            Some(subcommand) if self.bytes.is_some() => {
-                Some(ArgumentFault::NotOfCommand(subcommand, OptionName::Bytes))
-            }
-            Some(_) => None,
+        if self.pack && !subcommand.writes_words() {
+            Some(OptionName::Plain(PlainOption::Pack))
+        } else if self.hex && !subcommand.writes_words() {
+            Some(OptionName::Plain(PlainOption::Hex))
+        } else if self.quiet && !subcommand.can_be_quiet() {
+            Some(OptionName::Plain(PlainOption::Quiet))
+        } else if self.lists && !subcommand.reads_lists() {
+            Some(OptionName::Plain(PlainOption::Check))
+        } else if !self.path.is_empty() && !subcommand.takes_path() {
+            Some(OptionName::Valued(ValueOption::At))
+        } else if subcommand.shows() {
+            None
+        } else {
+            self.option_of_show()
+        }
+    }
+
+    /// Returns an option of the line that only `show` has; `None` if the line has no such option.
+    fn option_of_show(&self) -> Option<OptionName>
+        ensures { result ≡ option_of_show self.now }
+    {
+        if self.json {
+            Some(OptionName::Plain(PlainOption::Json))
+        } else if self.values {
+            Some(OptionName::Plain(PlainOption::Values))
+        } else if self.depth.is_some() {
+            Some(OptionName::Valued(ValueOption::Depth))
+        } else if self.colors {
+            Some(OptionName::Plain(PlainOption::Color))
+        } else if self.bytes.is_some() {
+            Some(OptionName::Valued(ValueOption::Bytes))
+        } else {
+            None
         }
     }
 
@@ -197,15 +189,15 @@ impl ParsedArguments {
         ensures { result ≡ conflicting_options_fault self.now }
     {
         if self.hex && self.flat {
-            Some(ArgumentFault::Excluded(OptionName::Hex, OptionName::Flat))
+            Some(ArgumentFault::Excluded(PlainOption::Hex, PlainOption::Flat))
         } else if self.hex && self.pack {
-            Some(ArgumentFault::Excluded(OptionName::Hex, OptionName::Pack))
+            Some(ArgumentFault::Excluded(PlainOption::Hex, PlainOption::Pack))
         } else if self.json && self.colors {
-            Some(ArgumentFault::Excluded(OptionName::Json, OptionName::Color))
+            Some(ArgumentFault::Excluded(PlainOption::Json, PlainOption::Color))
         } else if self.unpack && self.from_flat {
-            Some(ArgumentFault::Excluded(OptionName::Packed, OptionName::FromFlat))
+            Some(ArgumentFault::Excluded(PlainOption::Packed, PlainOption::FromFlat))
         } else if self.unpack && self.reads_flat() {
-            Some(ArgumentFault::Excluded(OptionName::Packed, OptionName::Flat))
+            Some(ArgumentFault::Excluded(PlainOption::Packed, PlainOption::Flat))
         } else {
             None
         }
@@ -215,13 +207,8 @@ impl ParsedArguments {
     fn option_fault(&self) -> Option<ArgumentFault>
         ensures { result ≡ option_fault_of self.now }
     {
-        match self.unsupported_option_fault() {
-            Some(fault) => Some(fault),
-            None => match self.show_option_fault() {
-                Some(fault) => Some(fault),
-                None => self.conflicting_options_fault(),
-            },
-        }
+        self.unsupported_option_fault()
+            .or(self.conflicting_options_fault())
     }
 
     /// Returns the step that replaces the line before by this one; an error if the command and
@@ -248,61 +235,32 @@ impl ParsedArguments {
                 ended: true,
                 ..self
             })),
-            OptionName::Packed => ParsedArguments {
-                unpack: true,
-                ..self
-            }
-            .into_checked_step(),
-            OptionName::Pack => ParsedArguments { pack: true, ..self }.into_checked_step(),
-            OptionName::Flat => ParsedArguments { flat: true, ..self }.into_checked_step(),
-            OptionName::FromFlat => ParsedArguments {
-                from_flat: true,
-                ..self
-            }
-            .into_checked_step(),
-            OptionName::Hex => ParsedArguments { hex: true, ..self }.into_checked_step(),
-            OptionName::Quiet => ParsedArguments {
-                quiet: true,
-                ..self
-            }
-            .into_checked_step(),
-            OptionName::Check | OptionName::CheckLetter => ParsedArguments {
-                lists: true,
-                ..self
-            }
-            .into_checked_step(),
-            OptionName::Json => ParsedArguments { json: true, ..self }.into_checked_step(),
-            OptionName::Values => ParsedArguments {
-                values: true,
-                ..self
-            }
-            .into_checked_step(),
-            OptionName::Color => ParsedArguments {
-                colors: true,
-                ..self
-            }
-            .into_checked_step(),
-            OptionName::Depth => Ok(ArgumentStep::Goes(ParsedArguments {
-                expects: Some(ValueOption::Depth),
-                ..self
-            })),
-            OptionName::Bytes => Ok(ArgumentStep::Goes(ParsedArguments {
-                expects: Some(ValueOption::Bytes),
-                ..self
-            })),
-            OptionName::Nesting => Ok(ArgumentStep::Goes(ParsedArguments {
-                expects: Some(ValueOption::Nesting),
-                ..self
-            })),
-            OptionName::Words => Ok(ArgumentStep::Goes(ParsedArguments {
-                expects: Some(ValueOption::Words),
-                ..self
-            })),
-            OptionName::At => Ok(ArgumentStep::Goes(ParsedArguments {
-                expects: Some(ValueOption::At),
+            OptionName::Plain(option) => self.with_option(option).into_checked_step(),
+            OptionName::Valued(option) => Ok(ArgumentStep::Goes(ParsedArguments {
+                expects: Some(option),
                 ..self
             })),
         }
+    }
+
+    /// Returns the line with `option`.
+    fn with_option(self, option: PlainOption) -> Self
+        ensures { result ≡ with_option option self }
+    {
+        let mut line = self;
+        match option {
+            PlainOption::Packed => line.unpack = true,
+            PlainOption::Pack => line.pack = true,
+            PlainOption::Flat => line.flat = true,
+            PlainOption::FromFlat => line.from_flat = true,
+            PlainOption::Hex => line.hex = true,
+            PlainOption::Quiet => line.quiet = true,
+            PlainOption::Check | PlainOption::CheckLetter => line.lists = true,
+            PlainOption::Json => line.json = true,
+            PlainOption::Values => line.values = true,
+            PlainOption::Color => line.colors = true,
+        }
+        line
     }
 
     /// Returns the line with `text` as the value of `value_option`; `None` if `text` isn't a valid
@@ -310,54 +268,18 @@ impl ParsedArguments {
     fn with_parsed_value(self, value_option: ValueOption, text: &str) -> Option<Self>
         ensures { result ≡ parsed_with_value value_option text.now self }
     {
+        let mut line = self;
+        line.expects = None;
         match value_option {
-            ValueOption::Nesting => match parse_i32(text) {
-                Some(nesting_limit) => Some(ParsedArguments {
-                    limits: ReaderOptions {
-                        nesting_limit,
-                        ..self.limits
-                    },
-                    expects: None,
-                    ..self
-                }),
-                None => None,
-            },
-            ValueOption::Words => match parse_number_or_none(text) {
-                Some(traversal_limit_in_words) => Some(ParsedArguments {
-                    limits: ReaderOptions {
-                        traversal_limit_in_words,
-                        ..self.limits
-                    },
-                    expects: None,
-                    ..self
-                }),
-                None => None,
-            },
-            ValueOption::At => match parse_path(text) {
-                Some(path) => Some(ParsedArguments {
-                    path,
-                    expects: None,
-                    ..self
-                }),
-                None => None,
-            },
-            ValueOption::Depth => match parse_i32(text) {
-                Some(depth) => Some(ParsedArguments {
-                    depth: Some(depth),
-                    expects: None,
-                    ..self
-                }),
-                None => None,
-            },
-            ValueOption::Bytes => match parse_number_or_none(text) {
-                Some(bytes) => Some(ParsedArguments {
-                    bytes: Some(bytes),
-                    expects: None,
-                    ..self
-                }),
-                None => None,
-            },
+            ValueOption::Nesting => line.limits.nesting_limit = parse_i32(text)?,
+            ValueOption::Words => {
+                line.limits.traversal_limit_in_words = parse_number_or_none(text)?;
+            }
+            ValueOption::At => line.path = parse_path(text)?,
+            ValueOption::Depth => line.depth = Some(parse_i32(text)?),
+            ValueOption::Bytes => line.bytes = Some(parse_number_or_none(text)?),
         }
+        Some(line)
     }
 
     /// Returns what `text`, as the value of `value_option`, does to the line; the error `fault` if
@@ -388,45 +310,8 @@ impl ParsedArguments {
     {
         match option {
             None => Err(ArgumentFault::UnknownOption),
-            Some(OptionName::Nesting) => {
-                let value_option = ValueOption::Nesting;
-                self.apply_value(
-                    value_option,
-                    value,
-                    ArgumentFault::InvalidAssignment(value_option),
-                )
-            }
-            Some(OptionName::Words) => {
-                let value_option = ValueOption::Words;
-                self.apply_value(
-                    value_option,
-                    value,
-                    ArgumentFault::InvalidAssignment(value_option),
-                )
-            }
-            Some(OptionName::At) => {
-                let value_option = ValueOption::At;
-                self.apply_value(
-                    value_option,
-                    value,
-                    ArgumentFault::InvalidAssignment(value_option),
-                )
-            }
-            Some(OptionName::Depth) => {
-                let value_option = ValueOption::Depth;
-                self.apply_value(
-                    value_option,
-                    value,
-                    ArgumentFault::InvalidAssignment(value_option),
-                )
-            }
-            Some(OptionName::Bytes) => {
-                let value_option = ValueOption::Bytes;
-                self.apply_value(
-                    value_option,
-                    value,
-                    ArgumentFault::InvalidAssignment(value_option),
-                )
+            Some(OptionName::Valued(option)) => {
+                self.apply_value(option, value, ArgumentFault::InvalidAssignment(option))
             }
             Some(option) => Err(ArgumentFault::UnwantedValue(option)),
         }
@@ -511,7 +396,7 @@ impl ParsedArguments {
         match self.subcommand {
             Some(subcommand) => {
                 if self.lacks_check(subcommand) {
-                    Err(ArgumentFault::Needs(OptionName::Quiet, OptionName::Check))
+                    Err(ArgumentFault::Needs(PlainOption::Quiet, PlainOption::Check))
                 } else {
                     Ok(self.request_of(subcommand))
                 }
@@ -524,15 +409,7 @@ impl ParsedArguments {
     fn lacks_check(self, subcommand: Subcommand) -> bool
         ensures { result ≡ lacks_check subcommand self }
     {
-        match subcommand {
-            Subcommand::Digest => self.quiet && !self.lists,
-            Subcommand::Canon
-            | Subcommand::Check
-            | Subcommand::Size
-            | Subcommand::Validate
-            | Subcommand::Show
-            | Subcommand::Diff => false,
-        }
+        subcommand.reads_lists() && self.quiet && !self.lists
     }
 
     /// Returns what the line asks for, with the command `subcommand`.
@@ -564,8 +441,7 @@ impl ParsedArguments {
         Task {
             command,
             limits: self.limits,
-            unpack: self.unpack,
-            from_flat: self.reads_flat(),
+            input_form: self.input_form(),
             pack: self.pack,
             hex: self.hex,
             quiet: self.quiet,
@@ -586,8 +462,7 @@ impl ParsedArguments {
             bytes: self.bytes.unwrap_or(Some(PLAIN_BYTES)),
             path: self.path,
             limits: self.limits,
-            unpack: self.unpack,
-            from_flat: self.reads_flat(),
+            input_form: self.input_form(),
         }
     }
 
@@ -597,8 +472,7 @@ impl ParsedArguments {
     {
         DiffTask {
             limits: self.limits,
-            unpack: self.unpack,
-            from_flat: self.reads_flat(),
+            input_form: self.input_form(),
             quiet: self.quiet,
         }
     }

@@ -1,27 +1,24 @@
-//! Does a task with the one message that an input holds as raw words, without a frame.
+//! Does a job with the one message that an input holds as raw words, without a frame.
 ghost use Rattle.std.specs.Prelude.{◌≡◌, ◌⊎◌, true, OnOk, IfOk, IfErr, IsSomeAnd};
 ghost use Rattle.capnp_framing.specs.declared.framing.frame_error.FrameError.TheVariants.{ReadFailed};
 ghost use Rattle.capnp_framing.specs.Writing.{IsUnwritten};
 ghost use Rattle.capnp_streams.specs.Flat.{CanFlatBeAnswered, HasTakenFlat, IsFlatDone, StopsFlat};
-ghost use Rattle.capnp_streams.specs.Jobs.{answering};
-ghost use Rattle.capnp_streams.specs.Streams.{AreWorking, IsOfDevices, IsWriteFault, RunsToEnd, refusals_behind, stage_of};
+ghost use Rattle.capnp_streams.specs.Streams.{AreWorking, IsOfDevices, IsShortIfShown, IsWriteFault, RunsToEnd, job_refusals_behind, stage_of};
 
-use super::answers::{Memory, answer, locate_refusal};
+use super::answers::{Memory, do_job};
 use super::stream_error::StreamError;
-use super::task::Task;
+use super::task::Job;
 use capnp_arena::arena::Allocator;
 use capnp_framing::devices::{Input, Output};
 use capnp_framing::framing::{OwnedSegments, most_words, read_segment_into_with};
-use capnp_messages::messages::CopyMemory;
 use std::alloc::Global;
 
-/// Does `task` with the one message that the input holds as raw words, and writes the answer.
-/// Returns `false` if the command is `Check` and the message isn't canonical; returns `true` after
-/// any other answer. Precondition: neither `input` nor `output` has failed.
+/// Does `job` with the one message that the input holds as raw words, and writes the answer.
+/// Returns `holds` of `Summary`. Precondition: neither `input` nor `output` has failed.
 ///
 /// All bytes of the input are read as the words of the message's only segment, without a frame, as
 /// `Canon` writes them in the form `Flat` (encoding specification, "Canonicalization"). The number
-/// of these words may be at most the traversal limit. The answer is the one that `run_with` writes
+/// of these words may be at most the traversal limit. The answer is the one that `run` writes
 /// for the message. An empty input is a segment without words, so without a root pointer; it is
 /// refused with `MessageContainsOutOfBoundsPointer`.
 ///
@@ -36,76 +33,45 @@ use std::alloc::Global;
 /// this memory. If the call is refused with `AllocationFailed`, the allocator has counted one more
 /// refusal (`A.refusals`); after any other result it has counted none. `Check` and `Size` take
 /// memory only for the bytes read.
-pub fn run_flat_with<A: Allocator, R: Input, W: Output>(
+pub fn run_flat<A: Allocator, R: Input, W: Output>(
     alloc: Global,
     allocator: A,
-    task: Task,
+    job: Job,
     input: &mut R,
     output: &mut W,
 ) -> (Result<bool, StreamError>, A)
     requires { AreWorking R.Input W.Output input.old output.old }
-    ensures done { IfOk result.0 (IsFlatDone (answering task)
+    ensures done { IfOk result.0 (IsFlatDone job
         (stage_of R.Input W.Output input.old output.old)
         (stage_of R.Input W.Output input.new output.new)) }
     ensures ended { OnOk result.0 (RunsToEnd R.Input W.Output input.old input.new output.new) }
     ensures refused { IfErr result.0 (λ fault. IsWriteFault W.Output output.new fault
-        ⊎ (StopsFlat (answering task) (R.remaining input.old) (R.has_failed input.new) fault
+        ⊎ (StopsFlat job (R.remaining input.old) (R.has_failed input.new) fault
         × IsUnwritten W.Output output.old output.new)) }
     ensures exactly { IfErr result.0 (λ fault.
-        IsSomeAnd (R.remaining input.old) (CanFlatBeAnswered (answering task))
+        IsSomeAnd (R.remaining input.old) (CanFlatBeAnswered job)
         → IsOfDevices fault) }
     ensures failed { IfErr result.0 (λ fault. R.has_failed input.new ≡ true
         → fault ≡ StreamError.Frame ReadFailed) }
     ensures taken { IfErr result.0 (HasTakenFlat R.Input input.old input.new) }
+    ensures bounded { OnOk result.0 (IsShortIfShown W.Output job output.old output.new) }
     ensures kept { OnOk result.0 (A.refusals result.1 ≡ A.refusals allocator) }
     ensures counted { IfErr result.0 (λ fault. A.refusals result.1
-        ≡ refusals_behind task.command fault (A.refusals allocator)) }
+        ≡ job_refusals_behind job fault (A.refusals allocator)) }
 {
     let mut allocator = allocator;
     let mut segments = OwnedSegments::new(alloc);
     match read_segment_into_with(
         &mut allocator,
         input,
-        most_words(task.limits),
+        most_words(job.limits()),
         &mut segments,
     ) {
         Ok(()) => {
             let mut memory = Memory::new(alloc, allocator);
-            match answer(&mut memory, task, &segments, output) {
-                Ok(holds) => (Ok(holds), memory.into_allocator()),
-                Err(fault) => {
-                    let fault = locate_refusal(fault, task, &segments);
-                    (Err(fault), memory.into_allocator())
-                }
-            }
+            let done = do_job(&mut memory, job, 1, &segments, output);
+            (done, memory.into_allocator())
         }
         Err(error) => (Err(StreamError::Frame(error)), allocator),
     }
-}
-
-/// Like `run_flat_with`, but without an allocator: all memory comes from the heap. Precondition:
-/// neither `input` nor `output` has failed.
-pub fn run_flat<R: Input, W: Output>(
-    alloc: Global,
-    task: Task,
-    input: &mut R,
-    output: &mut W,
-) -> Result<bool, StreamError>
-    requires { AreWorking R.Input W.Output input.old output.old }
-    ensures done { IfOk result (IsFlatDone (answering task)
-        (stage_of R.Input W.Output input.old output.old)
-        (stage_of R.Input W.Output input.new output.new)) }
-    ensures ended { OnOk result (RunsToEnd R.Input W.Output input.old input.new output.new) }
-    ensures refused { IfErr result (λ fault. IsWriteFault W.Output output.new fault
-        ⊎ (StopsFlat (answering task) (R.remaining input.old) (R.has_failed input.new) fault
-        × IsUnwritten W.Output output.old output.new)) }
-    ensures exactly { IfErr result (λ fault.
-        IsSomeAnd (R.remaining input.old) (CanFlatBeAnswered (answering task))
-        → IsOfDevices fault) }
-    ensures failed { IfErr result (λ fault. R.has_failed input.new ≡ true
-        → fault ≡ StreamError.Frame ReadFailed) }
-    ensures taken { IfErr result (HasTakenFlat R.Input input.old input.new) }
-{
-    let (answered, _) = run_flat_with(alloc, CopyMemory::new(alloc), task, input, output);
-    answered
 }

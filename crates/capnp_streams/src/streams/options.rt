@@ -1,7 +1,7 @@
 //! The commands and options, and how a text names one.
 ghost use Rattle.std.specs.Prelude.{◌≡◌, ◌<◌, MatchOption, length};
 ghost use Rattle.std.specs.List.{after_first, before_first, position_or_len};
-ghost use Rattle.capnp_streams.specs.Arguments.{has_option_form, is_equals, option_named, option_text, value_option_text, subcommand_named, subcommand_text};
+ghost use Rattle.capnp_streams.specs.Arguments.{can_be_quiet, has_option_form, is_equals, option_named, option_text, plain_option_text, reads_lists, shows, subcommand_named, subcommand_text, takes_path, value_option_text, writes_words};
 
 /// A command of `capnp_canon`, without its options.
 #[derive(Clone, Copy, Debug, PartialEq, Eq)]
@@ -30,61 +30,82 @@ impl Subcommand {
             Subcommand::Diff => "diff",
         }
     }
+
+    /// Whether the command has `--pack` and `--hex`.
+    pub(super) fn writes_words(self) -> bool
+        ensures { result ≡ writes_words self }
+    {
+        matches!(self, Subcommand::Canon)
+    }
+
+    /// Whether the command has `--quiet`.
+    pub(super) fn can_be_quiet(self) -> bool
+        ensures { result ≡ can_be_quiet self }
+    {
+        matches!(
+            self,
+            Subcommand::Check | Subcommand::Digest | Subcommand::Validate | Subcommand::Diff
+        )
+    }
+
+    /// Whether the command has `--check`.
+    pub(super) fn reads_lists(self) -> bool
+        ensures { result ≡ reads_lists self }
+    {
+        matches!(self, Subcommand::Digest)
+    }
+
+    /// Whether the command has `--at`.
+    pub(super) fn takes_path(self) -> bool
+        ensures { result ≡ takes_path self }
+    {
+        matches!(
+            self,
+            Subcommand::Canon | Subcommand::Size | Subcommand::Digest | Subcommand::Show
+        )
+    }
+
+    /// Whether the command has `--json`, `--values`, `--depth`, `--color` and `--bytes`.
+    pub(super) fn shows(self) -> bool
+        ensures { result ≡ shows self }
+    {
+        matches!(self, Subcommand::Show)
+    }
 }
 
-/// The name of an option. `End` is `--`.
+/// An option that takes no value and says something about the task.
 #[derive(Clone, Copy, Debug, PartialEq, Eq)]
-pub enum OptionName {
-    Help,
-    HelpLetter,
-    Version,
-    VersionLetter,
-    End,
+pub enum PlainOption {
     Packed,
     Pack,
     Flat,
     FromFlat,
     Hex,
     Quiet,
-    Nesting,
-    Words,
     Check,
     CheckLetter,
-    At,
     Json,
     Values,
-    Depth,
     Color,
-    Bytes,
 }
 
-impl OptionName {
-    /// Returns the argument that is this option, without a value.
+impl PlainOption {
+    /// Returns the argument that is this option.
     pub fn text(self) -> &'static str
-        ensures { result.now ≡ option_text self }
+        ensures { result.now ≡ plain_option_text self }
     {
         match self {
-            OptionName::Help => "--help",
-            OptionName::HelpLetter => "-h",
-            OptionName::Version => "--version",
-            OptionName::VersionLetter => "-V",
-            OptionName::End => "--",
-            OptionName::Packed => "--packed",
-            OptionName::Pack => "--pack",
-            OptionName::Flat => "--flat",
-            OptionName::FromFlat => "--from-flat",
-            OptionName::Hex => "--hex",
-            OptionName::Quiet => "--quiet",
-            OptionName::Nesting => "--nesting",
-            OptionName::Words => "--words",
-            OptionName::Check => "--check",
-            OptionName::CheckLetter => "-c",
-            OptionName::At => "--at",
-            OptionName::Json => "--json",
-            OptionName::Values => "--values",
-            OptionName::Depth => "--depth",
-            OptionName::Color => "--color",
-            OptionName::Bytes => "--bytes",
+            PlainOption::Packed => "--packed",
+            PlainOption::Pack => "--pack",
+            PlainOption::Flat => "--flat",
+            PlainOption::FromFlat => "--from-flat",
+            PlainOption::Hex => "--hex",
+            PlainOption::Quiet => "--quiet",
+            PlainOption::Check => "--check",
+            PlainOption::CheckLetter => "-c",
+            PlainOption::Json => "--json",
+            PlainOption::Values => "--values",
+            PlainOption::Color => "--color",
         }
     }
 }
@@ -114,6 +135,35 @@ impl ValueOption {
     }
 }
 
+/// An option. `End` is `--`.
+#[derive(Clone, Copy, Debug, PartialEq, Eq)]
+pub enum OptionName {
+    Help,
+    HelpLetter,
+    Version,
+    VersionLetter,
+    End,
+    Plain(PlainOption),
+    Valued(ValueOption),
+}
+
+impl OptionName {
+    /// Returns the argument that is this option, without a value.
+    pub fn text(self) -> &'static str
+        ensures { result.now ≡ option_text self }
+    {
+        match self {
+            OptionName::Help => "--help",
+            OptionName::HelpLetter => "-h",
+            OptionName::Version => "--version",
+            OptionName::VersionLetter => "-V",
+            OptionName::End => "--",
+            OptionName::Plain(option) => option.text(),
+            OptionName::Valued(option) => option.text(),
+        }
+    }
+}
+
 /// All options.
 const OPTIONS: [OptionName; 21] = [
     OptionName::Help,
@@ -121,22 +171,22 @@ const OPTIONS: [OptionName; 21] = [
     OptionName::Version,
     OptionName::VersionLetter,
     OptionName::End,
-    OptionName::Packed,
-    OptionName::Pack,
-    OptionName::Flat,
-    OptionName::FromFlat,
-    OptionName::Hex,
-    OptionName::Quiet,
-    OptionName::Nesting,
-    OptionName::Words,
-    OptionName::Check,
-    OptionName::CheckLetter,
-    OptionName::At,
-    OptionName::Json,
-    OptionName::Values,
-    OptionName::Depth,
-    OptionName::Color,
-    OptionName::Bytes,
+    OptionName::Plain(PlainOption::Packed),
+    OptionName::Plain(PlainOption::Pack),
+    OptionName::Plain(PlainOption::Flat),
+    OptionName::Plain(PlainOption::FromFlat),
+    OptionName::Plain(PlainOption::Hex),
+    OptionName::Plain(PlainOption::Quiet),
+    OptionName::Plain(PlainOption::Check),
+    OptionName::Plain(PlainOption::CheckLetter),
+    OptionName::Plain(PlainOption::Json),
+    OptionName::Plain(PlainOption::Values),
+    OptionName::Plain(PlainOption::Color),
+    OptionName::Valued(ValueOption::Nesting),
+    OptionName::Valued(ValueOption::Words),
+    OptionName::Valued(ValueOption::At),
+    OptionName::Valued(ValueOption::Depth),
+    OptionName::Valued(ValueOption::Bytes),
 ];
 
 /// Whether `text` looks like an option: `-` followed by more. `-` by itself is a file.
@@ -148,7 +198,7 @@ pub(super) fn looks_like_option(text: &str) -> bool
 }
 
 /// The option whose text is `text`, if there is one.
-pub(super) fn option_of(text: &str) -> Option<OptionName>
+pub fn option_of(text: &str) -> Option<OptionName>
     ensures { result ≡ option_named text.now }
 {
     let mut rest = OPTIONS.as_slice();

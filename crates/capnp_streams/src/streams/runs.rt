@@ -1,18 +1,16 @@
-//! Does a task with each message of a stream.
+//! Does a job with each message of a stream.
 ghost use Rattle.std.specs.Prelude.{◌≡◌, ◌⊎◌, [], Some, true, Ok, None, IsSome, OnOk, IfOk, IfErr, IfSome, IsSomeAnd};
 ghost use Rattle.std.specs.Io.KnownBytes.{IsAtEnd, Keeps};
 ghost use Rattle.capnp_framing.specs.declared.framing.frame_error.FrameError.TheVariants.{ReadFailed};
 ghost use Rattle.capnp_framing.specs.Wholeness.{KeepsWhole};
-ghost use Rattle.capnp_streams.specs.Jobs.{answering};
-ghost use Rattle.capnp_streams.specs.Streams.{AreDone, AreWorking, CanBeAnswered, CountsRefusals, EndsAfter, IsOfDevices, IsWriteFault, RunsToEnd, Stage, StopsAt, WereAnswered, refusals_behind, stage_of};
+ghost use Rattle.capnp_streams.specs.Streams.{AreDone, AreWorking, CanBeAnswered, CountsRefusals, EndsAfter, IsOfDevices, IsWriteFault, RunsToEnd, Stage, StopsAt, WereAnswered, job_refusals_behind, stage_of};
 
-use super::answers::{Memory, answer, locate_refusal};
+use super::answers::{Memory, do_job};
 use super::stream_error::StreamError;
-use super::task::Task;
+use super::task::Job;
 use capnp_arena::arena::Allocator;
 use capnp_framing::devices::{Input, Output};
 use capnp_framing::framing::{FrameError, OwnedSegments, most_words, read_into_with};
-use capnp_messages::messages::CopyMemory;
 use capnp_packing::buffered::{BufferedInput, BufferedOutput, flush_before_waiting};
 use std::alloc::Global;
 
@@ -64,12 +62,13 @@ pub(super) fn stop_after(summary: Summary, error: FrameError) -> Stop
     }
 }
 
-/// Reads the next message and answers it. Returns `None` at the end of the input.
+/// Reads message `number` and does `job` with it. Returns `None` at the end of the input.
 ///
 /// Precondition: the whole frame of the message is in the input's buffer, or the output has flushed
 /// all its bytes. So no read waits for a sender while the output still holds an answer.
 fn answer_next<A: Allocator, R: BufferedInput, W: BufferedOutput>(
-    task: Task,
+    job: Job,
+    number: u64,
     input: &mut R,
     segments: &mut OwnedSegments,
     memory: &mut Memory<A>,
@@ -82,7 +81,7 @@ fn answer_next<A: Allocator, R: BufferedInput, W: BufferedOutput>(
         × IsAtEnd (R.remaining input.new)
         × Keeps (W.contents output.old) (W.contents output.new) }
     ensures answered { IfOk result (λ m. IfSome m (λ one.
-        AreDone (answering task) (stage_of R.Input W.Output input.old output.old)
+        AreDone job (stage_of R.Input W.Output input.old output.old)
         (stage_of R.Input W.Output input.new output.new)
         (record { messages = 1; bytes = one.bytes; holds = one.holds }))) }
     ensures whole { OnOk result (KeepsWhole (R.ends_whole input.old) (R.ends_whole input.new)) }
@@ -90,32 +89,33 @@ fn answer_next<A: Allocator, R: BufferedInput, W: BufferedOutput>(
     ensures failed { IfErr result (λ e. R.has_failed input.new ≡ true
         → e ≡ StreamError.Frame ReadFailed) }
     ensures refused { IfErr result (λ e. IsWriteFault W.Output output.new e
-        ⊎ (StopsAt (answering task) (R.remaining input.old) (R.remaining input.new)
+        ⊎ (StopsAt job (R.remaining input.old) (R.remaining input.new)
         (R.has_failed input.new) e
         × Keeps (W.contents output.old) (W.contents output.new))) }
     ensures memory { CountsRefusals A.refusals memory.old.allocator memory.new.allocator
-        task.command result }
+        (job_refusals_behind job) result }
 {
     let Some(allocator) = &mut memory.allocator else {
         unreachable!()
     };
-    match read_into_with(allocator, input, most_words(task.limits), segments) {
+    match read_into_with(allocator, input, most_words(job.limits()), segments) {
         Ok(false) => Ok(None),
-        Ok(true) => match answer(memory, task, &*segments, output) {
+        Ok(true) => match do_job(memory, job, number, &*segments, output) {
             Ok(holds) => Ok(Some(Answered {
                 holds,
                 bytes: segments.size_in_bytes() as u64,
             })),
-            Err(fault) => Err(locate_refusal(fault, task, &*segments)),
+            Err(fault) => Err(fault),
         },
         Err(error) => Err(StreamError::Frame(error)),
     }
 }
 
-/// Flushes the answers so far, unless the next message is already in the input's buffer; then reads
-/// this message and answers it. Returns `None` at the end of the input.
+/// Flushes the answers so far, unless message `number` is already in the input's buffer; then reads
+/// this message and does `job` with it. Returns `None` at the end of the input.
 fn flush_and_answer_next<A: Allocator, R: BufferedInput, W: BufferedOutput>(
-    task: Task,
+    job: Job,
+    number: u64,
     input: &mut R,
     segments: &mut OwnedSegments,
     memory: &mut Memory<A>,
@@ -127,7 +127,7 @@ fn flush_and_answer_next<A: Allocator, R: BufferedInput, W: BufferedOutput>(
         × IsAtEnd (R.remaining input.new)
         × Keeps (W.contents output.old) (W.contents output.new) }
     ensures answered { IfOk result (λ m. IfSome m (λ one.
-        AreDone (answering task) (stage_of R.Input W.Output input.old output.old)
+        AreDone job (stage_of R.Input W.Output input.old output.old)
         (stage_of R.Input W.Output input.new output.new)
         (record { messages = 1; bytes = one.bytes; holds = one.holds }))) }
     ensures whole { OnOk result (KeepsWhole (R.ends_whole input.old) (R.ends_whole input.new)) }
@@ -135,19 +135,19 @@ fn flush_and_answer_next<A: Allocator, R: BufferedInput, W: BufferedOutput>(
     ensures failed { IfErr result (λ e. R.has_failed input.new ≡ true
         → e ≡ StreamError.Frame ReadFailed) }
     ensures refused { IfErr result (λ e. IsWriteFault W.Output output.new e
-        ⊎ (StopsAt (answering task) (R.remaining input.old) (R.remaining input.new)
+        ⊎ (StopsAt job (R.remaining input.old) (R.remaining input.new)
         (R.has_failed input.new) e
         × Keeps (W.contents output.old) (W.contents output.new))) }
     ensures memory { CountsRefusals A.refusals memory.old.allocator memory.new.allocator
-        task.command result }
+        (job_refusals_behind job) result }
 {
     if flush_before_waiting(input, output).is_err() {
         return Err(StreamError::Frame(FrameError::WriteFailed));
     }
-    answer_next(task, input, segments, memory, output)
+    answer_next(job, number, input, segments, memory, output)
 }
 
-/// Does `task` with each message of the input, and writes the answers in the order of the messages.
+/// Does `job` with each message of the input, and writes the answers in the order of the messages.
 /// Precondition: neither `input` nor `output` has failed.
 ///
 /// The input is a stream of frames. The number of words of each message may be at most the
@@ -160,6 +160,12 @@ fn flush_and_answer_next<A: Allocator, R: BufferedInput, W: BufferedOutput>(
 /// - `Check`: the line `canonical` if the message as a whole is canonical, otherwise
 ///   `not canonical: REASON at segment S, word W`.
 /// - `Size`: the line `words N caps M`, without landing pads.
+///
+/// - `Digest`: the SHA-256 of the canonical words, as a line of hex digits.
+/// - `Validate`: a line with the extent of the message.
+///
+/// A message is shown as the text that `show_message` writes: at most `MOST_BYTES` bytes. What
+/// `bytes` of the task says isn't looked at: a caller bounds the output itself, by `BoundedOutput`.
 ///
 /// If the task's path has indexes, `Canon`, `Digest` and `Size` are about the part of each message
 /// to which it leads; a message in which it leads nowhere is refused with `NoSuchPlace`.
@@ -178,38 +184,38 @@ fn flush_and_answer_next<A: Allocator, R: BufferedInput, W: BufferedOutput>(
 /// if the heap has none, it is requested from `allocator`. So a limit of `allocator` doesn't limit
 /// this memory. If the run stops with `AllocationFailed`, the allocator has counted one more
 /// refusal (`A.refusals`); after any other result it has counted none. `Check` and `Size` take
-/// memory only for the frames read.
-pub fn run_with<A: Allocator, R: BufferedInput, W: BufferedOutput>(
+/// memory only for the frames read. Memory for texts that are shown comes from the heap.
+pub fn run<A: Allocator, R: BufferedInput, W: BufferedOutput>(
     alloc: Global,
     allocator: A,
-    task: Task,
+    job: Job,
     input: &mut R,
     output: &mut W,
 ) -> (Result<Summary, Stop>, A)
     requires { AreWorking R.Input W.Output input.old output.old }
-    ensures done { IfOk result.0 (AreDone (answering task)
+    ensures done { IfOk result.0 (AreDone job
         (stage_of R.Input W.Output input.old output.old)
         (record { input = Some []; output = W.contents output.new })) }
     ensures refused { IfErr result.0 (λ s. (behind : Stage)
-        × WereAnswered (answering task) (stage_of R.Input W.Output input.old output.old) behind s
+        × WereAnswered job (stage_of R.Input W.Output input.old output.old) behind s
         × (IsWriteFault W.Output output.new s.fault
-        ⊎ EndsAfter (answering task) behind (stage_of R.Input W.Output input.new output.new)
+        ⊎ EndsAfter job behind (stage_of R.Input W.Output input.new output.new)
         (R.has_failed input.new) s)) }
     ensures exactly { IfErr result.0 (λ s.
-        IsSomeAnd (R.remaining input.old) (CanBeAnswered (answering task)) → IsOfDevices s.fault) }
+        IsSomeAnd (R.remaining input.old) (CanBeAnswered job) → IsOfDevices s.fault) }
     ensures ended { OnOk result.0 (RunsToEnd R.Input W.Output input.old input.new output.new) }
     ensures failed { IfErr result.0 (λ s. R.has_failed input.new ≡ true
         → s.fault ≡ StreamError.Frame ReadFailed) }
     ensures kept { OnOk result.0 (A.refusals result.1 ≡ A.refusals allocator) }
     ensures counted { IfErr result.0 (λ s. A.refusals result.1
-        ≡ refusals_behind task.command s.fault (A.refusals allocator)) }
+        ≡ job_refusals_behind job s.fault (A.refusals allocator)) }
 {
     let mut segments = OwnedSegments::new(alloc);
     let mut memory = Memory::new(alloc, allocator);
     let mut bytes = 0u64;
     let mut holds = true;
     for number in 0..u64::MAX {
-        match flush_and_answer_next(task, input, &mut segments, &mut memory, output) {
+        match flush_and_answer_next(job, number + 1, input, &mut segments, &mut memory, output) {
             Ok(None) => {
                 let summary = Summary {
                     messages: number,
@@ -238,31 +244,4 @@ pub fn run_with<A: Allocator, R: BufferedInput, W: BufferedOutput>(
         fault: StreamError::TooManyMessages,
     };
     (Err(stop), memory.into_allocator())
-}
-
-/// Like `run_with`, but without an allocator: all memory comes from the heap, and is reused from
-/// one message to the next. Precondition: neither `input` nor `output` has failed.
-pub fn run<R: BufferedInput, W: BufferedOutput>(
-    alloc: Global,
-    task: Task,
-    input: &mut R,
-    output: &mut W,
-) -> Result<Summary, Stop>
-    requires { AreWorking R.Input W.Output input.old output.old }
-    ensures done { IfOk result (AreDone (answering task)
-        (stage_of R.Input W.Output input.old output.old)
-        (record { input = Some []; output = W.contents output.new })) }
-    ensures refused { IfErr result (λ s. (behind : Stage)
-        × WereAnswered (answering task) (stage_of R.Input W.Output input.old output.old) behind s
-        × (IsWriteFault W.Output output.new s.fault
-        ⊎ EndsAfter (answering task) behind (stage_of R.Input W.Output input.new output.new)
-        (R.has_failed input.new) s)) }
-    ensures exactly { IfErr result (λ s.
-        IsSomeAnd (R.remaining input.old) (CanBeAnswered (answering task)) → IsOfDevices s.fault) }
-    ensures ended { OnOk result (RunsToEnd R.Input W.Output input.old input.new output.new) }
-    ensures failed { IfErr result (λ s. R.has_failed input.new ≡ true
-        → s.fault ≡ StreamError.Frame ReadFailed) }
-{
-    let (answered, _) = run_with(alloc, CopyMemory::new(alloc), task, input, output);
-    answered
 }

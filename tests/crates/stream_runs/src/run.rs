@@ -3,9 +3,10 @@
 //! device succeed, and how many bytes each call moves at most. A comma separates the two numbers;
 //! `none` means no limit.
 
+use capnp_proved::capnp_messages::messages::CopyMemory;
 use capnp_proved::capnp_packing::buffered::BufferedOutput;
 use capnp_proved::capnp_packing::packing::PackingOutput;
-use capnp_proved::capnp_streams::streams::{self, Request, Stop, Summary, Task};
+use capnp_proved::capnp_streams::streams::{self, InputForm, Job, Request, Stop, Summary, Task};
 use capnp_proved::support::alloc::Global;
 use test_support::{
     decode_hex, encode_hex, parse_limit, split_arguments, Strain, StrainedInput, StrainedOutput,
@@ -47,7 +48,7 @@ fn parse_task(text: &str) -> Option<Task> {
     let args = split_arguments(text);
     let files = streams::named_files(Global, &args).expect("memory");
     match streams::parse_args(&args) {
-        Ok(Request::Run(task)) if files.is_empty() && !task.from_flat => Some(task),
+        Ok(Request::Run(task)) if files.is_empty() && task.input_form != InputForm::RawWords => Some(task),
         _ => None,
     }
 }
@@ -92,10 +93,11 @@ fn run_once(run: &Run) -> String {
 /// Makes a run that writes to `output`, which hasn't failed.
 fn run_to<W: BufferedOutput>(run: &Run, output: &mut W) -> Result<Summary, Stop> {
     let mut input = StrainedInput::new(&run.input, run.reads);
-    if run.task.unpack {
-        streams::run_packed(Global, run.task, input, output)
+    let (memory, job) = (CopyMemory::new(Global), Job::Answer(run.task));
+    if run.task.input_form == InputForm::PackedFrames {
+        streams::run_packed(Global, memory, job, input, output).0
     } else {
-        streams::run(Global, run.task, &mut input, output)
+        streams::run(Global, memory, job, &mut input, output).0
     }
 }
 

@@ -1,4 +1,4 @@
-//! Does a task with each message of a stream.
+//! Does a job with each message of a stream.
 
 mod answers;
 mod arguments;
@@ -18,12 +18,11 @@ mod writing;
 pub use crate::proved::capnp_messages::messages::{Command, Form};
 pub use arguments::ArgumentFault;
 pub use diffs::{run_diff, run_diff_flat, run_diff_packed, Compared, DiffFault, Side};
-pub use flat::{run_flat, run_flat_with};
+pub use flat::run_flat;
 pub use input_form::InputForm;
-pub use options::{OptionName, Subcommand, ValueOption};
-pub use packed::{run_packed, run_packed_with};
+pub use options::{option_of, OptionName, PlainOption, Subcommand, ValueOption};
+pub use packed::run_packed;
 pub use path::Path;
-pub use runs::{run, run_with, Stop, Summary};
-pub use shows::{run_show, run_show_flat, run_show_packed};
+pub use runs::{run, Stop, Summary};
 pub use stream_error::StreamError;
-pub use task::{named_files, parse_args, DiffTask, Request, ShowTask, Task, WrongArgument};
+pub use task::{named_files, parse_args, DiffTask, Job, Request, ShowTask, Task, WrongArgument};

@@ -1,8 +1,19 @@
 use Rattle.std.proofs.Common.{◌≡◌, ◌+◌, ap, sym, arith}
-use Rattle.capnp_framing.proofs.WholenessLemmas.{keeps_whole_both}
+use Rattle.capnp_framing.proofs.WholenessLemmas.{keeps_whole, keeps_whole_both}
 use Rattle.capnp_streams.specs.declared.streams.diffs.Compared.{Compared}
-use Rattle.capnp_streams.proofs.DiffLemmas.{all_compared, all_same, on_ok, pairs_kept, pairs_more}
+use Rattle.capnp_streams.proofs.DiffLemmas.{all_compared, all_same, on_ok, pairs_kept, pairs_none, pairs_more}
 use Rattle.capnp_streams.proofs.streams.diffs.run_diff.Goals as goal
+
+pub loop-number-init : goal.loop-number-init
+loop-number-init g c =
+    let many : c.none-counts.result.messages ≡ 0 = ap (λ (x : Compared). x.messages) c.none-counts.ensures in
+    record {
+      done = rw c.none-counts.ensures (pairs_none c.args.task.limits _);
+      number = omega (arith, many);
+      works = (c.requires.left, c.requires.right, c.requires.works);
+      whole_left = keeps_whole _;
+      whole_right = keeps_whole _;
+    }
 
 pub loop-number-preserved : goal.loop-number-preserved
 loop-number-preserved g c =

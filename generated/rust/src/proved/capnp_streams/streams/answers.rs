@@ -1,12 +1,13 @@
 //! The answer to one message.
 
 use super::parts::{canonicalize_for_task, check, digest_for_task, size_for_task, validate};
+use super::shows::show;
 use super::stream_error::StreamError;
-use super::task::Task;
+use super::task::{Job, Task};
 use super::writing::{write_canonical_line, write_canonical_words, write_fault, write_hex_line};
 use crate::proved::capnp_arena::arena::{Allocator, ReaderArena, ReaderArenaImpl, ReaderSegments};
 use crate::proved::capnp_framing::devices::{DeviceFault, Output};
-use crate::proved::capnp_framing::framing::FrameError;
+use crate::proved::capnp_framing::framing::{FrameError, OwnedSegments};
 use crate::proved::capnp_messages::messages::{canonical_bytes, canonical_segment, Command, Form};
 use crate::proved::capnp_messages::text::{write_extent, write_size};
 use crate::proved::capnp_refusals::refusals::pointer_of_refusal;
@@ -170,7 +171,7 @@ fn answer_digest<A: Allocator, S: ReaderSegments, W: Output>(
 /// requires small { IsSmall (S.segments segments) }
 /// requires works { W.has_failed output.old ≡ false }
 /// ```
-pub(super) fn answer<A: Allocator, S: ReaderSegments, W: Output>(
+fn answer<A: Allocator, S: ReaderSegments, W: Output>(
     memory: &mut Memory<A>,
     task: Task,
     segments: S,
@@ -195,6 +196,32 @@ pub(super) fn answer<A: Allocator, S: ReaderSegments, W: Output>(
     }
 }
 
+/// Does `job` with message `number`, which is in `segments`: answers it like `answer`, or shows it
+/// like `show`. Tells at which of its pointers a message is refused, if it is at one.
+///
+/// # Preconditions
+///
+/// ```text
+/// requires there { IsSome memory.old.allocator }
+/// requires small { IsSmall (⟦<OwnedSegments as ReaderSegments>⟧.segments segments.now) }
+/// requires works { W.has_failed output.old ≡ false }
+/// ```
+pub(super) fn do_job<A: Allocator, W: Output>(
+    memory: &mut Memory<A>,
+    job: Job,
+    number: u64,
+    segments: &OwnedSegments,
+    output: &mut W,
+) -> Result<bool, StreamError> {
+    match job {
+        Job::Answer(task) => match answer(memory, task, segments, output) {
+            Ok(holds) => Ok(holds),
+            Err(fault) => Err(locate_refusal(fault, task, segments)),
+        },
+        Job::Show(task) => show(memory.alloc, task, number, segments, output),
+    }
+}
+
 /// Adds to `fault` the pointer at which the message in `segments` is refused, if `fault` is the
 /// refusal of a pointer and `task` is about the whole message. The message is read once more for
 /// this.
@@ -204,11 +231,7 @@ pub(super) fn answer<A: Allocator, S: ReaderSegments, W: Output>(
 /// ```text
 /// requires { IsSmall (S.segments segments) }
 /// ```
-pub(super) fn locate_refusal<S: ReaderSegments>(
-    fault: StreamError,
-    task: Task,
-    segments: S,
-) -> StreamError {
+fn locate_refusal<S: ReaderSegments>(fault: StreamError, task: Task, segments: S) -> StreamError {
     match fault {
         StreamError::Layout(kind, _) => {
             let pointer = if task.path.is_empty() {

@@ -1,21 +1,19 @@
-//! Does a task with the one message that an input holds as raw words, without a frame.
+//! Does a job with the one message that an input holds as raw words, without a frame.
 
-use super::answers::{answer, locate_refusal, Memory};
+use super::answers::{do_job, Memory};
 use super::stream_error::StreamError;
-use super::task::Task;
+use super::task::Job;
 use crate::proved::capnp_arena::arena::Allocator;
 use crate::proved::capnp_framing::devices::{Input, Output};
 use crate::proved::capnp_framing::framing::{most_words, read_segment_into_with, OwnedSegments};
-use crate::proved::capnp_messages::messages::CopyMemory;
 use crate::proved::support::alloc::Global;
 
-/// Does `task` with the one message that the input holds as raw words, and writes the answer.
-/// Returns `false` if the command is `Check` and the message isn't canonical; returns `true` after
-/// any other answer. Precondition: neither `input` nor `output` has failed.
+/// Does `job` with the one message that the input holds as raw words, and writes the answer.
+/// Returns `holds` of `Summary`. Precondition: neither `input` nor `output` has failed.
 ///
 /// All bytes of the input are read as the words of the message's only segment, without a frame, as
 /// `Canon` writes them in the form `Flat` (encoding specification, "Canonicalization"). The number
-/// of these words may be at most the traversal limit. The answer is the one that `run_with` writes
+/// of these words may be at most the traversal limit. The answer is the one that `run` writes
 /// for the message. An empty input is a segment without words, so without a root pointer; it is
 /// refused with `MessageContainsOutOfBoundsPointer`.
 ///
@@ -36,10 +34,10 @@ use crate::proved::support::alloc::Global;
 /// ```text
 /// requires { AreWorking R.Input W.Output input.old output.old }
 /// ```
-pub fn run_flat_with<A: Allocator, R: Input, W: Output>(
+pub fn run_flat<A: Allocator, R: Input, W: Output>(
     alloc: Global,
     allocator: A,
-    task: Task,
+    job: Job,
     input: &mut R,
     output: &mut W,
 ) -> (Result<bool, StreamError>, A) {
@@ -48,37 +46,14 @@ pub fn run_flat_with<A: Allocator, R: Input, W: Output>(
     match read_segment_into_with(
         &mut allocator,
         input,
-        most_words(task.limits),
+        most_words(job.limits()),
         &mut segments,
     ) {
         Ok(()) => {
             let mut memory = Memory::new(alloc, allocator);
-            match answer(&mut memory, task, &segments, output) {
-                Ok(holds) => (Ok(holds), memory.into_allocator()),
-                Err(fault) => {
-                    let fault = locate_refusal(fault, task, &segments);
-                    (Err(fault), memory.into_allocator())
-                }
-            }
+            let done = do_job(&mut memory, job, 1, &segments, output);
+            (done, memory.into_allocator())
         }
         Err(error) => (Err(StreamError::Frame(error)), allocator),
     }
-}
-
-/// Like `run_flat_with`, but without an allocator: all memory comes from the heap. Precondition:
-/// neither `input` nor `output` has failed.
-///
-/// # Preconditions
-///
-/// ```text
-/// requires { AreWorking R.Input W.Output input.old output.old }
-/// ```
-pub fn run_flat<R: Input, W: Output>(
-    alloc: Global,
-    task: Task,
-    input: &mut R,
-    output: &mut W,
-) -> Result<bool, StreamError> {
-    let (answered, _) = run_flat_with(alloc, CopyMemory::new(alloc), task, input, output);
-    answered
 }

@@ -25,59 +25,70 @@ impl Subcommand {
             Subcommand::Diff => "diff",
         }
     }
+
+    /// Whether the command has `--pack` and `--hex`.
+    pub(super) fn writes_words(self) -> bool {
+        matches!(self, Subcommand::Canon)
+    }
+
+    /// Whether the command has `--quiet`.
+    pub(super) fn can_be_quiet(self) -> bool {
+        matches!(
+            self,
+            Subcommand::Check | Subcommand::Digest | Subcommand::Validate | Subcommand::Diff
+        )
+    }
+
+    /// Whether the command has `--check`.
+    pub(super) fn reads_lists(self) -> bool {
+        matches!(self, Subcommand::Digest)
+    }
+
+    /// Whether the command has `--at`.
+    pub(super) fn takes_path(self) -> bool {
+        matches!(
+            self,
+            Subcommand::Canon | Subcommand::Size | Subcommand::Digest | Subcommand::Show
+        )
+    }
+
+    /// Whether the command has `--json`, `--values`, `--depth`, `--color` and `--bytes`.
+    pub(super) fn shows(self) -> bool {
+        matches!(self, Subcommand::Show)
+    }
 }
 
-/// The name of an option. `End` is `--`.
+/// An option that takes no value and says something about the task.
 #[derive(Clone, Copy, Debug, PartialEq, Eq)]
-pub enum OptionName {
-    Help,
-    HelpLetter,
-    Version,
-    VersionLetter,
-    End,
+pub enum PlainOption {
     Packed,
     Pack,
     Flat,
     FromFlat,
     Hex,
     Quiet,
-    Nesting,
-    Words,
     Check,
     CheckLetter,
-    At,
     Json,
     Values,
-    Depth,
     Color,
-    Bytes,
 }
 
-impl OptionName {
-    /// Returns the argument that is this option, without a value.
+impl PlainOption {
+    /// Returns the argument that is this option.
     pub fn text(self) -> &'static str {
         match self {
-            OptionName::Help => "--help",
-            OptionName::HelpLetter => "-h",
-            OptionName::Version => "--version",
-            OptionName::VersionLetter => "-V",
-            OptionName::End => "--",
-            OptionName::Packed => "--packed",
-            OptionName::Pack => "--pack",
-            OptionName::Flat => "--flat",
-            OptionName::FromFlat => "--from-flat",
-            OptionName::Hex => "--hex",
-            OptionName::Quiet => "--quiet",
-            OptionName::Nesting => "--nesting",
-            OptionName::Words => "--words",
-            OptionName::Check => "--check",
-            OptionName::CheckLetter => "-c",
-            OptionName::At => "--at",
-            OptionName::Json => "--json",
-            OptionName::Values => "--values",
-            OptionName::Depth => "--depth",
-            OptionName::Color => "--color",
-            OptionName::Bytes => "--bytes",
+            PlainOption::Packed => "--packed",
+            PlainOption::Pack => "--pack",
+            PlainOption::Flat => "--flat",
+            PlainOption::FromFlat => "--from-flat",
+            PlainOption::Hex => "--hex",
+            PlainOption::Quiet => "--quiet",
+            PlainOption::Check => "--check",
+            PlainOption::CheckLetter => "-c",
+            PlainOption::Json => "--json",
+            PlainOption::Values => "--values",
+            PlainOption::Color => "--color",
         }
     }
 }
@@ -105,6 +116,33 @@ impl ValueOption {
     }
 }
 
+/// An option. `End` is `--`.
+#[derive(Clone, Copy, Debug, PartialEq, Eq)]
+pub enum OptionName {
+    Help,
+    HelpLetter,
+    Version,
+    VersionLetter,
+    End,
+    Plain(PlainOption),
+    Valued(ValueOption),
+}
+
+impl OptionName {
+    /// Returns the argument that is this option, without a value.
+    pub fn text(self) -> &'static str {
+        match self {
+            OptionName::Help => "--help",
+            OptionName::HelpLetter => "-h",
+            OptionName::Version => "--version",
+            OptionName::VersionLetter => "-V",
+            OptionName::End => "--",
+            OptionName::Plain(option) => option.text(),
+            OptionName::Valued(option) => option.text(),
+        }
+    }
+}
+
 /// All options.
 const OPTIONS: [OptionName; 21] = [
     OptionName::Help,
@@ -112,22 +150,22 @@ const OPTIONS: [OptionName; 21] = [
     OptionName::Version,
     OptionName::VersionLetter,
     OptionName::End,
-    OptionName::Packed,
-    OptionName::Pack,
-    OptionName::Flat,
-    OptionName::FromFlat,
-    OptionName::Hex,
-    OptionName::Quiet,
-    OptionName::Nesting,
-    OptionName::Words,
-    OptionName::Check,
-    OptionName::CheckLetter,
-    OptionName::At,
-    OptionName::Json,
-    OptionName::Values,
-    OptionName::Depth,
-    OptionName::Color,
-    OptionName::Bytes,
+    OptionName::Plain(PlainOption::Packed),
+    OptionName::Plain(PlainOption::Pack),
+    OptionName::Plain(PlainOption::Flat),
+    OptionName::Plain(PlainOption::FromFlat),
+    OptionName::Plain(PlainOption::Hex),
+    OptionName::Plain(PlainOption::Quiet),
+    OptionName::Plain(PlainOption::Check),
+    OptionName::Plain(PlainOption::CheckLetter),
+    OptionName::Plain(PlainOption::Json),
+    OptionName::Plain(PlainOption::Values),
+    OptionName::Plain(PlainOption::Color),
+    OptionName::Valued(ValueOption::Nesting),
+    OptionName::Valued(ValueOption::Words),
+    OptionName::Valued(ValueOption::At),
+    OptionName::Valued(ValueOption::Depth),
+    OptionName::Valued(ValueOption::Bytes),
 ];
 
 /// Whether `text` looks like an option: `-` followed by more. `-` by itself is a file.
@@ -137,7 +175,7 @@ pub(super) fn looks_like_option(text: &str) -> bool {
 }
 
 /// The option whose text is `text`, if there is one.
-pub(super) fn option_of(text: &str) -> Option<OptionName> {
+pub fn option_of(text: &str) -> Option<OptionName> {
     let mut rest = OPTIONS.as_slice();
     while let Some((option, more)) = rest.split_first() {
         if option.text() == text {

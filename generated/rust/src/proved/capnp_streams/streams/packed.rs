@@ -1,18 +1,17 @@
-//! Does a task with each message of a packed stream.
+//! Does a job with each message of a packed stream.
 
-use super::runs::{run_with, stop_after, Stop, Summary};
+use super::runs::{run, stop_after, Stop, Summary};
 use super::stream_error::StreamError;
-use super::task::Task;
+use super::task::Job;
 use crate::proved::capnp_arena::arena::Allocator;
 use crate::proved::capnp_framing::devices::{DeviceFault, Input};
 use crate::proved::capnp_framing::framing::FrameError;
-use crate::proved::capnp_messages::messages::CopyMemory;
 use crate::proved::capnp_packing::buffered::BufferedOutput;
 use crate::proved::capnp_packing::packing::UnpackingInput;
 use crate::proved::support::alloc::Global;
 
 /// Unpacks the input `packed` (encoding specification, "Packing"), and does with the unpacked bytes
-/// what `run_with` does with its input. Precondition: neither `packed` nor `output` has failed.
+/// what `run` does with its input. Precondition: neither `packed` nor `output` has failed.
 ///
 /// If the packed bytes end inside a packed word, or where the count after a tag is missing, the run
 /// stops with `Truncated`. It has then answered all messages whose frames are complete, and has
@@ -24,15 +23,15 @@ use crate::proved::support::alloc::Global;
 /// ```text
 /// requires { AreWorking R.Input W.Output packed output.old }
 /// ```
-pub fn run_packed_with<A: Allocator, R: Input, W: BufferedOutput>(
+pub fn run_packed<A: Allocator, R: Input, W: BufferedOutput>(
     alloc: Global,
     allocator: A,
-    task: Task,
+    job: Job,
     packed: R,
     output: &mut W,
 ) -> (Result<Summary, Stop>, A) {
     let mut input = UnpackingInput::new(packed);
-    let (answered, allocator) = run_with(alloc, allocator, task, &mut input, output);
+    let (answered, allocator) = run(alloc, allocator, job, &mut input, output);
     match answered {
         Ok(summary) => match input.is_whole_at_end() {
             Ok(true) => (Ok(summary), allocator),
@@ -41,22 +40,4 @@ pub fn run_packed_with<A: Allocator, R: Input, W: BufferedOutput>(
         },
         Err(stop) => (Err(stop), allocator),
     }
-}
-
-/// Like `run_packed_with`, without an allocator: all memory comes from the heap. Precondition:
-/// neither `packed` nor `output` has failed.
-///
-/// # Preconditions
-///
-/// ```text
-/// requires { AreWorking R.Input W.Output packed output.old }
-/// ```
-pub fn run_packed<R: Input, W: BufferedOutput>(
-    alloc: Global,
-    task: Task,
-    packed: R,
-    output: &mut W,
-) -> Result<Summary, Stop> {
-    let (answered, _) = run_packed_with(alloc, CopyMemory::new(alloc), task, packed, output);
-    answered
 }

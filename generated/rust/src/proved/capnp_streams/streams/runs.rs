@@ -1,14 +1,13 @@
-//! Does a task with each message of a stream.
+//! Does a job with each message of a stream.
 
-use super::answers::{answer, locate_refusal, Memory};
+use super::answers::{do_job, Memory};
 use super::stream_error::StreamError;
-use super::task::Task;
+use super::task::Job;
 use crate::proved::capnp_arena::arena::Allocator;
 use crate::proved::capnp_framing::devices::{Input, Output};
 use crate::proved::capnp_framing::framing::{
     most_words, read_into_with, FrameError, OwnedSegments,
 };
-use crate::proved::capnp_messages::messages::CopyMemory;
 use crate::proved::capnp_packing::buffered::{flush_before_waiting, BufferedInput, BufferedOutput};
 use crate::proved::support::alloc::Global;
 
@@ -56,7 +55,7 @@ pub(super) fn stop_after(summary: Summary, error: FrameError) -> Stop {
     }
 }
 
-/// Reads the next message and answers it. Returns `None` at the end of the input.
+/// Reads message `number` and does `job` with it. Returns `None` at the end of the input.
 ///
 /// Precondition: the whole frame of the message is in the input's buffer, or the output has flushed
 /// all its bytes. So no read waits for a sender while the output still holds an answer.
@@ -69,7 +68,8 @@ pub(super) fn stop_after(summary: Summary, error: FrameError) -> Stop {
 /// requires passed_on { R.has_enough input.old ⊎ (W.kept output.old ≡ 0) }
 /// ```
 fn answer_next<A: Allocator, R: BufferedInput, W: BufferedOutput>(
-    task: Task,
+    job: Job,
+    number: u64,
     input: &mut R,
     segments: &mut OwnedSegments,
     memory: &mut Memory<A>,
@@ -78,21 +78,21 @@ fn answer_next<A: Allocator, R: BufferedInput, W: BufferedOutput>(
     let Some(allocator) = &mut memory.allocator else {
         unreachable!()
     };
-    match read_into_with(allocator, input, most_words(task.limits), segments) {
+    match read_into_with(allocator, input, most_words(job.limits()), segments) {
         Ok(false) => Ok(None),
-        Ok(true) => match answer(memory, task, &*segments, output) {
+        Ok(true) => match do_job(memory, job, number, &*segments, output) {
             Ok(holds) => Ok(Some(Answered {
                 holds,
                 bytes: segments.size_in_bytes() as u64,
             })),
-            Err(fault) => Err(locate_refusal(fault, task, &*segments)),
+            Err(fault) => Err(fault),
         },
         Err(error) => Err(StreamError::Frame(error)),
     }
 }
 
-/// Flushes the answers so far, unless the next message is already in the input's buffer; then reads
-/// this message and answers it. Returns `None` at the end of the input.
+/// Flushes the answers so far, unless message `number` is already in the input's buffer; then reads
+/// this message and does `job` with it. Returns `None` at the end of the input.
 ///
 /// # Preconditions
 ///
@@ -101,7 +101,8 @@ fn answer_next<A: Allocator, R: BufferedInput, W: BufferedOutput>(
 /// requires work { AreWorking R.Input W.Output input.old output.old }
 /// ```
 fn flush_and_answer_next<A: Allocator, R: BufferedInput, W: BufferedOutput>(
-    task: Task,
+    job: Job,
+    number: u64,
     input: &mut R,
     segments: &mut OwnedSegments,
     memory: &mut Memory<A>,
@@ -110,10 +111,10 @@ fn flush_and_answer_next<A: Allocator, R: BufferedInput, W: BufferedOutput>(
     if flush_before_waiting(input, output).is_err() {
         return Err(StreamError::Frame(FrameError::WriteFailed));
     }
-    answer_next(task, input, segments, memory, output)
+    answer_next(job, number, input, segments, memory, output)
 }
 
-/// Does `task` with each message of the input, and writes the answers in the order of the messages.
+/// Does `job` with each message of the input, and writes the answers in the order of the messages.
 /// Precondition: neither `input` nor `output` has failed.
 ///
 /// The input is a stream of frames. The number of words of each message may be at most the
@@ -126,6 +127,12 @@ fn flush_and_answer_next<A: Allocator, R: BufferedInput, W: BufferedOutput>(
 /// - `Check`: the line `canonical` if the message as a whole is canonical, otherwise
 ///   `not canonical: REASON at segment S, word W`.
 /// - `Size`: the line `words N caps M`, without landing pads.
+///
+/// - `Digest`: the SHA-256 of the canonical words, as a line of hex digits.
+/// - `Validate`: a line with the extent of the message.
+///
+/// A message is shown as the text that `show_message` writes: at most `MOST_BYTES` bytes. What
+/// `bytes` of the task says isn't looked at: a caller bounds the output itself, by `BoundedOutput`.
 ///
 /// If the task's path has indexes, `Canon`, `Digest` and `Size` are about the part of each message
 /// to which it leads; a message in which it leads nowhere is refused with `NoSuchPlace`.
@@ -144,17 +151,17 @@ fn flush_and_answer_next<A: Allocator, R: BufferedInput, W: BufferedOutput>(
 /// if the heap has none, it is requested from `allocator`. So a limit of `allocator` doesn't limit
 /// this memory. If the run stops with `AllocationFailed`, the allocator has counted one more
 /// refusal (`A.refusals`); after any other result it has counted none. `Check` and `Size` take
-/// memory only for the frames read.
+/// memory only for the frames read. Memory for texts that are shown comes from the heap.
 ///
 /// # Preconditions
 ///
 /// ```text
 /// requires { AreWorking R.Input W.Output input.old output.old }
 /// ```
-pub fn run_with<A: Allocator, R: BufferedInput, W: BufferedOutput>(
+pub fn run<A: Allocator, R: BufferedInput, W: BufferedOutput>(
     alloc: Global,
     allocator: A,
-    task: Task,
+    job: Job,
     input: &mut R,
     output: &mut W,
 ) -> (Result<Summary, Stop>, A) {
@@ -163,7 +170,7 @@ pub fn run_with<A: Allocator, R: BufferedInput, W: BufferedOutput>(
     let mut bytes = 0u64;
     let mut holds = true;
     for number in 0..u64::MAX {
-        match flush_and_answer_next(task, input, &mut segments, &mut memory, output) {
+        match flush_and_answer_next(job, number + 1, input, &mut segments, &mut memory, output) {
             Ok(None) => {
                 let summary = Summary {
                     messages: number,
@@ -192,22 +199,4 @@ pub fn run_with<A: Allocator, R: BufferedInput, W: BufferedOutput>(
         fault: StreamError::TooManyMessages,
     };
     (Err(stop), memory.into_allocator())
-}
-
-/// Like `run_with`, but without an allocator: all memory comes from the heap, and is reused from
-/// one message to the next. Precondition: neither `input` nor `output` has failed.
-///
-/// # Preconditions
-///
-/// ```text
-/// requires { AreWorking R.Input W.Output input.old output.old }
-/// ```
-pub fn run<R: BufferedInput, W: BufferedOutput>(
-    alloc: Global,
-    task: Task,
-    input: &mut R,
-    output: &mut W,
-) -> Result<Summary, Stop> {
-    let (answered, _) = run_with(alloc, CopyMemory::new(alloc), task, input, output);
-    answered
 }

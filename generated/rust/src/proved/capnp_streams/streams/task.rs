@@ -1,6 +1,7 @@
 //! The task for each message, and the arguments that ask for it.
 
 use super::arguments::{ArgumentFault, ArgumentStep, ParsedArguments};
+use super::input_form::InputForm;
 use super::path::Path;
 use crate::proved::capnp_arena::arena::ReaderOptions;
 use crate::proved::capnp_messages::messages::Command;
@@ -13,10 +14,8 @@ use crate::proved::support::vec::Vec;
 pub struct Task {
     pub command: Command,
     pub limits: ReaderOptions,
-    /// Whether the input is packed (encoding specification, "Packing").
-    pub unpack: bool,
-    /// Whether the input is the raw words of one message, not frames.
-    pub from_flat: bool,
+    /// How the input is read.
+    pub input_form: InputForm,
     /// Whether canonical messages are written packed.
     pub pack: bool,
     /// Whether the canonical words of each message are written as a line of hex digits, without a
@@ -49,20 +48,43 @@ pub struct ShowTask {
     /// The path from the root pointer to the part of each message that is shown.
     pub path: Path,
     pub limits: ReaderOptions,
-    /// Whether the input is packed (encoding specification, "Packing").
-    pub unpack: bool,
-    /// Whether the input is the raw words of one message, not frames.
-    pub from_flat: bool,
+    /// How the input is read.
+    pub input_form: InputForm,
+}
+
+/// What to do with each message of an input.
+#[derive(Clone, Copy)]
+pub enum Job {
+    /// To answer it.
+    Answer(Task),
+    /// To show it.
+    Show(ShowTask),
+}
+
+impl Job {
+    /// The limits for reading each message.
+    pub fn limits(&self) -> ReaderOptions {
+        match self {
+            Job::Answer(task) => task.limits,
+            Job::Show(task) => task.limits,
+        }
+    }
+
+    /// How the input is read.
+    pub fn input_form(&self) -> InputForm {
+        match self {
+            Job::Answer(task) => task.input_form,
+            Job::Show(task) => task.input_form,
+        }
+    }
 }
 
 /// How to compare the messages of two files, and the limits for reading them.
 #[derive(Clone, Copy)]
 pub struct DiffTask {
     pub limits: ReaderOptions,
-    /// Whether both inputs are packed (encoding specification, "Packing").
-    pub unpack: bool,
-    /// Whether each input is the raw words of one message, not frames.
-    pub from_flat: bool,
+    /// How both inputs are read.
+    pub input_form: InputForm,
     /// Whether nothing is written to the output, so that only the program's exit status says
     /// whether the messages differ.
     pub quiet: bool,

@@ -1,13 +1,12 @@
 use Rattle.std.proofs.Common.{◌≡◌, ◌∙◌, ◌-◌, ◌^◌, inr, refl, rules}
 use Rattle.capnp_framing.proofs.WholenessLemmas.{keeps_whole, keeps_whole_both}
-use Rattle.capnp_streams.specs.Jobs.{answering}
 use Rattle.capnp_streams.proofs.AnsweredLemmas.{ends_behind, step_answerable}
 use Rattle.capnp_streams.proofs.StreamLemmas.{all_done, keeps_same, more_done, none_done}
-use Rattle.capnp_streams.proofs.streams.runs.run_with.Goals as goal
+use Rattle.capnp_streams.proofs.streams.runs.run.Goals as goal
 
 pub loop-number-init : goal.loop-number-init
 loop-number-init g c = record {
-  done = none_done (answering c.args.task) _;
+  done = none_done c.args.job _;
   whole = keeps_whole _;
   work = c.requires;
   there = search rules;
@@ -41,7 +40,7 @@ returns-in-Ok-None-clause-ended g c =
 
 pub returns-in-Err-clause-refused : goal.returns-in-Err-clause-refused
 returns-in-Err-clause-refused g c =
-    (_, (c.loop-number.holds, c.loop-number.invariant.done), ends_behind (answering c.args.task) _ _ _ (record { answered = c.loop-number.number; byte = c.loop-number.bytes; fault = c.in-Err.fault }) c.in-Err.ensures.refused)
+    (_, (c.loop-number.holds, c.loop-number.invariant.done), ends_behind c.args.job _ _ _ (record { answered = c.loop-number.number; byte = c.loop-number.bytes; fault = c.in-Err.fault }) c.in-Err.ensures.refused)
 
 pub returns-in-Err-clause-exactly : goal.returns-in-Err-clause-exactly
 returns-in-Err-clause-exactly g c =
