@@ -377,7 +377,7 @@ fn check_primitive_list<A: ReaderArena>(
 }
 
 // Tests the list of bits or numbers that the word at `at` describes, for pointer `index` of the row
-// at `row`, of which the table has the kind word `wanted`. Texts are told apart first: most lists are
+// at `row`, whose kind word in the table is `wanted`. Texts are told apart first: most lists are
 // texts, and of a constant kind little is left to test.
 #[inline(always)]
 fn check_wanted_list<A: ReaderArena>(

@@ -49,30 +49,30 @@ pub(in crate::proved::typed_conforming) fn word_kind(word: u32) -> Kind {
 /// # Preconditions
 ///
 /// ```text
-/// requires inside { data.at + count ≤ length (words_of data.bytes.now) }
+/// requires inside { section.at + count ≤ length (words_of section.bytes.now) }
 /// ```
-// The 16 bits at `offset`, counted in 16 bits, of the `count` data words at `data`; zero if they are
+// The 16 bits at `offset`, counted in 16 bits, of the `count` data words at `section`; zero if they are
 // outside.
 #[inline]
-fn tag_at(data: Place, count: u32, offset: u32) -> u32 {
+fn tag_at(section: Place, count: u32, offset: u32) -> u32 {
     let bit = 16 * u64::from(offset);
     let word = bit / 64;
     if word >= u64::from(count) {
         return 0;
     }
-    (word_at(data.bytes, data.at as usize + word as usize) >> (bit % 64) & 0xffff) as u32
+    (word_at(section.bytes, section.at as usize + word as usize) >> (bit % 64) & 0xffff) as u32
 }
 
 /// # Preconditions
 ///
 /// ```text
-/// requires inside { data.at + count ≤ length (words_of data.bytes.now) }
+/// requires inside { section.at + count ≤ length (words_of section.bytes.now) }
 /// requires small { test < 2 ^ 28 }
 /// ```
-// The kind word that the test at `test` leads to, in a struct with `count` data words at `data`.
+// The kind word that the test at `test` leads to, in a struct with `count` data words at `section`.
 #[inline]
-fn next_word(table: &[u32], test: usize, data: Place, count: u32) -> u32 {
-    if tag_at(data, count, table_word(table, test)) == table_word(table, test + 1) {
+fn next_word(table: &[u32], test: usize, section: Place, count: u32) -> u32 {
+    if tag_at(section, count, table_word(table, test)) == table_word(table, test + 1) {
         table_word(table, test + 2)
     } else {
         table_word(table, test + 3)
@@ -82,11 +82,11 @@ fn next_word(table: &[u32], test: usize, data: Place, count: u32) -> u32 {
 /// # Preconditions
 ///
 /// ```text
-/// requires inside { data.at + count ≤ length (words_of data.bytes.now) }
+/// requires inside { section.at + count ≤ length (words_of section.bytes.now) }
 /// ```
-// The kind word that a kind word leads to, in a struct with `count` data words at `data`.
+// The kind word that a kind word leads to, in a struct with `count` data words at `section`.
 #[inline(never)]
-fn tested_word(table: &[u32], word: u32, data: Place, count: u32) -> u32 {
+fn tested_word(table: &[u32], word: u32, section: Place, count: u32) -> u32 {
     let mut word = word;
     let mut first = 0;
     while word % 16 == TEST {
@@ -94,7 +94,7 @@ fn tested_word(table: &[u32], word: u32, data: Place, count: u32) -> u32 {
         if test < first || test >= table.len() {
             return 0;
         }
-        word = next_word(table, test, data, count);
+        word = next_word(table, test, section, count);
         first = test + 1;
     }
     word
@@ -113,21 +113,21 @@ fn kind_word(table: &[u32], row: u32, index: u32) -> u32 {
 /// # Preconditions
 ///
 /// ```text
-/// requires inside { data.at + count ≤ length (words_of data.bytes.now) }
+/// requires inside { section.at + count ≤ length (words_of section.bytes.now) }
 /// ```
 // The kind word that says what pointer `index` of the row at `row` may lead to, in a struct with
-// `count` data words at `data`. It names no test, or counts as 0.
+// `count` data words at `section`. It names no test, or counts as 0.
 #[inline(always)]
 pub(in crate::proved::typed_conforming) fn wanted_word(
     table: &[u32],
     row: u32,
-    data: Place,
+    section: Place,
     count: u32,
     index: u32,
 ) -> u32 {
     let word = kind_word(table, row, index);
     if word % 16 == TEST {
-        return tested_word(table, word, data, count);
+        return tested_word(table, word, section, count);
     }
     word
 }
