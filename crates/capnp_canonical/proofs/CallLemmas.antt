@@ -33,7 +33,7 @@ use Rattle.capnp_canonical.specs.Calls.{AreWholeWords, Fills, InFrame, IsCopyOf,
 use Rattle.capnp_canonical.specs.Numbers.{answer_number}
 use Rattle.capnp_canonical.specs.declared.fault.Fault.{Fault}
 use Rattle.capnp_canonical.specs.declared.refusal.Refusal.{Refusal}
-use Rattle.capnp_canonical.specs.declared.refusal.Refusal.TheVariants.{Layout}
+use Rattle.capnp_canonical.specs.declared.refusal.Refusal.TheVariants.{Layout, NoRoom}
 use Rattle.capnp_canonical.proofs.FrameLemmas.{length_frame}
 use Rattle.capnp_canonical.proofs.NumberLemmas.{error_number_above}
 
@@ -132,6 +132,13 @@ fit_segment words is short = omega (arith, ap length is, bytes-length words, sho
 pub copy_bytes : (form : Form) (words : List ℕ) → length (form_bytes form words) ≡ table_bytes form + 8 * length words
 copy_bytes Framed words = omega (arith, length_frame words (bytes_of_words words) refl, bytes-length words)
 copy_bytes Flat words = omega (arith, bytes-length words)
+
+pub no_room_for : (form : Form) (words : List ℕ) (P : List ℕ → Type 0) {room : ℕ} {r : Refusal} → P (form_bytes form words) →
+    (r ≡ NoRoom (table_bytes form + length (bytes_of_words words))) × (room < table_bytes form + length (bytes_of_words words)) →
+    (bytes : List ℕ) × P bytes × (r ≡ NoRoom (length bytes)) × (room < length bytes)
+no_room_for form words P {room} copy (named, less) =
+    let long : length (form_bytes form words) ≡ table_bytes form + length (bytes_of_words words) = omega (arith, copy_bytes form words, bytes-length words) in
+    (form_bytes form words, copy, named ∙ ap NoRoom (sym long), subst (λ n. room < n) (sym long) less)
 
 copy_within : (form : Form) (limits : ReaderOptions) (n caps : ℕ) {bytes : List ℕ} (S : Segments) → AreWords S →
     IsCopyOf form limits S bytes → HasSizeOf S limits n caps → length bytes ≤ table_bytes form + 8 + 8 * n

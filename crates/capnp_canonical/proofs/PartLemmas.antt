@@ -28,11 +28,6 @@ pub part_room_granted : (limits : ReaderOptions) (path : List ℕ) (room : ℕ) 
 part_room_granted limits path room S (inl refused) has = inr (inr (part_out_of_memory limits path S refused has))
 part_room_granted limits path room S (inr (bytes, copy, named, less)) has = inr (inl (ap answer_number named))
 
--- A copy that the buffer has no room for.
-pub no_room_for_part : (limits : ReaderOptions) (path : List ℕ) (room : ℕ) {S : Segments} {bytes : List ℕ} {r : Refusal} (t : Tree) → IsPartOf S limits path t →
-    length (encoding (trim t)) ≤ max_segment_words → bytes ≡ bytes_of_words (encoding (trim t)) → (r ≡ NoRoom (length bytes)) × (room < length bytes) → RefusesPartRoom limits path room S r
-no_room_for_part limits path room {bytes = bytes} t value few is (named, less) = inr (bytes, (t, value, few, is), named, less)
-
 -- Nor for lack of room if the size says that there is enough.
 pub part_room_enough : (limits : ReaderOptions) (path : List ℕ) (room n caps : ℕ) {r : Refusal} → 8 + 8 * n ≤ room → (S : Segments) → AreWords S →
     RefusesPartRoom limits path room S r → HasPartSize limits path S n caps → answer_number r ≢ 1

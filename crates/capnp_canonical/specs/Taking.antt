@@ -1,23 +1,40 @@
 -- What is made of the canonical words of a message, or of a part of one.
-use Rattle.std.specs.Prelude.{◌≡◌, ◌↔◌, ◌⊎◌, ◌++◌, ℕ, List, Bool, IsTrue, Result, IfOk, IfErr}
+use Rattle.std.specs.Prelude.{◌≡◌, ◌↔◌, ◌⊎◌, ◌≤◌, ◌++◌, ℕ, List, Bool, IsTrue, Result, IfOk, IfErr, length}
 use Rattle.sha2.specs.Sha256.{sha256}
+use Rattle.capnp_format.specs.Canonical.{encoding, trim}
 use Rattle.capnp_format.specs.Segments.{Segments}
+use Rattle.capnp_format.specs.Tree.{Tree}
+use Rattle.capnp_arena_traits.specs.Allocations.{max_segment_words}
 use Rattle.capnp_arena.specs.declared.arena.reader_arena_impl.ReaderOptions.{ReaderOptions}
+use Rattle.capnp_framing.specs.Frames.{bytes_of_words}
+use Rattle.capnp_messages.specs.MessageParts.{IsPartOf}
+use Rattle.capnp_messages.specs.Messages.{IsValueOf}
 use Rattle.capnp_messages.specs.declared.messages.command.Form.TheVariants.{Flat}
 use Rattle.capnp_messages.specs.declared.messages.command.Command.TheVariants.{Canon}
 use Rattle.capnp_canonical.specs.Calls.{IsCopyOf, RefusesMeaning}
-use Rattle.capnp_canonical.specs.Parts.{IsCopyOfPart}
 use Rattle.capnp_canonical.specs.declared.refusal.Refusal.{Refusal}
+
+-- P holds of the bytes of the canonical words of a message, without a frame. They are at most as
+-- many words as a segment of a copy can have.
+abbrev pub WordsOf : ReaderOptions → Segments → (List ℕ → Type 0) → Type 0
+WordsOf limits S P =
+    (t : Tree) × IsValueOf S limits t × (length (encoding (trim t)) ≤ max_segment_words)
+    × P (bytes_of_words (encoding (trim t)))
+
+-- The same, for a part of a message.
+abbrev pub WordsOfPart : ReaderOptions → List ℕ → Segments → (List ℕ → Type 0) → Type 0
+WordsOfPart limits path S P =
+    (t : Tree) × IsPartOf S limits path t × (length (encoding (trim t)) ≤ max_segment_words)
+    × P (bytes_of_words (encoding (trim t)))
 
 -- The digest is the SHA-256 of a prefix and then the canonical words of a message.
 abbrev pub IsDigestAfter : List ℕ → ReaderOptions → List ℕ → Segments → Type 0
-IsDigestAfter prefix limits digest S =
-    (words : List ℕ) × IsCopyOf Flat limits S words × (digest ≡ sha256 (prefix ++ words))
+IsDigestAfter prefix limits digest S = WordsOf limits S (λ words. digest ≡ sha256 (prefix ++ words))
 
 -- The same, for a part of a message.
 abbrev pub IsPartDigestAfter : List ℕ → ReaderOptions → List ℕ → List ℕ → Segments → Type 0
 IsPartDigestAfter prefix limits path digest S =
-    (words : List ℕ) × IsCopyOfPart limits path S words × (digest ≡ sha256 (prefix ++ words))
+    WordsOfPart limits path S (λ words. digest ≡ sha256 (prefix ++ words))
 
 -- The bytes that were passed are those of a message that satisfies a fact, or are refused: for a frame `InFrame` and
 -- `RefusesBytes`, and so on.
@@ -30,7 +47,7 @@ Without = Refusal → Type 0
 -- The canonical words of a message are these, or others.
 abbrev pub IsBeside : ReaderOptions → List ℕ → Bool → Segments → Type 0
 IsBeside limits words same T =
-    (others : List ℕ) × IsCopyOf Flat limits T others × (IsTrue same ↔ (words ≡ others))
+    WordsOf limits T (λ others. IsTrue same ↔ (words ≡ others))
 
 -- A message has no canonical words within the limits, or memory ran out; or the bytes that were passed aren't a message.
 abbrev pub HasNoWords : Within → Without → ReaderOptions → Refusal → Type 0

@@ -5,7 +5,7 @@ ghost use Rattle.std.specs.Int.{to_le_bytes, w32};
 ghost use Rattle.capnp_format.specs.Bytes.{message};
 ghost use Rattle.capnp_arena_traits.specs.Limits.{IsSmall};
 ghost use Rattle.capnp_framing.specs.Frames.{bytes_of_words, frame};
-ghost use Rattle.capnp_messages.specs.Messages.{HasSizeOf, arena_limits};
+ghost use Rattle.capnp_messages.specs.Messages.{HasSizeOf};
 ghost use Rattle.capnp_messages.specs.Commands.{form_bytes};
 ghost use Rattle.capnp_messages.specs.declared.messages.command.Command.{Command};
 ghost use Rattle.capnp_messages.specs.SmallCopies.{NeedsNoHeap};
@@ -13,13 +13,10 @@ ghost use Rattle.capnp_canonical.specs.Calls.{Fills, IsCopyOf, IsNoRoom, Refuses
 ghost use Rattle.capnp_canonical.specs.declared.refusal.Refusal.{Refusal};
 
 use crate::refusal::Refusal;
-use capnp_arena::arena::{
-    BuilderArenaImpl, HeapAllocator, ReaderArena, ReaderArenaImpl, ReaderOptions, ReaderSegments,
-};
+use crate::taking::{Room, lend_words};
+use capnp_arena::arena::{ReaderArenaImpl, ReaderOptions, ReaderSegments};
 use capnp_messages::messages;
-use capnp_messages::messages::{
-    Form, LentMemory, canonical_bytes, canonical_segment, canonicalize, canonicalize_into,
-};
+use capnp_messages::messages::Form;
 use capnp_objects::pointers::{CanonicalFault, MessageSize};
 use std::alloc::Global;
 
@@ -71,7 +68,7 @@ fn put_frame(segment: &[u8], to: &mut [u8]) -> Result<usize, Refusal>
 }
 
 /// Writes `segment` to the front of `to`, and returns the size of `segment` in bytes.
-pub fn put_flat(segment: &[u8], to: &mut [u8]) -> Result<usize, Refusal>
+fn put_flat(segment: &[u8], to: &mut [u8]) -> Result<usize, Refusal>
     ensures put { Fills result to.old to.new (λ bytes. bytes ≡ segment.now) }
     ensures refused { IfErr result (λ r. (r ≡ Refusal.NoRoom (length segment.now))
         × (length to.old < length segment.now)) }
@@ -85,8 +82,8 @@ pub fn put_flat(segment: &[u8], to: &mut [u8]) -> Result<usize, Refusal>
 }
 
 /// Writes `segment` to the front of `to`, in a frame or without one, as `form` says. Returns the
-/// number of bytes written.
-fn put(form: Form, segment: &[u8], to: &mut [u8]) -> Result<usize, Refusal>
+/// number of bytes written. Precondition: `segment` has fewer than 2^35 bytes.
+pub fn put(form: Form, segment: &[u8], to: &mut [u8]) -> Result<usize, Refusal>
     requires short { length segment.now < 2 ^ 35 }
     ensures put { Fills result to.old to.new (λ bytes. (words : List ℕ)
         → segment.now ≡ bytes_of_words words → bytes ≡ form_bytes form words) }
@@ -100,118 +97,29 @@ fn put(form: Form, segment: &[u8], to: &mut [u8]) -> Result<usize, Refusal>
     }
 }
 
-/// The size in bytes of the stack memory into which a small message is copied. A small message is
-/// copied without a test whether it is canonical already, because such a test costs more than the
-/// copy.
-const SMALL: usize = 512;
-
-/// Makes a canonical copy of the message in `source` on the heap, and writes the copy to the front
-/// of `to`, in a frame or without one, as `form` says. Returns the number of bytes written.
-#[inline(never)]
-fn copy_on_heap<S: ReaderSegments>(
-    alloc: Global,
-    form: Form,
-    source: &ReaderArenaImpl<S>,
-    traversal_limit_in_words: Option<usize>,
-    to: &mut [u8],
-) -> Result<usize, Refusal>
-    ensures copied { Fills result to.old to.new (IsCopyOf form
-        (arena_limits source.now.nesting_limit traversal_limit_in_words)
-        (message (⟦<ReaderArenaImpl<S> as ReaderArena>⟧.segments source.now))) }
-    ensures refused { IfErr result (RefusesRoom form
-        (arena_limits source.now.nesting_limit traversal_limit_in_words) (length to.old)
-        (message (⟦<ReaderArenaImpl<S> as ReaderArena>⟧.segments source.now))) }
-{
-    let allocator = HeapAllocator::new(alloc, 0);
-    match canonicalize(alloc, allocator, source, traversal_limit_in_words) {
-        Ok(made) => put(form, canonical_bytes(&made), to),
-        Err((kind, _)) => Err(Refusal::Layout(kind)),
-    }
-}
-
-/// Like `copy_on_heap`, but makes the copy in `SMALL` bytes of stack memory if it fits there.
-fn copy_small<S: ReaderSegments>(
-    alloc: Global,
-    form: Form,
-    source: &ReaderArenaImpl<S>,
-    traversal_limit_in_words: Option<usize>,
-    to: &mut [u8],
-) -> Result<usize, Refusal>
-    ensures copied { Fills result to.old to.new (IsCopyOf form
-        (arena_limits source.now.nesting_limit traversal_limit_in_words)
-        (message (⟦<ReaderArenaImpl<S> as ReaderArena>⟧.segments source.now))) }
-    ensures refused { IfErr result (RefusesRoom form
-        (arena_limits source.now.nesting_limit traversal_limit_in_words) (length to.old)
-        (message (⟦<ReaderArenaImpl<S> as ReaderArena>⟧.segments source.now))) }
-    ensures lent { NeedsNoHeap (arena_limits source.now.nesting_limit traversal_limit_in_words)
-        (message (⟦<ReaderArenaImpl<S> as ReaderArena>⟧.segments source.now))
-        → IfErr result IsNoRoom }
-{
-    let mut memory = [0u8; SMALL];
-    let mut made = BuilderArenaImpl::new(alloc, LentMemory::new(memory.as_mut_slice()));
-    let room = SMALL as u32 / 8;
-    match canonicalize_into(&mut made, room, source, traversal_limit_in_words) {
-        Ok(fits) => {
-            if fits {
-                put(form, canonical_bytes(&made), to)
-            } else {
-                copy_on_heap(alloc, form, source, traversal_limit_in_words, to)
-            }
-        }
-        Err(kind) => Err(Refusal::Layout(kind)),
-    }
-}
-
-/// Like `copy_on_heap`, but if the message is canonical already, writes its own segment instead of
-/// a copy.
-fn copy_unless_canonical<S: ReaderSegments>(
-    alloc: Global,
-    form: Form,
-    source: &ReaderArenaImpl<S>,
-    traversal_limit_in_words: Option<usize>,
-    to: &mut [u8],
-) -> Result<usize, Refusal>
-    ensures copied { Fills result to.old to.new (IsCopyOf form
-        (arena_limits source.now.nesting_limit traversal_limit_in_words)
-        (message (⟦<ReaderArenaImpl<S> as ReaderArena>⟧.segments source.now))) }
-    ensures refused { IfErr result (RefusesRoom form
-        (arena_limits source.now.nesting_limit traversal_limit_in_words) (length to.old)
-        (message (⟦<ReaderArenaImpl<S> as ReaderArena>⟧.segments source.now))) }
-{
-    match canonical_segment(source, traversal_limit_in_words) {
-        Some(words) => put(form, words, to),
-        None => copy_on_heap(alloc, form, source, traversal_limit_in_words, to),
-    }
-}
-
 /// Makes a canonical copy of the message in `segments`, and writes the copy to the front of `to`,
 /// in a frame or without one, as `form` says. Returns the number of bytes written. Precondition:
-/// `segments` has fewer than 2^32 segments, each of fewer than 2^32 words.
-///
-/// Copying a message of fewer than 64 words takes heap memory only if the copy has more than 64
-/// words. A message of 64 words or more isn't copied if it is canonical already and has at most
-/// 536,870,911 words: its own segment is written, which takes no heap memory. The copy of any other
-/// message of 64 words or more is made on the heap.
+/// `segments` has fewer than 2^32 segments, each of fewer than 2^32 words. Takes heap memory like
+/// `lend_words`.
 pub fn copy<S: ReaderSegments + Drop>(
     alloc: Global,
     form: Form,
     segments: S,
-    limits: ReaderOptions,
+    limits: Limits,
     to: &mut [u8],
 ) -> Result<usize, Refusal>
     requires { IsSmall (S.segments segments) }
-    ensures copied { Fills result to.old to.new (IsCopyOf form limits
-        (message (S.segments segments))) }
-    ensures refused { IfErr result
-        (RefusesRoom form limits (length to.old) (message (S.segments segments))) }
-    ensures lent { NeedsNoHeap limits (message (S.segments segments))
-        → IfErr result IsNoRoom }
+    ensures copied { Fills result to.old to.new
+        (IsCopyOf form (limits_of limits.nesting limits.words) (message (S.segments segments))) }
+    ensures refused { IfErr result (RefusesRoom form (limits_of limits.nesting limits.words)
+        (length to.old) (message (S.segments segments))) }
+    ensures lent { NeedsNoHeap (limits_of limits.nesting limits.words)
+        (message (S.segments segments)) → IfErr result IsNoRoom }
 {
-    let source = ReaderArenaImpl::new(segments, limits);
-    if source.size_in_words() < SMALL / 8 {
-        copy_small(alloc, form, &source, limits.traversal_limit_in_words, to)
-    } else {
-        copy_unless_canonical(alloc, form, &source, limits.traversal_limit_in_words, to)
+    let mut room = Room { form, to };
+    match lend_words(alloc, segments, limits, &mut room) {
+        Ok(written) => written,
+        Err(refusal) => Err(refusal),
     }
 }
 

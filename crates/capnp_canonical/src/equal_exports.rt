@@ -25,12 +25,12 @@ struct OtherFrame<'a> {
 impl WordTaker for OtherFrame<'_> {
     type Output = Result<bool, Refusal>;
 
-    ghost makes = { λ other words made. IsComparison (InFrame other.bytes.now other.limits.words)
+    ghost takes = { λ other words _ made. IsComparison (InFrame other.bytes.now other.limits.words)
         (RefusesBytes other.bytes.now other.limits.words) (limits_of other.limits.nesting other.limits.words) words made };
 
-    fn take(self, words: &[u8]) -> Result<bool, Refusal> {
+    fn take(&mut self, words: &[u8]) -> Result<bool, Refusal> {
         match message_in(self.bytes, self.limits.words) {
-            Ok(segments) => lend_words(self.alloc, segments, self.limits, Beside { words }),
+            Ok(segments) => lend_words(self.alloc, segments, self.limits, &mut Beside { words }),
             Err(refusal) => Err(refusal),
         }
     }
@@ -47,12 +47,12 @@ struct OtherSegments<'a> {
 impl WordTaker for OtherSegments<'_> {
     type Output = Result<bool, Refusal>;
 
-    ghost makes = { λ other words made. IsComparison (InSegments other.bytes.now)
+    ghost takes = { λ other words _ made. IsComparison (InSegments other.bytes.now)
         (RefusesSegments other.bytes.now) (limits_of other.limits.nesting other.limits.words) words made };
 
-    fn take(self, words: &[u8]) -> Result<bool, Refusal> {
+    fn take(&mut self, words: &[u8]) -> Result<bool, Refusal> {
         match LentSegments::new(self.bytes) {
-            Ok(lent) => lend_words(self.alloc, lent, self.limits, Beside { words }),
+            Ok(lent) => lend_words(self.alloc, lent, self.limits, &mut Beside { words }),
             Err(refusal) => Err(refusal),
         }
     }
@@ -69,12 +69,12 @@ struct OtherWords<'a> {
 impl WordTaker for OtherWords<'_> {
     type Output = Result<bool, Refusal>;
 
-    ghost makes = { λ other words made. IsComparison (InWords other.bytes.now)
+    ghost takes = { λ other words _ made. IsComparison (InWords other.bytes.now)
         (RefusesSegment other.bytes.now) (limits_of other.limits.nesting other.limits.words) words made };
 
-    fn take(self, words: &[u8]) -> Result<bool, Refusal> {
+    fn take(&mut self, words: &[u8]) -> Result<bool, Refusal> {
         match message_of(self.bytes) {
-            Ok(message) => lend_words(self.alloc, message, self.limits, Beside { words }),
+            Ok(message) => lend_words(self.alloc, message, self.limits, &mut Beside { words }),
             Err(refusal) => Err(refusal),
         }
     }
@@ -88,12 +88,12 @@ fn equal_frame(alloc: Global, one: &[u8], other: &[u8], limits: Limits) -> Resul
         (InFrame other.now limits.words) (RefusesBytes other.now limits.words) (limits_of limits.nesting limits.words)) }
 {
     let first = message_in(one, limits.words)?;
-    let other = OtherFrame {
+    let mut other = OtherFrame {
         alloc,
         bytes: other,
         limits,
     };
-    lend_words(alloc, first, limits, other)?
+    lend_words(alloc, first, limits, &mut other)?
 }
 
 /// Whether the messages in the segments `one` and `other` have the same canonical words.
@@ -109,12 +109,12 @@ fn equal_segments(
         (InSegments other.now) (RefusesSegments other.now) (limits_of limits.nesting limits.words)) }
 {
     let first = LentSegments::new(one)?;
-    let other = OtherSegments {
+    let mut other = OtherSegments {
         alloc,
         bytes: other,
         limits,
     };
-    lend_words(alloc, first, limits, other)?
+    lend_words(alloc, first, limits, &mut other)?
 }
 
 /// Whether the messages whose one segments are `one` and `other` have the same canonical words.
@@ -125,12 +125,12 @@ fn equal_words(alloc: Global, one: &[u8], other: &[u8], limits: Limits) -> Resul
         (InWords other.now) (RefusesSegment other.now) (limits_of limits.nesting limits.words)) }
 {
     let first = message_of(one)?;
-    let other = OtherWords {
+    let mut other = OtherWords {
         alloc,
         bytes: other,
         limits,
     };
-    lend_words(alloc, first, limits, other)?
+    lend_words(alloc, first, limits, &mut other)?
 }
 
 /// Compares the messages whose frames are at the fronts of `one` and `other`: stores in `is_equal`

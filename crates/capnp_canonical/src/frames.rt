@@ -1,4 +1,4 @@
-//! Copies, tests, measures and hashes the message whose frame is at the front of a buffer (encoding
+//! Copies, tests and measures the message whose frame is at the front of a buffer (encoding
 //! specification, "Serialization Over a Stream").
 ghost use Rattle.std.specs.Prelude.{◌≡◌, ◌⊎◌, length, Ok, IfOk, IfErr, IsOk};
 ghost use Rattle.capnp_format.specs.Bytes.{message};
@@ -7,14 +7,12 @@ ghost use Rattle.capnp_framing.specs.Flat.{BeginsWithFrame};
 ghost use Rattle.capnp_framing.specs.Frames.{frame};
 ghost use Rattle.capnp_framing.specs.Prefix.{size_from_prefix};
 ghost use Rattle.capnp_messages.specs.Messages.{HasSizeOf};
-ghost use Rattle.capnp_messages.specs.Digests.{IsDigestOf};
 ghost use Rattle.capnp_messages.specs.declared.messages.command.Command.{Command};
 ghost use Rattle.capnp_messages.specs.declared.messages.command.Form.{Form};
 ghost use Rattle.capnp_messages.specs.SmallCopies.{NeedsNoHeap};
 ghost use Rattle.capnp_canonical.specs.Calls.{Fills, InFrame, IsCopyOf, IsNoRoom, RefusesBytes, RefusesMeaning, RefusesPrefix, RefusesRoom, TestFinds, limits_of};
 
 use crate::calls::{Limits, check, copy, size};
-use crate::digest::digest;
 use crate::refusal::Refusal;
 use capnp_arena::arena::ReaderSegments;
 use capnp_framing::framing::{FrameSegments, read_from_flat_slice, size_from_prefix};
@@ -57,7 +55,7 @@ pub fn copy_frame(
         (NeedsNoHeap (limits_of limits.nesting limits.words)) → IfErr result IsNoRoom }
 {
     let segments = message_in(frame, limits.words)?;
-    copy(alloc, form, segments, limits.options(), to)
+    copy(alloc, form, segments, limits, to)
 }
 
 /// Returns why and where the message whose frame is at the front of `frame` isn't canonical; `None`
@@ -106,19 +104,4 @@ pub fn frame_size_from_prefix(prefix: &[u8], words: u64) -> Result<usize, Refusa
         Ok(size) => Ok(size),
         Err(error) => Err(Refusal::Frame(error)),
     }
-}
-
-/// Returns the SHA-256 of the canonical words of the message whose frame is at the front of
-/// `frame`.
-pub fn digest_frame(alloc: Global, frame: &[u8], limits: Limits) -> Result<[u8; 32], Refusal>
-    ensures digest { IfOk result (λ d. InFrame frame.now limits.words
-        (λ S. IsDigestOf S (limits_of limits.nesting limits.words) d)) }
-    ensures refused { IfErr result (λ r. RefusesBytes frame.now limits.words r
-        ⊎ InFrame frame.now limits.words (λ S. RefusesMeaning (Command.Canon Form.Flat)
-        (limits_of limits.nesting limits.words) S r)) }
-    ensures lent { InFrame frame.now limits.words
-        (NeedsNoHeap (limits_of limits.nesting limits.words)) → IsOk result }
-{
-    let segments = message_in(frame, limits.words)?;
-    digest(alloc, segments, limits.options())
 }

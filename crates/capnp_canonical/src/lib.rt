@@ -31,7 +31,7 @@ ghost use Rattle.capnp_canonical.specs.Numbers.{answer_name, answer_number, reas
 ghost use Rattle.capnp_canonical.specs.Texts.{PutsText, IsTextOf, is_c_string};
 
 mod calls;
-mod digest;
+mod digests;
 mod equal_exports;
 mod fault;
 mod frames;
@@ -55,10 +55,9 @@ mod words;
 use calls::Limits;
 use capnp_messages::messages::Form;
 use capnp_packing::packing::Place;
+use digests::digest_frame_after;
 use fault::{Fault, NO_FAULT};
-use frames::{
-    check_frame, copy_frame, digest_frame, frame_size, frame_size_from_prefix, size_frame,
-};
+use frames::{check_frame, copy_frame, frame_size, frame_size_from_prefix, size_frame};
 use locating::{BrokenPointer, NO_POINTER, locate_in_frame};
 use names::{name_of_number, put_text, text_of_reason};
 use packed::{Unpacking, unpack, unpack_further};
@@ -307,7 +306,7 @@ pub extern "C" fn capnp_canonical_digest(
     ensures lent { InFrame frame.now words (NeedsNoHeap (limits_of nesting words))
         → result ≡ 0 }
 {
-    match digest_frame(alloc, frame, Limits { nesting, words }) {
+    match digest_frame_after(alloc, &[], frame, Limits { nesting, words }) {
         Ok(made) => {
             *digest = made;
             0

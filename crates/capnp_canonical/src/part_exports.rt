@@ -7,9 +7,12 @@ ghost use Rattle.capnp_canonical.specs.Parts.{HasPart, HasPartSize, HasPartSizeW
 ghost use Rattle.capnp_canonical.specs.Numbers.{wanted_room};
 
 use crate::calls::Limits;
+use crate::digests::{
+    digest_frame_part_after, digest_segments_part_after, digest_words_part_after,
+};
 use crate::parts::{
-    copy_frame_part, copy_segments_part, copy_words_part, digest_frame_part, digest_segments_part,
-    digest_words_part, size_frame_part, size_segments_part, size_words_part,
+    copy_frame_part, copy_segments_part, copy_words_part, size_frame_part, size_segments_part,
+    size_words_part,
 };
 use std::alloc::Global;
 
@@ -82,7 +85,7 @@ pub extern "C" fn capnp_canonical_digest_at(
     ensures lent { InFrame frame.now words (PartNeedsNoHeap (limits_of nesting words) path.now)
         → result ≡ 0 }
 {
-    match digest_frame_part(alloc, frame, path, Limits { nesting, words }) {
+    match digest_frame_part_after(alloc, &[], frame, path, Limits { nesting, words }) {
         Ok(made) => {
             *digest = made;
             0
@@ -183,7 +186,7 @@ pub extern "C" fn capnp_canonical_segments_digest_at(
     ensures lent { InSegments segments.now (PartNeedsNoHeap (limits_of nesting words) path.now)
         → result ≡ 0 }
 {
-    match digest_segments_part(alloc, segments, path, Limits { nesting, words }) {
+    match digest_segments_part_after(alloc, &[], segments, path, Limits { nesting, words }) {
         Ok(made) => {
             *digest = made;
             0
@@ -283,7 +286,7 @@ pub extern "C" fn capnp_canonical_words_digest_at(
     ensures lent { InWords bytes.now (PartNeedsNoHeap (limits_of nesting words) path.now)
         → result ≡ 0 }
 {
-    match digest_words_part(alloc, bytes, path, Limits { nesting, words }) {
+    match digest_words_part_after(alloc, &[], bytes, path, Limits { nesting, words }) {
         Ok(made) => {
             *digest = made;
             0

@@ -1,6 +1,6 @@
 //! The functions for C that hash the canonical words of a message, or of a part of one, after a
 //! prefix.
-ghost use Rattle.std.specs.Prelude.{◌≡◌, ◌≢◌, ◌⊎◌, ℕ, IfOk, IfErr, IsOk, replicate};
+ghost use Rattle.std.specs.Prelude.{◌≡◌, ◌≢◌, ◌⊎◌, ℕ, replicate};
 ghost use Rattle.capnp_messages.specs.Commands.{HasAnswerWithin};
 ghost use Rattle.capnp_messages.specs.declared.messages.command.Command.{Command};
 ghost use Rattle.capnp_messages.specs.declared.messages.command.Form.{Form};
@@ -10,63 +10,11 @@ ghost use Rattle.capnp_canonical.specs.Parts.{HasPart, RefusesPartOf};
 ghost use Rattle.capnp_canonical.specs.Taking.{IsDigestAfter, IsPartDigestAfter};
 
 use crate::calls::Limits;
-use crate::frames::message_in;
-use crate::refusal::Refusal;
-use crate::segments::LentSegments;
-use crate::taking::{Prefix, lend_part_words, lend_words};
-use crate::words::message_of;
+use crate::digests::{
+    digest_frame_after, digest_frame_part_after, digest_segments_after, digest_segments_part_after,
+    digest_words_after, digest_words_part_after,
+};
 use std::alloc::Global;
-
-/// Returns the SHA-256 of `prefix` and then the canonical words of the message whose frame is at the front of `frame`.
-fn digest_frame_after(
-    alloc: Global,
-    prefix: &[u8],
-    frame: &[u8],
-    limits: Limits,
-) -> Result<[u8; 32], Refusal>
-    ensures digest { IfOk result (λ d. InFrame frame.now limits.words (IsDigestAfter prefix.now
-        (limits_of limits.nesting limits.words) d)) }
-    ensures refused { IfErr result (λ r. RefusesBytes frame.now limits.words r ⊎ InFrame frame.now limits.words (λ S. RefusesMeaning (Command.Canon Form.Flat)
-        (limits_of limits.nesting limits.words) S r)) }
-    ensures lent { InFrame frame.now limits.words (NeedsNoHeap (limits_of limits.nesting limits.words)) → IsOk result }
-{
-    let segments = message_in(frame, limits.words)?;
-    lend_words(alloc, segments, limits, Prefix { bytes: prefix })
-}
-
-/// Returns the SHA-256 of `prefix` and then the canonical words of the message in `segments`.
-fn digest_segments_after(
-    alloc: Global,
-    prefix: &[u8],
-    segments: &[&[u8]],
-    limits: Limits,
-) -> Result<[u8; 32], Refusal>
-    ensures digest { IfOk result (λ d. InSegments segments.now (IsDigestAfter prefix.now
-        (limits_of limits.nesting limits.words) d)) }
-    ensures refused { IfErr result (λ r. RefusesSegments segments.now r ⊎ InSegments segments.now (λ S. RefusesMeaning (Command.Canon Form.Flat)
-        (limits_of limits.nesting limits.words) S r)) }
-    ensures lent { InSegments segments.now (NeedsNoHeap (limits_of limits.nesting limits.words)) → IsOk result }
-{
-    let lent = LentSegments::new(segments)?;
-    lend_words(alloc, lent, limits, Prefix { bytes: prefix })
-}
-
-/// Returns the SHA-256 of `prefix` and then the canonical words of the message whose one segment is `words`.
-fn digest_words_after(
-    alloc: Global,
-    prefix: &[u8],
-    words: &[u8],
-    limits: Limits,
-) -> Result<[u8; 32], Refusal>
-    ensures digest { IfOk result (λ d. InWords words.now (IsDigestAfter prefix.now
-        (limits_of limits.nesting limits.words) d)) }
-    ensures refused { IfErr result (λ r. RefusesSegment words.now r ⊎ InWords words.now (λ S. RefusesMeaning (Command.Canon Form.Flat)
-        (limits_of limits.nesting limits.words) S r)) }
-    ensures lent { InWords words.now (NeedsNoHeap (limits_of limits.nesting limits.words)) → IsOk result }
-{
-    let message = message_of(words)?;
-    lend_words(alloc, message, limits, Prefix { bytes: prefix })
-}
 
 /// Stores in `digest` the SHA-256 of the bytes of `prefix` and then the canonical words of the
 /// message whose frame is at the front of `frame`: the bytes that `capnp_canonical_copy_flat`
@@ -166,63 +114,6 @@ pub extern "C" fn capnp_canonical_words_digest_with(
             refusal.number()
         }
     }
-}
-
-/// Returns the SHA-256 of `prefix` and then the canonical words of the part of the message whose frame is at the front of `frame` to
-/// which `path` leads.
-fn digest_frame_part_after(
-    alloc: Global,
-    prefix: &[u8],
-    frame: &[u8],
-    path: &[u32],
-    limits: Limits,
-) -> Result<[u8; 32], Refusal>
-    ensures digest { IfOk result (λ d. InFrame frame.now limits.words (IsPartDigestAfter prefix.now
-        (limits_of limits.nesting limits.words) path.now d)) }
-    ensures refused { IfErr result (λ r. RefusesBytes frame.now limits.words r ⊎ InFrame frame.now limits.words (λ S. RefusesPartOf
-        (limits_of limits.nesting limits.words) path.now S r)) }
-    ensures lent { InFrame frame.now limits.words (PartNeedsNoHeap (limits_of limits.nesting limits.words) path.now) → IsOk result }
-{
-    let segments = message_in(frame, limits.words)?;
-    lend_part_words(alloc, segments, path, limits, Prefix { bytes: prefix })
-}
-
-/// Returns the SHA-256 of `prefix` and then the canonical words of the part of the message in `segments` to
-/// which `path` leads.
-fn digest_segments_part_after(
-    alloc: Global,
-    prefix: &[u8],
-    segments: &[&[u8]],
-    path: &[u32],
-    limits: Limits,
-) -> Result<[u8; 32], Refusal>
-    ensures digest { IfOk result (λ d. InSegments segments.now (IsPartDigestAfter prefix.now
-        (limits_of limits.nesting limits.words) path.now d)) }
-    ensures refused { IfErr result (λ r. RefusesSegments segments.now r ⊎ InSegments segments.now (λ S. RefusesPartOf
-        (limits_of limits.nesting limits.words) path.now S r)) }
-    ensures lent { InSegments segments.now (PartNeedsNoHeap (limits_of limits.nesting limits.words) path.now) → IsOk result }
-{
-    let lent = LentSegments::new(segments)?;
-    lend_part_words(alloc, lent, path, limits, Prefix { bytes: prefix })
-}
-
-/// Returns the SHA-256 of `prefix` and then the canonical words of the part of the message whose one segment is `words` to
-/// which `path` leads.
-fn digest_words_part_after(
-    alloc: Global,
-    prefix: &[u8],
-    words: &[u8],
-    path: &[u32],
-    limits: Limits,
-) -> Result<[u8; 32], Refusal>
-    ensures digest { IfOk result (λ d. InWords words.now (IsPartDigestAfter prefix.now
-        (limits_of limits.nesting limits.words) path.now d)) }
-    ensures refused { IfErr result (λ r. RefusesSegment words.now r ⊎ InWords words.now (λ S. RefusesPartOf
-        (limits_of limits.nesting limits.words) path.now S r)) }
-    ensures lent { InWords words.now (PartNeedsNoHeap (limits_of limits.nesting limits.words) path.now) → IsOk result }
-{
-    let message = message_of(words)?;
-    lend_part_words(alloc, message, path, limits, Prefix { bytes: prefix })
 }
 
 /// Like `capnp_canonical_digest_with`, for the part of the message to which `path` leads: the

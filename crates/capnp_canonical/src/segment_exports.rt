@@ -12,9 +12,10 @@ ghost use Rattle.capnp_canonical.specs.Locating.{PointerIs, no_pointer};
 ghost use Rattle.capnp_canonical.specs.Numbers.{wanted_room};
 
 use crate::calls::Limits;
+use crate::digests::digest_segments_after;
 use crate::fault::{Fault, NO_FAULT};
 use crate::locating::{BrokenPointer, NO_POINTER, locate_in_segments};
-use crate::segments::{check_segments, copy_segments, digest_segments, size_segments};
+use crate::segments::{check_segments, copy_segments, size_segments};
 use crate::validation::{NOT_SOUND, SoundMessage, validate_segments};
 use capnp_messages::messages::Form;
 use std::alloc::Global;
@@ -230,7 +231,7 @@ pub extern "C" fn capnp_canonical_segments_digest(
     ensures lent { InSegments segments.now (NeedsNoHeap (limits_of nesting words))
         → result ≡ 0 }
 {
-    match digest_segments(alloc, segments, Limits { nesting, words }) {
+    match digest_segments_after(alloc, &[], segments, Limits { nesting, words }) {
         Ok(made) => {
             *digest = made;
             0

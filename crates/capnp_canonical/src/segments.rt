@@ -1,15 +1,13 @@
-//! Copies, tests, measures and hashes a message in the caller's segments.
+//! Copies, tests and measures a message in the caller's segments.
 ghost use Rattle.std.specs.Prelude.{◌≡◌, ◌⊎◌, map, length, IfOk, IfErr, IsOk};
 ghost use Rattle.capnp_arena_traits.specs.Limits.{AreSmall, IsSmall};
 ghost use Rattle.capnp_messages.specs.Messages.{HasSizeOf};
-ghost use Rattle.capnp_messages.specs.Digests.{IsDigestOf};
 ghost use Rattle.capnp_messages.specs.declared.messages.command.Command.{Command};
 ghost use Rattle.capnp_messages.specs.declared.messages.command.Form.{Form};
 ghost use Rattle.capnp_messages.specs.SmallCopies.{NeedsNoHeap};
 ghost use Rattle.capnp_canonical.specs.Calls.{AreWholeWords, Fills, InSegments, IsCopyOf, IsNoRoom, RefusesMeaning, RefusesRoom, RefusesSegments, TestFinds, lent_bytes, limits_of};
 
 use crate::calls::{Limits, check, copy, size};
-use crate::digest::digest;
 use crate::refusal::Refusal;
 use capnp_arena::arena::{ReaderSegments, SegmentArray};
 use capnp_messages::messages::Form;
@@ -89,7 +87,7 @@ pub fn copy_segments(
         (NeedsNoHeap (limits_of limits.nesting limits.words)) → IfErr result IsNoRoom }
 {
     let lent = LentSegments::new(segments)?;
-    copy(alloc, form, lent, limits.options(), to)
+    copy(alloc, form, lent, limits, to)
 }
 
 /// Returns why and where the message in `segments` isn't canonical; `None` if it is.
@@ -115,22 +113,4 @@ pub fn size_segments(segments: &[&[u8]], limits: Limits) -> Result<MessageSize, 
 {
     let lent = LentSegments::new(segments)?;
     size(lent, limits)
-}
-
-/// Returns the SHA-256 of the canonical words of the message in `segments`.
-pub fn digest_segments(
-    alloc: Global,
-    segments: &[&[u8]],
-    limits: Limits,
-) -> Result<[u8; 32], Refusal>
-    ensures digest { IfOk result (λ d. InSegments segments.now
-        (λ S. IsDigestOf S (limits_of limits.nesting limits.words) d)) }
-    ensures refused { IfErr result (λ r. RefusesSegments segments.now r
-        ⊎ InSegments segments.now (λ S. RefusesMeaning (Command.Canon Form.Flat)
-        (limits_of limits.nesting limits.words) S r)) }
-    ensures lent { InSegments segments.now
-        (NeedsNoHeap (limits_of limits.nesting limits.words)) → IsOk result }
-{
-    let lent = LentSegments::new(segments)?;
-    digest(alloc, lent, limits.options())
 }

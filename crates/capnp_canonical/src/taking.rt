@@ -1,23 +1,28 @@
-//! Lends the canonical words of a message, or of a part of one, to a `WordTaker`: to be hashed after
-//! a prefix, or compared with other words.
-ghost use Rattle.std.specs.Prelude.{◌≡◌, ◌++◌, ◌↔◌, ℕ, List, IfOk, IfErr, IsOk, IsTrue};
+//! Lends the canonical words of a message, or of a part of one, to a `WordTaker`: to be copied into
+//! a buffer, hashed after a prefix, or compared with other words.
+ghost use Rattle.std.specs.Prelude.{◌≡◌, ◌+◌, ◌*◌, ◌<◌, ◌≤◌, ◌++◌, ◌↔◌, ℕ, List, length, IfOk, IfErr, IsOk, IsTrue, OnErr};
 ghost use Rattle.sha2.specs.Sha256.{sha256};
 ghost use Rattle.capnp_format.specs.Bytes.{message};
+ghost use Rattle.capnp_arena_traits.specs.Allocations.{max_segment_words};
 ghost use Rattle.capnp_arena_traits.specs.Limits.{IsSmall};
+ghost use Rattle.capnp_framing.specs.Frames.{bytes_of_words};
+ghost use Rattle.capnp_messages.specs.Commands.{form_bytes};
 ghost use Rattle.capnp_messages.specs.Messages.{arena_limits};
 ghost use Rattle.capnp_messages.specs.declared.messages.command.Command.{Command};
 ghost use Rattle.capnp_messages.specs.declared.messages.command.Form.{Form};
 ghost use Rattle.capnp_messages.specs.SmallCopies.{NeedsNoHeap, PartNeedsNoHeap};
-ghost use Rattle.capnp_canonical.specs.Calls.{IsCopyOf, RefusesMeaning, limits_of};
-ghost use Rattle.capnp_canonical.specs.Parts.{IsCopyOfPart, RefusesPartOf};
+ghost use Rattle.capnp_canonical.specs.Calls.{Fills, RefusesMeaning, limits_of, table_bytes};
+ghost use Rattle.capnp_canonical.specs.Parts.{RefusesPartOf};
+ghost use Rattle.capnp_canonical.specs.Taking.{WordsOf, WordsOfPart};
+ghost use Rattle.capnp_canonical.specs.declared.refusal.Refusal.TheVariants.{NoRoom};
 
-use crate::calls::Limits;
+use crate::calls::{Limits, put};
 use crate::refusal::Refusal;
 use capnp_arena::arena::{
     BuilderArenaImpl, HeapAllocator, ReaderArena, ReaderArenaImpl, ReaderSegments,
 };
 use capnp_messages::messages::{
-    LentMemory, canonical_bytes, canonical_segment, canonicalize, canonicalize_into,
+    Form, LentMemory, canonical_bytes, canonical_segment, canonicalize, canonicalize_into,
     canonicalize_part, canonicalize_part_into,
 };
 use sha2::{Digest, Sha256};
@@ -28,12 +33,37 @@ pub trait WordTaker {
     /// What it makes of them.
     type Output;
 
-    // What it may make of these bytes.
-    ghost makes: { Self → List ℕ → Self.Output → Type 0 };
+    // What it may make of these bytes, and what it then is.
+    ghost takes: { Self → List ℕ → Self → Self.Output → Type 0 };
 
-    /// Takes `words`, the bytes of canonical words.
-    fn take(self, words: &[u8]) -> Self::Output
-        ensures { makes self words.now result };
+    /// Takes `words`, the bytes of canonical words. Precondition: `words` has at most 536,870,911
+    /// words.
+    fn take(&mut self, words: &[u8]) -> Self::Output
+        requires { length words.now ≤ 8 * max_segment_words }
+        ensures { takes self.old words.now self.new result };
+}
+
+/// Writes the words to the front of a buffer, in a frame or without one.
+#[derive(Drop)]
+pub struct Room<'a> {
+    /// How the words are written.
+    pub form: Form,
+    /// The buffer.
+    pub to: &'a mut [u8],
+}
+
+impl WordTaker for Room<'_> {
+    type Output = Result<usize, Refusal>;
+
+    ghost takes = { λ old words new size. (new.to.ghost_name ≡ old.to.ghost_name)
+        × Fills size old.to.now new.to.now (λ bytes. (ws : List ℕ)
+        → words ≡ bytes_of_words ws → bytes ≡ form_bytes old.form ws)
+        × IfErr size (λ r. (r ≡ NoRoom (table_bytes old.form + length words))
+        × (length old.to.now < table_bytes old.form + length words)) };
+
+    fn take(&mut self, words: &[u8]) -> Result<usize, Refusal> {
+        put(self.form, words, self.to)
+    }
 }
 
 /// Makes the SHA-256 of a prefix and then the words.
@@ -46,9 +76,9 @@ pub struct Prefix<'a> {
 impl WordTaker for Prefix<'_> {
     type Output = [u8; 32];
 
-    ghost makes = { λ prefix words digest. digest ≡ sha256 (prefix.bytes.now ++ words) };
+    ghost takes = { λ old words _ digest. digest ≡ sha256 (old.bytes.now ++ words) };
 
-    fn take(self, words: &[u8]) -> [u8; 32] {
+    fn take(&mut self, words: &[u8]) -> [u8; 32] {
         let mut hasher = Sha256::new();
         hasher.update(self.bytes);
         hasher.update(words);
@@ -66,9 +96,9 @@ pub struct Beside<'a> {
 impl WordTaker for Beside<'_> {
     type Output = bool;
 
-    ghost makes = { λ other words same. IsTrue same ↔ (other.words.now ≡ words) };
+    ghost takes = { λ old words _ same. IsTrue same ↔ (old.words.now ≡ words) };
 
-    fn take(self, words: &[u8]) -> bool {
+    fn take(&mut self, words: &[u8]) -> bool {
         self.words == words
     }
 }
@@ -78,19 +108,20 @@ const SMALL: usize = 512;
 
 /// Lends the words of a canonical copy of the message in `source` that is made on the heap.
 #[inline(never)]
-fn lend_from_heap<S: ReaderSegments, T: WordTaker + Drop>(
+fn lend_from_heap<S: ReaderSegments, T: WordTaker>(
     alloc: Global,
     source: &ReaderArenaImpl<S>,
     traversal_limit_in_words: Option<usize>,
-    taker: T,
+    taker: &mut T,
 ) -> Result<T::Output, Refusal>
-    ensures taken { IfOk result (λ made. (words : List ℕ) × IsCopyOf Form.Flat
+    ensures taken { IfOk result (λ made. WordsOf
         (arena_limits source.now.nesting_limit traversal_limit_in_words)
-        (message (⟦<ReaderArenaImpl<S> as ReaderArena>⟧.segments source.now)) words
-        × T.makes taker words made) }
+        (message (⟦<ReaderArenaImpl<S> as ReaderArena>⟧.segments source.now))
+        (λ words. T.takes taker.old words taker.new made)) }
     ensures refused { IfErr result (RefusesMeaning (Command.Canon Form.Flat)
         (arena_limits source.now.nesting_limit traversal_limit_in_words)
         (message (⟦<ReaderArenaImpl<S> as ReaderArena>⟧.segments source.now))) }
+    ensures untaken { OnErr result (taker.new ≡ taker.old) }
 {
     let allocator = HeapAllocator::new(alloc, 0);
     match canonicalize(alloc, allocator, source, traversal_limit_in_words) {
@@ -100,19 +131,20 @@ fn lend_from_heap<S: ReaderSegments, T: WordTaker + Drop>(
 }
 
 /// Like `lend_from_heap`, but makes the copy in `SMALL` bytes of stack memory if it fits there.
-fn lend_small<S: ReaderSegments, T: WordTaker + Drop>(
+fn lend_small<S: ReaderSegments, T: WordTaker>(
     alloc: Global,
     source: &ReaderArenaImpl<S>,
     traversal_limit_in_words: Option<usize>,
-    taker: T,
+    taker: &mut T,
 ) -> Result<T::Output, Refusal>
-    ensures taken { IfOk result (λ made. (words : List ℕ) × IsCopyOf Form.Flat
+    ensures taken { IfOk result (λ made. WordsOf
         (arena_limits source.now.nesting_limit traversal_limit_in_words)
-        (message (⟦<ReaderArenaImpl<S> as ReaderArena>⟧.segments source.now)) words
-        × T.makes taker words made) }
+        (message (⟦<ReaderArenaImpl<S> as ReaderArena>⟧.segments source.now))
+        (λ words. T.takes taker.old words taker.new made)) }
     ensures refused { IfErr result (RefusesMeaning (Command.Canon Form.Flat)
         (arena_limits source.now.nesting_limit traversal_limit_in_words)
         (message (⟦<ReaderArenaImpl<S> as ReaderArena>⟧.segments source.now))) }
+    ensures untaken { OnErr result (taker.new ≡ taker.old) }
     ensures lent { NeedsNoHeap (arena_limits source.now.nesting_limit traversal_limit_in_words)
         (message (⟦<ReaderArenaImpl<S> as ReaderArena>⟧.segments source.now)) → IsOk result }
 {
@@ -132,19 +164,20 @@ fn lend_small<S: ReaderSegments, T: WordTaker + Drop>(
 }
 
 /// Like `lend_from_heap`, but if the message is canonical already, lends its own segment.
-fn lend_unless_canonical<S: ReaderSegments, T: WordTaker + Drop>(
+fn lend_unless_canonical<S: ReaderSegments, T: WordTaker>(
     alloc: Global,
     source: &ReaderArenaImpl<S>,
     traversal_limit_in_words: Option<usize>,
-    taker: T,
+    taker: &mut T,
 ) -> Result<T::Output, Refusal>
-    ensures taken { IfOk result (λ made. (words : List ℕ) × IsCopyOf Form.Flat
+    ensures taken { IfOk result (λ made. WordsOf
         (arena_limits source.now.nesting_limit traversal_limit_in_words)
-        (message (⟦<ReaderArenaImpl<S> as ReaderArena>⟧.segments source.now)) words
-        × T.makes taker words made) }
+        (message (⟦<ReaderArenaImpl<S> as ReaderArena>⟧.segments source.now))
+        (λ words. T.takes taker.old words taker.new made)) }
     ensures refused { IfErr result (RefusesMeaning (Command.Canon Form.Flat)
         (arena_limits source.now.nesting_limit traversal_limit_in_words)
         (message (⟦<ReaderArenaImpl<S> as ReaderArena>⟧.segments source.now))) }
+    ensures untaken { OnErr result (taker.new ≡ taker.old) }
 {
     match canonical_segment(source, traversal_limit_in_words) {
         Some(words) => Ok(taker.take(words)),
@@ -157,18 +190,18 @@ fn lend_unless_canonical<S: ReaderSegments, T: WordTaker + Drop>(
 ///
 /// Takes heap memory if a message of fewer than 64 words has more than 64 canonical words, or if a
 /// larger one isn't canonical.
-pub fn lend_words<S: ReaderSegments + Drop, T: WordTaker + Drop>(
+pub fn lend_words<S: ReaderSegments + Drop, T: WordTaker>(
     alloc: Global,
     segments: S,
     limits: Limits,
-    taker: T,
+    taker: &mut T,
 ) -> Result<T::Output, Refusal>
     requires { IsSmall (S.segments segments) }
-    ensures taken { IfOk result (λ made. (words : List ℕ)
-        × IsCopyOf Form.Flat (limits_of limits.nesting limits.words)
-        (message (S.segments segments)) words × T.makes taker words made) }
+    ensures taken { IfOk result (λ made. WordsOf (limits_of limits.nesting limits.words)
+        (message (S.segments segments)) (λ words. T.takes taker.old words taker.new made)) }
     ensures refused { IfErr result (RefusesMeaning (Command.Canon Form.Flat)
         (limits_of limits.nesting limits.words) (message (S.segments segments))) }
+    ensures untaken { OnErr result (taker.new ≡ taker.old) }
     ensures lent { NeedsNoHeap (limits_of limits.nesting limits.words)
         (message (S.segments segments)) → IsOk result }
 {
@@ -184,20 +217,21 @@ pub fn lend_words<S: ReaderSegments + Drop, T: WordTaker + Drop>(
 /// Lends the words of a canonical copy of a part of the message in `source` that is made on the
 /// heap.
 #[inline(never)]
-fn lend_part_from_heap<S: ReaderSegments, T: WordTaker + Drop>(
+fn lend_part_from_heap<S: ReaderSegments, T: WordTaker>(
     alloc: Global,
     source: &ReaderArenaImpl<S>,
     path: &[u32],
     traversal_limit_in_words: Option<usize>,
-    taker: T,
+    taker: &mut T,
 ) -> Result<T::Output, Refusal>
-    ensures taken { IfOk result (λ made. (words : List ℕ) × IsCopyOfPart
+    ensures taken { IfOk result (λ made. WordsOfPart
         (arena_limits source.now.nesting_limit traversal_limit_in_words) path.now
-        (message (⟦<ReaderArenaImpl<S> as ReaderArena>⟧.segments source.now)) words
-        × T.makes taker words made) }
+        (message (⟦<ReaderArenaImpl<S> as ReaderArena>⟧.segments source.now))
+        (λ words. T.takes taker.old words taker.new made)) }
     ensures refused { IfErr result (RefusesPartOf
         (arena_limits source.now.nesting_limit traversal_limit_in_words) path.now
         (message (⟦<ReaderArenaImpl<S> as ReaderArena>⟧.segments source.now))) }
+    ensures untaken { OnErr result (taker.new ≡ taker.old) }
 {
     let allocator = HeapAllocator::new(alloc, 0);
     match canonicalize_part(alloc, allocator, source, path, traversal_limit_in_words) {
@@ -207,20 +241,21 @@ fn lend_part_from_heap<S: ReaderSegments, T: WordTaker + Drop>(
 }
 
 /// Like `lend_part_from_heap`, but makes the copy in `SMALL` bytes of stack memory if it fits there.
-fn lend_small_part<S: ReaderSegments, T: WordTaker + Drop>(
+fn lend_small_part<S: ReaderSegments, T: WordTaker>(
     alloc: Global,
     source: &ReaderArenaImpl<S>,
     path: &[u32],
     traversal_limit_in_words: Option<usize>,
-    taker: T,
+    taker: &mut T,
 ) -> Result<T::Output, Refusal>
-    ensures taken { IfOk result (λ made. (words : List ℕ) × IsCopyOfPart
+    ensures taken { IfOk result (λ made. WordsOfPart
         (arena_limits source.now.nesting_limit traversal_limit_in_words) path.now
-        (message (⟦<ReaderArenaImpl<S> as ReaderArena>⟧.segments source.now)) words
-        × T.makes taker words made) }
+        (message (⟦<ReaderArenaImpl<S> as ReaderArena>⟧.segments source.now))
+        (λ words. T.takes taker.old words taker.new made)) }
     ensures refused { IfErr result (RefusesPartOf
         (arena_limits source.now.nesting_limit traversal_limit_in_words) path.now
         (message (⟦<ReaderArenaImpl<S> as ReaderArena>⟧.segments source.now))) }
+    ensures untaken { OnErr result (taker.new ≡ taker.old) }
     ensures lent { PartNeedsNoHeap (arena_limits source.now.nesting_limit traversal_limit_in_words)
         path.now (message (⟦<ReaderArenaImpl<S> as ReaderArena>⟧.segments source.now))
         → IsOk result }
@@ -243,19 +278,20 @@ fn lend_small_part<S: ReaderSegments, T: WordTaker + Drop>(
 /// Lends the canonical words of the part of the message in `segments` to which `path` leads to
 /// `taker`, and returns what that makes of them. Precondition: `segments` has fewer than 2^32
 /// segments, each of fewer than 2^32 words. Takes heap memory only if there are more than 64 words.
-pub fn lend_part_words<S: ReaderSegments + Drop, T: WordTaker + Drop>(
+pub fn lend_part_words<S: ReaderSegments + Drop, T: WordTaker>(
     alloc: Global,
     segments: S,
     path: &[u32],
     limits: Limits,
-    taker: T,
+    taker: &mut T,
 ) -> Result<T::Output, Refusal>
     requires { IsSmall (S.segments segments) }
-    ensures taken { IfOk result (λ made. (words : List ℕ)
-        × IsCopyOfPart (limits_of limits.nesting limits.words) path.now
-        (message (S.segments segments)) words × T.makes taker words made) }
+    ensures taken { IfOk result (λ made. WordsOfPart (limits_of limits.nesting limits.words)
+        path.now (message (S.segments segments))
+        (λ words. T.takes taker.old words taker.new made)) }
     ensures refused { IfErr result (RefusesPartOf (limits_of limits.nesting limits.words) path.now
         (message (S.segments segments))) }
+    ensures untaken { OnErr result (taker.new ≡ taker.old) }
     ensures lent { PartNeedsNoHeap (limits_of limits.nesting limits.words) path.now
         (message (S.segments segments)) → IsOk result }
 {

@@ -12,10 +12,11 @@ ghost use Rattle.capnp_canonical.specs.Locating.{PointerIs, no_pointer};
 ghost use Rattle.capnp_canonical.specs.Numbers.{wanted_room};
 
 use crate::calls::Limits;
+use crate::digests::digest_words_after;
 use crate::fault::{Fault, NO_FAULT};
 use crate::locating::{BrokenPointer, NO_POINTER, locate_in_words};
 use crate::validation::{NOT_SOUND, SoundMessage, validate_words};
-use crate::words::{check_words, copy_words, digest_words, size_words};
+use crate::words::{check_words, copy_words, size_words};
 use std::alloc::Global;
 
 /// Like `capnp_canonical_copy_flat`, for a message with one segment, whose words the caller passes
@@ -193,7 +194,7 @@ pub extern "C" fn capnp_canonical_words_digest(
     ensures lent { InWords bytes.now (NeedsNoHeap (limits_of nesting words))
         → result ≡ 0 }
 {
-    match digest_words(alloc, bytes, Limits { nesting, words }) {
+    match digest_words_after(alloc, &[], bytes, Limits { nesting, words }) {
         Ok(made) => {
             *digest = made;
             0

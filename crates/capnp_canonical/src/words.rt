@@ -1,17 +1,15 @@
-//! Copies, tests, measures and hashes a message given as the words of its only segment, without a
+//! Copies, tests and measures a message given as the words of its only segment, without a
 //! frame.
 ghost use Rattle.std.specs.Prelude.{◌≡◌, ◌⊎◌, ◌∷◌, [], length, IfOk, IfErr, IsOk};
 ghost use Rattle.capnp_arena_traits.specs.Limits.{IsSmall};
 ghost use Rattle.capnp_arena.specs.Output.{output_bytes};
 ghost use Rattle.capnp_messages.specs.Messages.{HasSizeOf};
-ghost use Rattle.capnp_messages.specs.Digests.{IsDigestOf};
 ghost use Rattle.capnp_messages.specs.declared.messages.command.Command.{Command};
 ghost use Rattle.capnp_messages.specs.declared.messages.command.Form.{Form};
 ghost use Rattle.capnp_messages.specs.SmallCopies.{NeedsNoHeap};
 ghost use Rattle.capnp_canonical.specs.Calls.{Fills, InWords, IsCopyOf, IsNoRoom, IsOneSegment, RefusesMeaning, RefusesRoom, RefusesSegment, TestFinds, limits_of};
 
 use crate::calls::{Limits, check, copy, size};
-use crate::digest::digest;
 use crate::refusal::Refusal;
 use crate::segments::without_null;
 use capnp_arena::arena::OutputSegments;
@@ -54,7 +52,7 @@ pub fn copy_words(
         (NeedsNoHeap (limits_of limits.nesting limits.words)) → IfErr result IsNoRoom }
 {
     let message = message_of(words)?;
-    copy(alloc, Form::Flat, message, limits.options(), to)
+    copy(alloc, Form::Flat, message, limits, to)
 }
 
 /// Returns why and where the message whose one segment is `words` isn't canonical; `None` if it is.
@@ -80,18 +78,4 @@ pub fn size_words(words: &[u8], limits: Limits) -> Result<MessageSize, Refusal>
 {
     let message = message_of(words)?;
     size(message, limits)
-}
-
-/// Returns the SHA-256 of the canonical words of the message whose one segment is `words`.
-pub fn digest_words(alloc: Global, words: &[u8], limits: Limits) -> Result<[u8; 32], Refusal>
-    ensures digest { IfOk result (λ d. InWords words.now
-        (λ S. IsDigestOf S (limits_of limits.nesting limits.words) d)) }
-    ensures refused { IfErr result (λ r. RefusesSegment words.now r
-        ⊎ InWords words.now (λ S. RefusesMeaning (Command.Canon Form.Flat)
-        (limits_of limits.nesting limits.words) S r)) }
-    ensures lent { InWords words.now
-        (NeedsNoHeap (limits_of limits.nesting limits.words)) → IsOk result }
-{
-    let message = message_of(words)?;
-    digest(alloc, message, limits.options())
 }

@@ -8,7 +8,7 @@
 //! never refused; they return a length or the version.
 
 mod calls;
-mod digest;
+mod digests;
 mod equal_exports;
 mod fault;
 mod frames;
@@ -33,10 +33,9 @@ use crate::proved::capnp_messages::messages::Form;
 use crate::proved::capnp_packing::packing::Place;
 use crate::proved::support::alloc::Global;
 use calls::Limits;
+use digests::digest_frame_after;
 use fault::{Fault, NO_FAULT};
-use frames::{
-    check_frame, copy_frame, digest_frame, frame_size, frame_size_from_prefix, size_frame,
-};
+use frames::{check_frame, copy_frame, frame_size, frame_size_from_prefix, size_frame};
 use locating::{locate_in_frame, BrokenPointer, NO_POINTER};
 use names::{name_of_number, put_text, text_of_reason};
 use packed::{unpack, unpack_further, Unpacking};
@@ -205,7 +204,7 @@ pub fn capnp_canonical_digest(
     words: u64,
     digest: &mut [u8; 32],
 ) -> u32 {
-    match digest_frame(alloc, frame, Limits { nesting, words }) {
+    match digest_frame_after(alloc, &[], frame, Limits { nesting, words }) {
         Ok(made) => {
             *digest = made;
             0

@@ -1,19 +1,28 @@
-use Rattle.std.proofs.Common.{ap, arith, map}
-use Rattle.capnp_arena_traits.specs.Limits.{whole}
-use Rattle.capnp_framing.specs.Reading.{total}
-use Rattle.capnp_messages.proofs.TryLemmas.{total-message}
+use Rattle.std.proofs.Common.{◌≡◌, inr, refl, sym}
+use Rattle.std.proofs.lemmas.Bool.{false≢true}
+use Rattle.std.proofs.lemmas.Result.{IfErr-weaker}
+use Rattle.capnp_format.specs.Bytes.{message}
+use Rattle.capnp_format.specs.Canonical.{encoding, trim}
+use Rattle.capnp_canonical.specs.Calls.{IsCopyOf, limits_of}
+use Rattle.capnp_canonical.proofs.CallLemmas.{fills_weaker, no_room_for}
 use Rattle.capnp_canonical.proofs.calls.copy.Goals as goal
 
-pub returns-then-size_in_words-clause-refused : goal.returns-then-size_in_words-clause-refused
-returns-then-size_in_words-clause-refused g c = rw (c.new-source.ensures.words, c.new-source.ensures.nesting) at c.copy_small.ensures.refused
+pub returns-in-Ok-clause-copied : goal.returns-in-Ok-clause-copied
+returns-in-Ok-clause-copied g c =
+    let (t, value, few, (same, fills, full)) = c.in-Ok.ensures.taken in
+    let back : c.to-1.given.0 ≡ c.lend_words.new.taker.to.now = c.to-1.given.1.1 (sym same) in
+    rw back (fills_weaker (λ bytes is. (t, value, few, is (encoding (trim t)) refl)) fills)
 
-pub returns-clause-refused : goal.returns-clause-refused
-returns-clause-refused g c = rw (c.new-source.ensures.words, c.new-source.ensures.nesting) at c.copy_unless_canonical.ensures.refused
+pub returns-in-Ok-clause-refused : goal.returns-in-Ok-clause-refused
+returns-in-Ok-clause-refused g c =
+    let (t, value, few, (same, fills, full)) = c.in-Ok.ensures.taken in
+    let P = IsCopyOf c.args.form (limits_of c.args.limits.nesting c.args.limits.words) (message (g.S.ReaderSegments.segments c.args.segments)) in
+    IfErr-weaker c.in-Ok.written _ _ (λ r no. inr (no_room_for c.args.form (encoding (trim t)) P (t, value, few, refl) no)) full
 
-pub returns-then-size_in_words-clause-lent : goal.returns-then-size_in_words-clause-lent
-returns-then-size_in_words-clause-lent g c = rw (c.new-source.ensures.words, c.new-source.ensures.nesting) at c.copy_small.ensures.lent
+pub returns-in-Ok-clause-lent : goal.returns-in-Ok-clause-lent
+returns-in-Ok-clause-lent g c = λ small.
+    let (t, value, few, (same, fills, full)) = c.in-Ok.ensures.taken in
+    IfErr-weaker c.in-Ok.written _ _ (λ r no. (_, no.0)) full
 
-pub returns-clause-lent : goal.returns-clause-lent
-returns-clause-lent g c = λ (few, small).
-    let counted = total-message (map whole (g.S.ReaderSegments.segments c.new-source.result.segments)) in
-    absurd (omega (arith, few, c.if-size_in_words.false, c.size_in_words.ensures, counted, ap total c.new-source.ensures.words))
+pub returns-in-Err-clause-lent : goal.returns-in-Err-clause-lent
+returns-in-Err-clause-lent g c = λ small. absurd (false≢true (c.in-Err.ensures.lent small))

@@ -1,30 +1,30 @@
-use Rattle.std.proofs.Common.{◌≡◌, length, subst, sym}
+use Rattle.std.proofs.Common.{◌≡◌, inr, refl, sym}
+use Rattle.std.proofs.lemmas.Bool.{false≢true}
 use Rattle.std.proofs.lemmas.Result.{IfErr-weaker}
 use Rattle.capnp_format.specs.Bytes.{message}
-use Rattle.capnp_format.specs.Segments.{Segments}
-use Rattle.capnp_arena.specs.declared.arena.reader_arena_impl.ReaderOptions.{ReaderOptions}
+use Rattle.capnp_format.specs.Canonical.{encoding, trim}
+use Rattle.capnp_messages.specs.declared.messages.command.Form.TheVariants.{Flat}
 use Rattle.capnp_canonical.specs.Calls.{limits_of}
-use Rattle.capnp_canonical.specs.Parts.{IsCopyOfPart, RefusesPartRoom}
-use Rattle.capnp_canonical.proofs.CallLemmas.{fills_weaker}
-use Rattle.capnp_messages.specs.SmallCopies.{PartNeedsNoHeap}
+use Rattle.capnp_canonical.specs.Parts.{IsCopyOfPart}
+use Rattle.capnp_canonical.proofs.CallLemmas.{fills_weaker, no_room_for}
 use Rattle.capnp_canonical.proofs.parts.copy_at.Goals as goal
 
-pub returns-clause-copied : goal.returns-clause-copied
-returns-clause-copied g c =
-    let limits : c.options-options.result ≡ limits_of c.args.limits.nesting c.args.limits.words = c.options-options.ensures in
-    let S : Segments = message (g.S.ReaderSegments.segments c.args.segments) in
-    fills_weaker (λ bytes is. subst (λ (l : ReaderOptions). IsCopyOfPart l c.args.path.now S bytes) limits is) (rw (c.new-source.ensures.words, c.new-source.ensures.nesting) at c.copy_part.ensures.copied)
+pub returns-in-Ok-clause-copied : goal.returns-in-Ok-clause-copied
+returns-in-Ok-clause-copied g c =
+    let (t, value, few, (same, fills, full)) = c.in-Ok.ensures.taken in
+    let back : c.to-1.given.0 ≡ c.lend_part_words.new.taker.to.now = c.to-1.given.1.1 (sym same) in
+    rw back (fills_weaker (λ bytes is. (t, value, few, is (encoding (trim t)) refl)) fills)
 
-pub returns-clause-refused : goal.returns-clause-refused
-returns-clause-refused g c =
-    let limits : c.options-options.result ≡ limits_of c.args.limits.nesting c.args.limits.words = c.options-options.ensures in
-    let S : Segments = message (g.S.ReaderSegments.segments c.args.segments) in
-    IfErr-weaker c.copy_part.result _ _ (λ r no. subst (λ (l : ReaderOptions). RefusesPartRoom l c.args.path.now (length c.args.to.now) S r) limits no)
-    (rw (c.new-source.ensures.words, c.new-source.ensures.nesting) at c.copy_part.ensures.refused)
+pub returns-in-Ok-clause-refused : goal.returns-in-Ok-clause-refused
+returns-in-Ok-clause-refused g c =
+    let (t, value, few, (same, fills, full)) = c.in-Ok.ensures.taken in
+    let P = IsCopyOfPart (limits_of c.args.limits.nesting c.args.limits.words) c.args.path.now (message (g.S.ReaderSegments.segments c.args.segments)) in
+    IfErr-weaker c.in-Ok.written _ _ (λ r no. inr (no_room_for Flat (encoding (trim t)) P (t, value, few, refl) no)) full
 
-pub returns-clause-lent : goal.returns-clause-lent
-returns-clause-lent g c = λ small.
-    let limits : c.options-options.result ≡ limits_of c.args.limits.nesting c.args.limits.words = c.options-options.ensures in
-    let S : Segments = message (g.S.ReaderSegments.segments c.args.segments) in
-    let there = subst (λ (l : ReaderOptions). PartNeedsNoHeap l c.args.path.now S) (sym limits) small in
-    (rw (c.new-source.ensures.words, c.new-source.ensures.nesting) at c.copy_part.ensures.lent) there
+pub returns-in-Ok-clause-lent : goal.returns-in-Ok-clause-lent
+returns-in-Ok-clause-lent g c = λ small.
+    let (t, value, few, (same, fills, full)) = c.in-Ok.ensures.taken in
+    IfErr-weaker c.in-Ok.written _ _ (λ r no. (_, no.0)) full
+
+pub returns-in-Err-clause-lent : goal.returns-in-Err-clause-lent
+returns-in-Err-clause-lent g c = λ small. absurd (false≢true (c.in-Err.ensures.lent small))

@@ -20,5 +20,5 @@ returns-in-Err-clause-granted c = λ can.
 
 pub returns-in-Err-clause-lent : goal.returns-in-Err-clause-lent
 returns-in-Err-clause-lent c = λ small.
-    let done = rw (c.in-Err.is, to_z-of_z w32 c.args.nesting c.ranges.nesting) at c.digest_segments.ensures.lent in
+    let done = rw (c.in-Err.is, to_z-of_z w32 c.args.nesting c.ranges.nesting) at c.digest_segments_after.ensures.lent in
     absurd (false≢true (done small))

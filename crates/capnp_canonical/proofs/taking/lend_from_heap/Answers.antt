@@ -13,4 +13,4 @@ returns-in-Ok-clause-taken g c =
     let (t, read, is_made) = c.in-Ok.ensures.copied in
     let bytes = c.canonical_bytes.ensures.bytes (encoding (trim t)) is_made in
     let few = fit_segment (encoding (trim t)) bytes c.canonical_bytes.ensures.short in
-    (c.canonical_bytes.result.now, (t, value_if read, few, bytes), c.take.ensures)
+    (t, value_if read, few, rw bytes at c.take.ensures)

@@ -12,4 +12,4 @@ returns-in-Ok-clause-taken g c =
     let (t, value, is_made) = c.in-Ok.ensures.copied in
     let bytes = c.canonical_bytes.ensures.bytes (encoding (trim t)) is_made in
     let few = fit_segment (encoding (trim t)) bytes c.canonical_bytes.ensures.short in
-    (c.canonical_bytes.result.now, (t, value, few, bytes), c.take.ensures)
+    (t, value, few, rw bytes at c.take.ensures)

@@ -13,7 +13,7 @@ returns-then-fits-clause-taken g c =
     let (t, value, is_made) = OnTrue_at c.if-fits.true c.in-Ok.ensures.copied in
     let bytes = c.canonical_bytes.ensures.bytes (encoding (trim t)) is_made in
     let few = fit_segment (encoding (trim t)) bytes c.canonical_bytes.ensures.short in
-    (c.canonical_bytes.result.now, (t, value, few, bytes), c.take.ensures)
+    (t, value, few, rw bytes at c.take.ensures)
 
 pub returns-clause-lent : goal.returns-clause-lent
 returns-clause-lent g c = λ small. absurd (part_is_not_refused c.in-Err.kind small c.in-Err.ensures.refused)

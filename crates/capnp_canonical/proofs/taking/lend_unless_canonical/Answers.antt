@@ -9,4 +9,4 @@ returns-in-Some-clause-taken g c =
     let (t, value, is) = c.in-Some.ensures.words in
     let bytes = c.in-Some.ensures.whole ∙ ap bytes_of_words is in
     let few = fit_segment (encoding (trim t)) bytes c.in-Some.ensures.short in
-    (c.in-Some.words.now, (t, value, few, bytes), c.take.ensures)
+    (t, value, few, rw bytes at c.take.ensures)

@@ -19,9 +19,9 @@ struct OtherFrame<'a> {
 impl WordTaker for OtherFrame<'_> {
     type Output = Result<bool, Refusal>;
 
-    fn take(self, words: &[u8]) -> Result<bool, Refusal> {
+    fn take(&mut self, words: &[u8]) -> Result<bool, Refusal> {
         match message_in(self.bytes, self.limits.words) {
-            Ok(segments) => lend_words(self.alloc, segments, self.limits, Beside { words }),
+            Ok(segments) => lend_words(self.alloc, segments, self.limits, &mut Beside { words }),
             Err(refusal) => Err(refusal),
         }
     }
@@ -38,9 +38,9 @@ struct OtherSegments<'a> {
 impl WordTaker for OtherSegments<'_> {
     type Output = Result<bool, Refusal>;
 
-    fn take(self, words: &[u8]) -> Result<bool, Refusal> {
+    fn take(&mut self, words: &[u8]) -> Result<bool, Refusal> {
         match LentSegments::new(self.bytes) {
-            Ok(lent) => lend_words(self.alloc, lent, self.limits, Beside { words }),
+            Ok(lent) => lend_words(self.alloc, lent, self.limits, &mut Beside { words }),
             Err(refusal) => Err(refusal),
         }
     }
@@ -57,9 +57,9 @@ struct OtherWords<'a> {
 impl WordTaker for OtherWords<'_> {
     type Output = Result<bool, Refusal>;
 
-    fn take(self, words: &[u8]) -> Result<bool, Refusal> {
+    fn take(&mut self, words: &[u8]) -> Result<bool, Refusal> {
         match message_of(self.bytes) {
-            Ok(message) => lend_words(self.alloc, message, self.limits, Beside { words }),
+            Ok(message) => lend_words(self.alloc, message, self.limits, &mut Beside { words }),
             Err(refusal) => Err(refusal),
         }
     }
@@ -68,12 +68,12 @@ impl WordTaker for OtherWords<'_> {
 /// Whether the messages whose frames are at the fronts of `one` and `other` have the same canonical words.
 fn equal_frame(alloc: Global, one: &[u8], other: &[u8], limits: Limits) -> Result<bool, Refusal> {
     let first = message_in(one, limits.words)?;
-    let other = OtherFrame {
+    let mut other = OtherFrame {
         alloc,
         bytes: other,
         limits,
     };
-    lend_words(alloc, first, limits, other)?
+    lend_words(alloc, first, limits, &mut other)?
 }
 
 /// Whether the messages in the segments `one` and `other` have the same canonical words.
@@ -84,23 +84,23 @@ fn equal_segments(
     limits: Limits,
 ) -> Result<bool, Refusal> {
     let first = LentSegments::new(one)?;
-    let other = OtherSegments {
+    let mut other = OtherSegments {
         alloc,
         bytes: other,
         limits,
     };
-    lend_words(alloc, first, limits, other)?
+    lend_words(alloc, first, limits, &mut other)?
 }
 
 /// Whether the messages whose one segments are `one` and `other` have the same canonical words.
 fn equal_words(alloc: Global, one: &[u8], other: &[u8], limits: Limits) -> Result<bool, Refusal> {
     let first = message_of(one)?;
-    let other = OtherWords {
+    let mut other = OtherWords {
         alloc,
         bytes: other,
         limits,
     };
-    lend_words(alloc, first, limits, other)?
+    lend_words(alloc, first, limits, &mut other)?
 }
 
 /// Compares the messages whose frames are at the fronts of `one` and `other`: stores in `is_equal`

@@ -1,9 +1,8 @@
-//! Copies, tests, measures and hashes the message whose frame is at the front of a buffer (encoding
+//! Copies, tests and measures the message whose frame is at the front of a buffer (encoding
 //! specification, "Serialization Over a Stream").
 
 use crate::proved::capnp_arena::arena::ReaderSegments;
 use crate::proved::capnp_canonical::calls::{check, copy, size, Limits};
-use crate::proved::capnp_canonical::digest::digest;
 use crate::proved::capnp_canonical::refusal::Refusal;
 use crate::proved::capnp_framing::framing::{
     read_from_flat_slice, size_from_prefix, FrameSegments,
@@ -33,7 +32,7 @@ pub fn copy_frame(
     to: &mut [u8],
 ) -> Result<usize, Refusal> {
     let segments = message_in(frame, limits.words)?;
-    copy(alloc, form, segments, limits.options(), to)
+    copy(alloc, form, segments, limits, to)
 }
 
 /// Returns why and where the message whose frame is at the front of `frame` isn't canonical; `None`
@@ -64,11 +63,4 @@ pub fn frame_size_from_prefix(prefix: &[u8], words: u64) -> Result<usize, Refusa
         Ok(size) => Ok(size),
         Err(error) => Err(Refusal::Frame(error)),
     }
-}
-
-/// Returns the SHA-256 of the canonical words of the message whose frame is at the front of
-/// `frame`.
-pub fn digest_frame(alloc: Global, frame: &[u8], limits: Limits) -> Result<[u8; 32], Refusal> {
-    let segments = message_in(frame, limits.words)?;
-    digest(alloc, segments, limits.options())
 }

@@ -1,9 +1,12 @@
 //! The functions for C that work on a part of a message: on the value to which a path leads.
 
 use crate::proved::capnp_canonical::calls::Limits;
+use crate::proved::capnp_canonical::digests::{
+    digest_frame_part_after, digest_segments_part_after, digest_words_part_after,
+};
 use crate::proved::capnp_canonical::parts::{
-    copy_frame_part, copy_segments_part, copy_words_part, digest_frame_part, digest_segments_part,
-    digest_words_part, size_frame_part, size_segments_part, size_words_part,
+    copy_frame_part, copy_segments_part, copy_words_part, size_frame_part, size_segments_part,
+    size_words_part,
 };
 use crate::proved::support::alloc::Global;
 
@@ -51,7 +54,7 @@ pub fn capnp_canonical_digest_at(
     words: u64,
     digest: &mut [u8; 32],
 ) -> u32 {
-    match digest_frame_part(alloc, frame, path, Limits { nesting, words }) {
+    match digest_frame_part_after(alloc, &[], frame, path, Limits { nesting, words }) {
         Ok(made) => {
             *digest = made;
             0
@@ -121,7 +124,7 @@ pub fn capnp_canonical_segments_digest_at(
     words: u64,
     digest: &mut [u8; 32],
 ) -> u32 {
-    match digest_segments_part(alloc, segments, path, Limits { nesting, words }) {
+    match digest_segments_part_after(alloc, &[], segments, path, Limits { nesting, words }) {
         Ok(made) => {
             *digest = made;
             0
@@ -190,7 +193,7 @@ pub fn capnp_canonical_words_digest_at(
     words: u64,
     digest: &mut [u8; 32],
 ) -> u32 {
-    match digest_words_part(alloc, bytes, path, Limits { nesting, words }) {
+    match digest_words_part_after(alloc, &[], bytes, path, Limits { nesting, words }) {
         Ok(made) => {
             *digest = made;
             0

@@ -2,45 +2,11 @@
 //! prefix.
 
 use crate::proved::capnp_canonical::calls::Limits;
-use crate::proved::capnp_canonical::frames::message_in;
-use crate::proved::capnp_canonical::refusal::Refusal;
-use crate::proved::capnp_canonical::segments::LentSegments;
-use crate::proved::capnp_canonical::taking::{lend_part_words, lend_words, Prefix};
-use crate::proved::capnp_canonical::words::message_of;
+use crate::proved::capnp_canonical::digests::{
+    digest_frame_after, digest_frame_part_after, digest_segments_after, digest_segments_part_after,
+    digest_words_after, digest_words_part_after,
+};
 use crate::proved::support::alloc::Global;
-
-/// Returns the SHA-256 of `prefix` and then the canonical words of the message whose frame is at the front of `frame`.
-fn digest_frame_after(
-    alloc: Global,
-    prefix: &[u8],
-    frame: &[u8],
-    limits: Limits,
-) -> Result<[u8; 32], Refusal> {
-    let segments = message_in(frame, limits.words)?;
-    lend_words(alloc, segments, limits, Prefix { bytes: prefix })
-}
-
-/// Returns the SHA-256 of `prefix` and then the canonical words of the message in `segments`.
-fn digest_segments_after(
-    alloc: Global,
-    prefix: &[u8],
-    segments: &[&[u8]],
-    limits: Limits,
-) -> Result<[u8; 32], Refusal> {
-    let lent = LentSegments::new(segments)?;
-    lend_words(alloc, lent, limits, Prefix { bytes: prefix })
-}
-
-/// Returns the SHA-256 of `prefix` and then the canonical words of the message whose one segment is `words`.
-fn digest_words_after(
-    alloc: Global,
-    prefix: &[u8],
-    words: &[u8],
-    limits: Limits,
-) -> Result<[u8; 32], Refusal> {
-    let message = message_of(words)?;
-    lend_words(alloc, message, limits, Prefix { bytes: prefix })
-}
 
 /// Stores in `digest` the SHA-256 of the bytes of `prefix` and then the canonical words of the
 /// message whose frame is at the front of `frame`: the bytes that `capnp_canonical_copy_flat`
@@ -107,45 +73,6 @@ pub fn capnp_canonical_words_digest_with(
             refusal.number()
         }
     }
-}
-
-/// Returns the SHA-256 of `prefix` and then the canonical words of the part of the message whose frame is at the front of `frame` to
-/// which `path` leads.
-fn digest_frame_part_after(
-    alloc: Global,
-    prefix: &[u8],
-    frame: &[u8],
-    path: &[u32],
-    limits: Limits,
-) -> Result<[u8; 32], Refusal> {
-    let segments = message_in(frame, limits.words)?;
-    lend_part_words(alloc, segments, path, limits, Prefix { bytes: prefix })
-}
-
-/// Returns the SHA-256 of `prefix` and then the canonical words of the part of the message in `segments` to
-/// which `path` leads.
-fn digest_segments_part_after(
-    alloc: Global,
-    prefix: &[u8],
-    segments: &[&[u8]],
-    path: &[u32],
-    limits: Limits,
-) -> Result<[u8; 32], Refusal> {
-    let lent = LentSegments::new(segments)?;
-    lend_part_words(alloc, lent, path, limits, Prefix { bytes: prefix })
-}
-
-/// Returns the SHA-256 of `prefix` and then the canonical words of the part of the message whose one segment is `words` to
-/// which `path` leads.
-fn digest_words_part_after(
-    alloc: Global,
-    prefix: &[u8],
-    words: &[u8],
-    path: &[u32],
-    limits: Limits,
-) -> Result<[u8; 32], Refusal> {
-    let message = message_of(words)?;
-    lend_part_words(alloc, message, path, limits, Prefix { bytes: prefix })
 }
 
 /// Like `capnp_canonical_digest_with`, for the part of the message to which `path` leads: the

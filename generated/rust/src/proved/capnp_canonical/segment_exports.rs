@@ -1,11 +1,10 @@
 //! The functions for C that take a message as segments, without a frame.
 
 use crate::proved::capnp_canonical::calls::Limits;
+use crate::proved::capnp_canonical::digests::digest_segments_after;
 use crate::proved::capnp_canonical::fault::{Fault, NO_FAULT};
 use crate::proved::capnp_canonical::locating::{locate_in_segments, BrokenPointer, NO_POINTER};
-use crate::proved::capnp_canonical::segments::{
-    check_segments, copy_segments, digest_segments, size_segments,
-};
+use crate::proved::capnp_canonical::segments::{check_segments, copy_segments, size_segments};
 use crate::proved::capnp_canonical::validation::{validate_segments, SoundMessage, NOT_SOUND};
 use crate::proved::capnp_messages::messages::Form;
 use crate::proved::support::alloc::Global;
@@ -148,7 +147,7 @@ pub fn capnp_canonical_segments_digest(
     words: u64,
     digest: &mut [u8; 32],
 ) -> u32 {
-    match digest_segments(alloc, segments, Limits { nesting, words }) {
+    match digest_segments_after(alloc, &[], segments, Limits { nesting, words }) {
         Ok(made) => {
             *digest = made;
             0

@@ -1,8 +1,7 @@
-//! Copies, tests, measures and hashes a message in the caller's segments.
+//! Copies, tests and measures a message in the caller's segments.
 
 use crate::proved::capnp_arena::arena::{ReaderSegments, SegmentArray};
 use crate::proved::capnp_canonical::calls::{check, copy, size, Limits};
-use crate::proved::capnp_canonical::digest::digest;
 use crate::proved::capnp_canonical::refusal::Refusal;
 use crate::proved::capnp_messages::messages::Form;
 use crate::proved::capnp_objects::pointers::{CanonicalFault, MessageSize};
@@ -67,7 +66,7 @@ pub fn copy_segments(
     to: &mut [u8],
 ) -> Result<usize, Refusal> {
     let lent = LentSegments::new(segments)?;
-    copy(alloc, form, lent, limits.options(), to)
+    copy(alloc, form, lent, limits, to)
 }
 
 /// Returns why and where the message in `segments` isn't canonical; `None` if it is.
@@ -84,14 +83,4 @@ pub fn check_segments(
 pub fn size_segments(segments: &[&[u8]], limits: Limits) -> Result<MessageSize, Refusal> {
     let lent = LentSegments::new(segments)?;
     size(lent, limits)
-}
-
-/// Returns the SHA-256 of the canonical words of the message in `segments`.
-pub fn digest_segments(
-    alloc: Global,
-    segments: &[&[u8]],
-    limits: Limits,
-) -> Result<[u8; 32], Refusal> {
-    let lent = LentSegments::new(segments)?;
-    digest(alloc, lent, limits.options())
 }

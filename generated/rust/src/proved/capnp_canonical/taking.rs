@@ -1,14 +1,14 @@
-//! Lends the canonical words of a message, or of a part of one, to a `WordTaker`: to be hashed after
-//! a prefix, or compared with other words.
+//! Lends the canonical words of a message, or of a part of one, to a `WordTaker`: to be copied into
+//! a buffer, hashed after a prefix, or compared with other words.
 
 use crate::proved::capnp_arena::arena::{
     BuilderArenaImpl, HeapAllocator, ReaderArena, ReaderArenaImpl, ReaderSegments,
 };
-use crate::proved::capnp_canonical::calls::Limits;
+use crate::proved::capnp_canonical::calls::{put, Limits};
 use crate::proved::capnp_canonical::refusal::Refusal;
 use crate::proved::capnp_messages::messages::{
     canonical_bytes, canonical_segment, canonicalize, canonicalize_into, canonicalize_part,
-    canonicalize_part_into, LentMemory,
+    canonicalize_part_into, Form, LentMemory,
 };
 use crate::proved::support::alloc::Global;
 use crate::proved::support::sha2::{Digest, Sha256};
@@ -18,8 +18,31 @@ pub trait WordTaker {
     /// What it makes of them.
     type Output;
 
-    /// Takes `words`, the bytes of canonical words.
-    fn take(self, words: &[u8]) -> Self::Output;
+    /// Takes `words`, the bytes of canonical words. Precondition: `words` has at most 536,870,911
+    /// words.
+    ///
+    /// # Preconditions
+    ///
+    /// ```text
+    /// requires { length words.now ≤ 8 * max_segment_words }
+    /// ```
+    fn take(&mut self, words: &[u8]) -> Self::Output;
+}
+
+/// Writes the words to the front of a buffer, in a frame or without one.
+pub struct Room<'a> {
+    /// How the words are written.
+    pub form: Form,
+    /// The buffer.
+    pub to: &'a mut [u8],
+}
+
+impl WordTaker for Room<'_> {
+    type Output = Result<usize, Refusal>;
+
+    fn take(&mut self, words: &[u8]) -> Result<usize, Refusal> {
+        put(self.form, words, self.to)
+    }
 }
 
 /// Makes the SHA-256 of a prefix and then the words.
@@ -32,7 +55,7 @@ pub struct Prefix<'a> {
 impl WordTaker for Prefix<'_> {
     type Output = [u8; 32];
 
-    fn take(self, words: &[u8]) -> [u8; 32] {
+    fn take(&mut self, words: &[u8]) -> [u8; 32] {
         let mut hasher = Sha256::new();
         hasher.update(self.bytes);
         hasher.update(words);
@@ -50,7 +73,7 @@ pub struct Beside<'a> {
 impl WordTaker for Beside<'_> {
     type Output = bool;
 
-    fn take(self, words: &[u8]) -> bool {
+    fn take(&mut self, words: &[u8]) -> bool {
         self.words == words
     }
 }
@@ -64,7 +87,7 @@ fn lend_from_heap<S: ReaderSegments, T: WordTaker>(
     alloc: Global,
     source: &ReaderArenaImpl<S>,
     traversal_limit_in_words: Option<usize>,
-    taker: T,
+    taker: &mut T,
 ) -> Result<T::Output, Refusal> {
     let allocator = HeapAllocator::new(alloc, 0);
     match canonicalize(alloc, allocator, source, traversal_limit_in_words) {
@@ -78,7 +101,7 @@ fn lend_small<S: ReaderSegments, T: WordTaker>(
     alloc: Global,
     source: &ReaderArenaImpl<S>,
     traversal_limit_in_words: Option<usize>,
-    taker: T,
+    taker: &mut T,
 ) -> Result<T::Output, Refusal> {
     let mut memory = [0u8; SMALL];
     let mut made = BuilderArenaImpl::new(alloc, LentMemory::new(memory.as_mut_slice()));
@@ -100,7 +123,7 @@ fn lend_unless_canonical<S: ReaderSegments, T: WordTaker>(
     alloc: Global,
     source: &ReaderArenaImpl<S>,
     traversal_limit_in_words: Option<usize>,
-    taker: T,
+    taker: &mut T,
 ) -> Result<T::Output, Refusal> {
     match canonical_segment(source, traversal_limit_in_words) {
         Some(words) => Ok(taker.take(words)),
@@ -123,7 +146,7 @@ pub fn lend_words<S: ReaderSegments, T: WordTaker>(
     alloc: Global,
     segments: S,
     limits: Limits,
-    taker: T,
+    taker: &mut T,
 ) -> Result<T::Output, Refusal> {
     let options = limits.options();
     let source = ReaderArenaImpl::new(segments, options);
@@ -142,7 +165,7 @@ fn lend_part_from_heap<S: ReaderSegments, T: WordTaker>(
     source: &ReaderArenaImpl<S>,
     path: &[u32],
     traversal_limit_in_words: Option<usize>,
-    taker: T,
+    taker: &mut T,
 ) -> Result<T::Output, Refusal> {
     let allocator = HeapAllocator::new(alloc, 0);
     match canonicalize_part(alloc, allocator, source, path, traversal_limit_in_words) {
@@ -157,7 +180,7 @@ fn lend_small_part<S: ReaderSegments, T: WordTaker>(
     source: &ReaderArenaImpl<S>,
     path: &[u32],
     traversal_limit_in_words: Option<usize>,
-    taker: T,
+    taker: &mut T,
 ) -> Result<T::Output, Refusal> {
     let mut memory = [0u8; SMALL];
     let mut made = BuilderArenaImpl::new(alloc, LentMemory::new(memory.as_mut_slice()));
@@ -188,7 +211,7 @@ pub fn lend_part_words<S: ReaderSegments, T: WordTaker>(
     segments: S,
     path: &[u32],
     limits: Limits,
-    taker: T,
+    taker: &mut T,
 ) -> Result<T::Output, Refusal> {
     let options = limits.options();
     let source = ReaderArenaImpl::new(segments, options);

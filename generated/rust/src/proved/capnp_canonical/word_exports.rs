@@ -1,10 +1,11 @@
 //! The functions for C that take a message as the words of its only segment, without a frame.
 
 use crate::proved::capnp_canonical::calls::Limits;
+use crate::proved::capnp_canonical::digests::digest_words_after;
 use crate::proved::capnp_canonical::fault::{Fault, NO_FAULT};
 use crate::proved::capnp_canonical::locating::{locate_in_words, BrokenPointer, NO_POINTER};
 use crate::proved::capnp_canonical::validation::{validate_words, SoundMessage, NOT_SOUND};
-use crate::proved::capnp_canonical::words::{check_words, copy_words, digest_words, size_words};
+use crate::proved::capnp_canonical::words::{check_words, copy_words, size_words};
 use crate::proved::support::alloc::Global;
 
 /// Like `capnp_canonical_copy_flat`, for a message with one segment, whose words the caller passes
@@ -123,7 +124,7 @@ pub fn capnp_canonical_words_digest(
     words: u64,
     digest: &mut [u8; 32],
 ) -> u32 {
-    match digest_words(alloc, bytes, Limits { nesting, words }) {
+    match digest_words_after(alloc, &[], bytes, Limits { nesting, words }) {
         Ok(made) => {
             *digest = made;
             0

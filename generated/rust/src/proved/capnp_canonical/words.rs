@@ -1,9 +1,8 @@
-//! Copies, tests, measures and hashes a message given as the words of its only segment, without a
+//! Copies, tests and measures a message given as the words of its only segment, without a
 //! frame.
 
 use crate::proved::capnp_arena::arena::OutputSegments;
 use crate::proved::capnp_canonical::calls::{check, copy, size, Limits};
-use crate::proved::capnp_canonical::digest::digest;
 use crate::proved::capnp_canonical::refusal::Refusal;
 use crate::proved::capnp_canonical::segments::without_null;
 use crate::proved::capnp_messages::messages::Form;
@@ -32,7 +31,7 @@ pub fn copy_words(
     to: &mut [u8],
 ) -> Result<usize, Refusal> {
     let message = message_of(words)?;
-    copy(alloc, Form::Flat, message, limits.options(), to)
+    copy(alloc, Form::Flat, message, limits, to)
 }
 
 /// Returns why and where the message whose one segment is `words` isn't canonical; `None` if it is.
@@ -46,10 +45,4 @@ pub fn check_words(words: &[u8], limits: Limits) -> Result<Option<CanonicalFault
 pub fn size_words(words: &[u8], limits: Limits) -> Result<MessageSize, Refusal> {
     let message = message_of(words)?;
     size(message, limits)
-}
-
-/// Returns the SHA-256 of the canonical words of the message whose one segment is `words`.
-pub fn digest_words(alloc: Global, words: &[u8], limits: Limits) -> Result<[u8; 32], Refusal> {
-    let message = message_of(words)?;
-    digest(alloc, message, limits.options())
 }

@@ -5,13 +5,13 @@ use Rattle.capnp_canonical.specs.Calls.{limits_of}
 use Rattle.capnp_canonical.specs.Parts.{RefusesPartOf}
 use Rattle.capnp_messages.specs.SmallCopies.{PartNeedsNoHeap}
 use Rattle.capnp_canonical.proofs.CallLemmas.{lent_granted}
-use Rattle.capnp_canonical.proofs.parts.digest_segments_part.Goals as goal
+use Rattle.capnp_canonical.proofs.digests.digest_segments_part_after.Goals as goal
 
 pub returns-clause-refused : goal.returns-clause-refused
 returns-clause-refused c =
     let limits = limits_of c.args.limits.nesting c.args.limits.words in
-    IfErr-weaker c.digest_at.result _ _ (λ r no.
-    inr (c.in_ok-lent.ensures.whole.0, c.in_ok-lent.ensures.whole.1, subst (λ (B : List (List ℕ)). RefusesPartOf limits c.args.path.now (message B) r) c.in_ok-lent.ensures.segments no)) c.digest_at.ensures.refused
+    IfErr-weaker c.lend_part_words.result _ _ (λ r no.
+    inr (c.in_ok-lent.ensures.whole.0, c.in_ok-lent.ensures.whole.1, subst (λ (B : List (List ℕ)). RefusesPartOf limits c.args.path.now (message B) r) c.in_ok-lent.ensures.segments no)) c.lend_part_words.ensures.refused
 
 pub returns-in_err-lent-clause-lent : goal.returns-in_err-lent-clause-lent
 returns-in_err-lent-clause-lent c = λ small. absurd (lent_granted c.args.segments.now c.in_err-lent.ensures.refused small)
@@ -19,4 +19,4 @@ returns-in_err-lent-clause-lent c = λ small. absurd (lent_granted c.args.segmen
 pub returns-clause-lent : goal.returns-clause-lent
 returns-clause-lent c = λ (whole, few, small).
     let limits = limits_of c.args.limits.nesting c.args.limits.words in
-    c.digest_at.ensures.lent (subst (λ (B : List (List ℕ)). PartNeedsNoHeap limits c.args.path.now (message B)) (sym c.in_ok-lent.ensures.segments) small)
+    c.lend_part_words.ensures.lent (subst (λ (B : List (List ℕ)). PartNeedsNoHeap limits c.args.path.now (message B)) (sym c.in_ok-lent.ensures.segments) small)

@@ -6,7 +6,7 @@ use Rattle.capnp_messages.specs.declared.messages.command.Form.TheVariants.{Flat
 use Rattle.capnp_canonical.specs.Calls.{RefusesMeaning, limits_of}
 use Rattle.capnp_messages.specs.SmallCopies.{NeedsNoHeap}
 use Rattle.capnp_canonical.proofs.CallLemmas.{words_granted}
-use Rattle.capnp_canonical.proofs.prefix_exports.digest_words_after.Goals as goal
+use Rattle.capnp_canonical.proofs.digests.digest_words_after.Goals as goal
 
 pub returns-clause-refused : goal.returns-clause-refused
 returns-clause-refused c =
