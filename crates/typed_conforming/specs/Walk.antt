@@ -38,7 +38,7 @@ rowless_pointer k = record { kind = k; row = 0; index = 0 }
 abbrev pub schema_pointer : List ℕ → ℕ → List ℕ → ℕ → SchemaPointer
 schema_pointer T row ws i = record { kind = wanted T row ws i; row = row; index = i }
 
--- Pointer i of a row, of which the table has this kind word.
+-- Pointer i of a row, with this kind word in the table.
 abbrev pub worded_pointer : ℕ → ℕ → ℕ → SchemaPointer
 worded_pointer w row i = record { kind = word_kind w; row = row; index = i }
 

@@ -377,8 +377,8 @@ fn check_primitive_list<A: ReaderArena>(
 }
 
 // Tests the list of bits or numbers that the word at `at` describes, for pointer `index` of the row
-// at `row`, of which the table has the kind word `wanted`. Texts are told apart first: most lists are
-// texts, and of a constant kind little is left to test.
+// at `row`, whose kind word is `wanted`. Texts are told apart first: most lists are texts, and little
+// is left to test if the kind is constant.
 #[inline(always)]
 fn check_wanted_list<A: ReaderArena>(
     wanted: u32,
