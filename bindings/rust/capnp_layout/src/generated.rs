@@ -145,11 +145,11 @@ pub fn shown_struct<T, O: Outcome<T>>(is_set: bool, read: O) -> ShownStruct<T> {
 
 /// Whether the pointer isn't null, or is one of a message. In a default value, a null pointer may have the same default value:
 /// without end, if all of it were followed.
-pub fn has_or_default<M: Meter>(fields: &Struct<'_, M>, index: u16) -> bool {
+pub fn has_or_default<M: Meter>(fields: &Struct<'_, M>, index: usize) -> bool {
     fields.has(index) || !matches!(fields.raw.source, Source::Default(_))
 }
 
-/// A member of a union that is set and null, to be shown by its name.
+/// A member of a union that is set and null, to be shown with its name.
 pub fn null(member: &'static str) -> NullMember {
     NullMember(member)
 }
@@ -166,7 +166,7 @@ impl<T: fmt::Debug> fmt::Debug for Shown<T> {
     }
 }
 
-/// A struct, shown as the value, as its refusal, or as `null`.
+/// A struct that is shown like `Shown`, or `null`.
 pub struct ShownStruct<T>(Option<Shown<T>>);
 
 impl<T: fmt::Debug> fmt::Debug for ShownStruct<T> {
@@ -178,7 +178,7 @@ impl<T: fmt::Debug> fmt::Debug for ShownStruct<T> {
     }
 }
 
-/// A member of a union that is set and null, shown by its name.
+/// A member of a union that is set and null, shown with its name.
 pub struct NullMember(&'static str);
 
 impl fmt::Debug for NullMember {
