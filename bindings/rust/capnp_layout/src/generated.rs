@@ -145,7 +145,7 @@ pub fn shown_struct<T, O: Outcome<T>>(is_set: bool, read: O) -> ShownStruct<T> {
 
 /// Whether the pointer isn't null, or is one of a message. In a default value, a null pointer may have the same default value:
 /// without end, if all of it were followed.
-pub fn has_or_default<M: Meter>(fields: &Struct<'_, M>, index: u16) -> bool {
+pub fn has_or_default<M: Meter>(fields: &Struct<'_, M>, index: usize) -> bool {
     fields.has(index) || !matches!(fields.raw.source, Source::Default(_))
 }
 

@@ -592,7 +592,10 @@ impl<M: g::Meter> g::fmt::Debug for Chain<'_, M> {
     fn fmt(&self, f: &mut g::fmt::Formatter<'_>) -> g::fmt::Result {
         let mut shown = f.debug_struct("Chain");
         shown.field("number", &self.number());
-        shown.field("next", &g::shown_struct(self.0.has(0), self.next()));
+        shown.field(
+            "next",
+            &g::shown_struct(g::has_or_default(&self.0, 0), self.next()),
+        );
         shown.finish()
     }
 }
@@ -727,7 +730,7 @@ impl<M: g::Meter> g::fmt::Debug for Ring<'_, M> {
     fn fmt(&self, f: &mut g::fmt::Formatter<'_>) -> g::fmt::Result {
         let mut shown = f.debug_struct("Ring");
         shown.field("number", &self.number());
-        if self.0.get::<u16>(2) == 0 && !self.0.has(0) {
+        if self.0.get::<u16>(2) == 0 && !g::has_or_default(&self.0, 0) {
             shown.field("which", &g::null("Again"));
         } else {
             shown.field("which", &g::shown(self.which()));

@@ -1009,7 +1009,10 @@ impl<M: g::Meter> g::fmt::Debug for Root<'_, M> {
         shown.field("result", &self.result());
         shown.field("data", &self.data());
         shown.field("record", &self.record());
-        shown.field("filled", &g::shown_struct(self.0.has(20), self.filled()));
+        shown.field(
+            "filled",
+            &g::shown_struct(g::has_or_default(&self.0, 20), self.filled()),
+        );
         shown.field("counted", &g::shown(self.counted()));
         shown.field("listed", &g::shown(self.listed()));
         shown.field("named", &g::shown(self.named()));
@@ -1761,7 +1764,7 @@ pub mod root {
                 result: it.result(),
                 data: it.data(),
                 record: it.record(),
-                filled: g::boxed(it.0.has(20), it.filled()),
+                filled: g::boxed(g::has_or_default(&it.0, 20), it.filled()),
                 counted: g::own_list(it.counted()),
                 listed: g::own_list(it.listed()),
                 named: g::own_list(it.named()),

@@ -825,7 +825,10 @@ impl<M: g::Meter> g::fmt::Debug for Chain<'_, M> {
     fn fmt(&self, f: &mut g::fmt::Formatter<'_>) -> g::fmt::Result {
         let mut shown = f.debug_struct("Chain");
         shown.field("number", &self.number());
-        shown.field("next", &g::shown_struct(self.0.has(0), self.next()));
+        shown.field(
+            "next",
+            &g::shown_struct(g::has_or_default(&self.0, 0), self.next()),
+        );
         shown.finish()
     }
 }
@@ -893,7 +896,7 @@ pub mod chain {
             let it = &it;
             Value {
                 number: it.number(),
-                next: g::boxed(it.0.has(0), it.next()),
+                next: g::boxed(g::has_or_default(&it.0, 0), it.next()),
             }
         }
     }
@@ -1016,7 +1019,7 @@ impl<M: g::Meter> g::fmt::Debug for Ring<'_, M> {
     fn fmt(&self, f: &mut g::fmt::Formatter<'_>) -> g::fmt::Result {
         let mut shown = f.debug_struct("Ring");
         shown.field("number", &self.number());
-        if self.0.get::<u16>(2) == 0 && !self.0.has(0) {
+        if self.0.get::<u16>(2) == 0 && !g::has_or_default(&self.0, 0) {
             shown.field("which", &g::null("Again"));
         } else {
             shown.field("which", &g::shown(self.which()));
@@ -1162,7 +1165,9 @@ pub mod ring {
     impl WhichValue {
         fn own(it: &super::Ring<'_>) -> Self {
             match it.which() {
-                Which::Again(member) => WhichValue::Again(g::boxed(it.0.has(0), member)),
+                Which::Again(member) => {
+                    WhichValue::Again(g::boxed(g::has_or_default(&it.0, 0), member))
+                }
                 Which::End => WhichValue::End,
                 Which::Unknown(number) => WhichValue::Unknown(number),
             }
