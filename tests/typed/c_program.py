@@ -2,7 +2,7 @@
 the word `check`, it checks each against the schema, and reads all fields. It prints in the notation of `capnp decode`, except that enums are numbers, and floats their bits, and that bytes are lists."""
 import re
 
-from schema import BITS, always, has_default, kind, members, name_of
+from schema import BITS, DEFAULT_DEPTH, always, has_default, kind, members, name_of
 
 HEAD = '''/* Prints or copies each message of standard input, by generated code. */
 #include <inttypes.h>
@@ -267,7 +267,12 @@ class Code:
             is_member = field in members(node)
             may_be_null = not is_member and kind(of) in ('struct', 'list', 'anyPointer', 'interface') and not has_default(field)
             to.append(f'if (!{type_name(node)}_has_{escaped(name_of(field))}(r)) {{\nfputs("null", stdout);\n}} else {{\n' if may_be_null else '')
+            if has_default(field):
+                # a default value may contain its own type, whose fields have it as their default value again
+                before = self.local()
+                to.append(f'{{\nconst int {before} = depth;\nif (!{type_name(node)}_has_{escaped(name_of(field))}(r) && depth > {DEFAULT_DEPTH}) depth = {DEFAULT_DEPTH};\n')
             self.show(of, self.got(node, field), to)
+            to.append(f'depth = {before};\n}}\n' if has_default(field) else '')
             to.append('}\n' if may_be_null else '')
 
     def variants(self, node, write, unknown, to):

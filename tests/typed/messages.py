@@ -215,6 +215,8 @@ class Compared:
 
     def __init__(self, schema):
         self.schema, self.fields = schema, 0
+        # how many default values this is in
+        self.defaults = 0
 
     def number(self, of, ours, theirs, where):
         what = kind(of)
@@ -252,6 +254,8 @@ class Compared:
                 self.value(of['list']['elementType'], one, other, f'{where}[{i}]')
 
     def struct(self, node, ours, theirs, where):
+        if ours == 'deep' and self.defaults:
+            return
         for field in node['fields']:
             name = name_of(field)
             there = f'{where}.{name}'
@@ -270,7 +274,9 @@ class Compared:
             return
         what = kind(field['slot']['type'])
         if has_default(field):
+            self.defaults += 1
             self.value(field['slot']['type'], ours, self.schema.default(name_of(field)), where)
+            self.defaults -= 1
         elif what in ('text', 'data'):
             if bytes(map(int, ours)) != unquoted(field['slot']['defaultValue'].get(what, '""')):
                 raise Difference(where, ours, 'the default value')

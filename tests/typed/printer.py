@@ -1,6 +1,6 @@
 """Writes a program that prints messages by generated readers: each field, in the notation of `capnp decode`, except that enums
 are numbers, and floats their bits, and that bytes are lists."""
-from schema import BITS, RUST, always, has_default, kind, members, name_of
+from schema import BITS, DEFAULT_DEPTH, RUST, always, has_default, kind, members, name_of
 
 HEAD = '''//! Prints each message of standard input, by generated readers.
 #![tactic(auto)]
@@ -107,6 +107,9 @@ class Printer:
             to.append(f'{pad}print_bytes(rt, r.get_{getter}(lim)?)?;\n')
         else:
             to.append(f'{pad}if {"true" if is_never_null else f"r.has_{getter}()"} {{\n')
+            if is_never_null:
+                # a default value may contain its own type, whose fields have it as their default value again
+                to.append(f'{pad}    let depth = if r.has_{getter}() {{ depth }} else {{ depth.min({DEFAULT_DEPTH}) }};\n')
             if what == 'struct':
                 to.append(f'{pad}    print_{self.schema.declared(of)["module"]}(rt, r.get_{getter}(lim)?, lim, depth - 1)?;\n')
             elif what == 'list':

@@ -15,8 +15,8 @@ The parts, by default all of them:
   no, something of the message is refused by another reader.
 - `random`: like `fields`, for N random schemas (by default 3) of S structs (by default 20). Each struct in turn is the root of a
   message.
-- `large`: the same for schemas of three kinds: with every feature of the language, of a trading system, and with 100 structs that
-  refer to one another, 500 fields, and groups 60 deep.
+- `large`: the same for schemas of four kinds: with every feature of the language, of a trading system, with default values that contain
+  their own types, which have no plain values, and with 100 structs that refer to one another, 500 fields, and groups 60 deep.
 - `versions`: the code of an old version of a random schema, without the last fields of its structs, and that of the new one
   print and check messages of each other.
 - `altered`: the program over the code for `fields.capnp` prints altered messages as `capnp decode` does, or refuses them, and
@@ -130,6 +130,7 @@ def cargo(words, folder, target, **variables):
 class Generated(run.Programs):
     """A program over the generated code of a schema, in a package of its own. If it is quiet, it doesn't print why it failed."""
     is_quiet = False
+    has_values = True
 
     def __init__(self, generator, folder, target, text, stem, roots=None):
         (folder / 'src').mkdir(parents=True)
@@ -159,7 +160,8 @@ class Generated(run.Programs):
             self.read(frames, '', counts)
             self.copy(frames, counts)
             self.check(frames, seed, counts)
-            self.values(frames, counts)
+            if self.has_values:
+                self.values(frames, counts)
 
     def values(self, frames, counts):
         """Whether what plain values are written as is read as what they were made from. Empty texts and lists become null."""
@@ -228,7 +230,10 @@ def random(options, room, counts):
 def large(options, room, counts):
     texts = {it.stem: it.read_text(encoding='utf-8') for it in sorted((HERE / 'large').glob('*.capnp'))}
     for stem, text in {**texts, 'mutual': messages.mutual()}.items():
-        Generated(options.generator, room / stem, room / 'target', text, stem).test(options.messages, 5, counts)
+        made = Generated(options.generator, room / stem, room / 'target', text, stem)
+        # a plain value of a struct whose default value contains its own type has no end
+        made.has_values = stem != 'within'
+        made.test(options.messages, 5, counts)
 
 
 def versions(options, room, counts):

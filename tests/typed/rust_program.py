@@ -6,7 +6,7 @@ Each function is written twice: for checked readers, whose getters return values
 `Result`."""
 import re
 
-from schema import BITS, NO_DISCRIMINANT, always, has_default, kind, members, name_of, take, unquoted
+from schema import BITS, DEFAULT_DEPTH, NO_DISCRIMINANT, always, has_default, kind, members, name_of, take, unquoted
 
 HEAD = '''//! Prints, copies or checks each message of standard input, by generated code.
 mod {file};
@@ -24,7 +24,13 @@ fn show_bytes(bytes: &[u8], out: &mut String) {{
 }}
 '''
 MAIN = '''
+// Plain values of deep messages take more of the stack than a main thread has, without optimization.
 fn main() {{
+    let thread = std::thread::Builder::new().stack_size(1 << 28);
+    thread.spawn(answer).unwrap().join().unwrap();
+}}
+
+fn answer() {{
     let mut bytes = Vec::new();
     std::io::stdin().read_to_end(&mut bytes).unwrap();
     let word = std::env::args().nth(1).unwrap();
@@ -208,8 +214,9 @@ class Code:
         what = kind(of)
         may_be_null = what in ('struct', 'list', 'anyPointer', 'interface') and not has_default(field)
         to.append(f'if !r.has_{snake(name_of(field))}() {{\nout.push_str("null");\n}} else {{\n' if may_be_null else '')
+        to.append(self.shallower(field))
         self.show(of, 'r' if what == 'void' else self.tried(f'r.{call}()', what in FOLLOWED), to)
-        to.append('}\n' if may_be_null else '')
+        to.append('}\n' if may_be_null or has_default(field) else '')
         to.append('out.push_str(", ");\n')
 
     def which(self, node):
@@ -233,7 +240,16 @@ class Code:
         if 'group' in field:
             to.append(self.group('show', field, 'v, out'))
         else:
+            to.append(self.shallower(field))
             self.show(field['slot']['type'], 'r' if kind(field['slot']['type']) == 'void' else 'v', to)
+            to.append('}\n' if has_default(field) else '')
+
+    def shallower(self, field):
+        """Opens a block in which only some levels of a default value are printed: it may contain its own type, whose
+        fields have it as their default value again. Empty if the field has none."""
+        if not has_default(field):
+            return ''
+        return f'{{\nlet depth = if r.has_{snake(name_of(field))}() {{ depth }} else {{ depth.min({DEFAULT_DEPTH}) }};\n'
 
     def shower(self, node):
         body = []

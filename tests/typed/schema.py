@@ -14,6 +14,8 @@ VARIANT_WORDS = {'Self', 'Type', 'Below'}
 ENUM_WORDS = VARIANT_WORDS | {'Number', 'NotInSchema'}
 TOKEN = re.compile(r'\s*("(?:[^"\\]|\\.)*"|0x"[^"]*"|[A-Za-z_][\w]*|<[^>]*>|-?[\w.+-]+|[()\[\]=,])')
 NO_DISCRIMINANT = '65535'
+# How many structs deep the programs print a default value.
+DEFAULT_DEPTH = 4
 
 
 def described():
