@@ -209,9 +209,8 @@ impl<'m> Schema<'m> {
             if self.skip_reason(field).is_empty() && !is_member(field) && !is_void(field) {
                 let mut values = self.field_values(node, field, node.scope);
                 let is_result = !values.get("fails").is_empty();
-                values.put_lines(has_of(field));
-                values.put_lines(if is_struct(field) {
-                    SHOW_STRUCT
+                values.put_lines(if may_be_endless(field) {
+                    show_endless(field)
                 } else if is_result {
                     SHOW_RESULT
                 } else {
@@ -226,12 +225,11 @@ impl<'m> Schema<'m> {
         piece.push(templates::DEBUG_END, &values);
     }
 
-    // Writes what `{:?}` shows of a union. A member that is a struct isn't followed if it is null, since what
-    // it is read as may have the same member, without end.
+    // Writes what `{:?}` shows of a union. A member that may be without end isn't followed if it is null.
     fn write_debug_of_union(&self, piece: &mut Piece, node: &Node, it: &Struct) {
         let mut is_first = true;
         for field in it.fields.iter() {
-            if self.skip_reason(field).is_empty() && is_member(field) && is_struct(field) {
+            if self.skip_reason(field).is_empty() && is_member(field) && may_be_endless(field) {
                 let mut values = self.field_values(node, field, node.scope);
                 values.put_number("tag", u64::from(it.tag_offset));
                 values.put_lines("show=&g::null(\"~variant~\")");
@@ -258,22 +256,39 @@ impl<'m> Schema<'m> {
     }
 }
 
-// The test whether a struct is followed when it is shown: whether it isn't null, or has a default value in a
-// reader of a message.
+// The test whether a field that may be without end is followed: whether it isn't null, or has a default value
+// in a reader of a message.
 fn has_of(field: &Field) -> Lines {
-    match &field.kind {
-        FieldKind::Slot(slot) if !matches!(slot.default, Default::Zero) => {
-            "has=g::has_or_default(&self.0, ~index~)"
-        }
-        _ => "has=self.0.has(~index~)",
+    if has_default(field) {
+        "has=g::has_or_default(&self.0, ~index~)"
+    } else {
+        "has=self.0.has(~index~)"
     }
 }
 
-/// Whether a field is a pointer to a struct.
-pub fn is_struct(field: &Field) -> bool {
+// How a field is shown that may be without end.
+fn show_endless(field: &Field) -> Lines {
+    if has_default(field) {
+        "show=&g::shown_or_default(&self.0, ~index~, self.~call~())"
+    } else {
+        "show=&g::shown_struct(self.0.has(~index~), self.~call~())"
+    }
+}
+
+/// Whether a field has a default value other than null or zero.
+pub fn has_default(field: &Field) -> bool {
     match &field.kind {
-        FieldKind::Slot(slot) => {
-            slot.of.lists == 0 && matches!(slot.of.base.kind, BaseKind::Struct)
+        FieldKind::Slot(slot) => !matches!(slot.default, Default::Zero),
+        _ => false,
+    }
+}
+
+/// Whether what a null pointer of this field is read as may have the same field, without end: whether it is a
+/// struct, or a list of structs with a default value.
+pub fn may_be_endless(field: &Field) -> bool {
+    match &field.kind {
+        FieldKind::Slot(slot) if matches!(slot.of.base.kind, BaseKind::Struct) => {
+            slot.of.lists == 0 || has_default(field)
         }
         _ => false,
     }
@@ -281,10 +296,6 @@ pub fn is_struct(field: &Field) -> bool {
 
 // How a field is shown.
 const SHOW: &str = "show=&self.~call~()";
-
-// How a field is shown that is a struct: one that is null isn't followed, since what it is read as may have
-// the same field, without end.
-const SHOW_STRUCT: &str = "show=&g::shown_struct(~has~, self.~call~())";
 
 // How a field is shown whose call may return a `Result`.
 const SHOW_RESULT: &str = "show=&g::shown(self.~call~())";

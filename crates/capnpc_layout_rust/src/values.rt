@@ -2,7 +2,7 @@
 //! a builder.
 
 use crate::piece::Piece;
-use crate::readers::{Schema, is_struct, is_void};
+use crate::readers::{Schema, has_default, is_void, may_be_endless};
 use crate::types::{element_value, is_bytes};
 use crate::unions::is_member;
 use crate::value_templates;
@@ -86,8 +86,12 @@ fn value_of(schema: &Schema<'_>, node: &Node, field: &Field) -> Values {
             let element = element_value(schema.alloc, schema.nodes, node.id, slot.of);
             values.put_text("evalue", element);
             values.put_lines(form_of(slot.of));
-            if is_struct(field) && !matches!(slot.default, Default::Zero) {
-                values.put_lines(STRUCT_OR_DEFAULT);
+            if may_be_endless(field) && has_default(field) {
+                values.put_lines(if slot.of.lists > 0 {
+                    LIST_OR_DEFAULT
+                } else {
+                    STRUCT_OR_DEFAULT
+                });
             }
         }
         _ => values.put_lines(GROUP),
@@ -137,8 +141,11 @@ own=g::boxed(it.0.has(~index~), it.~call~())
 mtype=~vtype~
 mown=g::boxed(it.0.has(~index~), member)";
 
-const STRUCT_OR_DEFAULT: Lines = "own=g::boxed(g::has_or_default(&it.0, ~index~), it.~call~())
-mown=g::boxed(g::has_or_default(&it.0, ~index~), member)";
+const STRUCT_OR_DEFAULT: Lines = "own=g::boxed_or_default(&it.0, ~index~, it.~call~())
+mown=g::boxed_or_default(&it.0, ~index~, member)";
+
+const LIST_OR_DEFAULT: Lines = "own=g::own_list_or_default(&it.0, ~index~, it.~call~())
+mown=g::own_list_or_default(&it.0, ~index~, member)";
 
 // How a field of a value is written. An empty text or list that has no default value is left out.
 fn put_of(field: &Field) -> &'static str {

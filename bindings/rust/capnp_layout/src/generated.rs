@@ -8,7 +8,9 @@ use crate::Outcome;
 use core::str;
 
 pub use crate::meter::sealed::Closed;
-pub use crate::values::{boxed, fill, no_struct, own_list, Owned};
+pub use crate::values::{
+    boxed, boxed_or_default, fill, no_struct, own_list, own_list_or_default, Owned,
+};
 pub use crate::{
     Element, ElementSize, Enum, Error, List, ListBuilder, Lists, Meter, Pointer, PointerBuilder,
     Pointers, Reason, Struct, StructBuilder, StructSize, StructType, Structs, Target, Typed,
@@ -143,6 +145,15 @@ pub fn shown_struct<T, O: Outcome<T>>(is_set: bool, read: O) -> ShownStruct<T> {
     ShownStruct(is_set.then(|| shown(read)))
 }
 
+/// What a getter of a field with a default value returned, to be shown as `null` unless it is followed.
+pub fn shown_or_default<M: Meter, T, O: Outcome<T>>(
+    fields: &Struct<'_, M>,
+    index: usize,
+    read: O,
+) -> ShownStruct<T> {
+    shown_struct(has_or_default(fields, index), read)
+}
+
 /// Whether the pointer isn't null, or is one of a message. In a default value, a null pointer may have the same default value:
 /// without end, if all of it were followed.
 pub fn has_or_default<M: Meter>(fields: &Struct<'_, M>, index: usize) -> bool {
@@ -166,7 +177,7 @@ impl<T: fmt::Debug> fmt::Debug for Shown<T> {
     }
 }
 
-/// A struct that is shown like `Shown`, or `null`.
+/// A struct or a list that is shown like `Shown`, or `null`.
 pub struct ShownStruct<T>(Option<Shown<T>>);
 
 impl<T: fmt::Debug> fmt::Debug for ShownStruct<T> {

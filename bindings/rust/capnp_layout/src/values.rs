@@ -1,6 +1,7 @@
 //! Plain values of structs and lists: what code generated with `--values` is made of.
 
 use crate::element::{Element, Lists};
+use crate::generated::has_or_default;
 use crate::list::List;
 use crate::list_building::ListBuilder;
 use crate::meter::Typed;
@@ -123,6 +124,28 @@ pub fn fill<T: Owned + ?Sized>(mut list: ListBuilder<'_, T>, values: &[T::Value]
 /// The value of a struct, unless its pointer is null.
 pub fn boxed<T, V: From<T>>(is_set: bool, reader: T) -> Option<Box<V>> {
     is_set.then(|| Box::new(reader.into()))
+}
+
+/// The value of a struct with a default value, unless its pointer is null in a default value.
+pub fn boxed_or_default<T, V: From<T>>(
+    fields: &Struct<'_, Typed>,
+    index: usize,
+    reader: T,
+) -> Option<Box<V>> {
+    boxed(has_or_default(fields, index), reader)
+}
+
+/// The values of a list with a default value; none if its pointer is null in a default value.
+pub fn own_list_or_default<T: Owned + ?Sized>(
+    fields: &Struct<'_, Typed>,
+    index: usize,
+    list: List<'_, T, Typed>,
+) -> Vec<T::Value> {
+    if has_or_default(fields, index) {
+        own_list(list)
+    } else {
+        Vec::new()
+    }
 }
 
 /// A reader of a struct without fields: each has its default value.
