@@ -16,8 +16,8 @@ The parts, by default all of them:
   find nothing.
 - `random`: like `fields`, for N random schemas (by default 3) of S structs (by default 20). Each struct in turn is the root of a
   message.
-- `large`: the same for schemas of four kinds: with every feature of the language, of a trading system, with default values that contain
-  their own types, and with 100 structs that refer to one another, 500 fields, and groups 60 deep.
+- `large`: the same for schemas of five kinds: with every feature of the language, of a trading system, of a hospital, with default
+  values that contain their own types, and with 100 structs that refer to one another, 500 fields, and groups 60 deep.
 - `versions`: the code of an old version of a random schema, without the last fields of its structs, and that of the new one
   print messages of each other.
 - `altered`: the program over the code for `fields.capnp` prints altered messages as `capnp decode` does, or refuses them, and

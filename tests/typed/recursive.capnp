@@ -28,3 +28,8 @@ struct Ring {
     end @2 :Void;
   }
 }
+
+struct Nest {
+  number @0 :Int32;
+  kids @1 :List(Nest) = [(number = 5)];
+}

@@ -15,8 +15,9 @@ The parts, by default all of them:
   no, something of the message is refused by another reader.
 - `random`: like `fields`, for N random schemas (by default 3) of S structs (by default 20). Each struct in turn is the root of a
   message.
-- `large`: the same for schemas of four kinds: with every feature of the language, of a trading system, with default values that contain
-  their own types, which have no plain values, and with 100 structs that refer to one another, 500 fields, and groups 60 deep.
+- `large`: the same for schemas of five kinds: with every feature of the language, of a trading system, of a hospital, with default
+  values that contain their own types, whose plain values aren't compared, and with 100 structs that refer to one another, 500
+  fields, and groups 60 deep.
 - `versions`: the code of an old version of a random schema, without the last fields of its structs, and that of the new one
   print and check messages of each other.
 - `altered`: the program over the code for `fields.capnp` prints altered messages as `capnp decode` does, or refuses them, and
@@ -231,7 +232,7 @@ def large(options, room, counts):
     texts = {it.stem: it.read_text(encoding='utf-8') for it in sorted((HERE / 'large').glob('*.capnp'))}
     for stem, text in {**texts, 'mutual': messages.mutual()}.items():
         made = Generated(options.generator, room / stem, room / 'target', text, stem)
-        # a plain value of a struct whose default value contains its own type has no end
+        # a plain value follows default values once, and the printer a few times
         made.has_values = stem != 'within'
         made.test(options.messages, 5, counts)
 

@@ -24,13 +24,7 @@ fn show_bytes(bytes: &[u8], out: &mut String) {{
 }}
 '''
 MAIN = '''
-// Plain values of deep messages take more of the stack than a main thread has, without optimization.
 fn main() {{
-    let thread = std::thread::Builder::new().stack_size(1 << 28);
-    thread.spawn(answer).unwrap().join().unwrap();
-}}
-
-fn answer() {{
     let mut bytes = Vec::new();
     std::io::stdin().read_to_end(&mut bytes).unwrap();
     let word = std::env::args().nth(1).unwrap();

@@ -3,7 +3,8 @@
 use capnp_layout::{Builder, Error, Limits, Message};
 use std::fmt::Debug;
 use typed_rust::recursive_capnp as lazy;
-use typed_rust::values::recursive_capnp::{chain, ring, term, tree, Chain, Ring, Term, Tree};
+use typed_rust::values::recursive_capnp::{chain, nest, ring, term, tree};
+use typed_rust::values::recursive_capnp::{Chain, Nest, Ring, Term, Tree};
 
 /// Calls `read` with a message of a root without sections: each of its fields is read as its default value.
 fn with_empty_root<T>(read: impl Fn(&Message<'_>) -> Result<T, Error>) -> Result<T, Error> {
@@ -30,6 +31,10 @@ fn null_structs_are_shown_as_null() -> Result<(), Error> {
         assert_eq!(
             shown(message.root::<Ring>()?),
             "Ring { number: 0, which: Again(Ring { number: 9, which: Again(null) }) }"
+        );
+        assert_eq!(
+            shown(message.root::<Nest>()?),
+            "Nest { number: 0, kids: [Nest { number: 5, kids: null }] }"
         );
         let ring = lazy::Ring::from(message.lazy()?);
         assert_eq!(
@@ -88,6 +93,11 @@ fn null_structs_have_no_value_or_their_default_value() -> Result<(), Error> {
         };
         let chain = chain::Value::from(message.root::<Chain>()?);
         assert_eq!(chain.next, Some(Box::new(last)));
+        let last = nest::Value {
+            number: 5,
+            kids: vec![],
+        };
+        assert_eq!(nest::Value::from(message.root::<Nest>()?).kids, [last]);
         let last = ring::Value {
             number: 9,
             which: ring::WhichValue::Again(None),
