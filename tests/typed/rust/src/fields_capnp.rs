@@ -906,12 +906,9 @@ impl<M: g::Meter> g::fmt::Debug for Root<'_, M> {
         shown.field("result", &self.result());
         shown.field("data", &self.data());
         shown.field("record", &self.record());
-        shown.field(
-            "filled",
-            &g::shown_struct(g::has_or_default(&self.0, 20), self.filled()),
-        );
+        shown.field("filled", &g::shown_or_default(&self.0, 20, self.filled()));
         shown.field("counted", &g::shown(self.counted()));
-        shown.field("listed", &g::shown(self.listed()));
+        shown.field("listed", &g::shown_or_default(&self.0, 22, self.listed()));
         shown.field("named", &g::shown(self.named()));
         shown.field("shape", &self.shape());
         shown.field("tiny", &self.tiny());

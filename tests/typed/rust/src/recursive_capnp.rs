@@ -4,16 +4,17 @@ use capnp_layout::generated as g;
 
 // What the pointers of each struct may lead to: the table that `Message::root` checks a message against.
 const TABLE: &[u32] = &[
-    0, 1, 21, 1, 87, 2, 0, 53, 0, 2, 199, 327, 0, 0, 149, 263, 0, 1, 149, 0, 0, 1, 149, 0, 3, 389,
-    399, 389,
+    0, 1, 21, 1, 63, 1, 119, 2, 0, 85, 0, 2, 231, 359, 0, 0, 181, 295, 0, 1, 181, 0, 0, 1, 181, 0,
+    3, 421, 431, 421,
 ];
 
 // The name of each row of `TABLE` and of its pointers, by the position of the row.
 const NAMES: &str = "\
 1 Chain next
-3 Ring again
-9 Term not or both.first,both.second
-24 Tree left,children,knot.inner
+3 Nest kids
+5 Ring again
+11 Term not or both.first,both.second
+26 Tree left,children,knot.inner
 ";
 
 /// `Tree`
@@ -79,9 +80,10 @@ impl g::Element for Tree<'_> {
 
 impl g::StructType for Tree<'_> {
     type Builder<'b> = tree::Builder<'b>;
+    const TYPE_ID: u64 = 0xc12bde084f310be4;
     const TABLE: &'static [u32] = TABLE;
     const NAMES: &'static str = NAMES;
-    const ROW: u32 = 24;
+    const ROW: u32 = 26;
 
     fn of<'a, M: g::Meter>(fields: g::Struct<'a, M>) -> Self::Item<'a, M> {
         fields.into()
@@ -309,9 +311,10 @@ impl g::Element for Term<'_> {
 
 impl g::StructType for Term<'_> {
     type Builder<'b> = term::Builder<'b>;
+    const TYPE_ID: u64 = 0xda348994e1b320d9;
     const TABLE: &'static [u32] = TABLE;
     const NAMES: &'static str = NAMES;
-    const ROW: u32 = 9;
+    const ROW: u32 = 11;
 
     fn of<'a, M: g::Meter>(fields: g::Struct<'a, M>) -> Self::Item<'a, M> {
         fields.into()
@@ -572,6 +575,7 @@ impl g::Element for Chain<'_> {
 
 impl g::StructType for Chain<'_> {
     type Builder<'b> = chain::Builder<'b>;
+    const TYPE_ID: u64 = 0xec3bcfdc2a04644e;
     const TABLE: &'static [u32] = TABLE;
     const NAMES: &'static str = NAMES;
     const ROW: u32 = 1;
@@ -592,10 +596,7 @@ impl<M: g::Meter> g::fmt::Debug for Chain<'_, M> {
     fn fmt(&self, f: &mut g::fmt::Formatter<'_>) -> g::fmt::Result {
         let mut shown = f.debug_struct("Chain");
         shown.field("number", &self.number());
-        shown.field(
-            "next",
-            &g::shown_struct(g::has_or_default(&self.0, 0), self.next()),
-        );
+        shown.field("next", &g::shown_or_default(&self.0, 0, self.next()));
         shown.finish()
     }
 }
@@ -710,9 +711,10 @@ impl g::Element for Ring<'_> {
 
 impl g::StructType for Ring<'_> {
     type Builder<'b> = ring::Builder<'b>;
+    const TYPE_ID: u64 = 0xbb133f423e77d042;
     const TABLE: &'static [u32] = TABLE;
     const NAMES: &'static str = NAMES;
-    const ROW: u32 = 3;
+    const ROW: u32 = 5;
 
     fn of<'a, M: g::Meter>(fields: g::Struct<'a, M>) -> Self::Item<'a, M> {
         fields.into()
@@ -805,5 +807,135 @@ pub mod ring {
         End,
         /// A member that the schema doesn't have, by its number.
         Unknown(u16),
+    }
+}
+
+/// `Nest`
+#[allow(dead_code, clippy::style)]
+#[derive(Clone, Copy)]
+pub struct Nest<'a, M = g::Typed>(g::Struct<'a, M>);
+
+#[allow(dead_code, clippy::style)]
+impl<'a, M: g::Meter> Nest<'a, M> {
+    /// `number @0 :Int32`
+    pub fn number(&self) -> i32 {
+        self.0.get(0)
+    }
+
+    /// `kids @1 :List(Nest)`
+    pub fn kids(&self) -> M::Out<g::List<'a, Nest<'a>, M>> {
+        const DEFAULT: &[u8] = &[
+            1, 0, 0, 0, 15, 0, 0, 0, 4, 0, 0, 0, 1, 0, 0, 0, 5, 0, 0, 0, 0, 0, 0, 0,
+        ];
+        M::give(g::list_or(self.0.get_pointer(0), DEFAULT))
+    }
+
+    /// Whether `kids` isn't null.
+    pub fn has_kids(&self) -> bool {
+        self.0.has(0)
+    }
+}
+
+impl<'a, M> From<g::Struct<'a, M>> for Nest<'a, M> {
+    fn from(fields: g::Struct<'a, M>) -> Self {
+        Nest(fields)
+    }
+}
+
+impl<'a, M: g::Meter> From<Nest<'a, M>> for g::Struct<'a, M::Plain> {
+    fn from(reader: Nest<'a, M>) -> Self {
+        g::plain(reader.0)
+    }
+}
+
+impl g::Closed for Nest<'_> {}
+
+impl g::Element for Nest<'_> {
+    const SIZE: g::ElementSize = g::ElementSize::InlineComposite;
+    type Item<'a, M: g::Meter> = Nest<'a, M>;
+
+    fn read<'a, M: g::Meter>(list: &g::RawList<'a>, meter: M, index: u32) -> Self::Item<'a, M> {
+        g::struct_at(list, meter, index).into()
+    }
+}
+
+impl g::StructType for Nest<'_> {
+    type Builder<'b> = nest::Builder<'b>;
+    const TYPE_ID: u64 = 0xf2f270874de473ac;
+    const TABLE: &'static [u32] = TABLE;
+    const NAMES: &'static str = NAMES;
+    const ROW: u32 = 3;
+
+    fn of<'a, M: g::Meter>(fields: g::Struct<'a, M>) -> Self::Item<'a, M> {
+        fields.into()
+    }
+}
+
+/// Equal values: equal canonical words.
+impl<M: g::Meter> PartialEq for Nest<'_, M> {
+    fn eq(&self, other: &Self) -> bool {
+        self.0 == other.0
+    }
+}
+
+impl<M: g::Meter> g::fmt::Debug for Nest<'_, M> {
+    fn fmt(&self, f: &mut g::fmt::Formatter<'_>) -> g::fmt::Result {
+        let mut shown = f.debug_struct("Nest");
+        shown.field("number", &self.number());
+        shown.field("kids", &g::shown_or_default(&self.0, 0, self.kids()));
+        shown.finish()
+    }
+}
+
+/// In the scope of `Nest`.
+#[allow(dead_code, clippy::style)]
+pub mod nest {
+    use super::g;
+
+    /// The sections of a struct `Nest`.
+    pub const SIZE: g::StructSize = g::StructSize {
+        data_words: 1,
+        pointers: 1,
+    };
+
+    /// `Nest` while a message is built.
+    pub struct Builder<'b>(g::StructBuilder<'b>);
+
+    impl Builder<'_> {
+        /// `number @0 :Int32`
+        pub fn set_number(&mut self, value: i32) -> &mut Self {
+            self.0.set(0, value);
+            self
+        }
+
+        /// `kids @1 :List(Nest)`
+        pub fn set_kids<M: g::Meter>(
+            &mut self,
+            value: g::List<'_, super::Nest<'_>, M>,
+        ) -> &mut Self {
+            self.0.set_list(0, value);
+            self
+        }
+
+        /// Sets `kids` to a new list of `count` structs.
+        pub fn init_kids(&mut self, count: usize) -> g::ListBuilder<'_, super::Nest<'_>> {
+            self.0.init_structs_of(0, count)
+        }
+    }
+
+    impl<'b> From<g::StructBuilder<'b>> for Builder<'b> {
+        fn from(fields: g::StructBuilder<'b>) -> Self {
+            Builder(fields)
+        }
+    }
+
+    impl<'b> From<Builder<'b>> for g::StructBuilder<'b> {
+        fn from(builder: Builder<'b>) -> Self {
+            builder.0
+        }
+    }
+
+    impl<'b> g::TypedBuilder<'b> for Builder<'b> {
+        const SIZE: g::StructSize = SIZE;
     }
 }

@@ -1009,12 +1009,9 @@ impl<M: g::Meter> g::fmt::Debug for Root<'_, M> {
         shown.field("result", &self.result());
         shown.field("data", &self.data());
         shown.field("record", &self.record());
-        shown.field(
-            "filled",
-            &g::shown_struct(g::has_or_default(&self.0, 20), self.filled()),
-        );
+        shown.field("filled", &g::shown_or_default(&self.0, 20, self.filled()));
         shown.field("counted", &g::shown(self.counted()));
-        shown.field("listed", &g::shown(self.listed()));
+        shown.field("listed", &g::shown_or_default(&self.0, 22, self.listed()));
         shown.field("named", &g::shown(self.named()));
         shown.field("shape", &self.shape());
         shown.field("tiny", &self.tiny());
@@ -1764,9 +1761,9 @@ pub mod root {
                 result: it.result(),
                 data: it.data(),
                 record: it.record(),
-                filled: g::boxed(g::has_or_default(&it.0, 20), it.filled()),
+                filled: g::boxed_or_default(&it.0, 20, it.filled()),
                 counted: g::own_list(it.counted()),
-                listed: g::own_list(it.listed()),
+                listed: g::own_list_or_default(&it.0, 22, it.listed()),
                 named: g::own_list(it.named()),
                 shape: it.shape().into(),
                 tiny: it.tiny(),
