@@ -20,32 +20,32 @@ static NEVER void capnp_copies_copy_children_copy_children_out_of_line_c_661015d
 static struct s_i16_i16 capnp_copies_widths_least_widths(u8 *a_1, u32 a_2, u32 a_3, u16 a_4, u16 a_5);
 static NEVER void capnp_arena_arena_builder_arena_impl_deallocate_others_a8dc9355(u8 *a_1);
 static NEVER void core_slice_edits_mirror_88712faee6672b50(u8 *a_1, u8 *a_2, u64 a_3);
-static NEVER COLD void capnp_framing_framing_reading_grow_3691078bae5dd839(u8 *a_1, u8 *a_2, u8 *a_3);
+static NEVER COLD void capnp_framing_framing_reading_grow_0383920df4a99c71(u8 *a_1, u8 *a_2, u8 *a_3);
 static struct s_i8_i32 capnp_objects_pointers_canonical_test_children_5ccc1be374b2e488(u8 *a_1, u32 a_2, u32 a_3, u32 a_4, u32 a_5, u8 *a_6);
 static NEVER struct s_i8_i32 capnp_objects_pointers_canonical_test_list_5ccc1be374b2e488(u8 *a_1, u32 a_2, u64 a_3, u32 a_4, u32 a_5, u8 *a_6);
 static struct s_i8_i32 capnp_objects_pointers_canonical_test_elements_5ccc1be374b2e488(u8 *a_1, u32 a_2, u16 a_3, u16 a_4, u32 a_5, u32 a_6, u8 *a_7);
-static void capnp_messages_messages_canonical_copy_canonicalize_to_6a763972(u8 *a_1, u8 *a_2, u8 *a_3, u8 *a_4, u32 a_5);
+static void capnp_messages_messages_canonical_copy_canonicalize_to_83269e83(u8 *a_1, u8 *a_2, u8 *a_3, u8 *a_4, u32 a_5);
 static NEVER COLD u8 std_alloc_vec_Vec_grow_amortized_044c3d3b74b9c55e(u8 *a_1, u64 a_2);
 static NEVER COLD void capnp_messages_messages_copy_memory_CopySegment_zero_up_to(u8 *a_1, u64 a_2);
 static NEVER COLD struct s_i8_i32 capnp_arena_arena_rows_allocate_in_4426f83c3c99ca57(u8 *a_1, u64 a_2, u32 a_3);
 static NEVER COLD u32 capnp_arena_arena_rows_allocate_fitting_in_4426f83c3c99ca57(u8 *a_1, u64 a_2, u32 a_3);
-static NEVER void capnp_copies_copy_copy_object_f91b20a4a575fbcb(u8 *a_1, u8 *a_2, u32 a_3, u32 a_4, u8 *a_5, u8 *a_6, u8 a_7);
-static void capnp_arena_arena_builder_arena_impl_BuilderArenaImplB_24b0f4d4(u8 *a_1, u32 a_2, u32 a_3, u64 a_4);
+static NEVER void capnp_copies_copy_copy_object_3e10f8fb4aa9caee(u8 *a_1, u8 *a_2, u32 a_3, u32 a_4, u8 *a_5, u8 *a_6, u8 a_7);
+static void capnp_arena_arena_builder_arena_impl_BuilderArenaImplB_8bddd8ee(u8 *a_1, u32 a_2, u32 a_3, u64 a_4);
 static NEVER COLD void capnp_arena_arena_rows_put_word_in_4426f83c3c99ca57(u8 *a_1, u64 a_2, u32 a_3, u64 a_4);
-static struct s_i8_i32 capnp_arena_arena_builder_arena_impl_BuilderArenaImplB_87b91857(u8 *a_1, u32 a_2, u32 a_3);
-static void capnp_arena_arena_builder_arena_impl_BuilderArenaImplB_7b1ceaa0(u8 *a_1, u8 *a_2, u32 a_3);
+static struct s_i8_i32 capnp_arena_arena_builder_arena_impl_BuilderArenaImplB_3ae0d042(u8 *a_1, u32 a_2, u32 a_3);
+static void capnp_arena_arena_builder_arena_impl_BuilderArenaImplB_8452dd78(u8 *a_1, u8 *a_2, u32 a_3);
 static NEVER struct s_i8_i32 capnp_arena_arena_bounds_first_fit_by_bounds_4426f83c3c99ca57(u8 *a_1, u64 a_2, u32 a_3);
-static void capnp_arena_traits_arena_writing_copy_words_4072c0e2a627e5d6(u8 *a_1, u32 a_2, u32 a_3, u8 *a_4, u64 a_5);
+static void capnp_arena_traits_arena_writing_copy_words_257eebf23d8227b7(u8 *a_1, u32 a_2, u32 a_3, u8 *a_4, u64 a_5);
 static NEVER COLD u8 *capnp_arena_arena_rows_Rows_other_mut_4426f83c3c99ca57(u8 *a_1, u32 a_2);
-static void capnp_copies_copy_elements_put_words_4072c0e2a627e5d6(u8 *a_1, u32 a_2, u32 a_3, u8 *a_4, u64 a_5);
+static void capnp_copies_copy_elements_put_words_257eebf23d8227b7(u8 *a_1, u32 a_2, u32 a_3, u8 *a_4, u64 a_5);
 static NEVER COLD u64 capnp_arena_arena_rows_word_in_4426f83c3c99ca57(u8 *a_1, u64 a_2, u32 a_3);
-static NEVER COLD void capnp_making_landing_follow_4072c0e2a627e5d6(u8 *a_1, u8 *a_2, u32 a_3, u32 a_4);
-static NEVER COLD void capnp_making_landing_follow_far_4072c0e2a627e5d6(u8 *a_1, u8 *a_2, u64 a_3);
-static NEVER COLD void capnp_making_zeroing_zero_target_4072c0e2a627e5d6(u8 *a_1, u8 *a_2);
-static void capnp_making_zeroing_zero_pointers_4072c0e2a627e5d6(u8 *a_1, u32 a_2, u32 a_3, u32 a_4);
-static void capnp_making_zeroing_zero_if_inside_4072c0e2a627e5d6(u8 *a_1, u32 a_2, u32 a_3, u64 a_4);
-static NEVER COLD void capnp_making_zeroing_zero_far_pads_4072c0e2a627e5d6(u8 *a_1, u64 a_2);
-static NEVER void capnp_copies_copy_children_copy_children_out_of_line_f_b6070b37(u8 *a_1, u8 *a_2, u32 a_3, u32 a_4, u8 *a_5, u32 a_6, u8 *a_7, u8 a_8);
+static NEVER COLD void capnp_making_landing_follow_257eebf23d8227b7(u8 *a_1, u8 *a_2, u32 a_3, u32 a_4);
+static NEVER COLD void capnp_making_landing_follow_far_257eebf23d8227b7(u8 *a_1, u8 *a_2, u64 a_3);
+static NEVER COLD void capnp_making_zeroing_zero_target_257eebf23d8227b7(u8 *a_1, u8 *a_2);
+static void capnp_making_zeroing_zero_pointers_257eebf23d8227b7(u8 *a_1, u32 a_2, u32 a_3, u32 a_4);
+static void capnp_making_zeroing_zero_if_inside_257eebf23d8227b7(u8 *a_1, u32 a_2, u32 a_3, u64 a_4);
+static NEVER COLD void capnp_making_zeroing_zero_far_pads_257eebf23d8227b7(u8 *a_1, u64 a_2);
+static NEVER void capnp_copies_copy_children_copy_children_out_of_line_3_45de2596(u8 *a_1, u8 *a_2, u32 a_3, u32 a_4, u8 *a_5, u32 a_6, u8 *a_7, u8 a_8);
 static void capnp_messages_messages_copy_size_add_value_5ccc1be374b2e488(u8 *a_1, u8 *a_2, u32 a_3, u32 a_4, u32 a_5, u8 *a_6);
 static void capnp_messages_messages_copy_size_add_elements_5ccc1be374b2e488(u8 *a_1, u8 *a_2, u16 a_3, u16 a_4, u32 a_5, u32 a_6, u8 *a_7);
 static u32 capnp_messages_messages_copy_size_struct_words(u8 *a_1, u16 a_2, u16 a_3);
@@ -81,7 +81,7 @@ static void capnp_refusals_refusals_search_search_object_5ccc1be374b2e488(u8 *a_
 static void capnp_refusals_refusals_search_search_elements_5ccc1be374b2e488(u8 *a_1, u8 a_2, u8 a_3, u8 *a_4, u32 a_5, u32 a_6, u32 a_7, u8 *a_8);
 static NEVER void capnp_refusals_refusals_search_search_pointers_5ccc1be374b2e488(u8 *a_1, u8 a_2, u8 a_3, u8 *a_4, u32 a_5, u32 a_6, u32 a_7, u8 *a_8);
 static void capnp_packing_packing_place_within_word(u8 *a_1, u8 a_2, u8 a_3);
-static void capnp_framing_framing_segment_set_single_segment_36910_9043e87d(u8 *a_1, u8 *a_2, u32 a_3, u8 *a_4, u8 *a_5);
+static void capnp_framing_framing_segment_set_single_segment_03839_bd100d79(u8 *a_1, u8 *a_2, u32 a_3, u8 *a_4, u8 *a_5);
 static NEVER COLD u8 std_alloc_vec_Vec_grow_amortized_f2d74098f88769d0(u8 *a_1, u64 a_2);
 
 /* std_alloc::vec::Vec::grow_amortized::<#f0820c3131a574aa> */
@@ -1556,39 +1556,39 @@ u8 capnp_words_error_ErrorKindDisplay_fmt_e28d62ad0fc89b16(u8 *a_1, u8 *a_2)
     switch (r_pe) {
     case 12u: goto l_arm_pt;
     case 27u: goto l_arm_79;
-    case 0u: goto l_switch_ht;
-    case 1u: goto l_switch_ht;
-    case 2u: goto l_switch_ht;
-    case 3u: goto l_switch_ht;
-    case 4u: goto l_switch_ht;
-    case 5u: goto l_switch_ht;
-    case 6u: goto l_switch_ht;
-    case 7u: goto l_switch_ht;
-    case 8u: goto l_switch_ht;
-    case 9u: goto l_switch_ht;
-    case 10u: goto l_switch_ht;
-    case 11u: goto l_switch_ht;
-    case 13u: goto l_switch_ht;
-    case 14u: goto l_switch_ht;
-    case 15u: goto l_switch_ht;
-    case 16u: goto l_switch_ht;
-    case 17u: goto l_switch_ht;
-    case 18u: goto l_switch_ht;
-    case 19u: goto l_switch_ht;
-    case 20u: goto l_switch_ht;
-    case 21u: goto l_switch_ht;
-    case 22u: goto l_switch_ht;
-    case 23u: goto l_switch_ht;
-    case 24u: goto l_switch_ht;
-    case 25u: goto l_switch_ht;
-    case 26u: goto l_switch_ht;
-    case 28u: goto l_switch_ht;
-    case 29u: goto l_switch_ht;
-    case 30u: goto l_switch_ht;
-    case 31u: goto l_switch_ht;
-    case 32u: goto l_switch_ht;
-    case 33u: goto l_switch_ht;
-    case 34u: goto l_switch_ht;
+    case 0u: goto l_switch_1y;
+    case 1u: goto l_switch_1y;
+    case 2u: goto l_switch_1y;
+    case 3u: goto l_switch_1y;
+    case 4u: goto l_switch_1y;
+    case 5u: goto l_switch_1y;
+    case 6u: goto l_switch_1y;
+    case 7u: goto l_switch_1y;
+    case 8u: goto l_switch_1y;
+    case 9u: goto l_switch_1y;
+    case 10u: goto l_switch_1y;
+    case 11u: goto l_switch_1y;
+    case 13u: goto l_switch_1y;
+    case 14u: goto l_switch_1y;
+    case 15u: goto l_switch_1y;
+    case 16u: goto l_switch_1y;
+    case 17u: goto l_switch_1y;
+    case 18u: goto l_switch_1y;
+    case 19u: goto l_switch_1y;
+    case 20u: goto l_switch_1y;
+    case 21u: goto l_switch_1y;
+    case 22u: goto l_switch_1y;
+    case 23u: goto l_switch_1y;
+    case 24u: goto l_switch_1y;
+    case 25u: goto l_switch_1y;
+    case 26u: goto l_switch_1y;
+    case 28u: goto l_switch_1y;
+    case 29u: goto l_switch_1y;
+    case 30u: goto l_switch_1y;
+    case 31u: goto l_switch_1y;
+    case 32u: goto l_switch_1y;
+    case 33u: goto l_switch_1y;
+    case 34u: goto l_switch_1y;
     default: goto l_noarm_e1;
     }
 l_arm_pt:;
@@ -1693,9 +1693,9 @@ l_core_8e_1:;
     mv24(r_7u_1, slot_1);
     r_fk = r_l0_1;
     goto l_join_ri;
-l_switch_ht:;
-    switch_xq = ld64((((u8 *)switch_table_capnp_canon_inputs_report_refusal_44) + (i64)(8 * (u64)r_pe)));
-    switch_mb = ldp((((u8 *)switch_table_capnp_canon_inputs_report_refusal_43) + (i64)(8 * (u64)r_pe)));
+l_switch_1y:;
+    switch_xq = ld64((((u8 *)switch_table_capnp_canon_inputs_report_refusal_52) + (i64)(8 * (u64)r_pe)));
+    switch_mb = ldp((((u8 *)switch_table_capnp_canon_inputs_report_refusal_51) + (i64)(8 * (u64)r_pe)));
     r_7u_2 = away(a_2, 136ull);
     mv24(slot_1, r_7u_2);
     st32(r_7u_2, 32u);
@@ -2094,7 +2094,7 @@ l_join_yb:;
 l_arm_ui:;
     r_ep = (u64)(r_qw >> 32ull);
     if (!((u8)((u8)((u8)r_ep & 7u) + 255u) < 5u)) goto l_after_1j;
-    r_c6 = (u64)(((ld64(away(away(((u8 *)switch_table_typed_conforming_conforms_check_object_5c_a4adb150), 8 * (r_ep & 7ull)), 0xfffffffffffffff8ull)) * (u64)(r_qw >> 35ull)) + 63ull) >> 6ull);
+    r_c6 = (u64)(((ld64(away(away(((u8 *)switch_table_typed_conforming_conforms_check_object_5c_426a4812), 8 * (r_ep & 7ull)), 0xfffffffffffffff8ull)) * (u64)(r_qw >> 35ull)) + 63ull) >> 6ull);
     if (r_n1) { r_dq_1 = 25u; goto l_arm_h4_1; }
     if (!t_0c) goto l_join_bd_1;
     st64(r_t9, uadd_sat64(ld64(r_t9), 1ull));
@@ -2304,11 +2304,11 @@ l_arm_z2:;
     case 7u: goto l_join_vn;
     case 6u: goto l_join_10;
     case 0u: goto l_arm_ps;
-    case 1u: goto l_arm_f9;
-    case 2u: goto l_arm_f9;
-    case 3u: goto l_arm_f9;
-    case 4u: goto l_arm_f9;
-    case 5u: goto l_arm_f9;
+    case 1u: goto l_arm_45;
+    case 2u: goto l_arm_45;
+    case 3u: goto l_arm_45;
+    case 4u: goto l_arm_45;
+    case 5u: goto l_arm_45;
     default: goto l_default_e1;
     }
 l_join_vn:;
@@ -2387,9 +2387,9 @@ l_arm_ps:;
     r_7j = 0u;
     r_p8 = (u32)r_ij;
     goto l_capnp_6f;
-l_arm_f9:;
+l_arm_45:;
     r_12_1 = (u32)r_ij;
-    r_c6 = (u64)(((ld64(away(away(((u8 *)switch_table_typed_conforming_conforms_check_object_5c_a4adb150), 8 * (r_ep_1 & 7ull)), 0xfffffffffffffff8ull)) * r_ij) + 63ull) >> 6ull);
+    r_c6 = (u64)(((ld64(away(away(((u8 *)switch_table_typed_conforming_conforms_check_object_5c_426a4812), 8 * (r_ep_1 & 7ull)), 0xfffffffffffffff8ull)) * r_ij) + 63ull) >> 6ull);
     if (((u64)(r_nl >> 3ull) & 0xffffffffull) < (r_c6 + (u64)r_qj)) { r_6f = 0ull; r_3l = 0ull; r_rk = 0u; r_7q = 0u; r_yr = 0ull; r_c1 = 1ull; r_g3 = 23u; r_vx = 0u; r_7j = 0u; r_p8 = 0u; goto l_capnp_6f; }
     if (!t_0c) goto l_arm_zg;
     if (!(ld8(a_5) == 1u)) goto l_arm_zg;
@@ -2578,7 +2578,7 @@ l_arm_up:;
 l_arm_ui:;
     r_ep = (u64)(r_qw >> 32ull);
     if (!((u8)((u8)((u8)r_ep & 7u) + 255u) < 5u)) goto l_after_wq;
-    r_c6 = (u64)(((ld64(away(away(((u8 *)switch_table_typed_conforming_conforms_check_object_5c_a4adb150), 8 * (r_ep & 7ull)), 0xfffffffffffffff8ull)) * (u64)(r_qw >> 35ull)) + 63ull) >> 6ull);
+    r_c6 = (u64)(((ld64(away(away(((u8 *)switch_table_typed_conforming_conforms_check_object_5c_426a4812), 8 * (r_ep & 7ull)), 0xfffffffffffffff8ull)) * (u64)(r_qw >> 35ull)) + 63ull) >> 6ull);
     if (r_30) { sink_qh = 25u; sink_dw = 0ull; goto l_capnp_y7; }
     t_0c = (ld8(a_1) == 0u);
     if (!t_0c) goto l_join_bd_1;
@@ -3401,14 +3401,14 @@ NEVER void capnp_copies_copy_copy_object_c1b701a44f41e856(u8 *a_1, u8 *a_2, u32 
     u32 r_12_3;
     u8 *r_3q_3;
     u32 r_yf_6;
-    u32 r_12_4;
-    u32 r_gw_3;
+    u32 r_iy;
+    u32 r_jm;
     u64 r_4i_1;
     u64 r_y6_2;
     u64 r_q7_1;
     u64 r_lc_6;
     u64 r_lc_7;
-    u64 r_jm;
+    u64 r_jm_1;
     u32 r_4r;
     u8 r_8u;
     u64 r_52_7;
@@ -3465,7 +3465,7 @@ NEVER void capnp_copies_copy_copy_object_c1b701a44f41e856(u8 *a_1, u8 *a_2, u32 
     u64 r_la_2;
     u64 r_bh_3;
     u8 r_hi_1;
-    u64 r_gw_4;
+    u64 r_gw_3;
     u8 *r_x5_6;
     u8 *r_zd_6;
     u8 *r_lk_2;
@@ -3525,11 +3525,11 @@ NEVER void capnp_copies_copy_copy_object_c1b701a44f41e856(u8 *a_1, u8 *a_2, u32 
     u64 r_52_8;
     u64 r_z6_10;
     u8 *r_8a_1;
-    u32 r_12_5;
+    u32 r_12_4;
     u8 *r_3q_6;
     u32 r_yf_12;
-    u32 r_12_6;
-    u32 r_gw_5;
+    u32 r_iy_1;
+    u32 r_jm_2;
     u64 r_1q_3;
     u8 *r_2b_11;
     u64 r_il_3;
@@ -3538,7 +3538,7 @@ NEVER void capnp_copies_copy_copy_object_c1b701a44f41e856(u8 *a_1, u8 *a_2, u32 
     u64 r_q7_2;
     u64 r_lc_10;
     u64 r_lc_11;
-    u64 r_jm_1;
+    u64 r_jm_3;
     u32 r_4r_1;
     u8 r_8u_1;
     u64 r_52_9;
@@ -4190,7 +4190,7 @@ l_join_1e:;
     r_ep_2 = (u64)(r_qw_5 >> 32ull);
     if (!((switch_f9 == 1ull) ? ((u8)((u8)((u8)r_ep_2 & 7u) + 255u) < 5u) : 0u)) goto l_join_br;
     r_ij_1 = (u64)(r_qw_5 >> 35ull);
-    r_c6_5 = (u64)(((ld64(away(away(((u8 *)switch_table_typed_conforming_conforms_check_object_5c_a4adb150), 8 * (r_ep_2 & 7ull)), 0xfffffffffffffff8ull)) * r_ij_1) + 63ull) >> 6ull);
+    r_c6_5 = (u64)(((ld64(away(away(((u8 *)switch_table_typed_conforming_conforms_check_object_5c_426a4812), 8 * (r_ep_2 & 7ull)), 0xfffffffffffffff8ull)) * r_ij_1) + 63ull) >> 6ull);
     if (!t_0c) goto l_join_bd_1;
     st64(r_08_4, uadd_sat64(ld64(r_08_4), 1ull));
 l_join_bd_1:;
@@ -4216,7 +4216,7 @@ l_arm_vo:;
 l_arm_p5:;
     r_z6_5 = (u64)(r_c6_5 << 3ull);
     r_8a = away(t_f6_2, (u64)(r_gk << 3ull));
-    u64 r_se_1 = (u64)(((ld64(away(away(((u8 *)switch_table_typed_conforming_conforms_check_object_5c_a4adb150), 8 * (r_ep_2 & 7ull)), 0xfffffffffffffff8ull)) * r_ij_1) + 63ull) >> 6ull);
+    u64 r_se_1 = (u64)(((ld64(away(away(((u8 *)switch_table_typed_conforming_conforms_check_object_5c_426a4812), 8 * (r_ep_2 & 7ull)), 0xfffffffffffffff8ull)) * r_ij_1) + 63ull) >> 6ull);
     r_12_3 = (u32)r_se_1;
     u8 *r_2b_5 = away(ldp(r_08_1), r_vp_3);
     r_3q_3 = away(r_2b_5, 24ull);
@@ -4224,9 +4224,9 @@ l_arm_p5:;
     if ((r_se_1 + (u64)r_yf_6) > (u64)(ld64(away(r_2b_5, 8ull)) >> 3ull)) goto l_arm_hj_3;
     st32(r_3q_3, (r_yf_6 + r_12_3));
     st64(away(ldp(away(ldp(r_08_1), r_vp_3)), (u64)((u64)r_sr << 3ull)), ((r_qw_5 & 0xffffffff00000001ull) | (u64)(u32)((r_yf_6 + (r_sr ^ 0xffffffffu)) << 2u)));
-    r_12_4 = r_yf_6;
-    r_gw_3 = r_0i;
-    goto l_arm_12;
+    r_iy = r_yf_6;
+    r_jm = r_0i;
+    goto l_arm_4p;
 l_arm_hj_3:;
     capnp_arena_arena_builder_arena_impl_BuilderArenaImplB_d542f924(slot_1, a_2, (r_12_3 + 1u));
     if (!(ld8(slot_1) == 0u)) goto l_arm_vh;
@@ -4236,15 +4236,15 @@ l_arm_hj_3:;
     u64 r_z6_6 = (u64)((u64)r_e3_3 << 3ull);
     st64(away(ldp(away(ldp(r_08_1), (u64)(r_24_8 << 5ull))), r_z6_6), (r_qw_5 & 0xffffffff00000001ull));
     st64(away(ldp(away(ldp(r_08_1), r_vp_3)), (u64)((u64)r_sr << 3ull)), (((u64)(r_24_8 << 32ull) | r_z6_6) | 2ull));
-    r_12_4 = (r_e3_3 + 1u);
-    r_gw_3 = r_yf_7;
-l_arm_12:;
-    u64 r_1q_1 = (ld64(away(away(((u8 *)switch_table_typed_conforming_conforms_check_object_5c_a4adb150), 8 * (r_ep_2 & 7ull)), 0xfffffffffffffff8ull)) * r_ij_1);
-    capnp_arena_traits_arena_writing_copy_words_e81703f2515d5e3b(a_2, r_gw_3, r_12_4, r_8a, r_z6_5);
+    r_iy = (r_e3_3 + 1u);
+    r_jm = r_yf_7;
+l_arm_4p:;
+    u64 r_1q_1 = (ld64(away(away(((u8 *)switch_table_typed_conforming_conforms_check_object_5c_426a4812), 8 * (r_ep_2 & 7ull)), 0xfffffffffffffff8ull)) * r_ij_1);
+    capnp_arena_traits_arena_writing_copy_words_e81703f2515d5e3b(a_2, r_jm, r_iy, r_8a, r_z6_5);
     r_4i_1 = (r_1q_1 & 63ull);
     if (r_4i_1 == 0ull) goto l_capnp_v7;
     u64 r_0f_4 = (r_c6_5 + 0xffffffffffffffffull);
-    st64(away(ldp(away(ldp(r_08_1), (u64)((u64)r_gw_3 << 5ull))), (u64)((u64)(r_12_4 + (u32)r_0f_4) << 3ull)), (ld64(away(r_8a, (u64)(r_0f_4 << 3ull))) & ((u64)(0xffffffffffffffffull << (r_4i_1 & 63u)) ^ 0xffffffffffffffffull)));
+    st64(away(ldp(away(ldp(r_08_1), (u64)((u64)r_jm << 5ull))), (u64)((u64)(r_iy + (u32)r_0f_4) << 3ull)), (ld64(away(r_8a, (u64)(r_0f_4 << 3ull))) & ((u64)(0xffffffffffffffffull << (r_4i_1 & 63u)) ^ 0xffffffffffffffffull)));
     goto l_capnp_v7;
 l_arm_vh:;
     r_t8_2 = ld8(r_x5_5);
@@ -4263,16 +4263,16 @@ l_join_o1:;
     r_lc_7 = ((r_24_7 + 1ull) + r_m6_2);
     if (!(r_m6_2 < 0x20000000ull)) goto l_else_70_2;
     if (r_lc_7 > r_nb_1) { r_t8_3 = 23u; goto l_capnp_mp_2; }
-    r_jm = r_lc_7;
+    r_jm_1 = r_lc_7;
     goto l_arm_h8;
 l_else_70_2:;
     u64 r_3o_2 = (r_lc_7 + 0xffffffffc0000000ull);
     if ((r_lc_7 < 0x40000000ull) ? 1u : (r_3o_2 > r_nb_1)) { r_t8_3 = 23u; goto l_capnp_mp_2; }
-    r_jm = r_3o_2;
+    r_jm_1 = r_3o_2;
 l_arm_h8:;
-    r_4r = (u32)r_jm;
+    r_4r = (u32)r_jm_1;
     if (r_sg) { r_t8_3 = 26u; goto l_capnp_mp_2; }
-    r_8u = (r_nb_1 < (r_jm + r_lc_6));
+    r_8u = (r_nb_1 < (r_jm_1 + r_lc_6));
     if ((u8)((u8)t_pa | (u8)r_8u)) goto l_capnp_li;
     if (!(ld8(a_6) == 1u)) { r_5b = r_4r; goto l_arm_7a; }
     r_52_7 = ld64(r_rq_6);
@@ -4455,7 +4455,7 @@ l_arm_dc:;
     r_la_2 = (r_z6_9 + 0xfffffffffffffff8ull);
     r_bh_3 = (r_z6_9 + 0xffffffffffffffe0ull);
     r_hi_1 = (r_ka == 0u);
-    r_gw_4 = (u64)(r_9h >> 3ull);
+    r_gw_3 = (u64)(r_9h >> 3ull);
     r_x5_6 = (slot_4 + 8);
     r_zd_6 = (slot_4 + 16);
     r_lk_2 = (slot_4 + 24);
@@ -4464,7 +4464,7 @@ l_arm_dc:;
     r_c4_5 = (slot_4 + 48);
     r_6c_2 = (slot_4 + 56);
     r_08_6 = away(a_6, 16ull);
-    r_nb_2 = (r_gw_4 & 0xffffffffull);
+    r_nb_2 = (r_gw_3 & 0xffffffffull);
     r_sg_1 = (r_5k == 1u);
     r_rq_7 = away(a_6, 8ull);
     r_x5_7 = (slot_3 + 8);
@@ -4544,14 +4544,14 @@ l_join_iw:;
     r_24_14 = (u64)(r_w0_2 + t_nk_1);
     memset(slot_3, 0u, 24);
     memset(slot_4, 0u, 64);
-    if (!(r_gw_4 > r_24_14)) goto l_capnp_v7_1;
+    if (!(r_gw_3 > r_24_14)) goto l_capnp_v7_1;
     r_qw_6 = ld64(away(t_f6_1, (u64)(r_24_14 << 3ull)));
     if (r_qw_6 == 0ull) goto l_capnp_v7_1;
     switch_f9_1 = (r_qw_6 & 3ull);
     r_ep_3 = (u64)(r_qw_6 >> 32ull);
     if (!((switch_f9_1 == 1ull) ? ((u8)((u8)((u8)r_ep_3 & 7u) + 255u) < 5u) : 0u)) goto l_join_br_1;
     r_ij_2 = (u64)(r_qw_6 >> 35ull);
-    r_1q_2 = (ld64(away(away(((u8 *)switch_table_typed_conforming_conforms_check_object_5c_a4adb150), 8 * (r_ep_3 & 7ull)), 0xfffffffffffffff8ull)) * r_ij_2);
+    r_1q_2 = (ld64(away(away(((u8 *)switch_table_typed_conforming_conforms_check_object_5c_426a4812), 8 * (r_ep_3 & 7ull)), 0xfffffffffffffff8ull)) * r_ij_2);
     r_c6_6 = (u64)((r_1q_2 + 63ull) >> 6ull);
     if (!t_0c_1) goto l_join_bd_2;
     st64(r_08_6, uadd_sat64(ld64(r_08_6), 1ull));
@@ -4578,19 +4578,19 @@ l_arm_vo_1:;
 l_arm_p5_1:;
     r_z6_10 = (u64)(r_c6_6 << 3ull);
     r_8a_1 = away(t_f6_1, (u64)(r_gk_1 << 3ull));
-    u64 r_se_2 = (u64)(((ld64(away(away(((u8 *)switch_table_typed_conforming_conforms_check_object_5c_a4adb150), 8 * (r_ep_3 & 7ull)), 0xfffffffffffffff8ull)) * r_ij_2) + 63ull) >> 6ull);
-    r_12_5 = (u32)r_se_2;
+    u64 r_se_2 = (u64)(((ld64(away(away(((u8 *)switch_table_typed_conforming_conforms_check_object_5c_426a4812), 8 * (r_ep_3 & 7ull)), 0xfffffffffffffff8ull)) * r_ij_2) + 63ull) >> 6ull);
+    r_12_4 = (u32)r_se_2;
     u8 *r_2b_10 = away(ldp(r_08_5), r_vp_6);
     r_3q_6 = away(r_2b_10, 24ull);
     r_yf_12 = ld32(r_3q_6);
     if ((r_se_2 + (u64)r_yf_12) > (u64)(ld64(away(r_2b_10, 8ull)) >> 3ull)) goto l_arm_hj_5;
-    st32(r_3q_6, (r_yf_12 + r_12_5));
+    st32(r_3q_6, (r_yf_12 + r_12_4));
     st64(away(ldp(away(ldp(r_08_5), r_vp_6)), (u64)((u64)r_sr_1 << 3ull)), ((r_qw_6 & 0xffffffff00000001ull) | (u64)(u32)((r_yf_12 + (r_sr_1 ^ 0xffffffffu)) << 2u)));
-    r_12_6 = r_yf_12;
-    r_gw_5 = r_21_1;
-    goto l_arm_12_1;
+    r_iy_1 = r_yf_12;
+    r_jm_2 = r_21_1;
+    goto l_arm_4p_1;
 l_arm_hj_5:;
-    capnp_arena_arena_builder_arena_impl_BuilderArenaImplB_d542f924(slot_1, a_2, (r_12_5 + 1u));
+    capnp_arena_arena_builder_arena_impl_BuilderArenaImplB_d542f924(slot_1, a_2, (r_12_4 + 1u));
     if (!(ld8(slot_1) == 0u)) goto l_arm_vh_2;
     u32 r_yf_13 = ld32(r_ix_3);
     u32 r_e3_6 = ld32(r_x5_11);
@@ -4598,12 +4598,12 @@ l_arm_hj_5:;
     u64 r_z6_11 = (u64)((u64)r_e3_6 << 3ull);
     st64(away(ldp(away(ldp(r_08_5), (u64)(r_24_15 << 5ull))), r_z6_11), (r_qw_6 & 0xffffffff00000001ull));
     st64(away(ldp(away(ldp(r_08_5), r_vp_6)), (u64)((u64)r_sr_1 << 3ull)), (((u64)(r_24_15 << 32ull) | r_z6_11) | 2ull));
-    r_12_6 = (r_e3_6 + 1u);
-    r_gw_5 = r_yf_13;
-l_arm_12_1:;
-    r_1q_3 = (ld64(away(away(((u8 *)switch_table_typed_conforming_conforms_check_object_5c_a4adb150), 8 * (r_ep_3 & 7ull)), 0xfffffffffffffff8ull)) * r_ij_2);
+    r_iy_1 = (r_e3_6 + 1u);
+    r_jm_2 = r_yf_13;
+l_arm_4p_1:;
+    r_1q_3 = (ld64(away(away(((u8 *)switch_table_typed_conforming_conforms_check_object_5c_426a4812), 8 * (r_ep_3 & 7ull)), 0xfffffffffffffff8ull)) * r_ij_2);
     if (r_c6_6 == 0ull) goto l_capnp_pq;
-    r_2b_11 = away(ldp(away(ldp(r_08_5), (u64)((u64)r_gw_5 << 5ull))), (u64)((u64)r_12_6 << 3ull));
+    r_2b_11 = away(ldp(away(ldp(r_08_5), (u64)((u64)r_jm_2 << 5ull))), (u64)((u64)r_iy_1 << 3ull));
     if (!(r_1q_2 < 449ull)) goto l_else_r3_3;
     if (!(r_1q_2 > 192ull)) goto l_else_9l;
     mv32(r_2b_11, r_8a_1);
@@ -4633,7 +4633,7 @@ l_capnp_pq:;
     r_4i_2 = (r_1q_3 & 63ull);
     if (r_4i_2 == 0ull) goto l_capnp_v7_1;
     u64 r_0f_5 = (r_c6_6 + 0xffffffffffffffffull);
-    st64(away(ldp(away(ldp(r_08_5), (u64)((u64)r_gw_5 << 5ull))), (u64)((u64)(r_12_6 + (u32)r_0f_5) << 3ull)), (ld64(away(r_8a_1, (u64)(r_0f_5 << 3ull))) & ((u64)(0xffffffffffffffffull << (r_4i_2 & 63u)) ^ 0xffffffffffffffffull)));
+    st64(away(ldp(away(ldp(r_08_5), (u64)((u64)r_jm_2 << 5ull))), (u64)((u64)(r_iy_1 + (u32)r_0f_5) << 3ull)), (ld64(away(r_8a_1, (u64)(r_0f_5 << 3ull))) & ((u64)(0xffffffffffffffffull << (r_4i_2 & 63u)) ^ 0xffffffffffffffffull)));
     goto l_capnp_v7_1;
 l_arm_vh_2:;
     r_t8_4 = ld8(r_x5_11);
@@ -4652,16 +4652,16 @@ l_join_o1_1:;
     r_lc_11 = ((r_24_14 + 1ull) + r_m6_4);
     if (!(r_m6_4 < 0x20000000ull)) goto l_else_70_4;
     if (r_lc_11 > r_nb_2) { r_t8_5 = 23u; goto l_capnp_mp_4; }
-    r_jm_1 = r_lc_11;
+    r_jm_3 = r_lc_11;
     goto l_arm_h8_1;
 l_else_70_4:;
     u64 r_3o_4 = (r_lc_11 + 0xffffffffc0000000ull);
     if ((r_lc_11 < 0x40000000ull) ? 1u : (r_3o_4 > r_nb_2)) { r_t8_5 = 23u; goto l_capnp_mp_4; }
-    r_jm_1 = r_3o_4;
+    r_jm_3 = r_3o_4;
 l_arm_h8_1:;
-    r_4r_1 = (u32)r_jm_1;
+    r_4r_1 = (u32)r_jm_3;
     if (r_sg_1) { r_t8_5 = 26u; goto l_capnp_mp_4; }
-    r_8u_1 = (r_nb_2 < (r_jm_1 + r_lc_10));
+    r_8u_1 = (r_nb_2 < (r_jm_3 + r_lc_10));
     if ((u8)((u8)t_pa | (u8)r_8u_1)) goto l_capnp_li_1;
     if (!(ld8(a_6) == 1u)) { r_5b_1 = r_4r_1; goto l_arm_7a_1; }
     r_52_9 = ld64(r_rq_7);
@@ -5218,8 +5218,8 @@ static NEVER void capnp_copies_copy_children_copy_children_out_of_line_c_661015d
     u32 r_12;
     u8 *r_3q;
     u32 r_yf;
-    u32 r_12_1;
-    u32 r_gw_1;
+    u32 r_iy;
+    u32 r_jm;
     u64 r_1q_1;
     u8 *r_2b_1;
     u64 r_il;
@@ -5350,7 +5350,7 @@ l_join_22:;
     r_ep = (u64)(r_qw_3 >> 32ull);
     if (!((switch_f9 == 1ull) ? ((u8)((u8)((u8)r_ep & 7u) + 255u) < 5u) : 0u)) goto l_join_br;
     r_ij = (u64)(r_qw_3 >> 35ull);
-    r_1q = (ld64(away(away(((u8 *)switch_table_typed_conforming_conforms_check_object_5c_a4adb150), 8 * (r_ep & 7ull)), 0xfffffffffffffff8ull)) * r_ij);
+    r_1q = (ld64(away(away(((u8 *)switch_table_typed_conforming_conforms_check_object_5c_426a4812), 8 * (r_ep & 7ull)), 0xfffffffffffffff8ull)) * r_ij);
     r_c6 = (u64)((r_1q + 63ull) >> 6ull);
     if (!t_0c) goto l_join_bd;
     st64(r_08, uadd_sat64(ld64(r_08), 1ull));
@@ -5377,7 +5377,7 @@ l_arm_i0_1:;
 l_arm_5g:;
     r_z6 = (u64)(r_c6 << 3ull);
     r_dx = away(r_rv_1, (u64)(r_la << 3ull));
-    u64 r_se = (u64)(((ld64(away(away(((u8 *)switch_table_typed_conforming_conforms_check_object_5c_a4adb150), 8 * (r_ep & 7ull)), 0xfffffffffffffff8ull)) * r_ij) + 63ull) >> 6ull);
+    u64 r_se = (u64)(((ld64(away(away(((u8 *)switch_table_typed_conforming_conforms_check_object_5c_426a4812), 8 * (r_ep & 7ull)), 0xfffffffffffffff8ull)) * r_ij) + 63ull) >> 6ull);
     r_12 = (u32)r_se;
     u8 *r_2b = away(ldp(r_08_1), r_vp);
     r_3q = away(r_2b, 24ull);
@@ -5385,9 +5385,9 @@ l_arm_5g:;
     if ((r_se + (u64)r_yf) > (u64)(ld64(away(r_2b, 8ull)) >> 3ull)) goto l_arm_hj;
     st32(r_3q, (r_yf + r_12));
     st64(away(ldp(away(ldp(r_08_1), r_vp)), (u64)((u64)r_7m << 3ull)), ((r_qw_3 & 0xffffffff00000001ull) | (u64)(u32)((r_yf + (r_7m ^ 0xffffffffu)) << 2u)));
-    r_12_1 = r_yf;
-    r_gw_1 = a_3;
-    goto l_arm_12;
+    r_iy = r_yf;
+    r_jm = a_3;
+    goto l_arm_4p;
 l_arm_hj:;
     capnp_arena_arena_builder_arena_impl_BuilderArenaImplB_d542f924(slot_1, a_2, (r_12 + 1u));
     if (!(ld8(slot_1) == 0u)) goto l_arm_vh;
@@ -5397,12 +5397,12 @@ l_arm_hj:;
     u64 r_z6_1 = (u64)((u64)r_e3 << 3ull);
     st64(away(ldp(away(ldp(r_08_1), (u64)(r_24_1 << 5ull))), r_z6_1), (r_qw_3 & 0xffffffff00000001ull));
     st64(away(ldp(away(ldp(r_08_1), r_vp)), (u64)((u64)r_7m << 3ull)), (((u64)(r_24_1 << 32ull) | r_z6_1) | 2ull));
-    r_12_1 = (r_e3 + 1u);
-    r_gw_1 = r_yf_1;
-l_arm_12:;
-    r_1q_1 = (ld64(away(away(((u8 *)switch_table_typed_conforming_conforms_check_object_5c_a4adb150), 8 * (r_ep & 7ull)), 0xfffffffffffffff8ull)) * r_ij);
+    r_iy = (r_e3 + 1u);
+    r_jm = r_yf_1;
+l_arm_4p:;
+    r_1q_1 = (ld64(away(away(((u8 *)switch_table_typed_conforming_conforms_check_object_5c_426a4812), 8 * (r_ep & 7ull)), 0xfffffffffffffff8ull)) * r_ij);
     if (r_c6 == 0ull) goto l_capnp_pq;
-    r_2b_1 = away(ldp(away(ldp(r_08_1), (u64)((u64)r_gw_1 << 5ull))), (u64)((u64)r_12_1 << 3ull));
+    r_2b_1 = away(ldp(away(ldp(r_08_1), (u64)((u64)r_jm << 5ull))), (u64)((u64)r_iy << 3ull));
     if (!(r_1q < 449ull)) goto l_else_r3;
     if (!(r_1q > 192ull)) goto l_else_9l;
     mv32(r_2b_1, r_dx);
@@ -5432,7 +5432,7 @@ l_capnp_pq:;
     r_4i = (r_1q_1 & 63ull);
     if (r_4i == 0ull) goto l_capnp_v7;
     u64 r_0f = (r_c6 + 0xffffffffffffffffull);
-    st64(away(ldp(away(ldp(r_08_1), (u64)((u64)r_gw_1 << 5ull))), (u64)((u64)(r_12_1 + (u32)r_0f) << 3ull)), (ld64(away(r_dx, (u64)(r_0f << 3ull))) & ((u64)(0xffffffffffffffffull << (r_4i & 63u)) ^ 0xffffffffffffffffull)));
+    st64(away(ldp(away(ldp(r_08_1), (u64)((u64)r_jm << 5ull))), (u64)((u64)(r_iy + (u32)r_0f) << 3ull)), (ld64(away(r_dx, (u64)(r_0f << 3ull))) & ((u64)(0xffffffffffffffffull << (r_4i & 63u)) ^ 0xffffffffffffffffull)));
     goto l_capnp_v7;
 l_arm_vh:;
     r_7k = ld64(r_zd_5);
@@ -5634,12 +5634,12 @@ l_capnp_6w:;
     r_uo = t_i2;
     r_93 = t_1i;
     r_8y = r_k7;
-    goto l_arm_12_1;
+    goto l_arm_12;
 l_arm_i0:;
     r_uo = r_7k;
     r_93 = r_zq;
     r_8y = r_p9;
-l_arm_12_1:;
+l_arm_12:;
     r_10 = 1u;
     r_kb = (u32)r_8y;
     r_n4 = r_93;
@@ -7046,8 +7046,8 @@ l_return_ri:;
     return r_fk;
 }
 
-/* capnp_framing::framing::reading::read_into_with::<#19875b826fd89623> */
-void capnp_framing_framing_reading_read_into_with_19875b826fd89623(u8 *a_1, u8 *a_2, u8 *a_3, u64 a_4, u8 *a_5)
+/* capnp_framing::framing::reading::read_into_with::<#7137eb38a50aa573> */
+void capnp_framing_framing_reading_read_into_with_7137eb38a50aa573(u8 *a_1, u8 *a_2, u8 *a_3, u64 a_4, u8 *a_5)
 {
     A(8) u8 slot_1[24];
     A(4) u8 slot_2[4];
@@ -7176,7 +7176,7 @@ l_join_8s:;
     u64 r_52_1 = ld64(r_xz);
     if (!(r_5p > (r_52_1 - r_52))) { r_ph = r_52_1; r_az = r_52; goto l_join_kx; }
     u8 r_qy = std_alloc_vec_Vec_grow_amortized_ffd95af9aab10bcd(r_rq, r_5p);
-    if (!r_qy) goto l_capnp_iz;
+    if (!r_qy) goto l_capnp_uh;
     r_ph = ld64(r_xz);
     r_az = ld64(r_08);
 l_join_kx:;
@@ -7190,8 +7190,8 @@ l_std_5b:;
     st64(r_xz, r_ph);
     r_xz_1 = r_5q_1;
     goto l_arm_gi;
-l_capnp_iz:;
-    capnp_framing_framing_reading_grow_3691078bae5dd839(slot_1, a_2, r_rq);
+l_capnp_uh:;
+    capnp_framing_framing_reading_grow_0383920df4a99c71(slot_1, a_2, r_rq);
     r_r5_1 = ld8(r_x5);
     r_38 = ld64(r_zd);
     if (!(ld8(slot_1) == 0u)) goto l_arm_of;
@@ -7306,7 +7306,7 @@ l_join_q6:;
     u64 r_52_3 = ld64(r_2g);
     if (!(r_e9 > (r_52_3 - r_52_2))) { r_ph_1 = r_52_3; r_az_1 = r_52_2; goto l_join_kx_1; }
     u8 r_qy_1 = std_alloc_vec_Vec_grow_amortized_ffd95af9aab10bcd(r_r2, r_e9);
-    if (!r_qy_1) goto l_capnp_iz_1;
+    if (!r_qy_1) goto l_capnp_uh_1;
     r_ph_1 = ld64(r_2g);
     r_az_1 = ld64(r_h6);
 l_join_kx_1:;
@@ -7322,8 +7322,8 @@ l_std_re:;
 l_capnp_5s:;
     r_dv = r_r4;
     goto l_arm_df;
-l_capnp_iz_1:;
-    capnp_framing_framing_reading_grow_3691078bae5dd839(slot_1, a_2, r_r2);
+l_capnp_uh_1:;
+    capnp_framing_framing_reading_grow_0383920df4a99c71(slot_1, a_2, r_r2);
     r_r5_2 = ld8(r_x5_1);
     r_38_1 = ld64(r_zd_1);
     if (!(ld8(slot_1) == 0u)) goto l_arm_of_1;
@@ -7477,8 +7477,8 @@ l_return_7d:;
     return r_ez;
 }
 
-/* capnp_framing::framing::reading::grow::<#3691078bae5dd839> */
-static NEVER COLD void capnp_framing_framing_reading_grow_3691078bae5dd839(u8 *a_1, u8 *a_2, u8 *a_3)
+/* capnp_framing::framing::reading::grow::<#0383920df4a99c71> */
+static NEVER COLD void capnp_framing_framing_reading_grow_0383920df4a99c71(u8 *a_1, u8 *a_2, u8 *a_3)
 {
     u8 *r_xz;
     u8 *r_08;
@@ -7792,7 +7792,7 @@ l_capnp_cm:;
 l_arm_st:;
     if (!((u8)((u8)((u8)r_ep & 7u) + 255u) < 5u)) goto l_join_9i;
     r_ij = (u64)(r_qw_1 >> 35ull);
-    r_c6 = (u64)(((ld64(away(away(((u8 *)switch_table_typed_conforming_conforms_check_object_5c_a4adb150), 8 * (r_ep & 7ull)), 0xfffffffffffffff8ull)) * r_ij) + 63ull) >> 6ull);
+    r_c6 = (u64)(((ld64(away(away(((u8 *)switch_table_typed_conforming_conforms_check_object_5c_426a4812), 8 * (r_ep & 7ull)), 0xfffffffffffffff8ull)) * r_ij) + 63ull) >> 6ull);
     if (!t_d6) goto l_join_z3;
     st64(r_zd, uadd_sat64(r_qw, 1ull));
 l_join_z3:;
@@ -7814,7 +7814,7 @@ l_arm_td_1:;
     st64(slot_1, 1ull);
     st64(r_x5, (r_2c - r_c6));
 l_arm_4n:;
-    if (r_i9_1 == 1ull) goto l_join_12;
+    if (r_i9_1 == 1ull) goto l_join_4p_1;
     goto l_then_1w;
 l_arm_ka:;
     st64(r_lk, 1ull);
@@ -7831,8 +7831,8 @@ l_then_1w:;
     r_tu_1 = 0u;
     r_di_1 = 1u;
     goto l_capnp_cm_1;
-l_join_12:;
-    u64 r_1q = (ld64(away(away(((u8 *)switch_table_typed_conforming_conforms_check_object_5c_a4adb150), 8 * (r_ep & 7ull)), 0xfffffffffffffff8ull)) * r_ij);
+l_join_4p_1:;
+    u64 r_1q = (ld64(away(away(((u8 *)switch_table_typed_conforming_conforms_check_object_5c_426a4812), 8 * (r_ep & 7ull)), 0xfffffffffffffff8ull)) * r_ij);
     r_12_1 = (u32)(u64)(r_1q >> 6ull);
     r_ff_1 = (r_12_1 + 1u);
     r_4i = (r_1q & 63ull);
@@ -8311,7 +8311,7 @@ l_arm_ui:;
     r_ep_1 = (u64)(r_qw >> 32ull);
     if (!((u8)((u8)((u8)r_ep_1 & 7u) + 255u) < 5u)) goto l_join_6e;
     r_ij = (u64)(r_qw >> 35ull);
-    r_c6 = (u64)(((ld64(away(away(((u8 *)switch_table_typed_conforming_conforms_check_object_5c_a4adb150), 8 * (r_ep_1 & 7ull)), 0xfffffffffffffff8ull)) * r_ij) + 63ull) >> 6ull);
+    r_c6 = (u64)(((ld64(away(away(((u8 *)switch_table_typed_conforming_conforms_check_object_5c_426a4812), 8 * (r_ep_1 & 7ull)), 0xfffffffffffffff8ull)) * r_ij) + 63ull) >> 6ull);
     t_0c = (ld8(a_1) == 0u);
     if (!t_0c) goto l_join_bd;
     st64(r_08, uadd_sat64(ld64(r_08), 1ull));
@@ -8338,7 +8338,7 @@ l_arm_f4_1:;
     st64(a_6, 1ull);
     st64(r_rq, (r_52_1 - r_c6));
 l_arm_8x:;
-    if (r_l6 == r_4r_1) goto l_join_8o;
+    if (r_l6 == r_4r_1) goto l_join_ws;
     goto l_then_9r;
 l_arm_dw:;
     st64(r_xz_1, 1ull);
@@ -8358,9 +8358,9 @@ l_then_9r:;
     r_tu_1 = 0u;
     r_di_1 = 1u;
     goto l_capnp_cm_1;
-l_join_8o:;
+l_join_ws:;
     r_52_2 = ld64(r_xz);
-    u64 r_1q = (ld64(away(away(((u8 *)switch_table_typed_conforming_conforms_check_object_5c_a4adb150), 8 * (r_ep_1 & 7ull)), 0xfffffffffffffff8ull)) * r_ij);
+    u64 r_1q = (ld64(away(away(((u8 *)switch_table_typed_conforming_conforms_check_object_5c_426a4812), 8 * (r_ep_1 & 7ull)), 0xfffffffffffffff8ull)) * r_ij);
     r_w0_2 = (r_l6 + (u32)(u64)(r_1q >> 6ull));
     r_4i = (r_1q & 63ull);
     if (r_4i == 0ull) { r_tu_1 = r_w0_2; r_di_1 = 0u; goto l_capnp_cm_1; }
@@ -8914,8 +8914,8 @@ l_return_ri:;
     return r_fk;
 }
 
-/* capnp_messages::messages::whole::canonicalize::<#ad42fe8b34616de5> */
-void capnp_messages_messages_whole_canonicalize_ad42fe8b34616de5(u8 *a_1, u8 *a_2, u8 *a_3, u8 a_4, u64 a_5)
+/* capnp_messages::messages::whole::canonicalize::<#022cfa5ac0efa2a5> */
+void capnp_messages_messages_whole_canonicalize_022cfa5ac0efa2a5(u8 *a_1, u8 *a_2, u8 *a_3, u8 a_4, u64 a_5)
 {
     A(8) u8 slot_1[136];
     A(8) u8 slot_2[32];
@@ -8958,7 +8958,7 @@ l_arm_zz:;
     st32((slot_3 + 60), 0u);
     memset(slot_3, 0u, 16);
     st32(t_5q, r_yf);
-    capnp_messages_messages_canonical_copy_canonicalize_re_3491092d(slot_1, slot_2, slot_3, slot_4);
+    capnp_messages_messages_canonical_copy_canonicalize_re_92f8f3a6(slot_1, slot_2, slot_3, slot_4);
     u8 r_r5 = ld8(slot_1);
     u32 r_z4 = ld32((slot_1 + 8));
     u32 r_uq = ld32((slot_1 + 12));
@@ -8986,8 +8986,8 @@ l_join_6f:;
     return;
 }
 
-/* capnp_messages::messages::canonical_copy::canonicalize_reached::<#df27f4c8b9722fca> */
-void capnp_messages_messages_canonical_copy_canonicalize_re_3491092d(u8 *a_1, u8 *a_2, u8 *a_3, u8 *a_4)
+/* capnp_messages::messages::canonical_copy::canonicalize_reached::<#23e788dd12cd3672> */
+void capnp_messages_messages_canonical_copy_canonicalize_re_92f8f3a6(u8 *a_1, u8 *a_2, u8 *a_3, u8 *a_4)
 {
     A(8) u8 slot_1[24];
     A(8) u8 slot_2[64];
@@ -9082,7 +9082,7 @@ l_capnp_x0:;
     st16((slot_15 + 72), r_br);
     st16((slot_15 + 74), r_br_1);
     st32((slot_15 + 76), r_5k_4);
-    capnp_messages_messages_canonical_copy_canonicalize_to_6a763972(slot_13, slot_14, slot_15, a_4, t_1r);
+    capnp_messages_messages_canonical_copy_canonicalize_to_83269e83(slot_13, slot_14, slot_15, a_4, t_1r);
     r_x5 = (slot_13 + 8);
     r_uq = ld32((slot_13 + 12));
     r_38 = ld64((slot_13 + 16));
@@ -9183,7 +9183,7 @@ l_arm_dd:;
     st16((slot_10 + 72), r_br);
     st16((slot_10 + 74), r_br_1);
     st32((slot_10 + 76), r_5k_4);
-    capnp_messages_messages_canonical_copy_canonicalize_to_6a763972(slot_9, slot_6, slot_10, a_4, r_1v);
+    capnp_messages_messages_canonical_copy_canonicalize_to_83269e83(slot_9, slot_6, slot_10, a_4, r_1v);
     r_zd = ld64((slot_9 + 16));
     r_m0 = ld32((slot_9 + 12));
     r_n2 = ld32((slot_9 + 8));
@@ -9212,8 +9212,8 @@ l_join_6f:;
     goto l_common_68;
 }
 
-/* capnp_messages::messages::canonical_copy::canonicalize_to_message::<#df27f4c8b9722fca> */
-static void capnp_messages_messages_canonical_copy_canonicalize_to_6a763972(u8 *a_1, u8 *a_2, u8 *a_3, u8 *a_4, u32 a_5)
+/* capnp_messages::messages::canonical_copy::canonicalize_to_message::<#23e788dd12cd3672> */
+static void capnp_messages_messages_canonical_copy_canonicalize_to_83269e83(u8 *a_1, u8 *a_2, u8 *a_3, u8 *a_4, u32 a_5)
 {
     A(8) u8 slot_1[1];
     A(8) u8 slot_2[40];
@@ -9506,7 +9506,7 @@ l_capnp_4o:;
     stp(slot_2, r_xw_2);
     st64((slot_2 + 8), r_38_5);
     st64((slot_2 + 16), r_38_6);
-    capnp_arena_arena_builder_arena_impl_deallocate_others_74e7ad04(slot_3, slot_2);
+    capnp_arena_arena_builder_arena_impl_deallocate_others_b2a31c9c(slot_3, slot_2);
     goto l_capnp_f6;
 l_else_r8:;
     if (r_38_4 == 0ull) goto l_core_at;
@@ -9606,7 +9606,7 @@ l_join_rb:;
     st64(t_6c, 0ull);
     st64(slot_4, r_eg);
     st32(t_6c, r_5k_2);
-    capnp_copies_copy_copy_object_f91b20a4a575fbcb(slot_3, slot_9, 0u, 0u, slot_4, slot_5, 1u);
+    capnp_copies_copy_copy_object_3e10f8fb4aa9caee(slot_3, slot_9, 0u, 0u, slot_4, slot_5, 1u);
     r_r5_2 = ld8(slot_3);
     r_uq_2 = ld32((slot_3 + 12));
     r_38_11 = ld64((slot_3 + 16));
@@ -9615,12 +9615,12 @@ l_join_rb:;
     r_lz = ldp(r_89_1);
     r_qw_3 = ld64(r_lz);
     if (r_qw_3 == 0ull) goto l_capnp_8g;
-    capnp_making_landing_follow_4072c0e2a627e5d6(slot_2, slot_9, 0u, 0u);
+    capnp_making_landing_follow_257eebf23d8227b7(slot_2, slot_9, 0u, 0u);
     st64(r_lz, 0ull);
     if (!(ld8(slot_2) == 1u)) goto l_capnp_8g;
-    capnp_making_zeroing_zero_target_4072c0e2a627e5d6(slot_9, (slot_2 + 8));
+    capnp_making_zeroing_zero_target_257eebf23d8227b7(slot_9, (slot_2 + 8));
     if (!((r_qw_3 & 3ull) == 2ull)) goto l_capnp_8g;
-    capnp_making_zeroing_zero_far_pads_4072c0e2a627e5d6(slot_9, r_qw_3);
+    capnp_making_zeroing_zero_far_pads_257eebf23d8227b7(slot_9, r_qw_3);
 l_capnp_8g:;
     r_2b = r_r5_3;
     r_qh = r_uq_2;
@@ -9689,7 +9689,7 @@ l_then_eg:;
     r_e3 = ld32(r_5q_1);
     r_24_1 = (u64)r_e3;
     r_52_1 = ld64((slot_9 + 40));
-    if ((r_24_1 + (u64)r_68) > (u64)((ld64((slot_9 + 56)) + r_52_1) >> 3ull)) goto l_arm_5e;
+    if ((r_24_1 + (u64)r_68) > (u64)((ld64((slot_9 + 56)) + r_52_1) >> 3ull)) goto l_arm_yk;
     r_w0 = (r_e3 + r_68);
     r_z6_2 = (u64)((u64)r_w0 << 3ull);
     if (!(r_52_1 < r_z6_2)) goto l_capnp_uo;
@@ -9699,8 +9699,8 @@ l_capnp_uo:;
     st64(ldp(r_89_1), (((u64)(r_6o << 48ull) | ((u64)(r_hk << 32ull) & 0xffff00000000ull)) | (u64)((u32)(r_e3 << 2u) + 0xfffffffcu)));
     r_j7 = (u64)(r_24_1 << 32ull);
     goto l_arm_e8;
-l_arm_5e:;
-    capnp_arena_arena_builder_arena_impl_BuilderArenaImplB_7b1ceaa0(slot_2, slot_9, (r_68 + 1u));
+l_arm_yk:;
+    capnp_arena_arena_builder_arena_impl_BuilderArenaImplB_8452dd78(slot_2, slot_9, (r_68 + 1u));
     if (!(ld8(slot_2) == 0u)) goto l_capnp_x3;
     r_yf = ld32((slot_2 + 4));
     r_e3_1 = ld32((slot_2 + 8));
@@ -9772,7 +9772,7 @@ l_capnp_am:;
     st32((slot_3 + 48), (r_5k + (u32)r_br));
     st32((slot_3 + 52), 0u);
     st32(t_6c_1, r_5k_2);
-    capnp_copies_copy_children_copy_children_out_of_line_f_b6070b37(slot_2, slot_9, r_wt, (r_29 + r_4r), slot_3, r_az, slot_5, 1u);
+    capnp_copies_copy_children_copy_children_out_of_line_3_45de2596(slot_2, slot_9, r_wt, (r_29 + r_4r), slot_3, r_az, slot_5, 1u);
     r_2b_4 = ld8(slot_2);
     r_qh_1 = ld8((slot_2 + 8));
     r_ip_1 = ld32((slot_2 + 12));
@@ -9924,7 +9924,7 @@ l_capnp_4o_1:;
     stp(slot_2, r_xw_8);
     st64((slot_2 + 8), r_38_18);
     st64((slot_2 + 16), r_38_19);
-    capnp_arena_arena_builder_arena_impl_deallocate_others_74e7ad04(slot_3, slot_2);
+    capnp_arena_arena_builder_arena_impl_deallocate_others_b2a31c9c(slot_3, slot_2);
     goto l_capnp_f6_1;
 l_else_r8_1:;
     if (r_38_15 == 0ull) goto l_core_at_1;
@@ -10142,8 +10142,8 @@ l_capnp_9n:;
     return r_yf;
 }
 
-/* capnp_copies::copy::copy_object::<#f91b20a4a575fbcb> */
-static NEVER void capnp_copies_copy_copy_object_f91b20a4a575fbcb(u8 *a_1, u8 *a_2, u32 a_3, u32 a_4, u8 *a_5, u8 *a_6, u8 a_7)
+/* capnp_copies::copy::copy_object::<#3e10f8fb4aa9caee> */
+static NEVER void capnp_copies_copy_copy_object_3e10f8fb4aa9caee(u8 *a_1, u8 *a_2, u32 a_3, u32 a_4, u8 *a_5, u8 *a_6, u8 a_7)
 {
     A(8) u8 slot_1[56];
     A(8) u8 slot_2[64];
@@ -10371,14 +10371,14 @@ static NEVER void capnp_copies_copy_copy_object_f91b20a4a575fbcb(u8 *a_1, u8 *a_
     u8 r_kw_3;
     u32 r_re_3;
     struct s_i8_i32 r_pp;
-    u32 r_12_4;
-    u32 r_gw_3;
+    u32 r_iy;
+    u32 r_jm;
     u64 r_4i_1;
     u64 r_y6_2;
     u64 r_q7_1;
     u64 r_lc_6;
     u64 r_lc_7;
-    u64 r_jm;
+    u64 r_jm_1;
     u32 r_4r_1;
     u8 r_8u;
     u64 r_52_11;
@@ -10388,7 +10388,7 @@ static NEVER void capnp_copies_copy_copy_object_f91b20a4a575fbcb(u8 *a_1, u8 *a_
     u32 r_az_2;
     u32 r_az_3;
     u32 r_68_2;
-    struct s_i8_i32 r_fd;
+    struct s_i8_i32 r_nf;
     u32 r_fj;
     u32 sink_il;
     u8 r_2b_2;
@@ -10445,7 +10445,7 @@ static NEVER void capnp_copies_copy_copy_object_f91b20a4a575fbcb(u8 *a_1, u8 *a_
     u64 r_la_2;
     u64 r_bh_3;
     u8 r_hi_1;
-    u64 r_gw_4;
+    u64 r_gw_3;
     u8 *r_x5_8;
     u8 *r_zd_6;
     u8 *r_lk_2;
@@ -10514,7 +10514,7 @@ static NEVER void capnp_copies_copy_copy_object_f91b20a4a575fbcb(u8 *a_1, u8 *a_
     u64 r_z6_11;
     u8 *r_8a_1;
     u64 r_se_2;
-    u32 r_12_5;
+    u32 r_12_4;
     u32 r_yf_13;
     u64 r_52_14;
     u32 r_w0_9;
@@ -10526,8 +10526,8 @@ static NEVER void capnp_copies_copy_copy_object_f91b20a4a575fbcb(u8 *a_1, u8 *a_
     u64 r_6f;
     u64 r_59_1;
     u64 r_ni_1;
-    u32 r_12_6;
-    u32 r_gw_5;
+    u32 r_iy_1;
+    u32 r_jm_2;
     u64 r_1q_3;
     u8 *r_u9;
     u8 *r_2b_4;
@@ -10539,7 +10539,7 @@ static NEVER void capnp_copies_copy_copy_object_f91b20a4a575fbcb(u8 *a_1, u8 *a_
     u64 r_q7_2;
     u64 r_lc_10;
     u64 r_lc_11;
-    u64 r_jm_1;
+    u64 r_jm_3;
     u32 r_4r_2;
     u8 r_8u_1;
     u64 r_52_15;
@@ -10939,18 +10939,18 @@ l_else_6q_3:;
     struct s_i8_i32 r_tu = capnp_arena_arena_rows_allocate_in_4426f83c3c99ca57(ldp(away(a_2, 80ull)), ((u64)a_3 + 0xffffffffffffffffull), r_68_1);
     r_jz = r_tu;
 l_capnp_c2:;
-    if (!(r_jz.f0 == 1u)) goto l_arm_ua;
+    if (!(r_jz.f0 == 1u)) goto l_arm_pq;
     u32 r_xo = r_jz.f1;
-    capnp_arena_arena_builder_arena_impl_BuilderArenaImplB_24b0f4d4(a_2, a_3, a_4, (((u64)((u64)r_ib << 48ull) | ((u64)(r_ag << 32ull) & 0xffff00000000ull)) | (u64)(u32)((r_xo + (a_4 ^ 0xffffffffu)) << 2u)));
+    capnp_arena_arena_builder_arena_impl_BuilderArenaImplB_8bddd8ee(a_2, a_3, a_4, (((u64)((u64)r_ib << 48ull) | ((u64)(r_ag << 32ull) & 0xffff00000000ull)) | (u64)(u32)((r_xo + (a_4 ^ 0xffffffffu)) << 2u)));
     r_nu = ((u64)((u64)r_xo << 32ull) | (u64)a_3);
     goto l_arm_zo;
-l_arm_ua:;
-    capnp_arena_arena_builder_arena_impl_BuilderArenaImplB_7b1ceaa0(slot_1, a_2, (r_68_1 + 1u));
+l_arm_pq:;
+    capnp_arena_arena_builder_arena_impl_BuilderArenaImplB_8452dd78(slot_1, a_2, (r_68_1 + 1u));
     if (!(ld8(slot_1) == 0u)) goto l_arm_x3;
     u32 r_yf_1 = ld32((slot_1 + 4));
     u32 r_e3 = ld32((slot_1 + 8));
-    capnp_arena_arena_builder_arena_impl_BuilderArenaImplB_24b0f4d4(a_2, r_yf_1, r_e3, ((u64)((u64)r_ib << 48ull) | ((u64)(r_ag << 32ull) & 0xffff00000000ull)));
-    capnp_arena_arena_builder_arena_impl_BuilderArenaImplB_24b0f4d4(a_2, a_3, a_4, (((u64)((u64)r_yf_1 << 32ull) | (u64)((u64)r_e3 << 3ull)) | 2ull));
+    capnp_arena_arena_builder_arena_impl_BuilderArenaImplB_8bddd8ee(a_2, r_yf_1, r_e3, ((u64)((u64)r_ib << 48ull) | ((u64)(r_ag << 32ull) & 0xffff00000000ull)));
+    capnp_arena_arena_builder_arena_impl_BuilderArenaImplB_8bddd8ee(a_2, a_3, a_4, (((u64)((u64)r_yf_1 << 32ull) | (u64)((u64)r_e3 << 3ull)) | 2ull));
     r_nu = ((u64)((u64)(r_e3 + 1u) << 32ull) | (u64)r_yf_1);
 l_arm_zo:;
     r_wt = (u32)r_nu;
@@ -11006,7 +11006,7 @@ l_capnp_am:;
     st32((slot_2 + 48), (r_az + r_gx));
     st32((slot_2 + 52), 0u);
     st32((slot_2 + 56), r_4w);
-    capnp_copies_copy_children_copy_children_out_of_line_f_b6070b37(slot_1, a_2, r_wt, (r_29 + r_4r), slot_2, r_ib, a_6, a_7);
+    capnp_copies_copy_children_copy_children_out_of_line_3_45de2596(slot_1, a_2, r_wt, (r_29 + r_4r), slot_2, r_ib, a_6, a_7);
     r_t8 = ld8(slot_1);
     r_hg = ld8((slot_1 + 8));
     r_lc_3 = ld32((slot_1 + 12));
@@ -11117,7 +11117,7 @@ l_else_6q_4:;
     struct s_i8_i32 r_tu_1 = capnp_arena_arena_rows_allocate_in_4426f83c3c99ca57(ldp(away(a_2, 80ull)), ((u64)a_3 + 0xffffffffffffffffull), r_12_2);
     r_jz_1 = r_tu_1;
 l_capnp_c2_1:;
-    if (!(r_jz_1.f0 == 1u)) goto l_arm_ua_1;
+    if (!(r_jz_1.f0 == 1u)) goto l_arm_pq_1;
     r_xo_1 = r_jz_1.f1;
     r_wf = ((((r_d4 & 0xfffffff800000000ull) | (u64)((u64)r_tw << 32ull)) | (u64)(u32)((r_xo_1 + (a_4 ^ 0xffffffffu)) << 2u)) | 1ull);
     if (!r_sz_1) goto l_else_6q_5;
@@ -11130,13 +11130,13 @@ l_else_6q_5:;
     r_5z = r_xo_1;
     r_qb = a_3;
     goto l_switch_tz;
-l_arm_ua_1:;
-    capnp_arena_arena_builder_arena_impl_BuilderArenaImplB_7b1ceaa0(slot_1, a_2, (r_12_2 + 1u));
+l_arm_pq_1:;
+    capnp_arena_arena_builder_arena_impl_BuilderArenaImplB_8452dd78(slot_1, a_2, (r_12_2 + 1u));
     if (!(ld8(slot_1) == 0u)) goto l_arm_x3_1;
     u32 r_yf_3 = ld32((slot_1 + 4));
     u32 r_e3_1 = ld32((slot_1 + 8));
-    capnp_arena_arena_builder_arena_impl_BuilderArenaImplB_24b0f4d4(a_2, r_yf_3, r_e3_1, (((r_d4 & 0xfffffff800000000ull) | (u64)((u64)r_tw << 32ull)) | 1ull));
-    capnp_arena_arena_builder_arena_impl_BuilderArenaImplB_24b0f4d4(a_2, a_3, a_4, (((u64)((u64)r_yf_3 << 32ull) | (u64)((u64)r_e3_1 << 3ull)) | 2ull));
+    capnp_arena_arena_builder_arena_impl_BuilderArenaImplB_8bddd8ee(a_2, r_yf_3, r_e3_1, (((r_d4 & 0xfffffff800000000ull) | (u64)((u64)r_tw << 32ull)) | 1ull));
+    capnp_arena_arena_builder_arena_impl_BuilderArenaImplB_8bddd8ee(a_2, a_3, a_4, (((u64)((u64)r_yf_3 << 32ull) | (u64)((u64)r_e3_1 << 3ull)) | 2ull));
     r_5z = (r_e3_1 + 1u);
     r_qb = r_yf_3;
 l_switch_tz:;
@@ -11178,7 +11178,7 @@ l_join_fh_1:;
 l_capnp_6p:;
     r_4i = (r_1q & 63ull);
     if (r_4i == 0ull) { r_5k_1 = 0u; r_qp = 0u; r_7u = 0u; r_pz = 0ull; goto l_join_1g; }
-    capnp_arena_arena_builder_arena_impl_BuilderArenaImplB_24b0f4d4(a_2, r_qb, (r_5z + (u32)t_0f), (ld64(away(r_l2, (u64)(t_0f << 3ull))) & ((u64)(0xffffffffffffffffull << (r_4i & 63u)) ^ 0xffffffffffffffffull)));
+    capnp_arena_arena_builder_arena_impl_BuilderArenaImplB_8bddd8ee(a_2, r_qb, (r_5z + (u32)t_0f), (ld64(away(r_l2, (u64)(t_0f << 3ull))) & ((u64)(0xffffffffffffffffull << (r_4i & 63u)) ^ 0xffffffffffffffffull)));
     r_5k_1 = 0u;
     r_qp = 0u;
     r_7u = 0u;
@@ -11214,7 +11214,7 @@ l_else_6q:;
     struct s_i8_i32 r_tu_2 = capnp_arena_arena_rows_allocate_in_4426f83c3c99ca57(ldp(away(a_2, 80ull)), ((u64)a_3 + 0xffffffffffffffffull), r_12_1);
     r_jz_2 = r_tu_2;
 l_capnp_c2_2:;
-    if (!(r_jz_2.f0 == 1u)) goto l_arm_ua_2;
+    if (!(r_jz_2.f0 == 1u)) goto l_arm_pq_2;
     r_xo_2 = r_jz_2.f1;
     r_bq = (((r_d4 & 0xfffffff800000000ull) | (u64)(u32)((r_xo_2 + (a_4 ^ 0xffffffffu)) << 2u)) | 0x600000001ull);
     if (!r_sz) goto l_else_6q_6;
@@ -11227,13 +11227,13 @@ l_else_6q_6:;
     r_es = r_xo_2;
     r_0i = a_3;
     goto l_arm_3e;
-l_arm_ua_2:;
-    capnp_arena_arena_builder_arena_impl_BuilderArenaImplB_7b1ceaa0(slot_1, a_2, (r_12_1 + 1u));
+l_arm_pq_2:;
+    capnp_arena_arena_builder_arena_impl_BuilderArenaImplB_8452dd78(slot_1, a_2, (r_12_1 + 1u));
     if (!(ld8(slot_1) == 0u)) goto l_arm_x3_2;
     u32 r_yf_5 = ld32((slot_1 + 4));
     u32 r_e3_2 = ld32((slot_1 + 8));
-    capnp_arena_arena_builder_arena_impl_BuilderArenaImplB_24b0f4d4(a_2, r_yf_5, r_e3_2, ((r_d4 & 0xfffffff800000000ull) | 0x600000001ull));
-    capnp_arena_arena_builder_arena_impl_BuilderArenaImplB_24b0f4d4(a_2, a_3, a_4, (((u64)((u64)r_yf_5 << 32ull) | (u64)((u64)r_e3_2 << 3ull)) | 2ull));
+    capnp_arena_arena_builder_arena_impl_BuilderArenaImplB_8bddd8ee(a_2, r_yf_5, r_e3_2, ((r_d4 & 0xfffffff800000000ull) | 0x600000001ull));
+    capnp_arena_arena_builder_arena_impl_BuilderArenaImplB_8bddd8ee(a_2, a_3, a_4, (((u64)((u64)r_yf_5 << 32ull) | (u64)((u64)r_e3_2 << 3ull)) | 2ull));
     r_es = (r_e3_2 + 1u);
     r_0i = r_yf_5;
 l_arm_3e:;
@@ -11302,7 +11302,7 @@ l_join_1e:;
     r_ep_3 = (u64)(r_qw_5 >> 32ull);
     if (!((switch_f9 == 1ull) ? ((u8)((u8)((u8)r_ep_3 & 7u) + 255u) < 5u) : 0u)) goto l_join_br;
     r_ij_1 = (u64)(r_qw_5 >> 35ull);
-    r_c6_5 = (u64)(((ld64(away(away(((u8 *)switch_table_typed_conforming_conforms_check_object_5c_a4adb150), 8 * (r_ep_3 & 7ull)), 0xfffffffffffffff8ull)) * r_ij_1) + 63ull) >> 6ull);
+    r_c6_5 = (u64)(((ld64(away(away(((u8 *)switch_table_typed_conforming_conforms_check_object_5c_426a4812), 8 * (r_ep_3 & 7ull)), 0xfffffffffffffff8ull)) * r_ij_1) + 63ull) >> 6ull);
     if (!t_0c) goto l_join_bd_1;
     st64(r_08_1, uadd_sat64(ld64(r_08_1), 1ull));
 l_join_bd_1:;
@@ -11328,7 +11328,7 @@ l_arm_vo:;
 l_arm_p5:;
     r_z6_5 = (u64)(r_c6_5 << 3ull);
     r_8a = away(t_f6_2, (u64)(r_gk << 3ull));
-    r_se_1 = (u64)(((ld64(away(away(((u8 *)switch_table_typed_conforming_conforms_check_object_5c_a4adb150), 8 * (r_ep_3 & 7ull)), 0xfffffffffffffff8ull)) * r_ij_1) + 63ull) >> 6ull);
+    r_se_1 = (u64)(((ld64(away(away(((u8 *)switch_table_typed_conforming_conforms_check_object_5c_426a4812), 8 * (r_ep_3 & 7ull)), 0xfffffffffffffff8ull)) * r_ij_1) + 63ull) >> 6ull);
     r_12_3 = (u32)r_se_1;
     if (!r_2p) goto l_else_xr;
     r_yf_7 = ld32(r_h6_3);
@@ -11353,28 +11353,28 @@ l_else_xr:;
     struct s_i8_i32 r_tu_3 = capnp_arena_arena_rows_allocate_in_4426f83c3c99ca57(ldp(r_yf_6), r_0f_4, r_12_3);
     r_pp = r_tu_3;
 l_capnp_h1:;
-    if (!(r_pp.f0 == 1u)) goto l_arm_ua_3;
+    if (!(r_pp.f0 == 1u)) goto l_arm_pq_3;
     u32 r_xo_3 = r_pp.f1;
-    capnp_arena_arena_builder_arena_impl_BuilderArenaImplB_24b0f4d4(a_2, r_0i, r_sr, ((r_qw_5 & 0xffffffff00000001ull) | (u64)(u32)((r_xo_3 + (r_sr ^ 0xffffffffu)) << 2u)));
-    r_12_4 = r_xo_3;
-    r_gw_3 = r_0i;
-    goto l_arm_12;
-l_arm_ua_3:;
-    capnp_arena_arena_builder_arena_impl_BuilderArenaImplB_7b1ceaa0(slot_1, a_2, (r_12_3 + 1u));
+    capnp_arena_arena_builder_arena_impl_BuilderArenaImplB_8bddd8ee(a_2, r_0i, r_sr, ((r_qw_5 & 0xffffffff00000001ull) | (u64)(u32)((r_xo_3 + (r_sr ^ 0xffffffffu)) << 2u)));
+    r_iy = r_xo_3;
+    r_jm = r_0i;
+    goto l_arm_4p;
+l_arm_pq_3:;
+    capnp_arena_arena_builder_arena_impl_BuilderArenaImplB_8452dd78(slot_1, a_2, (r_12_3 + 1u));
     if (!(ld8(slot_1) == 0u)) goto l_arm_vh;
     u32 r_yf_8 = ld32(r_ix_1);
     u32 r_e3_3 = ld32(r_x5_7);
-    capnp_arena_arena_builder_arena_impl_BuilderArenaImplB_24b0f4d4(a_2, r_yf_8, r_e3_3, (r_qw_5 & 0xffffffff00000001ull));
-    capnp_arena_arena_builder_arena_impl_BuilderArenaImplB_24b0f4d4(a_2, r_0i, r_sr, (((u64)((u64)r_yf_8 << 32ull) | (u64)((u64)r_e3_3 << 3ull)) | 2ull));
-    r_12_4 = (r_e3_3 + 1u);
-    r_gw_3 = r_yf_8;
-l_arm_12:;
-    u64 r_1q_1 = (ld64(away(away(((u8 *)switch_table_typed_conforming_conforms_check_object_5c_a4adb150), 8 * (r_ep_3 & 7ull)), 0xfffffffffffffff8ull)) * r_ij_1);
-    capnp_arena_traits_arena_writing_copy_words_4072c0e2a627e5d6(a_2, r_gw_3, r_12_4, r_8a, r_z6_5);
+    capnp_arena_arena_builder_arena_impl_BuilderArenaImplB_8bddd8ee(a_2, r_yf_8, r_e3_3, (r_qw_5 & 0xffffffff00000001ull));
+    capnp_arena_arena_builder_arena_impl_BuilderArenaImplB_8bddd8ee(a_2, r_0i, r_sr, (((u64)((u64)r_yf_8 << 32ull) | (u64)((u64)r_e3_3 << 3ull)) | 2ull));
+    r_iy = (r_e3_3 + 1u);
+    r_jm = r_yf_8;
+l_arm_4p:;
+    u64 r_1q_1 = (ld64(away(away(((u8 *)switch_table_typed_conforming_conforms_check_object_5c_426a4812), 8 * (r_ep_3 & 7ull)), 0xfffffffffffffff8ull)) * r_ij_1);
+    capnp_arena_traits_arena_writing_copy_words_257eebf23d8227b7(a_2, r_jm, r_iy, r_8a, r_z6_5);
     r_4i_1 = (r_1q_1 & 63ull);
     if (r_4i_1 == 0ull) goto l_capnp_v7;
     u64 r_0f_5 = (r_c6_5 + 0xffffffffffffffffull);
-    capnp_arena_arena_builder_arena_impl_BuilderArenaImplB_24b0f4d4(a_2, r_gw_3, (r_12_4 + (u32)r_0f_5), (ld64(away(r_8a, (u64)(r_0f_5 << 3ull))) & ((u64)(0xffffffffffffffffull << (r_4i_1 & 63u)) ^ 0xffffffffffffffffull)));
+    capnp_arena_arena_builder_arena_impl_BuilderArenaImplB_8bddd8ee(a_2, r_jm, (r_iy + (u32)r_0f_5), (ld64(away(r_8a, (u64)(r_0f_5 << 3ull))) & ((u64)(0xffffffffffffffffull << (r_4i_1 & 63u)) ^ 0xffffffffffffffffull)));
     goto l_capnp_v7;
 l_arm_vh:;
     r_t8_1 = ld8(r_x5_7);
@@ -11393,16 +11393,16 @@ l_join_o1:;
     r_lc_7 = ((r_24_3 + 1ull) + r_m6_2);
     if (!(r_m6_2 < 0x20000000ull)) goto l_else_70_2;
     if (r_lc_7 > r_nb_1) { r_t8_2 = 23u; goto l_capnp_mp_2; }
-    r_jm = r_lc_7;
+    r_jm_1 = r_lc_7;
     goto l_arm_h8;
 l_else_70_2:;
     u64 r_3o_2 = (r_lc_7 + 0xffffffffc0000000ull);
     if ((r_lc_7 < 0x40000000ull) ? 1u : (r_3o_2 > r_nb_1)) { r_t8_2 = 23u; goto l_capnp_mp_2; }
-    r_jm = r_3o_2;
+    r_jm_1 = r_3o_2;
 l_arm_h8:;
-    r_4r_1 = (u32)r_jm;
+    r_4r_1 = (u32)r_jm_1;
     if (r_sg) { r_t8_2 = 26u; goto l_capnp_mp_2; }
-    r_8u = (r_nb_1 < (r_jm + r_lc_6));
+    r_8u = (r_nb_1 < (r_jm_1 + r_lc_6));
     if ((u8)((u8)t_pa | (u8)r_8u)) goto l_capnp_li;
     if (!(ld8(a_6) == 1u)) { r_5b = r_4r_1; goto l_arm_7a; }
     r_52_11 = ld64(r_rq_6);
@@ -11425,30 +11425,30 @@ l_capnp_uz:;
     r_az_2 = ((u32)r_kx & 65535u);
     r_az_3 = ((u32)r_21 & 65535u);
     r_68_2 = (r_az_3 + r_az_2);
-    if (!(r_68_2 == 0u)) goto l_join_av;
-    capnp_arena_arena_builder_arena_impl_BuilderArenaImplB_24b0f4d4(a_2, r_0i, r_sr, 0xfffffffcull);
+    if (!(r_68_2 == 0u)) goto l_join_ak;
+    capnp_arena_arena_builder_arena_impl_BuilderArenaImplB_8bddd8ee(a_2, r_0i, r_sr, 0xfffffffcull);
     r_fj = r_sr;
     sink_il = r_0i;
     goto l_arm_n3;
-l_join_av:;
-    r_fd = capnp_arena_arena_builder_arena_impl_BuilderArenaImplB_87b91857(a_2, r_0i, r_68_2);
-    if (!(r_fd.f0 == 1u)) goto l_arm_ua_4;
-    u32 r_xo_4 = r_fd.f1;
-    capnp_arena_arena_builder_arena_impl_BuilderArenaImplB_24b0f4d4(a_2, r_0i, r_sr, ((((u64)(r_kx << 32ull) & 0xffff00000000ull) | (u64)(r_21 << 48ull)) | (u64)(u32)((r_xo_4 + (r_sr ^ 0xffffffffu)) << 2u)));
+l_join_ak:;
+    r_nf = capnp_arena_arena_builder_arena_impl_BuilderArenaImplB_3ae0d042(a_2, r_0i, r_68_2);
+    if (!(r_nf.f0 == 1u)) goto l_arm_pq_4;
+    u32 r_xo_4 = r_nf.f1;
+    capnp_arena_arena_builder_arena_impl_BuilderArenaImplB_8bddd8ee(a_2, r_0i, r_sr, ((((u64)(r_kx << 32ull) & 0xffff00000000ull) | (u64)(r_21 << 48ull)) | (u64)(u32)((r_xo_4 + (r_sr ^ 0xffffffffu)) << 2u)));
     r_fj = r_xo_4;
     sink_il = r_0i;
     goto l_arm_n3;
-l_arm_ua_4:;
-    capnp_arena_arena_builder_arena_impl_BuilderArenaImplB_7b1ceaa0(slot_1, a_2, (r_68_2 + 1u));
+l_arm_pq_4:;
+    capnp_arena_arena_builder_arena_impl_BuilderArenaImplB_8452dd78(slot_1, a_2, (r_68_2 + 1u));
     if (!(ld8(slot_1) == 0u)) goto l_arm_vh_1;
     u32 r_yf_9 = ld32(r_ix);
     u32 r_e3_4 = ld32(r_x5_4);
-    capnp_arena_arena_builder_arena_impl_BuilderArenaImplB_24b0f4d4(a_2, r_yf_9, r_e3_4, (((u64)(r_kx << 32ull) & 0xffff00000000ull) | (u64)(r_21 << 48ull)));
-    capnp_arena_arena_builder_arena_impl_BuilderArenaImplB_24b0f4d4(a_2, r_0i, r_sr, (((u64)((u64)r_yf_9 << 32ull) | (u64)((u64)r_e3_4 << 3ull)) | 2ull));
+    capnp_arena_arena_builder_arena_impl_BuilderArenaImplB_8bddd8ee(a_2, r_yf_9, r_e3_4, (((u64)(r_kx << 32ull) & 0xffff00000000ull) | (u64)(r_21 << 48ull)));
+    capnp_arena_arena_builder_arena_impl_BuilderArenaImplB_8bddd8ee(a_2, r_0i, r_sr, (((u64)((u64)r_yf_9 << 32ull) | (u64)((u64)r_e3_4 << 3ull)) | 2ull));
     r_fj = (r_e3_4 + 1u);
     sink_il = r_yf_9;
 l_arm_n3:;
-    capnp_copies_copy_elements_put_words_4072c0e2a627e5d6(a_2, sink_il, r_fj, away(t_f6_2, (u64)((u64)r_5b << 3ull)), ((u64)(r_kx << 3ull) & 0x7fff8ull));
+    capnp_copies_copy_elements_put_words_257eebf23d8227b7(a_2, sink_il, r_fj, away(t_f6_2, (u64)((u64)r_5b << 3ull)), ((u64)(r_kx << 3ull) & 0x7fff8ull));
     memset(slot_1, 0u, 24);
     st64(t_6c_1, 0ull);
     if (r_az_3 == 0u) { r_2b_2 = 0u; r_qh = 0u; r_ip = 0u; r_wq = 0ull; goto l_capnp_no; }
@@ -11461,7 +11461,7 @@ l_arm_n3:;
     st32(r_c4_4, (r_5b + ((u32)r_ep_3 & 65535u)));
     st32(r_bk, 0u);
     st32(r_6c_1, r_s1);
-    capnp_copies_copy_children_copy_children_out_of_line_f_b6070b37(slot_1, a_2, sink_il, (r_az_2 + r_fj), slot_2, r_az_3, a_6, a_7);
+    capnp_copies_copy_children_copy_children_out_of_line_3_45de2596(slot_1, a_2, sink_il, (r_az_2 + r_fj), slot_2, r_az_3, a_6, a_7);
     r_2b_2 = ld8(slot_1);
     r_qh = ld8(r_x5_6);
     r_ip = ld32(r_k0_2);
@@ -11493,7 +11493,7 @@ l_else_4r:;
     st64(r_a8, r_9h);
     st64(r_c4_3, r_24_3);
     st32(r_6c, r_4w_2);
-    capnp_copies_copy_copy_object_f91b20a4a575fbcb(slot_3, a_2, r_0i, r_sr, slot_4, a_6, a_7);
+    capnp_copies_copy_copy_object_3e10f8fb4aa9caee(slot_3, a_2, r_0i, r_sr, slot_4, a_6, a_7);
     t_pz = ld64(r_zd_1);
     t_fy = ld32(r_k0);
     r_1l = ld8(r_x5_3);
@@ -11563,7 +11563,7 @@ l_else_6q_7:;
     struct s_i8_i32 r_tu_4 = capnp_arena_arena_rows_allocate_in_4426f83c3c99ca57(ldp(away(a_2, 80ull)), ((u64)a_3 + 0xffffffffffffffffull), r_ll_1);
     r_jz_3 = r_tu_4;
 l_capnp_c2_3:;
-    if (!(r_jz_3.f0 == 1u)) goto l_arm_mi;
+    if (!(r_jz_3.f0 == 1u)) goto l_arm_ic;
     r_xo_5 = r_jz_3.f1;
     r_mm = (((u64)((u64)r_v3 << 35ull) | (u64)(u32)((r_xo_5 + (a_4 ^ 0xffffffffu)) << 2u)) | 0x700000001ull);
     if (!r_sz_2) goto l_else_6q_8;
@@ -11576,8 +11576,8 @@ l_else_6q_8:;
     r_zf = r_xo_5;
     r_21_1 = a_3;
     goto l_arm_dc;
-l_arm_mi:;
-    capnp_arena_arena_builder_arena_impl_BuilderArenaImplB_7b1ceaa0(slot_1, a_2, (r_v3 + 2u));
+l_arm_ic:;
+    capnp_arena_arena_builder_arena_impl_BuilderArenaImplB_8452dd78(slot_1, a_2, (r_v3 + 2u));
     if (!(ld8(slot_1) == 0u)) goto l_arm_x3_3;
     r_yf_11 = ld32((slot_1 + 4));
     r_e3_5 = ld32((slot_1 + 8));
@@ -11625,7 +11625,7 @@ l_arm_5k:;
     r_la_2 = (r_z6_10 + 0xfffffffffffffff8ull);
     r_bh_3 = (r_z6_10 + 0xffffffffffffffe0ull);
     r_hi_1 = (r_ka == 0u);
-    r_gw_4 = (u64)(r_9h >> 3ull);
+    r_gw_3 = (u64)(r_9h >> 3ull);
     r_x5_8 = (slot_4 + 8);
     r_zd_6 = (slot_4 + 16);
     r_lk_2 = (slot_4 + 24);
@@ -11634,7 +11634,7 @@ l_arm_5k:;
     r_c4_5 = (slot_4 + 48);
     r_6c_2 = (slot_4 + 56);
     r_08_2 = away(a_6, 16ull);
-    r_nb_2 = (r_gw_4 & 0xffffffffull);
+    r_nb_2 = (r_gw_3 & 0xffffffffull);
     r_sg_1 = (r_5k == 1u);
     r_rq_7 = away(a_6, 8ull);
     r_x5_9 = (slot_3 + 8);
@@ -11728,14 +11728,14 @@ l_join_iw:;
     r_24_8 = (u64)(r_w0_7 + t_nk_1);
     memset(slot_3, 0u, 24);
     memset(slot_4, 0u, 64);
-    if (!(r_gw_4 > r_24_8)) goto l_capnp_v7_1;
+    if (!(r_gw_3 > r_24_8)) goto l_capnp_v7_1;
     r_qw_6 = ld64(away(t_f6_1, (u64)(r_24_8 << 3ull)));
     if (r_qw_6 == 0ull) goto l_capnp_v7_1;
     switch_f9_1 = (r_qw_6 & 3ull);
     r_ep_4 = (u64)(r_qw_6 >> 32ull);
     if (!((switch_f9_1 == 1ull) ? ((u8)((u8)((u8)r_ep_4 & 7u) + 255u) < 5u) : 0u)) goto l_join_br_1;
     r_ij_2 = (u64)(r_qw_6 >> 35ull);
-    r_1q_2 = (ld64(away(away(((u8 *)switch_table_typed_conforming_conforms_check_object_5c_a4adb150), 8 * (r_ep_4 & 7ull)), 0xfffffffffffffff8ull)) * r_ij_2);
+    r_1q_2 = (ld64(away(away(((u8 *)switch_table_typed_conforming_conforms_check_object_5c_426a4812), 8 * (r_ep_4 & 7ull)), 0xfffffffffffffff8ull)) * r_ij_2);
     r_c6_6 = (u64)((r_1q_2 + 63ull) >> 6ull);
     if (!t_0c_1) goto l_join_bd_2;
     st64(r_08_2, uadd_sat64(ld64(r_08_2), 1ull));
@@ -11762,35 +11762,35 @@ l_arm_vo_1:;
 l_arm_p5_1:;
     r_z6_11 = (u64)(r_c6_6 << 3ull);
     r_8a_1 = away(t_f6_1, (u64)(r_gk_1 << 3ull));
-    r_se_2 = (u64)(((ld64(away(away(((u8 *)switch_table_typed_conforming_conforms_check_object_5c_a4adb150), 8 * (r_ep_4 & 7ull)), 0xfffffffffffffff8ull)) * r_ij_2) + 63ull) >> 6ull);
-    r_12_5 = (u32)r_se_2;
+    r_se_2 = (u64)(((ld64(away(away(((u8 *)switch_table_typed_conforming_conforms_check_object_5c_426a4812), 8 * (r_ep_4 & 7ull)), 0xfffffffffffffff8ull)) * r_ij_2) + 63ull) >> 6ull);
+    r_12_4 = (u32)r_se_2;
     if (!r_2p_1) goto l_capnp_5b;
     r_yf_13 = ld32(r_h6_5);
     r_52_14 = ld64(r_su_1);
-    if ((r_se_2 + (u64)r_yf_13) > (u64)((ld64(r_r2_1) + r_52_14) >> 3ull)) goto l_arm_ua_5;
-    r_w0_9 = (r_yf_13 + r_12_5);
+    if ((r_se_2 + (u64)r_yf_13) > (u64)((ld64(r_r2_1) + r_52_14) >> 3ull)) goto l_arm_pq_5;
+    r_w0_9 = (r_yf_13 + r_12_4);
     r_z6_12 = (u64)((u64)r_w0_9 << 3ull);
     if (!(r_52_14 < r_z6_12)) goto l_then_rx;
     capnp_messages_messages_copy_memory_CopySegment_zero_up_to(r_xm_4, r_z6_12);
     goto l_then_rx;
 l_capnp_5b:;
-    r_tu_5 = capnp_arena_arena_rows_allocate_in_4426f83c3c99ca57(ldp(r_yf_12), r_0f_6, r_12_5);
+    r_tu_5 = capnp_arena_arena_rows_allocate_in_4426f83c3c99ca57(ldp(r_yf_12), r_0f_6, r_12_4);
     if (r_tu_5.f0 == 1u) goto l_else_gb;
-    goto l_arm_ua_5;
+    goto l_arm_pq_5;
 l_then_rx:;
     st32(r_h6_5, r_w0_9);
     st64(away(ldp(r_xm_4), (u64)((u64)r_sr_1 << 3ull)), ((r_qw_6 & 0xffffffff00000001ull) | (u64)(u32)((r_yf_13 + (r_sr_1 ^ 0xffffffffu)) << 2u)));
-    r_12_6 = r_yf_13;
-    r_gw_5 = 0u;
-    goto l_arm_12_1;
+    r_iy_1 = r_yf_13;
+    r_jm_2 = 0u;
+    goto l_arm_4p_1;
 l_else_gb:;
     u32 r_xo_6 = r_tu_5.f1;
     capnp_arena_arena_rows_put_word_in_4426f83c3c99ca57(ldp(r_yf_12), r_0f_6, r_sr_1, ((r_qw_6 & 0xffffffff00000001ull) | (u64)(u32)((r_xo_6 + (r_sr_1 ^ 0xffffffffu)) << 2u)));
-    r_12_6 = r_xo_6;
-    r_gw_5 = r_21_1;
-    goto l_arm_12_1;
-l_arm_ua_5:;
-    capnp_arena_arena_builder_arena_impl_BuilderArenaImplB_7b1ceaa0(slot_1, a_2, (r_12_5 + 1u));
+    r_iy_1 = r_xo_6;
+    r_jm_2 = r_21_1;
+    goto l_arm_4p_1;
+l_arm_pq_5:;
+    capnp_arena_arena_builder_arena_impl_BuilderArenaImplB_8452dd78(slot_1, a_2, (r_12_4 + 1u));
     if (!(ld8(slot_1) == 0u)) goto l_arm_vh_2;
     r_yf_14 = ld32(r_ix_3);
     r_e3_6 = ld32(r_x5_13);
@@ -11813,19 +11813,19 @@ l_capnp_9d_1:;
 l_else_bj:;
     capnp_arena_arena_rows_put_word_in_4426f83c3c99ca57(ldp(r_yf_12), r_0f_6, r_sr_1, r_ni_1);
 l_core_5s_1:;
-    r_12_6 = r_ll_4;
-    r_gw_5 = r_yf_14;
-l_arm_12_1:;
-    r_1q_3 = (ld64(away(away(((u8 *)switch_table_typed_conforming_conforms_check_object_5c_a4adb150), 8 * (r_ep_4 & 7ull)), 0xfffffffffffffff8ull)) * r_ij_2);
+    r_iy_1 = r_ll_4;
+    r_jm_2 = r_yf_14;
+l_arm_4p_1:;
+    r_1q_3 = (ld64(away(away(((u8 *)switch_table_typed_conforming_conforms_check_object_5c_426a4812), 8 * (r_ep_4 & 7ull)), 0xfffffffffffffff8ull)) * r_ij_2);
     if (r_c6_6 == 0ull) goto l_capnp_pq;
-    if (!(r_gw_5 == 0u)) goto l_else_h1_3;
+    if (!(r_jm_2 == 0u)) goto l_else_h1_3;
     r_u9 = ldp(r_xm_4);
     goto l_capnp_m1;
 l_else_h1_3:;
-    u8 *r_x5_15 = capnp_arena_arena_rows_Rows_other_mut_4426f83c3c99ca57(r_xm_4, r_gw_5);
+    u8 *r_x5_15 = capnp_arena_arena_rows_Rows_other_mut_4426f83c3c99ca57(r_xm_4, r_jm_2);
     r_u9 = r_x5_15;
 l_capnp_m1:;
-    r_2b_4 = away(r_u9, (u64)((u64)r_12_6 << 3ull));
+    r_2b_4 = away(r_u9, (u64)((u64)r_iy_1 << 3ull));
     if (!(r_1q_2 < 449ull)) goto l_else_r3_3;
     if (!(r_1q_2 > 192ull)) goto l_else_9l;
     mv32(r_2b_4, r_8a_1);
@@ -11855,13 +11855,13 @@ l_capnp_pq:;
     r_4i_2 = (r_1q_3 & 63ull);
     if (r_4i_2 == 0ull) goto l_capnp_v7_1;
     u64 r_0f_7 = (r_c6_6 + 0xffffffffffffffffull);
-    r_w0_10 = (r_12_6 + (u32)r_0f_7);
+    r_w0_10 = (r_iy_1 + (u32)r_0f_7);
     r_a5 = (ld64(away(r_8a_1, (u64)(r_0f_7 << 3ull))) & ((u64)(0xffffffffffffffffull << (r_4i_2 & 63u)) ^ 0xffffffffffffffffull));
-    if (!(r_gw_5 == 0u)) goto l_else_eu_1;
+    if (!(r_jm_2 == 0u)) goto l_else_eu_1;
     st64(away(ldp(r_xm_4), (u64)((u64)r_w0_10 << 3ull)), r_a5);
     goto l_capnp_v7_1;
 l_else_eu_1:;
-    capnp_arena_arena_rows_put_word_in_4426f83c3c99ca57(ldp(r_yf_12), ((u64)r_gw_5 + 0xffffffffffffffffull), r_w0_10, r_a5);
+    capnp_arena_arena_rows_put_word_in_4426f83c3c99ca57(ldp(r_yf_12), ((u64)r_jm_2 + 0xffffffffffffffffull), r_w0_10, r_a5);
     goto l_capnp_v7_1;
 l_arm_vh_2:;
     r_t8_3 = ld8(r_x5_13);
@@ -11880,16 +11880,16 @@ l_join_o1_1:;
     r_lc_11 = ((r_24_8 + 1ull) + r_m6_4);
     if (!(r_m6_4 < 0x20000000ull)) goto l_else_70_4;
     if (r_lc_11 > r_nb_2) { r_t8_4 = 23u; goto l_capnp_mp_4; }
-    r_jm_1 = r_lc_11;
+    r_jm_3 = r_lc_11;
     goto l_arm_h8_1;
 l_else_70_4:;
     u64 r_3o_4 = (r_lc_11 + 0xffffffffc0000000ull);
     if ((r_lc_11 < 0x40000000ull) ? 1u : (r_3o_4 > r_nb_2)) { r_t8_4 = 23u; goto l_capnp_mp_4; }
-    r_jm_1 = r_3o_4;
+    r_jm_3 = r_3o_4;
 l_arm_h8_1:;
-    r_4r_2 = (u32)r_jm_1;
+    r_4r_2 = (u32)r_jm_3;
     if (r_sg_1) { r_t8_4 = 26u; goto l_capnp_mp_4; }
-    r_8u_1 = (r_nb_2 < (r_jm_1 + r_lc_10));
+    r_8u_1 = (r_nb_2 < (r_jm_3 + r_lc_10));
     if ((u8)((u8)t_pa | (u8)r_8u_1)) goto l_capnp_li_1;
     if (!(ld8(a_6) == 1u)) { r_5b_1 = r_4r_2; goto l_arm_7a_1; }
     r_52_15 = ld64(r_rq_7);
@@ -11987,7 +11987,7 @@ l_else_xr_1:;
     struct s_i8_i32 r_tu_6 = capnp_arena_arena_rows_allocate_in_4426f83c3c99ca57(ldp(r_yf_12), r_0f_6, r_68_5);
     r_jz_4 = r_tu_6;
 l_capnp_c2_4:;
-    if (!(r_jz_4.f0 == 1u)) goto l_arm_ua_6;
+    if (!(r_jz_4.f0 == 1u)) goto l_arm_pq_6;
     r_xo_7 = r_jz_4.f1;
     r_a7_1 = ((((u64)(r_mz << 32ull) & 0xffff00000000ull) | (u64)(r_3h << 48ull)) | (u64)(u32)((r_xo_7 + (r_sr_1 ^ 0xffffffffu)) << 2u));
     if (!r_2p_1) goto l_else_6u;
@@ -11996,13 +11996,13 @@ l_capnp_c2_4:;
 l_else_6u:;
     capnp_arena_arena_rows_put_word_in_4426f83c3c99ca57(ldp(r_yf_12), r_0f_6, r_sr_1, r_a7_1);
     goto l_capnp_qg;
-l_arm_ua_6:;
-    capnp_arena_arena_builder_arena_impl_BuilderArenaImplB_7b1ceaa0(slot_1, a_2, (r_68_5 + 1u));
+l_arm_pq_6:;
+    capnp_arena_arena_builder_arena_impl_BuilderArenaImplB_8452dd78(slot_1, a_2, (r_68_5 + 1u));
     if (!(ld8(slot_1) == 0u)) goto l_arm_vh_3;
     u32 r_yf_16 = ld32(r_ix_2);
     u32 r_e3_7 = ld32(r_x5_10);
-    capnp_arena_arena_builder_arena_impl_BuilderArenaImplB_24b0f4d4(a_2, r_yf_16, r_e3_7, (((u64)(r_mz << 32ull) & 0xffff00000000ull) | (u64)(r_3h << 48ull)));
-    capnp_arena_arena_builder_arena_impl_BuilderArenaImplB_24b0f4d4(a_2, r_21_1, r_sr_1, (((u64)((u64)r_yf_16 << 32ull) | (u64)((u64)r_e3_7 << 3ull)) | 2ull));
+    capnp_arena_arena_builder_arena_impl_BuilderArenaImplB_8bddd8ee(a_2, r_yf_16, r_e3_7, (((u64)(r_mz << 32ull) & 0xffff00000000ull) | (u64)(r_3h << 48ull)));
+    capnp_arena_arena_builder_arena_impl_BuilderArenaImplB_8bddd8ee(a_2, r_21_1, r_sr_1, (((u64)((u64)r_yf_16 << 32ull) | (u64)((u64)r_e3_7 << 3ull)) | 2ull));
     r_nu_1 = ((u64)((u64)(r_e3_7 + 1u) << 32ull) | (u64)r_yf_16);
     goto l_arm_zo_1;
 l_capnp_qg:;
@@ -12060,7 +12060,7 @@ l_capnp_5c:;
     st32(r_c4_6, (r_5b_1 + ((u32)r_ep_4 & 65535u)));
     st32(r_bk_1, 0u);
     st32(r_6c_3, r_s1_1);
-    capnp_copies_copy_children_copy_children_out_of_line_f_b6070b37(slot_1, a_2, r_wt_1, (r_29_1 + r_4r_3), slot_2, r_az_4, a_6, a_7);
+    capnp_copies_copy_children_copy_children_out_of_line_3_45de2596(slot_1, a_2, r_wt_1, (r_29_1 + r_4r_3), slot_2, r_az_4, a_6, a_7);
     r_2b_6 = ld8(slot_1);
     r_qh_1 = ld8(r_x5_12);
     r_ip_1 = ld32(r_k0_6);
@@ -12092,7 +12092,7 @@ l_else_4r_1:;
     st64(r_a8_2, r_9h);
     st64(r_c4_5, r_24_8);
     st32(r_6c_2, r_4w_1);
-    capnp_copies_copy_copy_object_f91b20a4a575fbcb(slot_3, a_2, r_21_1, r_sr_1, slot_4, a_6, a_7);
+    capnp_copies_copy_copy_object_3e10f8fb4aa9caee(slot_3, a_2, r_21_1, r_sr_1, slot_4, a_6, a_7);
     t_pz_1 = ld64(r_zd_7);
     t_fy_1 = ld32(r_k0_4);
     r_1l_1 = ld8(r_x5_9);
@@ -12126,8 +12126,8 @@ l_join_1g:;
     goto l_common_9c;
 }
 
-/* capnp_arena::arena::builder_arena_impl::BuilderArenaImplBuilderArena::put_word::<#c2545ee4585402c2> */
-static void capnp_arena_arena_builder_arena_impl_BuilderArenaImplB_24b0f4d4(u8 *a_1, u32 a_2, u32 a_3, u64 a_4)
+/* capnp_arena::arena::builder_arena_impl::BuilderArenaImplBuilderArena::put_word::<#b107b1a8e095c8c6> */
+static void capnp_arena_arena_builder_arena_impl_BuilderArenaImplB_8bddd8ee(u8 *a_1, u32 a_2, u32 a_3, u64 a_4)
 {
     if (!(a_2 == 0u)) goto l_else_6q;
     st64(away(ldp(away(a_1, 32ull)), (u64)((u64)a_3 << 3ull)), a_4);
@@ -12145,8 +12145,8 @@ static NEVER COLD void capnp_arena_arena_rows_put_word_in_4426f83c3c99ca57(u8 *a
     return;
 }
 
-/* capnp_arena::arena::builder_arena_impl::BuilderArenaImplBuilderArena::allocate::<#c2545ee4585402c2> */
-static struct s_i8_i32 capnp_arena_arena_builder_arena_impl_BuilderArenaImplB_87b91857(u8 *a_1, u32 a_2, u32 a_3)
+/* capnp_arena::arena::builder_arena_impl::BuilderArenaImplBuilderArena::allocate::<#b107b1a8e095c8c6> */
+static struct s_i8_i32 capnp_arena_arena_builder_arena_impl_BuilderArenaImplB_3ae0d042(u8 *a_1, u32 a_2, u32 a_3)
 {
     u8 *r_xm;
     u8 *r_h6;
@@ -12185,8 +12185,8 @@ l_capnp_fn:;
     return r_hc;
 }
 
-/* capnp_arena::arena::builder_arena_impl::BuilderArenaImplBuilderArena::allocate_anywhere::<#c2545ee4585402c2> */
-static void capnp_arena_arena_builder_arena_impl_BuilderArenaImplB_7b1ceaa0(u8 *a_1, u8 *a_2, u32 a_3)
+/* capnp_arena::arena::builder_arena_impl::BuilderArenaImplBuilderArena::allocate_anywhere::<#b107b1a8e095c8c6> */
+static void capnp_arena_arena_builder_arena_impl_BuilderArenaImplB_8452dd78(u8 *a_1, u8 *a_2, u32 a_3)
 {
     u8 *r_2g;
     u8 *r_h6;
@@ -12347,8 +12347,8 @@ l_return_qi:;
     return r_i6;
 }
 
-/* capnp_arena_traits::arena::writing::copy_words::<#4072c0e2a627e5d6> */
-static void capnp_arena_traits_arena_writing_copy_words_4072c0e2a627e5d6(u8 *a_1, u32 a_2, u32 a_3, u8 *a_4, u64 a_5)
+/* capnp_arena_traits::arena::writing::copy_words::<#257eebf23d8227b7> */
+static void capnp_arena_traits_arena_writing_copy_words_257eebf23d8227b7(u8 *a_1, u32 a_2, u32 a_3, u8 *a_4, u64 a_5)
 {
     u8 *r_xm;
     u8 *r_47;
@@ -12407,8 +12407,8 @@ static NEVER COLD u8 *capnp_arena_arena_rows_Rows_other_mut_4426f83c3c99ca57(u8 
     return ldp(away(away(ldp(away(a_1, 48ull)), ((u64)a_2 * 40ull)), 0xffffffffffffffd8ull));
 }
 
-/* capnp_copies::copy::elements::put_words::<#4072c0e2a627e5d6> */
-static void capnp_copies_copy_elements_put_words_4072c0e2a627e5d6(u8 *a_1, u32 a_2, u32 a_3, u8 *a_4, u64 a_5)
+/* capnp_copies::copy::elements::put_words::<#257eebf23d8227b7> */
+static void capnp_copies_copy_elements_put_words_257eebf23d8227b7(u8 *a_1, u32 a_2, u32 a_3, u8 *a_4, u64 a_5)
 {
     u8 *r_xm;
     u8 *r_47;
@@ -12462,8 +12462,8 @@ static NEVER COLD u64 capnp_arena_arena_rows_word_in_4426f83c3c99ca57(u8 *a_1, u
     return ld64(away(ldp(away(a_1, (a_2 * 40ull))), (u64)((u64)a_3 << 3ull)));
 }
 
-/* capnp_making::landing::follow::<#4072c0e2a627e5d6> */
-static NEVER COLD void capnp_making_landing_follow_4072c0e2a627e5d6(u8 *a_1, u8 *a_2, u32 a_3, u32 a_4)
+/* capnp_making::landing::follow::<#257eebf23d8227b7> */
+static NEVER COLD void capnp_making_landing_follow_257eebf23d8227b7(u8 *a_1, u8 *a_2, u32 a_3, u32 a_4)
 {
     A(8) u8 slot_1[32];
     A(8) u8 slot_2[24];
@@ -12506,7 +12506,7 @@ l_capnp_6l:;
     r_qw = ld64(away(ldp(r_po), (u64)((u64)a_4 << 3ull)));
     memset(slot_1, 0u, 32);
     if (!((r_qw & 3ull) == 2ull)) { r_2n = r_qw; goto l_else_y9; }
-    capnp_making_landing_follow_far_4072c0e2a627e5d6(slot_1, a_2, r_qw);
+    capnp_making_landing_follow_far_257eebf23d8227b7(slot_1, a_2, r_qw);
     r_ud = ld8(slot_1);
     goto l_capnp_ty;
 l_else_y9:;
@@ -12550,8 +12550,8 @@ l_capnp_ty:;
     return;
 }
 
-/* capnp_making::landing::follow_far::<#4072c0e2a627e5d6> */
-static NEVER COLD void capnp_making_landing_follow_far_4072c0e2a627e5d6(u8 *a_1, u8 *a_2, u64 a_3)
+/* capnp_making::landing::follow_far::<#257eebf23d8227b7> */
+static NEVER COLD void capnp_making_landing_follow_far_257eebf23d8227b7(u8 *a_1, u8 *a_2, u64 a_3)
 {
     u64 r_cy;
     u32 r_4r;
@@ -12689,8 +12689,8 @@ l_join_s8:;
     return;
 }
 
-/* capnp_making::zeroing::zero_target::<#4072c0e2a627e5d6> */
-static NEVER COLD void capnp_making_zeroing_zero_target_4072c0e2a627e5d6(u8 *a_1, u8 *a_2)
+/* capnp_making::zeroing::zero_target::<#257eebf23d8227b7> */
+static NEVER COLD void capnp_making_zeroing_zero_target_257eebf23d8227b7(u8 *a_1, u8 *a_2)
 {
     u64 r_tp;
     u32 r_5k;
@@ -12727,8 +12727,8 @@ static NEVER COLD void capnp_making_zeroing_zero_target_4072c0e2a627e5d6(u8 *a_1
     u64 r_lc_3;
     u64 r_0f_3;
     u8 *r_8r;
-    u32 r_bw;
-    u32 r_jm;
+    u32 r_dq;
+    u32 r_sw;
     u64 r_ic;
     u64 r_b6;
     u64 r_se;
@@ -12770,7 +12770,7 @@ l_arm_ef:;
     r_ef = (u64)ld32(r_li);
 l_capnp_5p:;
     if (r_lc_1 > r_ef) goto l_join_68;
-    capnp_making_zeroing_zero_pointers_4072c0e2a627e5d6(a_1, r_5k, (u32)r_lc, r_12);
+    capnp_making_zeroing_zero_pointers_257eebf23d8227b7(a_1, r_5k, (u32)r_lc, r_12);
     r_68 = ((r_4r & 65535u) + r_12);
     r_es = (u64)r_68;
     if (r_68 == 0u) goto l_join_68;
@@ -12817,7 +12817,7 @@ l_arm_a9:;
     r_ij = (u64)(r_tp >> 35ull);
     switch ((u8)((u8)(u64)(r_tp >> 32ull) & 7u)) {
     case 7u: goto l_arm_so;
-    case 6u: goto l_arm_o2;
+    case 6u: goto l_arm_ns;
     case 0u: { r_ic = 0ull; goto l_capnp_nc; }
     case 5u: goto l_arm_h9;
     case 4u: goto l_arm_h9_1;
@@ -12860,19 +12860,19 @@ l_join_v8:;
     r_8r = away(a_1, 64ull);
 l_arm_w5:;
     if (r_lc_3 > (u64)ld32(r_8r)) goto l_join_68;
-    if (!((r_y6_1 != 0ull) ? (t_c8 != 0u) : 0u)) goto l_capnp_jh;
-    r_bw = (r_5k_1 + 1u);
-    r_jm = 0u;
-l_join_v9:;
-    u32 r_w0 = (r_bw + r_az);
-    capnp_making_zeroing_zero_pointers_4072c0e2a627e5d6(a_1, r_5k, r_w0, t_12);
-    u32 r_ff = (r_jm + 1u);
-    if (!(r_ff == t_c8)) { r_bw = (r_w0 + t_12); r_jm = r_ff; goto l_join_v9; }
-l_capnp_jh:;
-    capnp_making_zeroing_zero_if_inside_4072c0e2a627e5d6(a_1, r_5k, r_5k_1, r_c4);
+    if (!((r_y6_1 != 0ull) ? (t_c8 != 0u) : 0u)) goto l_capnp_iw;
+    r_dq = (r_5k_1 + 1u);
+    r_sw = 0u;
+l_join_3l:;
+    u32 r_w0 = (r_dq + r_az);
+    capnp_making_zeroing_zero_pointers_257eebf23d8227b7(a_1, r_5k, r_w0, t_12);
+    u32 r_ff = (r_sw + 1u);
+    if (!(r_ff == t_c8)) { r_dq = (r_w0 + t_12); r_sw = r_ff; goto l_join_3l; }
+l_capnp_iw:;
+    capnp_making_zeroing_zero_if_inside_257eebf23d8227b7(a_1, r_5k, r_5k_1, r_c4);
     goto l_join_68;
-l_arm_o2:;
-    capnp_making_zeroing_zero_pointers_4072c0e2a627e5d6(a_1, r_5k, r_5k_1, (u32)r_ij);
+l_arm_ns:;
+    capnp_making_zeroing_zero_pointers_257eebf23d8227b7(a_1, r_5k, r_5k_1, (u32)r_ij);
     goto l_join_68;
 l_arm_h9_2:;
     r_ic = 1ull;
@@ -12937,8 +12937,8 @@ l_default_e1:;
     UNREACHABLE();
 }
 
-/* capnp_making::zeroing::zero_pointers::<#4072c0e2a627e5d6> */
-static void capnp_making_zeroing_zero_pointers_4072c0e2a627e5d6(u8 *a_1, u32 a_2, u32 a_3, u32 a_4)
+/* capnp_making::zeroing::zero_pointers::<#257eebf23d8227b7> */
+static void capnp_making_zeroing_zero_pointers_257eebf23d8227b7(u8 *a_1, u32 a_2, u32 a_3, u32 a_4)
 {
     A(8) u8 slot_1[32];
     u64 r_v1;
@@ -12985,26 +12985,26 @@ l_join_xy:;
     r_2b = away(ldp(r_xm), (u64)((u64)r_7m << 3ull));
     r_qw = ld64(r_2b);
     if (r_qw == 0ull) goto l_capnp_o8;
-    goto l_then_lb;
+    goto l_then_ab;
 l_capnp_2f:;
     r_lz = ldp(r_yf);
     r_sq = capnp_arena_arena_rows_word_in_4426f83c3c99ca57(r_lz, r_0f_1, r_7m);
     if (r_sq == 0ull) goto l_capnp_o8;
-    goto l_else_12;
-l_then_lb:;
-    capnp_making_landing_follow_4072c0e2a627e5d6(slot_1, a_1, 0u, r_7m);
+    goto l_else_n1;
+l_then_ab:;
+    capnp_making_landing_follow_257eebf23d8227b7(slot_1, a_1, 0u, r_7m);
     st64(r_2b, 0ull);
     r_9s = r_qw;
     goto l_capnp_2f_1;
-l_else_12:;
-    capnp_making_landing_follow_4072c0e2a627e5d6(slot_1, a_1, a_2, r_7m);
+l_else_n1:;
+    capnp_making_landing_follow_257eebf23d8227b7(slot_1, a_1, a_2, r_7m);
     capnp_arena_arena_rows_put_word_in_4426f83c3c99ca57(r_lz, r_0f_1, r_7m, 0ull);
     r_9s = r_sq;
 l_capnp_2f_1:;
     if (!(ld8(slot_1) == 1u)) goto l_capnp_o8;
-    capnp_making_zeroing_zero_target_4072c0e2a627e5d6(a_1, r_x5);
+    capnp_making_zeroing_zero_target_257eebf23d8227b7(a_1, r_x5);
     if (!((r_9s & 3ull) == 2ull)) goto l_capnp_o8;
-    capnp_making_zeroing_zero_far_pads_4072c0e2a627e5d6(a_1, r_9s);
+    capnp_making_zeroing_zero_far_pads_257eebf23d8227b7(a_1, r_9s);
 l_capnp_o8:;
     u64 indvars_r7 = (indvars_mo + 1ull);
     if (!(indvars_r7 == r_v1)) { indvars_mo = indvars_r7; goto l_join_xy; }
@@ -13012,8 +13012,8 @@ l_join_68:;
     return;
 }
 
-/* capnp_making::zeroing::zero_if_inside::<#4072c0e2a627e5d6> */
-static void capnp_making_zeroing_zero_if_inside_4072c0e2a627e5d6(u8 *a_1, u32 a_2, u32 a_3, u64 a_4)
+/* capnp_making::zeroing::zero_if_inside::<#257eebf23d8227b7> */
+static void capnp_making_zeroing_zero_if_inside_257eebf23d8227b7(u8 *a_1, u32 a_2, u32 a_3, u64 a_4)
 {
     u64 r_7l;
     u64 r_o7;
@@ -13073,8 +13073,8 @@ l_join_68:;
     return;
 }
 
-/* capnp_making::zeroing::zero_far_pads::<#4072c0e2a627e5d6> */
-static NEVER COLD void capnp_making_zeroing_zero_far_pads_4072c0e2a627e5d6(u8 *a_1, u64 a_2)
+/* capnp_making::zeroing::zero_far_pads::<#257eebf23d8227b7> */
+static NEVER COLD void capnp_making_zeroing_zero_far_pads_257eebf23d8227b7(u8 *a_1, u64 a_2)
 {
     u8 r_hr;
     u64 t_3h;
@@ -13123,8 +13123,8 @@ l_capnp_68:;
     return;
 }
 
-/* capnp_copies::copy::children::copy_children_out_of_line::<#f91b20a4a575fbcb> */
-static NEVER void capnp_copies_copy_children_copy_children_out_of_line_f_b6070b37(u8 *a_1, u8 *a_2, u32 a_3, u32 a_4, u8 *a_5, u32 a_6, u8 *a_7, u8 a_8)
+/* capnp_copies::copy::children::copy_children_out_of_line::<#3e10f8fb4aa9caee> */
+static NEVER void capnp_copies_copy_children_copy_children_out_of_line_3_45de2596(u8 *a_1, u8 *a_2, u32 a_3, u32 a_4, u8 *a_5, u32 a_6, u8 *a_7, u8 a_8)
 {
     A(8) u8 slot_1[24];
     A(8) u8 slot_2[64];
@@ -13214,8 +13214,8 @@ static NEVER void capnp_copies_copy_children_copy_children_out_of_line_f_b6070b3
     u64 r_6f;
     u64 r_59;
     u64 r_ni;
-    u32 r_12_1;
-    u32 r_gw_1;
+    u32 r_iy;
+    u32 r_jm;
     u64 r_1q_1;
     u8 *r_u9;
     u8 *r_2b;
@@ -13368,7 +13368,7 @@ l_join_22:;
     r_ep = (u64)(r_qw_3 >> 32ull);
     if (!((switch_f9 == 1ull) ? ((u8)((u8)((u8)r_ep & 7u) + 255u) < 5u) : 0u)) goto l_join_br;
     r_ij = (u64)(r_qw_3 >> 35ull);
-    r_1q = (ld64(away(away(((u8 *)switch_table_typed_conforming_conforms_check_object_5c_a4adb150), 8 * (r_ep & 7ull)), 0xfffffffffffffff8ull)) * r_ij);
+    r_1q = (ld64(away(away(((u8 *)switch_table_typed_conforming_conforms_check_object_5c_426a4812), 8 * (r_ep & 7ull)), 0xfffffffffffffff8ull)) * r_ij);
     r_c6 = (u64)((r_1q + 63ull) >> 6ull);
     if (!t_0c) goto l_join_bd;
     st64(r_08, uadd_sat64(ld64(r_08), 1ull));
@@ -13395,12 +13395,12 @@ l_arm_i0_1:;
 l_arm_5g:;
     r_z6 = (u64)(r_c6 << 3ull);
     r_dx = away(r_rv_1, (u64)(r_la << 3ull));
-    r_se = (u64)(((ld64(away(away(((u8 *)switch_table_typed_conforming_conforms_check_object_5c_a4adb150), 8 * (r_ep & 7ull)), 0xfffffffffffffff8ull)) * r_ij) + 63ull) >> 6ull);
+    r_se = (u64)(((ld64(away(away(((u8 *)switch_table_typed_conforming_conforms_check_object_5c_426a4812), 8 * (r_ep & 7ull)), 0xfffffffffffffff8ull)) * r_ij) + 63ull) >> 6ull);
     r_12 = (u32)r_se;
     if (!r_sz) goto l_capnp_5b;
     r_yf_1 = ld32(r_h6);
     r_52_1 = ld64(r_su);
-    if ((r_se + (u64)r_yf_1) > (u64)((ld64(r_r2) + r_52_1) >> 3ull)) goto l_arm_ua;
+    if ((r_se + (u64)r_yf_1) > (u64)((ld64(r_r2) + r_52_1) >> 3ull)) goto l_arm_pq;
     r_w0 = (r_yf_1 + r_12);
     r_z6_1 = (u64)((u64)r_w0 << 3ull);
     if (!(r_52_1 < r_z6_1)) goto l_then_rx;
@@ -13409,21 +13409,21 @@ l_arm_5g:;
 l_capnp_5b:;
     r_tu = capnp_arena_arena_rows_allocate_in_4426f83c3c99ca57(ldp(r_yf), r_0f, r_12);
     if (r_tu.f0 == 1u) goto l_else_gb;
-    goto l_arm_ua;
+    goto l_arm_pq;
 l_then_rx:;
     st32(r_h6, r_w0);
     st64(away(ldp(r_xm), (u64)((u64)r_7m << 3ull)), ((r_qw_3 & 0xffffffff00000001ull) | (u64)(u32)((r_yf_1 + (r_7m ^ 0xffffffffu)) << 2u)));
-    r_12_1 = r_yf_1;
-    r_gw_1 = 0u;
-    goto l_arm_12;
+    r_iy = r_yf_1;
+    r_jm = 0u;
+    goto l_arm_4p;
 l_else_gb:;
     u32 r_xo = r_tu.f1;
     capnp_arena_arena_rows_put_word_in_4426f83c3c99ca57(ldp(r_yf), r_0f, r_7m, ((r_qw_3 & 0xffffffff00000001ull) | (u64)(u32)((r_xo + (r_7m ^ 0xffffffffu)) << 2u)));
-    r_12_1 = r_xo;
-    r_gw_1 = a_3;
-    goto l_arm_12;
-l_arm_ua:;
-    capnp_arena_arena_builder_arena_impl_BuilderArenaImplB_7b1ceaa0(slot_1, a_2, (r_12 + 1u));
+    r_iy = r_xo;
+    r_jm = a_3;
+    goto l_arm_4p;
+l_arm_pq:;
+    capnp_arena_arena_builder_arena_impl_BuilderArenaImplB_8452dd78(slot_1, a_2, (r_12 + 1u));
     if (!(ld8(slot_1) == 0u)) goto l_arm_vh;
     r_yf_2 = ld32(r_ix_1);
     r_e3 = ld32(r_x5_5);
@@ -13446,19 +13446,19 @@ l_capnp_9d:;
 l_else_bj:;
     capnp_arena_arena_rows_put_word_in_4426f83c3c99ca57(ldp(r_yf), r_0f, r_7m, r_ni);
 l_core_5s:;
-    r_12_1 = r_ll;
-    r_gw_1 = r_yf_2;
-l_arm_12:;
-    r_1q_1 = (ld64(away(away(((u8 *)switch_table_typed_conforming_conforms_check_object_5c_a4adb150), 8 * (r_ep & 7ull)), 0xfffffffffffffff8ull)) * r_ij);
+    r_iy = r_ll;
+    r_jm = r_yf_2;
+l_arm_4p:;
+    r_1q_1 = (ld64(away(away(((u8 *)switch_table_typed_conforming_conforms_check_object_5c_426a4812), 8 * (r_ep & 7ull)), 0xfffffffffffffff8ull)) * r_ij);
     if (r_c6 == 0ull) goto l_capnp_pq;
-    if (!(r_gw_1 == 0u)) goto l_else_h1;
+    if (!(r_jm == 0u)) goto l_else_h1;
     r_u9 = ldp(r_xm);
     goto l_capnp_m1;
 l_else_h1:;
-    u8 *r_x5_6 = capnp_arena_arena_rows_Rows_other_mut_4426f83c3c99ca57(r_xm, r_gw_1);
+    u8 *r_x5_6 = capnp_arena_arena_rows_Rows_other_mut_4426f83c3c99ca57(r_xm, r_jm);
     r_u9 = r_x5_6;
 l_capnp_m1:;
-    r_2b = away(r_u9, (u64)((u64)r_12_1 << 3ull));
+    r_2b = away(r_u9, (u64)((u64)r_iy << 3ull));
     if (!(r_1q < 449ull)) goto l_else_r3;
     if (!(r_1q > 192ull)) goto l_else_9l;
     mv32(r_2b, r_dx);
@@ -13488,13 +13488,13 @@ l_capnp_pq:;
     r_4i = (r_1q_1 & 63ull);
     if (r_4i == 0ull) goto l_capnp_v7;
     u64 r_0f_1 = (r_c6 + 0xffffffffffffffffull);
-    r_w0_1 = (r_12_1 + (u32)r_0f_1);
+    r_w0_1 = (r_iy + (u32)r_0f_1);
     r_a5 = (ld64(away(r_dx, (u64)(r_0f_1 << 3ull))) & ((u64)(0xffffffffffffffffull << (r_4i & 63u)) ^ 0xffffffffffffffffull));
-    if (!(r_gw_1 == 0u)) goto l_else_eu_1;
+    if (!(r_jm == 0u)) goto l_else_eu_1;
     st64(away(ldp(r_xm), (u64)((u64)r_w0_1 << 3ull)), r_a5);
     goto l_capnp_v7;
 l_else_eu_1:;
-    capnp_arena_arena_rows_put_word_in_4426f83c3c99ca57(ldp(r_yf), ((u64)r_gw_1 + 0xffffffffffffffffull), r_w0_1, r_a5);
+    capnp_arena_arena_rows_put_word_in_4426f83c3c99ca57(ldp(r_yf), ((u64)r_jm + 0xffffffffffffffffull), r_w0_1, r_a5);
     goto l_capnp_v7;
 l_arm_vh:;
     r_7k = ld64(r_zd_5);
@@ -13620,7 +13620,7 @@ l_else_xr:;
     struct s_i8_i32 r_tu_1 = capnp_arena_arena_rows_allocate_in_4426f83c3c99ca57(ldp(r_yf), r_0f, r_68);
     r_jz = r_tu_1;
 l_capnp_c2:;
-    if (!(r_jz.f0 == 1u)) goto l_arm_ua_1;
+    if (!(r_jz.f0 == 1u)) goto l_arm_pq_1;
     r_xo_1 = r_jz.f1;
     r_a7 = ((((u64)(r_mz << 32ull) & 0xffff00000000ull) | (u64)(r_3h << 48ull)) | (u64)(u32)((r_xo_1 + (r_7m ^ 0xffffffffu)) << 2u));
     if (!r_sz) goto l_else_6u;
@@ -13629,8 +13629,8 @@ l_capnp_c2:;
 l_else_6u:;
     capnp_arena_arena_rows_put_word_in_4426f83c3c99ca57(ldp(r_yf), r_0f, r_7m, r_a7);
     goto l_capnp_qg;
-l_arm_ua_1:;
-    capnp_arena_arena_builder_arena_impl_BuilderArenaImplB_7b1ceaa0(slot_1, a_2, (r_68 + 1u));
+l_arm_pq_1:;
+    capnp_arena_arena_builder_arena_impl_BuilderArenaImplB_8452dd78(slot_1, a_2, (r_68 + 1u));
     if (!(ld8(slot_1) == 0u)) goto l_arm_vh_1;
     r_yf_4 = ld32(r_ix);
     r_e3_1 = ld32(r_x5_2);
@@ -13711,7 +13711,7 @@ l_capnp_5c:;
     st32(r_c4_1, (r_5b + ((u32)r_ep & 65535u)));
     st32(r_bk, 0u);
     st32(r_6c_1, r_53);
-    capnp_copies_copy_children_copy_children_out_of_line_f_b6070b37(slot_1, a_2, r_wt, (r_29 + r_4r_1), slot_2, r_az, a_7, a_8);
+    capnp_copies_copy_children_copy_children_out_of_line_3_45de2596(slot_1, a_2, r_wt, (r_29 + r_4r_1), slot_2, r_az, a_7, a_8);
     r_2b_5 = ld8(slot_1);
     r_qh = ld8(r_x5_4);
     r_ip = ld32(r_k0_2);
@@ -13737,7 +13737,7 @@ l_else_4r:;
     st64(r_a8, r_qw_2);
     st64(r_c4, r_24);
     st32(r_6c, r_5k_1);
-    capnp_copies_copy_copy_object_f91b20a4a575fbcb(slot_3, a_2, a_3, r_7m, slot_4, a_7, a_8);
+    capnp_copies_copy_copy_object_3e10f8fb4aa9caee(slot_3, a_2, a_3, r_7m, slot_4, a_7, a_8);
     t_i2 = ld64(r_zd_1);
     t_1i = ld32(r_k0);
     r_k7 = ld8(r_x5_1);
@@ -13750,12 +13750,12 @@ l_capnp_6w:;
     r_uo = t_i2;
     r_93 = t_1i;
     r_8y = r_k7;
-    goto l_arm_12_1;
+    goto l_arm_12;
 l_arm_i0:;
     r_uo = r_7k;
     r_93 = r_zq;
     r_8y = r_p9;
-l_arm_12_1:;
+l_arm_12:;
     r_10 = 1u;
     r_kb = (u32)r_8y;
     r_n4 = r_93;
@@ -14060,7 +14060,7 @@ l_arm_oi_1:;
 l_arm_oi_2:;
     r_12_3 = (u32)r_ij;
     if ((i32)a_4 < (i32)1u) { r_pp = 1u; r_9q = 0u; r_ai = 26u; r_m0 = 0u; r_ph = 0ull; goto l_common_4n; }
-    r_c6 = (u64)(((ld64(away(away(((u8 *)switch_table_typed_conforming_conforms_check_object_5c_a4adb150), 8 * (r_ep_1 & 7ull)), 0xfffffffffffffff8ull)) * r_ij) + 63ull) >> 6ull);
+    r_c6 = (u64)(((ld64(away(away(((u8 *)switch_table_typed_conforming_conforms_check_object_5c_426a4812), 8 * (r_ep_1 & 7ull)), 0xfffffffffffffff8ull)) * r_ij) + 63ull) >> 6ull);
     if (((u64)(r_27 >> 3ull) & 0xffffffffull) < (r_c6 + (u64)r_qd)) { r_pp = 1u; r_9q = 0u; r_ai = 23u; r_m0 = 0u; r_ph = 0ull; goto l_common_4n; }
     if (t_pa) goto l_arm_eq;
     if (!(ld8(a_6) == 1u)) goto l_arm_eq;
@@ -14903,8 +14903,8 @@ l_arm_o9:;
     goto l_common_68;
 }
 
-/* capnp_messages::messages::writing::canonical_bytes::<#3691078bae5dd839> */
-struct s_p_i64 capnp_messages_messages_writing_canonical_bytes_369107_aea7980e(u8 *a_1)
+/* capnp_messages::messages::writing::canonical_bytes::<#0383920df4a99c71> */
+struct s_p_i64 capnp_messages_messages_writing_canonical_bytes_038392_13019918(u8 *a_1)
 {
     A(8) u8 slot_1[1];
     A(8) u8 slot_2[24];
@@ -15238,8 +15238,8 @@ l_core_2k:;
     return (u8)((u8)common_76 ^ (u8)1u);
 }
 
-/* capnp_arena::arena::builder_arena_impl::deallocate_others::<#3691078bae5dd839> */
-NEVER void capnp_arena_arena_builder_arena_impl_deallocate_others_74e7ad04(u8 *a_1, u8 *a_2)
+/* capnp_arena::arena::builder_arena_impl::deallocate_others::<#0383920df4a99c71> */
+NEVER void capnp_arena_arena_builder_arena_impl_deallocate_others_b2a31c9c(u8 *a_1, u8 *a_2)
 {
     A(8) u8 slot_1[40];
     u8 *r_mb;
@@ -15640,7 +15640,7 @@ l_join_g1:;
 l_arm_ui:;
     r_ep = (u64)(r_qw >> 32ull);
     if (!((u8)((u8)((u8)r_ep & 7u) + 255u) < 5u)) goto l_after_e9;
-    r_c6 = (u64)(((ld64(away(away(((u8 *)switch_table_typed_conforming_conforms_check_object_5c_a4adb150), 8 * (r_ep & 7ull)), 0xfffffffffffffff8ull)) * (u64)(r_qw >> 35ull)) + 63ull) >> 6ull);
+    r_c6 = (u64)(((ld64(away(away(((u8 *)switch_table_typed_conforming_conforms_check_object_5c_426a4812), 8 * (r_ep & 7ull)), 0xfffffffffffffff8ull)) * (u64)(r_qw >> 35ull)) + 63ull) >> 6ull);
     if (r_n1) { r_dq_1 = 25u; goto l_arm_h4_1; }
     if (!t_0c) goto l_join_bd_1;
     st64(r_t9, uadd_sat64(ld64(r_t9), 1ull));
@@ -15850,11 +15850,11 @@ l_arm_z2:;
     case 7u: goto l_join_vn;
     case 6u: goto l_join_10;
     case 0u: goto l_arm_ps;
-    case 1u: goto l_arm_f9;
-    case 2u: goto l_arm_f9;
-    case 3u: goto l_arm_f9;
-    case 4u: goto l_arm_f9;
-    case 5u: goto l_arm_f9;
+    case 1u: goto l_arm_45;
+    case 2u: goto l_arm_45;
+    case 3u: goto l_arm_45;
+    case 4u: goto l_arm_45;
+    case 5u: goto l_arm_45;
     default: goto l_default_e1;
     }
 l_join_vn:;
@@ -15933,9 +15933,9 @@ l_arm_ps:;
     r_7j = 0u;
     r_p8 = (u32)r_ij;
     goto l_capnp_6f;
-l_arm_f9:;
+l_arm_45:;
     r_12_1 = (u32)r_ij;
-    r_c6 = (u64)(((ld64(away(away(((u8 *)switch_table_typed_conforming_conforms_check_object_5c_a4adb150), 8 * (r_ep_1 & 7ull)), 0xfffffffffffffff8ull)) * r_ij) + 63ull) >> 6ull);
+    r_c6 = (u64)(((ld64(away(away(((u8 *)switch_table_typed_conforming_conforms_check_object_5c_426a4812), 8 * (r_ep_1 & 7ull)), 0xfffffffffffffff8ull)) * r_ij) + 63ull) >> 6ull);
     if (((u64)(r_nl >> 3ull) & 0xffffffffull) < (r_c6 + (u64)r_qj)) { r_6f = 0ull; r_3l = 0ull; r_rk = 0u; r_7q = 0u; r_yr = 0ull; r_c1 = 1ull; r_g3 = 23u; r_vx = 0u; r_7j = 0u; r_p8 = 0u; goto l_capnp_6f; }
     if (!t_0c) goto l_arm_zg;
     if (!(ld8(a_5) == 1u)) goto l_arm_zg;
@@ -16125,7 +16125,7 @@ l_arm_up:;
 l_arm_ui:;
     r_ep = (u64)(r_qw >> 32ull);
     if (!((u8)((u8)((u8)r_ep & 7u) + 255u) < 5u)) goto l_after_ti;
-    r_c6 = (u64)(((ld64(away(away(((u8 *)switch_table_typed_conforming_conforms_check_object_5c_a4adb150), 8 * (r_ep & 7ull)), 0xfffffffffffffff8ull)) * (u64)(r_qw >> 35ull)) + 63ull) >> 6ull);
+    r_c6 = (u64)(((ld64(away(away(((u8 *)switch_table_typed_conforming_conforms_check_object_5c_426a4812), 8 * (r_ep & 7ull)), 0xfffffffffffffff8ull)) * (u64)(r_qw >> 35ull)) + 63ull) >> 6ull);
     if (r_30) { sink_qh = 25u; sink_dw = 0ull; goto l_capnp_y7; }
     t_0c = (ld8(a_1) == 0u);
     if (!t_0c) goto l_join_bd_1;
@@ -16904,14 +16904,14 @@ static NEVER void capnp_copies_copy_copy_object_f743e1513b93edc7(u8 *a_1, u8 *a_
     u8 r_kw_3;
     u32 r_re_3;
     struct s_i8_i32 r_pp;
-    u32 r_12_4;
-    u32 r_gw_3;
+    u32 r_iy;
+    u32 r_jm;
     u64 r_4i_1;
     u64 r_y6_2;
     u64 r_q7_1;
     u64 r_lc_6;
     u64 r_lc_7;
-    u64 r_jm;
+    u64 r_jm_1;
     u32 r_4r_1;
     u8 r_8u;
     u64 r_52_7;
@@ -16975,7 +16975,7 @@ static NEVER void capnp_copies_copy_copy_object_f743e1513b93edc7(u8 *a_1, u8 *a_
     u64 r_la_2;
     u64 r_bh_3;
     u8 r_hi_1;
-    u64 r_gw_4;
+    u64 r_gw_3;
     u8 *r_x5_6;
     u8 *r_zd_6;
     u8 *r_lk_2;
@@ -17043,7 +17043,7 @@ static NEVER void capnp_copies_copy_copy_object_f743e1513b93edc7(u8 *a_1, u8 *a_
     u64 r_z6_6;
     u8 *r_8a_1;
     u64 r_se_2;
-    u32 r_12_5;
+    u32 r_12_4;
     u32 r_yf_11;
     struct s_i8_i32 r_39_5;
     u32 r_yf_12;
@@ -17052,8 +17052,8 @@ static NEVER void capnp_copies_copy_copy_object_f743e1513b93edc7(u8 *a_1, u8 *a_
     u64 r_6f;
     u64 r_59_1;
     u64 r_ni_1;
-    u32 r_12_6;
-    u32 r_gw_5;
+    u32 r_iy_1;
+    u32 r_jm_2;
     u64 r_1q_3;
     u8 *r_u9;
     u8 *r_2b_4;
@@ -17065,7 +17065,7 @@ static NEVER void capnp_copies_copy_copy_object_f743e1513b93edc7(u8 *a_1, u8 *a_
     u64 r_q7_2;
     u64 r_lc_10;
     u64 r_lc_11;
-    u64 r_jm_1;
+    u64 r_jm_3;
     u32 r_4r_2;
     u8 r_8u_1;
     u64 r_52_9;
@@ -17805,7 +17805,7 @@ l_join_1e:;
     r_ep_3 = (u64)(r_qw_5 >> 32ull);
     if (!((switch_f9 == 1ull) ? ((u8)((u8)((u8)r_ep_3 & 7u) + 255u) < 5u) : 0u)) goto l_join_br;
     r_ij_1 = (u64)(r_qw_5 >> 35ull);
-    r_c6_5 = (u64)(((ld64(away(away(((u8 *)switch_table_typed_conforming_conforms_check_object_5c_a4adb150), 8 * (r_ep_3 & 7ull)), 0xfffffffffffffff8ull)) * r_ij_1) + 63ull) >> 6ull);
+    r_c6_5 = (u64)(((ld64(away(away(((u8 *)switch_table_typed_conforming_conforms_check_object_5c_426a4812), 8 * (r_ep_3 & 7ull)), 0xfffffffffffffff8ull)) * r_ij_1) + 63ull) >> 6ull);
     if (!t_0c) goto l_join_bd_1;
     st64(r_08_1, uadd_sat64(ld64(r_08_1), 1ull));
 l_join_bd_1:;
@@ -17831,7 +17831,7 @@ l_arm_vo:;
 l_arm_p5:;
     r_z6_2 = (u64)(r_c6_5 << 3ull);
     r_8a = away(t_f6_2, (u64)(r_gk << 3ull));
-    r_se_1 = (u64)(((ld64(away(away(((u8 *)switch_table_typed_conforming_conforms_check_object_5c_a4adb150), 8 * (r_ep_3 & 7ull)), 0xfffffffffffffff8ull)) * r_ij_1) + 63ull) >> 6ull);
+    r_se_1 = (u64)(((ld64(away(away(((u8 *)switch_table_typed_conforming_conforms_check_object_5c_426a4812), 8 * (r_ep_3 & 7ull)), 0xfffffffffffffff8ull)) * r_ij_1) + 63ull) >> 6ull);
     r_12_3 = (u32)r_se_1;
     if (!r_2p) goto l_else_5k;
     r_yf_6 = ld32(r_2g_4);
@@ -17853,9 +17853,9 @@ l_capnp_h1:;
     if (!(r_pp.f0 == 1u)) goto l_arm_4u_3;
     u32 r_xo_3 = r_pp.f1;
     capnp_arena_arena_builder_arena_impl_BuilderArenaImplB_baa973df(a_2, r_0i, r_sr, ((r_qw_5 & 0xffffffff00000001ull) | (u64)(u32)((r_xo_3 + (r_sr ^ 0xffffffffu)) << 2u)));
-    r_12_4 = r_xo_3;
-    r_gw_3 = r_0i;
-    goto l_arm_12;
+    r_iy = r_xo_3;
+    r_jm = r_0i;
+    goto l_arm_4p;
 l_arm_4u_3:;
     capnp_arena_arena_builder_arena_impl_BuilderArenaImplB_a1412319(slot_1, a_2, (r_12_3 + 1u));
     if (!(ld8(slot_1) == 0u)) goto l_arm_vh;
@@ -17863,15 +17863,15 @@ l_arm_4u_3:;
     u32 r_e3_3 = ld32(r_x5_5);
     capnp_arena_arena_builder_arena_impl_BuilderArenaImplB_baa973df(a_2, r_yf_7, r_e3_3, (r_qw_5 & 0xffffffff00000001ull));
     capnp_arena_arena_builder_arena_impl_BuilderArenaImplB_baa973df(a_2, r_0i, r_sr, (((u64)((u64)r_yf_7 << 32ull) | (u64)((u64)r_e3_3 << 3ull)) | 2ull));
-    r_12_4 = (r_e3_3 + 1u);
-    r_gw_3 = r_yf_7;
-l_arm_12:;
-    u64 r_1q_1 = (ld64(away(away(((u8 *)switch_table_typed_conforming_conforms_check_object_5c_a4adb150), 8 * (r_ep_3 & 7ull)), 0xfffffffffffffff8ull)) * r_ij_1);
-    capnp_arena_traits_arena_writing_copy_words_22521b95e02b6c38(a_2, r_gw_3, r_12_4, r_8a, r_z6_2);
+    r_iy = (r_e3_3 + 1u);
+    r_jm = r_yf_7;
+l_arm_4p:;
+    u64 r_1q_1 = (ld64(away(away(((u8 *)switch_table_typed_conforming_conforms_check_object_5c_426a4812), 8 * (r_ep_3 & 7ull)), 0xfffffffffffffff8ull)) * r_ij_1);
+    capnp_arena_traits_arena_writing_copy_words_22521b95e02b6c38(a_2, r_jm, r_iy, r_8a, r_z6_2);
     r_4i_1 = (r_1q_1 & 63ull);
     if (r_4i_1 == 0ull) goto l_capnp_v7;
     u64 r_0f_5 = (r_c6_5 + 0xffffffffffffffffull);
-    capnp_arena_arena_builder_arena_impl_BuilderArenaImplB_baa973df(a_2, r_gw_3, (r_12_4 + (u32)r_0f_5), (ld64(away(r_8a, (u64)(r_0f_5 << 3ull))) & ((u64)(0xffffffffffffffffull << (r_4i_1 & 63u)) ^ 0xffffffffffffffffull)));
+    capnp_arena_arena_builder_arena_impl_BuilderArenaImplB_baa973df(a_2, r_jm, (r_iy + (u32)r_0f_5), (ld64(away(r_8a, (u64)(r_0f_5 << 3ull))) & ((u64)(0xffffffffffffffffull << (r_4i_1 & 63u)) ^ 0xffffffffffffffffull)));
     goto l_capnp_v7;
 l_arm_vh:;
     r_t8_1 = ld8(r_x5_5);
@@ -17890,16 +17890,16 @@ l_join_o1:;
     r_lc_7 = ((r_24_3 + 1ull) + r_m6_2);
     if (!(r_m6_2 < 0x20000000ull)) goto l_else_70_2;
     if (r_lc_7 > r_nb_1) { r_t8_2 = 23u; goto l_capnp_mp_2; }
-    r_jm = r_lc_7;
+    r_jm_1 = r_lc_7;
     goto l_arm_h8;
 l_else_70_2:;
     u64 r_3o_2 = (r_lc_7 + 0xffffffffc0000000ull);
     if ((r_lc_7 < 0x40000000ull) ? 1u : (r_3o_2 > r_nb_1)) { r_t8_2 = 23u; goto l_capnp_mp_2; }
-    r_jm = r_3o_2;
+    r_jm_1 = r_3o_2;
 l_arm_h8:;
-    r_4r_1 = (u32)r_jm;
+    r_4r_1 = (u32)r_jm_1;
     if (r_sg) { r_t8_2 = 26u; goto l_capnp_mp_2; }
-    r_8u = (r_nb_1 < (r_jm + r_lc_6));
+    r_8u = (r_nb_1 < (r_jm_1 + r_lc_6));
     if ((u8)((u8)t_pa | (u8)r_8u)) goto l_capnp_li;
     if (!(ld8(a_6) == 1u)) { r_5b = r_4r_1; goto l_arm_7a; }
     r_52_7 = ld64(r_rq_6);
@@ -18116,7 +18116,7 @@ l_arm_5k:;
     r_la_2 = (r_z6_5 + 0xfffffffffffffff8ull);
     r_bh_3 = (r_z6_5 + 0xffffffffffffffe0ull);
     r_hi_1 = (r_ka == 0u);
-    r_gw_4 = (u64)(r_9h >> 3ull);
+    r_gw_3 = (u64)(r_9h >> 3ull);
     r_x5_6 = (slot_4 + 8);
     r_zd_6 = (slot_4 + 16);
     r_lk_2 = (slot_4 + 24);
@@ -18125,7 +18125,7 @@ l_arm_5k:;
     r_c4_5 = (slot_4 + 48);
     r_6c_2 = (slot_4 + 56);
     r_08_2 = away(a_6, 16ull);
-    r_nb_2 = (r_gw_4 & 0xffffffffull);
+    r_nb_2 = (r_gw_3 & 0xffffffffull);
     r_sg_1 = (r_5k == 1u);
     r_rq_7 = away(a_6, 8ull);
     r_x5_7 = (slot_3 + 8);
@@ -18218,14 +18218,14 @@ l_join_iw:;
     r_24_8 = (u64)(r_w0_2 + t_nk_1);
     memset(slot_3, 0u, 24);
     memset(slot_4, 0u, 64);
-    if (!(r_gw_4 > r_24_8)) goto l_capnp_v7_1;
+    if (!(r_gw_3 > r_24_8)) goto l_capnp_v7_1;
     r_qw_6 = ld64(away(t_f6_1, (u64)(r_24_8 << 3ull)));
     if (r_qw_6 == 0ull) goto l_capnp_v7_1;
     switch_f9_1 = (r_qw_6 & 3ull);
     r_ep_4 = (u64)(r_qw_6 >> 32ull);
     if (!((switch_f9_1 == 1ull) ? ((u8)((u8)((u8)r_ep_4 & 7u) + 255u) < 5u) : 0u)) goto l_join_br_1;
     r_ij_2 = (u64)(r_qw_6 >> 35ull);
-    r_1q_2 = (ld64(away(away(((u8 *)switch_table_typed_conforming_conforms_check_object_5c_a4adb150), 8 * (r_ep_4 & 7ull)), 0xfffffffffffffff8ull)) * r_ij_2);
+    r_1q_2 = (ld64(away(away(((u8 *)switch_table_typed_conforming_conforms_check_object_5c_426a4812), 8 * (r_ep_4 & 7ull)), 0xfffffffffffffff8ull)) * r_ij_2);
     r_c6_6 = (u64)((r_1q_2 + 63ull) >> 6ull);
     if (!t_0c_1) goto l_join_bd_2;
     st64(r_08_2, uadd_sat64(ld64(r_08_2), 1ull));
@@ -18252,30 +18252,30 @@ l_arm_vo_1:;
 l_arm_p5_1:;
     r_z6_6 = (u64)(r_c6_6 << 3ull);
     r_8a_1 = away(t_f6_1, (u64)(r_gk_1 << 3ull));
-    r_se_2 = (u64)(((ld64(away(away(((u8 *)switch_table_typed_conforming_conforms_check_object_5c_a4adb150), 8 * (r_ep_4 & 7ull)), 0xfffffffffffffff8ull)) * r_ij_2) + 63ull) >> 6ull);
-    r_12_5 = (u32)r_se_2;
+    r_se_2 = (u64)(((ld64(away(away(((u8 *)switch_table_typed_conforming_conforms_check_object_5c_426a4812), 8 * (r_ep_4 & 7ull)), 0xfffffffffffffff8ull)) * r_ij_2) + 63ull) >> 6ull);
+    r_12_4 = (u32)r_se_2;
     if (!r_2p_1) goto l_capnp_q5;
     r_yf_11 = ld32(r_2g_6);
     if ((r_se_2 + (u64)r_yf_11) > (u64)(ld64(r_h6_1) >> 3ull)) goto l_arm_4u_5;
     goto l_then_kl;
 l_capnp_q5:;
-    r_39_5 = capnp_arena_arena_rows_allocate_in_96bc33dd2dacd45a(ldp(r_o8_1), r_0f_6, r_12_5);
+    r_39_5 = capnp_arena_arena_rows_allocate_in_96bc33dd2dacd45a(ldp(r_o8_1), r_0f_6, r_12_4);
     if (r_39_5.f0 == 1u) goto l_else_gb;
     goto l_arm_4u_5;
 l_then_kl:;
-    st32(r_2g_6, (r_yf_11 + r_12_5));
+    st32(r_2g_6, (r_yf_11 + r_12_4));
     st64(away(ldp(r_r2_2), (u64)((u64)r_sr_1 << 3ull)), ((r_qw_6 & 0xffffffff00000001ull) | (u64)(u32)((r_yf_11 + (r_sr_1 ^ 0xffffffffu)) << 2u)));
-    r_12_6 = r_yf_11;
-    r_gw_5 = 0u;
-    goto l_arm_12_1;
+    r_iy_1 = r_yf_11;
+    r_jm_2 = 0u;
+    goto l_arm_4p_1;
 l_else_gb:;
     u32 r_xo_6 = r_39_5.f1;
     capnp_arena_arena_rows_put_word_in_96bc33dd2dacd45a(ldp(r_o8_1), r_0f_6, r_sr_1, ((r_qw_6 & 0xffffffff00000001ull) | (u64)(u32)((r_xo_6 + (r_sr_1 ^ 0xffffffffu)) << 2u)));
-    r_12_6 = r_xo_6;
-    r_gw_5 = r_21_1;
-    goto l_arm_12_1;
+    r_iy_1 = r_xo_6;
+    r_jm_2 = r_21_1;
+    goto l_arm_4p_1;
 l_arm_4u_5:;
-    capnp_arena_arena_builder_arena_impl_BuilderArenaImplB_a1412319(slot_1, a_2, (r_12_5 + 1u));
+    capnp_arena_arena_builder_arena_impl_BuilderArenaImplB_a1412319(slot_1, a_2, (r_12_4 + 1u));
     if (!(ld8(slot_1) == 0u)) goto l_arm_vh_2;
     r_yf_12 = ld32(r_ix_3);
     r_e3_6 = ld32(r_x5_11);
@@ -18298,19 +18298,19 @@ l_capnp_9d_1:;
 l_else_kf:;
     capnp_arena_arena_rows_put_word_in_96bc33dd2dacd45a(ldp(r_o8_1), r_0f_6, r_sr_1, r_ni_1);
 l_core_5s_1:;
-    r_12_6 = r_ll_4;
-    r_gw_5 = r_yf_12;
-l_arm_12_1:;
-    r_1q_3 = (ld64(away(away(((u8 *)switch_table_typed_conforming_conforms_check_object_5c_a4adb150), 8 * (r_ep_4 & 7ull)), 0xfffffffffffffff8ull)) * r_ij_2);
+    r_iy_1 = r_ll_4;
+    r_jm_2 = r_yf_12;
+l_arm_4p_1:;
+    r_1q_3 = (ld64(away(away(((u8 *)switch_table_typed_conforming_conforms_check_object_5c_426a4812), 8 * (r_ep_4 & 7ull)), 0xfffffffffffffff8ull)) * r_ij_2);
     if (r_c6_6 == 0ull) goto l_capnp_pq;
-    if (!(r_gw_5 == 0u)) goto l_else_az_3;
+    if (!(r_jm_2 == 0u)) goto l_else_az_3;
     r_u9 = ldp(r_r2_2);
     goto l_capnp_m1;
 l_else_az_3:;
-    u8 *r_6s_3 = capnp_arena_arena_rows_Rows_other_mut_96bc33dd2dacd45a(r_r2_2, r_gw_5);
+    u8 *r_6s_3 = capnp_arena_arena_rows_Rows_other_mut_96bc33dd2dacd45a(r_r2_2, r_jm_2);
     r_u9 = r_6s_3;
 l_capnp_m1:;
-    r_2b_4 = away(r_u9, (u64)((u64)r_12_6 << 3ull));
+    r_2b_4 = away(r_u9, (u64)((u64)r_iy_1 << 3ull));
     if (!(r_1q_2 < 449ull)) goto l_else_r3_3;
     if (!(r_1q_2 > 192ull)) goto l_else_9l;
     mv32(r_2b_4, r_8a_1);
@@ -18340,13 +18340,13 @@ l_capnp_pq:;
     r_4i_2 = (r_1q_3 & 63ull);
     if (r_4i_2 == 0ull) goto l_capnp_v7_1;
     u64 r_0f_7 = (r_c6_6 + 0xffffffffffffffffull);
-    r_w0_4 = (r_12_6 + (u32)r_0f_7);
+    r_w0_4 = (r_iy_1 + (u32)r_0f_7);
     r_a5 = (ld64(away(r_8a_1, (u64)(r_0f_7 << 3ull))) & ((u64)(0xffffffffffffffffull << (r_4i_2 & 63u)) ^ 0xffffffffffffffffull));
-    if (!(r_gw_5 == 0u)) goto l_else_fi_1;
+    if (!(r_jm_2 == 0u)) goto l_else_fi_1;
     st64(away(ldp(r_r2_2), (u64)((u64)r_w0_4 << 3ull)), r_a5);
     goto l_capnp_v7_1;
 l_else_fi_1:;
-    capnp_arena_arena_rows_put_word_in_96bc33dd2dacd45a(ldp(r_o8_1), ((u64)r_gw_5 + 0xffffffffffffffffull), r_w0_4, r_a5);
+    capnp_arena_arena_rows_put_word_in_96bc33dd2dacd45a(ldp(r_o8_1), ((u64)r_jm_2 + 0xffffffffffffffffull), r_w0_4, r_a5);
     goto l_capnp_v7_1;
 l_arm_vh_2:;
     r_t8_3 = ld8(r_x5_11);
@@ -18365,16 +18365,16 @@ l_join_o1_1:;
     r_lc_11 = ((r_24_8 + 1ull) + r_m6_4);
     if (!(r_m6_4 < 0x20000000ull)) goto l_else_70_4;
     if (r_lc_11 > r_nb_2) { r_t8_4 = 23u; goto l_capnp_mp_4; }
-    r_jm_1 = r_lc_11;
+    r_jm_3 = r_lc_11;
     goto l_arm_h8_1;
 l_else_70_4:;
     u64 r_3o_4 = (r_lc_11 + 0xffffffffc0000000ull);
     if ((r_lc_11 < 0x40000000ull) ? 1u : (r_3o_4 > r_nb_2)) { r_t8_4 = 23u; goto l_capnp_mp_4; }
-    r_jm_1 = r_3o_4;
+    r_jm_3 = r_3o_4;
 l_arm_h8_1:;
-    r_4r_2 = (u32)r_jm_1;
+    r_4r_2 = (u32)r_jm_3;
     if (r_sg_1) { r_t8_4 = 26u; goto l_capnp_mp_4; }
-    r_8u_1 = (r_nb_2 < (r_jm_1 + r_lc_10));
+    r_8u_1 = (r_nb_2 < (r_jm_3 + r_lc_10));
     if ((u8)((u8)t_pa | (u8)r_8u_1)) goto l_capnp_li_1;
     if (!(ld8(a_6) == 1u)) { r_5b_1 = r_4r_2; goto l_arm_7a_1; }
     r_52_9 = ld64(r_rq_7);
@@ -19701,8 +19701,8 @@ static NEVER void capnp_copies_copy_children_copy_children_out_of_line_f_f51e9aa
     u64 r_6f;
     u64 r_59;
     u64 r_ni;
-    u32 r_12_1;
-    u32 r_gw_1;
+    u32 r_iy;
+    u32 r_jm;
     u64 r_1q_1;
     u8 *r_u9;
     u8 *r_2b;
@@ -19851,7 +19851,7 @@ l_join_22:;
     r_ep = (u64)(r_qw_3 >> 32ull);
     if (!((switch_f9 == 1ull) ? ((u8)((u8)((u8)r_ep & 7u) + 255u) < 5u) : 0u)) goto l_join_br;
     r_ij = (u64)(r_qw_3 >> 35ull);
-    r_1q = (ld64(away(away(((u8 *)switch_table_typed_conforming_conforms_check_object_5c_a4adb150), 8 * (r_ep & 7ull)), 0xfffffffffffffff8ull)) * r_ij);
+    r_1q = (ld64(away(away(((u8 *)switch_table_typed_conforming_conforms_check_object_5c_426a4812), 8 * (r_ep & 7ull)), 0xfffffffffffffff8ull)) * r_ij);
     r_c6 = (u64)((r_1q + 63ull) >> 6ull);
     if (!t_0c) goto l_join_bd;
     st64(r_08, uadd_sat64(ld64(r_08), 1ull));
@@ -19878,7 +19878,7 @@ l_arm_i0_1:;
 l_arm_5g:;
     r_z6 = (u64)(r_c6 << 3ull);
     r_dx = away(r_rv_1, (u64)(r_la << 3ull));
-    r_se = (u64)(((ld64(away(away(((u8 *)switch_table_typed_conforming_conforms_check_object_5c_a4adb150), 8 * (r_ep & 7ull)), 0xfffffffffffffff8ull)) * r_ij) + 63ull) >> 6ull);
+    r_se = (u64)(((ld64(away(away(((u8 *)switch_table_typed_conforming_conforms_check_object_5c_426a4812), 8 * (r_ep & 7ull)), 0xfffffffffffffff8ull)) * r_ij) + 63ull) >> 6ull);
     r_12 = (u32)r_se;
     if (!r_sz) goto l_capnp_q5;
     r_yf = ld32(r_2g);
@@ -19891,15 +19891,15 @@ l_capnp_q5:;
 l_then_kl:;
     st32(r_2g, (r_yf + r_12));
     st64(away(ldp(r_r2), (u64)((u64)r_7m << 3ull)), ((r_qw_3 & 0xffffffff00000001ull) | (u64)(u32)((r_yf + (r_7m ^ 0xffffffffu)) << 2u)));
-    r_12_1 = r_yf;
-    r_gw_1 = 0u;
-    goto l_arm_12;
+    r_iy = r_yf;
+    r_jm = 0u;
+    goto l_arm_4p;
 l_else_gb:;
     u32 r_xo = r_39.f1;
     capnp_arena_arena_rows_put_word_in_96bc33dd2dacd45a(ldp(r_o8), r_0f, r_7m, ((r_qw_3 & 0xffffffff00000001ull) | (u64)(u32)((r_xo + (r_7m ^ 0xffffffffu)) << 2u)));
-    r_12_1 = r_xo;
-    r_gw_1 = a_3;
-    goto l_arm_12;
+    r_iy = r_xo;
+    r_jm = a_3;
+    goto l_arm_4p;
 l_arm_4u:;
     capnp_arena_arena_builder_arena_impl_BuilderArenaImplB_a1412319(slot_1, a_2, (r_12 + 1u));
     if (!(ld8(slot_1) == 0u)) goto l_arm_vh;
@@ -19924,19 +19924,19 @@ l_capnp_9d:;
 l_else_kf:;
     capnp_arena_arena_rows_put_word_in_96bc33dd2dacd45a(ldp(r_o8), r_0f, r_7m, r_ni);
 l_core_5s:;
-    r_12_1 = r_ll;
-    r_gw_1 = r_yf_1;
-l_arm_12:;
-    r_1q_1 = (ld64(away(away(((u8 *)switch_table_typed_conforming_conforms_check_object_5c_a4adb150), 8 * (r_ep & 7ull)), 0xfffffffffffffff8ull)) * r_ij);
+    r_iy = r_ll;
+    r_jm = r_yf_1;
+l_arm_4p:;
+    r_1q_1 = (ld64(away(away(((u8 *)switch_table_typed_conforming_conforms_check_object_5c_426a4812), 8 * (r_ep & 7ull)), 0xfffffffffffffff8ull)) * r_ij);
     if (r_c6 == 0ull) goto l_capnp_pq;
-    if (!(r_gw_1 == 0u)) goto l_else_az;
+    if (!(r_jm == 0u)) goto l_else_az;
     r_u9 = ldp(r_r2);
     goto l_capnp_m1;
 l_else_az:;
-    u8 *r_6s = capnp_arena_arena_rows_Rows_other_mut_96bc33dd2dacd45a(r_r2, r_gw_1);
+    u8 *r_6s = capnp_arena_arena_rows_Rows_other_mut_96bc33dd2dacd45a(r_r2, r_jm);
     r_u9 = r_6s;
 l_capnp_m1:;
-    r_2b = away(r_u9, (u64)((u64)r_12_1 << 3ull));
+    r_2b = away(r_u9, (u64)((u64)r_iy << 3ull));
     if (!(r_1q < 449ull)) goto l_else_r3;
     if (!(r_1q > 192ull)) goto l_else_9l;
     mv32(r_2b, r_dx);
@@ -19966,13 +19966,13 @@ l_capnp_pq:;
     r_4i = (r_1q_1 & 63ull);
     if (r_4i == 0ull) goto l_capnp_v7;
     u64 r_0f_1 = (r_c6 + 0xffffffffffffffffull);
-    r_w0 = (r_12_1 + (u32)r_0f_1);
+    r_w0 = (r_iy + (u32)r_0f_1);
     r_a5 = (ld64(away(r_dx, (u64)(r_0f_1 << 3ull))) & ((u64)(0xffffffffffffffffull << (r_4i & 63u)) ^ 0xffffffffffffffffull));
-    if (!(r_gw_1 == 0u)) goto l_else_fi_1;
+    if (!(r_jm == 0u)) goto l_else_fi_1;
     st64(away(ldp(r_r2), (u64)((u64)r_w0 << 3ull)), r_a5);
     goto l_capnp_v7;
 l_else_fi_1:;
-    capnp_arena_arena_rows_put_word_in_96bc33dd2dacd45a(ldp(r_o8), ((u64)r_gw_1 + 0xffffffffffffffffull), r_w0, r_a5);
+    capnp_arena_arena_rows_put_word_in_96bc33dd2dacd45a(ldp(r_o8), ((u64)r_jm + 0xffffffffffffffffull), r_w0, r_a5);
     goto l_capnp_v7;
 l_arm_vh:;
     r_7k = ld64(r_zd_5);
@@ -20222,12 +20222,12 @@ l_capnp_6w:;
     r_uo = t_i2;
     r_93 = t_1i;
     r_8y = r_k7;
-    goto l_arm_12_1;
+    goto l_arm_12;
 l_arm_i0:;
     r_uo = r_7k;
     r_93 = r_zq;
     r_8y = r_p9;
-l_arm_12_1:;
+l_arm_12:;
     r_10 = 1u;
     r_kb = (u32)r_8y;
     r_n4 = r_93;
@@ -20915,8 +20915,8 @@ l_join_7b:;
     return;
 }
 
-/* capnp_messages::messages::whole_digest::digest_of_copy::<#ad42fe8b34616de5> */
-NEVER void capnp_messages_messages_whole_digest_digest_of_copy_ad_90329eb6(u8 *a_1, u8 *a_2, u8 *a_3, u8 a_4, u64 a_5)
+/* capnp_messages::messages::whole_digest::digest_of_copy::<#022cfa5ac0efa2a5> */
+NEVER void capnp_messages_messages_whole_digest_digest_of_copy_02_e6ae90be(u8 *a_1, u8 *a_2, u8 *a_3, u8 a_4, u64 a_5)
 {
     A(8) u8 slot_1[40];
     A(8) u8 slot_2[32];
@@ -20960,7 +20960,7 @@ NEVER void capnp_messages_messages_whole_digest_digest_of_copy_ad_90329eb6(u8 *a
     memset(slot_8, 0u, 39);
     memset(slot_11, 0u, 32);
     mv32(slot_5, a_2);
-    capnp_messages_messages_whole_canonicalize_ad42fe8b34616de5(slot_4, slot_5, a_3, a_4, a_5);
+    capnp_messages_messages_whole_canonicalize_022cfa5ac0efa2a5(slot_4, slot_5, a_3, a_4, a_5);
     r_uz = ld8(slot_4);
     r_x5 = (slot_4 + 8);
     if (!(r_uz == 0u)) goto l_arm_b3;
@@ -20974,8 +20974,8 @@ NEVER void capnp_messages_messages_whole_digest_digest_of_copy_ad_90329eb6(u8 *a
     r_38_4 = ld64((slot_4 + 120));
     r_38_5 = ld64((slot_4 + 128));
     u8 r_r5 = ld8((slot_4 + 104));
-    struct s_p_i64 r_ej = capnp_messages_messages_writing_canonical_bytes_369107_aea7980e(r_x5);
-    sha2_Digest_digest_8314f5c2d9589b12(slot_3, r_ej.f0, r_ej.f1);
+    struct s_p_i64 r_jn = capnp_messages_messages_writing_canonical_bytes_038392_13019918(r_x5);
+    sha2_Digest_digest_8314f5c2d9589b12(slot_3, r_jn.f0, r_jn.f1);
     mv7(slot_9, slot_3);
     r_5k = ld32((slot_3 + 7));
     r_5k_1 = ld32((slot_3 + 11));
@@ -20995,7 +20995,7 @@ l_capnp_4o:;
     stp(slot_1, r_xw_2);
     st64((slot_1 + 8), r_38_4);
     st64((slot_1 + 16), r_38_5);
-    capnp_arena_arena_builder_arena_impl_deallocate_others_74e7ad04(slot_2, slot_1);
+    capnp_arena_arena_builder_arena_impl_deallocate_others_b2a31c9c(slot_2, slot_1);
     goto l_capnp_f6;
 l_else_r8:;
     if (r_38_3 == 0ull) goto l_core_at;
@@ -21220,8 +21220,8 @@ l_join_0g:;
     return;
 }
 
-/* capnp_messages::messages::part_digest::digest_of_part_copy::<#ad42fe8b34616de5> */
-NEVER void capnp_messages_messages_part_digest_digest_of_part_cop_bd8dbb16(u8 *a_1, u8 *a_2, u8 *a_3, u8 *a_4, u64 a_5, u8 a_6, u64 a_7)
+/* capnp_messages::messages::part_digest::digest_of_part_copy::<#022cfa5ac0efa2a5> */
+NEVER void capnp_messages_messages_part_digest_digest_of_part_cop_2943f34a(u8 *a_1, u8 *a_2, u8 *a_3, u8 *a_4, u64 a_5, u8 a_6, u64 a_7)
 {
     A(8) u8 slot_1[40];
     A(8) u8 slot_2[32];
@@ -21291,7 +21291,7 @@ NEVER void capnp_messages_messages_part_digest_digest_of_part_cop_bd8dbb16(u8 *a
     if (!(ld8(slot_3) == 0u)) goto l_arm_e5;
     st64(slot_5, (u64)r_r5);
     memcpy((slot_5 + 8), (slot_3 + 16), 72);
-    capnp_messages_messages_canonical_copy_canonicalize_re_3491092d(slot_4, slot_1, slot_5, slot_2);
+    capnp_messages_messages_canonical_copy_canonicalize_re_92f8f3a6(slot_4, slot_1, slot_5, slot_2);
     r_n8 = ld64((slot_4 + 16));
     r_ov = ld32((slot_4 + 12));
     r_qo = ld8((slot_4 + 8));
@@ -21318,8 +21318,8 @@ l_capnp_r1:;
     mv32((slot_6 + 16), slot_9);
     u8 *r_c4 = (slot_6 + 48);
     memcpy(r_c4, slot_10, 80);
-    struct s_p_i64 r_ej = capnp_messages_messages_writing_canonical_bytes_369107_aea7980e(slot_6);
-    sha2_Digest_digest_8314f5c2d9589b12(slot_7, r_ej.f0, r_ej.f1);
+    struct s_p_i64 r_jn = capnp_messages_messages_writing_canonical_bytes_038392_13019918(slot_6);
+    sha2_Digest_digest_8314f5c2d9589b12(slot_7, r_jn.f0, r_jn.f1);
     mv7(slot_14, slot_7);
     r_5k = ld32((slot_7 + 7));
     r_5k_1 = ld32((slot_7 + 11));
@@ -21349,7 +21349,7 @@ l_capnp_4o:;
     stp(slot_1, r_xw_2);
     st64((slot_1 + 8), r_38_5);
     st64((slot_1 + 16), r_38_6);
-    capnp_arena_arena_builder_arena_impl_deallocate_others_74e7ad04(slot_2, slot_1);
+    capnp_arena_arena_builder_arena_impl_deallocate_others_b2a31c9c(slot_2, slot_1);
     goto l_capnp_f6;
 l_else_r8:;
     if (r_38_4 == 0ull) goto l_core_at;
@@ -21944,7 +21944,7 @@ l_arm_0g:;
 l_arm_ui:;
     r_ep_1 = (u64)(r_qw >> 32ull);
     if (!((u8)((u8)((u8)r_ep_1 & 7u) + 255u) < 5u)) goto l_after_q8;
-    r_c6 = (u64)(((ld64(away(away(((u8 *)switch_table_typed_conforming_conforms_check_object_5c_a4adb150), 8 * (r_ep_1 & 7ull)), 0xfffffffffffffff8ull)) * (u64)(r_qw >> 35ull)) + 63ull) >> 6ull);
+    r_c6 = (u64)(((ld64(away(away(((u8 *)switch_table_typed_conforming_conforms_check_object_5c_426a4812), 8 * (r_ep_1 & 7ull)), 0xfffffffffffffff8ull)) * (u64)(r_qw >> 35ull)) + 63ull) >> 6ull);
     t_0c = (ld8(a_1) == 0u);
     if (!t_0c) goto l_join_bd_1;
     st64(r_r2, uadd_sat64(ld64(r_r2), 1ull));
@@ -22447,7 +22447,7 @@ l_arm_0w_1:;
 l_arm_0w_2:;
     r_12_3 = (u32)r_ij;
     if ((i32)a_6 < (i32)1u) { r_xv = 0ull; r_qr = 0ull; r_b6 = 0u; r_r6 = 0u; r_ka = 0ull; r_28 = 1u; r_5g = 26u; r_59 = 0u; r_14 = 0u; r_yp = 0u; goto l_capnp_gh; }
-    r_c6 = (u64)(((ld64(away(away(((u8 *)switch_table_typed_conforming_conforms_check_object_5c_a4adb150), 8 * (r_ep_1 & 7ull)), 0xfffffffffffffff8ull)) * r_ij) + 63ull) >> 6ull);
+    r_c6 = (u64)(((ld64(away(away(((u8 *)switch_table_typed_conforming_conforms_check_object_5c_426a4812), 8 * (r_ep_1 & 7ull)), 0xfffffffffffffff8ull)) * r_ij) + 63ull) >> 6ull);
     if (((u64)(r_v8 >> 3ull) & 0xffffffffull) < (r_c6 + (u64)r_2w)) { r_xv = 0ull; r_qr = 0ull; r_b6 = 0u; r_r6 = 0u; r_ka = 0ull; r_28 = 1u; r_5g = 23u; r_59 = 0u; r_14 = 0u; r_yp = 0u; goto l_capnp_gh; }
     if (t_pa) goto l_arm_zg;
     if (!(ld8(a_7) == 1u)) goto l_arm_zg;
@@ -22676,8 +22676,88 @@ l_after_h9:;
     goto l_common_68;
 }
 
-/* capnp_framing::framing::reading::read_into_with::<#5cb56d56ea2a3fa0> */
-void capnp_framing_framing_reading_read_into_with_5cb56d56ea2a3fa0(u8 *a_1, u8 *a_2, u8 *a_3, u64 a_4, u8 *a_5)
+/* std_alloc::vec::Vec::grow_amortized::<#9634afabedddd7ee> */
+NEVER COLD u8 std_alloc_vec_Vec_grow_amortized_9634afabedddd7ee(u8 *a_1, u64 a_2)
+{
+    u64 r_52;
+    u8 common_p7;
+    u8 *r_08;
+    u64 r_52_1;
+    u64 t_e0;
+    u64 common_za;
+    struct s_i64_i64 r_q0;
+    r_52 = ld64(away(a_1, 8ull));
+    if (a_2 > (r_52 ^ 0xffffffffffffffffull)) { common_p7 = 0u; goto l_common_57; }
+    goto l_join_4f;
+l_common_57:;
+    return common_p7;
+l_join_4f:;
+    r_08 = away(a_1, 16ull);
+    r_52_1 = ld64(r_08);
+    u64 a_by = umax64((r_52 + a_2), 8ull);
+    t_e0 = umax64(a_by, (u64)(r_52_1 << 1ull));
+    common_za = ((r_52_1 < 0x4000000000000000ull) ? t_e0 : a_by);
+    if (!((i64)common_za > (i64)0xffffffffffffffffull)) { common_p7 = 0u; goto l_common_57; }
+    if (r_52_1 == 0ull) goto l_std_aw;
+    struct s_i64_i64 r_fk = rattle_realloc(ldp(a_1), r_52, common_za, 1ull);
+    if ((u8)(r_fk.f0 & 1)) { r_q0 = r_fk; goto l_arm_m7; }
+    common_p7 = 0u;
+    goto l_common_57;
+l_std_aw:;
+    struct s_i64_i64 r_q1 = rattle_alloc(t_e0, 1ull);
+    struct s_i64_i64 r_1y = r_q1;
+    if ((u8)(r_1y.f0 & 1)) { r_q0 = r_1y; goto l_arm_m7; }
+    common_p7 = 0u;
+    goto l_common_57;
+l_arm_m7:;
+    stp(a_1, ((u8 *)(uptr)r_q0.f1));
+    st64(r_08, common_za);
+    common_p7 = 1u;
+    goto l_common_57;
+}
+
+/* std_alloc::vec::Vec::grow_amortized::<#e6560bd0eee8a70a> */
+NEVER COLD u8 std_alloc_vec_Vec_grow_amortized_e6560bd0eee8a70a(u8 *a_1)
+{
+    u64 r_52;
+    u8 common_p7;
+    u8 *r_08;
+    u64 r_52_1;
+    u64 t_e0;
+    u64 common_za;
+    struct s_i64_i64 r_q0;
+    r_52 = ld64(away(a_1, 8ull));
+    if (r_52 == 0xffffffffffffffffull) { common_p7 = 0u; goto l_common_57; }
+    goto l_join_4c;
+l_common_57:;
+    return common_p7;
+l_join_4c:;
+    r_08 = away(a_1, 16ull);
+    r_52_1 = ld64(r_08);
+    u64 a_pn = (umax64(r_52, 3ull) + 1ull);
+    t_e0 = umax64(a_pn, (u64)(r_52_1 << 1ull));
+    common_za = ((r_52_1 < 0x4000000000000000ull) ? t_e0 : a_pn);
+    if (!(common_za < 0x1000000000000000ull)) { common_p7 = 0u; goto l_common_57; }
+    if (r_52_1 == 0ull) goto l_std_xw;
+    struct s_i64_i64 r_ph = rattle_realloc(ldp(a_1), (u64)(r_52 << 3ull), (u64)(common_za << 3ull), 4ull);
+    if ((u8)(r_ph.f0 & 1)) { r_q0 = r_ph; goto l_arm_m7; }
+    common_p7 = 0u;
+    goto l_common_57;
+l_std_xw:;
+    struct s_i64_i64 r_ow = rattle_alloc((u64)(t_e0 << 3ull), 4ull);
+    struct s_i64_i64 r_1y = r_ow;
+    if ((u8)(r_1y.f0 & 1)) { r_q0 = r_1y; goto l_arm_m7; }
+    common_p7 = 0u;
+    goto l_common_57;
+l_arm_m7:;
+    stp(a_1, ((u8 *)(uptr)r_q0.f1));
+    st64(r_08, common_za);
+    common_p7 = 1u;
+    goto l_common_57;
+}
+
+/* capnp_framing::framing::reading::read_into_with::<#adb79f1a3ce299d8> */
+void capnp_framing_framing_reading_read_into_with_adb79f1a3ce299d8(u8 *a_1, u8 *a_2, u8 *a_3, u64 a_4, u8 *a_5)
 {
     A(8) u8 slot_1[24];
     A(4) u8 slot_2[4];
@@ -22806,7 +22886,7 @@ l_join_8s:;
     u64 r_52_1 = ld64(r_xz);
     if (!(r_5p > (r_52_1 - r_52))) { r_ph = r_52_1; r_az = r_52; goto l_join_kx; }
     u8 r_qy = std_alloc_vec_Vec_grow_amortized_ffd95af9aab10bcd(r_rq, r_5p);
-    if (!r_qy) goto l_capnp_iz;
+    if (!r_qy) goto l_capnp_uh;
     r_ph = ld64(r_xz);
     r_az = ld64(r_08);
 l_join_kx:;
@@ -22820,8 +22900,8 @@ l_std_5b:;
     st64(r_xz, r_ph);
     r_xz_1 = r_5q_1;
     goto l_arm_gi;
-l_capnp_iz:;
-    capnp_framing_framing_reading_grow_3691078bae5dd839(slot_1, a_2, r_rq);
+l_capnp_uh:;
+    capnp_framing_framing_reading_grow_0383920df4a99c71(slot_1, a_2, r_rq);
     r_r5_1 = ld8(r_x5);
     r_38 = ld64(r_zd);
     if (!(ld8(slot_1) == 0u)) goto l_arm_of;
@@ -22936,7 +23016,7 @@ l_join_q6:;
     u64 r_52_3 = ld64(r_2g);
     if (!(r_e9 > (r_52_3 - r_52_2))) { r_ph_1 = r_52_3; r_az_1 = r_52_2; goto l_join_kx_1; }
     u8 r_qy_1 = std_alloc_vec_Vec_grow_amortized_ffd95af9aab10bcd(r_r2, r_e9);
-    if (!r_qy_1) goto l_capnp_iz_1;
+    if (!r_qy_1) goto l_capnp_uh_1;
     r_ph_1 = ld64(r_2g);
     r_az_1 = ld64(r_h6);
 l_join_kx_1:;
@@ -22952,8 +23032,8 @@ l_std_re:;
 l_capnp_5s:;
     r_dv = r_r4;
     goto l_arm_df;
-l_capnp_iz_1:;
-    capnp_framing_framing_reading_grow_3691078bae5dd839(slot_1, a_2, r_r2);
+l_capnp_uh_1:;
+    capnp_framing_framing_reading_grow_0383920df4a99c71(slot_1, a_2, r_r2);
     r_r5_2 = ld8(r_x5_1);
     r_38_1 = ld64(r_zd_1);
     if (!(ld8(slot_1) == 0u)) goto l_arm_of_1;
@@ -23314,16 +23394,16 @@ l_join_fh_1:;
     goto l_join_fh_1;
 l_else_x1:;
     u8 r_aj = (u8)(r_47 & 15u);
-    u8 *r_1p = away(((u8 *)g_static_223), (u64)(u8)((u32)r_aj << 4u));
-    st32(r_8z_1, ((((ld32((r_1p + 4)) * (u32)ld8(away(r_8z, 2ull))) + (ld32(r_1p) * (u32)ld8(r_62))) + (ld32((r_1p + 8)) * (u32)ld8(away(r_8z, 3ull)))) + (ld32((r_1p + 12)) * (u32)ld8(away(r_8z, 4ull)))));
+    u8 *r_rs = away(((u8 *)g_static_293), (u64)(u8)((u32)r_aj << 4u));
+    st32(r_8z_1, ((((ld32((r_rs + 4)) * (u32)ld8(away(r_8z, 2ull))) + (ld32(r_rs) * (u32)ld8(r_62))) + (ld32((r_rs + 8)) * (u32)ld8(away(r_8z, 3ull)))) + (ld32((r_rs + 12)) * (u32)ld8(away(r_8z, 4ull)))));
     r_bb = away(r_8z_1, 4ull);
     r_2b = away(r_62, (u64)ctpop8(r_aj));
-    if (!(r_47 < 32u)) goto l_join_qf;
+    if (!(r_47 < 32u)) goto l_join_ew;
     t_8m = (u32)(u8)((u32)ld8(r_2b) * (u8)((u32)r_47 >> 4u));
     goto l_capnp_q3;
-l_join_qf:;
-    u8 *r_1p_1 = away(((u8 *)g_static_223), (u64)(u8)(r_47 & 240u));
-    t_8m = ((((ld32((r_1p_1 + 4)) * (u32)ld8((r_2b + 1))) + (ld32(r_1p_1) * (u32)ld8(r_2b))) + (ld32((r_1p_1 + 8)) * (u32)ld8((r_2b + 2)))) + (ld32((r_1p_1 + 12)) * (u32)ld8((r_2b + 3))));
+l_join_ew:;
+    u8 *r_rs_1 = away(((u8 *)g_static_293), (u64)(u8)(r_47 & 240u));
+    t_8m = ((((ld32((r_rs_1 + 4)) * (u32)ld8((r_2b + 1))) + (ld32(r_rs_1) * (u32)ld8(r_2b))) + (ld32((r_rs_1 + 8)) * (u32)ld8((r_2b + 2)))) + (ld32((r_rs_1 + 12)) * (u32)ld8((r_2b + 3))));
 l_capnp_q3:;
     st32(r_bb, t_8m);
     r_d2 = (u64)(u8)(ctpop8(r_47) + 1u);
@@ -23509,8 +23589,8 @@ l_join_yh:;
     goto l_common_a2;
 }
 
-/* capnp_framing::framing::segment::read_segment_into_with::<#19875b826fd89623> */
-void capnp_framing_framing_segment_read_segment_into_with_1_428f1d9b(u8 *a_1, u8 *a_2, u8 *a_3, u64 a_4, u8 *a_5)
+/* capnp_framing::framing::segment::read_segment_into_with::<#7137eb38a50aa573> */
+void capnp_framing_framing_segment_read_segment_into_with_7_76ab637d(u8 *a_1, u8 *a_2, u8 *a_3, u64 a_4, u8 *a_5)
 {
     A(8) u8 slot_1[24];
     A(8) u8 slot_2[24];
@@ -23567,7 +23647,7 @@ l_join_98:;
     u64 r_52_1 = ld64(r_2g);
     if (!(r_5p > (r_52_1 - r_52))) { r_ph = r_52_1; r_az = r_52; goto l_join_kx; }
     u8 r_hi = std_alloc_vec_Vec_grow_amortized_ffd95af9aab10bcd(r_r2, r_5p);
-    if (!r_hi) goto l_capnp_9v;
+    if (!r_hi) goto l_capnp_2z;
     r_ph = ld64(r_2g);
     r_az = ld64(r_h6);
 l_join_kx:;
@@ -23583,8 +23663,8 @@ l_std_re:;
 l_capnp_5s:;
     r_jw = r_r4;
     goto l_arm_m6;
-l_capnp_9v:;
-    capnp_framing_framing_reading_grow_3691078bae5dd839(slot_1, a_2, r_r2);
+l_capnp_2z:;
+    capnp_framing_framing_reading_grow_0383920df4a99c71(slot_1, a_2, r_r2);
     r_r5 = ld8(r_x5);
     r_38 = ld64(r_zd);
     if (!(ld8(slot_1) == 0u)) goto l_arm_of;
@@ -23638,7 +23718,7 @@ l_join_ha:;
     st64(away(a_1, 16ull), 0ull);
     goto l_common_68;
 l_join_80:;
-    capnp_framing_framing_segment_set_single_segment_36910_9043e87d(slot_2, a_2, (u32)(u64)(r_sv >> 3ull), away(a_5, 8ull), away(a_5, 32ull));
+    capnp_framing_framing_segment_set_single_segment_03839_bd100d79(slot_2, a_2, (u32)(u64)(r_sv >> 3ull), away(a_5, 8ull), away(a_5, 32ull));
     if (!(ld8(slot_2) == 0u)) goto l_arm_qr;
     st64(a_5, 1ull);
     st8(a_1, 0u);
@@ -23653,8 +23733,8 @@ l_arm_qr:;
     goto l_common_68;
 }
 
-/* capnp_framing::framing::segment::set_single_segment::<#3691078bae5dd839> */
-static void capnp_framing_framing_segment_set_single_segment_36910_9043e87d(u8 *a_1, u8 *a_2, u32 a_3, u8 *a_4, u8 *a_5)
+/* capnp_framing::framing::segment::set_single_segment::<#0383920df4a99c71> */
+static void capnp_framing_framing_segment_set_single_segment_03839_bd100d79(u8 *a_1, u8 *a_2, u32 a_3, u8 *a_4, u8 *a_5)
 {
     A(4) u8 slot_1[4];
     u8 *r_rq;
@@ -23995,86 +24075,6 @@ l_capnp_oq:;
     st64(away(a_1, 8ull), (u64)r_dt);
     st64(away(a_1, 16ull), r_83);
     return;
-}
-
-/* std_alloc::vec::Vec::grow_amortized::<#9634afabedddd7ee> */
-NEVER COLD u8 std_alloc_vec_Vec_grow_amortized_9634afabedddd7ee(u8 *a_1, u64 a_2)
-{
-    u64 r_52;
-    u8 common_p7;
-    u8 *r_08;
-    u64 r_52_1;
-    u64 t_e0;
-    u64 common_za;
-    struct s_i64_i64 r_q0;
-    r_52 = ld64(away(a_1, 8ull));
-    if (a_2 > (r_52 ^ 0xffffffffffffffffull)) { common_p7 = 0u; goto l_common_57; }
-    goto l_join_4f;
-l_common_57:;
-    return common_p7;
-l_join_4f:;
-    r_08 = away(a_1, 16ull);
-    r_52_1 = ld64(r_08);
-    u64 a_by = umax64((r_52 + a_2), 8ull);
-    t_e0 = umax64(a_by, (u64)(r_52_1 << 1ull));
-    common_za = ((r_52_1 < 0x4000000000000000ull) ? t_e0 : a_by);
-    if (!((i64)common_za > (i64)0xffffffffffffffffull)) { common_p7 = 0u; goto l_common_57; }
-    if (r_52_1 == 0ull) goto l_std_aw;
-    struct s_i64_i64 r_fk = rattle_realloc(ldp(a_1), r_52, common_za, 1ull);
-    if ((u8)(r_fk.f0 & 1)) { r_q0 = r_fk; goto l_arm_m7; }
-    common_p7 = 0u;
-    goto l_common_57;
-l_std_aw:;
-    struct s_i64_i64 r_q1 = rattle_alloc(t_e0, 1ull);
-    struct s_i64_i64 r_1y = r_q1;
-    if ((u8)(r_1y.f0 & 1)) { r_q0 = r_1y; goto l_arm_m7; }
-    common_p7 = 0u;
-    goto l_common_57;
-l_arm_m7:;
-    stp(a_1, ((u8 *)(uptr)r_q0.f1));
-    st64(r_08, common_za);
-    common_p7 = 1u;
-    goto l_common_57;
-}
-
-/* std_alloc::vec::Vec::grow_amortized::<#e6560bd0eee8a70a> */
-NEVER COLD u8 std_alloc_vec_Vec_grow_amortized_e6560bd0eee8a70a(u8 *a_1)
-{
-    u64 r_52;
-    u8 common_p7;
-    u8 *r_08;
-    u64 r_52_1;
-    u64 t_e0;
-    u64 common_za;
-    struct s_i64_i64 r_q0;
-    r_52 = ld64(away(a_1, 8ull));
-    if (r_52 == 0xffffffffffffffffull) { common_p7 = 0u; goto l_common_57; }
-    goto l_join_4c;
-l_common_57:;
-    return common_p7;
-l_join_4c:;
-    r_08 = away(a_1, 16ull);
-    r_52_1 = ld64(r_08);
-    u64 a_pn = (umax64(r_52, 3ull) + 1ull);
-    t_e0 = umax64(a_pn, (u64)(r_52_1 << 1ull));
-    common_za = ((r_52_1 < 0x4000000000000000ull) ? t_e0 : a_pn);
-    if (!(common_za < 0x1000000000000000ull)) { common_p7 = 0u; goto l_common_57; }
-    if (r_52_1 == 0ull) goto l_std_xw;
-    struct s_i64_i64 r_ph = rattle_realloc(ldp(a_1), (u64)(r_52 << 3ull), (u64)(common_za << 3ull), 4ull);
-    if ((u8)(r_ph.f0 & 1)) { r_q0 = r_ph; goto l_arm_m7; }
-    common_p7 = 0u;
-    goto l_common_57;
-l_std_xw:;
-    struct s_i64_i64 r_ow = rattle_alloc((u64)(t_e0 << 3ull), 4ull);
-    struct s_i64_i64 r_1y = r_ow;
-    if ((u8)(r_1y.f0 & 1)) { r_q0 = r_1y; goto l_arm_m7; }
-    common_p7 = 0u;
-    goto l_common_57;
-l_arm_m7:;
-    stp(a_1, ((u8 *)(uptr)r_q0.f1));
-    st64(r_08, common_za);
-    common_p7 = 1u;
-    goto l_common_57;
 }
 
 /* capnp_framing::framing::reading::read_into::<#769bb4569b8d536c> */
@@ -24535,8 +24535,8 @@ l_capnp_4l:;
     return;
 }
 
-/* capnp_framing::framing::reading::read_into_with::<#4842b3102269fb09> */
-void capnp_framing_framing_reading_read_into_with_4842b3102269fb09(u8 *a_1, u8 *a_2, u8 *a_3, u64 a_4, u8 *a_5)
+/* capnp_framing::framing::reading::read_into_with::<#50f94a68dd18cac1> */
+void capnp_framing_framing_reading_read_into_with_50f94a68dd18cac1(u8 *a_1, u8 *a_2, u8 *a_3, u64 a_4, u8 *a_5)
 {
     A(8) u8 slot_1[24];
     A(4) u8 slot_2[4];
@@ -24665,7 +24665,7 @@ l_join_8s:;
     u64 r_52_1 = ld64(r_xz);
     if (!(r_5p > (r_52_1 - r_52))) { r_ph = r_52_1; r_az = r_52; goto l_join_kx; }
     u8 r_qy = std_alloc_vec_Vec_grow_amortized_ffd95af9aab10bcd(r_rq, r_5p);
-    if (!r_qy) goto l_capnp_iz;
+    if (!r_qy) goto l_capnp_uh;
     r_ph = ld64(r_xz);
     r_az = ld64(r_08);
 l_join_kx:;
@@ -24679,8 +24679,8 @@ l_std_5b:;
     st64(r_xz, r_ph);
     r_xz_1 = r_5q_1;
     goto l_arm_gi;
-l_capnp_iz:;
-    capnp_framing_framing_reading_grow_3691078bae5dd839(slot_1, a_2, r_rq);
+l_capnp_uh:;
+    capnp_framing_framing_reading_grow_0383920df4a99c71(slot_1, a_2, r_rq);
     r_r5_1 = ld8(r_x5);
     r_38 = ld64(r_zd);
     if (!(ld8(slot_1) == 0u)) goto l_arm_of;
@@ -24795,7 +24795,7 @@ l_join_q6:;
     u64 r_52_3 = ld64(r_2g);
     if (!(r_e9 > (r_52_3 - r_52_2))) { r_ph_1 = r_52_3; r_az_1 = r_52_2; goto l_join_kx_1; }
     u8 r_qy_1 = std_alloc_vec_Vec_grow_amortized_ffd95af9aab10bcd(r_r2, r_e9);
-    if (!r_qy_1) goto l_capnp_iz_1;
+    if (!r_qy_1) goto l_capnp_uh_1;
     r_ph_1 = ld64(r_2g);
     r_az_1 = ld64(r_h6);
 l_join_kx_1:;
@@ -24811,8 +24811,8 @@ l_std_re:;
 l_capnp_5s:;
     r_dv = r_r4;
     goto l_arm_df;
-l_capnp_iz_1:;
-    capnp_framing_framing_reading_grow_3691078bae5dd839(slot_1, a_2, r_r2);
+l_capnp_uh_1:;
+    capnp_framing_framing_reading_grow_0383920df4a99c71(slot_1, a_2, r_r2);
     r_r5_2 = ld8(r_x5_1);
     r_38_1 = ld64(r_zd_1);
     if (!(ld8(slot_1) == 0u)) goto l_arm_of_1;
@@ -24932,8 +24932,8 @@ l_return_7d:;
     return r_ez;
 }
 
-/* capnp_framing::framing::reading::read_into_with::<#3b4494d6de09430d> */
-void capnp_framing_framing_reading_read_into_with_3b4494d6de09430d(u8 *a_1, u8 *a_2, u8 *a_3, u64 a_4, u8 *a_5)
+/* capnp_framing::framing::reading::read_into_with::<#fe1a3e2a4b53f74d> */
+void capnp_framing_framing_reading_read_into_with_fe1a3e2a4b53f74d(u8 *a_1, u8 *a_2, u8 *a_3, u64 a_4, u8 *a_5)
 {
     A(8) u8 slot_1[24];
     A(4) u8 slot_2[4];
@@ -25062,7 +25062,7 @@ l_join_8s:;
     u64 r_52_1 = ld64(r_xz);
     if (!(r_5p > (r_52_1 - r_52))) { r_ph = r_52_1; r_az = r_52; goto l_join_kx; }
     u8 r_qy = std_alloc_vec_Vec_grow_amortized_ffd95af9aab10bcd(r_rq, r_5p);
-    if (!r_qy) goto l_capnp_iz;
+    if (!r_qy) goto l_capnp_uh;
     r_ph = ld64(r_xz);
     r_az = ld64(r_08);
 l_join_kx:;
@@ -25076,8 +25076,8 @@ l_std_5b:;
     st64(r_xz, r_ph);
     r_xz_1 = r_5q_1;
     goto l_arm_gi;
-l_capnp_iz:;
-    capnp_framing_framing_reading_grow_3691078bae5dd839(slot_1, a_2, r_rq);
+l_capnp_uh:;
+    capnp_framing_framing_reading_grow_0383920df4a99c71(slot_1, a_2, r_rq);
     r_r5_1 = ld8(r_x5);
     r_38 = ld64(r_zd);
     if (!(ld8(slot_1) == 0u)) goto l_arm_of;
@@ -25192,7 +25192,7 @@ l_join_q6:;
     u64 r_52_3 = ld64(r_2g);
     if (!(r_e9 > (r_52_3 - r_52_2))) { r_ph_1 = r_52_3; r_az_1 = r_52_2; goto l_join_kx_1; }
     u8 r_qy_1 = std_alloc_vec_Vec_grow_amortized_ffd95af9aab10bcd(r_r2, r_e9);
-    if (!r_qy_1) goto l_capnp_iz_1;
+    if (!r_qy_1) goto l_capnp_uh_1;
     r_ph_1 = ld64(r_2g);
     r_az_1 = ld64(r_h6);
 l_join_kx_1:;
@@ -25208,8 +25208,8 @@ l_std_re:;
 l_capnp_5s:;
     r_dv = r_r4;
     goto l_arm_df;
-l_capnp_iz_1:;
-    capnp_framing_framing_reading_grow_3691078bae5dd839(slot_1, a_2, r_r2);
+l_capnp_uh_1:;
+    capnp_framing_framing_reading_grow_0383920df4a99c71(slot_1, a_2, r_r2);
     r_r5_2 = ld8(r_x5_1);
     r_38_1 = ld64(r_zd_1);
     if (!(ld8(slot_1) == 0u)) goto l_arm_of_1;
@@ -25470,8 +25470,8 @@ l_return_7d:;
     return r_ez;
 }
 
-/* capnp_framing::framing::segment::read_segment_into_with::<#4842b3102269fb09> */
-void capnp_framing_framing_segment_read_segment_into_with_4_11baca4e(u8 *a_1, u8 *a_2, u8 *a_3, u64 a_4, u8 *a_5)
+/* capnp_framing::framing::segment::read_segment_into_with::<#50f94a68dd18cac1> */
+void capnp_framing_framing_segment_read_segment_into_with_5_2c4d05bd(u8 *a_1, u8 *a_2, u8 *a_3, u64 a_4, u8 *a_5)
 {
     A(8) u8 slot_1[24];
     A(8) u8 slot_2[24];
@@ -25528,7 +25528,7 @@ l_join_98:;
     u64 r_52_1 = ld64(r_2g);
     if (!(r_5p > (r_52_1 - r_52))) { r_ph = r_52_1; r_az = r_52; goto l_join_kx; }
     u8 r_hi = std_alloc_vec_Vec_grow_amortized_ffd95af9aab10bcd(r_r2, r_5p);
-    if (!r_hi) goto l_capnp_9v;
+    if (!r_hi) goto l_capnp_2z;
     r_ph = ld64(r_2g);
     r_az = ld64(r_h6);
 l_join_kx:;
@@ -25544,8 +25544,8 @@ l_std_re:;
 l_capnp_5s:;
     r_jw = r_r4;
     goto l_arm_m6;
-l_capnp_9v:;
-    capnp_framing_framing_reading_grow_3691078bae5dd839(slot_1, a_2, r_r2);
+l_capnp_2z:;
+    capnp_framing_framing_reading_grow_0383920df4a99c71(slot_1, a_2, r_r2);
     r_r5 = ld8(r_x5);
     r_38 = ld64(r_zd);
     if (!(ld8(slot_1) == 0u)) goto l_arm_of;
@@ -25599,7 +25599,7 @@ l_join_ha:;
     st64(away(a_1, 16ull), 0ull);
     goto l_common_68;
 l_join_80:;
-    capnp_framing_framing_segment_set_single_segment_36910_9043e87d(slot_2, a_2, (u32)(u64)(r_sv >> 3ull), away(a_5, 8ull), away(a_5, 32ull));
+    capnp_framing_framing_segment_set_single_segment_03839_bd100d79(slot_2, a_2, (u32)(u64)(r_sv >> 3ull), away(a_5, 8ull), away(a_5, 32ull));
     if (!(ld8(slot_2) == 0u)) goto l_arm_qr;
     st64(a_5, 1ull);
     st8(a_1, 0u);
@@ -27514,6 +27514,99 @@ l_return_ri:;
     return r_fk;
 }
 
+/* capnp_packing::buffered::flush_before_waiting::<#69629ffe1052b2b1> */
+u8 capnp_packing_buffered_flush_before_waiting_69629ffe1052b2b1(u8 *a_1, u8 *a_2)
+{
+    A(8) u8 slot_1[104];
+    u8 *r_2b;
+    u64 r_t9;
+    u64 r_24;
+    u64 r_c4;
+    u64 r_lc;
+    u8 *r_bb;
+    u64 r_ya;
+    u64 r_95;
+    u64 r_ve;
+    u64 a_n9;
+    u64 r_l5;
+    u64 r_rx;
+    u64 r_0x;
+    u64 r_5q_1;
+    u8 *r_lz;
+    u8 *r_9j;
+    u64 r_52_1;
+    u8 t_r5;
+    u8 *r_lz_1;
+    u64 r_t9_1;
+    u8 *t_2b;
+    u64 r_ti;
+    u64 r_61;
+    u8 r_fk;
+    u8 *r_39 = away(ldp(away(a_1, 72ull)), 64ull);
+    st64(r_39, (ld64(r_39) + 1ull));
+    u64 r_52 = ld64(away(a_1, 48ull));
+    r_2b = away(ldp(away(a_1, 24ull)), r_52);
+    r_t9 = (ld64(away(a_1, 56ull)) - r_52);
+    if (r_t9 < 4ull) goto l_join_ls;
+    u32 r_5k = ld32(r_2b);
+    r_24 = (u64)r_5k;
+    r_c4 = (r_24 + 1ull);
+    if (r_5k > 511u) goto l_join_ls;
+    r_lc = (((u64)(r_c4 << 2ull) + 4ull) + ((u64)(r_24 << 2ull) & 4ull));
+    if (r_t9 < r_lc) goto l_join_ls;
+    r_bb = away(r_2b, 4ull);
+    r_ya = (u64)((r_24 + 32ull) >> 5ull);
+    r_95 = 0ull;
+    r_ve = 0ull;
+l_join_co:;
+    u64 r_vp = (u64)(r_ve << 5ull);
+    a_n9 = umin64((r_vp + 32ull), r_c4);
+    if (r_vp > r_24) { r_0x = 0ull; goto l_capnp_a1; }
+    r_l5 = 0ull;
+    r_rx = r_vp;
+l_join_rl:;
+    u64 r_5q = (r_l5 + (u64)ld32((r_bb + (i64)((u64)(r_rx << 2ull)))));
+    u64 r_36 = (r_rx + 1ull);
+    if (r_36 == a_n9) { r_0x = r_5q; goto l_capnp_a1; }
+    r_l5 = r_5q;
+    r_rx = r_36;
+    goto l_join_rl;
+l_capnp_a1:;
+    r_5q_1 = (r_0x + r_95);
+    u64 r_c4_1 = (r_ve + 1ull);
+    if (!(r_c4_1 == r_ya)) { r_95 = r_5q_1; r_ve = r_c4_1; goto l_join_co; }
+    if (!((u64)((r_t9 - r_lc) >> 3ull) < r_5q_1)) { r_fk = 0u; goto l_return_ri; }
+l_join_ls:;
+    r_lz = ldp(away(a_2, 16ull));
+    memset(slot_1, 0u, 104);
+    u8 *r_3q = away(r_lz, 24ull);
+    r_9j = away(r_lz, 32ull);
+    std_io_buffered_write_out_cc0a01cbe8a2ee4a(slot_1, ldp(r_3q), ld64(r_9j), r_lz);
+    r_52_1 = ld64(slot_1);
+    t_r5 = ld8((slot_1 + 8));
+    u64 r_52_2 = ld64(r_9j);
+    r_lz_1 = ldp(r_3q);
+    r_t9_1 = (r_52_2 - r_52_1);
+    if (r_52_2 == r_52_1) { r_61 = r_52_1; goto l_std_z5; }
+    t_2b = away(r_lz_1, r_52_1);
+    r_ti = 0ull;
+l_join_u2:;
+    st8((r_lz_1 + (i64)(r_ti)), ld8(away(t_2b, r_ti)));
+    u64 r_36_1 = (r_ti + 1ull);
+    if (!(r_36_1 == r_t9_1)) { r_ti = r_36_1; goto l_join_u2; }
+    r_61 = ld64(r_9j);
+l_std_z5:;
+    if (!(r_61 > r_t9_1)) goto l_std_i0;
+    st64(r_9j, r_t9_1);
+l_std_i0:;
+    if (t_r5 == 0u) { r_fk = 0u; goto l_return_ri; }
+    st8(away(r_lz, 48ull), 1u);
+    st8(away(a_2, 33ull), 1u);
+    r_fk = 1u;
+l_return_ri:;
+    return r_fk;
+}
+
 /* capnp_packing::buffered::flush_before_waiting::<#2220d67589da4f01> */
 u8 capnp_packing_buffered_flush_before_waiting_2220d67589da4f01(u8 *a_1, u8 *a_2)
 {
@@ -28667,6 +28760,103 @@ l_return_ri:;
     return r_fk;
 }
 
+/* capnp_packing::buffered::flush_before_waiting::<#655b0880b95ff0d7> */
+u8 capnp_packing_buffered_flush_before_waiting_655b0880b95ff0d7(u8 *a_1, u8 *a_2)
+{
+    A(8) u8 slot_1[104];
+    u8 *r_2b;
+    u64 r_t9;
+    u64 r_24;
+    u64 r_c4;
+    u64 r_lc;
+    u8 *r_bb;
+    u64 r_ya;
+    u64 r_95;
+    u64 r_ve;
+    u64 a_n9;
+    u64 r_l5;
+    u64 r_rx;
+    u64 r_0x;
+    u64 r_5q_1;
+    u8 *r_lz;
+    u8 *r_9j;
+    u64 r_52_1;
+    u8 t_r5;
+    u8 *r_lz_1;
+    u64 r_t9_1;
+    u8 *t_2b;
+    u64 r_ti;
+    u64 r_61;
+    u8 r_fk;
+    u8 *r_39 = away(ldp(away(a_1, 72ull)), 64ull);
+    st64(r_39, (ld64(r_39) + 1ull));
+    u64 r_52 = ld64(away(a_1, 48ull));
+    r_2b = away(ldp(away(a_1, 24ull)), r_52);
+    r_t9 = (ld64(away(a_1, 56ull)) - r_52);
+    if (r_t9 < 4ull) goto l_join_pr;
+    u32 r_5k = ld32(r_2b);
+    r_24 = (u64)r_5k;
+    r_c4 = (r_24 + 1ull);
+    if (r_5k > 511u) goto l_join_pr;
+    r_lc = (((u64)(r_c4 << 2ull) + 4ull) + ((u64)(r_24 << 2ull) & 4ull));
+    if (r_t9 < r_lc) goto l_join_pr;
+    r_bb = away(r_2b, 4ull);
+    r_ya = (u64)((r_24 + 32ull) >> 5ull);
+    r_95 = 0ull;
+    r_ve = 0ull;
+l_join_co:;
+    u64 r_vp = (u64)(r_ve << 5ull);
+    a_n9 = umin64((r_vp + 32ull), r_c4);
+    if (r_vp > r_24) { r_0x = 0ull; goto l_capnp_a1; }
+    r_l5 = 0ull;
+    r_rx = r_vp;
+l_join_rl:;
+    u64 r_5q = (r_l5 + (u64)ld32((r_bb + (i64)((u64)(r_rx << 2ull)))));
+    u64 r_36 = (r_rx + 1ull);
+    if (r_36 == a_n9) { r_0x = r_5q; goto l_capnp_a1; }
+    r_l5 = r_5q;
+    r_rx = r_36;
+    goto l_join_rl;
+l_capnp_a1:;
+    r_5q_1 = (r_0x + r_95);
+    u64 r_c4_1 = (r_ve + 1ull);
+    if (!(r_c4_1 == r_ya)) { r_95 = r_5q_1; r_ve = r_c4_1; goto l_join_co; }
+    if (!((u64)((r_t9 - r_lc) >> 3ull) < r_5q_1)) { r_fk = 0u; goto l_return_ri; }
+l_join_pr:;
+    r_lz = ldp(away(a_2, 16ull));
+    u8 r_ed = capnp_packing_packing_packing_output_PackingOutput_wri_f76edb1e(r_lz);
+    if ((u8)(r_ed & 1)) goto l_then_cv;
+    memset(slot_1, 0u, 104);
+    u8 *r_3q = away(r_lz, 24ull);
+    r_9j = away(r_lz, 32ull);
+    std_io_buffered_write_out_cc0a01cbe8a2ee4a(slot_1, ldp(r_3q), ld64(r_9j), r_lz);
+    r_52_1 = ld64(slot_1);
+    t_r5 = ld8((slot_1 + 8));
+    u64 r_52_2 = ld64(r_9j);
+    r_lz_1 = ldp(r_3q);
+    r_t9_1 = (r_52_2 - r_52_1);
+    if (r_52_2 == r_52_1) { r_61 = r_52_1; goto l_std_z5; }
+    t_2b = away(r_lz_1, r_52_1);
+    r_ti = 0ull;
+l_join_u2:;
+    st8((r_lz_1 + (i64)(r_ti)), ld8(away(t_2b, r_ti)));
+    u64 r_36_1 = (r_ti + 1ull);
+    if (!(r_36_1 == r_t9_1)) { r_ti = r_36_1; goto l_join_u2; }
+    r_61 = ld64(r_9j);
+l_std_z5:;
+    if (!(r_61 > r_t9_1)) goto l_std_i0;
+    st64(r_9j, r_t9_1);
+l_std_i0:;
+    if (t_r5 == 0u) { r_fk = 0u; goto l_return_ri; }
+    st8(away(r_lz, 48ull), 1u);
+    st8(away(r_lz, 8264ull), 1u);
+l_then_cv:;
+    st8(away(a_2, 33ull), 1u);
+    r_fk = 1u;
+l_return_ri:;
+    return r_fk;
+}
+
 /* capnp_packing::buffered::flush_before_waiting::<#6ca625a2475f7e6b> */
 u8 capnp_packing_buffered_flush_before_waiting_6ca625a2475f7e6b(u8 *a_1, u8 *a_2)
 {
@@ -29112,6 +29302,166 @@ l_std_68:;
     return;
 }
 
+/* capnp_messages::text::write_number::<#4ccd004bee0474d0> */
+u8 capnp_messages_text_write_number_4ccd004bee0474d0(u8 *a_1, u64 a_2)
+{
+    A(8) u8 slot_1[96];
+    A(1) u8 slot_2[1];
+    u8 *r_h6;
+    u8 *r_r2;
+    u8 *r_xz;
+    u8 *r_su;
+    u8 *r_xm;
+    u8 *r_x5;
+    u8 *r_qs;
+    u64 r_tv;
+    u64 r_52;
+    u64 r_52_1;
+    u64 r_5q;
+    u8 *r_lz;
+    u8 *r_2b;
+    u64 r_il;
+    u64 r_3a;
+    u8 r_fk;
+    if (!(a_2 > 9ull)) goto l_join_2u;
+    u8 r_gf = capnp_messages_text_write_number_4ccd004bee0474d0(a_1, (a_2 / 10ull));
+    if ((u8)(r_gf & 1)) { r_fk = 1u; goto l_return_ri; }
+l_join_2u:;
+    st8(slot_2, (u8)((u8)(a_2 % 10ull) | 48u));
+    r_h6 = away(a_1, 64ull);
+    r_r2 = away(a_1, 56ull);
+    r_xz = away(a_1, 24ull);
+    r_su = away(a_1, 40ull);
+    r_xm = away(a_1, 32ull);
+    r_x5 = (slot_1 + 8);
+    r_qs = slot_2;
+    r_tv = 1ull;
+l_join_r6:;
+    if ((u8)(ld8(r_h6) & 1)) goto l_join_lj;
+    if (!(ld64(r_r2) < r_tv)) goto l_after_c8;
+l_join_lj:;
+    st8(r_h6, 1u);
+    r_fk = 1u;
+    goto l_return_ri;
+l_after_c8:;
+    memset(slot_1, 0u, 96);
+    r_52 = ld64(r_su);
+    r_52_1 = ld64(r_xm);
+    if (!(r_tv < (r_52 - r_52_1))) goto l_std_ad;
+    r_5q = (r_52_1 + r_tv);
+    r_lz = ldp(r_xz);
+    r_2b = away(r_lz, r_52_1);
+    if (((u64)(uptr)r_2b - (u64)(uptr)r_qs) < r_tv) { r_il = 0ull; goto l_join_fh; }
+    memmove_or_none(r_2b, r_qs, r_tv);
+    goto l_arm_5b;
+l_join_fh:;
+    st8((r_2b + (i64)(r_il)), ld8((r_qs + (i64)(r_il))));
+    u64 r_36 = (r_il + 1ull);
+    if (!(r_36 == r_tv)) { r_il = r_36; goto l_join_fh; }
+l_arm_5b:;
+    stp(r_xz, r_lz);
+    st64(r_xm, r_5q);
+    st64(r_su, r_52);
+    r_3a = r_tv;
+    goto l_arm_qd;
+l_std_ad:;
+    std_io_buffered_BufWriter_write_cold_4fc199ee41d89934(slot_1, a_1, r_qs, r_tv);
+    u64 r_38 = ld64(r_x5);
+    if ((ld8(slot_1) == 0u) ? (r_38 != 0ull) : 0u) { r_3a = r_38; goto l_arm_qd; }
+    st8(away(a_1, 48ull), 1u);
+    r_fk = 1u;
+    goto l_return_ri;
+l_arm_qd:;
+    st64(r_r2, (ld64(r_r2) - r_3a));
+    u64 r_t9 = (r_tv - r_3a);
+    if (r_t9 == 0ull) { r_fk = 0u; goto l_return_ri; }
+    u8 *r_1 = away(r_qs, r_3a);
+    u64 r_2 = r_t9;
+    r_qs = r_1;
+    r_tv = r_2;
+    goto l_join_r6;
+l_return_ri:;
+    return r_fk;
+}
+
+/* capnp_framing::devices::writing::write_all::<#4ccd004bee0474d0> */
+u8 capnp_framing_devices_writing_write_all_4ccd004bee0474d0(u8 *a_1, u8 *a_2, u64 a_3)
+{
+    A(8) u8 slot_1[96];
+    u8 *r_h6;
+    u8 *r_r2;
+    u8 *r_xz;
+    u8 *r_su;
+    u8 *r_xm;
+    u8 *r_x5;
+    u8 *r_qs;
+    u64 r_tv;
+    u64 r_52;
+    u64 r_52_1;
+    u64 r_5q;
+    u8 *r_lz;
+    u8 *r_2b;
+    u64 r_il;
+    u64 r_3a;
+    u8 r_fk;
+    if (a_3 == 0ull) { r_fk = 0u; goto l_return_ri; }
+    r_h6 = away(a_1, 64ull);
+    r_r2 = away(a_1, 56ull);
+    r_xz = away(a_1, 24ull);
+    r_su = away(a_1, 40ull);
+    r_xm = away(a_1, 32ull);
+    r_x5 = (slot_1 + 8);
+    r_qs = a_2;
+    r_tv = a_3;
+l_join_r6:;
+    if ((u8)(ld8(r_h6) & 1)) goto l_join_lj;
+    if (!(ld64(r_r2) < r_tv)) goto l_after_c8;
+l_join_lj:;
+    st8(r_h6, 1u);
+    r_fk = 1u;
+    goto l_return_ri;
+l_after_c8:;
+    memset(slot_1, 0u, 96);
+    r_52 = ld64(r_su);
+    r_52_1 = ld64(r_xm);
+    if (!(r_tv < (r_52 - r_52_1))) goto l_std_ad;
+    r_5q = (r_52_1 + r_tv);
+    r_lz = ldp(r_xz);
+    memset(r_xm, 0u, 16);
+    r_2b = away(r_lz, r_52_1);
+    if (((u64)(uptr)r_2b - (u64)(uptr)r_qs) < r_tv) { r_il = 0ull; goto l_join_fh; }
+    memmove_or_none(r_2b, r_qs, r_tv);
+    goto l_arm_5b;
+l_join_fh:;
+    st8((r_2b + (i64)(r_il)), ld8((r_qs + (i64)(r_il))));
+    u64 r_36 = (r_il + 1ull);
+    if (!(r_36 == r_tv)) { r_il = r_36; goto l_join_fh; }
+l_arm_5b:;
+    stp(r_xz, r_lz);
+    st64(r_xm, r_5q);
+    st64(r_su, r_52);
+    r_3a = r_tv;
+    goto l_arm_qd;
+l_std_ad:;
+    std_io_buffered_BufWriter_write_cold_4fc199ee41d89934(slot_1, a_1, r_qs, r_tv);
+    u64 r_38 = ld64(r_x5);
+    if ((ld8(slot_1) == 0u) ? (r_38 != 0ull) : 0u) { r_3a = r_38; goto l_arm_qd; }
+    st8(away(a_1, 48ull), 1u);
+    r_fk = 1u;
+    goto l_return_ri;
+l_arm_qd:;
+    st64(r_r2, (ld64(r_r2) - r_3a));
+    u64 r_t9 = (r_tv - r_3a);
+    if (r_t9 == 0ull) { r_fk = 0u; goto l_return_ri; }
+    u8 *r_1 = away(r_qs, r_3a);
+    u64 r_2 = r_t9;
+    r_qs = r_1;
+    r_tv = r_2;
+    goto l_join_r6;
+l_return_ri:;
+    return r_fk;
+}
+
 /* capnp_packing::buffered::flush_before_waiting::<#ade09ec562349fe3> */
 u8 capnp_packing_buffered_flush_before_waiting_ade09ec562349fe3(u8 *a_1, u8 *a_2)
 {
@@ -29198,166 +29548,6 @@ l_std_i0:;
     if (t_r5 == 0u) { r_fk = 0u; goto l_return_ri; }
     st8(away(a_2, 48ull), 1u);
     r_fk = 1u;
-l_return_ri:;
-    return r_fk;
-}
-
-/* capnp_framing::devices::writing::write_all::<#4ccd004bee0474d0> */
-u8 capnp_framing_devices_writing_write_all_4ccd004bee0474d0(u8 *a_1, u8 *a_2, u64 a_3)
-{
-    A(8) u8 slot_1[96];
-    u8 *r_h6;
-    u8 *r_r2;
-    u8 *r_xz;
-    u8 *r_su;
-    u8 *r_xm;
-    u8 *r_x5;
-    u8 *r_qs;
-    u64 r_tv;
-    u64 r_52;
-    u64 r_52_1;
-    u64 r_5q;
-    u8 *r_lz;
-    u8 *r_2b;
-    u64 r_il;
-    u64 r_3a;
-    u8 r_fk;
-    if (a_3 == 0ull) { r_fk = 0u; goto l_return_ri; }
-    r_h6 = away(a_1, 64ull);
-    r_r2 = away(a_1, 56ull);
-    r_xz = away(a_1, 24ull);
-    r_su = away(a_1, 40ull);
-    r_xm = away(a_1, 32ull);
-    r_x5 = (slot_1 + 8);
-    r_qs = a_2;
-    r_tv = a_3;
-l_join_r6:;
-    if ((u8)(ld8(r_h6) & 1)) goto l_join_lj;
-    if (!(ld64(r_r2) < r_tv)) goto l_after_c8;
-l_join_lj:;
-    st8(r_h6, 1u);
-    r_fk = 1u;
-    goto l_return_ri;
-l_after_c8:;
-    memset(slot_1, 0u, 96);
-    r_52 = ld64(r_su);
-    r_52_1 = ld64(r_xm);
-    if (!(r_tv < (r_52 - r_52_1))) goto l_std_ad;
-    r_5q = (r_52_1 + r_tv);
-    r_lz = ldp(r_xz);
-    memset(r_xm, 0u, 16);
-    r_2b = away(r_lz, r_52_1);
-    if (((u64)(uptr)r_2b - (u64)(uptr)r_qs) < r_tv) { r_il = 0ull; goto l_join_fh; }
-    memmove_or_none(r_2b, r_qs, r_tv);
-    goto l_arm_5b;
-l_join_fh:;
-    st8((r_2b + (i64)(r_il)), ld8((r_qs + (i64)(r_il))));
-    u64 r_36 = (r_il + 1ull);
-    if (!(r_36 == r_tv)) { r_il = r_36; goto l_join_fh; }
-l_arm_5b:;
-    stp(r_xz, r_lz);
-    st64(r_xm, r_5q);
-    st64(r_su, r_52);
-    r_3a = r_tv;
-    goto l_arm_qd;
-l_std_ad:;
-    std_io_buffered_BufWriter_write_cold_4fc199ee41d89934(slot_1, a_1, r_qs, r_tv);
-    u64 r_38 = ld64(r_x5);
-    if ((ld8(slot_1) == 0u) ? (r_38 != 0ull) : 0u) { r_3a = r_38; goto l_arm_qd; }
-    st8(away(a_1, 48ull), 1u);
-    r_fk = 1u;
-    goto l_return_ri;
-l_arm_qd:;
-    st64(r_r2, (ld64(r_r2) - r_3a));
-    u64 r_t9 = (r_tv - r_3a);
-    if (r_t9 == 0ull) { r_fk = 0u; goto l_return_ri; }
-    u8 *r_1 = away(r_qs, r_3a);
-    u64 r_2 = r_t9;
-    r_qs = r_1;
-    r_tv = r_2;
-    goto l_join_r6;
-l_return_ri:;
-    return r_fk;
-}
-
-/* capnp_messages::text::write_number::<#4ccd004bee0474d0> */
-u8 capnp_messages_text_write_number_4ccd004bee0474d0(u8 *a_1, u64 a_2)
-{
-    A(8) u8 slot_1[96];
-    A(1) u8 slot_2[1];
-    u8 *r_h6;
-    u8 *r_r2;
-    u8 *r_xz;
-    u8 *r_su;
-    u8 *r_xm;
-    u8 *r_x5;
-    u8 *r_qs;
-    u64 r_tv;
-    u64 r_52;
-    u64 r_52_1;
-    u64 r_5q;
-    u8 *r_lz;
-    u8 *r_2b;
-    u64 r_il;
-    u64 r_3a;
-    u8 r_fk;
-    if (!(a_2 > 9ull)) goto l_join_2u;
-    u8 r_gf = capnp_messages_text_write_number_4ccd004bee0474d0(a_1, (a_2 / 10ull));
-    if ((u8)(r_gf & 1)) { r_fk = 1u; goto l_return_ri; }
-l_join_2u:;
-    st8(slot_2, (u8)((u8)(a_2 % 10ull) | 48u));
-    r_h6 = away(a_1, 64ull);
-    r_r2 = away(a_1, 56ull);
-    r_xz = away(a_1, 24ull);
-    r_su = away(a_1, 40ull);
-    r_xm = away(a_1, 32ull);
-    r_x5 = (slot_1 + 8);
-    r_qs = slot_2;
-    r_tv = 1ull;
-l_join_r6:;
-    if ((u8)(ld8(r_h6) & 1)) goto l_join_lj;
-    if (!(ld64(r_r2) < r_tv)) goto l_after_c8;
-l_join_lj:;
-    st8(r_h6, 1u);
-    r_fk = 1u;
-    goto l_return_ri;
-l_after_c8:;
-    memset(slot_1, 0u, 96);
-    r_52 = ld64(r_su);
-    r_52_1 = ld64(r_xm);
-    if (!(r_tv < (r_52 - r_52_1))) goto l_std_ad;
-    r_5q = (r_52_1 + r_tv);
-    r_lz = ldp(r_xz);
-    r_2b = away(r_lz, r_52_1);
-    if (((u64)(uptr)r_2b - (u64)(uptr)r_qs) < r_tv) { r_il = 0ull; goto l_join_fh; }
-    memmove_or_none(r_2b, r_qs, r_tv);
-    goto l_arm_5b;
-l_join_fh:;
-    st8((r_2b + (i64)(r_il)), ld8((r_qs + (i64)(r_il))));
-    u64 r_36 = (r_il + 1ull);
-    if (!(r_36 == r_tv)) { r_il = r_36; goto l_join_fh; }
-l_arm_5b:;
-    stp(r_xz, r_lz);
-    st64(r_xm, r_5q);
-    st64(r_su, r_52);
-    r_3a = r_tv;
-    goto l_arm_qd;
-l_std_ad:;
-    std_io_buffered_BufWriter_write_cold_4fc199ee41d89934(slot_1, a_1, r_qs, r_tv);
-    u64 r_38 = ld64(r_x5);
-    if ((ld8(slot_1) == 0u) ? (r_38 != 0ull) : 0u) { r_3a = r_38; goto l_arm_qd; }
-    st8(away(a_1, 48ull), 1u);
-    r_fk = 1u;
-    goto l_return_ri;
-l_arm_qd:;
-    st64(r_r2, (ld64(r_r2) - r_3a));
-    u64 r_t9 = (r_tv - r_3a);
-    if (r_t9 == 0ull) { r_fk = 0u; goto l_return_ri; }
-    u8 *r_1 = away(r_qs, r_3a);
-    u64 r_2 = r_t9;
-    r_qs = r_1;
-    r_tv = r_2;
-    goto l_join_r6;
 l_return_ri:;
     return r_fk;
 }
@@ -29807,96 +29997,6 @@ l_std_i0:;
     if (t_r5 == 0u) { r_fk = 0u; goto l_return_ri; }
     st8(away(r_lz, 48ull), 1u);
     st8(away(a_2, 25ull), 1u);
-    r_fk = 1u;
-l_return_ri:;
-    return r_fk;
-}
-
-/* capnp_packing::buffered::flush_before_waiting::<#77117357d83075ba> */
-u8 capnp_packing_buffered_flush_before_waiting_77117357d83075ba(u8 *a_1, u8 *a_2)
-{
-    A(8) u8 slot_1[104];
-    u8 *r_2b;
-    u64 r_t9;
-    u64 r_24;
-    u64 r_c4;
-    u64 r_lc;
-    u8 *r_bb;
-    u64 r_ya;
-    u64 r_95;
-    u64 r_ve;
-    u64 a_n9;
-    u64 r_l5;
-    u64 r_rx;
-    u64 r_0x;
-    u64 r_5q_1;
-    u8 *r_xm;
-    u64 r_52_1;
-    u8 t_r5;
-    u8 *r_lz;
-    u64 r_t9_1;
-    u8 *t_2b;
-    u64 r_ti;
-    u64 r_61;
-    u8 r_fk;
-    u8 *r_39 = away(ldp(away(a_1, 72ull)), 64ull);
-    st64(r_39, (ld64(r_39) + 1ull));
-    u64 r_52 = ld64(away(a_1, 48ull));
-    r_2b = away(ldp(away(a_1, 24ull)), r_52);
-    r_t9 = (ld64(away(a_1, 56ull)) - r_52);
-    if (r_t9 < 4ull) goto l_join_im;
-    u32 r_5k = ld32(r_2b);
-    r_24 = (u64)r_5k;
-    r_c4 = (r_24 + 1ull);
-    if (r_5k > 511u) goto l_join_im;
-    r_lc = (((u64)(r_c4 << 2ull) + 4ull) + ((u64)(r_24 << 2ull) & 4ull));
-    if (r_t9 < r_lc) goto l_join_im;
-    r_bb = away(r_2b, 4ull);
-    r_ya = (u64)((r_24 + 32ull) >> 5ull);
-    r_95 = 0ull;
-    r_ve = 0ull;
-l_join_co:;
-    u64 r_vp = (u64)(r_ve << 5ull);
-    a_n9 = umin64((r_vp + 32ull), r_c4);
-    if (r_vp > r_24) { r_0x = 0ull; goto l_capnp_a1; }
-    r_l5 = 0ull;
-    r_rx = r_vp;
-l_join_rl:;
-    u64 r_5q = (r_l5 + (u64)ld32((r_bb + (i64)((u64)(r_rx << 2ull)))));
-    u64 r_36 = (r_rx + 1ull);
-    if (r_36 == a_n9) { r_0x = r_5q; goto l_capnp_a1; }
-    r_l5 = r_5q;
-    r_rx = r_36;
-    goto l_join_rl;
-l_capnp_a1:;
-    r_5q_1 = (r_0x + r_95);
-    u64 r_c4_1 = (r_ve + 1ull);
-    if (!(r_c4_1 == r_ya)) { r_95 = r_5q_1; r_ve = r_c4_1; goto l_join_co; }
-    if (!((u64)((r_t9 - r_lc) >> 3ull) < r_5q_1)) { r_fk = 0u; goto l_return_ri; }
-l_join_im:;
-    memset(slot_1, 0u, 104);
-    u8 *r_xz = away(a_2, 24ull);
-    r_xm = away(a_2, 32ull);
-    std_io_buffered_write_out_cc0a01cbe8a2ee4a(slot_1, ldp(r_xz), ld64(r_xm), a_2);
-    r_52_1 = ld64(slot_1);
-    t_r5 = ld8((slot_1 + 8));
-    u64 r_52_2 = ld64(r_xm);
-    r_lz = ldp(r_xz);
-    r_t9_1 = (r_52_2 - r_52_1);
-    if (r_52_2 == r_52_1) { r_61 = r_52_1; goto l_std_z5; }
-    t_2b = away(r_lz, r_52_1);
-    r_ti = 0ull;
-l_join_u2:;
-    st8((r_lz + (i64)(r_ti)), ld8(away(t_2b, r_ti)));
-    u64 r_36_1 = (r_ti + 1ull);
-    if (!(r_36_1 == r_t9_1)) { r_ti = r_36_1; goto l_join_u2; }
-    r_61 = ld64(r_xm);
-l_std_z5:;
-    if (!(r_61 > r_t9_1)) goto l_std_i0;
-    st64(r_xm, r_t9_1);
-l_std_i0:;
-    if (t_r5 == 0u) { r_fk = 0u; goto l_return_ri; }
-    st8(away(a_2, 48ull), 1u);
     r_fk = 1u;
 l_return_ri:;
     return r_fk;

@@ -48,7 +48,7 @@ void capnp_show_show_message_make_json_9d3526b9b0726c59(u8 *a_1, u8 *a_2, u8 *a_
     u64 r_c8;
     u64 r_br;
     u8 *r_2b;
-    u64 r_5t;
+    u64 r_io;
     u8 r_7z;
     u8 r_kd;
     u8 r_dd = ld8((a_2 + 1));
@@ -86,13 +86,13 @@ l_arm_ao:;
 l_join_if:;
     r_br = (r_c8 + 17ull);
     r_2b = away(ldp(slot_2), r_c8);
-    if (((u64)(uptr)r_2b - (u64)(uptr)((u8 *)g_static_259)) < 17ull) { r_5t = 0ull; goto l_join_mi; }
-    mv17(r_2b, ((u8 *)g_static_259));
+    if (((u64)(uptr)r_2b - (u64)(uptr)((u8 *)g_static_258)) < 17ull) { r_io = 0ull; goto l_join_rx; }
+    mv17(r_2b, ((u8 *)g_static_258));
     goto l_arm_pd;
-l_join_mi:;
-    st8((r_2b + (i64)(r_5t)), ld8((((u8 *)g_static_259) + (i64)(r_5t))));
-    u64 r_c4 = (r_5t + 1ull);
-    if (!(r_c4 == 17ull)) { r_5t = r_c4; goto l_join_mi; }
+l_join_rx:;
+    st8((r_2b + (i64)(r_io)), ld8((((u8 *)g_static_258) + (i64)(r_io))));
+    u64 r_c4 = (r_io + 1ull);
+    if (!(r_c4 == 17ull)) { r_io = r_c4; goto l_join_rx; }
 l_arm_pd:;
     st64(r_x5, r_br);
     st64(r_zd, r_xx);
@@ -140,7 +140,7 @@ static struct s_i8_i8 capnp_show_show_message_write_json_9d3526b9b0726c59(u8 *a_
     u64 r_sb;
     u8 *r_fx;
     u8 *r_2b;
-    u64 r_1p;
+    u64 r_nm;
     u8 r_e7;
     struct s_i8_i8 r_yu;
     u64 r_52_3;
@@ -150,7 +150,7 @@ static struct s_i8_i8 capnp_show_show_message_write_json_9d3526b9b0726c59(u8 *a_
     u64 r_4y;
     u8 *r_fx_1;
     u8 *r_2b_1;
-    u64 r_hd;
+    u64 r_1p;
     u8 r_e7_1;
     struct s_i8_i8 r_yu_1;
     u64 r_52_5;
@@ -160,7 +160,7 @@ static struct s_i8_i8 capnp_show_show_message_write_json_9d3526b9b0726c59(u8 *a_
     u64 r_wr;
     u8 *r_fx_2;
     u8 *r_2b_2;
-    u64 r_pi;
+    u64 r_hd;
     u8 r_e7_2;
     struct s_i8_i8 r_yu_2;
     u64 r_52_7;
@@ -170,7 +170,7 @@ static struct s_i8_i8 capnp_show_show_message_write_json_9d3526b9b0726c59(u8 *a_
     u64 r_5q;
     u8 *r_fx_3;
     u8 *r_2b_3;
-    u64 r_2y;
+    u64 r_pi;
     u8 r_r5;
     u64 r_38;
     u8 *r_lk;
@@ -188,7 +188,7 @@ static struct s_i8_i8 capnp_show_show_message_write_json_9d3526b9b0726c59(u8 *a_
     u8 *r_08_4;
     u64 r_co;
     u64 r_q5;
-    struct s_i8_i8 r_dt;
+    struct s_i8_i8 r_ur;
     u8 r_e7_3;
     struct s_i8_i8 r_2g_1;
     struct s_i8_i8 r_2g;
@@ -209,7 +209,7 @@ static struct s_i8_i8 capnp_show_show_message_write_json_9d3526b9b0726c59(u8 *a_
     u64 r_x4;
     u8 *r_fx_6;
     u8 *r_2b_4;
-    u64 r_io;
+    u64 r_8b;
     u8 *r_08_7;
     u64 r_w4;
     u64 r_61;
@@ -233,13 +233,13 @@ l_join_12:;
     r_sb = (r_jh + 11ull);
     r_fx = ldp(a_7);
     r_2b = away(r_fx, r_jh);
-    if (((u64)(uptr)r_2b - (u64)(uptr)((u8 *)g_static_224)) < 11ull) { r_1p = 0ull; goto l_join_kb; }
-    mv11(r_2b, ((u8 *)g_static_224));
+    if (((u64)(uptr)r_2b - (u64)(uptr)((u8 *)g_static_223)) < 11ull) { r_nm = 0ull; goto l_join_8b; }
+    mv11(r_2b, ((u8 *)g_static_223));
     goto l_arm_zo;
-l_join_kb:;
-    st8((r_2b + (i64)(r_1p)), ld8((((u8 *)g_static_224) + (i64)(r_1p))));
-    u64 r_c4 = (r_1p + 1ull);
-    if (!(r_c4 == 11ull)) { r_1p = r_c4; goto l_join_kb; }
+l_join_8b:;
+    st8((r_2b + (i64)(r_nm)), ld8((((u8 *)g_static_223) + (i64)(r_nm))));
+    u64 r_c4 = (r_nm + 1ull);
+    if (!(r_c4 == 11ull)) { r_nm = r_c4; goto l_join_8b; }
 l_arm_zo:;
     stp(a_7, r_fx);
     st64(r_rq, r_sb);
@@ -266,13 +266,13 @@ l_join_4b:;
     r_4y = (r_xi + 12ull);
     r_fx_1 = ldp(a_7);
     r_2b_1 = away(r_fx_1, r_xi);
-    if (((u64)(uptr)r_2b_1 - (u64)(uptr)((u8 *)g_static_225)) < 12ull) { r_hd = 0ull; goto l_join_q1; }
-    mv12(r_2b_1, ((u8 *)g_static_225));
+    if (((u64)(uptr)r_2b_1 - (u64)(uptr)((u8 *)g_static_224)) < 12ull) { r_1p = 0ull; goto l_join_kb; }
+    mv12(r_2b_1, ((u8 *)g_static_224));
     goto l_arm_zo_1;
-l_join_q1:;
-    st8((r_2b_1 + (i64)(r_hd)), ld8((((u8 *)g_static_225) + (i64)(r_hd))));
-    u64 r_c4_1 = (r_hd + 1ull);
-    if (!(r_c4_1 == 12ull)) { r_hd = r_c4_1; goto l_join_q1; }
+l_join_kb:;
+    st8((r_2b_1 + (i64)(r_1p)), ld8((((u8 *)g_static_224) + (i64)(r_1p))));
+    u64 r_c4_1 = (r_1p + 1ull);
+    if (!(r_c4_1 == 12ull)) { r_1p = r_c4_1; goto l_join_kb; }
 l_arm_zo_1:;
     stp(a_7, r_fx_1);
     st64(r_rq, r_4y);
@@ -305,13 +305,13 @@ l_join_k6:;
     r_wr = (r_9w + 9ull);
     r_fx_2 = ldp(a_7);
     r_2b_2 = away(r_fx_2, r_9w);
-    if (((u64)(uptr)r_2b_2 - (u64)(uptr)((u8 *)g_static_226)) < 9ull) { r_pi = 0ull; goto l_join_6x; }
-    mv9(r_2b_2, ((u8 *)g_static_226));
+    if (((u64)(uptr)r_2b_2 - (u64)(uptr)((u8 *)g_static_225)) < 9ull) { r_hd = 0ull; goto l_join_q1; }
+    mv9(r_2b_2, ((u8 *)g_static_225));
     goto l_arm_na;
-l_join_6x:;
-    st8((r_2b_2 + (i64)(r_pi)), ld8((((u8 *)g_static_226) + (i64)(r_pi))));
-    u64 r_c4_2 = (r_pi + 1ull);
-    if (!(r_c4_2 == 9ull)) { r_pi = r_c4_2; goto l_join_6x; }
+l_join_q1:;
+    st8((r_2b_2 + (i64)(r_hd)), ld8((((u8 *)g_static_225) + (i64)(r_hd))));
+    u64 r_c4_2 = (r_hd + 1ull);
+    if (!(r_c4_2 == 9ull)) { r_hd = r_c4_2; goto l_join_q1; }
 l_arm_na:;
     stp(a_7, r_fx_2);
     st64(r_rq, r_wr);
@@ -344,13 +344,13 @@ l_join_sq:;
     r_5q = (r_ju + 8ull);
     r_fx_3 = ldp(a_7);
     r_2b_3 = away(r_fx_3, r_ju);
-    if (((u64)(uptr)r_2b_3 - (u64)(uptr)((u8 *)g_static_227)) < 8ull) { r_2y = 0ull; goto l_join_6j; }
+    if (((u64)(uptr)r_2b_3 - (u64)(uptr)((u8 *)g_static_226)) < 8ull) { r_pi = 0ull; goto l_join_6x; }
     st64(r_2b_3, 0x3a22746f6f72222cull);
     goto l_core_aw;
-l_join_6j:;
-    st8((r_2b_3 + (i64)(r_2y)), ld8((((u8 *)g_static_227) + (i64)(r_2y))));
-    u64 r_c4_3 = (r_2y + 1ull);
-    if (!(r_c4_3 == 8ull)) { r_2y = r_c4_3; goto l_join_6j; }
+l_join_6x:;
+    st8((r_2b_3 + (i64)(r_pi)), ld8((((u8 *)g_static_226) + (i64)(r_pi))));
+    u64 r_c4_3 = (r_pi + 1ull);
+    if (!(r_c4_3 == 8ull)) { r_pi = r_c4_3; goto l_join_6x; }
 l_core_aw:;
     stp(a_7, r_fx_3);
     st64(r_rq, r_5q);
@@ -372,7 +372,7 @@ l_arm_7b:;
     r_z4_1 = ld32((slot_3 + 72));
     r_xv = ld16((slot_3 + 80));
     r_f4 = ld16((slot_3 + 82));
-    if (!(ld8(slot_3) == 0u)) goto l_switch_ht;
+    if (!(ld8(slot_3) == 0u)) goto l_switch_1y;
     t_6c = (slot_2 + 56);
     st64(t_6c, 0ull);
     if (!(r_r5 == 0u)) goto l_arm_if;
@@ -406,8 +406,8 @@ l_join_df:;
     st64(r_rq_1, (r_q5 + 1ull));
     st64(r_08_4, r_co);
     if (!(u8)(ld8(r_r2) & 1)) goto l_arm_45;
-    r_dt = capnp_show_show_json_Json_write_place(a_7, ((u8 *)g_static_236), 6ull, r_38_1, r_z4);
-    if (r_dt.f0 == 0u) goto l_arm_45;
+    r_ur = capnp_show_show_json_Json_write_place(a_7, ((u8 *)g_static_235), 6ull, r_38_1, r_z4);
+    if (r_ur.f0 == 0u) goto l_arm_45;
     goto l_arm_ev;
 l_arm_n5_3:;
     struct s_i8_i8 t_fj_3 = (struct s_i8_i8){ 1u, 0u };
@@ -427,16 +427,16 @@ l_arm_45:;
     goto l_capnp_8g_1;
 l_arm_ev:;
     struct s_i8_i8 t_fj_4 = (struct s_i8_i8){ 1u, 0u };
-    t_fj_4.f1 = r_dt.f1;
+    t_fj_4.f1 = r_ur.f1;
     r_2g_1 = t_fj_4;
 l_capnp_8g_1:;
     r_2g = r_2g_1;
 l_capnp_8g:;
     r_yu_3 = r_2g;
     goto l_capnp_v4_3;
-l_switch_ht:;
-    switch_xq = ld64((((u8 *)switch_table_capnp_canon_inputs_report_refusal_44) + (i64)(8 * (u64)r_r5)));
-    switch_mb = ldp((((u8 *)switch_table_capnp_canon_inputs_report_refusal_43) + (i64)(8 * (u64)r_r5)));
+l_switch_1y:;
+    switch_xq = ld64((((u8 *)switch_table_capnp_canon_inputs_report_refusal_52) + (i64)(8 * (u64)r_r5)));
+    switch_mb = ldp((((u8 *)switch_table_capnp_canon_inputs_report_refusal_51) + (i64)(8 * (u64)r_r5)));
     r_rq_2 = away(a_7, 8ull);
     r_52_11 = ld64(r_rq_2);
     if (r_52_11 > 0x3ffffbfull) { r_e7_4 = 0u; goto l_arm_n5_4; }
@@ -477,13 +477,13 @@ l_join_p3:;
     r_x4 = (r_54 + 2ull);
     r_fx_6 = ldp(a_7);
     r_2b_4 = away(r_fx_6, r_54);
-    if (((u64)(uptr)r_2b_4 - (u64)(uptr)((u8 *)g_static_258)) < 2ull) { r_io = 0ull; goto l_join_rx; }
+    if (((u64)(uptr)r_2b_4 - (u64)(uptr)((u8 *)g_static_257)) < 2ull) { r_8b = 0ull; goto l_join_87; }
     st16(r_2b_4, 2685u);
     goto l_core_x2;
-l_join_rx:;
-    st8((r_2b_4 + (i64)(r_io)), ld8((((u8 *)g_static_258) + (i64)(r_io))));
-    u64 r_c4_5 = (r_io + 1ull);
-    if (!(r_c4_5 == 2ull)) { r_io = r_c4_5; goto l_join_rx; }
+l_join_87:;
+    st8((r_2b_4 + (i64)(r_8b)), ld8((((u8 *)g_static_257) + (i64)(r_8b))));
+    u64 r_c4_5 = (r_8b + 1ull);
+    if (!(r_c4_5 == 2ull)) { r_8b = r_c4_5; goto l_join_87; }
 l_core_x2:;
     stp(a_7, r_fx_6);
     st64(r_rq_3, r_x4);
@@ -671,12 +671,12 @@ static struct s_i8_i8 capnp_show_show_json_write_pointed_value_5ccc1be374b2e488(
     u64 r_5b;
     u8 *r_fx;
     u8 *r_2b_1;
-    u64 r_om;
+    u64 r_2y;
     u8 *r_08_1;
     u64 r_co;
     u64 r_q5;
     u8 *r_r2;
-    struct s_i8_i8 r_r1;
+    struct s_i8_i8 r_aa;
     u64 r_qw_2;
     u64 r_ep;
     u32 t_ri;
@@ -717,7 +717,7 @@ static struct s_i8_i8 capnp_show_show_json_write_pointed_value_5ccc1be374b2e488(
     u64 r_xe;
     u8 *r_fx_3;
     u8 *r_2b_2;
-    u64 r_hc;
+    u64 r_u0;
     struct s_i8_i8 r_z6;
     u64 r_52_7;
     u64 r_29_1;
@@ -728,7 +728,7 @@ static struct s_i8_i8 capnp_show_show_json_write_pointed_value_5ccc1be374b2e488(
     u64 r_wr;
     u8 *r_fx_5;
     u8 *r_2b_3;
-    u64 r_nd;
+    u64 r_49;
     u8 *r_x9;
     u64 r_tc;
     u64 r_wl;
@@ -743,12 +743,12 @@ static struct s_i8_i8 capnp_show_show_json_write_pointed_value_5ccc1be374b2e488(
     u8 *r_aq;
     u64 r_9p;
     u64 r_9e;
-    u8 *r_44;
-    u64 r_jq;
-    u64 r_4m;
+    u8 *r_yy;
+    u64 r_wc;
+    u64 r_8f;
     u64 r_x4;
     u8 *r_2b_4;
-    u64 r_1y;
+    u64 r_nd;
     u8 r_2g;
     u8 r_bs_1;
     u8 r_77_1;
@@ -762,7 +762,7 @@ static struct s_i8_i8 capnp_show_show_json_write_pointed_value_5ccc1be374b2e488(
     u8 *r_2b_5;
     u64 r_il;
     u64 r_gw;
-    u32 r_ci;
+    u32 r_ci_1;
     u64 r_52_13;
     u64 r_qd_1;
     u64 r_cr;
@@ -783,17 +783,17 @@ static struct s_i8_i8 capnp_show_show_json_write_pointed_value_5ccc1be374b2e488(
     u8 r_t2;
     struct s_i8_i8 r_pg;
     u64 r_aq_1;
-    u64 r_c0_1;
+    u64 r_c0;
     u64 r_54;
     u64 r_x4_1;
     u8 *r_fx_10;
     u8 *r_2b_6;
-    u64 r_ls;
+    u64 r_1y;
     u8 r_bs_2;
     u8 r_77_2;
     u32 r_mx;
     struct s_i8_i8 r_kp;
-    struct s_i8_i8 r_i3;
+    struct s_i8_i8 r_6q;
     struct s_i8_i8 r_fg;
     struct s_i8_i8 r_a8_1;
     u8 r_g7_1;
@@ -834,13 +834,13 @@ l_join_tt:;
     r_5b = (r_pz + 4ull);
     r_fx = ldp(a_3);
     r_2b_1 = away(r_fx, r_pz);
-    if (((u64)(uptr)r_2b_1 - (u64)(uptr)((u8 *)g_static_228)) < 4ull) { r_om = 0ull; goto l_join_06; }
+    if (((u64)(uptr)r_2b_1 - (u64)(uptr)((u8 *)g_static_227)) < 4ull) { r_2y = 0ull; goto l_join_6j; }
     st32(r_2b_1, 0x6c6c756eu);
     goto l_capnp_l4;
-l_join_06:;
-    st8((r_2b_1 + (i64)(r_om)), ld8((((u8 *)g_static_228) + (i64)(r_om))));
-    u64 r_c4 = (r_om + 1ull);
-    if (!(r_c4 == 4ull)) { r_om = r_c4; goto l_join_06; }
+l_join_6j:;
+    st8((r_2b_1 + (i64)(r_2y)), ld8((((u8 *)g_static_227) + (i64)(r_2y))));
+    u64 r_c4 = (r_2y + 1ull);
+    if (!(r_c4 == 4ull)) { r_2y = r_c4; goto l_join_6j; }
 l_capnp_l4:;
     stp(a_3, r_fx);
     st64(r_rq, r_5b);
@@ -863,24 +863,24 @@ l_join_df:;
     st64(r_08_1, r_co);
     r_r2 = away(a_3, 56ull);
     if (!(u8)(ld8(r_r2) & 1)) goto l_arm_cw;
-    r_r1 = capnp_show_show_json_Json_write_place(a_3, ((u8 *)g_static_230), 11ull, r_qw, r_5k);
-    if (!(r_r1.f0 == 0u)) goto l_arm_21;
+    r_aa = capnp_show_show_json_Json_write_place(a_3, ((u8 *)g_static_229), 11ull, r_qw, r_5k);
+    if (!(r_aa.f0 == 0u)) goto l_arm_21;
     r_qw_2 = ld64(r_2b);
     if ((r_qw_2 & 3ull) == 2ull) goto l_join_m4;
     goto l_arm_cw;
 l_arm_21:;
-    a_u1 = r_r1.f1;
+    a_u1 = r_aa.f1;
     goto l_capnp_oj_1;
 l_join_m4:;
     r_ep = (u64)(r_qw_2 >> 32ull);
     t_ri = (u32)((u32)r_qw_2 >> 3u);
-    if ((r_qw_2 & 4ull) == 0ull) goto l_else_x3;
-    struct s_i8_i8 r_c0 = capnp_show_show_json_Json_write_place(a_3, ((u8 *)g_static_231), 14ull, r_ep, t_ri);
-    r_jw = r_c0;
+    if ((r_qw_2 & 4ull) == 0ull) goto l_else_2t;
+    struct s_i8_i8 r_ld = capnp_show_show_json_Json_write_place(a_3, ((u8 *)g_static_230), 14ull, r_ep, t_ri);
+    r_jw = r_ld;
     goto l_capnp_2v;
-l_else_x3:;
-    struct s_i8_i8 r_wg = capnp_show_show_json_Json_write_place(a_3, ((u8 *)g_static_232), 7ull, r_ep, t_ri);
-    r_jw = r_wg;
+l_else_2t:;
+    struct s_i8_i8 r_nn = capnp_show_show_json_Json_write_place(a_3, ((u8 *)g_static_231), 7ull, r_ep, t_ri);
+    r_jw = r_nn;
 l_capnp_2v:;
     if (!(r_jw.f0 == 0u)) { a_u1 = r_jw.f1; goto l_capnp_oj_1; }
 l_arm_cw:;
@@ -895,7 +895,7 @@ l_arm_cw:;
     capnp_show_show_objects_read_object_5ccc1be374b2e488(slot_5, slot_6, away(a_3, 32ull));
     r_r5 = ld8((slot_5 + 8));
     if (ld8(slot_5) == 0u) goto l_arm_ac;
-    goto l_switch_ht;
+    goto l_switch_1y;
 l_capnp_oj_1:;
     r_fu = a_u1;
     r_vh = 1u;
@@ -918,12 +918,12 @@ l_arm_ac:;
     r_az = (r_z4 & 65535u);
     if (!((u8)(r_r5 + 254u) < 4u)) goto l_arm_sf;
     if (!(u8)(ld8(r_r2) & 1)) goto l_arm_sf;
-    struct s_i8_i8 r_dt = capnp_show_show_json_Json_write_place(a_3, ((u8 *)g_static_236), 6ull, r_38, r_wt);
-    if (!(r_dt.f0 == 0u)) { r_a8 = r_dt; r_g7 = 1u; goto l_capnp_mf; }
+    struct s_i8_i8 r_ur = capnp_show_show_json_Json_write_place(a_3, ((u8 *)g_static_235), 6ull, r_38, r_wt);
+    if (!(r_ur.f0 == 0u)) { r_a8 = r_ur; r_g7 = 1u; goto l_capnp_mf; }
 l_arm_sf:;
     switch (r_r5) {
     case 0u: goto l_arm_ik;
-    case 1u: goto l_arm_ae;
+    case 1u: goto l_arm_e0;
     case 3u: goto l_arm_aq;
     case 2u: goto l_arm_qc;
     case 4u: goto l_arm_qc_1;
@@ -954,15 +954,15 @@ l_capnp_8i:;
     r_9n.f1 = r_bs;
     r_vh_1 = r_9n;
     goto l_join_zt;
-l_arm_ae:;
-    struct s_i8_i8 r_vx = capnp_show_show_text_Text_push_last_number(a_3, ((u8 *)g_static_237), 13ull, (u64)r_uq);
-    r_vh_1 = r_vx;
+l_arm_e0:;
+    struct s_i8_i8 r_ci = capnp_show_show_text_Text_push_last_number(a_3, ((u8 *)g_static_236), 13ull, (u64)r_uq);
+    r_vh_1 = r_ci;
     goto l_join_zt;
 l_arm_aq:;
     switch (r_ne) {
-    case 0u: goto l_arm_9v;
+    case 0u: goto l_arm_56;
     case 2u: goto l_arm_88;
-    case 1u: { r_ad = 8ull; r_8o = ((u8 *)g_static_244); goto l_capnp_6t; }
+    case 1u: { r_ad = 8ull; r_8o = ((u8 *)g_static_243); goto l_capnp_6t; }
     case 3u: goto l_arm_h9;
     case 4u: goto l_arm_h9_1;
     case 7u: goto l_arm_h9_2;
@@ -970,9 +970,9 @@ l_arm_aq:;
     case 6u: goto l_arm_h9_2;
     default: goto l_noarm_e1_1;
     }
-l_arm_9v:;
-    struct s_i8_i8 r_uu = capnp_show_show_text_Text_push_last_number(a_3, ((u8 *)g_static_238), 7ull, (u64)r_uq_1);
-    r_vh_1 = r_uu;
+l_arm_56:;
+    struct s_i8_i8 r_9y = capnp_show_show_text_Text_push_last_number(a_3, ((u8 *)g_static_237), 7ull, (u64)r_uq_1);
+    r_vh_1 = r_9y;
     goto l_join_zt;
 l_arm_88:;
     u64 a_f1 = umin64(r_38_1, ((u64)(r_38_2 << 3ull) & 0x7fffffff8ull));
@@ -1016,13 +1016,13 @@ l_join_me:;
     r_xe = (r_nq + 7ull);
     r_fx_3 = ldp(a_3);
     r_2b_2 = away(r_fx_3, r_nq);
-    if (((u64)(uptr)r_2b_2 - (u64)(uptr)((u8 *)g_static_239)) < 7ull) { r_hc = 0ull; goto l_join_xa; }
-    mv7(r_2b_2, ((u8 *)g_static_239));
+    if (((u64)(uptr)r_2b_2 - (u64)(uptr)((u8 *)g_static_238)) < 7ull) { r_u0 = 0ull; goto l_join_dc; }
+    mv7(r_2b_2, ((u8 *)g_static_238));
     goto l_arm_61;
-l_join_xa:;
-    st8((r_2b_2 + (i64)(r_hc)), ld8((((u8 *)g_static_239) + (i64)(r_hc))));
-    u64 r_c4_1 = (r_hc + 1ull);
-    if (!(r_c4_1 == 7ull)) { r_hc = r_c4_1; goto l_join_xa; }
+l_join_dc:;
+    st8((r_2b_2 + (i64)(r_u0)), ld8((((u8 *)g_static_238) + (i64)(r_u0))));
+    u64 r_c4_1 = (r_u0 + 1ull);
+    if (!(r_c4_1 == 7ull)) { r_u0 = r_c4_1; goto l_join_dc; }
 l_arm_61:;
     stp(a_3, r_fx_3);
     st64(r_rq, r_xe);
@@ -1063,13 +1063,13 @@ l_join_k6:;
     r_wr = (r_9w + 9ull);
     r_fx_5 = ldp(a_3);
     r_2b_3 = away(r_fx_5, r_9w);
-    if (((u64)(uptr)r_2b_3 - (u64)(uptr)((u8 *)g_static_241)) < 9ull) { r_nd = 0ull; goto l_join_h4; }
-    mv9(r_2b_3, ((u8 *)g_static_241));
+    if (((u64)(uptr)r_2b_3 - (u64)(uptr)((u8 *)g_static_240)) < 9ull) { r_49 = 0ull; goto l_join_00; }
+    mv9(r_2b_3, ((u8 *)g_static_240));
     goto l_arm_um;
-l_join_h4:;
-    st8((r_2b_3 + (i64)(r_nd)), ld8((((u8 *)g_static_241) + (i64)(r_nd))));
-    u64 r_c4_2 = (r_nd + 1ull);
-    if (!(r_c4_2 == 9ull)) { r_nd = r_c4_2; goto l_join_h4; }
+l_join_00:;
+    st8((r_2b_3 + (i64)(r_49)), ld8((((u8 *)g_static_240) + (i64)(r_49))));
+    u64 r_c4_2 = (r_49 + 1ull);
+    if (!(r_c4_2 == 9ull)) { r_49 = r_c4_2; goto l_join_00; }
 l_arm_um:;
     stp(a_3, r_fx_5);
     st64(r_rq, r_wr);
@@ -1120,26 +1120,26 @@ l_arm_nw:;
     goto l_join_kl;
 l_arm_06:;
     if (r_9e > 0x3ffffbeull) { r_bs_1 = 1u; r_77_1 = 0u; goto l_capnp_8i_1; }
-    if (!((r_9p - r_9e) < 2ull)) { r_44 = r_aq; r_jq = r_9p; r_4m = r_9e; goto l_join_rm; }
+    if (!((r_9p - r_9e) < 2ull)) { r_yy = r_aq; r_wc = r_9p; r_8f = r_9e; goto l_join_aq; }
     u8 r_y4 = std_alloc_vec_Vec_grow_amortized_9634afabedddd7ee(a_3, 2ull);
     if (!r_y4) { r_bs_1 = 1u; r_77_1 = 1u; goto l_capnp_8i_1; }
-    r_44 = ldp(a_3);
-    r_jq = ld64(r_08_1);
-    r_4m = ld64(r_rq);
-l_join_rm:;
-    r_x4 = (r_4m + 2ull);
-    r_2b_4 = away(r_44, r_4m);
-    if (((u64)(uptr)r_2b_4 - (u64)(uptr)((u8 *)g_static_242)) < 2ull) { r_1y = 0ull; goto l_join_th; }
+    r_yy = ldp(a_3);
+    r_wc = ld64(r_08_1);
+    r_8f = ld64(r_rq);
+l_join_aq:;
+    r_x4 = (r_8f + 2ull);
+    r_2b_4 = away(r_yy, r_8f);
+    if (((u64)(uptr)r_2b_4 - (u64)(uptr)((u8 *)g_static_241)) < 2ull) { r_nd = 0ull; goto l_join_h4; }
     st16(r_2b_4, 32034u);
     goto l_core_ga;
-l_join_th:;
-    st8((r_2b_4 + (i64)(r_1y)), ld8((((u8 *)g_static_242) + (i64)(r_1y))));
-    u64 r_c4_5 = (r_1y + 1ull);
-    if (!(r_c4_5 == 2ull)) { r_1y = r_c4_5; goto l_join_th; }
+l_join_h4:;
+    st8((r_2b_4 + (i64)(r_nd)), ld8((((u8 *)g_static_241) + (i64)(r_nd))));
+    u64 r_c4_5 = (r_nd + 1ull);
+    if (!(r_c4_5 == 2ull)) { r_nd = r_c4_5; goto l_join_h4; }
 l_core_ga:;
-    stp(a_3, r_44);
+    stp(a_3, r_yy);
     st64(r_rq, r_x4);
-    st64(r_08_1, r_jq);
+    st64(r_08_1, r_wc);
     r_bs_1 = 0u;
     r_77_1 = 0u;
     goto l_capnp_8i_1;
@@ -1155,15 +1155,15 @@ l_capnp_8i_1:;
     goto l_join_zt;
 l_arm_h9:;
     r_ad = 7ull;
-    r_8o = ((u8 *)g_static_245);
+    r_8o = ((u8 *)g_static_244);
     goto l_capnp_6t;
 l_arm_h9_1:;
     r_ad = 7ull;
-    r_8o = ((u8 *)g_static_246);
+    r_8o = ((u8 *)g_static_245);
     goto l_capnp_6t;
 l_arm_h9_2:;
     r_ad = 7ull;
-    r_8o = ((u8 *)g_static_247);
+    r_8o = ((u8 *)g_static_246);
 l_capnp_6t:;
     r_52_11 = ld64(r_rq);
     if ((r_52_11 > 0x3ffffc0ull) ? 1u : ((0x3ffffc0ull - r_52_11) < r_ad)) { r_bs_2 = 0u; r_77_2 = 1u; goto l_capnp_8i_2; }
@@ -1190,14 +1190,14 @@ l_arm_dd:;
     st64(r_08_1, r_bu);
     if (r_uq_1 == 0u) { r_aq_1 = r_5q_1; goto l_arm_06_1; }
     r_gw = (u64)(r_38_1 >> 3ull);
-    r_ci = 0u;
+    r_ci_1 = 0u;
     goto l_join_fo;
 l_loop_q6:;
-    u32 r_7t = (r_ci + 1u);
+    u32 r_7t = (r_ci_1 + 1u);
     if (r_7t == r_uq_1) goto l_arm_n1;
-    r_ci = r_7t;
+    r_ci_1 = r_7t;
 l_join_fo:;
-    if (r_ci == 0u) goto l_arm_0h;
+    if (r_ci_1 == 0u) goto l_arm_0h;
     r_52_13 = ld64(r_rq);
     if (r_52_13 > 0x3ffffbfull) { r_bs_2 = 0u; r_77_2 = 1u; goto l_capnp_8i_2; }
     u64 r_52_14 = ld64(r_08_1);
@@ -1218,23 +1218,23 @@ l_arm_0h:;
     case 2u: goto l_arm_br;
     case 3u: goto l_arm_tw;
     case 4u: goto l_arm_fo;
-    case 0u: { r_st = r_ci; goto l_capnp_k6; }
-    case 5u: { r_st = r_ci; goto l_capnp_k6; }
-    case 6u: { r_st = r_ci; goto l_capnp_k6; }
-    case 7u: { r_st = r_ci; goto l_capnp_k6; }
+    case 0u: { r_st = r_ci_1; goto l_capnp_k6; }
+    case 5u: { r_st = r_ci_1; goto l_capnp_k6; }
+    case 6u: { r_st = r_ci_1; goto l_capnp_k6; }
+    case 7u: { r_st = r_ci_1; goto l_capnp_k6; }
     default: goto l_noarm_e1_2;
     }
 l_arm_t6:;
-    r_st = (u32)(r_ci >> 6u);
+    r_st = (u32)(r_ci_1 >> 6u);
     goto l_capnp_k6;
 l_arm_br:;
-    r_st = (u32)(r_ci >> 3u);
+    r_st = (u32)(r_ci_1 >> 3u);
     goto l_capnp_k6;
 l_arm_tw:;
-    r_st = (u32)(r_ci >> 2u);
+    r_st = (u32)(r_ci_1 >> 2u);
     goto l_capnp_k6;
 l_arm_fo:;
-    r_st = (u32)(r_ci >> 1u);
+    r_st = (u32)(r_ci_1 >> 1u);
     goto l_capnp_k6;
 l_noarm_e1_2:;
     UNREACHABLE();
@@ -1255,18 +1255,18 @@ l_capnp_pd:;
     default: goto l_noarm_e1_3;
     }
 l_arm_34:;
-    r_c2 = (r_ci & 63u);
+    r_c2 = (r_ci_1 & 63u);
     sink_g9 = 1ull;
     goto l_arm_aj;
 l_capnp_r9:;
-    r_cw = ((u64)(r_pv >> ((u64)((u32)(r_ci << 3u) & 56u) & 63u)) & 255ull);
+    r_cw = ((u64)(r_pv >> ((u64)((u32)(r_ci_1 << 3u) & 56u) & 63u)) & 255ull);
     goto l_arm_ik_1;
 l_arm_ij:;
-    r_c2 = ((u32)(r_ci << 4u) & 48u);
+    r_c2 = ((u32)(r_ci_1 << 4u) & 48u);
     sink_g9 = 65535ull;
     goto l_arm_aj;
 l_arm_gu:;
-    r_c2 = ((u32)(r_ci << 5u) & 32u);
+    r_c2 = ((u32)(r_ci_1 << 5u) & 32u);
     sink_g9 = 0xffffffffull;
     goto l_arm_aj;
 l_noarm_e1_3:;
@@ -1328,26 +1328,26 @@ l_arm_n1:;
 l_arm_06_1:;
     if (r_aq_1 > 0x3ffffbeull) { r_bs_2 = 0u; r_77_2 = 1u; goto l_capnp_8i_2; }
     u64 r_52_19 = ld64(r_08_1);
-    if (!((r_52_19 - r_aq_1) < 2ull)) { r_c0_1 = r_52_19; r_54 = r_aq_1; goto l_join_p3; }
+    if (!((r_52_19 - r_aq_1) < 2ull)) { r_c0 = r_52_19; r_54 = r_aq_1; goto l_join_p3; }
     u8 r_y4_1 = std_alloc_vec_Vec_grow_amortized_9634afabedddd7ee(a_3, 2ull);
     if (!r_y4_1) { r_bs_2 = 1u; r_77_2 = 1u; goto l_capnp_8i_2; }
-    r_c0_1 = ld64(r_08_1);
+    r_c0 = ld64(r_08_1);
     r_54 = ld64(r_rq);
 l_join_p3:;
     r_x4_1 = (r_54 + 2ull);
     r_fx_10 = ldp(a_3);
     r_2b_6 = away(r_fx_10, r_54);
-    if (((u64)(uptr)r_2b_6 - (u64)(uptr)((u8 *)g_static_243)) < 2ull) { r_ls = 0ull; goto l_join_dq; }
+    if (((u64)(uptr)r_2b_6 - (u64)(uptr)((u8 *)g_static_242)) < 2ull) { r_1y = 0ull; goto l_join_th; }
     st16(r_2b_6, 32093u);
     goto l_core_ga_1;
-l_join_dq:;
-    st8((r_2b_6 + (i64)(r_ls)), ld8((((u8 *)g_static_243) + (i64)(r_ls))));
-    u64 r_c4_8 = (r_ls + 1ull);
-    if (!(r_c4_8 == 2ull)) { r_ls = r_c4_8; goto l_join_dq; }
+l_join_th:;
+    st8((r_2b_6 + (i64)(r_1y)), ld8((((u8 *)g_static_242) + (i64)(r_1y))));
+    u64 r_c4_8 = (r_1y + 1ull);
+    if (!(r_c4_8 == 2ull)) { r_1y = r_c4_8; goto l_join_th; }
 l_core_ga_1:;
     stp(a_3, r_fx_10);
     st64(r_rq, r_x4_1);
-    st64(r_08_1, r_c0_1);
+    st64(r_08_1, r_c0);
     r_bs_2 = 0u;
     r_77_2 = 0u;
 l_capnp_8i_2:;
@@ -1388,22 +1388,22 @@ l_arm_pg:;
     st64((slot_1 + 56), 0ull);
     r_kp = capnp_show_show_text_Text_push_sizes(a_3, t_t8, r_gr);
     if (!(r_kp.f0 == 0u)) goto l_arm_rc;
-    if ((r_5d | r_az) == 0u) goto l_then_36;
-    goto l_join_63;
+    if ((r_5d | r_az) == 0u) goto l_then_zn;
+    goto l_join_16;
 l_arm_rc:;
     struct s_i8_i8 r_fj = (struct s_i8_i8){ 1u, 0u };
     r_fj.f1 = r_kp.f1;
     r_a8_1 = r_fj;
     r_g7_1 = 1u;
     goto l_capnp_mf_1;
-l_then_36:;
-    struct s_i8_i8 r_3i = capnp_show_show_text_Text_push_last_number(a_3, ((u8 *)g_static_256), 8ull, (u64)r_uq_1);
-    r_a8_1 = r_3i;
-    r_g7_1 = r_3i.f0;
+l_then_zn:;
+    struct s_i8_i8 r_w7 = capnp_show_show_text_Text_push_last_number(a_3, ((u8 *)g_static_255), 8ull, (u64)r_uq_1);
+    r_a8_1 = r_w7;
+    r_g7_1 = r_w7.f0;
     goto l_capnp_mf_1;
-l_join_63:;
-    r_i3 = capnp_show_show_text_Text_push(a_3, ((u8 *)g_static_253), 11ull);
-    if (!(r_i3.f0 == 0u)) goto l_arm_rc_1;
+l_join_16:;
+    r_6q = capnp_show_show_text_Text_push(a_3, ((u8 *)g_static_252), 11ull);
+    if (!(r_6q.f0 == 0u)) goto l_arm_rc_1;
     st64(slot_1, r_eg);
     mv16((slot_1 + 8), slot_4);
     st64((slot_1 + 24), r_38);
@@ -1413,18 +1413,18 @@ l_join_63:;
     st32((slot_1 + 52), 0u);
     st32((slot_1 + 56), r_mx);
     r_fg = capnp_show_show_json_write_struct_elements_5ccc1be374b2e488(slot_1, t_t8, r_gr, r_uq_1, a_2, a_3);
-    if (r_fg.f0 == 0u) goto l_arm_am;
+    if (r_fg.f0 == 0u) goto l_arm_fg;
     goto l_arm_rc_2;
 l_arm_rc_1:;
     struct s_i8_i8 r_fj_1 = (struct s_i8_i8){ 1u, 0u };
-    r_fj_1.f1 = r_i3.f1;
+    r_fj_1.f1 = r_6q.f1;
     r_a8_1 = r_fj_1;
     r_g7_1 = 1u;
     goto l_capnp_mf_1;
-l_arm_am:;
-    struct s_i8_i8 r_o1 = capnp_show_show_text_Text_push(a_3, ((u8 *)g_static_243), 2ull);
-    r_a8_1 = r_o1;
-    r_g7_1 = r_o1.f0;
+l_arm_fg:;
+    struct s_i8_i8 r_x9_1 = capnp_show_show_text_Text_push(a_3, ((u8 *)g_static_242), 2ull);
+    r_a8_1 = r_x9_1;
+    r_g7_1 = r_x9_1.f0;
     goto l_capnp_mf_1;
 l_arm_rc_2:;
     struct s_i8_i8 r_fj_2 = (struct s_i8_i8){ 1u, 0u };
@@ -1450,8 +1450,8 @@ l_capnp_mf:;
     r_9n_5.f1 = r_a8.f1;
     r_1j = r_9n_5;
     goto l_capnp_y9;
-l_switch_ht:;
-    struct s_i8_i8 r_ml = capnp_show_show_json_Json_write_refusal(a_3, ldp((((u8 *)switch_table_capnp_canon_inputs_report_refusal_43) + (i64)(8 * (u64)r_r5))), ld64((((u8 *)switch_table_capnp_canon_inputs_report_refusal_44) + (i64)(8 * (u64)r_r5))));
+l_switch_1y:;
+    struct s_i8_i8 r_ml = capnp_show_show_json_Json_write_refusal(a_3, ldp((((u8 *)switch_table_capnp_canon_inputs_report_refusal_51) + (i64)(8 * (u64)r_r5))), ld64((((u8 *)switch_table_capnp_canon_inputs_report_refusal_52) + (i64)(8 * (u64)r_r5))));
     r_1j = r_ml;
     goto l_capnp_y9;
 l_capnp_oj:;
@@ -1504,7 +1504,7 @@ static struct s_i8_i8 capnp_show_show_json_Json_write_place(u8 *a_1, u8 *a_2, u6
     u64 r_x4;
     u8 *r_fx_2;
     u8 *r_2b_1;
-    u64 r_su;
+    u64 r_i4;
     u8 r_fu;
     u8 r_vh;
     r_rq = away(a_1, 8ull);
@@ -1586,13 +1586,13 @@ l_join_p3:;
     r_x4 = (r_54 + 2ull);
     r_fx_2 = ldp(a_1);
     r_2b_1 = away(r_fx_2, r_54);
-    if (((u64)(uptr)r_2b_1 - (u64)(uptr)((u8 *)g_static_234)) < 2ull) { r_su = 0ull; goto l_join_1l; }
+    if (((u64)(uptr)r_2b_1 - (u64)(uptr)((u8 *)g_static_233)) < 2ull) { r_i4 = 0ull; goto l_join_lk; }
     st16(r_2b_1, 11357u);
     goto l_core_x2;
-l_join_1l:;
-    st8((r_2b_1 + (i64)(r_su)), ld8((((u8 *)g_static_234) + (i64)(r_su))));
-    u64 r_c4_1 = (r_su + 1ull);
-    if (!(r_c4_1 == 2ull)) { r_su = r_c4_1; goto l_join_1l; }
+l_join_lk:;
+    st8((r_2b_1 + (i64)(r_i4)), ld8((((u8 *)g_static_233) + (i64)(r_i4))));
+    u64 r_c4_1 = (r_i4 + 1ull);
+    if (!(r_c4_1 == 2ull)) { r_i4 = r_c4_1; goto l_join_lk; }
 l_core_x2:;
     stp(a_1, r_fx_2);
     st64(r_rq, r_x4);
@@ -1880,7 +1880,7 @@ l_arm_te_1:;
 l_arm_te_2:;
     r_12_3 = (u32)r_ij;
     if ((i32)r_5k < (i32)1u) { r_6f = 0ull; r_3l = 0ull; r_rk = 0u; r_7q = 0u; r_yr = 0ull; r_c1 = 1ull; r_g3 = 26u; r_vx = 0u; r_7j = 0u; r_p8 = 0u; goto l_capnp_6f; }
-    r_c6 = (u64)(((ld64(away(away(((u8 *)switch_table_typed_conforming_conforms_check_object_5c_a4adb150), 8 * (r_ep_1 & 7ull)), 0xfffffffffffffff8ull)) * r_ij) + 63ull) >> 6ull);
+    r_c6 = (u64)(((ld64(away(away(((u8 *)switch_table_typed_conforming_conforms_check_object_5c_426a4812), 8 * (r_ep_1 & 7ull)), 0xfffffffffffffff8ull)) * r_ij) + 63ull) >> 6ull);
     if (((u64)(r_v8 >> 3ull) & 0xffffffffull) < (r_c6 + (u64)r_2w)) { r_6f = 0ull; r_3l = 0ull; r_rk = 0u; r_7q = 0u; r_yr = 0ull; r_c1 = 1ull; r_g3 = 23u; r_vx = 0u; r_7j = 0u; r_p8 = 0u; goto l_capnp_6f; }
     if (t_pa) goto l_arm_zg;
     if (!(ld8(a_3) == 1u)) goto l_arm_zg;
@@ -2221,7 +2221,7 @@ static struct s_i8_i8 capnp_show_show_json_write_sections_5ccc1be374b2e488(u8 *a
     u64 r_5q;
     u8 *r_fx;
     u8 *r_2b;
-    u64 r_ns;
+    u64 r_sd;
     u8 *r_x9;
     u64 r_tc;
     u64 r_wl;
@@ -2236,12 +2236,12 @@ static struct s_i8_i8 capnp_show_show_json_write_sections_5ccc1be374b2e488(u8 *a
     u8 *r_as;
     u64 r_y3;
     u64 r_9f;
-    u8 *r_76;
-    u64 r_be;
-    u64 r_nm;
+    u8 *r_ph;
+    u64 r_sf;
+    u64 r_xn;
     u64 r_x4;
     u8 *r_2b_1;
-    u64 r_wy_1;
+    u64 r_ns;
     u8 r_r4;
     u8 r_9r;
     struct s_i8_i8 r_xx;
@@ -2271,13 +2271,13 @@ l_join_sq:;
     r_5q = (r_ju + 8ull);
     r_fx = ldp(a_5);
     r_2b = away(r_fx, r_ju);
-    if (((u64)(uptr)r_2b - (u64)(uptr)((u8 *)g_static_248)) < 8ull) { r_ns = 0ull; goto l_join_ce; }
+    if (((u64)(uptr)r_2b - (u64)(uptr)((u8 *)g_static_247)) < 8ull) { r_sd = 0ull; goto l_join_bg; }
     st64(r_2b, 0x223a226174616422ull);
     goto l_arm_zr;
-l_join_ce:;
-    st8((r_2b + (i64)(r_ns)), ld8((((u8 *)g_static_248) + (i64)(r_ns))));
-    u64 r_c4 = (r_ns + 1ull);
-    if (!(r_c4 == 8ull)) { r_ns = r_c4; goto l_join_ce; }
+l_join_bg:;
+    st8((r_2b + (i64)(r_sd)), ld8((((u8 *)g_static_247) + (i64)(r_sd))));
+    u64 r_c4 = (r_sd + 1ull);
+    if (!(r_c4 == 8ull)) { r_sd = r_c4; goto l_join_bg; }
 l_arm_zr:;
     stp(a_5, r_fx);
     st64(r_rq, r_5q);
@@ -2328,31 +2328,31 @@ l_arm_nw:;
     goto l_join_kl;
 l_arm_e5:;
     if (r_9f > 0x3ffffbeull) { r_9r = 0u; goto l_arm_f3; }
-    if (!((r_y3 - r_9f) < 2ull)) { r_76 = r_as; r_be = r_y3; r_nm = r_9f; goto l_join_di; }
+    if (!((r_y3 - r_9f) < 2ull)) { r_ph = r_as; r_sf = r_y3; r_xn = r_9f; goto l_join_lv; }
     u8 r_y4 = std_alloc_vec_Vec_grow_amortized_9634afabedddd7ee(a_5, 2ull);
     if (!r_y4) { r_9r = 1u; goto l_arm_f3; }
-    r_76 = ldp(a_5);
-    r_be = ld64(r_08);
-    r_nm = ld64(r_rq);
-l_join_di:;
-    r_x4 = (r_nm + 2ull);
-    r_2b_1 = away(r_76, r_nm);
-    if (((u64)(uptr)r_2b_1 - (u64)(uptr)((u8 *)g_static_249)) < 2ull) { r_wy_1 = 0ull; goto l_join_ma; }
+    r_ph = ldp(a_5);
+    r_sf = ld64(r_08);
+    r_xn = ld64(r_rq);
+l_join_lv:;
+    r_x4 = (r_xn + 2ull);
+    r_2b_1 = away(r_ph, r_xn);
+    if (((u64)(uptr)r_2b_1 - (u64)(uptr)((u8 *)g_static_248)) < 2ull) { r_ns = 0ull; goto l_join_ce; }
     st16(r_2b_1, 11298u);
     goto l_arm_sv;
-l_join_ma:;
-    st8((r_2b_1 + (i64)(r_wy_1)), ld8((((u8 *)g_static_249) + (i64)(r_wy_1))));
-    u64 r_c4_3 = (r_wy_1 + 1ull);
+l_join_ce:;
+    st8((r_2b_1 + (i64)(r_ns)), ld8((((u8 *)g_static_248) + (i64)(r_ns))));
+    u64 r_c4_3 = (r_ns + 1ull);
     if (r_c4_3 == 2ull) goto l_arm_sv;
-    r_wy_1 = r_c4_3;
-    goto l_join_ma;
+    r_ns = r_c4_3;
+    goto l_join_ce;
 l_arm_5s:;
     r_9r = r_r4;
     goto l_arm_f3;
 l_arm_sv:;
-    stp(a_5, r_76);
+    stp(a_5, r_ph);
     st64(r_rq, r_x4);
-    st64(r_08, r_be);
+    st64(r_08, r_sf);
     st64(slot_3, (u64)r_dh);
     mv16((slot_3 + 8), slot_2);
     st64((slot_3 + 24), r_qw);
@@ -2390,7 +2390,7 @@ static struct s_i8_i8 capnp_show_show_json_write_pointer_array_5ccc1be374b2e488(
     u64 r_og;
     u8 *r_fx;
     u8 *r_2b;
-    u64 r_cm;
+    u64 r_wy;
     struct s_i8_i8 r_7j;
     u8 *r_rq_1;
     u64 r_52_2;
@@ -2400,7 +2400,7 @@ static struct s_i8_i8 capnp_show_show_json_write_pointer_array_5ccc1be374b2e488(
     u64 r_x4;
     u8 *r_fx_1;
     u8 *r_2b_1;
-    u64 r_ls;
+    u64 r_1y;
     struct s_i8_i8 r_q2;
     u8 *r_rq_2;
     u8 *r_08_2;
@@ -2432,7 +2432,7 @@ static struct s_i8_i8 capnp_show_show_json_write_pointer_array_5ccc1be374b2e488(
     u64 r_x4_1;
     u8 *r_fx_3;
     u8 *r_2b_2;
-    u64 r_ls_1;
+    u64 r_1y_1;
     u8 r_fu;
     u8 r_vh;
     r_eg = (u64)ld8(a_2);
@@ -2458,13 +2458,13 @@ l_join_0s:;
     r_og = (r_iy + 14ull);
     r_fx = ldp(a_5);
     r_2b = away(r_fx, r_iy);
-    if (((u64)(uptr)r_2b - (u64)(uptr)((u8 *)g_static_250)) < 14ull) { r_cm = 0ull; goto l_join_zr; }
-    mv14(r_2b, ((u8 *)g_static_250));
+    if (((u64)(uptr)r_2b - (u64)(uptr)((u8 *)g_static_249)) < 14ull) { r_wy = 0ull; goto l_join_ma; }
+    mv14(r_2b, ((u8 *)g_static_249));
     goto l_core_x2;
-l_join_zr:;
-    st8((r_2b + (i64)(r_cm)), ld8((((u8 *)g_static_250) + (i64)(r_cm))));
-    u64 r_c4 = (r_cm + 1ull);
-    if (!(r_c4 == 14ull)) { r_cm = r_c4; goto l_join_zr; }
+l_join_ma:;
+    st8((r_2b + (i64)(r_wy)), ld8((((u8 *)g_static_249) + (i64)(r_wy))));
+    u64 r_c4 = (r_wy + 1ull);
+    if (!(r_c4 == 14ull)) { r_wy = r_c4; goto l_join_ma; }
 l_core_x2:;
     stp(a_5, r_fx);
     st64(r_rq, r_og);
@@ -2489,13 +2489,13 @@ l_join_p3:;
     r_x4 = (r_54 + 2ull);
     r_fx_1 = ldp(a_5);
     r_2b_1 = away(r_fx_1, r_54);
-    if (((u64)(uptr)r_2b_1 - (u64)(uptr)((u8 *)g_static_243)) < 2ull) { r_ls = 0ull; goto l_join_dq; }
+    if (((u64)(uptr)r_2b_1 - (u64)(uptr)((u8 *)g_static_242)) < 2ull) { r_1y = 0ull; goto l_join_th; }
     st16(r_2b_1, 32093u);
     goto l_core_x2_1;
-l_join_dq:;
-    st8((r_2b_1 + (i64)(r_ls)), ld8((((u8 *)g_static_243) + (i64)(r_ls))));
-    u64 r_c4_1 = (r_ls + 1ull);
-    if (!(r_c4_1 == 2ull)) { r_ls = r_c4_1; goto l_join_dq; }
+l_join_th:;
+    st8((r_2b_1 + (i64)(r_1y)), ld8((((u8 *)g_static_242) + (i64)(r_1y))));
+    u64 r_c4_1 = (r_1y + 1ull);
+    if (!(r_c4_1 == 2ull)) { r_1y = r_c4_1; goto l_join_th; }
 l_core_x2_1:;
     stp(a_5, r_fx_1);
     st64(r_rq_1, r_x4);
@@ -2596,13 +2596,13 @@ l_join_p3_1:;
     r_x4_1 = (r_54_1 + 2ull);
     r_fx_3 = ldp(a_5);
     r_2b_2 = away(r_fx_3, r_54_1);
-    if (((u64)(uptr)r_2b_2 - (u64)(uptr)((u8 *)g_static_243)) < 2ull) { r_ls_1 = 0ull; goto l_join_dq_1; }
+    if (((u64)(uptr)r_2b_2 - (u64)(uptr)((u8 *)g_static_242)) < 2ull) { r_1y_1 = 0ull; goto l_join_th_1; }
     st16(r_2b_2, 32093u);
     goto l_core_x2_2;
-l_join_dq_1:;
-    st8((r_2b_2 + (i64)(r_ls_1)), ld8((((u8 *)g_static_243) + (i64)(r_ls_1))));
-    u64 r_c4_3 = (r_ls_1 + 1ull);
-    if (!(r_c4_3 == 2ull)) { r_ls_1 = r_c4_3; goto l_join_dq_1; }
+l_join_th_1:;
+    st8((r_2b_2 + (i64)(r_1y_1)), ld8((((u8 *)g_static_242) + (i64)(r_1y_1))));
+    u64 r_c4_3 = (r_1y_1 + 1ull);
+    if (!(r_c4_3 == 2ull)) { r_1y_1 = r_c4_3; goto l_join_th_1; }
 l_core_x2_2:;
     stp(a_5, r_fx_3);
     st64(r_rq_3, r_x4_1);
@@ -2628,14 +2628,14 @@ static struct s_i8_i8 capnp_show_show_text_Text_push_array_start(u8 *a_1, u8 a_2
     u64 r_5q;
     u8 *r_fx;
     u8 *r_2b;
-    u64 r_sl;
+    u64 r_cm;
     u8 *r_08_1;
     u64 r_yi;
     u64 r_xi;
     u64 r_4y;
     u8 *r_fx_1;
     u8 *r_2b_1;
-    u64 r_hf;
+    u64 r_sl;
     u8 r_fu;
     u8 r_vh;
     r_rq = away(a_1, 8ull);
@@ -2653,13 +2653,13 @@ l_join_sq:;
     r_5q = (r_ju + 8ull);
     r_fx = ldp(a_1);
     r_2b = away(r_fx, r_ju);
-    if (((u64)(uptr)r_2b - (u64)(uptr)((u8 *)g_static_251)) < 8ull) { r_sl = 0ull; goto l_join_ou; }
+    if (((u64)(uptr)r_2b - (u64)(uptr)((u8 *)g_static_250)) < 8ull) { r_cm = 0ull; goto l_join_zr; }
     st64(r_2b, 0x5b3a227473696c22ull);
     goto l_core_x2;
-l_join_ou:;
-    st8((r_2b + (i64)(r_sl)), ld8((((u8 *)g_static_251) + (i64)(r_sl))));
-    u64 r_c4 = (r_sl + 1ull);
-    if (!(r_c4 == 8ull)) { r_sl = r_c4; goto l_join_ou; }
+l_join_zr:;
+    st8((r_2b + (i64)(r_cm)), ld8((((u8 *)g_static_250) + (i64)(r_cm))));
+    u64 r_c4 = (r_cm + 1ull);
+    if (!(r_c4 == 8ull)) { r_cm = r_c4; goto l_join_zr; }
 l_core_x2:;
     stp(a_1, r_fx);
     st64(r_rq, r_5q);
@@ -2680,13 +2680,13 @@ l_join_4b:;
     r_4y = (r_xi + 12ull);
     r_fx_1 = ldp(a_1);
     r_2b_1 = away(r_fx_1, r_xi);
-    if (((u64)(uptr)r_2b_1 - (u64)(uptr)((u8 *)g_static_252)) < 12ull) { r_hf = 0ull; goto l_join_1x; }
-    mv12(r_2b_1, ((u8 *)g_static_252));
+    if (((u64)(uptr)r_2b_1 - (u64)(uptr)((u8 *)g_static_251)) < 12ull) { r_sl = 0ull; goto l_join_ou; }
+    mv12(r_2b_1, ((u8 *)g_static_251));
     goto l_core_x2_1;
-l_join_1x:;
-    st8((r_2b_1 + (i64)(r_hf)), ld8((((u8 *)g_static_252) + (i64)(r_hf))));
-    u64 r_c4_1 = (r_hf + 1ull);
-    if (!(r_c4_1 == 12ull)) { r_hf = r_c4_1; goto l_join_1x; }
+l_join_ou:;
+    st8((r_2b_1 + (i64)(r_sl)), ld8((((u8 *)g_static_251) + (i64)(r_sl))));
+    u64 r_c4_1 = (r_sl + 1ull);
+    if (!(r_c4_1 == 12ull)) { r_sl = r_c4_1; goto l_join_ou; }
 l_core_x2_1:;
     stp(a_1, r_fx_1);
     st64(r_rq, r_4y);
@@ -2713,7 +2713,7 @@ static struct s_i8_i8 capnp_show_show_text_Text_push_sizes(u8 *a_1, u16 a_2, u16
     u64 r_dr;
     u8 *r_fx;
     u8 *r_2b;
-    u64 r_kn;
+    u64 r_bd;
     u8 r_e7;
     struct s_i8_i8 r_yu;
     u64 r_bi_1;
@@ -2724,7 +2724,7 @@ static struct s_i8_i8 capnp_show_show_text_Text_push_sizes(u8 *a_1, u16 a_2, u16
     u64 r_br;
     u8 *r_fx_1;
     u8 *r_2b_1;
-    u64 r_u8;
+    u64 r_kn;
     u8 r_e7_1;
     struct s_i8_i8 r_yu_1;
     u64 r_52_4;
@@ -2748,13 +2748,13 @@ l_join_jf:;
     r_dr = (r_v4 + 13ull);
     r_fx = ldp(a_1);
     r_2b = away(r_fx, r_v4);
-    if (((u64)(uptr)r_2b - (u64)(uptr)((u8 *)g_static_254)) < 13ull) { r_kn = 0ull; goto l_join_lh; }
-    mv13(r_2b, ((u8 *)g_static_254));
+    if (((u64)(uptr)r_2b - (u64)(uptr)((u8 *)g_static_253)) < 13ull) { r_bd = 0ull; goto l_join_p7; }
+    mv13(r_2b, ((u8 *)g_static_253));
     goto l_arm_na;
-l_join_lh:;
-    st8((r_2b + (i64)(r_kn)), ld8((((u8 *)g_static_254) + (i64)(r_kn))));
-    u64 r_c4 = (r_kn + 1ull);
-    if (!(r_c4 == 13ull)) { r_kn = r_c4; goto l_join_lh; }
+l_join_p7:;
+    st8((r_2b + (i64)(r_bd)), ld8((((u8 *)g_static_253) + (i64)(r_bd))));
+    u64 r_c4 = (r_bd + 1ull);
+    if (!(r_c4 == 13ull)) { r_bd = r_c4; goto l_join_p7; }
 l_arm_na:;
     stp(a_1, r_fx);
     st64(r_rq, r_dr);
@@ -2783,13 +2783,13 @@ l_join_9f:;
     r_fx_1 = ldp(a_1);
     memset(r_rq, 0u, 16);
     r_2b_1 = away(r_fx_1, r_05);
-    if (((u64)(uptr)r_2b_1 - (u64)(uptr)((u8 *)g_static_255)) < 17ull) { r_u8 = 0ull; goto l_join_01; }
-    mv17(r_2b_1, ((u8 *)g_static_255));
+    if (((u64)(uptr)r_2b_1 - (u64)(uptr)((u8 *)g_static_254)) < 17ull) { r_kn = 0ull; goto l_join_lh; }
+    mv17(r_2b_1, ((u8 *)g_static_254));
     goto l_arm_na_1;
-l_join_01:;
-    st8((r_2b_1 + (i64)(r_u8)), ld8((((u8 *)g_static_255) + (i64)(r_u8))));
-    u64 r_c4_1 = (r_u8 + 1ull);
-    if (!(r_c4_1 == 17ull)) { r_u8 = r_c4_1; goto l_join_01; }
+l_join_lh:;
+    st8((r_2b_1 + (i64)(r_kn)), ld8((((u8 *)g_static_254) + (i64)(r_kn))));
+    u64 r_c4_1 = (r_kn + 1ull);
+    if (!(r_c4_1 == 17ull)) { r_kn = r_c4_1; goto l_join_lh; }
 l_arm_na_1:;
     stp(a_1, r_fx_1);
     st64(r_rq, r_br);
@@ -2995,19 +2995,19 @@ static struct s_i8_i8 capnp_show_show_json_Json_write_refusal(u8 *a_1, u8 *a_2, 
     u64 r_sb;
     u8 *r_fx;
     u8 *r_2b;
-    u64 r_8b;
+    u64 r_pk;
     u8 *r_4a;
     u64 r_uv;
     u64 r_0z;
     u64 r_zx;
     u8 *r_2b_1;
     u64 r_31;
-    u8 *r_44;
-    u64 r_jq;
-    u64 r_4m;
+    u8 *r_yy;
+    u64 r_wc;
+    u64 r_8f;
     u64 r_x4;
     u8 *r_2b_2;
-    u64 r_1y;
+    u64 r_nd;
     u8 r_fu;
     u8 r_vh;
     st8(away(a_1, 24ull), 0u);
@@ -3025,13 +3025,13 @@ l_join_12:;
     r_sb = (r_jh + 11ull);
     r_fx = ldp(a_1);
     r_2b = away(r_fx, r_jh);
-    if (((u64)(uptr)r_2b - (u64)(uptr)((u8 *)g_static_257)) < 11ull) { r_8b = 0ull; goto l_join_87; }
-    mv11(r_2b, ((u8 *)g_static_257));
+    if (((u64)(uptr)r_2b - (u64)(uptr)((u8 *)g_static_256)) < 11ull) { r_pk = 0ull; goto l_join_yt; }
+    mv11(r_2b, ((u8 *)g_static_256));
     goto l_arm_cq;
-l_join_87:;
-    st8((r_2b + (i64)(r_8b)), ld8((((u8 *)g_static_257) + (i64)(r_8b))));
-    u64 r_c4 = (r_8b + 1ull);
-    if (!(r_c4 == 11ull)) { r_8b = r_c4; goto l_join_87; }
+l_join_yt:;
+    st8((r_2b + (i64)(r_pk)), ld8((((u8 *)g_static_256) + (i64)(r_pk))));
+    u64 r_c4 = (r_pk + 1ull);
+    if (!(r_c4 == 11ull)) { r_pk = r_c4; goto l_join_yt; }
 l_arm_cq:;
     stp(a_1, r_fx);
     st64(r_rq, r_sb);
@@ -3059,26 +3059,26 @@ l_arm_pd:;
     st64(r_rq, r_zx);
     st64(r_08, r_uv);
     if (r_zx > 0x3ffffbeull) { r_fu = 0u; r_vh = 1u; goto l_capnp_4x; }
-    if (!((r_uv - r_zx) < 2ull)) { r_44 = r_4a; r_jq = r_uv; r_4m = r_zx; goto l_join_rm; }
+    if (!((r_uv - r_zx) < 2ull)) { r_yy = r_4a; r_wc = r_uv; r_8f = r_zx; goto l_join_aq; }
     u8 r_y4 = std_alloc_vec_Vec_grow_amortized_9634afabedddd7ee(a_1, 2ull);
     if (!r_y4) { r_fu = 1u; r_vh = 1u; goto l_capnp_4x; }
-    r_44 = ldp(a_1);
-    r_jq = ld64(r_08);
-    r_4m = ld64(r_rq);
-l_join_rm:;
-    r_x4 = (r_4m + 2ull);
-    r_2b_2 = away(r_44, r_4m);
-    if (((u64)(uptr)r_2b_2 - (u64)(uptr)((u8 *)g_static_242)) < 2ull) { r_1y = 0ull; goto l_join_th; }
+    r_yy = ldp(a_1);
+    r_wc = ld64(r_08);
+    r_8f = ld64(r_rq);
+l_join_aq:;
+    r_x4 = (r_8f + 2ull);
+    r_2b_2 = away(r_yy, r_8f);
+    if (((u64)(uptr)r_2b_2 - (u64)(uptr)((u8 *)g_static_241)) < 2ull) { r_nd = 0ull; goto l_join_h4; }
     st16(r_2b_2, 32034u);
     goto l_core_ga;
-l_join_th:;
-    st8((r_2b_2 + (i64)(r_1y)), ld8((((u8 *)g_static_242) + (i64)(r_1y))));
-    u64 r_c4_2 = (r_1y + 1ull);
-    if (!(r_c4_2 == 2ull)) { r_1y = r_c4_2; goto l_join_th; }
+l_join_h4:;
+    st8((r_2b_2 + (i64)(r_nd)), ld8((((u8 *)g_static_241) + (i64)(r_nd))));
+    u64 r_c4_2 = (r_nd + 1ull);
+    if (!(r_c4_2 == 2ull)) { r_nd = r_c4_2; goto l_join_h4; }
 l_core_ga:;
-    stp(a_1, r_44);
+    stp(a_1, r_yy);
     st64(r_rq, r_x4);
-    st64(r_08, r_jq);
+    st64(r_08, r_wc);
     r_fu = 0u;
     r_vh = 0u;
 l_capnp_4x:;
@@ -3110,12 +3110,12 @@ void capnp_show_show_message_make_lines_9d3526b9b0726c59(u8 *a_1, u8 *a_2, u8 *a
     u64 r_52;
     u64 r_52_1;
     u8 *r_zd;
-    u8 *r_pm;
-    u64 r_kt;
-    u64 r_fu;
+    u8 *r_h8;
+    u64 r_b0;
+    u64 r_j1;
     u64 r_5q;
     u8 *r_2b;
-    u64 r_un;
+    u64 r_5t;
     u8 r_e7;
     struct s_i8_i8 r_p7;
     u8 r_om;
@@ -3127,7 +3127,7 @@ void capnp_show_show_message_make_lines_9d3526b9b0726c59(u8 *a_1, u8 *a_2, u8 *a
     u64 r_sb;
     u8 *r_lz;
     u8 *r_2b_1;
-    u64 r_ap;
+    u64 r_un;
     u8 r_e7_1;
     struct s_i8_i8 r_p7_1;
     u8 *r_ch;
@@ -3181,14 +3181,14 @@ void capnp_show_show_message_make_lines_9d3526b9b0726c59(u8 *a_1, u8 *a_2, u8 *a
     u64 r_z4_3;
     u8 *r_lz_4;
     u8 *r_2b_3;
-    u64 r_24;
+    u64 r_bv;
     u8 *r_zd_6;
     u64 r_at;
     u64 r_gh;
     u64 r_y6;
     u8 *r_lz_5;
     u8 *r_2b_4;
-    u64 r_ls;
+    u64 r_24;
     u8 r_kd;
     u64 t_tp = ld64(a_2);
     u8 r_dh = ld8(a_3);
@@ -3225,26 +3225,26 @@ void capnp_show_show_message_make_lines_9d3526b9b0726c59(u8 *a_1, u8 *a_2, u8 *a
     if (r_52_1 > 0x3ffffb8ull) { r_e7 = 0u; goto l_arm_n5; }
     r_zd = (slot_6 + 16);
     u64 r_52_2 = ld64(r_zd);
-    if (!((r_52_2 - r_52_1) < 8ull)) { r_pm = slot_1; r_kt = r_52_2; r_fu = r_52_1; goto l_join_ws; }
+    if (!((r_52_2 - r_52_1) < 8ull)) { r_h8 = slot_1; r_b0 = r_52_2; r_j1 = r_52_1; goto l_join_xa; }
     u8 r_i4 = std_alloc_vec_Vec_grow_amortized_9634afabedddd7ee(slot_6, 8ull);
     if (!r_i4) { r_e7 = 1u; goto l_arm_n5; }
-    r_pm = ldp(slot_6);
-    r_kt = ld64(r_zd);
-    r_fu = ld64(r_x5);
-l_join_ws:;
-    r_5q = (r_fu + 8ull);
-    r_2b = away(r_pm, r_fu);
-    if (((u64)(uptr)r_2b - (u64)(uptr)((u8 *)g_static_260)) < 8ull) { r_un = 0ull; goto l_join_lt; }
+    r_h8 = ldp(slot_6);
+    r_b0 = ld64(r_zd);
+    r_j1 = ld64(r_x5);
+l_join_xa:;
+    r_5q = (r_j1 + 8ull);
+    r_2b = away(r_h8, r_j1);
+    if (((u64)(uptr)r_2b - (u64)(uptr)((u8 *)g_static_259)) < 8ull) { r_5t = 0ull; goto l_join_mi; }
     st64(r_2b, 0x206567617373656dull);
     goto l_arm_ay;
-l_join_lt:;
-    st8((r_2b + (i64)(r_un)), ld8((((u8 *)g_static_260) + (i64)(r_un))));
-    u64 r_c4 = (r_un + 1ull);
-    if (!(r_c4 == 8ull)) { r_un = r_c4; goto l_join_lt; }
+l_join_mi:;
+    st8((r_2b + (i64)(r_5t)), ld8((((u8 *)g_static_259) + (i64)(r_5t))));
+    u64 r_c4 = (r_5t + 1ull);
+    if (!(r_c4 == 8ull)) { r_5t = r_c4; goto l_join_mi; }
 l_arm_ay:;
-    stp(slot_6, r_pm);
+    stp(slot_6, r_h8);
     st64(r_x5, r_5q);
-    st64(r_zd, r_kt);
+    st64(r_zd, r_b0);
     struct s_i8_i8 r_32 = capnp_show_show_text_Text_push_number(slot_6, a_4);
     r_p7 = r_32;
     goto l_capnp_my;
@@ -3274,13 +3274,13 @@ l_join_q0:;
     r_sb = (r_qi + 11ull);
     r_lz = ldp(slot_6);
     r_2b_1 = away(r_lz, r_qi);
-    if (((u64)(uptr)r_2b_1 - (u64)(uptr)((u8 *)g_static_261)) < 11ull) { r_ap = 0ull; goto l_join_je; }
-    mv11(r_2b_1, ((u8 *)g_static_261));
+    if (((u64)(uptr)r_2b_1 - (u64)(uptr)((u8 *)g_static_260)) < 11ull) { r_un = 0ull; goto l_join_lt; }
+    mv11(r_2b_1, ((u8 *)g_static_260));
     goto l_arm_01;
-l_join_je:;
-    st8((r_2b_1 + (i64)(r_ap)), ld8((((u8 *)g_static_261) + (i64)(r_ap))));
-    u64 r_c4_1 = (r_ap + 1ull);
-    if (!(r_c4_1 == 11ull)) { r_ap = r_c4_1; goto l_join_je; }
+l_join_lt:;
+    st8((r_2b_1 + (i64)(r_un)), ld8((((u8 *)g_static_260) + (i64)(r_un))));
+    u64 r_c4_1 = (r_un + 1ull);
+    if (!(r_c4_1 == 11ull)) { r_un = r_c4_1; goto l_join_lt; }
 l_arm_01:;
     stp(slot_6, r_lz);
     st64(r_x5, r_sb);
@@ -3363,7 +3363,7 @@ l_capnp_ga:;
     r_ch_1 = (slot_6 + 26);
     r_i9 = r_5m;
     r_e3 = 0ull;
-l_join_mi:;
+l_join_mi_1:;
     r_yf = ld32(away(a_6, (u64)(r_e3 << 2ull)));
     if (!(r_i9 == 0u)) { r_cd = r_i9; goto l_capnp_98; }
     u64 r_52_9 = ld64(r_a8);
@@ -3381,11 +3381,11 @@ l_capnp_ct:;
     r_cd = sink_ph;
 l_capnp_98:;
     u64 r_36 = (r_e3 + 1ull);
-    if (!(r_36 == a_7)) { r_i9 = r_cd; r_e3 = r_36; goto l_join_mi; }
+    if (!(r_36 == a_7)) { r_i9 = r_cd; r_e3 = r_36; goto l_join_mi_1; }
 l_capnp_d8:;
     capnp_messages_messages_path_read_part_9d3526b9b0726c59(slot_4, a_8, a_6, a_7, r_6c);
     r_r5 = ld8((slot_4 + 8));
-    if (!(ld8(slot_4) == 0u)) goto l_switch_ht;
+    if (!(ld8(slot_4) == 0u)) goto l_switch_1y;
     r_r5_1 = ld8((slot_4 + 16));
     if (!(r_r5 == 0u)) goto l_arm_h8;
     u32 r_z4 = ld32((slot_4 + 72));
@@ -3443,9 +3443,9 @@ l_capnp_o6:;
     st32(t_6c, r_z4_2);
     capnp_show_show_lines_show_pointers_5ccc1be374b2e488(slot_3, (u32)r_f4, 0u, r_yf_1, slot_6);
     goto l_capnp_m3;
-l_switch_ht:;
-    u64 switch_xq = ld64((((u8 *)switch_table_capnp_canon_inputs_report_refusal_44) + (i64)(8 * (u64)r_r5)));
-    u8 *switch_mb = ldp((((u8 *)switch_table_capnp_canon_inputs_report_refusal_43) + (i64)(8 * (u64)r_r5)));
+l_switch_1y:;
+    u64 switch_xq = ld64((((u8 *)switch_table_capnp_canon_inputs_report_refusal_52) + (i64)(8 * (u64)r_r5)));
+    u8 *switch_mb = ldp((((u8 *)switch_table_capnp_canon_inputs_report_refusal_51) + (i64)(8 * (u64)r_r5)));
     capnp_show_show_lines_Lines_write_path(slot_6);
     capnp_show_show_lines_Lines_write_refusal(slot_6, switch_mb, switch_xq);
 l_capnp_m3:;
@@ -3471,13 +3471,13 @@ l_join_ck:;
     r_z4_3 = (r_vv + 27ull);
     r_lz_4 = ldp(slot_6);
     r_2b_3 = away(r_lz_4, r_vv);
-    if (((u64)(uptr)r_2b_3 - (u64)(uptr)((u8 *)g_static_292)) < 27ull) { r_24 = 0ull; goto l_join_hw; }
-    mv27(r_2b_3, ((u8 *)g_static_292));
+    if (((u64)(uptr)r_2b_3 - (u64)(uptr)((u8 *)g_static_291)) < 27ull) { r_bv = 0ull; goto l_join_fh; }
+    mv27(r_2b_3, ((u8 *)g_static_291));
     goto l_core_pu;
-l_join_hw:;
-    st8((r_2b_3 + (i64)(r_24)), ld8((((u8 *)g_static_292) + (i64)(r_24))));
-    u64 r_c4_5 = (r_24 + 1ull);
-    if (!(r_c4_5 == 27ull)) { r_24 = r_c4_5; goto l_join_hw; }
+l_join_fh:;
+    st8((r_2b_3 + (i64)(r_bv)), ld8((((u8 *)g_static_291) + (i64)(r_bv))));
+    u64 r_c4_5 = (r_bv + 1ull);
+    if (!(r_c4_5 == 27ull)) { r_bv = r_c4_5; goto l_join_fh; }
 l_core_pu:;
     stp(slot_6, r_lz_4);
     st64(r_x5, r_z4_3);
@@ -3496,13 +3496,13 @@ l_join_e5:;
     r_y6 = (r_gh + 23ull);
     r_lz_5 = ldp(slot_6);
     r_2b_4 = away(r_lz_5, r_gh);
-    if (((u64)(uptr)r_2b_4 - (u64)(uptr)((u8 *)g_static_293)) < 23ull) { r_ls = 0ull; goto l_join_gj; }
-    mv23(r_2b_4, ((u8 *)g_static_293));
+    if (((u64)(uptr)r_2b_4 - (u64)(uptr)((u8 *)g_static_292)) < 23ull) { r_24 = 0ull; goto l_join_hw; }
+    mv23(r_2b_4, ((u8 *)g_static_292));
     goto l_core_pu_1;
-l_join_gj:;
-    st8((r_2b_4 + (i64)(r_ls)), ld8((((u8 *)g_static_293) + (i64)(r_ls))));
-    u64 r_c4_6 = (r_ls + 1ull);
-    if (!(r_c4_6 == 23ull)) { r_ls = r_c4_6; goto l_join_gj; }
+l_join_hw:;
+    st8((r_2b_4 + (i64)(r_24)), ld8((((u8 *)g_static_292) + (i64)(r_24))));
+    u64 r_c4_6 = (r_24 + 1ull);
+    if (!(r_c4_6 == 23ull)) { r_24 = r_c4_6; goto l_join_hw; }
 l_core_pu_1:;
     stp(slot_6, r_lz_5);
     st64(r_x5, r_y6);
@@ -3555,7 +3555,7 @@ static void capnp_show_show_lines_show_pointer_5ccc1be374b2e488(u8 *a_1, u32 a_2
     u64 r_xe;
     u8 *r_fx;
     u8 *r_2b;
-    u64 r_0e;
+    u64 r_95;
     u8 r_1e;
     u8 r_6i;
     u8 r_lk;
@@ -3567,7 +3567,7 @@ static void capnp_show_show_lines_show_pointer_5ccc1be374b2e488(u8 *a_1, u32 a_2
     u64 r_5b;
     u8 *r_fx_1;
     u8 *r_2b_1;
-    u64 r_ol;
+    u64 r_0e;
     u8 r_fo;
     u8 r_go;
     u8 *r_q6_1;
@@ -3591,7 +3591,7 @@ static void capnp_show_show_lines_show_pointer_5ccc1be374b2e488(u8 *a_1, u32 a_2
     u64 r_pk;
     u8 *r_fx_2;
     u8 *r_2b_2;
-    u64 r_he;
+    u64 r_ol;
     u8 r_1e_1;
     u8 r_6i_1;
     u64 r_24_1;
@@ -3603,7 +3603,7 @@ static void capnp_show_show_lines_show_pointer_5ccc1be374b2e488(u8 *a_1, u32 a_2
     u64 r_4y;
     u8 *r_fx_3;
     u8 *r_2b_3;
-    u64 r_xj;
+    u64 r_he;
     u8 r_e7;
     struct s_i8_i8 r_o6;
     u8 r_ne;
@@ -3630,7 +3630,7 @@ static void capnp_show_show_lines_show_pointer_5ccc1be374b2e488(u8 *a_1, u32 a_2
     u64 r_hc;
     u8 *r_fx_5;
     u8 *r_2b_5;
-    u64 r_1r;
+    u64 r_e1;
     u8 r_i7;
     u8 r_w0;
     u8 *r_ud;
@@ -3664,7 +3664,7 @@ static void capnp_show_show_lines_show_pointer_5ccc1be374b2e488(u8 *a_1, u32 a_2
     u64 r_5b_1;
     u8 *r_fx_7;
     u8 *r_2b_7;
-    u64 r_9z;
+    u64 r_51;
     u8 r_i7_1;
     u8 r_w0_1;
     u8 r_26;
@@ -3699,9 +3699,9 @@ static void capnp_show_show_lines_show_pointer_5ccc1be374b2e488(u8 *a_1, u32 a_2
     u8 *r_08_10;
     u8 *r_i8_3;
     u64 wide_v1;
-    u64 indvars_gs;
+    u64 indvars_x9;
     u64 i_0a;
-    u8 *static_k8;
+    u8 *static_fj;
     u32 t_nk;
     u32 r_st;
     u64 r_24_3;
@@ -3731,7 +3731,7 @@ static void capnp_show_show_lines_show_pointer_5ccc1be374b2e488(u8 *a_1, u32 a_2
     u64 r_ob;
     u8 *r_fx_12;
     u8 *r_2b_9;
-    u64 r_c2;
+    u64 r_di;
     u8 r_e7_3;
     struct s_i8_i8 r_o6_2;
     u8 r_kp_5;
@@ -3743,7 +3743,7 @@ static void capnp_show_show_lines_show_pointer_5ccc1be374b2e488(u8 *a_1, u32 a_2
     u64 r_hc_1;
     u8 *r_fx_13;
     u8 *r_2b_10;
-    u64 r_1r_1;
+    u64 r_e1_1;
     u8 r_i7_2;
     u8 r_w0_2;
     u16 r_pz_2;
@@ -3756,7 +3756,7 @@ static void capnp_show_show_lines_show_pointer_5ccc1be374b2e488(u8 *a_1, u32 a_2
     u64 r_wr;
     u8 *r_fx_14;
     u8 *r_2b_11;
-    u64 r_25;
+    u64 r_c2;
     u8 r_e7_4;
     struct s_i8_i8 r_o6_3;
     u8 r_kp_6;
@@ -3768,7 +3768,7 @@ static void capnp_show_show_lines_show_pointer_5ccc1be374b2e488(u8 *a_1, u32 a_2
     u64 r_hc_2;
     u8 *r_fx_15;
     u8 *r_2b_12;
-    u64 r_1r_2;
+    u64 r_e1_2;
     u8 r_i7_3;
     u8 r_w0_3;
     u8 r_lr;
@@ -3847,13 +3847,13 @@ l_join_me:;
     r_xe = (r_nq + 7ull);
     r_fx = ldp(a_3);
     r_2b = away(r_fx, r_nq);
-    if (((u64)(uptr)r_2b - (u64)(uptr)((u8 *)g_static_270)) < 7ull) { r_0e = 0ull; goto l_join_rc; }
-    mv7(r_2b, ((u8 *)g_static_270));
+    if (((u64)(uptr)r_2b - (u64)(uptr)((u8 *)g_static_269)) < 7ull) { r_95 = 0ull; goto l_join_f8; }
+    mv7(r_2b, ((u8 *)g_static_269));
     goto l_core_ga;
-l_join_rc:;
-    st8((r_2b + (i64)(r_0e)), ld8((((u8 *)g_static_270) + (i64)(r_0e))));
-    u64 r_c4 = (r_0e + 1ull);
-    if (!(r_c4 == 7ull)) { r_0e = r_c4; goto l_join_rc; }
+l_join_f8:;
+    st8((r_2b + (i64)(r_95)), ld8((((u8 *)g_static_269) + (i64)(r_95))));
+    u64 r_c4 = (r_95 + 1ull);
+    if (!(r_c4 == 7ull)) { r_95 = r_c4; goto l_join_f8; }
 l_core_ga:;
     stp(a_3, r_fx);
     st64(r_rq, r_xe);
@@ -3880,13 +3880,13 @@ l_join_tt:;
     r_5b = (r_pz + 4ull);
     r_fx_1 = ldp(a_3);
     r_2b_1 = away(r_fx_1, r_pz);
-    if (((u64)(uptr)r_2b_1 - (u64)(uptr)((u8 *)g_static_271)) < 4ull) { r_ol = 0ull; goto l_join_4h; }
+    if (((u64)(uptr)r_2b_1 - (u64)(uptr)((u8 *)g_static_270)) < 4ull) { r_0e = 0ull; goto l_join_rc; }
     st32(r_2b_1, 0x72616620u);
     goto l_core_ga_1;
-l_join_4h:;
-    st8((r_2b_1 + (i64)(r_ol)), ld8((((u8 *)g_static_271) + (i64)(r_ol))));
-    u64 r_c4_1 = (r_ol + 1ull);
-    if (!(r_c4_1 == 4ull)) { r_ol = r_c4_1; goto l_join_4h; }
+l_join_rc:;
+    st8((r_2b_1 + (i64)(r_0e)), ld8((((u8 *)g_static_270) + (i64)(r_0e))));
+    u64 r_c4_1 = (r_0e + 1ull);
+    if (!(r_c4_1 == 4ull)) { r_0e = r_c4_1; goto l_join_rc; }
 l_core_ga_1:;
     stp(a_3, r_fx_1);
     st64(r_rq_1, r_5b);
@@ -3914,7 +3914,7 @@ l_join_cw:;
     st32((slot_7 + 56), r_5k_2);
     capnp_show_show_objects_read_object_5ccc1be374b2e488(slot_6, slot_7, away(a_3, 56ull));
     r_r5 = ld8((slot_6 + 8));
-    if (!(ld8(slot_6) == 0u)) goto l_switch_ht;
+    if (!(ld8(slot_6) == 0u)) goto l_switch_1y;
     r_uq = ld32((slot_6 + 12));
     r_38 = ld64((slot_6 + 16));
     r_xw = ldp((slot_6 + 24));
@@ -3952,13 +3952,13 @@ l_join_a9:;
     r_pk = (r_rf + 5ull);
     r_fx_2 = ldp(a_3);
     r_2b_2 = away(r_fx_2, r_rf);
-    if (((u64)(uptr)r_2b_2 - (u64)(uptr)((u8 *)g_static_272)) < 5ull) { r_he = 0ull; goto l_join_zx; }
-    mv5(r_2b_2, ((u8 *)g_static_272));
+    if (((u64)(uptr)r_2b_2 - (u64)(uptr)((u8 *)g_static_271)) < 5ull) { r_ol = 0ull; goto l_join_4h; }
+    mv5(r_2b_2, ((u8 *)g_static_271));
     goto l_core_ga_2;
-l_join_zx:;
-    st8((r_2b_2 + (i64)(r_he)), ld8((((u8 *)g_static_272) + (i64)(r_he))));
-    u64 r_c4_2 = (r_he + 1ull);
-    if (!(r_c4_2 == 5ull)) { r_he = r_c4_2; goto l_join_zx; }
+l_join_4h:;
+    st8((r_2b_2 + (i64)(r_ol)), ld8((((u8 *)g_static_271) + (i64)(r_ol))));
+    u64 r_c4_2 = (r_ol + 1ull);
+    if (!(r_c4_2 == 5ull)) { r_ol = r_c4_2; goto l_join_4h; }
 l_core_ga_2:;
     stp(a_3, r_fx_2);
     st64(r_rq_2, r_pk);
@@ -3987,13 +3987,13 @@ l_join_4b:;
     r_4y = (r_xi + 12ull);
     r_fx_3 = ldp(a_3);
     r_2b_3 = away(r_fx_3, r_xi);
-    if (((u64)(uptr)r_2b_3 - (u64)(uptr)((u8 *)g_static_273)) < 12ull) { r_xj = 0ull; goto l_join_yt; }
-    mv12(r_2b_3, ((u8 *)g_static_273));
+    if (((u64)(uptr)r_2b_3 - (u64)(uptr)((u8 *)g_static_272)) < 12ull) { r_he = 0ull; goto l_join_zx; }
+    mv12(r_2b_3, ((u8 *)g_static_272));
     goto l_arm_na;
-l_join_yt:;
-    st8((r_2b_3 + (i64)(r_xj)), ld8((((u8 *)g_static_273) + (i64)(r_xj))));
-    u64 r_c4_3 = (r_xj + 1ull);
-    if (!(r_c4_3 == 12ull)) { r_xj = r_c4_3; goto l_join_yt; }
+l_join_zx:;
+    st8((r_2b_3 + (i64)(r_he)), ld8((((u8 *)g_static_272) + (i64)(r_he))));
+    u64 r_c4_3 = (r_he + 1ull);
+    if (!(r_c4_3 == 12ull)) { r_he = r_c4_3; goto l_join_zx; }
 l_arm_na:;
     stp(a_3, r_fx_3);
     st64(r_rq_3, r_4y);
@@ -4014,7 +4014,7 @@ l_capnp_rc:;
 l_arm_d0:;
     r_ne = (u8)r_z4_1;
     switch_xq = ld64((((u8 *)switch_table_capnp_show_show_lines_show_pointer_5ccc1b_c0287b34) + (i64)(8 * (u64)(r_z4_1 & 255u))));
-    switch_mb = ldp((((u8 *)switch_table_capnp_show_show_lines_show_pointer_5ccc1b_e296ef2d) + (i64)(8 * (u64)(r_z4_1 & 255u))));
+    switch_mb = ldp((((u8 *)switch_table_capnp_show_show_lines_show_pointer_5ccc1b_c28a2114) + (i64)(8 * (u64)(r_z4_1 & 255u))));
     r_24_2 = (u64)r_uq_2;
     if (!(ld8(r_q6_1) == 0u)) goto l_capnp_uq;
     r_rq_4 = away(a_3, 8ull);
@@ -4074,13 +4074,13 @@ l_join_h7:;
     r_hc = (r_ue + 3ull);
     r_fx_5 = ldp(a_3);
     r_2b_5 = away(r_fx_5, r_ue);
-    if (((u64)(uptr)r_2b_5 - (u64)(uptr)((u8 *)g_static_280)) < 3ull) { r_1r = 0ull; goto l_join_q8; }
-    mv3(r_2b_5, ((u8 *)g_static_280));
+    if (((u64)(uptr)r_2b_5 - (u64)(uptr)((u8 *)g_static_279)) < 3ull) { r_e1 = 0ull; goto l_join_32; }
+    mv3(r_2b_5, ((u8 *)g_static_279));
     goto l_core_ga_3;
-l_join_q8:;
-    st8((r_2b_5 + (i64)(r_1r)), ld8((((u8 *)g_static_280) + (i64)(r_1r))));
-    u64 r_c4_5 = (r_1r + 1ull);
-    if (!(r_c4_5 == 3ull)) { r_1r = r_c4_5; goto l_join_q8; }
+l_join_32:;
+    st8((r_2b_5 + (i64)(r_e1)), ld8((((u8 *)g_static_279) + (i64)(r_e1))));
+    u64 r_c4_5 = (r_e1 + 1ull);
+    if (!(r_c4_5 == 3ull)) { r_e1 = r_c4_5; goto l_join_32; }
 l_core_ga_3:;
     stp(a_3, r_fx_5);
     st64(r_rq_4, r_hc);
@@ -4197,13 +4197,13 @@ l_join_tt_1:;
     r_5b_1 = (r_pz_1 + 4ull);
     r_fx_7 = ldp(a_3);
     r_2b_7 = away(r_fx_7, r_pz_1);
-    if (((u64)(uptr)r_2b_7 - (u64)(uptr)((u8 *)g_static_267)) < 4ull) { r_9z = 0ull; goto l_join_wo; }
+    if (((u64)(uptr)r_2b_7 - (u64)(uptr)((u8 *)g_static_266)) < 4ull) { r_51 = 0ull; goto l_join_fz; }
     st32(r_2b_7, 0x6d305b1bu);
     goto l_core_ga_5;
-l_join_wo:;
-    st8((r_2b_7 + (i64)(r_9z)), ld8((((u8 *)g_static_267) + (i64)(r_9z))));
-    u64 r_c4_7 = (r_9z + 1ull);
-    if (!(r_c4_7 == 4ull)) { r_9z = r_c4_7; goto l_join_wo; }
+l_join_fz:;
+    st8((r_2b_7 + (i64)(r_51)), ld8((((u8 *)g_static_266) + (i64)(r_51))));
+    u64 r_c4_7 = (r_51 + 1ull);
+    if (!(r_c4_7 == 4ull)) { r_51 = r_c4_7; goto l_join_fz; }
 l_core_ga_5:;
     stp(a_3, r_fx_7);
     st64(r_rq_6, r_5b_1);
@@ -4216,7 +4216,7 @@ l_capnp_xz_1:;
     r_26 = r_w0_1;
 l_capnp_b6:;
     if (!(r_56 < r_38_2)) goto l_join_lc;
-    if (!(r_26 == 0u)) goto l_join_99;
+    if (!(r_26 == 0u)) goto l_join_8y;
     r_rq_7 = away(a_3, 8ull);
     r_52_17 = ld64(r_rq_7);
     if (r_52_17 > 0x3ffffbfull) { r_1e_3 = 0u; r_6i_3 = 1u; goto l_capnp_vj_3; }
@@ -4238,7 +4238,7 @@ l_join_jz:;
 l_capnp_vj_3:;
     st8(r_q6_1, r_6i_3);
     st8(away(a_3, 26ull), r_1e_3);
-    goto l_join_99;
+    goto l_join_8y;
 l_arm_q4:;
     if (!(ld8(r_q6_1) == 0u)) goto l_join_cv;
     r_rq_8 = away(a_3, 8ull);
@@ -4283,10 +4283,10 @@ l_arm_o0:;
 l_join_bo:;
     st8(r_q6_1, 1u);
     st8(away(a_3, 26ull), r_tz);
-    if (a_5j > 64ull) goto l_join_99;
+    if (a_5j > 64ull) goto l_join_8y;
     goto l_capnp_qm;
 l_join_cv:;
-    if (a_5j > 64ull) goto l_join_99;
+    if (a_5j > 64ull) goto l_join_8y;
     goto l_capnp_qm;
 l_then_zl:;
     if (r_5q > 0x3ffffbfull) { r_ws = 0u; r_ak = 1u; goto l_capnp_62; }
@@ -4306,7 +4306,7 @@ l_join_wl:;
 l_capnp_62:;
     st8(r_q6_1, r_ak);
     st8(r_i8_2, r_ws);
-    goto l_join_99;
+    goto l_join_8y;
 l_arm_i8:;
     if (r_uq_2 == 0u) goto l_join_lc;
     r_gw = (u64)(r_38_1 >> 3ull);
@@ -4314,12 +4314,12 @@ l_arm_i8:;
     r_08_10 = away(a_3, 16ull);
     r_i8_3 = away(a_3, 26ull);
     wide_v1 = (u64)umin32(r_uq_2, 64u);
-    indvars_gs = 0ull;
-l_join_s2:;
-    u8 r_5h = (indvars_gs == 0ull);
+    indvars_x9 = 0ull;
+l_join_4v:;
+    u8 r_5h = (indvars_x9 == 0ull);
     i_0a = (r_5h ? 2ull : 1ull);
-    static_k8 = (r_5h ? ((u8 *)g_static_61) : ((u8 *)g_static_268));
-    t_nk = (u32)indvars_gs;
+    static_fj = (r_5h ? ((u8 *)g_static_61) : ((u8 *)g_static_267));
+    t_nk = (u32)indvars_x9;
     switch (r_ne) {
     case 1u: goto l_arm_gd;
     case 2u: goto l_arm_g8;
@@ -4362,16 +4362,16 @@ l_capnp_0h:;
     default: goto l_noarm_e1_3;
     }
 l_arm_6b:;
-    r_zg = ((u64)(r_de >> (indvars_gs & 63u)) & 1ull);
+    r_zg = ((u64)(r_de >> (indvars_x9 & 63u)) & 1ull);
     goto l_capnp_x3;
 l_arm_qk:;
-    r_zg = ((u64)(r_de >> (((u64)(indvars_gs << 3ull) & 56ull) & 63u)) & 255ull);
+    r_zg = ((u64)(r_de >> (((u64)(indvars_x9 << 3ull) & 56ull) & 63u)) & 255ull);
     goto l_capnp_x3;
 l_arm_5n:;
-    r_zg = ((u64)(r_de >> (((u64)(indvars_gs << 4ull) & 48ull) & 63u)) & 65535ull);
+    r_zg = ((u64)(r_de >> (((u64)(indvars_x9 << 4ull) & 48ull) & 63u)) & 65535ull);
     goto l_capnp_x3;
 l_arm_ld:;
-    r_zg = ((u64)(r_de >> (((u64)(indvars_gs << 5ull) & 32ull) & 63u)) & 0xffffffffull);
+    r_zg = ((u64)(r_de >> (((u64)(indvars_x9 << 5ull) & 32ull) & 63u)) & 0xffffffffull);
     goto l_capnp_x3;
 l_noarm_e1_3:;
     UNREACHABLE();
@@ -4389,11 +4389,11 @@ l_join_ue:;
     r_qh = (r_19 + i_0a);
     r_fx_10 = ldp(a_3);
     r_2b_8 = away(r_fx_10, r_19);
-    if (((u64)(uptr)r_2b_8 - (u64)(uptr)static_k8) < i_0a) { r_es = 0ull; goto l_join_fx; }
-    memcpy_or_none(r_2b_8, static_k8, i_0a);
+    if (((u64)(uptr)r_2b_8 - (u64)(uptr)static_fj) < i_0a) { r_es = 0ull; goto l_join_fx; }
+    memcpy_or_none(r_2b_8, static_fj, i_0a);
     goto l_arm_na_2;
 l_join_fx:;
-    st8((r_2b_8 + (i64)(r_es)), ld8((static_k8 + (i64)(r_es))));
+    st8((r_2b_8 + (i64)(r_es)), ld8((static_fj + (i64)(r_es))));
     u64 r_c4_10 = (r_es + 1ull);
     if (!(r_c4_10 == i_0a)) { r_es = r_c4_10; goto l_join_fx; }
 l_arm_na_2:;
@@ -4413,10 +4413,10 @@ l_capnp_kx:;
     st8(r_i8_3, r_su.f1);
     r_9o = (r_kp_4 == 0u);
 l_capnp_4g:;
-    u64 indvars_r7 = (indvars_gs + 1ull);
-    if (!(indvars_r7 == wide_v1)) { indvars_gs = indvars_r7; goto l_join_s2; }
+    u64 indvars_r7 = (indvars_x9 + 1ull);
+    if (!(indvars_r7 == wide_v1)) { indvars_x9 = indvars_r7; goto l_join_4v; }
     if (!(r_uq_2 > 64u)) goto l_join_lc;
-    if (!r_9o) goto l_join_99;
+    if (!r_9o) goto l_join_8y;
     r_52_23 = ld64(r_rq_9);
     if (r_52_23 > 0x3ffffbfull) { r_ws_1 = 0u; r_ak_1 = 1u; goto l_capnp_62_1; }
     u64 r_52_24 = ld64(r_08_10);
@@ -4436,8 +4436,8 @@ l_join_jz_1:;
 l_capnp_62_1:;
     st8(r_q6_1, r_ak_1);
     st8(r_i8_3, r_ws_1);
-l_join_99:;
-    capnp_show_show_lines_Lines_write_part(a_3, ((u8 *)g_static_281), 2ull);
+l_join_8y:;
+    capnp_show_show_lines_Lines_write_part(a_3, ((u8 *)g_static_280), 2ull);
     goto l_join_lc;
 l_noarm_e1_1:;
     UNREACHABLE();
@@ -4466,13 +4466,13 @@ l_join_67:;
     r_ob = (r_wh + 10ull);
     r_fx_12 = ldp(a_3);
     r_2b_9 = away(r_fx_12, r_wh);
-    if (((u64)(uptr)r_2b_9 - (u64)(uptr)((u8 *)g_static_287)) < 10ull) { r_c2 = 0ull; goto l_join_8g; }
-    mv10(r_2b_9, ((u8 *)g_static_287));
+    if (((u64)(uptr)r_2b_9 - (u64)(uptr)((u8 *)g_static_286)) < 10ull) { r_di = 0ull; goto l_join_ge; }
+    mv10(r_2b_9, ((u8 *)g_static_286));
     goto l_arm_na_3;
-l_join_8g:;
-    st8((r_2b_9 + (i64)(r_c2)), ld8((((u8 *)g_static_287) + (i64)(r_c2))));
-    u64 r_c4_11 = (r_c2 + 1ull);
-    if (!(r_c4_11 == 10ull)) { r_c2 = r_c4_11; goto l_join_8g; }
+l_join_ge:;
+    st8((r_2b_9 + (i64)(r_di)), ld8((((u8 *)g_static_286) + (i64)(r_di))));
+    u64 r_c4_11 = (r_di + 1ull);
+    if (!(r_c4_11 == 10ull)) { r_di = r_c4_11; goto l_join_ge; }
 l_arm_na_3:;
     stp(a_3, r_fx_12);
     st64(r_rq_10, r_ob);
@@ -4510,13 +4510,13 @@ l_join_h7_1:;
     r_hc_1 = (r_ue_1 + 3ull);
     r_fx_13 = ldp(a_3);
     r_2b_10 = away(r_fx_13, r_ue_1);
-    if (((u64)(uptr)r_2b_10 - (u64)(uptr)((u8 *)g_static_280)) < 3ull) { r_1r_1 = 0ull; goto l_join_q8_1; }
-    mv3(r_2b_10, ((u8 *)g_static_280));
+    if (((u64)(uptr)r_2b_10 - (u64)(uptr)((u8 *)g_static_279)) < 3ull) { r_e1_1 = 0ull; goto l_join_32_1; }
+    mv3(r_2b_10, ((u8 *)g_static_279));
     goto l_core_ga_6;
-l_join_q8_1:;
-    st8((r_2b_10 + (i64)(r_1r_1)), ld8((((u8 *)g_static_280) + (i64)(r_1r_1))));
-    u64 r_c4_12 = (r_1r_1 + 1ull);
-    if (!(r_c4_12 == 3ull)) { r_1r_1 = r_c4_12; goto l_join_q8_1; }
+l_join_32_1:;
+    st8((r_2b_10 + (i64)(r_e1_1)), ld8((((u8 *)g_static_279) + (i64)(r_e1_1))));
+    u64 r_c4_12 = (r_e1_1 + 1ull);
+    if (!(r_c4_12 == 3ull)) { r_e1_1 = r_c4_12; goto l_join_32_1; }
 l_core_ga_6:;
     stp(a_3, r_fx_13);
     st64(r_rq_10, r_hc_1);
@@ -4547,13 +4547,13 @@ l_join_k6:;
     r_wr = (r_9w + 9ull);
     r_fx_14 = ldp(a_3);
     r_2b_11 = away(r_fx_14, r_9w);
-    if (((u64)(uptr)r_2b_11 - (u64)(uptr)((u8 *)g_static_288)) < 9ull) { r_25 = 0ull; goto l_join_1x; }
-    mv9(r_2b_11, ((u8 *)g_static_288));
+    if (((u64)(uptr)r_2b_11 - (u64)(uptr)((u8 *)g_static_287)) < 9ull) { r_c2 = 0ull; goto l_join_8g; }
+    mv9(r_2b_11, ((u8 *)g_static_287));
     goto l_arm_na_4;
-l_join_1x:;
-    st8((r_2b_11 + (i64)(r_25)), ld8((((u8 *)g_static_288) + (i64)(r_25))));
-    u64 r_c4_13 = (r_25 + 1ull);
-    if (!(r_c4_13 == 9ull)) { r_25 = r_c4_13; goto l_join_1x; }
+l_join_8g:;
+    st8((r_2b_11 + (i64)(r_c2)), ld8((((u8 *)g_static_287) + (i64)(r_c2))));
+    u64 r_c4_13 = (r_c2 + 1ull);
+    if (!(r_c4_13 == 9ull)) { r_c2 = r_c4_13; goto l_join_8g; }
 l_arm_na_4:;
     stp(a_3, r_fx_14);
     st64(r_rq_11, r_wr);
@@ -4590,13 +4590,13 @@ l_join_h7_2:;
     r_hc_2 = (r_ue_2 + 3ull);
     r_fx_15 = ldp(a_3);
     r_2b_12 = away(r_fx_15, r_ue_2);
-    if (((u64)(uptr)r_2b_12 - (u64)(uptr)((u8 *)g_static_280)) < 3ull) { r_1r_2 = 0ull; goto l_join_q8_2; }
-    mv3(r_2b_12, ((u8 *)g_static_280));
+    if (((u64)(uptr)r_2b_12 - (u64)(uptr)((u8 *)g_static_279)) < 3ull) { r_e1_2 = 0ull; goto l_join_32_2; }
+    mv3(r_2b_12, ((u8 *)g_static_279));
     goto l_core_ga_7;
-l_join_q8_2:;
-    st8((r_2b_12 + (i64)(r_1r_2)), ld8((((u8 *)g_static_280) + (i64)(r_1r_2))));
-    u64 r_c4_14 = (r_1r_2 + 1ull);
-    if (!(r_c4_14 == 3ull)) { r_1r_2 = r_c4_14; goto l_join_q8_2; }
+l_join_32_2:;
+    st8((r_2b_12 + (i64)(r_e1_2)), ld8((((u8 *)g_static_279) + (i64)(r_e1_2))));
+    u64 r_c4_14 = (r_e1_2 + 1ull);
+    if (!(r_c4_14 == 3ull)) { r_e1_2 = r_c4_14; goto l_join_32_2; }
 l_core_ga_7:;
     stp(a_3, r_fx_15);
     st64(r_rq_11, r_hc_2);
@@ -4771,8 +4771,8 @@ l_noarm_e1_4:;
     UNREACHABLE();
 l_capnp_zr:;
     goto l_common_68;
-l_switch_ht:;
-    capnp_show_show_lines_Lines_write_refusal(a_3, ldp((((u8 *)switch_table_capnp_canon_inputs_report_refusal_43) + (i64)(8 * (u64)r_r5))), ld64((((u8 *)switch_table_capnp_canon_inputs_report_refusal_44) + (i64)(8 * (u64)r_r5))));
+l_switch_1y:;
+    capnp_show_show_lines_Lines_write_refusal(a_3, ldp((((u8 *)switch_table_capnp_canon_inputs_report_refusal_51) + (i64)(8 * (u64)r_r5))), ld64((((u8 *)switch_table_capnp_canon_inputs_report_refusal_52) + (i64)(8 * (u64)r_r5))));
     goto l_common_68;
 }
 
@@ -4788,7 +4788,7 @@ static void capnp_show_show_lines_Lines_write_path(u8 *a_1)
     u64 r_5b;
     u8 *r_fx;
     u8 *r_2b;
-    u64 r_9z;
+    u64 r_51;
     u8 r_fo;
     u8 r_go;
     capnp_show_show_lines_Lines_begin(a_1, 0u);
@@ -4813,13 +4813,13 @@ l_join_tt:;
     r_5b = (r_pz + 4ull);
     r_fx = ldp(a_1);
     r_2b = away(r_fx, r_pz);
-    if (((u64)(uptr)r_2b - (u64)(uptr)((u8 *)g_static_267)) < 4ull) { r_9z = 0ull; goto l_join_wo; }
+    if (((u64)(uptr)r_2b - (u64)(uptr)((u8 *)g_static_266)) < 4ull) { r_51 = 0ull; goto l_join_fz; }
     st32(r_2b, 0x6d305b1bu);
     goto l_core_ga;
-l_join_wo:;
-    st8((r_2b + (i64)(r_9z)), ld8((((u8 *)g_static_267) + (i64)(r_9z))));
-    u64 r_c4 = (r_9z + 1ull);
-    if (!(r_c4 == 4ull)) { r_9z = r_c4; goto l_join_wo; }
+l_join_fz:;
+    st8((r_2b + (i64)(r_51)), ld8((((u8 *)g_static_266) + (i64)(r_51))));
+    u64 r_c4 = (r_51 + 1ull);
+    if (!(r_c4 == 4ull)) { r_51 = r_c4; goto l_join_fz; }
 l_core_ga:;
     stp(a_1, r_fx);
     st64(r_rq, r_5b);
@@ -4846,7 +4846,7 @@ static void capnp_show_show_lines_Lines_begin(u8 *a_1, u8 a_2)
     u64 r_x4;
     u8 *r_fx;
     u8 *r_2b;
-    u64 r_sw;
+    u64 r_ap;
     u8 r_e7;
     struct s_i8_i8 r_o6;
     u8 *r_i8;
@@ -4874,13 +4874,13 @@ l_join_p3:;
     r_x4 = (r_54 + 2ull);
     r_fx = ldp(a_1);
     r_2b = away(r_fx, r_54);
-    if (((u64)(uptr)r_2b - (u64)(uptr)((u8 *)g_static_262)) < 2ull) { r_sw = 0ull; goto l_join_00; }
+    if (((u64)(uptr)r_2b - (u64)(uptr)((u8 *)g_static_261)) < 2ull) { r_ap = 0ull; goto l_join_je; }
     st16(r_2b, 23323u);
     goto l_arm_f0;
-l_join_00:;
-    st8((r_2b + (i64)(r_sw)), ld8((((u8 *)g_static_262) + (i64)(r_sw))));
-    u64 r_c4 = (r_sw + 1ull);
-    if (!(r_c4 == 2ull)) { r_sw = r_c4; goto l_join_00; }
+l_join_je:;
+    st8((r_2b + (i64)(r_ap)), ld8((((u8 *)g_static_261) + (i64)(r_ap))));
+    u64 r_c4 = (r_ap + 1ull);
+    if (!(r_c4 == 2ull)) { r_ap = r_c4; goto l_join_je; }
 l_arm_f0:;
     stp(a_1, r_fx);
     st64(r_rq, r_x4);
@@ -4934,7 +4934,7 @@ static struct s_i8_i8 capnp_show_show_path_push_path(u8 *a_1, u8 *a_2, u64 a_3)
     u64 r_5b;
     u8 *r_fx;
     u8 *r_2b;
-    u64 r_8l;
+    u64 r_it;
     u64 r_h0;
     u8 *r_8z;
     u64 r_52_2;
@@ -4973,13 +4973,13 @@ l_join_tt:;
     r_5b = (r_pz + 4ull);
     r_fx = ldp(a_1);
     r_2b = away(r_fx, r_pz);
-    if (((u64)(uptr)r_2b - (u64)(uptr)((u8 *)g_static_264)) < 4ull) { r_8l = 0ull; goto l_join_x9; }
+    if (((u64)(uptr)r_2b - (u64)(uptr)((u8 *)g_static_263)) < 4ull) { r_it = 0ull; goto l_join_og; }
     st32(r_2b, 0x746f6f72u);
     goto l_core_x2;
-l_join_x9:;
-    st8((r_2b + (i64)(r_8l)), ld8((((u8 *)g_static_264) + (i64)(r_8l))));
-    u64 r_c4 = (r_8l + 1ull);
-    if (!(r_c4 == 4ull)) { r_8l = r_c4; goto l_join_x9; }
+l_join_og:;
+    st8((r_2b + (i64)(r_it)), ld8((((u8 *)g_static_263) + (i64)(r_it))));
+    u64 r_c4 = (r_it + 1ull);
+    if (!(r_c4 == 4ull)) { r_it = r_c4; goto l_join_og; }
 l_core_x2:;
     stp(a_1, r_fx);
     st64(r_rq, r_5b);
@@ -5119,7 +5119,7 @@ static void capnp_show_show_lines_Lines_write_place(u8 *a_1, u64 a_2, u32 a_3)
     u64 r_5b;
     u8 *r_fx_4;
     u8 *r_2b;
-    u64 r_9z;
+    u64 r_51;
     u8 r_fo_1;
     u8 r_go_1;
     r_q6 = away(a_1, 25ull);
@@ -5243,13 +5243,13 @@ l_join_tt:;
     r_5b = (r_pz + 4ull);
     r_fx_4 = ldp(a_1);
     r_2b = away(r_fx_4, r_pz);
-    if (((u64)(uptr)r_2b - (u64)(uptr)((u8 *)g_static_267)) < 4ull) { r_9z = 0ull; goto l_join_wo_1; }
+    if (((u64)(uptr)r_2b - (u64)(uptr)((u8 *)g_static_266)) < 4ull) { r_51 = 0ull; goto l_join_fz; }
     st32(r_2b, 0x6d305b1bu);
     goto l_core_ga;
-l_join_wo_1:;
-    st8((r_2b + (i64)(r_9z)), ld8((((u8 *)g_static_267) + (i64)(r_9z))));
-    u64 r_c4 = (r_9z + 1ull);
-    if (!(r_c4 == 4ull)) { r_9z = r_c4; goto l_join_wo_1; }
+l_join_fz:;
+    st8((r_2b + (i64)(r_51)), ld8((((u8 *)g_static_266) + (i64)(r_51))));
+    u64 r_c4 = (r_51 + 1ull);
+    if (!(r_c4 == 4ull)) { r_51 = r_c4; goto l_join_fz; }
 l_core_ga:;
     stp(a_1, r_fx_4);
     st64(r_rq_2, r_5b);
@@ -5287,7 +5287,7 @@ static void capnp_show_show_lines_Lines_write_part(u8 *a_1, u8 *a_2, u64 a_3)
     u64 r_5b;
     u8 *r_fx_1;
     u8 *r_2b_1;
-    u64 r_9z;
+    u64 r_51;
     u8 r_fo;
     u8 r_go;
     capnp_show_show_lines_Lines_begin(a_1, 4u);
@@ -5340,13 +5340,13 @@ l_join_tt:;
     r_5b = (r_pz + 4ull);
     r_fx_1 = ldp(a_1);
     r_2b_1 = away(r_fx_1, r_pz);
-    if (((u64)(uptr)r_2b_1 - (u64)(uptr)((u8 *)g_static_267)) < 4ull) { r_9z = 0ull; goto l_join_wo; }
+    if (((u64)(uptr)r_2b_1 - (u64)(uptr)((u8 *)g_static_266)) < 4ull) { r_51 = 0ull; goto l_join_fz; }
     st32(r_2b_1, 0x6d305b1bu);
     goto l_core_ga_1;
-l_join_wo:;
-    st8((r_2b_1 + (i64)(r_9z)), ld8((((u8 *)g_static_267) + (i64)(r_9z))));
-    u64 r_c4_1 = (r_9z + 1ull);
-    if (!(r_c4_1 == 4ull)) { r_9z = r_c4_1; goto l_join_wo; }
+l_join_fz:;
+    st8((r_2b_1 + (i64)(r_51)), ld8((((u8 *)g_static_266) + (i64)(r_51))));
+    u64 r_c4_1 = (r_51 + 1ull);
+    if (!(r_c4_1 == 4ull)) { r_51 = r_c4_1; goto l_join_fz; }
 l_core_ga_1:;
     stp(a_1, r_fx_1);
     st64(r_rq_1, r_5b);
@@ -5376,7 +5376,7 @@ static void capnp_show_show_lines_Lines_write_struct(u8 *a_1, u8 *a_2, u16 a_3, 
     u64 r_xe_1;
     u8 *r_fx;
     u8 *r_2b;
-    u64 r_a7;
+    u64 r_ca;
     u8 r_xe;
     u8 t_ei;
     u8 r_bl;
@@ -5388,7 +5388,7 @@ static void capnp_show_show_lines_Lines_write_struct(u8 *a_1, u8 *a_2, u16 a_3, 
     u64 r_hc;
     u8 *r_fx_1;
     u8 *r_2b_1;
-    u64 r_1r;
+    u64 r_e1;
     u8 r_fo;
     u8 r_go;
     u32 a_61;
@@ -5396,10 +5396,10 @@ static void capnp_show_show_lines_Lines_write_struct(u8 *a_1, u8 *a_2, u16 a_3, 
     u8 *r_08_2;
     u8 *r_i8;
     u64 r_gw;
-    u8 r_oq;
-    u32 r_mt;
+    u8 r_76;
+    u32 r_if;
     u64 i_5e;
-    u8 *static_wu;
+    u8 *static_oq;
     u64 r_52_5;
     u64 r_4b;
     u64 r_19;
@@ -5438,13 +5438,13 @@ l_join_me:;
     r_xe_1 = (r_nq + 7ull);
     r_fx = ldp(a_1);
     r_2b = away(r_fx, r_nq);
-    if (((u64)(uptr)r_2b - (u64)(uptr)((u8 *)g_static_282)) < 7ull) { r_a7 = 0ull; goto l_join_5u; }
-    mv7(r_2b, ((u8 *)g_static_282));
+    if (((u64)(uptr)r_2b - (u64)(uptr)((u8 *)g_static_281)) < 7ull) { r_ca = 0ull; goto l_join_mp; }
+    mv7(r_2b, ((u8 *)g_static_281));
     goto l_core_ga;
-l_join_5u:;
-    st8((r_2b + (i64)(r_a7)), ld8((((u8 *)g_static_282) + (i64)(r_a7))));
-    u64 r_c4 = (r_a7 + 1ull);
-    if (!(r_c4 == 7ull)) { r_a7 = r_c4; goto l_join_5u; }
+l_join_mp:;
+    st8((r_2b + (i64)(r_ca)), ld8((((u8 *)g_static_281) + (i64)(r_ca))));
+    u64 r_c4 = (r_ca + 1ull);
+    if (!(r_c4 == 7ull)) { r_ca = r_c4; goto l_join_mp; }
 l_core_ga:;
     stp(a_1, r_fx);
     st64(r_rq, r_xe_1);
@@ -5476,13 +5476,13 @@ l_join_h7:;
     r_hc = (r_ue + 3ull);
     r_fx_1 = ldp(a_1);
     r_2b_1 = away(r_fx_1, r_ue);
-    if (((u64)(uptr)r_2b_1 - (u64)(uptr)((u8 *)g_static_280)) < 3ull) { r_1r = 0ull; goto l_join_q8; }
-    mv3(r_2b_1, ((u8 *)g_static_280));
+    if (((u64)(uptr)r_2b_1 - (u64)(uptr)((u8 *)g_static_279)) < 3ull) { r_e1 = 0ull; goto l_join_32; }
+    mv3(r_2b_1, ((u8 *)g_static_279));
     goto l_core_ga_1;
-l_join_q8:;
-    st8((r_2b_1 + (i64)(r_1r)), ld8((((u8 *)g_static_280) + (i64)(r_1r))));
-    u64 r_c4_1 = (r_1r + 1ull);
-    if (!(r_c4_1 == 3ull)) { r_1r = r_c4_1; goto l_join_q8; }
+l_join_32:;
+    st8((r_2b_1 + (i64)(r_e1)), ld8((((u8 *)g_static_279) + (i64)(r_e1))));
+    u64 r_c4_1 = (r_e1 + 1ull);
+    if (!(r_c4_1 == 3ull)) { r_e1 = r_c4_1; goto l_join_32; }
 l_core_ga_1:;
     stp(a_1, r_fx_1);
     st64(r_rq_1, r_hc);
@@ -5502,13 +5502,13 @@ l_capnp_lj:;
     r_08_2 = away(a_1, 16ull);
     r_i8 = away(a_1, 26ull);
     r_gw = (u64)(r_qw >> 3ull);
-    r_oq = ld8(r_q6);
-    r_mt = 0u;
-l_join_my:;
-    u8 r_2p = (r_mt == 0u);
+    r_76 = ld8(r_q6);
+    r_if = 0u;
+l_join_vb:;
+    u8 r_2p = (r_if == 0u);
     i_5e = (r_2p ? 4ull : 3ull);
-    static_wu = (r_2p ? ((u8 *)g_static_285) : ((u8 *)g_static_286));
-    if (!(r_oq == 0u)) { r_st = r_oq; goto l_capnp_k6; }
+    static_oq = (r_2p ? ((u8 *)g_static_284) : ((u8 *)g_static_285));
+    if (!(r_76 == 0u)) { r_st = r_76; goto l_capnp_k6; }
     r_52_5 = ld64(r_rq_2);
     if ((r_52_5 > 0x3ffffc0ull) ? 1u : ((0x3ffffc0ull - r_52_5) < i_5e)) { r_i7 = 0u; r_w0 = 1u; goto l_capnp_xz; }
     u64 r_52_6 = ld64(r_08_2);
@@ -5521,11 +5521,11 @@ l_join_ue:;
     r_qh = (r_19 + i_5e);
     r_fx_2 = ldp(a_1);
     r_2b_2 = away(r_fx_2, r_19);
-    if (((u64)(uptr)r_2b_2 - (u64)(uptr)static_wu) < i_5e) { r_es = 0ull; goto l_join_fx; }
-    memcpy_or_none(r_2b_2, static_wu, i_5e);
+    if (((u64)(uptr)r_2b_2 - (u64)(uptr)static_oq) < i_5e) { r_es = 0ull; goto l_join_fx; }
+    memcpy_or_none(r_2b_2, static_oq, i_5e);
     goto l_core_ga_2;
 l_join_fx:;
-    st8((r_2b_2 + (i64)(r_es)), ld8((static_wu + (i64)(r_es))));
+    st8((r_2b_2 + (i64)(r_es)), ld8((static_oq + (i64)(r_es))));
     u64 r_c4_2 = (r_es + 1ull);
     if (!(r_c4_2 == i_5e)) { r_es = r_c4_2; goto l_join_fx; }
 l_core_ga_2:;
@@ -5539,7 +5539,7 @@ l_capnp_xz:;
     st8(r_i8, r_i7);
     r_st = r_w0;
 l_capnp_k6:;
-    r_24 = (u64)uadd_sat32(r_mt, r_5k);
+    r_24 = (u64)uadd_sat32(r_if, r_5k);
     if (!(r_gw > r_24)) { r_lk = 0ull; goto l_capnp_pz; }
     r_lk = ld64(away(r_rv, (u64)(r_24 << 3ull)));
 l_capnp_pz:;
@@ -5550,10 +5550,10 @@ l_capnp_pz:;
     st8(r_i8, r_86.f1);
     r_as = r_kp;
 l_capnp_4a:;
-    u32 r_ff = (r_mt + 1u);
-    if (!(r_ff == a_61)) { r_oq = r_as; r_mt = r_ff; goto l_join_my; }
+    u32 r_ff = (r_if + 1u);
+    if (!(r_ff == a_61)) { r_76 = r_as; r_if = r_ff; goto l_join_vb; }
     if (!(a_3 > 64u)) goto l_capnp_68;
-    if (!(r_as == 0u)) goto l_capnp_35;
+    if (!(r_as == 0u)) goto l_capnp_2r;
     r_52_7 = ld64(r_rq_2);
     if (r_52_7 > 0x3ffffbfull) { r_i7_1 = 0u; r_w0_1 = 1u; goto l_capnp_xz_1; }
     u64 r_52_8 = ld64(r_08_2);
@@ -5573,8 +5573,8 @@ l_join_jz:;
 l_capnp_xz_1:;
     st8(r_q6, r_w0_1);
     st8(r_i8, r_i7_1);
-l_capnp_35:;
-    capnp_show_show_lines_Lines_write_part(a_1, ((u8 *)g_static_281), 2ull);
+l_capnp_2r:;
+    capnp_show_show_lines_Lines_write_part(a_1, ((u8 *)g_static_280), 2ull);
 l_capnp_68:;
     return;
 }
@@ -5592,7 +5592,7 @@ static void capnp_show_show_lines_Lines_write_sizes(u8 *a_1, u16 a_2, u16 a_3)
     u64 r_xe;
     u8 *r_fx;
     u8 *r_2b;
-    u64 r_w5;
+    u64 r_a7;
     u8 r_e7;
     struct s_i8_i8 r_o6;
     u8 *r_i8;
@@ -5604,7 +5604,7 @@ static void capnp_show_show_lines_Lines_write_sizes(u8 *a_1, u16 a_2, u16 a_3)
     u64 r_sb;
     u8 *r_fx_1;
     u8 *r_2b_1;
-    u64 r_f4;
+    u64 r_w5;
     u8 r_e7_1;
     struct s_i8_i8 r_su;
     r_bi = (u64)a_2;
@@ -5624,13 +5624,13 @@ l_join_me:;
     r_xe = (r_nq + 7ull);
     r_fx = ldp(a_1);
     r_2b = away(r_fx, r_nq);
-    if (((u64)(uptr)r_2b - (u64)(uptr)((u8 *)g_static_283)) < 7ull) { r_w5 = 0ull; goto l_join_to; }
-    mv7(r_2b, ((u8 *)g_static_283));
+    if (((u64)(uptr)r_2b - (u64)(uptr)((u8 *)g_static_282)) < 7ull) { r_a7 = 0ull; goto l_join_5u; }
+    mv7(r_2b, ((u8 *)g_static_282));
     goto l_arm_na;
-l_join_to:;
-    st8((r_2b + (i64)(r_w5)), ld8((((u8 *)g_static_283) + (i64)(r_w5))));
-    u64 r_c4 = (r_w5 + 1ull);
-    if (!(r_c4 == 7ull)) { r_w5 = r_c4; goto l_join_to; }
+l_join_5u:;
+    st8((r_2b + (i64)(r_a7)), ld8((((u8 *)g_static_282) + (i64)(r_a7))));
+    u64 r_c4 = (r_a7 + 1ull);
+    if (!(r_c4 == 7ull)) { r_a7 = r_c4; goto l_join_5u; }
 l_arm_na:;
     stp(a_1, r_fx);
     st64(r_rq, r_xe);
@@ -5662,13 +5662,13 @@ l_join_12:;
     r_sb = (r_jh + 11ull);
     r_fx_1 = ldp(a_1);
     r_2b_1 = away(r_fx_1, r_jh);
-    if (((u64)(uptr)r_2b_1 - (u64)(uptr)((u8 *)g_static_284)) < 11ull) { r_f4 = 0ull; goto l_join_64; }
-    mv11(r_2b_1, ((u8 *)g_static_284));
+    if (((u64)(uptr)r_2b_1 - (u64)(uptr)((u8 *)g_static_283)) < 11ull) { r_w5 = 0ull; goto l_join_to; }
+    mv11(r_2b_1, ((u8 *)g_static_283));
     goto l_arm_na_1;
-l_join_64:;
-    st8((r_2b_1 + (i64)(r_f4)), ld8((((u8 *)g_static_284) + (i64)(r_f4))));
-    u64 r_c4_1 = (r_f4 + 1ull);
-    if (!(r_c4_1 == 11ull)) { r_f4 = r_c4_1; goto l_join_64; }
+l_join_to:;
+    st8((r_2b_1 + (i64)(r_w5)), ld8((((u8 *)g_static_283) + (i64)(r_w5))));
+    u64 r_c4_1 = (r_w5 + 1ull);
+    if (!(r_c4_1 == 11ull)) { r_w5 = r_c4_1; goto l_join_to; }
 l_arm_na_1:;
     stp(a_1, r_fx_1);
     st64(r_rq, r_sb);
@@ -5865,7 +5865,7 @@ static void capnp_show_show_lines_Lines_write_depth_cut(u8 *a_1, u32 a_2)
     u64 r_dr;
     u8 *r_fx_1;
     u8 *r_2b;
-    u64 r_ce;
+    u64 r_25;
     u8 r_e7;
     struct s_i8_i8 r_o6;
     u8 r_dw;
@@ -5877,7 +5877,7 @@ static void capnp_show_show_lines_Lines_write_depth_cut(u8 *a_1, u32 a_2)
     u64 r_5b;
     u8 *r_fx_2;
     u8 *r_2b_1;
-    u64 r_9z;
+    u64 r_51;
     u8 r_fo_1;
     u8 r_go_1;
     u8 r_uy;
@@ -5932,13 +5932,13 @@ l_join_jf:;
     r_dr = (r_v4 + 13ull);
     r_fx_1 = ldp(a_1);
     r_2b = away(r_fx_1, r_v4);
-    if (((u64)(uptr)r_2b - (u64)(uptr)((u8 *)g_static_289)) < 13ull) { r_ce = 0ull; goto l_join_ve; }
-    mv13(r_2b, ((u8 *)g_static_289));
+    if (((u64)(uptr)r_2b - (u64)(uptr)((u8 *)g_static_288)) < 13ull) { r_25 = 0ull; goto l_join_1x; }
+    mv13(r_2b, ((u8 *)g_static_288));
     goto l_arm_na;
-l_join_ve:;
-    st8((r_2b + (i64)(r_ce)), ld8((((u8 *)g_static_289) + (i64)(r_ce))));
-    u64 r_c4 = (r_ce + 1ull);
-    if (!(r_c4 == 13ull)) { r_ce = r_c4; goto l_join_ve; }
+l_join_1x:;
+    st8((r_2b + (i64)(r_25)), ld8((((u8 *)g_static_288) + (i64)(r_25))));
+    u64 r_c4 = (r_25 + 1ull);
+    if (!(r_c4 == 13ull)) { r_25 = r_c4; goto l_join_1x; }
 l_arm_na:;
     stp(a_1, r_fx_1);
     st64(r_rq_1, r_dr);
@@ -5972,13 +5972,13 @@ l_join_tt:;
     r_5b = (r_pz + 4ull);
     r_fx_2 = ldp(a_1);
     r_2b_1 = away(r_fx_2, r_pz);
-    if (((u64)(uptr)r_2b_1 - (u64)(uptr)((u8 *)g_static_267)) < 4ull) { r_9z = 0ull; goto l_join_wo; }
+    if (((u64)(uptr)r_2b_1 - (u64)(uptr)((u8 *)g_static_266)) < 4ull) { r_51 = 0ull; goto l_join_fz; }
     st32(r_2b_1, 0x6d305b1bu);
     goto l_core_ga;
-l_join_wo:;
-    st8((r_2b_1 + (i64)(r_9z)), ld8((((u8 *)g_static_267) + (i64)(r_9z))));
-    u64 r_c4_1 = (r_9z + 1ull);
-    if (!(r_c4_1 == 4ull)) { r_9z = r_c4_1; goto l_join_wo; }
+l_join_fz:;
+    st8((r_2b_1 + (i64)(r_51)), ld8((((u8 *)g_static_266) + (i64)(r_51))));
+    u64 r_c4_1 = (r_51 + 1ull);
+    if (!(r_c4_1 == 4ull)) { r_51 = r_c4_1; goto l_join_fz; }
 l_core_ga:;
     stp(a_1, r_fx_2);
     st64(r_rq_2, r_5b);
@@ -6037,7 +6037,7 @@ static void capnp_show_show_lines_Lines_write_list_cut(u8 *a_1, u8 a_2)
     if (!a_2) goto l_join_68;
     capnp_show_show_lines_Lines_write_path(a_1);
     r_q6 = away(a_1, 25ull);
-    if (!(ld8(r_q6) == 0u)) goto l_capnp_xp;
+    if (!(ld8(r_q6) == 0u)) goto l_capnp_56;
     r_rq = away(a_1, 8ull);
     r_52 = ld64(r_rq);
     if (r_52 > 0x3ffffbfull) { r_fo = 0u; r_go = 1u; goto l_capnp_1e; }
@@ -6059,8 +6059,8 @@ l_join_jz:;
 l_capnp_1e:;
     st8(r_q6, r_go);
     st8(away(a_1, 26ull), r_fo);
-l_capnp_xp:;
-    capnp_show_show_lines_Lines_write_part(a_1, ((u8 *)g_static_290), 21ull);
+l_capnp_56:;
+    capnp_show_show_lines_Lines_write_part(a_1, ((u8 *)g_static_289), 21ull);
     if (!(ld8(r_q6) == 0u)) goto l_join_68;
     r_rq_1 = away(a_1, 8ull);
     r_52_2 = ld64(r_rq_1);
@@ -6106,7 +6106,7 @@ static void capnp_show_show_lines_Lines_write_refusal(u8 *a_1, u8 *a_2, u64 a_3)
     u64 r_5q;
     u8 *r_fx_1;
     u8 *r_2b;
-    u64 r_bv;
+    u64 r_oz;
     u8 *r_i8;
     u8 *r_4a;
     u64 r_uv;
@@ -6125,7 +6125,7 @@ static void capnp_show_show_lines_Lines_write_refusal(u8 *a_1, u8 *a_2, u64 a_3)
     u64 r_5b;
     u8 *r_fx_2;
     u8 *r_2b_2;
-    u64 r_9z;
+    u64 r_51;
     u8 r_fo_1;
     u8 r_go_1;
     u8 r_lk;
@@ -6178,13 +6178,13 @@ l_join_sq:;
     r_5q = (r_ju + 8ull);
     r_fx_1 = ldp(a_1);
     r_2b = away(r_fx_1, r_ju);
-    if (((u64)(uptr)r_2b - (u64)(uptr)((u8 *)g_static_291)) < 8ull) { r_bv = 0ull; goto l_join_fh; }
+    if (((u64)(uptr)r_2b - (u64)(uptr)((u8 *)g_static_290)) < 8ull) { r_oz = 0ull; goto l_join_zw; }
     st64(r_2b, 0x2064657375666572ull);
     goto l_then_25;
-l_join_fh:;
-    st8((r_2b + (i64)(r_bv)), ld8((((u8 *)g_static_291) + (i64)(r_bv))));
-    u64 r_c4 = (r_bv + 1ull);
-    if (!(r_c4 == 8ull)) { r_bv = r_c4; goto l_join_fh; }
+l_join_zw:;
+    st8((r_2b + (i64)(r_oz)), ld8((((u8 *)g_static_290) + (i64)(r_oz))));
+    u64 r_c4 = (r_oz + 1ull);
+    if (!(r_c4 == 8ull)) { r_oz = r_c4; goto l_join_zw; }
 l_then_25:;
     stp(a_1, r_fx_1);
     st64(r_rq_1, r_5q);
@@ -6237,13 +6237,13 @@ l_join_tt:;
     r_5b = (r_pz + 4ull);
     r_fx_2 = ldp(a_1);
     r_2b_2 = away(r_fx_2, r_pz);
-    if (((u64)(uptr)r_2b_2 - (u64)(uptr)((u8 *)g_static_267)) < 4ull) { r_9z = 0ull; goto l_join_wo; }
+    if (((u64)(uptr)r_2b_2 - (u64)(uptr)((u8 *)g_static_266)) < 4ull) { r_51 = 0ull; goto l_join_fz; }
     st32(r_2b_2, 0x6d305b1bu);
     goto l_core_ga_1;
-l_join_wo:;
-    st8((r_2b_2 + (i64)(r_9z)), ld8((((u8 *)g_static_267) + (i64)(r_9z))));
-    u64 r_c4_2 = (r_9z + 1ull);
-    if (!(r_c4_2 == 4ull)) { r_9z = r_c4_2; goto l_join_wo; }
+l_join_fz:;
+    st8((r_2b_2 + (i64)(r_51)), ld8((((u8 *)g_static_266) + (i64)(r_51))));
+    u64 r_c4_2 = (r_51 + 1ull);
+    if (!(r_c4_2 == 4ull)) { r_51 = r_c4_2; goto l_join_fz; }
 l_core_ga_1:;
     stp(a_1, r_fx_2);
     st64(r_rq_2, r_5b);
@@ -6597,7 +6597,7 @@ void capnp_show_show_compare_make_difference_text_46c7a4392912af85(u8 *a_1, u8 *
     u8 *r_zd;
     u64 r_5q;
     u8 *r_2b;
-    u64 r_un;
+    u64 r_5t;
     struct s_i8_i8 r_ik;
     u64 r_52;
     u64 r_b4;
@@ -6608,12 +6608,12 @@ void capnp_show_show_compare_make_difference_text_46c7a4392912af85(u8 *a_1, u8 *
     u64 r_y8;
     u8 r_e7;
     struct s_i8_i8 r_5d;
-    u8 *r_dy;
-    u64 r_4h;
-    u64 r_3t;
+    u8 *r_l4;
+    u64 r_92;
+    u64 r_ma;
     u64 r_5b;
     u8 *r_2b_2;
-    u64 r_8l;
+    u64 r_it;
     u8 r_e7_1;
     u64 r_as;
     u64 r_b4_1;
@@ -6633,7 +6633,7 @@ void capnp_show_show_compare_make_difference_text_46c7a4392912af85(u8 *a_1, u8 *
     u64 r_gh;
     u64 r_y6;
     u8 *r_2b_4;
-    u64 r_ls;
+    u64 r_24;
     u8 r_2d_1;
     u8 r_2d;
     u8 *r_g0;
@@ -6690,13 +6690,13 @@ l_arm_07:;
     u64 r_38_5 = ld64(r_x5_2);
     r_5q = (r_38_5 + 8ull);
     r_2b = away(ldp(slot_4), r_38_5);
-    if (((u64)(uptr)r_2b - (u64)(uptr)((u8 *)g_static_260)) < 8ull) { r_un = 0ull; goto l_join_lt; }
+    if (((u64)(uptr)r_2b - (u64)(uptr)((u8 *)g_static_259)) < 8ull) { r_5t = 0ull; goto l_join_mi; }
     st64(r_2b, 0x206567617373656dull);
     goto l_arm_il;
-l_join_lt:;
-    st8((r_2b + (i64)(r_un)), ld8((((u8 *)g_static_260) + (i64)(r_un))));
-    u64 r_c4 = (r_un + 1ull);
-    if (!(r_c4 == 8ull)) { r_un = r_c4; goto l_join_lt; }
+l_join_mi:;
+    st8((r_2b + (i64)(r_5t)), ld8((((u8 *)g_static_259) + (i64)(r_5t))));
+    u64 r_c4 = (r_5t + 1ull);
+    if (!(r_c4 == 8ull)) { r_5t = r_c4; goto l_join_mi; }
 l_arm_il:;
     st64(r_x5_2, r_5q);
     r_ik = capnp_show_show_text_Text_push_number(slot_4, a_3);
@@ -6749,26 +6749,26 @@ l_arm_ev_1:;
     goto l_capnp_v4;
 l_arm_vs:;
     if (r_x4 > 0x3ffffbcull) { r_e7_1 = 0u; goto l_arm_n5_1; }
-    if (!((r_b4 - r_x4) < 4ull)) { r_dy = r_lz; r_4h = r_b4; r_3t = r_x4; goto l_join_ce; }
+    if (!((r_b4 - r_x4) < 4ull)) { r_l4 = r_lz; r_92 = r_b4; r_ma = r_x4; goto l_join_7e; }
     u8 r_ua = std_alloc_vec_Vec_grow_amortized_9634afabedddd7ee(slot_4, 4ull);
     if (!r_ua) { r_e7_1 = 1u; goto l_arm_n5_1; }
-    r_dy = ldp(slot_4);
-    r_4h = ld64(r_zd);
-    r_3t = ld64(r_x5_2);
-l_join_ce:;
-    r_5b = (r_3t + 4ull);
-    r_2b_2 = away(r_dy, r_3t);
-    if (((u64)(uptr)r_2b_2 - (u64)(uptr)((u8 *)g_static_264)) < 4ull) { r_8l = 0ull; goto l_join_x9; }
+    r_l4 = ldp(slot_4);
+    r_92 = ld64(r_zd);
+    r_ma = ld64(r_x5_2);
+l_join_7e:;
+    r_5b = (r_ma + 4ull);
+    r_2b_2 = away(r_l4, r_ma);
+    if (((u64)(uptr)r_2b_2 - (u64)(uptr)((u8 *)g_static_263)) < 4ull) { r_it = 0ull; goto l_join_og; }
     st32(r_2b_2, 0x746f6f72u);
     goto l_capnp_pi;
-l_join_x9:;
-    st8((r_2b_2 + (i64)(r_8l)), ld8((((u8 *)g_static_264) + (i64)(r_8l))));
-    u64 r_c4_2 = (r_8l + 1ull);
-    if (!(r_c4_2 == 4ull)) { r_8l = r_c4_2; goto l_join_x9; }
+l_join_og:;
+    st8((r_2b_2 + (i64)(r_it)), ld8((((u8 *)g_static_263) + (i64)(r_it))));
+    u64 r_c4_2 = (r_it + 1ull);
+    if (!(r_c4_2 == 4ull)) { r_it = r_c4_2; goto l_join_og; }
 l_capnp_pi:;
-    stp(slot_4, r_dy);
+    stp(slot_4, r_l4);
     st64(r_x5_2, r_5b);
-    st64(r_zd, r_4h);
+    st64(r_zd, r_92);
     r_as = r_5b;
     goto l_join_e5;
 l_arm_n5_1:;
@@ -6853,13 +6853,13 @@ l_arm_ao:;
 l_join_e5_1:;
     r_y6 = (r_gh + 23ull);
     r_2b_4 = away(ldp(slot_2), r_gh);
-    if (((u64)(uptr)r_2b_4 - (u64)(uptr)((u8 *)g_static_293)) < 23ull) { r_ls = 0ull; goto l_join_gj; }
-    mv23(r_2b_4, ((u8 *)g_static_293));
+    if (((u64)(uptr)r_2b_4 - (u64)(uptr)((u8 *)g_static_292)) < 23ull) { r_24 = 0ull; goto l_join_hw; }
+    mv23(r_2b_4, ((u8 *)g_static_292));
     goto l_arm_ef;
-l_join_gj:;
-    st8((r_2b_4 + (i64)(r_ls)), ld8((((u8 *)g_static_293) + (i64)(r_ls))));
-    u64 r_c4_4 = (r_ls + 1ull);
-    if (!(r_c4_4 == 23ull)) { r_ls = r_c4_4; goto l_join_gj; }
+l_join_hw:;
+    st8((r_2b_4 + (i64)(r_24)), ld8((((u8 *)g_static_292) + (i64)(r_24))));
+    u64 r_c4_4 = (r_24 + 1ull);
+    if (!(r_c4_4 == 23ull)) { r_24 = r_c4_4; goto l_join_hw; }
 l_arm_ef:;
     st64(r_x5_3, r_y6);
     st64(r_zd_1, r_at);

@@ -509,9 +509,11 @@ static const u8 g_static_142[135] = "\n"
     "        ~type~(fields)\n"
     "    }\n"
     "}\n";
-static const u8 g_static_143[470] = "\n"
+static const u8 g_static_143[2] = "id";
+static const u8 g_static_144[503] = "\n"
     "impl g::StructType for ~type~<'_> {\n"
     "    type Builder<'b> = ~own~::Builder<'b>;\n"
+    "    const TYPE_ID: u64 = 0x~id~;\n"
     "    const TABLE: &'static [u32] = ~top~TABLE;\n"
     "    const NAMES: &'static str = ~top~NAMES;\n"
     "    const ROW: u32 = ~row~;\n"
@@ -527,87 +529,87 @@ static const u8 g_static_143[470] = "\n"
     "        self.0 == other.0\n"
     "    }\n"
     "}\n";
-static const u8 g_static_144[4] = "full";
-static const u8 g_static_145[4] = "type";
-static const u8 g_static_146[3] = "own";
-static const u8 g_static_147[5] = "allow";
-static const u8 g_static_148[35] = "#[allow(dead_code, clippy::style)]\n";
-static const u8 g_static_149[3] = "tag";
-static const u8 g_static_150[19] = "its type is unknown";
-static const u8 g_static_151[20] = "its group is unknown";
-static const u8 g_static_152[28] = "its default value is unknown";
-static const u8 g_static_153[21] = "its struct is unknown";
-static const u8 g_static_154[19] = "its enum is unknown";
-static const u8 g_static_155[48] = "it has a default value, and can lead to anything";
-static const u8 g_static_156[7] = "    // ";
-static const u8 g_static_157[16] = " isn't written: ";
-static const u8 g_static_158[2] = ".\n";
-static const u8 g_static_159[69] = "name=~call~\n"
+static const u8 g_static_145[4] = "full";
+static const u8 g_static_146[4] = "type";
+static const u8 g_static_147[3] = "own";
+static const u8 g_static_148[5] = "allow";
+static const u8 g_static_149[35] = "#[allow(dead_code, clippy::style)]\n";
+static const u8 g_static_150[3] = "tag";
+static const u8 g_static_151[19] = "its type is unknown";
+static const u8 g_static_152[20] = "its group is unknown";
+static const u8 g_static_153[28] = "its default value is unknown";
+static const u8 g_static_154[21] = "its struct is unknown";
+static const u8 g_static_155[19] = "its enum is unknown";
+static const u8 g_static_156[48] = "it has a default value, and can lead to anything";
+static const u8 g_static_157[7] = "    // ";
+static const u8 g_static_158[16] = " isn't written: ";
+static const u8 g_static_159[2] = ".\n";
+static const u8 g_static_160[69] = "name=~call~\n"
     "params=&self\n"
     "gives=~path~~item~<'a, M>\n"
     "body=self.0.into()";
-static const u8 g_static_160[24] = "name=~call~\n"
+static const u8 g_static_161[24] = "name=~call~\n"
     "params=&self";
-static const u8 g_static_161[4] = "line";
-static const u8 g_static_162[18] = "    pub fn ~name~(";
-static const u8 g_static_163[8] = "        ";
-static const u8 g_static_164[21] = "        ~body~\n"
+static const u8 g_static_162[4] = "line";
+static const u8 g_static_163[18] = "    pub fn ~name~(";
+static const u8 g_static_164[8] = "        ";
+static const u8 g_static_165[21] = "        ~body~\n"
     "    }\n";
-static const u8 g_static_165[6] = "params";
-static const u8 g_static_166[15] = ") -> ~gives~ {\n";
-static const u8 g_static_167[2] = ",\n";
-static const u8 g_static_168[19] = "    ) -> ~gives~ {\n";
-static const u8 g_static_169[5] = "const";
-static const u8 g_static_170[5] = "array";
-static const u8 g_static_171[25] = "const DEFAULT: &[u8] = &[";
-static const u8 g_static_172[3] = " = ";
-static const u8 g_static_173[3] = " =\n";
-static const u8 g_static_174[10] = "read_bytes";
-static const u8 g_static_175[56] = "    /// The bytes of `~field~`, which needn't be UTF-8.\n";
-static const u8 g_static_176[40] = "name=~bytes_call~\n"
+static const u8 g_static_166[6] = "params";
+static const u8 g_static_167[15] = ") -> ~gives~ {\n";
+static const u8 g_static_168[2] = ",\n";
+static const u8 g_static_169[19] = "    ) -> ~gives~ {\n";
+static const u8 g_static_170[5] = "const";
+static const u8 g_static_171[5] = "array";
+static const u8 g_static_172[25] = "const DEFAULT: &[u8] = &[";
+static const u8 g_static_173[3] = " = ";
+static const u8 g_static_174[3] = " =\n";
+static const u8 g_static_175[10] = "read_bytes";
+static const u8 g_static_176[56] = "    /// The bytes of `~field~`, which needn't be UTF-8.\n";
+static const u8 g_static_177[40] = "name=~bytes_call~\n"
     "gives=M::Out<&'a [u8]>";
-static const u8 g_static_177[36] = "        M::give(~read_bytes~)\n"
+static const u8 g_static_178[36] = "        M::give(~read_bytes~)\n"
     "    }\n";
-static const u8 g_static_178[60] = "about=Whether `~field~` isn't null.\n"
+static const u8 g_static_179[60] = "about=Whether `~field~` isn't null.\n"
     "read=self.0.has(~index~)";
-static const u8 g_static_179[27] = "name=has_~snake~\n"
+static const u8 g_static_180[27] = "name=has_~snake~\n"
     "gives=bool";
-static const u8 g_static_180[16] = "    /// ~about~\n";
-static const u8 g_static_181[21] = "        ~read~\n"
+static const u8 g_static_181[16] = "    /// ~about~\n";
+static const u8 g_static_182[21] = "        ~read~\n"
     "    }\n";
-static const u8 g_static_182[5] = "field";
-static const u8 g_static_183[5] = "snake";
-static const u8 g_static_184[4] = "call";
-static const u8 g_static_185[6] = "_bytes";
-static const u8 g_static_186[10] = "bytes_call";
-static const u8 g_static_187[7] = "variant";
-static const u8 g_static_188[6] = "number";
-static const u8 g_static_189[4] = "path";
-static const u8 g_static_190[4] = "item";
-static const u8 g_static_191[6] = "module";
-static const u8 g_static_192[5] = "shown";
-static const struct { struct place p0; u8 p1[8]; struct place p2; u8 p3[8]; struct place p4; u8 p5[8]; struct place p6; u8 p7[8]; struct place p8; u8 p9[8]; struct place p10; u8 p11[8]; struct place p12; u8 p13[8]; struct place p14; u8 p15[8]; struct place p16; u8 p17[8]; struct place p18; u8 p19[8]; struct place p20; u8 p21[8]; struct place p22; u8 p23[8]; struct place p24; u8 p25[8]; struct place p26; u8 p27[8]; struct place p28; u8 p29[8]; struct place p30; u8 p31[8]; struct place p32; u8 p33[8]; struct place p34; u8 p35[8]; struct place p36; u8 p37[8]; struct place p38; u8 p39[8]; struct place p40; u8 p41[8]; struct place p42; u8 p43[8]; struct place p44; u8 p45[8]; struct place p46; u8 p47[8]; struct place p48; u8 p49[8]; struct place p50; u8 p51[8]; struct place p52; u8 p53[8]; struct place p54; u8 p55[8]; struct place p56; u8 p57[8]; struct place p58; u8 p59[8]; struct place p60; u8 p61[8]; struct place p62; u8 p63[8]; struct place p64; u8 p65[8]; struct place p66; u8 p67[8]; struct place p68; u8 p69[8]; struct place p70; u8 p71[8]; struct place p72; u8 p73[8]; struct place p74; u8 p75[8]; struct place p76; u8 p77[8]; struct place p78; u8 p79[8]; struct place p80; u8 p81[8]; struct place p82; u8 p83[8]; struct place p84; u8 p85[8]; struct place p86; u8 p87[8]; struct place p88; u8 p89[8]; struct place p90; u8 p91[8]; struct place p92; u8 p93[8]; struct place p94; u8 p95[8]; struct place p96; u8 p97[8]; struct place p98; u8 p99[8]; struct place p100; u8 p101[240]; } g_static_193[1] = { { PLACE((const u8 *)g_static_193 + 816), { 2, 0, 0, 0, 0, 0, 0, 0 }, PLACE((const u8 *)g_static_193 + 818), { 5, 0, 0, 0, 0, 0, 0, 0 }, PLACE((const u8 *)g_static_193 + 823), { 5, 0, 0, 0, 0, 0, 0, 0 }, PLACE((const u8 *)g_static_193 + 828), { 5, 0, 0, 0, 0, 0, 0, 0 }, PLACE((const u8 *)g_static_193 + 833), { 5, 0, 0, 0, 0, 0, 0, 0 }, PLACE((const u8 *)g_static_193 + 838), { 8, 0, 0, 0, 0, 0, 0, 0 }, PLACE((const u8 *)g_static_193 + 846), { 5, 0, 0, 0, 0, 0, 0, 0 }, PLACE((const u8 *)g_static_193 + 851), { 3, 0, 0, 0, 0, 0, 0, 0 }, PLACE((const u8 *)g_static_193 + 854), { 4, 0, 0, 0, 0, 0, 0, 0 }, PLACE((const u8 *)g_static_193 + 858), { 4, 0, 0, 0, 0, 0, 0, 0 }, PLACE((const u8 *)g_static_193 + 862), { 6, 0, 0, 0, 0, 0, 0, 0 }, PLACE((const u8 *)g_static_193 + 868), { 5, 0, 0, 0, 0, 0, 0, 0 }, PLACE((const u8 *)g_static_193 + 873), { 2, 0, 0, 0, 0, 0, 0, 0 }, PLACE((const u8 *)g_static_193 + 875), { 3, 0, 0, 0, 0, 0, 0, 0 }, PLACE((const u8 *)g_static_193 + 878), { 2, 0, 0, 0, 0, 0, 0, 0 }, PLACE((const u8 *)g_static_193 + 880), { 4, 0, 0, 0, 0, 0, 0, 0 }, PLACE((const u8 *)g_static_193 + 884), { 2, 0, 0, 0, 0, 0, 0, 0 }, PLACE((const u8 *)g_static_193 + 886), { 3, 0, 0, 0, 0, 0, 0, 0 }, PLACE((const u8 *)g_static_193 + 889), { 4, 0, 0, 0, 0, 0, 0, 0 }, PLACE((const u8 *)g_static_193 + 893), { 5, 0, 0, 0, 0, 0, 0, 0 }, PLACE((const u8 *)g_static_193 + 898), { 3, 0, 0, 0, 0, 0, 0, 0 }, PLACE((const u8 *)g_static_193 + 901), { 4, 0, 0, 0, 0, 0, 0, 0 }, PLACE((const u8 *)g_static_193 + 905), { 3, 0, 0, 0, 0, 0, 0, 0 }, PLACE((const u8 *)g_static_193 + 908), { 3, 0, 0, 0, 0, 0, 0, 0 }, PLACE((const u8 *)g_static_193 + 911), { 3, 0, 0, 0, 0, 0, 0, 0 }, PLACE((const u8 *)g_static_193 + 914), { 6, 0, 0, 0, 0, 0, 0, 0 }, PLACE((const u8 *)g_static_193 + 920), { 4, 0, 0, 0, 0, 0, 0, 0 }, PLACE((const u8 *)g_static_193 + 924), { 6, 0, 0, 0, 0, 0, 0, 0 }, PLACE((const u8 *)g_static_193 + 930), { 6, 0, 0, 0, 0, 0, 0, 0 }, PLACE((const u8 *)g_static_193 + 936), { 5, 0, 0, 0, 0, 0, 0, 0 }, PLACE((const u8 *)g_static_193 + 941), { 5, 0, 0, 0, 0, 0, 0, 0 }, PLACE((const u8 *)g_static_193 + 946), { 4, 0, 0, 0, 0, 0, 0, 0 }, PLACE((const u8 *)g_static_193 + 950), { 4, 0, 0, 0, 0, 0, 0, 0 }, PLACE((const u8 *)g_static_193 + 954), { 6, 0, 0, 0, 0, 0, 0, 0 }, PLACE((const u8 *)g_static_193 + 960), { 3, 0, 0, 0, 0, 0, 0, 0 }, PLACE((const u8 *)g_static_193 + 963), { 5, 0, 0, 0, 0, 0, 0, 0 }, PLACE((const u8 *)g_static_193 + 968), { 5, 0, 0, 0, 0, 0, 0, 0 }, PLACE((const u8 *)g_static_193 + 973), { 8, 0, 0, 0, 0, 0, 0, 0 }, PLACE((const u8
-        *)g_static_193 + 981), { 6, 0, 0, 0, 0, 0, 0, 0 }, PLACE((const u8 *)g_static_193 + 987), { 3, 0, 0, 0, 0, 0, 0, 0 }, PLACE((const u8 *)g_static_193 + 990), { 2, 0, 0, 0, 0, 0, 0, 0 }, PLACE((const u8 *)g_static_193 + 992), { 5, 0, 0, 0, 0, 0, 0, 0 }, PLACE((const u8 *)g_static_193 + 997), { 3, 0, 0, 0, 0, 0, 0, 0 }, PLACE((const u8 *)g_static_193 + 1000), { 5, 0, 0, 0, 0, 0, 0, 0 }, PLACE((const u8 *)g_static_193 + 1005), { 8, 0, 0, 0, 0, 0, 0, 0 }, PLACE((const u8 *)g_static_193 + 1013), { 4, 0, 0, 0, 0, 0, 0, 0 }, PLACE((const u8 *)g_static_193 + 1017), { 3, 0, 0, 0, 0, 0, 0, 0 }, PLACE((const u8 *)g_static_193 + 1020), { 6, 0, 0, 0, 0, 0, 0, 0 }, PLACE((const u8 *)g_static_193 + 1026), { 7, 0, 0, 0, 0, 0, 0, 0 }, PLACE((const u8 *)g_static_193 + 1033), { 7, 0, 0, 0, 0, 0, 0, 0 }, PLACE((const u8 *)g_static_193 + 1040), { 5, 0, 0, 0, 0, 0, 0, 0, 97, 115, 97, 115, 121, 110, 99, 97, 119, 97, 105, 116, 98, 114, 101, 97, 107, 99, 111, 110, 115, 116, 99, 111, 110, 116, 105, 110, 117, 101, 99, 114, 97, 116, 101, 100, 121, 110, 101, 108, 115, 101, 101, 110, 117, 109, 101, 120, 116, 101, 114, 110, 102, 97, 108, 115, 101, 102, 110, 102, 111, 114, 105, 102, 105, 109, 112, 108, 105, 110, 108, 101, 116, 108, 111, 111, 112, 109, 97, 116, 99, 104, 109, 111, 100, 109, 111, 118, 101, 109, 117, 116, 112, 117, 98, 114, 101, 102, 114, 101, 116, 117, 114, 110, 115, 101, 108, 102, 115, 116, 97, 116, 105, 99, 115, 116, 114, 117, 99, 116, 115, 117, 112, 101, 114, 116, 114, 97, 105, 116, 116, 114, 117, 101, 116, 121, 112, 101, 117, 110, 115, 97, 102, 101, 117, 115, 101, 119, 104, 101, 114, 101, 119, 104, 105, 108, 101, 97, 98, 115, 116, 114, 97, 99, 116, 98, 101, 99, 111, 109, 101, 98, 111, 120, 100, 111, 102, 105, 110, 97, 108, 103, 101, 110, 109, 97, 99, 114, 111, 111, 118, 101, 114, 114, 105, 100, 101, 112, 114, 105, 118, 116, 114, 121, 116, 121, 112, 101, 111, 102, 117, 110, 115, 105, 122, 101, 100, 118, 105, 114, 116, 117, 97, 108, 121, 105, 101, 108, 100, 0, 0, 0 } } };
-static const u8 g_static_194[5] = "index";
-static const u8 g_static_195[5] = "fails";
-static const u8 g_static_196[4] = "rust";
-static const u8 g_static_197[7] = "element";
-static const u8 g_static_198[2] = "'a";
-static const u8 g_static_199[5] = "built";
-static const u8 g_static_200[2] = "'_";
-static const u8 g_static_201[44] = "gives=M::Out<~payload~>\n"
+static const u8 g_static_183[5] = "field";
+static const u8 g_static_184[5] = "snake";
+static const u8 g_static_185[4] = "call";
+static const u8 g_static_186[6] = "_bytes";
+static const u8 g_static_187[10] = "bytes_call";
+static const u8 g_static_188[7] = "variant";
+static const u8 g_static_189[6] = "number";
+static const u8 g_static_190[4] = "path";
+static const u8 g_static_191[4] = "item";
+static const u8 g_static_192[6] = "module";
+static const u8 g_static_193[5] = "shown";
+static const struct { struct place p0; u8 p1[8]; struct place p2; u8 p3[8]; struct place p4; u8 p5[8]; struct place p6; u8 p7[8]; struct place p8; u8 p9[8]; struct place p10; u8 p11[8]; struct place p12; u8 p13[8]; struct place p14; u8 p15[8]; struct place p16; u8 p17[8]; struct place p18; u8 p19[8]; struct place p20; u8 p21[8]; struct place p22; u8 p23[8]; struct place p24; u8 p25[8]; struct place p26; u8 p27[8]; struct place p28; u8 p29[8]; struct place p30; u8 p31[8]; struct place p32; u8 p33[8]; struct place p34; u8 p35[8]; struct place p36; u8 p37[8]; struct place p38; u8 p39[8]; struct place p40; u8 p41[8]; struct place p42; u8 p43[8]; struct place p44; u8 p45[8]; struct place p46; u8 p47[8]; struct place p48; u8 p49[8]; struct place p50; u8 p51[8]; struct place p52; u8 p53[8]; struct place p54; u8 p55[8]; struct place p56; u8 p57[8]; struct place p58; u8 p59[8]; struct place p60; u8 p61[8]; struct place p62; u8 p63[8]; struct place p64; u8 p65[8]; struct place p66; u8 p67[8]; struct place p68; u8 p69[8]; struct place p70; u8 p71[8]; struct place p72; u8 p73[8]; struct place p74; u8 p75[8]; struct place p76; u8 p77[8]; struct place p78; u8 p79[8]; struct place p80; u8 p81[8]; struct place p82; u8 p83[8]; struct place p84; u8 p85[8]; struct place p86; u8 p87[8]; struct place p88; u8 p89[8]; struct place p90; u8 p91[8]; struct place p92; u8 p93[8]; struct place p94; u8 p95[8]; struct place p96; u8 p97[8]; struct place p98; u8 p99[8]; struct place p100; u8 p101[240]; } g_static_194[1] = { { PLACE((const u8 *)g_static_194 + 816), { 2, 0, 0, 0, 0, 0, 0, 0 }, PLACE((const u8 *)g_static_194 + 818), { 5, 0, 0, 0, 0, 0, 0, 0 }, PLACE((const u8 *)g_static_194 + 823), { 5, 0, 0, 0, 0, 0, 0, 0 }, PLACE((const u8 *)g_static_194 + 828), { 5, 0, 0, 0, 0, 0, 0, 0 }, PLACE((const u8 *)g_static_194 + 833), { 5, 0, 0, 0, 0, 0, 0, 0 }, PLACE((const u8 *)g_static_194 + 838), { 8, 0, 0, 0, 0, 0, 0, 0 }, PLACE((const u8 *)g_static_194 + 846), { 5, 0, 0, 0, 0, 0, 0, 0 }, PLACE((const u8 *)g_static_194 + 851), { 3, 0, 0, 0, 0, 0, 0, 0 }, PLACE((const u8 *)g_static_194 + 854), { 4, 0, 0, 0, 0, 0, 0, 0 }, PLACE((const u8 *)g_static_194 + 858), { 4, 0, 0, 0, 0, 0, 0, 0 }, PLACE((const u8 *)g_static_194 + 862), { 6, 0, 0, 0, 0, 0, 0, 0 }, PLACE((const u8 *)g_static_194 + 868), { 5, 0, 0, 0, 0, 0, 0, 0 }, PLACE((const u8 *)g_static_194 + 873), { 2, 0, 0, 0, 0, 0, 0, 0 }, PLACE((const u8 *)g_static_194 + 875), { 3, 0, 0, 0, 0, 0, 0, 0 }, PLACE((const u8 *)g_static_194 + 878), { 2, 0, 0, 0, 0, 0, 0, 0 }, PLACE((const u8 *)g_static_194 + 880), { 4, 0, 0, 0, 0, 0, 0, 0 }, PLACE((const u8 *)g_static_194 + 884), { 2, 0, 0, 0, 0, 0, 0, 0 }, PLACE((const u8 *)g_static_194 + 886), { 3, 0, 0, 0, 0, 0, 0, 0 }, PLACE((const u8 *)g_static_194 + 889), { 4, 0, 0, 0, 0, 0, 0, 0 }, PLACE((const u8 *)g_static_194 + 893), { 5, 0, 0, 0, 0, 0, 0, 0 }, PLACE((const u8 *)g_static_194 + 898), { 3, 0, 0, 0, 0, 0, 0, 0 }, PLACE((const u8 *)g_static_194 + 901), { 4, 0, 0, 0, 0, 0, 0, 0 }, PLACE((const u8 *)g_static_194 + 905), { 3, 0, 0, 0, 0, 0, 0, 0 }, PLACE((const u8 *)g_static_194 + 908), { 3, 0, 0, 0, 0, 0, 0, 0 }, PLACE((const u8 *)g_static_194 + 911), { 3, 0, 0, 0, 0, 0, 0, 0 }, PLACE((const u8 *)g_static_194 + 914), { 6, 0, 0, 0, 0, 0, 0, 0 }, PLACE((const u8 *)g_static_194 + 920), { 4, 0, 0, 0, 0, 0, 0, 0 }, PLACE((const u8 *)g_static_194 + 924), { 6, 0, 0, 0, 0, 0, 0, 0 }, PLACE((const u8 *)g_static_194 + 930), { 6, 0, 0, 0, 0, 0, 0, 0 }, PLACE((const u8 *)g_static_194 + 936), { 5, 0, 0, 0, 0, 0, 0, 0 }, PLACE((const u8 *)g_static_194 + 941), { 5, 0, 0, 0, 0, 0, 0, 0 }, PLACE((const u8 *)g_static_194 + 946), { 4, 0, 0, 0, 0, 0, 0, 0 }, PLACE((const u8 *)g_static_194 + 950), { 4, 0, 0, 0, 0, 0, 0, 0 }, PLACE((const u8 *)g_static_194 + 954), { 6, 0, 0, 0, 0, 0, 0, 0 }, PLACE((const u8 *)g_static_194 + 960), { 3, 0, 0, 0, 0, 0, 0, 0 }, PLACE((const u8 *)g_static_194 + 963), { 5, 0, 0, 0, 0, 0, 0, 0 }, PLACE((const u8 *)g_static_194 + 968), { 5, 0, 0, 0, 0, 0, 0, 0 }, PLACE((const u8 *)g_static_194 + 973), { 8, 0, 0, 0, 0, 0, 0, 0 }, PLACE((const u8
+        *)g_static_194 + 981), { 6, 0, 0, 0, 0, 0, 0, 0 }, PLACE((const u8 *)g_static_194 + 987), { 3, 0, 0, 0, 0, 0, 0, 0 }, PLACE((const u8 *)g_static_194 + 990), { 2, 0, 0, 0, 0, 0, 0, 0 }, PLACE((const u8 *)g_static_194 + 992), { 5, 0, 0, 0, 0, 0, 0, 0 }, PLACE((const u8 *)g_static_194 + 997), { 3, 0, 0, 0, 0, 0, 0, 0 }, PLACE((const u8 *)g_static_194 + 1000), { 5, 0, 0, 0, 0, 0, 0, 0 }, PLACE((const u8 *)g_static_194 + 1005), { 8, 0, 0, 0, 0, 0, 0, 0 }, PLACE((const u8 *)g_static_194 + 1013), { 4, 0, 0, 0, 0, 0, 0, 0 }, PLACE((const u8 *)g_static_194 + 1017), { 3, 0, 0, 0, 0, 0, 0, 0 }, PLACE((const u8 *)g_static_194 + 1020), { 6, 0, 0, 0, 0, 0, 0, 0 }, PLACE((const u8 *)g_static_194 + 1026), { 7, 0, 0, 0, 0, 0, 0, 0 }, PLACE((const u8 *)g_static_194 + 1033), { 7, 0, 0, 0, 0, 0, 0, 0 }, PLACE((const u8 *)g_static_194 + 1040), { 5, 0, 0, 0, 0, 0, 0, 0, 97, 115, 97, 115, 121, 110, 99, 97, 119, 97, 105, 116, 98, 114, 101, 97, 107, 99, 111, 110, 115, 116, 99, 111, 110, 116, 105, 110, 117, 101, 99, 114, 97, 116, 101, 100, 121, 110, 101, 108, 115, 101, 101, 110, 117, 109, 101, 120, 116, 101, 114, 110, 102, 97, 108, 115, 101, 102, 110, 102, 111, 114, 105, 102, 105, 109, 112, 108, 105, 110, 108, 101, 116, 108, 111, 111, 112, 109, 97, 116, 99, 104, 109, 111, 100, 109, 111, 118, 101, 109, 117, 116, 112, 117, 98, 114, 101, 102, 114, 101, 116, 117, 114, 110, 115, 101, 108, 102, 115, 116, 97, 116, 105, 99, 115, 116, 114, 117, 99, 116, 115, 117, 112, 101, 114, 116, 114, 97, 105, 116, 116, 114, 117, 101, 116, 121, 112, 101, 117, 110, 115, 97, 102, 101, 117, 115, 101, 119, 104, 101, 114, 101, 119, 104, 105, 108, 101, 97, 98, 115, 116, 114, 97, 99, 116, 98, 101, 99, 111, 109, 101, 98, 111, 120, 100, 111, 102, 105, 110, 97, 108, 103, 101, 110, 109, 97, 99, 114, 111, 111, 118, 101, 114, 114, 105, 100, 101, 112, 114, 105, 118, 116, 114, 121, 116, 121, 112, 101, 111, 102, 117, 110, 115, 105, 122, 101, 100, 118, 105, 114, 116, 117, 97, 108, 121, 105, 101, 108, 100, 0, 0, 0 } } };
+static const u8 g_static_195[5] = "index";
+static const u8 g_static_196[5] = "fails";
+static const u8 g_static_197[4] = "rust";
+static const u8 g_static_198[7] = "element";
+static const u8 g_static_199[2] = "'a";
+static const u8 g_static_200[5] = "built";
+static const u8 g_static_201[2] = "'_";
+static const u8 g_static_202[44] = "gives=M::Out<~payload~>\n"
     "body=M::give(~read~)";
-static const u8 g_static_202[27] = "gives=~payload~\n"
+static const u8 g_static_203[27] = "gives=~payload~\n"
     "body=~read~";
-static const u8 g_static_203[3] = "f32";
-static const u8 g_static_204[3] = "f64";
-static const u8 g_static_205[9] = "g::Lists<";
-static const u8 g_static_206[3] = "str";
-static const u8 g_static_207[4] = "[u8]";
-static const u8 g_static_208[11] = "g::Pointers";
-static const u8 g_static_209[1] = ">";
-static const u8 g_static_210[1] = "<";
-static const u8 g_static_211[398] = "payload=g::List<'a, ~element~, M>\n"
+static const u8 g_static_204[3] = "f32";
+static const u8 g_static_205[3] = "f64";
+static const u8 g_static_206[9] = "g::Lists<";
+static const u8 g_static_207[3] = "str";
+static const u8 g_static_208[4] = "[u8]";
+static const u8 g_static_209[11] = "g::Pointers";
+static const u8 g_static_210[1] = ">";
+static const u8 g_static_211[1] = "<";
+static const u8 g_static_212[398] = "payload=g::List<'a, ~element~, M>\n"
     "fails=\?\n"
     "read=self.0.get_list(~index~)\n"
     "value=g::List<'_, ~built~, M>\n"
@@ -617,7 +619,7 @@ static const u8 g_static_211[398] = "payload=g::List<'a, ~element~, M>\n"
     "init=self.0.init_structs_of(~index~, count)\n"
     "edit_about=The list that `~field~` leads to; one without elements if it is null.\n"
     "edit=self.0.edit_structs_of(~index~)";
-static const u8 g_static_212[275] = "payload=g::List<'a, ~element~, M>\n"
+static const u8 g_static_213[275] = "payload=g::List<'a, ~element~, M>\n"
     "fails=\?\n"
     "read=self.0.get_list(~index~)\n"
     "value=g::List<'_, ~built~, M>\n"
@@ -625,22 +627,22 @@ static const u8 g_static_212[275] = "payload=g::List<'a, ~element~, M>\n"
     "gives_init=g::ListBuilder<'_, ~built~>\n"
     "init_about=Sets `~field~` to a new list of `count` elements.\n"
     "init=self.0.init_list(~index~, count)";
-static const u8 g_static_213[89] = "payload=bool\n"
+static const u8 g_static_214[89] = "payload=bool\n"
     "read=self.0.get_bool(~index~)\n"
     "value=bool\n"
     "set=self.0.set_bool(~index~, value)";
-static const u8 g_static_214[142] = "payload=&'a str\n"
+static const u8 g_static_215[142] = "payload=&'a str\n"
     "fails=\?\n"
     "read=self.0.get_text(~index~)\n"
     "read_bytes=self.0.get_text_bytes(~index~)\n"
     "value=&str\n"
     "set=self.0.set_text(~index~, value)";
-static const u8 g_static_215[102] = "payload=&'a [u8]\n"
+static const u8 g_static_216[102] = "payload=&'a [u8]\n"
     "fails=\?\n"
     "read=self.0.get_data(~index~)\n"
     "value=&[u8]\n"
     "set=self.0.set_data(~index~, value)";
-static const u8 g_static_216[376] = "payload=~path~~item~<'a, M>\n"
+static const u8 g_static_217[376] = "payload=~path~~item~<'a, M>\n"
     "fails=\?\n"
     "read=self.0.get_struct(~index~).map(Into::into)\n"
     "value=~path~~item~<'_, M>\n"
@@ -650,55 +652,55 @@ static const u8 g_static_216[376] = "payload=~path~~item~<'a, M>\n"
     "init=self.0.init_as(~index~)\n"
     "edit_about=The struct that `~field~` leads to; a new one if it is null.\n"
     "edit=self.0.edit_as(~index~)";
-static const u8 g_static_217[127] = "payload=Option<u32>\n"
+static const u8 g_static_218[127] = "payload=Option<u32>\n"
     "fails=\?\n"
     "read=g::capability(self.0.get_pointer(~index~))\n"
     "value=u32\n"
     "set=self.0.set_capability(~index~, value)";
-static const u8 g_static_218[260] = "payload=g::Pointer<'a, M::Plain>\n"
+static const u8 g_static_219[260] = "payload=g::Pointer<'a, M::Plain>\n"
     "read=g::any(self.0.get_pointer(~index~))\n"
     "value=g::Pointer<'_, M>\n"
     "set=self.0.set_pointer(~index~, value)\n"
     "gives_init=g::PointerBuilder<'_>\n"
     "init_about=What `~field~` leads to.\n"
     "init=g::PointerBuilder::of(self.0.reborrow(), ~index~)";
-static const u8 g_static_219[83] = "payload=~rust~\n"
+static const u8 g_static_220[83] = "payload=~rust~\n"
     "read=self.0.get(~index~)\n"
     "value=~rust~\n"
     "set=self.0.set(~index~, value)";
-static const u8 g_static_220[7] = "literal";
-static const u8 g_static_221[4] = "bits";
-static const u8 g_static_222[39] = "const=const DEFAULT: &[u8] = ~literal~;";
-static const u8 g_static_223[81] = "read=!self.0.get_bool(~index~)\n"
+static const u8 g_static_221[7] = "literal";
+static const u8 g_static_222[4] = "bits";
+static const u8 g_static_223[39] = "const=const DEFAULT: &[u8] = ~literal~;";
+static const u8 g_static_224[81] = "read=!self.0.get_bool(~index~)\n"
     "set=self.0.set_bool(~index~, !value)\n"
     "shown= = true";
-static const u8 g_static_224[136] = "const=const DEFAULT: ~rust~ = ~rust~::from_bits(~bits~);\n"
+static const u8 g_static_225[136] = "const=const DEFAULT: ~rust~ = ~rust~::from_bits(~bits~);\n"
     "read=self.0.get_or(~index~, DEFAULT)\n"
     "set=self.0.set_or(~index~, value, DEFAULT)";
-static const u8 g_static_225[97] = "read=self.0.get_or(~index~, ~bits~u16.into())\n"
+static const u8 g_static_226[97] = "read=self.0.get_or(~index~, ~bits~u16.into())\n"
     "set=self.0.set_or(~index~, value, ~bits~u16.into())";
-static const u8 g_static_226[102] = "read=self.0.get_or(~index~, ~literal~)\n"
+static const u8 g_static_227[102] = "read=self.0.get_or(~index~, ~literal~)\n"
     "set=self.0.set_or(~index~, value, ~literal~)\n"
     "shown= = ~literal~";
-static const u8 g_static_227[2] = "b\"";
-static const u8 g_static_229[2] = "\\\"";
-static const u8 g_static_231[2] = "\\x";
-static const u8 g_static_234[2] = "0x";
-static const u8 g_static_235[53] = "read=g::list_or(self.0.get_pointer(~index~), DEFAULT)";
-static const u8 g_static_236[119] = "read=g::text_or(self.0.get_pointer(~index~), DEFAULT)\n"
+static const u8 g_static_228[2] = "b\"";
+static const u8 g_static_230[2] = "\\\"";
+static const u8 g_static_232[2] = "\\x";
+static const u8 g_static_235[2] = "0x";
+static const u8 g_static_236[53] = "read=g::list_or(self.0.get_pointer(~index~), DEFAULT)";
+static const u8 g_static_237[119] = "read=g::text_or(self.0.get_pointer(~index~), DEFAULT)\n"
     "read_bytes=g::text_bytes_or(self.0.get_pointer(~index~), DEFAULT)";
-static const u8 g_static_237[53] = "read=g::data_or(self.0.get_pointer(~index~), DEFAULT)";
-static const u8 g_static_238[55] = "read=g::struct_or(self.0.get_pointer(~index~), DEFAULT)";
-static const u8 g_static_239[7] = "super::";
-static const u8 g_static_240[2] = "::";
-static const u8 g_static_242[5] = "group";
-static const u8 g_static_243[5] = "List(";
-static const u8 g_static_244[7] = "unknown";
-static const u8 g_static_245[144] = "about=Whether `~field~` is the member that is set, and isn't null.\n"
+static const u8 g_static_238[53] = "read=g::data_or(self.0.get_pointer(~index~), DEFAULT)";
+static const u8 g_static_239[55] = "read=g::struct_or(self.0.get_pointer(~index~), DEFAULT)";
+static const u8 g_static_240[7] = "super::";
+static const u8 g_static_241[2] = "::";
+static const u8 g_static_243[5] = "group";
+static const u8 g_static_244[5] = "List(";
+static const u8 g_static_245[7] = "unknown";
+static const u8 g_static_246[144] = "about=Whether `~field~` is the member that is set, and isn't null.\n"
     "params=&self\n"
     "read=self.0.get::<u16>(~tag~) == ~number~ && self.0.has(~index~)";
-static const u8 g_static_246[10] = "parameters";
-static const u8 g_static_247[281] = "    /// The member of the union that is set.\n"
+static const u8 g_static_247[10] = "parameters";
+static const u8 g_static_248[281] = "    /// The member of the union that is set.\n"
     "    pub fn which(&self) -> M::Out<~own~::Which~parameters~> {\n"
     "        M::give(self.read_which())\n"
     "    }\n"
@@ -706,31 +708,31 @@ static const u8 g_static_247[281] = "    /// The member of the union that is set
     "    #[inline(always)]\n"
     "    fn read_which(&self) -> g::Result<~own~::Which~parameters~> {\n"
     "        Ok(match self.0.get::<u16>(~tag~) {\n";
-static const u8 g_static_248[140] = "    /// The member of the union that is set.\n"
+static const u8 g_static_249[140] = "    /// The member of the union that is set.\n"
     "    pub fn which(&self) -> ~own~::Which~parameters~ {\n"
     "        match self.0.get::<u16>(~tag~) {\n";
-static const u8 g_static_249[70] = "            number => ~own~::Which::Unknown(number),\n"
+static const u8 g_static_250[70] = "            number => ~own~::Which::Unknown(number),\n"
     "        })\n"
     "    }\n";
-static const u8 g_static_250[69] = "            number => ~own~::Which::Unknown(number),\n"
+static const u8 g_static_251[69] = "            number => ~own~::Which::Unknown(number),\n"
     "        }\n"
     "    }\n";
-static const u8 g_static_251[7] = "<'a, M>";
-static const u8 g_static_252[4] = "<'a>";
-static const u8 g_static_253[6] = "filled";
-static const u8 g_static_254[22] = "filled=(self.0.into())";
-static const u8 g_static_255[22] = "filled=(~read~~fails~)";
-static const u8 g_static_256[57] = "            ~number~ => ~own~::Which::~variant~~filled~,\n";
-static const u8 g_static_257[26] = "            ~number~ => {\n";
-static const u8 g_static_258[16] = "                ";
-static const u8 g_static_259[62] = "                ~own~::Which::~variant~~filled~\n"
+static const u8 g_static_252[7] = "<'a, M>";
+static const u8 g_static_253[4] = "<'a>";
+static const u8 g_static_254[6] = "filled";
+static const u8 g_static_255[22] = "filled=(self.0.into())";
+static const u8 g_static_256[22] = "filled=(~read~~fails~)";
+static const u8 g_static_257[57] = "            ~number~ => ~own~::Which::~variant~~filled~,\n";
+static const u8 g_static_258[26] = "            ~number~ => {\n";
+static const u8 g_static_259[16] = "                ";
+static const u8 g_static_260[62] = "                ~own~::Which::~variant~~filled~\n"
     "            }\n";
-static const u8 g_static_260[3] = "///";
-static const u8 g_static_261[4] = "///\n";
-static const u8 g_static_262[5] = "/// `";
-static const u8 g_static_263[2] = "`\n";
-static const u8 g_static_265[2] = "}\n";
-static const u8 g_static_266[336] = "\n"
+static const u8 g_static_261[3] = "///";
+static const u8 g_static_262[4] = "///\n";
+static const u8 g_static_263[5] = "/// `";
+static const u8 g_static_264[2] = "`\n";
+static const u8 g_static_266[2] = "}\n";
+static const u8 g_static_267[336] = "\n"
     "impl<'a, M: g::Meter> From<~type~<'a, M>> for g::Struct<'a, M::Plain> {\n"
     "    fn from(reader: ~type~<'a, M>) -> Self {\n"
     "        g::plain(reader.0)\n"
@@ -743,52 +745,61 @@ static const u8 g_static_266[336] = "\n"
     "    const SIZE: g::ElementSize = g::ElementSize::InlineComposite;\n"
     "    type Item<'a, M: g::Meter> = ~type~<'a, M>;\n"
     "\n";
-static const u8 g_static_267[72] = "params=list: &g::RawList<'a>;meter: M;index: u32\n"
+static const u8 g_static_268[72] = "params=list: &g::RawList<'a>;meter: M;index: u32\n"
     "gives=Self::Item<'a, M>";
-static const u8 g_static_268[29] = "    fn read<'a, M: g::Meter>(";
-static const u8 g_static_269[56] = "        g::struct_at(list, meter, index).into()\n"
+static const u8 g_static_269[29] = "    fn read<'a, M: g::Meter>(";
+static const u8 g_static_270[56] = "        g::struct_at(list, meter, index).into()\n"
     "    }\n"
     "}\n";
-static const u8 g_static_270[3] = "row";
-static const u8 g_static_271[3] = "top";
-static const u8 g_static_272[172] = "\n"
+static const u8 g_static_271[3] = "row";
+static const u8 g_static_272[3] = "top";
+static const u8 g_static_273[172] = "\n"
     "impl<M: g::Meter> g::fmt::Debug for ~type~<'_, M> {\n"
     "    fn fmt(&self, f: &mut g::fmt::Formatter<'_>) -> g::fmt::Result {\n"
     "        let mut shown = f.debug_struct(\"~type~\");\n";
-static const u8 g_static_273[29] = "show=&g::shown(self.~call~())";
-static const u8 g_static_274[19] = "show=&self.~call~()";
-static const u8 g_static_275[4] = "show";
-static const u8 g_static_276[23] = "&g::shown(self.which())";
-static const u8 g_static_277[13] = "&self.which()";
-static const u8 g_static_278[5] = "which";
-static const u8 g_static_279[31] = "        shown.finish()\n"
+static const u8 g_static_274[29] = "show=&g::shown(self.~call~())";
+static const u8 g_static_275[19] = "show=&self.~call~()";
+static const u8 g_static_276[4] = "show";
+static const u8 g_static_277[31] = "        shown.finish()\n"
     "    }\n"
     "}\n";
-static const u8 g_static_280[21] = "        shown.field(\"";
+static const u8 g_static_278[58] = "show=&g::shown_or_default(&self.0, ~index~, self.~call~())";
+static const u8 g_static_279[57] = "show=&g::shown_struct(self.0.has(~index~), self.~call~())";
+static const u8 g_static_280[13] = "shown.field(\"";
 static const u8 g_static_281[3] = "\", ";
 static const u8 g_static_282[3] = ");\n";
-static const u8 g_static_283[34] = "        shown.field(\n"
-    "            \"";
-static const u8 g_static_284[15] = "\",\n"
-    "            ";
-static const u8 g_static_285[13] = ",\n"
-    "        );\n";
-static const u8 g_static_286[53] = "/// In the scope of `~full~`.\n"
+static const u8 g_static_283[13] = "shown.field(\n";
+static const u8 g_static_284[5] = "    \"";
+static const u8 g_static_285[3] = "\",\n";
+static const u8 g_static_286[26] = "show=&g::null(\"~variant~\")";
+static const u8 g_static_287[6] = "before";
+static const u8 g_static_288[6] = " else ";
+static const u8 g_static_289[60] = "~before~if self.0.get::<u16>(~tag~) == ~number~ && !~has~ {\n";
+static const u8 g_static_290[12] = "            ";
+static const u8 g_static_291[5] = "which";
+static const u8 g_static_292[9] = "        }";
+static const u8 g_static_293[23] = "&g::shown(self.which())";
+static const u8 g_static_294[13] = "&self.which()";
+static const u8 g_static_295[8] = " else {\n";
+static const u8 g_static_296[10] = "        }\n";
+static const u8 g_static_297[39] = "has=g::has_or_default(&self.0, ~index~)";
+static const u8 g_static_298[23] = "has=self.0.has(~index~)";
+static const u8 g_static_299[53] = "/// In the scope of `~full~`.\n"
     "~allow~pub mod ~own~ {\n";
-static const u8 g_static_287[4] = "data";
-static const u8 g_static_288[8] = "pointers";
-static const u8 g_static_289[14] = "use super::g;\n";
-static const u8 g_static_290[141] = "\n"
+static const u8 g_static_300[4] = "data";
+static const u8 g_static_301[8] = "pointers";
+static const u8 g_static_302[14] = "use super::g;\n";
+static const u8 g_static_303[141] = "\n"
     "/// The sections of a struct `~full~`.\n"
     "pub const SIZE: g::StructSize = g::StructSize {\n"
     "    data_words: ~data~,\n"
     "    pointers: ~pointers~,\n"
     "};\n";
-static const u8 g_static_291[86] = "\n"
+static const u8 g_static_304[86] = "\n"
     "/// `~full~` while a message is built.\n"
     "pub struct Builder<'b>(g::StructBuilder<'b>);\n";
-static const u8 g_static_292[19] = "impl Builder<'_> {\n";
-static const u8 g_static_293[264] = "\n"
+static const u8 g_static_305[19] = "impl Builder<'_> {\n";
+static const u8 g_static_306[264] = "\n"
     "impl<'b> From<g::StructBuilder<'b>> for Builder<'b> {\n"
     "    fn from(fields: g::StructBuilder<'b>) -> Self {\n"
     "        Builder(fields)\n"
@@ -800,91 +811,91 @@ static const u8 g_static_293[264] = "\n"
     "        builder.0\n"
     "    }\n"
     "}\n";
-static const u8 g_static_294[88] = "\n"
+static const u8 g_static_307[88] = "\n"
     "impl<'b> g::TypedBuilder<'b> for Builder<'b> {\n"
     "    const SIZE: g::StructSize = SIZE;\n"
     "}\n";
-static const u8 g_static_295[6] = "tagged";
-static const u8 g_static_296[40] = "        self.0.set(~tag~, ~number~u16);\n";
-static const u8 g_static_297[49] = "name=set_~snake~\n"
+static const u8 g_static_308[6] = "tagged";
+static const u8 g_static_309[40] = "        self.0.set(~tag~, ~number~u16);\n";
+static const u8 g_static_310[49] = "name=set_~snake~\n"
     "params=&mut self\n"
     "gives=&mut Self";
-static const u8 g_static_298[27] = "~tagged~        self\n"
+static const u8 g_static_311[27] = "~tagged~        self\n"
     "    }\n";
-static const u8 g_static_299[62] = "name=~call~\n"
+static const u8 g_static_312[62] = "name=~call~\n"
     "params=&mut self\n"
     "gives=~path~~module~::Builder<'_>";
-static const u8 g_static_300[39] = "        self.0.reborrow().into()\n"
+static const u8 g_static_313[39] = "        self.0.reborrow().into()\n"
     "    }\n";
-static const u8 g_static_301[5] = "zeros";
-static const u8 g_static_302[17] = "name=init_~snake~";
-static const u8 g_static_303[125] = "    /// Sets the member `~field~`, and makes its fields zero or null.\n"
+static const u8 g_static_314[5] = "zeros";
+static const u8 g_static_315[17] = "name=init_~snake~";
+static const u8 g_static_316[125] = "    /// Sets the member `~field~`, and makes its fields zero or null.\n"
     "|~tagged~~zeros~        self.0.reborrow().into()\n"
     "    }\n";
-static const u8 g_static_304[15] = "        self.0.";
-static const u8 g_static_305[8] = "TwoBytes";
-static const u8 g_static_306[7] = "Pointer";
-static const u8 g_static_307[3] = "Bit";
-static const u8 g_static_308[4] = "Byte";
-static const u8 g_static_309[9] = "FourBytes";
-static const u8 g_static_310[10] = "EightBytes";
-static const u8 g_static_311[9] = "set_bool(";
-static const u8 g_static_312[10] = ", false);\n";
-static const u8 g_static_313[4] = "set(";
-static const u8 g_static_314[8] = ", 0u8);\n";
-static const u8 g_static_315[9] = ", 0u16);\n";
-static const u8 g_static_316[9] = ", 0u32);\n";
-static const u8 g_static_317[9] = ", 0u64);\n";
-static const u8 g_static_318[6] = "clear(";
-static const u8 g_static_319[5] = "~set~";
-static const u8 g_static_320[3] = "set";
-static const u8 g_static_321[7] = "DEFAULT";
-static const u8 g_static_322[7] = "generic";
-static const u8 g_static_323[13] = "<M: g::Meter>";
-static const u8 g_static_324[73] = "name=set_~snake~~generic~\n"
+static const u8 g_static_317[15] = "        self.0.";
+static const u8 g_static_318[8] = "TwoBytes";
+static const u8 g_static_319[7] = "Pointer";
+static const u8 g_static_320[3] = "Bit";
+static const u8 g_static_321[4] = "Byte";
+static const u8 g_static_322[9] = "FourBytes";
+static const u8 g_static_323[10] = "EightBytes";
+static const u8 g_static_324[9] = "set_bool(";
+static const u8 g_static_325[10] = ", false);\n";
+static const u8 g_static_326[4] = "set(";
+static const u8 g_static_327[8] = ", 0u8);\n";
+static const u8 g_static_328[9] = ", 0u16);\n";
+static const u8 g_static_329[9] = ", 0u32);\n";
+static const u8 g_static_330[9] = ", 0u64);\n";
+static const u8 g_static_331[6] = "clear(";
+static const u8 g_static_332[5] = "~set~";
+static const u8 g_static_333[3] = "set";
+static const u8 g_static_334[7] = "DEFAULT";
+static const u8 g_static_335[7] = "generic";
+static const u8 g_static_336[13] = "<M: g::Meter>";
+static const u8 g_static_337[73] = "name=set_~snake~~generic~\n"
     "params=&mut self;value: ~value~\n"
     "gives=&mut Self";
-static const u8 g_static_325[42] = "~tagged~        ~set~;\n"
+static const u8 g_static_338[42] = "~tagged~        ~set~;\n"
     "        self\n"
     "    }\n";
-static const u8 g_static_326[4] = "init";
-static const u8 g_static_327[5] = "count";
-static const u8 g_static_328[13] = ";count: usize";
-static const u8 g_static_329[60] = "name=init_~snake~\n"
+static const u8 g_static_339[4] = "init";
+static const u8 g_static_340[5] = "count";
+static const u8 g_static_341[13] = ";count: usize";
+static const u8 g_static_342[60] = "name=init_~snake~\n"
     "params=&mut self~count~\n"
     "gives=~gives_init~";
-static const u8 g_static_330[51] = "    /// ~init_about~\n"
+static const u8 g_static_343[51] = "    /// ~init_about~\n"
     "|~tagged~        ~init~\n"
     "    }\n";
-static const u8 g_static_331[4] = "edit";
-static const u8 g_static_332[65] = "name=edit_~snake~\n"
+static const u8 g_static_344[4] = "edit";
+static const u8 g_static_345[65] = "name=edit_~snake~\n"
     "params=&mut self\n"
     "gives=~gives_init~\n"
     "init=~edit~";
-static const u8 g_static_333[51] = "    /// ~edit_about~\n"
+static const u8 g_static_346[51] = "    /// ~edit_about~\n"
     "|~tagged~        ~init~\n"
     "    }\n";
-static const u8 g_static_334[28] = "<'a, M: g::Meter = g::Typed>";
-static const u8 g_static_335[102] = "\n"
+static const u8 g_static_347[28] = "<'a, M: g::Meter = g::Typed>";
+static const u8 g_static_348[102] = "\n"
     "/// The members of the union of `~full~`.\n"
     "#[derive(Clone, Copy, Debug)]\n"
     "pub enum Which~parameters~ {\n";
-static const u8 g_static_336[82] = "    /// A member that the schema doesn't have, by its number.\n"
+static const u8 g_static_349[82] = "    /// A member that the schema doesn't have, by its number.\n"
     "    Unknown(u16),\n"
     "}\n";
-static const u8 g_static_337[28] = "filled=(~path~~item~<'a, M>)";
-static const u8 g_static_338[18] = "filled=(~payload~)";
-static const u8 g_static_339[23] = "    ~variant~~filled~,\n";
-static const u8 g_static_340[72] = "    /// The member of the union that is set.\n"
+static const u8 g_static_350[28] = "filled=(~path~~item~<'a, M>)";
+static const u8 g_static_351[18] = "filled=(~payload~)";
+static const u8 g_static_352[23] = "    ~variant~~filled~,\n";
+static const u8 g_static_353[72] = "    /// The member of the union that is set.\n"
     "    pub which: WhichValue,\n";
-static const u8 g_static_341[9] = "own_which";
-static const u8 g_static_342[38] = "            which: it.which().into(),\n";
-static const u8 g_static_343[9] = "put_which";
-static const u8 g_static_344[33] = "        self.which.write_to(to);\n";
-static const u8 g_static_345[5] = "owned";
-static const u8 g_static_346[3] = "mut";
-static const u8 g_static_347[4] = "mut ";
-static const u8 g_static_348[365] = "\n"
+static const u8 g_static_354[9] = "own_which";
+static const u8 g_static_355[40] = "            which: WhichValue::own(it),\n";
+static const u8 g_static_356[9] = "put_which";
+static const u8 g_static_357[33] = "        self.which.write_to(to);\n";
+static const u8 g_static_358[5] = "owned";
+static const u8 g_static_359[3] = "mut";
+static const u8 g_static_360[4] = "mut ";
+static const u8 g_static_361[365] = "\n"
     "/// `~full~` as a plain value.\n"
     "#[derive(Clone, Debug, PartialEq)]\n"
     "pub struct Value {\n"
@@ -901,7 +912,7 @@ static const u8 g_static_348[365] = "\n"
     "    pub fn write_to(&self, ~mut~to: Builder<'_>) {\n"
     "~puts~~put_which~    }\n"
     "}\n";
-static const u8 g_static_349[304] = "\n"
+static const u8 g_static_362[304] = "\n"
     "/// `~full~` as a plain value.\n"
     "#[derive(Clone, Debug, PartialEq)]\n"
     "pub struct Value {}\n"
@@ -916,14 +927,14 @@ static const u8 g_static_349[304] = "\n"
     "    /// Writes the value into a new struct.\n"
     "    pub fn write_to(&self, _: Builder<'_>) {}\n"
     "}\n";
-static const u8 g_static_350[149] = "\n"
+static const u8 g_static_363[149] = "\n"
     "/// The default value of each field.\n"
     "impl Default for Value {\n"
     "    fn default() -> Self {\n"
     "        g::no_struct::<super::~type~<'_>>().into()\n"
     "    }\n"
     "}\n";
-static const u8 g_static_351[478] = "\n"
+static const u8 g_static_364[478] = "\n"
     "impl g::Owned for super::~type~<'_> {\n"
     "    type Value = Value;\n"
     "\n"
@@ -943,69 +954,70 @@ static const u8 g_static_351[478] = "\n"
     "        lists.init_structs(index, count)\n"
     "    }\n"
     "}\n";
-static const u8 g_static_352[5] = "vtype";
-static const u8 g_static_353[42] = "    /// `~line~`\n"
+static const u8 g_static_365[5] = "vtype";
+static const u8 g_static_366[42] = "    /// `~line~`\n"
     "    pub ~call~: ~vtype~,\n";
-static const u8 g_static_354[27] = "            ~call~: ~own~,\n";
-static const u8 g_static_355[8] = "declared";
-static const u8 g_static_356[4] = "puts";
-static const u8 g_static_357[6] = "evalue";
-static const u8 g_static_358[31] = "own=g::boxed(true, it.~call~())";
-static const u8 g_static_359[79] = "vtype=~path~~module~::Value\n"
+static const u8 g_static_367[27] = "            ~call~: ~own~,\n";
+static const u8 g_static_368[8] = "declared";
+static const u8 g_static_369[4] = "puts";
+static const u8 g_static_370[6] = "evalue";
+static const u8 g_static_371[107] = "own=g::own_list_or_default(&it.0, ~index~, it.~call~())\n"
+    "mown=g::own_list_or_default(&it.0, ~index~, member)";
+static const u8 g_static_372[101] = "own=g::boxed_or_default(&it.0, ~index~, it.~call~())\n"
+    "mown=g::boxed_or_default(&it.0, ~index~, member)";
+static const u8 g_static_373[83] = "vtype=~path~~module~::Value\n"
     "own=it.~call~().into()\n"
     "mtype=~vtype~\n"
-    "mown=it.into()";
-static const u8 g_static_360[7] = "g::Vec<";
-static const u8 g_static_361[9] = "g::String";
-static const u8 g_static_362[10] = "g::Vec<u8>";
-static const u8 g_static_363[7] = "::Value";
-static const u8 g_static_364[13] = "vtype=\n"
+    "mown=member.into()";
+static const u8 g_static_374[7] = "g::Vec<";
+static const u8 g_static_375[9] = "g::String";
+static const u8 g_static_376[10] = "g::Vec<u8>";
+static const u8 g_static_377[7] = "::Value";
+static const u8 g_static_378[13] = "vtype=\n"
     "mtype=";
-static const u8 g_static_365[79] = "vtype=~evalue~\n"
+static const u8 g_static_379[83] = "vtype=~evalue~\n"
     "own=g::own_list(it.~call~())\n"
     "mtype=~evalue~\n"
-    "mown=g::own_list(it)";
-static const u8 g_static_366[67] = "vtype=~evalue~\n"
+    "mown=g::own_list(member)";
+static const u8 g_static_380[71] = "vtype=~evalue~\n"
     "own=it.~call~().into()\n"
     "mtype=~evalue~\n"
-    "mown=it.into()";
-static const u8 g_static_367[126] = "vtype=Option<g::Box<~evalue~>>\n"
+    "mown=member.into()";
+static const u8 g_static_381[130] = "vtype=Option<g::Box<~evalue~>>\n"
     "own=g::boxed(it.0.has(~index~), it.~call~())\n"
-    "mtype=g::Box<~evalue~>\n"
-    "mown=g::Box::new(it.into())";
-static const u8 g_static_368[55] = "vtype=Option<u32>\n"
+    "mtype=~vtype~\n"
+    "mown=g::boxed(it.0.has(~index~), member)";
+static const u8 g_static_382[59] = "vtype=Option<u32>\n"
     "own=it.~call~()\n"
     "mtype=~vtype~\n"
-    "mown=it";
-static const u8 g_static_369[55] = "vtype=~payload~\n"
+    "mown=member";
+static const u8 g_static_383[59] = "vtype=~payload~\n"
     "own=it.~call~()\n"
     "mtype=~payload~\n"
-    "mown=it";
-static const u8 g_static_370[43] = "        self.~call~.write_to(to.~call~());\n";
-static const u8 g_static_371[147] = "        if !self.~call~.is_empty() {\n"
+    "mown=member";
+static const u8 g_static_384[43] = "        self.~call~.write_to(to.~call~());\n";
+static const u8 g_static_385[147] = "        if !self.~call~.is_empty() {\n"
     "            let list = to.init_~snake~(self.~call~.len());\n"
     "            g::fill(list, &self.~call~);\n"
     "        }\n";
-static const u8 g_static_372[92] = "        let list = to.init_~snake~(self.~call~.len());\n"
+static const u8 g_static_386[92] = "        let list = to.init_~snake~(self.~call~.len());\n"
     "        g::fill(list, &self.~call~);\n";
-static const u8 g_static_373[89] = "        if !self.~call~.is_empty() {\n"
+static const u8 g_static_387[89] = "        if !self.~call~.is_empty() {\n"
     "            to.set_~snake~(&self.~call~);\n"
     "        }\n";
-static const u8 g_static_374[38] = "        to.set_~snake~(&self.~call~);\n";
-static const u8 g_static_375[101] = "        if let Some(value) = &self.~call~ {\n"
+static const u8 g_static_388[38] = "        to.set_~snake~(&self.~call~);\n";
+static const u8 g_static_389[101] = "        if let Some(value) = &self.~call~ {\n"
     "            value.write_to(to.init_~snake~());\n"
     "        }\n";
-static const u8 g_static_376[88] = "        if let Some(value) = self.~call~ {\n"
+static const u8 g_static_390[88] = "        if let Some(value) = self.~call~ {\n"
     "            to.set_~snake~(value);\n"
     "        }\n";
-static const u8 g_static_377[37] = "        to.set_~snake~(self.~call~);\n";
-static const u8 g_static_378[16] = "        Value { ";
-static const u8 g_static_379[3] = " }\n";
-static const u8 g_static_380[44] = "        Value {\n"
+static const u8 g_static_391[37] = "        to.set_~snake~(self.~call~);\n";
+static const u8 g_static_392[16] = "        Value { ";
+static const u8 g_static_393[3] = " }\n";
+static const u8 g_static_394[44] = "        Value {\n"
     "~owned~~own_which~        }\n";
-static const u8 g_static_381[4] = "life";
-static const u8 g_static_382[4] = "<'_>";
-static const u8 g_static_383[698] = "\n"
+static const u8 g_static_395[664] = "\n"
     "/// The members of the union of `~full~` as plain values.\n"
     "#[allow(clippy::large_enum_variant)]\n"
     "#[derive(Clone, Debug, PartialEq)]\n"
@@ -1014,15 +1026,13 @@ static const u8 g_static_383[698] = "\n"
     "    Unknown(u16),\n"
     "}\n"
     "\n"
-    "impl From<Which~life~> for WhichValue {\n"
-    "    fn from(which: Which~life~) -> Self {\n"
-    "        match which {\n"
+    "impl WhichValue {\n"
+    "    fn own(it: &super::~type~<'_>) -> Self {\n"
+    "        match it.which() {\n"
     "~owned~            Which::Unknown(number) => WhichValue::Unknown(number),\n"
     "        }\n"
     "    }\n"
-    "}\n"
     "\n"
-    "impl WhichValue {\n"
     "    /// Sets the member, with its value.\n"
     "    pub fn write_to(&self, mut to: Builder<'_>) {\n"
     "        match self {\n"
@@ -1032,42 +1042,57 @@ static const u8 g_static_383[698] = "\n"
     "        }\n"
     "    }\n"
     "}\n";
-static const u8 g_static_384[32] = "    /// `~line~`\n"
+static const u8 g_static_396[32] = "    /// `~line~`\n"
     "    ~variant~,\n";
-static const u8 g_static_385[55] = "            Which::~variant~ => WhichValue::~variant~,\n";
-static const u8 g_static_386[87] = "            WhichValue::~variant~ => {\n"
+static const u8 g_static_397[55] = "            Which::~variant~ => WhichValue::~variant~,\n";
+static const u8 g_static_398[86] = "            Which::~variant~ => {\n"
+    "                WhichValue::~variant~\n"
+    "            }\n";
+static const u8 g_static_399[87] = "            WhichValue::~variant~ => {\n"
     "                to.set_~snake~();\n"
     "            }\n";
-static const u8 g_static_387[5] = "mtype";
-static const u8 g_static_388[58] = "    /// `~line~`, which has no plain value\n"
+static const u8 g_static_400[5] = "mtype";
+static const u8 g_static_401[58] = "    /// `~line~`, which has no plain value\n"
     "    ~variant~,\n";
-static const u8 g_static_389[58] = "            Which::~variant~(_) => WhichValue::~variant~,\n";
-static const u8 g_static_390[99] = "            WhichValue::~variant~ => {\n"
+static const u8 g_static_402[58] = "            Which::~variant~(_) => WhichValue::~variant~,\n";
+static const u8 g_static_403[89] = "            Which::~variant~(_) => {\n"
+    "                WhichValue::~variant~\n"
+    "            }\n";
+static const u8 g_static_404[99] = "            WhichValue::~variant~ => {\n"
     "                to.0.set(~tag~, ~number~u16);\n"
     "            }\n";
-static const u8 g_static_391[41] = "    /// `~line~`\n"
+static const u8 g_static_405[41] = "    /// `~line~`\n"
     "    ~variant~(~mtype~),\n";
-static const u8 g_static_392[67] = "            Which::~variant~(it) => WhichValue::~variant~(~mown~),\n";
-static const u8 g_static_393[155] = "            WhichValue::~variant~(value) => {\n"
+static const u8 g_static_406[71] = "            Which::~variant~(member) => WhichValue::~variant~(~mown~),\n";
+static const u8 g_static_407[102] = "            Which::~variant~(member) => {\n"
+    "                WhichValue::~variant~(~mown~)\n"
+    "            }\n";
+static const u8 g_static_408[155] = "            WhichValue::~variant~(value) => {\n"
     "                let list = to.init_~snake~(value.len());\n"
     "                g::fill(list, value);\n"
     "            }\n";
-static const u8 g_static_394[99] = "            WhichValue::~variant~(value) => {\n"
+static const u8 g_static_409[99] = "            WhichValue::~variant~(value) => {\n"
     "                to.set_~snake~(value);\n"
     "            }\n";
-static const u8 g_static_395[111] = "            WhichValue::~variant~(value) => {\n"
+static const u8 g_static_410[222] = "            WhichValue::~variant~(Some(value)) => {\n"
     "                value.write_to(to.init_~snake~());\n"
+    "            }\n"
+    "            WhichValue::~variant~(None) => {\n"
+    "                to.0.set(~tag~, ~number~u16);\n"
     "            }\n";
-static const u8 g_static_396[213] = "            WhichValue::~variant~(value) => {\n"
+static const u8 g_static_411[213] = "            WhichValue::~variant~(value) => {\n"
     "                to.0.set(~tag~, ~number~u16);\n"
     "                if let Some(value) = value {\n"
     "                    to.set_~snake~(*value);\n"
     "                }\n"
     "            }\n";
-static const u8 g_static_397[100] = "            WhichValue::~variant~(value) => {\n"
+static const u8 g_static_412[100] = "            WhichValue::~variant~(value) => {\n"
     "                to.set_~snake~(*value);\n"
     "            }\n";
-static const u8 g_static_398[410] = "~allow~#[derive(Clone, Copy, Debug, PartialEq, Eq, Hash)]\n"
+static const u8 g_static_413[111] = "            WhichValue::~variant~(value) => {\n"
+    "                value.write_to(to.init_~snake~());\n"
+    "            }\n";
+static const u8 g_static_414[410] = "~allow~#[derive(Clone, Copy, Debug, PartialEq, Eq, Hash)]\n"
     "pub enum ~type~ {\n"
     "    /// A number that the schema has no name for.\n"
     "    Unknown(u16),\n"
@@ -1087,7 +1112,7 @@ static const u8 g_static_398[410] = "~allow~#[derive(Clone, Copy, Debug, Partial
     "}\n"
     "\n"
     "impl g::Enum for ~type~ {}\n";
-static const u8 g_static_399[494] = "~allow~#[derive(Clone, Copy, Debug, PartialEq, Eq, Hash)]\n"
+static const u8 g_static_415[494] = "~allow~#[derive(Clone, Copy, Debug, PartialEq, Eq, Hash)]\n"
     "pub enum ~type~ {\n"
     "~variants~    /// A number that the schema has no name for.\n"
     "    Unknown(u16),\n"
@@ -1110,58 +1135,58 @@ static const u8 g_static_399[494] = "~allow~#[derive(Clone, Copy, Debug, Partial
     "}\n"
     "\n"
     "impl g::Enum for ~type~ {}\n";
-static const u8 g_static_400[4] = "name";
-static const u8 g_static_401[21] = "line=~name~ @~number~";
-static const u8 g_static_402[15] = "    ~variant~,\n";
-static const u8 g_static_403[41] = "            ~number~ => Self::~variant~,\n";
-static const u8 g_static_404[43] = "            ~type~::~variant~ => ~number~,\n";
-static const u8 g_static_405[8] = "variants";
-static const u8 g_static_406[4] = "from";
-static const u8 g_static_407[4] = "into";
-static const u8 g_static_408[32] = "its type or its value is unknown";
-static const u8 g_static_409[23] = "its type is any pointer";
-static const u8 g_static_410[20] = "its value is unknown";
-static const u8 g_static_411[2] = "of";
-static const u8 g_static_412[23] = "line=const ~full~ :~of~";
-static const u8 g_static_413[41] = "const=pub const ~type~: ~rust~ = ~value~;";
-static const u8 g_static_415[7] = "'static";
-static const u8 g_static_416[74] = "gives=g::List<'static, ~element~, g::Typed>\n"
+static const u8 g_static_416[4] = "name";
+static const u8 g_static_417[21] = "line=~name~ @~number~";
+static const u8 g_static_418[15] = "    ~variant~,\n";
+static const u8 g_static_419[41] = "            ~number~ => Self::~variant~,\n";
+static const u8 g_static_420[43] = "            ~type~::~variant~ => ~number~,\n";
+static const u8 g_static_421[8] = "variants";
+static const u8 g_static_422[4] = "from";
+static const u8 g_static_423[4] = "into";
+static const u8 g_static_424[32] = "its type or its value is unknown";
+static const u8 g_static_425[23] = "its type is any pointer";
+static const u8 g_static_426[20] = "its value is unknown";
+static const u8 g_static_427[2] = "of";
+static const u8 g_static_428[23] = "line=const ~full~ :~of~";
+static const u8 g_static_429[41] = "const=pub const ~type~: ~rust~ = ~value~;";
+static const u8 g_static_431[7] = "'static";
+static const u8 g_static_432[74] = "gives=g::List<'static, ~element~, g::Typed>\n"
     "read=g::constant_list(DEFAULT)";
-static const u8 g_static_417[48] = "gives=~element~\n"
+static const u8 g_static_433[48] = "gives=~element~\n"
     "read=g::constant_struct(DEFAULT)";
-static const u8 g_static_418[36] = "~allow~pub fn ~type~() -> ~gives~ {\n";
-static const u8 g_static_419[13] = "    ~read~\n"
+static const u8 g_static_434[36] = "~allow~pub fn ~type~() -> ~gives~ {\n";
+static const u8 g_static_435[13] = "    ~read~\n"
     "}\n";
-static const u8 g_static_420[1] = "0";
-static const u8 g_static_421[5] = "bytes";
-static const u8 g_static_422[8] = "value=()";
-static const u8 g_static_423[11] = "value=false";
-static const u8 g_static_424[10] = "value=true";
-static const u8 g_static_425[31] = "value=~rust~::from_bits(~bits~)";
-static const u8 g_static_426[29] = "value=~rust~::Unknown(~bits~)";
-static const u8 g_static_427[32] = "rust=&str\n"
+static const u8 g_static_436[1] = "0";
+static const u8 g_static_437[5] = "bytes";
+static const u8 g_static_438[8] = "value=()";
+static const u8 g_static_439[11] = "value=false";
+static const u8 g_static_440[10] = "value=true";
+static const u8 g_static_441[31] = "value=~rust~::from_bits(~bits~)";
+static const u8 g_static_442[29] = "value=~rust~::Unknown(~bits~)";
+static const u8 g_static_443[32] = "rust=&str\n"
     "value=g::text(~bytes~)";
-static const u8 g_static_428[24] = "rust=&[u8]\n"
+static const u8 g_static_444[24] = "rust=&[u8]\n"
     "value=~bytes~";
-static const u8 g_static_429[15] = "value=~literal~";
-static const u8 g_static_430[23] = "value=~rust~::~variant~";
-static const u8 g_static_431[3] = "// ";
-static const u8 g_static_432[39] = "#[allow(unused_imports)]\n"
+static const u8 g_static_445[15] = "value=~literal~";
+static const u8 g_static_446[23] = "value=~rust~::~variant~";
+static const u8 g_static_447[3] = "// ";
+static const u8 g_static_448[39] = "#[allow(unused_imports)]\n"
     "use super::g;\n";
-static const u8 g_static_433[42] = "file name contained an unexpected NUL byte";
-static const u8 g_static_437[43] = "gave up reading or writing after 2^64 tries";
-static const u8 g_static_438[28] = "failed to write whole buffer";
-static const u8 g_static_440[7] = "Error: ";
-static const u8 g_static_441[12] = "\n"
+static const u8 g_static_449[42] = "file name contained an unexpected NUL byte";
+static const u8 g_static_453[43] = "gave up reading or writing after 2^64 tries";
+static const u8 g_static_454[28] = "failed to write whole buffer";
+static const u8 g_static_456[7] = "Error: ";
+static const u8 g_static_457[12] = "\n"
     "\n"
     "Caused by:";
-static const u8 g_static_442[5] = "\n"
+static const u8 g_static_458[5] = "\n"
     "    ";
-static const u8 g_static_443[13] = "\n"
+static const u8 g_static_459[13] = "\n"
     "       ... (";
-static const u8 g_static_444[10] = " left out)";
-static const u8 g_static_445[2] = ": ";
-static const u8 g_static_446[8] = "\n"
+static const u8 g_static_460[10] = " left out)";
+static const u8 g_static_461[2] = ": ";
+static const u8 g_static_462[8] = "\n"
     "       ";
 static const u64 switch_table_anyhow_error_ErrorFrom_from_338c36927acf0bc5[35] = { 16u, 44u, 34u, 33u, 47u, 25u, 48u, 53u, 38u, 38u, 47u, 50u, 16u, 25u, 56u, 56u, 46u, 68u, 49u, 56u, 49u, 60u, 36u, 33u, 41u, 24u, 40u, 15u, 20u, 11u, 17u, 28u, 24u, 20u, 18u };
 static const struct place switch_table_anyhow_error_ErrorFrom_from_338c36927acf0bc5_1[35] = { PLACE((const u8 *)g_static_61), PLACE((const u8 *)g_static_68), PLACE((const u8 *)g_static_69), PLACE((const u8 *)g_static_70), PLACE((const u8 *)g_static_71), PLACE((const u8 *)g_static_72), PLACE((const u8 *)g_static_73), PLACE((const u8 *)g_static_74), PLACE((const u8 *)g_static_75), PLACE((const u8 *)g_static_76), PLACE((const u8 *)g_static_77), PLACE((const u8 *)g_static_78), PLACE((const u8 *)g_static_79), PLACE((const u8 *)g_static_80), PLACE((const u8 *)g_static_81), PLACE((const u8 *)g_static_82), PLACE((const u8 *)g_static_83), PLACE((const u8 *)g_static_84), PLACE((const u8 *)g_static_85), PLACE((const u8 *)g_static_86), PLACE((const u8 *)g_static_87), PLACE((const u8 *)g_static_88), PLACE((const u8 *)g_static_89), PLACE((const u8 *)g_static_90), PLACE((const u8 *)g_static_91), PLACE((const u8 *)g_static_92), PLACE((const u8 *)g_static_93), PLACE((const u8 *)g_static_94), PLACE((const u8 *)g_static_95), PLACE((const u8 *)g_static_96), PLACE((const u8 *)g_static_97), PLACE((const u8 *)g_static_98), PLACE((const u8 *)g_static_99), PLACE((const u8 *)g_static_100), PLACE((const u8 *)g_static_101) };
@@ -1171,17 +1196,19 @@ static const u64 switch_table_capnp_copies_copy_copy_object_c1b701a44f41e856[7] 
 static const u64 switch_table_capnp_copies_copy_children_copy_children__a8cf112c[5] = { 1u, 8u, 16u, 32u, 64u };
 static const u32 switch_table_capnpc_schema_table_Making_add_struct[7] = { 9u, 8u, 8u, 10u, 11u, 12u, 13u };
 static const u64 switch_table_capnpc_layout_rust_generating_write_entry[7] = { 3u, 7u, 7u, 4u, 8u, 9u, 10u };
-static const struct place switch_table_capnpc_layout_rust_generating_write_entry_11[7] = { PLACE((const u8 *)g_static_307), PLACE((const u8 *)g_static_306), PLACE((const u8 *)g_static_306), PLACE((const u8 *)g_static_308), PLACE((const u8 *)g_static_305), PLACE((const u8 *)g_static_309), PLACE((const u8 *)g_static_310) };
-static const struct place switch_table_capnpc_layout_rust_generating_write_entry_12[11] = { PLACE((const u8 *)g_static_377), PLACE((const u8 *)g_static_377), PLACE((const u8 *)g_static_377), PLACE((const u8 *)g_static_377), PLACE((const u8 *)g_static_377), PLACE((const u8 *)g_static_377), { 0 }, { 0 }, PLACE((const u8 *)g_static_375), PLACE((const u8 *)g_static_376), PLACE((const u8 *)g_static_377) };
+static const struct place switch_table_capnpc_layout_rust_generating_write_entry_11[7] = { PLACE((const u8 *)g_static_320), PLACE((const u8 *)g_static_319), PLACE((const u8 *)g_static_319), PLACE((const u8 *)g_static_321), PLACE((const u8 *)g_static_318), PLACE((const u8 *)g_static_322), PLACE((const u8 *)g_static_323) };
+static const struct place switch_table_capnpc_layout_rust_generating_write_entry_12[11] = { PLACE((const u8 *)g_static_391), PLACE((const u8 *)g_static_391), PLACE((const u8 *)g_static_391), PLACE((const u8 *)g_static_391), PLACE((const u8 *)g_static_391), PLACE((const u8 *)g_static_391), { 0 }, { 0 }, PLACE((const u8 *)g_static_389), PLACE((const u8 *)g_static_390), PLACE((const u8 *)g_static_391) };
 static const u64 switch_table_capnpc_layout_rust_generating_write_entry_13[11] = { 37u, 37u, 37u, 37u, 37u, 37u, 0u, 0u, 101u, 88u, 37u };
+static const struct place switch_table_capnpc_layout_rust_generating_write_entry_14[11] = { PLACE((const u8 *)g_static_412), PLACE((const u8 *)g_static_412), PLACE((const u8 *)g_static_412), PLACE((const u8 *)g_static_412), PLACE((const u8 *)g_static_412), PLACE((const u8 *)g_static_412), PLACE((const u8 *)g_static_409), PLACE((const u8 *)g_static_409), PLACE((const u8 *)g_static_410), PLACE((const u8 *)g_static_411), PLACE((const u8 *)g_static_412) };
+static const u64 switch_table_capnpc_layout_rust_generating_write_entry_15[11] = { 100u, 100u, 100u, 100u, 100u, 100u, 99u, 99u, 222u, 213u, 100u };
 static const u64 switch_table_capnpc_layout_rust_readers_Schema_field_values[11] = { 0u, 89u, 83u, 83u, 83u, 83u, 142u, 102u, 376u, 127u, 260u };
-static const struct place switch_table_capnpc_layout_rust_readers_Schema_field_values_14[11] = { PLACE((const u8 *)g_static_120), PLACE((const u8 *)g_static_213), PLACE((const u8 *)g_static_219), PLACE((const u8 *)g_static_219), PLACE((const u8 *)g_static_219), PLACE((const u8 *)g_static_219), PLACE((const u8 *)g_static_214), PLACE((const u8 *)g_static_215), PLACE((const u8 *)g_static_216), PLACE((const u8 *)g_static_217), PLACE((const u8 *)g_static_218) };
-static const u64 switch_table_capnpc_layout_rust_readers_Schema_field_values_15[11] = { 102u, 81u, 102u, 102u, 136u, 97u, 102u, 102u, 102u, 102u, 102u };
-static const struct place switch_table_capnpc_layout_rust_readers_Schema_field_values_16[11] = { PLACE((const u8 *)g_static_226), PLACE((const u8 *)g_static_223), PLACE((const u8 *)g_static_226), PLACE((const u8 *)g_static_226), PLACE((const u8 *)g_static_224), PLACE((const u8 *)g_static_225), PLACE((const u8 *)g_static_226), PLACE((const u8 *)g_static_226), PLACE((const u8 *)g_static_226), PLACE((const u8 *)g_static_226), PLACE((const u8 *)g_static_226) };
-static const u64 switch_table_capnpc_layout_rust_readers_Schema_field_values_19[11] = { 55u, 55u, 55u, 55u, 55u, 55u, 119u, 53u, 55u, 55u, 55u };
-static const struct place switch_table_capnpc_layout_rust_readers_Schema_field_values_20[11] = { PLACE((const u8 *)g_static_238), PLACE((const u8 *)g_static_238), PLACE((const u8 *)g_static_238), PLACE((const u8 *)g_static_238), PLACE((const u8 *)g_static_238), PLACE((const u8 *)g_static_238), PLACE((const u8 *)g_static_236), PLACE((const u8 *)g_static_237), PLACE((const u8 *)g_static_238), PLACE((const u8 *)g_static_238), PLACE((const u8 *)g_static_238) };
-static const u64 switch_table_capnpc_layout_rust_values_value_of[9] = { 55u, 55u, 55u, 55u, 55u, 55u, 67u, 67u, 126u };
-static const struct place switch_table_capnpc_layout_rust_values_value_of_21[9] = { PLACE((const u8 *)g_static_369), PLACE((const u8 *)g_static_369), PLACE((const u8 *)g_static_369), PLACE((const u8 *)g_static_369), PLACE((const u8 *)g_static_369), PLACE((const u8 *)g_static_369), PLACE((const u8 *)g_static_366), PLACE((const u8 *)g_static_366), PLACE((const u8 *)g_static_367) };
+static const struct place switch_table_capnpc_layout_rust_readers_Schema_field_values_16[11] = { PLACE((const u8 *)g_static_120), PLACE((const u8 *)g_static_214), PLACE((const u8 *)g_static_220), PLACE((const u8 *)g_static_220), PLACE((const u8 *)g_static_220), PLACE((const u8 *)g_static_220), PLACE((const u8 *)g_static_215), PLACE((const u8 *)g_static_216), PLACE((const u8 *)g_static_217), PLACE((const u8 *)g_static_218), PLACE((const u8 *)g_static_219) };
+static const u64 switch_table_capnpc_layout_rust_readers_Schema_field_values_17[11] = { 102u, 81u, 102u, 102u, 136u, 97u, 102u, 102u, 102u, 102u, 102u };
+static const struct place switch_table_capnpc_layout_rust_readers_Schema_field_values_18[11] = { PLACE((const u8 *)g_static_227), PLACE((const u8 *)g_static_224), PLACE((const u8 *)g_static_227), PLACE((const u8 *)g_static_227), PLACE((const u8 *)g_static_225), PLACE((const u8 *)g_static_226), PLACE((const u8 *)g_static_227), PLACE((const u8 *)g_static_227), PLACE((const u8 *)g_static_227), PLACE((const u8 *)g_static_227), PLACE((const u8 *)g_static_227) };
+static const u64 switch_table_capnpc_layout_rust_readers_Schema_field_values_21[11] = { 55u, 55u, 55u, 55u, 55u, 55u, 119u, 53u, 55u, 55u, 55u };
+static const struct place switch_table_capnpc_layout_rust_readers_Schema_field_values_22[11] = { PLACE((const u8 *)g_static_239), PLACE((const u8 *)g_static_239), PLACE((const u8 *)g_static_239), PLACE((const u8 *)g_static_239), PLACE((const u8 *)g_static_239), PLACE((const u8 *)g_static_239), PLACE((const u8 *)g_static_237), PLACE((const u8 *)g_static_238), PLACE((const u8 *)g_static_239), PLACE((const u8 *)g_static_239), PLACE((const u8 *)g_static_239) };
+static const u64 switch_table_capnpc_layout_rust_values_value_of[9] = { 59u, 59u, 59u, 59u, 59u, 59u, 71u, 71u, 130u };
+static const struct place switch_table_capnpc_layout_rust_values_value_of_23[9] = { PLACE((const u8 *)g_static_383), PLACE((const u8 *)g_static_383), PLACE((const u8 *)g_static_383), PLACE((const u8 *)g_static_383), PLACE((const u8 *)g_static_383), PLACE((const u8 *)g_static_383), PLACE((const u8 *)g_static_380), PLACE((const u8 *)g_static_380), PLACE((const u8 *)g_static_381) };
 
 struct arguments arguments;
 static void capnpc_layout_rust_main(u8 *a_1);
@@ -1302,7 +1329,12 @@ static struct s_p_i64 capnpc_layout_rust_unions_parameters(u8 *a_1, u8 *a_2);
 static void capnpc_layout_rust_docs_push_docs(u8 *a_1, u8 *a_2, u64 a_3, u8 *a_4, u64 a_5, u8 *a_6, u64 a_7);
 static struct s_p_i64 core_iter_words_str_trim(u8 *a_1, u64 a_2);
 static void capnpc_layout_rust_piece_Piece_push_impl(u8 *a_1, u8 *a_2, u64 a_3, u8 *a_4, u8 *a_5);
-static void capnpc_layout_rust_piece_Piece_push_shown(u8 *a_1, u8 *a_2, u64 a_3, u8 *a_4, u64 a_5);
+static struct s_i8_i64 core_fmt_formatter_Formatter_write_before_number_06ddf_19ca4a7c(u8 *a_1, u8 *a_2, u64 a_3);
+static u8 core_fmt_formatter_Formatter_write_char_n_times_06ddf0_32a29d0f(u8 *a_1, u32 a_2, u64 a_3);
+static NEVER COLD u8 core_fmt_formatter_Formatter_write_indented_06ddf0ef6b1ac539(u8 *a_1, u8 *a_2, u64 a_3);
+static u8 core_fmt_formatter_Formatter_write_indented_line_06ddf_05aae2b6(u8 *a_1, u8 *a_2, u64 a_3, u8 a_4);
+static u8 core_fmt_formatter_Formatter_and_write_bytes_06ddf0ef6b1ac539(u8 *a_1, u8 a_2, u8 *a_3, u64 a_4);
+static void capnpc_layout_rust_piece_Piece_push_shown(u8 *a_1, u8 *a_2, u64 a_3, u8 *a_4, u64 a_5, u8 *a_6, u64 a_7);
 static void capnpc_layout_rust_generating_open_module(u8 *a_1, u8 *a_2, u64 a_3);
 static void capnpc_schema_slots_add_slot_once(u8 *a_1, u64 a_2, u32 a_3, u8 *a_4);
 static void capnpc_layout_rust_builders_push_call(u8 *a_1, u8 *a_2, u64 a_3, u8 *a_4, u64 a_5, u8 *a_6);
@@ -23603,7 +23635,7 @@ static u64 capnpc_layout_rust_generating_write_entry(u8 *a_1, u8 *a_2, u64 a_3, 
 {
     A(8) u8 slot_1[1];
     A(8) u8 slot_2[64];
-    A(8) u8 slot_3[48];
+    A(8) u8 slot_3[64];
     A(8) u8 slot_4[48];
     A(8) u8 slot_5[80];
     A(8) u8 slot_6[48];
@@ -23751,21 +23783,21 @@ static u64 capnpc_layout_rust_generating_write_entry(u8 *a_1, u8 *a_2, u64 a_3, 
     u64 r_38_3;
     u64 r_38_4;
     u8 r_ix;
-    u64 r_xw_2;
-    u8 *r_xw_3;
+    u64 r_1k;
+    u8 *r_xw_2;
     u64 r_38_5;
     u64 r_38_6;
     u64 r_01_1;
     u8 *r_a7_2;
     u8 *r_y0;
-    u8 *r_xw_4;
+    u8 *r_xw_3;
     u64 r_38_7;
     u64 r_38_8;
     u64 r_38_9;
     u8 r_ix_1;
     u8 *r_zd_8;
     u8 *r_x5_9;
-    u64 r_xw_5;
+    u64 r_1k_1;
     u8 *r_lz_13;
     u64 r_52_24;
     u64 r_7d;
@@ -23798,7 +23830,7 @@ static u64 capnpc_layout_rust_generating_write_entry(u8 *a_1, u8 *a_2, u64 a_3, 
     u8 *r_30_1;
     u8 t_ul_1;
     u8 r_47_3;
-    u64 r_nu;
+    u64 r_8a;
     u8 *static_3y;
     u8 *r_lz_17;
     u64 r_52_31;
@@ -23812,228 +23844,325 @@ static u64 capnpc_layout_rust_generating_write_entry(u8 *a_1, u8 *a_2, u64 a_3, 
     u64 r_38_11;
     u64 r_01_3;
     u8 *r_a7_6;
-    u8 *r_xw_6;
+    u8 *r_xw_4;
     u64 r_38_12;
     u64 r_38_13;
     u64 r_01_4;
     u8 *r_a7_7;
-    u8 *r_xw_7;
+    u8 *r_xw_5;
     u64 r_38_14;
-    u8 *r_xw_8;
+    u8 *r_xw_6;
     u64 r_fz;
     u64 r_38_15;
     u64 r_01_5;
     u8 *r_a7_8;
-    u64 r_52_32;
-    u8 *r_lz_18;
-    u64 r_52_33;
-    u64 r_w0;
+    u8 *r_x5_11;
+    u8 *r_x5_12;
+    u8 *r_lk_8;
+    u8 *r_c4_5;
+    u64 r_sn;
+    u64 r_zl;
+    u64 r_p8;
+    u64 r_lo;
+    struct s_i8_i64 r_k3;
+    u64 r_h9;
     u8 *r_2b_14;
-    u64 r_ay;
-    u8 *r_xw_9;
+    u8 *r_zd_11;
+    u64 r_jm;
+    u64 r_89_6;
+    u8 *r_xw_7;
     u64 r_38_16;
     u64 r_38_17;
+    u8 *r_zd_12;
+    u8 *r_yh;
+    u64 r_1r;
+    u64 r_ef;
+    u64 r_5q_4;
+    u8 *r_2b_15;
+    u64 r_il_3;
+    u8 *r_xw_8;
     u64 r_38_18;
-    u8 r_ix_2;
-    u8 *r_zd_11;
-    u8 *r_x5_12;
-    u64 r_wr;
-    u64 r_h4;
-    u8 *r_xw_10;
     u64 r_38_19;
     u64 r_38_20;
+    u8 r_ix_2;
+    u8 *r_zd_13;
+    u8 *r_x5_13;
+    u64 r_vc;
+    u64 r_52_36;
+    u8 *r_lz_18;
+    u64 r_52_37;
+    u64 r_w0;
+    u8 *r_2b_16;
+    u64 r_ay;
+    u8 *r_xw_9;
     u64 r_38_21;
+    u64 r_38_22;
+    u64 r_38_23;
     u8 r_ix_3;
     u64 r_b7;
+    u64 r_h4;
+    u8 *r_xw_10;
+    u64 r_38_24;
+    u64 r_38_25;
+    u64 r_38_26;
+    u8 r_ix_4;
+    u64 r_bn;
     u8 *t_x5_1;
     u8 *r_lz_19;
-    u64 r_52_35;
+    u64 r_52_39;
     u8 *r_ps_3;
-    u8 *r_x5_14;
-    u8 *r_zd_12;
+    u8 *r_x5_16;
+    u8 *r_zd_14;
     u64 r_y3_1;
-    u8 *r_2b_15;
+    u8 *r_2b_17;
+    u8 *r_qj_2;
     u8 r_47_4;
     u8 *r_mb_4;
     u64 r_qw_4;
-    u64 r_52_36;
+    u64 r_52_40;
     u64 r_1y_4;
     u8 *r_mb_5;
     u64 r_qw_5;
     u8 r_47_5;
     u8 *r_lz_20;
-    u64 r_52_37;
+    u64 r_52_41;
     u64 r_1y_5;
     u64 r_tr_2;
     u8 *r_30_2;
     u8 t_ul_2;
     u8 r_47_6;
     u8 *r_lz_21;
-    u64 r_iv;
-    u8 *r_2b_16;
-    u64 t_u5;
-    u8 *t_6k;
-    u8 *r_lz_22;
-    u64 r_52_38;
-    u8 *r_lz_23;
-    u64 r_52_39;
     u64 r_iv_1;
-    u8 *r_2b_17;
-    u64 r_hb;
-    u8 *r_31;
-    u64 r_38_22;
-    u64 r_01_6;
-    u8 *r_a7_11;
-    u8 *r_lz_24;
-    u64 r_52_40;
-    u64 r_7d_2;
     u8 *r_2b_18;
-    u8 *t_7h;
-    u64 t_pk;
-    u8 *r_xw_11;
-    u64 r_fz_1;
-    u64 r_38_23;
-    u64 r_01_7;
-    u8 *r_a7_12;
-    u8 *r_xw_12;
-    u64 r_38_24;
-    u64 r_38_25;
-    u64 r_01_8;
-    u8 *r_a7_13;
-    u8 *r_xw_13;
-    u64 r_mn;
-    u64 r_w4_1;
-    u64 r_61_1;
-    u8 *r_x5_15;
-    u8 *r_xw_14;
+    u8 r_gv;
+    u8 t_0c;
+    u64 r_7i;
+    u8 *r_gb;
+    u8 *r_lz_22;
+    u64 r_52_42;
+    u8 *r_lz_23;
+    u64 r_52_43;
+    u64 r_iv_2;
+    u8 *r_2b_19;
+    u64 r_u7;
+    u8 *r_x0;
     u64 r_38_27;
-    u64 r_38_28;
-    u64 r_38_29;
-    u8 r_ix_4;
-    u8 *r_zd_13;
-    u8 *r_x5_17;
-    u64 r_q7_1;
-    u64 r_yb;
-    u8 *r_xw_15;
-    u64 r_38_30;
-    u64 r_38_31;
-    u64 r_38_32;
-    u8 r_ix_5;
-    u64 r_ai;
-    u8 *r_lz_25;
+    u64 r_01_6;
+    u8 *r_a7_12;
+    u8 *r_lz_24;
     u64 r_52_44;
-    u8 *r_zd_14;
-    u8 *r_x5_19;
-    u8 *r_lk_8;
+    u8 *r_ps_4;
     u8 *r_9r_1;
-    u8 *r_x5_20;
+    u8 *r_x5_17;
     u8 *r_zd_15;
     u8 *r_lk_9;
-    u8 *t_x5_2;
     u8 *r_zd_16;
+    u8 *r_x5_18;
     u8 *r_lk_10;
-    u8 *r_ti_2;
-    u8 *r_v3_1;
-    u8 *r_x5_21;
-    u8 *r_x5_22;
-    u8 *r_x5_23;
-    u8 *r_zd_17;
-    u8 *r_zd_18;
-    u8 *r_lk_11;
-    u8 *t_89;
-    u8 *t_a8;
-    u8 *r_x5_24;
-    u8 *r_zd_19;
-    u8 *r_lk_12;
-    u8 *r_89_10;
-    u8 *r_a8_3;
-    u8 *r_x5_25;
-    u8 *r_zd_20;
-    u8 *r_lk_13;
-    u8 *r_89_11;
-    u8 *r_a8_4;
-    u8 *r_x5_26;
-    u8 *r_zd_21;
-    u8 *r_lk_14;
-    u8 *r_89_12;
-    u8 *r_a8_5;
-    u8 *r_x5_27;
-    u8 *r_zd_22;
-    u8 *r_lk_15;
-    u8 *r_89_13;
-    u8 *r_a8_6;
-    u8 *r_x5_28;
-    u8 *r_zd_23;
-    u8 *r_lk_16;
-    u8 *r_89_14;
-    u8 *r_x5_29;
-    u8 *r_zd_24;
-    u8 *r_lk_17;
-    u8 *r_a8_7;
-    u8 *r_lk_18;
-    u8 *r_zd_25;
-    u64 r_y3_2;
-    u8 *r_2b_19;
-    u8 *r_qj_2;
+    u8 r_y3_2;
+    u64 r_e6;
+    u8 *r_2b_20;
+    u8 *r_qj_3;
+    u8 r_47_7;
     u8 *r_mb_6;
     u64 r_qw_6;
     u64 r_52_45;
     u64 r_1y_6;
     u8 *r_mb_7;
     u64 r_qw_7;
-    u8 r_47_7;
-    u8 *r_lz_26;
+    u8 r_47_8;
+    u8 *r_lz_25;
     u64 r_52_46;
     u64 r_1y_7;
     u64 r_tr_3;
     u8 *r_30_3;
     u8 t_ul_3;
-    u8 r_47_8;
-    u64 r_bz;
-    u64 r_b5;
-    u8 *r_xw_16;
+    u8 r_47_9;
+    u8 *r_xw_11;
+    u64 r_38_28;
+    u64 r_38_29;
+    u64 r_38_30;
+    u8 r_ix_5;
+    u64 r_1k_2;
+    u64 t_ns;
+    u8 *t_6w;
+    u8 *r_lz_26;
+    u64 r_52_48;
+    u64 r_iv_3;
+    u8 *r_2b_22;
+    u64 r_2b_21;
+    u8 *r_js;
+    u64 r_38_31;
+    u64 r_01_7;
+    u8 *r_a7_14;
+    u8 r_nd;
+    u8 *r_xw_12;
+    u64 r_38_32;
+    u8 t_mp;
+    u64 r_7d_2;
+    u8 *r_2b_23;
+    u8 *t_p5;
+    u64 t_7h;
+    u64 t_cf;
+    u8 *t_mz;
+    u8 *r_zd_17;
+    u64 r_4v;
+    u64 r_23;
+    u64 r_5q_5;
+    u8 *r_lz_27;
+    u8 *r_2b_24;
+    u64 r_67;
+    u64 r_co;
+    u64 r_ui;
+    u64 r_ob;
+    u8 *r_lz_28;
+    u8 *r_2b_25;
+    u64 r_ft;
+    u8 *r_xw_13;
+    u64 r_fz_1;
     u64 r_38_33;
+    u64 r_01_8;
+    u8 *r_a7_15;
+    u8 *r_xw_14;
     u64 r_38_34;
     u64 r_38_35;
-    u8 r_ix_6;
-    u64 r_xw_17;
-    u8 *r_bb;
-    u8 *r_xw_18;
-    u64 r_fz_2;
-    u64 r_38_36;
+    u64 r_01_9;
+    u8 *r_a7_16;
+    u8 *r_xw_15;
+    u64 r_mn;
+    u64 r_w4_1;
+    u64 r_61_1;
+    u8 *r_x5_19;
+    u8 *r_89_11;
+    u8 *r_xw_16;
     u64 r_38_37;
+    u64 r_38_38;
+    u64 r_38_39;
+    u8 r_ix_6;
+    u8 *r_zd_18;
+    u8 *r_x5_21;
+    u64 r_xm_1;
+    u64 r_yb;
+    u8 *r_xw_17;
+    u64 r_38_40;
+    u64 r_38_41;
+    u64 r_38_42;
     u8 r_ix_7;
-    u64 r_bz_1;
-    u8 *r_yk;
-    u64 r_o4;
-    u64 r_52_49;
+    u64 r_dw;
+    u8 *r_lz_29;
+    u64 r_52_56;
+    u8 *r_zd_19;
+    u8 *r_x5_23;
+    u8 *r_lk_11;
+    u8 *r_9r_2;
+    u8 *r_x5_24;
+    u8 *r_zd_20;
+    u8 *r_lk_12;
+    u8 *t_x5_2;
+    u8 *r_zd_21;
+    u8 *r_lk_13;
+    u8 *r_ti_2;
+    u8 *r_v3_1;
+    u8 *r_x5_25;
+    u8 *r_x5_26;
+    u8 *r_x5_27;
+    u8 *r_zd_22;
+    u8 *r_zd_23;
+    u8 *r_lk_14;
+    u8 *t_89;
+    u8 *t_a8;
+    u8 *r_x5_28;
+    u8 *r_zd_24;
+    u8 *r_lk_15;
+    u8 *r_89_14;
+    u8 *r_a8_3;
+    u8 *r_x5_29;
+    u8 *r_zd_25;
+    u8 *r_lk_16;
+    u8 *r_89_15;
+    u8 *r_a8_4;
+    u8 *r_x5_30;
+    u8 *r_zd_26;
+    u8 *r_lk_17;
+    u8 *r_89_16;
+    u8 *r_a8_5;
+    u8 *r_x5_31;
+    u8 *r_zd_27;
+    u8 *r_lk_18;
+    u8 *r_89_17;
+    u8 *r_a8_6;
+    u8 *r_x5_32;
+    u8 *r_zd_28;
+    u8 *r_lk_19;
+    u8 *r_89_18;
+    u8 *r_x5_33;
+    u8 *r_zd_29;
+    u8 *r_lk_20;
+    u8 *r_a8_7;
+    u8 *r_lk_21;
+    u8 *r_zd_30;
+    u64 r_y3_3;
+    u8 *r_2b_26;
+    u8 *r_qj_4;
     u8 *r_mb_8;
     u64 r_qw_8;
+    u64 r_52_57;
+    u64 r_1y_8;
+    u8 *r_mb_9;
+    u64 r_qw_9;
+    u8 r_47_10;
+    u8 *r_lz_30;
+    u64 r_52_58;
+    u64 r_1y_9;
+    u64 r_tr_4;
+    u8 *r_30_4;
+    u8 t_ul_4;
+    u8 r_47_11;
+    u64 r_la;
+    u64 r_b5;
+    u8 *r_xw_18;
+    u64 r_38_43;
+    u64 r_38_44;
+    u64 r_38_45;
+    u8 r_ix_8;
+    u64 r_1k_3;
+    u8 *r_bb;
+    u8 *r_xw_19;
+    u64 r_fz_2;
+    u64 r_38_46;
+    u64 r_38_47;
+    u8 r_ix_9;
+    u64 r_la_1;
+    u8 *r_yk;
+    u64 r_o4;
+    u64 r_52_61;
+    u8 *r_mb_10;
+    u64 r_qw_10;
     u64 r_8p;
-    u8 *r_2b_21;
+    u8 *r_2b_28;
     u64 r_5p;
     u64 r_fz_3;
     u8 *r_so;
     u8 *r_0v;
-    u64 r_52_50;
-    u64 r_1y_8;
-    u64 r_tr_4;
-    u8 *r_lz_27;
-    u64 r_52_51;
-    u64 r_y3_3;
-    u8 *r_2b_22;
+    u64 r_52_62;
+    u64 r_1y_10;
+    u64 r_tr_5;
+    u8 *r_lz_31;
+    u64 r_52_63;
+    u64 r_y3_4;
+    u8 *r_2b_29;
     u8 *r_rv;
-    u64 r_52_52;
+    u64 r_52_64;
     u64 t_vt;
     u64 r_yy;
     u8 *r_xv;
-    u8 *r_xw_19;
-    u64 r_38_38;
+    u8 *r_xw_20;
+    u64 r_38_48;
     u64 r_wq;
-    u8 *r_2b_23;
-    u8 *r_lz_28;
-    u8 *r_ps_4;
-    u64 r_52_53;
+    u8 *r_2b_30;
+    u8 *r_lz_32;
+    u8 *r_ps_5;
+    u64 r_52_65;
     u8 t_0q;
     u64 r_xu;
     u8 *r_xk;
@@ -24044,198 +24173,198 @@ static u64 capnpc_layout_rust_generating_write_entry(u8 *a_1, u8 *a_2, u64 a_3, 
     u64 r_sa;
     u64 r_kj;
     u64 r_87;
-    u8 *r_2b_24;
-    u64 r_s8;
+    u8 *r_2b_31;
+    u64 r_ti_3;
     u64 r_id_3;
-    u64 r_52_56;
-    u8 *r_lz_29;
-    u64 r_q7_2;
-    u64 r_dv_1;
-    u64 r_5q_4;
-    u8 *r_2b_26;
-    u64 r_il_3;
-    u64 r_id_4;
-    u64 r_52_59;
-    u8 *r_lz_30;
-    u64 r_q7_3;
-    u64 r_dv_2;
-    u64 r_5q_5;
-    u8 *r_2b_28;
-    u64 r_il_4;
-    u64 r_id_5;
-    u64 r_52_62;
-    u8 *r_lz_31;
-    u64 r_q7_4;
-    u64 r_dv_3;
-    u64 r_5q_6;
-    u8 *r_2b_30;
-    u64 r_il_5;
-    u64 r_id_6;
-    u64 r_52_65;
-    u8 *r_lz_32;
-    u64 r_q7_5;
-    u64 r_dv_4;
-    u64 r_5q_7;
-    u8 *r_2b_32;
-    u64 r_il_6;
-    u64 r_id_7;
     u64 r_52_68;
     u8 *r_lz_33;
-    u64 r_q7_6;
-    u64 r_dv_5;
-    u64 r_5q_8;
-    u8 *r_2b_34;
-    u64 r_il_7;
-    u64 r_id_8;
+    u64 r_q7_1;
+    u64 r_dv_1;
+    u64 r_5q_6;
+    u8 *r_2b_33;
+    u64 r_il_4;
+    u64 r_id_4;
     u64 r_52_71;
     u8 *r_lz_34;
-    u64 r_q7_7;
-    u64 r_dv_6;
+    u64 r_q7_2;
+    u64 r_dv_2;
+    u64 r_5q_7;
+    u8 *r_2b_35;
+    u64 r_il_5;
+    u64 r_id_5;
+    u64 r_52_74;
+    u8 *r_lz_35;
+    u64 r_q7_3;
+    u64 r_dv_3;
+    u64 r_5q_8;
+    u8 *r_2b_37;
+    u64 r_il_6;
+    u64 r_id_6;
+    u64 r_52_77;
+    u8 *r_lz_36;
+    u64 r_q7_4;
+    u64 r_dv_4;
     u64 r_5q_9;
-    u8 *r_2b_36;
+    u8 *r_2b_39;
+    u64 r_il_7;
+    u64 r_id_7;
+    u64 r_52_80;
+    u8 *r_lz_37;
+    u64 r_q7_5;
+    u64 r_dv_5;
+    u64 r_5q_10;
+    u8 *r_2b_41;
     u64 r_il_8;
+    u64 r_id_8;
+    u64 r_52_83;
+    u8 *r_lz_38;
+    u64 r_q7_6;
+    u64 r_dv_6;
+    u64 r_5q_11;
+    u8 *r_2b_43;
+    u64 r_il_9;
     u64 r_av;
     u8 r_w7;
     u8 *r_u5;
-    u64 r_38_40;
+    u64 r_38_50;
     u64 r_iu;
-    u8 *r_a7_19;
+    u8 *r_a7_22;
     u64 r_lj;
     u8 *r_dm;
-    u8 *r_xw_20;
-    u64 r_38_41;
-    u64 r_38_42;
-    u64 r_38_43;
-    u8 r_ix_8;
-    u64 r_dw;
-    u8 r_2p;
-    u64 t_x6;
-    u8 *t_yp;
-    u8 *r_lz_35;
-    u64 r_52_75;
-    u64 r_m1_1;
-    u8 *r_2b_37;
-    u64 r_hb_1;
-    u8 *r_zk;
-    u64 r_iv_2;
-    u8 *r_2b_38;
     u8 *r_xw_21;
-    u64 r_38_44;
-    u64 r_38_45;
-    u64 r_01_9;
-    u8 *r_a7_21;
-    u8 *r_xw_22;
-    u64 r_38_46;
-    u8 *t_x5_3;
-    u8 *r_lz_36;
-    u64 r_52_76;
-    u8 *r_ti_3;
-    u8 *r_v3_2;
-    u8 *r_zd_26;
-    u8 *r_x5_30;
-    u8 *r_lk_19;
-    u64 r_7d_3;
-    u8 *r_2b_39;
-    u8 *r_qj_3;
-    u8 *r_mb_9;
-    u64 r_qw_9;
-    u64 r_52_77;
-    u64 r_1y_9;
-    u8 *r_mb_10;
-    u64 r_qw_10;
-    u8 r_47_9;
-    u8 *r_lz_37;
-    u64 r_52_78;
-    u64 r_1y_10;
-    u64 r_tr_5;
-    u8 *r_30_4;
-    u8 t_ul_4;
-    u8 r_47_10;
-    u8 *r_ph;
-    u64 r_th;
-    u64 r_nu_1;
-    u8 *r_lz_38;
-    u64 r_52_80;
-    u64 r_iv_3;
-    u8 *r_2b_41;
-    u64 r_gp;
-    u8 *r_0v_1;
-    u64 r_38_47;
-    u64 r_01_10;
-    u8 *r_a7_23;
-    u8 *r_xw_23;
-    u64 r_fz_4;
-    u64 r_38_48;
-    u64 r_01_11;
-    u8 *r_a7_24;
-    u8 *r_x5_31;
-    u8 *r_x5_32;
-    u8 *r_x5_33;
-    u8 *r_lz_39;
-    u64 r_52_81;
-    u8 *r_x5_34;
-    u8 *r_zd_27;
-    u64 r_7d_4;
-    u8 *r_2b_42;
-    u8 *r_qj_4;
-    u8 r_2p_1;
-    u8 *r_mb_11;
-    u64 r_qw_11;
-    u64 r_52_82;
-    u64 r_1y_11;
-    u8 *r_mb_12;
-    u64 r_qw_12;
-    u8 r_47_11;
-    u8 *r_lz_40;
-    u64 r_52_83;
-    u64 r_1y_12;
-    u64 r_tr_6;
-    u8 *r_30_5;
-    u8 t_ul_5;
-    u8 r_47_12;
-    u8 *r_xw_24;
-    u64 r_38_49;
-    u64 r_38_50;
-    u64 r_m1_2;
-    u8 *r_2b_43;
-    u8 t_pa;
-    u8 r_47_13;
-    u8 t_gp;
-    u8 *r_3p;
-    u64 r_qu;
-    u64 r_01_12;
-    u8 *r_a7_25;
-    u64 r_nz;
-    u64 r_rc;
-    u64 r_ln;
-    u8 *r_xa;
-    u8 r_ix_9;
-    u8 *r_zd_28;
-    u8 *r_x5_35;
-    u64 r_8o;
-    u64 r_w7_1;
-    u8 *r_xw_25;
     u64 r_38_51;
     u64 r_38_52;
     u64 r_38_53;
     u8 r_ix_10;
-    u64 r_ku;
-    u64 r_w7_2;
-    u8 *r_xw_26;
+    u64 r_uq;
+    u8 r_2p;
+    u64 t_z2;
+    u8 *t_kg;
+    u8 *r_lz_39;
+    u64 r_52_87;
+    u64 r_m1_1;
+    u8 *r_2b_44;
+    u64 r_hb;
+    u8 *r_zk;
+    u64 r_iv_4;
+    u8 *r_2b_45;
+    u8 *r_xw_22;
     u64 r_38_54;
     u64 r_38_55;
+    u64 r_01_10;
+    u8 *r_a7_24;
+    u8 *r_xw_23;
     u64 r_38_56;
-    u8 r_ix_11;
-    u64 r_7f;
-    u8 r_ew;
+    u8 *t_x5_3;
+    u8 *r_lz_40;
+    u64 r_52_88;
+    u8 *r_ti_4;
+    u8 *r_v3_2;
+    u8 *r_zd_31;
+    u8 *r_x5_34;
+    u8 *r_lk_22;
+    u64 r_7d_3;
+    u8 *r_2b_46;
+    u8 *r_qj_5;
+    u8 *r_mb_11;
+    u64 r_qw_11;
+    u64 r_52_89;
+    u64 r_1y_11;
+    u8 *r_mb_12;
+    u64 r_qw_12;
+    u8 r_47_12;
     u8 *r_lz_41;
-    u64 r_52_85;
-    u64 r_iv_4;
-    u8 *r_2b_44;
-    u8 r_ay_1;
-    u8 *r_x5_36;
+    u64 r_52_90;
+    u64 r_1y_12;
+    u64 r_tr_6;
+    u8 *r_30_5;
+    u8 t_ul_5;
+    u8 r_47_13;
+    u8 *r_ph;
+    u64 r_th;
+    u64 r_8a_1;
+    u8 *r_lz_42;
+    u64 r_52_92;
     u64 r_iv_5;
-    u8 *r_2b_45;
+    u8 *r_2b_48;
+    u64 r_sd;
+    u8 *r_to;
+    u64 r_38_57;
+    u64 r_01_11;
+    u8 *r_a7_26;
+    u8 *r_xw_24;
+    u64 r_fz_4;
+    u64 r_38_58;
+    u64 r_01_12;
+    u8 *r_a7_27;
+    u8 *r_x5_35;
+    u8 *r_x5_36;
+    u8 *r_x5_37;
+    u8 *r_lz_43;
+    u64 r_52_93;
+    u8 *r_x5_38;
+    u8 *r_zd_32;
+    u64 r_7d_4;
+    u8 *r_2b_49;
+    u8 *r_qj_6;
+    u8 r_2p_1;
+    u8 *r_mb_13;
+    u64 r_qw_13;
+    u64 r_52_94;
+    u64 r_1y_13;
+    u8 *r_mb_14;
+    u64 r_qw_14;
+    u8 r_47_14;
+    u8 *r_lz_44;
+    u64 r_52_95;
+    u64 r_1y_14;
+    u64 r_tr_7;
+    u8 *r_30_6;
+    u8 t_ul_6;
+    u8 r_47_15;
+    u8 *r_xw_25;
+    u64 r_38_59;
+    u64 r_38_60;
+    u64 r_m1_2;
+    u8 *r_2b_50;
+    u8 t_pa;
+    u8 r_47_16;
+    u8 t_gp;
+    u8 *r_3p;
+    u64 r_qu;
+    u64 r_01_13;
+    u8 *r_a7_28;
+    u64 r_nz;
+    u64 r_rc;
+    u64 r_ln;
+    u8 *r_xa;
+    u8 r_ix_11;
+    u8 *r_zd_33;
+    u8 *r_x5_39;
+    u64 r_sk;
+    u64 r_w7_1;
+    u8 *r_xw_26;
+    u64 r_38_61;
+    u64 r_38_62;
+    u64 r_38_63;
+    u8 r_ix_12;
+    u64 r_o9;
+    u64 r_w7_2;
+    u8 *r_xw_27;
+    u64 r_38_64;
+    u64 r_38_65;
+    u64 r_38_66;
+    u8 r_ix_13;
+    u64 r_8v;
+    u8 r_ew;
+    u8 *r_lz_45;
+    u64 r_52_97;
+    u64 r_iv_6;
+    u8 *r_2b_51;
+    u8 r_ay_1;
+    u8 *r_x5_40;
+    u64 r_iv_7;
+    u8 *r_2b_52;
     u64 r_jy;
     u8 *r_a9;
     u8 *r_ij_1;
@@ -24243,358 +24372,374 @@ static u64 capnpc_layout_rust_generating_write_entry(u8 *a_1, u8 *a_2, u64 a_3, 
     u8 *t_2b;
     u64 common_ay;
     u8 *r_c0;
-    u8 r_47_14;
+    u8 r_47_17;
     u32 r_cf_2;
-    u32 r_to;
     u32 r_to_1;
+    u32 r_to_2;
     u32 r_at;
     u64 r_j8;
-    u8 *r_zd_29;
-    u64 r_38_57;
+    u8 *r_zd_34;
+    u64 r_38_67;
     u64 r_eu;
-    u8 *r_2b_46;
-    u64 r_2c;
+    u8 *r_2b_53;
+    u64 r_tt;
     u64 r_63;
     u64 r_nm;
-    u64 r_q7_8;
+    u64 r_q7_7;
     u64 r_dv_7;
-    u64 r_5q_10;
-    u8 *r_2b_47;
-    u64 r_il_9;
+    u64 r_5q_12;
+    u8 *r_2b_54;
+    u64 r_il_10;
     u64 r_q2;
-    u64 r_0t_1;
+    u64 r_0t;
     u64 r_r1_1;
     u64 r_68;
     u64 r_hc_1;
-    u8 *r_2b_48;
-    u64 r_u2;
-    u8 *r_xw_27;
-    u64 r_38_59;
-    u64 r_38_60;
-    u64 r_38_61;
-    u8 r_ix_12;
-    u8 *r_ua;
-    u64 r_es;
-    u8 *r_2f;
-    u8 *r_x5_37;
-    u8 *r_x5_38;
-    u8 *r_x5_39;
-    u8 *r_lz_42;
-    u64 r_52_86;
-    u8 *r_9r_2;
-    u8 *r_x5_40;
-    u8 *r_zd_30;
-    u8 *r_lk_20;
-    u8 *r_zd_31;
-    u8 *r_x5_41;
-    u8 *r_lk_21;
-    u64 r_7d_5;
-    u8 *r_2b_49;
-    u8 *r_qj_5;
-    u8 *r_mb_13;
-    u64 r_qw_13;
-    u64 r_52_87;
-    u64 r_1y_13;
-    u8 *r_mb_14;
-    u64 r_qw_14;
-    u8 r_47_15;
-    u8 *r_lz_43;
-    u64 r_52_88;
-    u64 r_1y_14;
-    u64 r_tr_7;
-    u8 *r_30_6;
-    u8 t_ul_6;
-    u8 r_47_16;
+    u8 *r_2b_55;
+    u64 r_8x;
     u8 *r_xw_28;
-    u64 r_38_62;
-    u64 r_38_63;
-    u64 r_38_64;
-    u8 r_ix_13;
-    u64 r_xw_29;
-    u8 t_0q_1;
-    u8 *r_lz_44;
-    u64 r_52_90;
-    u64 r_iv_6;
-    u8 *r_2b_50;
-    u64 r_70;
-    u8 *r_pq;
-    u8 *static_aq;
-    u64 sink_bs;
-    u8 *static_zp;
-    u64 sink_5w;
-    u8 *r_gc;
-    u64 r_00;
-    u64 r_38_65;
-    u64 r_01_13;
-    u8 *r_a7_31;
-    u8 *r_xw_30;
-    u64 r_38_66;
-    u64 r_38_67;
-    u64 r_38_68;
-    u8 r_ix_14;
-    u8 *r_zd_32;
-    u8 *r_x5_43;
-    u64 r_xw_31;
-    u8 *r_xw_32;
     u64 r_38_69;
     u64 r_38_70;
     u64 r_38_71;
-    u8 r_ix_15;
-    u64 r_8o_1;
-    u64 r_w7_3;
-    u8 *r_xw_33;
+    u8 r_ix_14;
+    u8 *r_ry;
+    u64 r_ay_2;
+    u8 *r_2f;
+    u8 *r_x5_41;
+    u8 *r_x5_42;
+    u8 *r_x5_43;
+    u8 *r_lz_46;
+    u64 r_52_98;
+    u8 *r_9r_3;
+    u8 *r_x5_44;
+    u8 *r_zd_35;
+    u8 *r_lk_23;
+    u8 *r_zd_36;
+    u8 *r_x5_45;
+    u8 *r_lk_24;
+    u8 *r_x5_46;
+    u8 *r_zd_37;
+    u8 *r_lk_25;
+    u8 *r_lk_26;
+    u8 *r_zd_38;
+    u64 r_7d_5;
+    u8 *r_2b_56;
+    u8 *r_qj_7;
+    u8 *r_mb_15;
+    u64 r_qw_15;
+    u64 r_52_99;
+    u64 r_1y_15;
+    u8 *r_mb_16;
+    u64 r_qw_16;
+    u8 r_47_18;
+    u8 *r_lz_47;
+    u64 r_52_100;
+    u64 r_1y_16;
+    u64 r_tr_8;
+    u8 *r_30_7;
+    u8 t_ul_7;
+    u8 r_47_19;
+    u8 *r_xw_29;
     u64 r_38_72;
     u64 r_38_73;
     u64 r_38_74;
-    u8 r_ix_16;
-    u64 r_ku_1;
-    u64 r_w7_4;
-    u8 *r_xw_34;
+    u8 r_ix_15;
+    u64 r_1k_4;
+    u8 t_0q_1;
+    u8 *r_lz_48;
+    u64 r_iv_8;
+    u8 *r_2b_57;
+    u8 *static_0h;
+    u64 sink_tw;
+    u8 *static_kc;
+    u64 sink_yg;
+    u8 *static_lf;
+    u64 sink_3a;
+    u8 *r_qj_8;
+    u64 r_3p_1;
+    u64 r_52_102;
+    u8 *r_2f_1;
+    u8 *r_lz_49;
+    u64 r_q7_8;
+    u64 r_dv_8;
+    u64 r_5q_13;
+    u8 *r_2b_58;
+    u64 r_il_11;
+    u8 r_ql;
+    u8 *r_xw_30;
     u64 r_38_75;
     u64 r_38_76;
-    u64 r_38_77;
-    u8 r_ix_17;
-    u64 r_7f_1;
-    u8 *r_55;
-    u64 r_83;
-    u64 r_38_78;
     u64 r_01_14;
-    u8 *r_a7_36;
-    u8 *r_xw_35;
+    u8 *r_a7_34;
+    u8 *r_xw_31;
+    u64 r_38_77;
+    u64 r_38_78;
     u64 r_38_79;
+    u8 r_ix_16;
+    u8 *r_zd_39;
+    u8 *r_x5_48;
+    u64 r_1k_5;
+    u64 r_k7;
+    u8 *r_xw_32;
     u64 r_38_80;
-    u64 r_01_15;
-    u8 *r_a7_37;
-    u8 *r_xw_36;
     u64 r_38_81;
     u64 r_38_82;
-    u64 r_01_16;
-    u8 *r_a7_38;
-    u8 *r_xw_37;
+    u8 r_ix_17;
+    u64 r_sk_1;
+    u64 r_w7_3;
+    u8 *r_xw_33;
     u64 r_38_83;
     u64 r_38_84;
-    u64 r_01_17;
-    u8 *r_a7_39;
-    u8 *r_xw_38;
-    u8 *r_lz_46;
-    u64 r_52_93;
-    u8 *r_2f_1;
-    u8 *r_xw_39;
+    u64 r_38_85;
+    u8 r_ix_18;
+    u64 r_o9_1;
+    u64 r_w7_4;
+    u8 *r_xw_34;
     u64 r_38_86;
     u64 r_38_87;
-    u64 r_01_18;
-    u8 *r_a7_40;
-    u8 *r_x5_44;
-    u8 *r_zd_33;
-    u64 r_wq_1;
-    u8 *r_xw_40;
     u64 r_38_88;
+    u8 r_ix_19;
+    u64 r_8v_1;
+    u8 *r_g5;
+    u64 r_8v_2;
     u64 r_38_89;
-    u8 *r_x5_45;
-    u8 *r_x5_46;
-    u8 *r_x5_47;
-    u8 *r_lk_22;
-    u8 r_ts_1;
-    u8 *r_x5_48;
-    u8 *r_x5_49;
-    u8 *r_zd_34;
-    u8 *r_lk_23;
-    u8 *r_zd_35;
-    u8 *r_lk_24;
-    u8 *r_ti_4;
-    u8 *r_v3_3;
-    u8 *r_xw_41;
+    u64 r_01_15;
+    u8 *r_a7_39;
+    u8 *r_xw_35;
     u64 r_38_90;
-    u64 r_1a;
-    u64 r_6l;
-    u8 *r_2b_52;
-    u8 *r_ny;
-    u64 r_px;
-    u64 r_iv_7;
-    u8 *r_2b_54;
-    u64 r_81;
-    u8 *r_jp;
-    u8 *r_xw_42;
     u64 r_38_91;
+    u64 r_01_16;
+    u8 *r_a7_40;
+    u8 *r_xw_36;
     u64 r_38_92;
     u64 r_38_93;
-    u8 r_ix_18;
-    u64 r_06;
-    u8 *r_7u;
-    u64 r_s3;
-    u8 *r_lz_47;
-    u64 r_52_95;
-    u64 r_iv_8;
-    u8 *r_2b_56;
-    u64 r_c8;
-    u8 *r_ff;
+    u64 r_01_17;
+    u8 *r_a7_41;
+    u8 *r_xw_37;
     u64 r_38_94;
-    u64 r_01_19;
-    u8 *r_a7_42;
-    u64 r_ng;
-    u64 r_bw_1;
-    u64 r_67;
-    u8 *r_pi;
     u64 r_38_95;
-    u8 r_ix_19;
-    u8 *r_zd_36;
-    u8 *r_x5_50;
-    u64 r_f1;
-    u64 r_w7_5;
-    u8 *r_xw_43;
-    u64 r_38_96;
+    u64 r_01_18;
+    u8 *r_a7_42;
+    u8 *r_xw_38;
+    u8 *r_lz_51;
+    u64 r_52_106;
+    u8 *r_2f_2;
+    u8 *r_xw_39;
     u64 r_38_97;
     u64 r_38_98;
-    u8 r_ix_20;
-    u64 r_2f_2;
-    u64 r_w7_6;
-    u8 *r_xw_44;
+    u64 r_01_19;
+    u8 *r_a7_43;
+    u8 *r_x5_49;
+    u8 *r_zd_40;
+    u64 r_wq_1;
+    u8 *r_xw_40;
     u64 r_38_99;
     u64 r_38_100;
+    u8 *r_x5_50;
+    u8 *r_x5_51;
+    u8 *r_x5_52;
+    u8 *r_lk_27;
+    u8 r_ts;
+    u8 *r_x5_53;
+    u8 *r_x5_54;
+    u8 *r_zd_41;
+    u8 *r_lk_28;
+    u8 *r_zd_42;
+    u8 *r_lk_29;
+    u8 *r_ti_5;
+    u8 *r_v3_3;
+    u8 *r_xw_41;
     u64 r_38_101;
-    u8 r_ix_21;
-    u64 r_xb;
-    u64 r_iu_1;
-    u8 *r_a7_46;
-    u8 *r_xw_45;
+    u64 r_1a;
+    u64 r_6l;
+    u8 *r_2b_60;
+    u8 *r_5m;
+    u64 r_n7;
+    u64 r_iv_9;
+    u8 *r_2b_62;
+    u64 r_8b;
+    u8 *r_sa_1;
+    u8 *r_xw_42;
     u64 r_38_102;
     u64 r_38_103;
+    u64 r_38_104;
+    u8 r_ix_20;
+    u64 r_j0;
+    u8 *r_7u;
+    u64 r_s3;
+    u8 *r_lz_52;
+    u64 r_52_108;
+    u64 r_iv_10;
+    u8 *r_2b_64;
+    u64 r_lp;
+    u8 *r_4r;
+    u64 r_38_105;
     u64 r_01_20;
-    u8 *r_a7_47;
+    u8 *r_a7_45;
+    u64 r_ng;
+    u64 r_bw_1;
+    u64 r_67_1;
+    u8 *r_pi;
+    u64 r_38_106;
+    u8 r_ix_21;
+    u8 *r_zd_43;
+    u8 *r_x5_55;
+    u64 r_vc_1;
+    u64 r_w7_5;
+    u8 *r_xw_43;
+    u64 r_38_107;
+    u64 r_38_108;
+    u64 r_38_109;
+    u8 r_ix_22;
+    u64 r_k4;
+    u64 r_w7_6;
+    u8 *r_xw_44;
+    u64 r_38_110;
+    u64 r_38_111;
+    u64 r_38_112;
+    u8 r_ix_23;
+    u64 r_fq;
+    u64 r_iu_1;
+    u8 *r_a7_49;
+    u8 *r_xw_45;
+    u64 r_38_113;
+    u64 r_38_114;
+    u64 r_01_21;
+    u8 *r_a7_50;
     u8 *r_xw_46;
-    u8 *r_9r_3;
-    u8 *r_uq;
+    u8 *r_9r_4;
+    u8 *r_uq_1;
     u8 *r_rv_1;
-    u64 r_qw_15;
-    u8 *r_mb_15;
-    u64 r_qw_16;
-    u64 r_1y_15;
+    u64 r_qw_17;
+    u8 *r_mb_17;
+    u64 r_qw_18;
+    u64 r_1y_17;
     u8 *r_ud;
-    u8 *r_x5_51;
+    u8 *r_x5_56;
     u32 r_5k;
     u8 *r_u1;
     u8 *r_6e;
     u8 *r_xw_47;
-    u64 r_38_105;
-    u64 r_38_106;
-    u64 r_38_107;
-    u8 r_ix_22;
-    u8 *r_zd_37;
-    u8 *r_x5_52;
-    u64 r_hw;
-    u8 *r_lz_48;
-    u64 r_52_97;
-    u8 *r_lz_49;
-    u64 r_52_98;
-    u64 r_iv_9;
-    u8 *r_2b_57;
-    u64 r_ly_1;
-    u8 *r_xb_1;
+    u64 r_38_116;
+    u64 r_38_117;
+    u64 r_38_118;
+    u8 r_ix_24;
+    u8 *r_zd_44;
+    u8 *r_x5_57;
+    u64 r_ol;
+    u8 *r_lz_53;
+    u64 r_52_110;
+    u8 *r_lz_54;
+    u64 r_52_111;
+    u64 r_iv_11;
+    u8 *r_2b_65;
+    u64 r_ly;
+    u8 *r_xb;
     u8 *r_2f_3;
     u32 r_5k_2;
-    u8 *r_lz_50;
-    u64 r_52_99;
-    u8 *r_x5_53;
-    u8 *r_zd_38;
-    u8 *r_lk_25;
+    u8 *r_lz_55;
+    u64 r_52_112;
+    u8 *r_x5_58;
+    u8 *r_zd_45;
+    u8 *r_lk_30;
     u64 r_k0;
-    u8 *r_2b_58;
-    u64 r_52_100;
+    u8 *r_2b_66;
+    u64 r_52_113;
     u64 r_b4;
     u64 r_ky_1;
     u64 r_x4;
-    u8 *r_2b_59;
+    u8 *r_2b_67;
     u64 r_rc_1;
     u64 r_rh;
     u64 r_hg;
-    u8 *r_je_1;
-    u8 *r_x5_54;
-    u8 *r_zd_39;
-    u8 *r_lk_26;
+    u8 *r_je;
+    u8 *r_x5_59;
+    u8 *r_zd_46;
+    u8 *r_lk_31;
     u64 r_qn;
     u64 r_id_9;
     u64 r_b4_1;
     u64 r_ky_2;
     u64 r_x4_1;
-    u8 *r_2b_60;
+    u8 *r_2b_68;
     u64 r_rc_2;
-    u64 r_c4_16;
+    u64 r_c4_19;
     u8 *r_jw;
     u64 r_l3;
     u64 r_d5;
     u8 *r_xw_48;
-    u64 r_38_108;
-    u64 r_38_109;
-    u64 r_38_110;
-    u8 r_ix_23;
-    u8 *r_3j;
-    u64 r_zy;
-    u8 *r_xw_49;
-    u64 r_38_111;
-    u64 r_38_112;
-    u64 r_01_21;
-    u8 *r_a7_50;
-    u64 r_qw_20;
-    u8 *r_rv_2;
-    u64 r_qw_21;
-    u8 *r_fh;
-    u64 r_6u;
-    u64 r_do;
-    u64 r_oo;
-    u8 *r_as;
-    u8 *r_xw_50;
-    u64 r_38_113;
-    u64 r_38_114;
-    u64 r_38_115;
-    u8 r_ix_24;
-    u64 r_up;
-    u64 r_2p_4;
-    u8 *r_xw_51;
-    u64 r_38_116;
-    u64 r_38_117;
-    u64 r_38_118;
-    u8 r_ix_25;
-    u64 r_vc;
-    u64 r_jw_1;
-    u8 *r_xw_52;
     u64 r_38_119;
     u64 r_38_120;
     u64 r_38_121;
+    u8 r_ix_25;
+    u8 *r_o1;
+    u64 r_4h_1;
+    u8 *r_xw_49;
+    u64 r_38_122;
+    u64 r_38_123;
+    u64 r_01_22;
+    u8 *r_a7_53;
+    u64 r_qw_22;
+    u8 *r_rv_2;
+    u64 r_qw_23;
+    u8 *r_jt;
+    u64 r_ry_1;
+    u64 r_hy;
+    u64 r_xq;
+    u8 *r_mi;
+    u8 *r_xw_50;
+    u64 r_38_124;
+    u64 r_38_125;
+    u64 r_38_126;
     u8 r_ix_26;
-    u64 r_sk;
+    u64 r_7i_1;
+    u64 r_2p_4;
+    u8 *r_xw_51;
+    u64 r_38_127;
+    u64 r_38_128;
+    u64 r_38_129;
+    u8 r_ix_27;
+    u64 r_h8;
+    u64 r_jw_1;
+    u8 *r_xw_52;
+    u64 r_38_130;
+    u64 r_38_131;
+    u64 r_38_132;
+    u8 r_ix_28;
+    u64 r_za;
     u8 *r_hd;
     u64 r_2n;
-    u8 *r_mb_19;
-    u64 r_qw_23;
-    u64 r_1y_16;
-    u64 r_tr_8;
-    u8 *r_2b_61;
-    u8 *r_lz_51;
-    u64 r_52_106;
-    u8 *r_x5_56;
-    u8 *r_zd_40;
+    u8 *r_mb_21;
+    u64 r_qw_25;
+    u64 r_1y_18;
+    u64 r_tr_9;
+    u8 *r_2b_69;
+    u8 *r_lz_56;
+    u64 r_52_119;
+    u8 *r_x5_61;
+    u8 *r_zd_47;
     u64 r_wq_2;
-    u64 r_38_122;
+    u64 r_38_133;
     u8 *r_xw_53;
-    u64 r_38_123;
-    u8 *r_2b_63;
-    u64 r_52_107;
+    u64 r_38_134;
+    u8 *r_2b_71;
+    u64 r_52_120;
     u64 r_iu_2;
-    u8 *r_a7_54;
+    u8 *r_a7_57;
     u64 r_iu_3;
-    u8 *r_a7_55;
-    u8 *r_lz_52;
-    u64 r_52_108;
+    u8 *r_a7_58;
+    u8 *r_lz_57;
+    u64 r_52_121;
     u64 r_m1_3;
-    u8 *r_2b_64;
-    u8 *r_lz_54;
-    u64 r_52_111;
-    u8 *r_zd_42;
+    u8 *r_2b_72;
+    u8 *r_lz_59;
+    u64 r_52_124;
+    u8 *r_zd_49;
     u64 r_c3_2;
     u64 r_cf_3;
-    u64 r_5q_11;
-    u8 *r_lz_55;
-    u8 *r_2b_65;
+    u64 r_5q_14;
+    u8 *r_lz_60;
+    u8 *r_2b_73;
     u8 *r_b8;
     u8 *r_ab;
     u64 r_n0;
@@ -24602,34 +24747,34 @@ static u64 capnpc_layout_rust_generating_write_entry(u8 *a_1, u8 *a_2, u64 a_3, 
     u64 r_rp;
     u8 *r_qg;
     u8 *r_c2;
-    u64 r_il_10;
-    u8 *r_rk;
+    u64 r_il_12;
+    u8 *r_rk_1;
     u64 r_hx;
     u64 r_rf;
-    u8 *r_hw_1;
-    u64 r_iv_10;
-    u8 *r_2b_66;
+    u8 *r_hw;
+    u64 r_iv_12;
+    u8 *r_2b_74;
     u64 r_3c;
     u8 *r_aa;
-    u64 r_38_124;
-    u64 r_01_22;
-    u8 *r_a7_56;
+    u64 r_38_135;
+    u64 r_01_23;
+    u8 *r_a7_59;
     u8 *r_xw_54;
     u64 r_ib;
     u8 *r_ky;
-    u8 *r_mb_20;
-    u64 r_qw_24;
-    u64 r_52_114;
+    u8 *r_mb_22;
+    u64 r_qw_26;
+    u64 r_52_127;
     u64 r_ls;
     u64 r_yt;
     u64 r_w4_2;
     u64 r_61_2;
-    u8 *r_x5_57;
-    u8 *r_zd_43;
-    u64 r_38_127;
+    u8 *r_x5_62;
+    u8 *r_zd_50;
+    u64 r_38_138;
     u64 r_n2;
-    u8 *r_2b_67;
-    u64 r_bn;
+    u8 *r_2b_75;
+    u64 r_mj;
     u64 r_cl;
     u64 common_p0;
     memset(slot_17, 0u, 40);
@@ -24681,16 +24826,16 @@ l_arm_aj:;
     stp(slot_10, slot_1);
     r_zn = away(r_2b, 16ull);
     r_3q = away(r_2b, 24ull);
-    capnpc_schema_text_Values_put(slot_10, ((u8 *)g_static_144), 4ull, ldp(r_zn), ld64(r_3q));
+    capnpc_schema_text_Values_put(slot_10, ((u8 *)g_static_145), 4ull, ldp(r_zn), ld64(r_3q));
     r_be = away(r_2b, 88ull);
     r_x1 = away(r_2b, 96ull);
-    capnpc_schema_text_Values_put(slot_10, ((u8 *)g_static_145), 4ull, ldp(r_be), ld64(r_x1));
+    capnpc_schema_text_Values_put(slot_10, ((u8 *)g_static_146), 4ull, ldp(r_be), ld64(r_x1));
     r_39 = away(r_2b, 64ull);
     r_9b = away(r_2b, 72ull);
-    capnpc_schema_text_Values_put(slot_10, ((u8 *)g_static_146), 3ull, ldp(r_39), ld64(r_9b));
+    capnpc_schema_text_Values_put(slot_10, ((u8 *)g_static_147), 3ull, ldp(r_39), ld64(r_9b));
     mv32(slot_13, slot_10);
     u8 r_qh = (a_4 == 0ull);
-    capnpc_schema_text_Values_put(slot_13, ((u8 *)g_static_147), 5ull, (r_qh ? ((u8 *)g_static_148) : ((u8 *)g_static_120)), (r_qh ? 35ull : 0ull));
+    capnpc_schema_text_Values_put(slot_13, ((u8 *)g_static_148), 5ull, (r_qh ? ((u8 *)g_static_149) : ((u8 *)g_static_120)), (r_qh ? 35ull : 0ull));
     memset(slot_6, 0u, 32);
     memset(slot_7, 0u, 32);
     memset(slot_8, 0u, 32);
@@ -24747,7 +24892,7 @@ l_join_ga:;
     r_2b_1 = away(r_lz, (r_y3 * 208ull));
     r_qj = away(r_2b_1, 128ull);
     switch (ld8(r_qj)) {
-    case 2u: { r_hc = ((u8 *)g_static_150); r_8e = 19ull; goto l_then_6a; }
+    case 2u: { r_hc = ((u8 *)g_static_151); r_8e = 19ull; goto l_then_6a; }
     case 0u: goto l_arm_d2;
     case 1u: goto l_arm_un;
     default: goto l_noarm_e1_1;
@@ -24756,12 +24901,12 @@ l_arm_d2:;
     r_mb = ldp(a_1);
     r_qw = ld64(r_e7);
     r_52_3 = ld64(away(r_2b_1, 136ull));
-    if (r_qw == 0ull) { r_hc = ((u8 *)g_static_151); r_8e = 20ull; goto l_then_6a; }
+    if (r_qw == 0ull) { r_hc = ((u8 *)g_static_152); r_8e = 20ull; goto l_then_6a; }
     r_1y = 0ull;
     goto l_join_v4;
 l_loop_xi:;
     u64 r_36 = (r_1y + 1ull);
-    if (r_36 == r_qw) { r_hc = ((u8 *)g_static_151); r_8e = 20ull; goto l_then_6a; }
+    if (r_36 == r_qw) { r_hc = ((u8 *)g_static_152); r_8e = 20ull; goto l_then_6a; }
     r_1y = r_36;
 l_join_v4:;
     if (ld64(away(r_mb, (r_1y * 280ull))) == r_52_3) goto l_else_8d;
@@ -24770,7 +24915,7 @@ l_arm_un:;
     r_mb_1 = ldp(a_1);
     r_qw_1 = ld64(r_e7);
     r_47 = ld8(away(r_2b_1, 168ull));
-    if (r_47 == 4u) { r_hc = ((u8 *)g_static_152); r_8e = 28ull; goto l_then_6a; }
+    if (r_47 == 4u) { r_hc = ((u8 *)g_static_153); r_8e = 28ull; goto l_then_6a; }
     r_lz_1 = ldp(away(r_2b_1, 152ull));
     r_52_4 = ld64(away(r_2b_1, 160ull));
     if (r_qw_1 == 0ull) { r_30 = ((u8 *)0); t_ul = 1u; goto l_capnpc_wg; }
@@ -24802,18 +24947,18 @@ l_capnpc_wg:;
     default: goto l_noarm_e1_2;
     }
 l_arm_jt:;
-    if (t_ul) { r_hc = ((u8 *)g_static_153); r_8e = 21ull; goto l_then_6a; }
+    if (t_ul) { r_hc = ((u8 *)g_static_154); r_8e = 21ull; goto l_then_6a; }
     goto l_then_jh;
 l_arm_4d:;
-    if (t_ul) { r_hc = ((u8 *)g_static_154); r_8e = 19ull; goto l_then_6a; }
+    if (t_ul) { r_hc = ((u8 *)g_static_155); r_8e = 19ull; goto l_then_6a; }
     if (ld8(away(r_30, 184ull)) == 2u) goto l_then_jh;
-    r_hc = ((u8 *)g_static_154);
+    r_hc = ((u8 *)g_static_155);
     r_8e = 19ull;
     goto l_then_6a;
 l_noarm_e1_2:;
     UNREACHABLE();
 l_then_jh:;
-    if ((u8)((u8)(r_47 == 3u) & (u8)((u8)(r_47_1 + 247u) < 2u)) ? (ld32(away(r_2b_1, 144ull)) == 0u) : 0u) { r_hc = ((u8 *)g_static_155); r_8e = 48ull; goto l_then_6a; }
+    if ((u8)((u8)(r_47 == 3u) & (u8)((u8)(r_47_1 + 247u) < 2u)) ? (ld32(away(r_2b_1, 144ull)) == 0u) : 0u) { r_hc = ((u8 *)g_static_156); r_8e = 48ull; goto l_then_6a; }
     goto l_else_8d;
 l_noarm_e1_1:;
     UNREACHABLE();
@@ -24866,7 +25011,7 @@ l_capnpc_nc:;
     u64 r_52_10 = ld64(r_x5_4);
     stp(slot_2, r_lz_4);
     st64(r_x5_6, r_52_10);
-    stp(r_zd_6, ((u8 *)g_static_157));
+    stp(r_zd_6, ((u8 *)g_static_158));
     st64(r_lk_5, 16ull);
     stp(r_89_1, r_hc);
     st64(r_a8_1, r_8e);
@@ -24907,7 +25052,7 @@ l_capnpc_z0:;
     u64 r_c4_3 = (r_id_1 + 1ull);
     if (!(r_c4_3 == 4ull)) { r_id_1 = r_c4_3; goto l_join_ge_1; }
     r_52_14 = ld64(r_x5);
-    if (r_52_14 == 0ull) goto l_capnpc_tq;
+    if (r_52_14 == 0ull) goto l_capnpc_gn;
     u64 r_52_15 = ld64(r_zd_2);
     if (!(r_52_15 == r_52_14)) { r_uc = r_52_15; r_jc = r_52_14; goto l_join_1m; }
     u8 r_uc_1 = std_alloc_vec_Vec_grow_amortized_827889bc1b348a11(slot_12, 1ull);
@@ -24920,21 +25065,21 @@ l_join_1m:;
     stp(slot_12, r_lz_7);
     st64(r_x5, (r_jc + 1ull));
     st64(r_zd_2, r_uc);
-    goto l_capnpc_tq;
+    goto l_capnpc_gn;
 l_then_36_1:;
     st8(r_lk_2, 1u);
-l_capnpc_tq:;
+l_capnpc_gn:;
     u8 *r_lz_8 = ldp(r_2b_1);
     u64 r_52_16 = ld64(r_ps_1);
-    stp(slot_5, ((u8 *)g_static_156));
+    stp(slot_5, ((u8 *)g_static_157));
     st64(r_x5_7, 7ull);
     stp(r_zd_7, r_lz_8);
     st64(r_lk_6, r_52_16);
-    stp(r_89_2, ((u8 *)g_static_157));
+    stp(r_89_2, ((u8 *)g_static_158));
     st64(r_a8_2, 16ull);
     stp(r_c4_1, r_hc);
     st64(r_6c_1, r_8e);
-    stp(r_5q, ((u8 *)g_static_158));
+    stp(r_5q, ((u8 *)g_static_159));
     st64(r_1e, 2ull);
     r_id_2 = 0ull;
 l_join_ge_2:;
@@ -24984,21 +25129,21 @@ l_capnpc_oj:;
     capnpc_layout_rust_readers_Schema_field_values(slot_8, a_1, r_2b, r_2b_1, ld64(r_ps));
     mv32(slot_6, slot_8);
     switch (ld8(r_qj)) {
-    case 0u: goto l_arm_3p;
+    case 0u: goto l_arm_wj;
     case 1u: goto l_arm_qw;
     case 2u: goto l_capnpc_tl;
     default: goto l_noarm_e1_3;
     }
-l_arm_3p:;
-    capnpc_schema_text_Values_put_lines(slot_6, ((u8 *)g_static_159), 69ull);
+l_arm_wj:;
+    capnpc_schema_text_Values_put_lines(slot_6, ((u8 *)g_static_160), 69ull);
     capnpc_layout_rust_readers_push_getter(slot_12, r_j6, r_qc, slot_6);
     goto l_capnpc_tl;
 l_arm_qw:;
     r_ti_1 = away(r_2b_1, 144ull);
-    if (!(ld32(r_ti_1) == 0u)) goto l_then_un;
+    if (!(ld32(r_ti_1) == 0u)) goto l_then_a1;
     if (ld8(ldp(away(r_2b_1, 152ull))) == 0u) goto l_capnpc_tl;
-l_then_un:;
-    capnpc_schema_text_Values_put_lines(slot_6, ((u8 *)g_static_160), 24ull);
+l_then_a1:;
+    capnpc_schema_text_Values_put_lines(slot_6, ((u8 *)g_static_161), 24ull);
     capnpc_layout_rust_readers_push_getter(slot_12, r_j6, r_qc, slot_6);
     r_lz_11 = ldp(slot_6);
     r_m1 = ld64(r_x5_3);
@@ -25006,11 +25151,11 @@ l_loop_mq:;
     if (r_m1 == 0ull) goto l_join_nm;
     u64 r_zn_1 = (r_m1 + 0xffffffffffffffffull);
     r_2b_9 = away(r_lz_11, (r_zn_1 * 48ull));
-    u8 r_2i = core_cmp_bytes_equal(ldp(r_2b_9), ld64((r_2b_9 + 8)), ((u8 *)g_static_174), 10ull);
-    if (!r_2i) { r_m1 = r_zn_1; goto l_loop_mq; }
+    u8 r_ld = core_cmp_bytes_equal(ldp(r_2b_9), ld64((r_2b_9 + 8)), ((u8 *)g_static_175), 10ull);
+    if (!r_ld) { r_m1 = r_zn_1; goto l_loop_mq; }
     if (ld64(away(r_2b_9, 24ull)) == 0ull) goto l_join_nm;
     r_52_20 = ld64(r_x5);
-    if (r_52_20 == 0ull) goto l_capnpc_4x;
+    if (r_52_20 == 0ull) goto l_capnpc_01;
     u64 r_52_21 = ld64(r_zd_2);
     if (!(r_52_21 == r_52_20)) { r_uc_2 = r_52_21; r_jc_1 = r_52_20; goto l_join_1m_1; }
     u8 r_uc_3 = std_alloc_vec_Vec_grow_amortized_827889bc1b348a11(slot_12, 1ull);
@@ -25023,20 +25168,20 @@ l_join_1m_1:;
     stp(slot_12, r_lz_12);
     st64(r_x5, (r_jc_1 + 1ull));
     st64(r_zd_2, r_uc_2);
-    goto l_capnpc_4x;
+    goto l_capnpc_01;
 l_then_36_3:;
     st8(r_lk_2, 1u);
-l_capnpc_4x:;
-    capnpc_schema_text_Text_push_filled(slot_12, ((u8 *)g_static_175), 56ull, slot_6);
-    capnpc_schema_text_Values_put_lines(slot_6, ((u8 *)g_static_176), 40ull);
-    capnpc_layout_rust_piece_Piece_push_signature(slot_12, ((u8 *)g_static_162), 18ull, slot_6);
-    capnpc_layout_rust_piece_Piece_push_default(slot_12, ((u8 *)g_static_163), 8ull, slot_6);
-    capnpc_schema_text_Text_push_filled(slot_12, ((u8 *)g_static_177), 36ull, slot_6);
+l_capnpc_01:;
+    capnpc_schema_text_Text_push_filled(slot_12, ((u8 *)g_static_176), 56ull, slot_6);
+    capnpc_schema_text_Values_put_lines(slot_6, ((u8 *)g_static_177), 40ull);
+    capnpc_layout_rust_piece_Piece_push_signature(slot_12, ((u8 *)g_static_163), 18ull, slot_6);
+    capnpc_layout_rust_piece_Piece_push_default(slot_12, ((u8 *)g_static_164), 8ull, slot_6);
+    capnpc_schema_text_Text_push_filled(slot_12, ((u8 *)g_static_178), 36ull, slot_6);
 l_join_nm:;
-    if (!(ld32(r_ti_1) == 0u)) goto l_then_ip;
+    if (!(ld32(r_ti_1) == 0u)) goto l_then_qd;
     if (!((u8)(ld8(ldp(away(r_2b_1, 152ull))) + 250u) < 5u)) goto l_capnpc_tl;
-l_then_ip:;
-    capnpc_schema_text_Values_put_lines(slot_6, ((u8 *)g_static_178), 60ull);
+l_then_qd:;
+    capnpc_schema_text_Values_put_lines(slot_6, ((u8 *)g_static_179), 60ull);
     capnpc_layout_rust_readers_push_has(slot_12, slot_6);
     goto l_capnpc_tl;
 l_noarm_e1_3:;
@@ -25071,42 +25216,42 @@ l_else_q8:;
     r_38_4 = ld64(r_lk);
     r_ix = (u8)(r_38_4 & 1);
     u64 r_52_22 = ld64(r_x5_2);
-    if (!(ld64(r_zd_1) == r_52_22)) { r_xw_2 = r_52_22; goto l_join_yp; }
+    if (!(ld64(r_zd_1) == r_52_22)) { r_1k = r_52_22; goto l_join_34; }
     u8 r_89_3 = std_alloc_vec_Vec_grow_amortized_c7bbd78b6494f746(slot_7);
     if (!r_89_3) goto l_arm_f8;
-    r_xw_2 = ld64(r_x5_2);
-    goto l_join_yp;
+    r_1k = ld64(r_x5_2);
+    goto l_join_34;
 l_arm_f8:;
     if (r_38_3 == 0ull) goto l_join_36;
     rattle_dealloc(r_xw_1);
     goto l_join_36;
-l_join_yp:;
-    u8 *r_a7_1 = (ldp(slot_7) + (i64)((r_xw_2 * 48ull)));
-    stp(r_a7_1, ((u8 *)g_static_149));
+l_join_34:;
+    u8 *r_a7_1 = (ldp(slot_7) + (i64)((r_1k * 48ull)));
+    stp(r_a7_1, ((u8 *)g_static_150));
     st64((r_a7_1 + 8), 3ull);
     stp((r_a7_1 + 16), r_xw_1);
     st64((r_a7_1 + 24), r_38_2);
     st64((r_a7_1 + 32), r_38_3);
     st64((r_a7_1 + 40), r_38_4);
-    st64(r_x5_2, (r_xw_2 + 1ull));
+    st64(r_x5_2, (r_1k + 1ull));
     if (!r_ix) goto l_capnpc_0u;
 l_join_36:;
     st8(r_lk_1, 1u);
 l_capnpc_0u:;
     if (!(ld8(r_qj) == 1u)) goto l_capnpc_tl_1;
-    if (!(ld32(away(r_2b_1, 144ull)) == 0u)) goto l_join_w4;
+    if (!(ld32(away(r_2b_1, 144ull)) == 0u)) goto l_join_yo;
     if (!((u8)(ld8(ldp(away(r_2b_1, 152ull))) + 250u) < 5u)) goto l_capnpc_tl_1;
-l_join_w4:;
-    capnpc_schema_text_Values_put_lines(slot_7, ((u8 *)g_static_245), 144ull);
+l_join_yo:;
+    capnpc_schema_text_Values_put_lines(slot_7, ((u8 *)g_static_246), 144ull);
     capnpc_layout_rust_readers_push_has(slot_12, slot_7);
 l_capnpc_tl_1:;
-    r_xw_3 = ldp(slot_7);
+    r_xw_2 = ldp(slot_7);
     r_38_5 = ld64(r_x5_2);
     r_38_6 = ld64(r_zd_1);
     if (r_38_5 == 0ull) goto l_std_8o_1;
     r_01_1 = 0ull;
 l_join_1a_1:;
-    r_a7_2 = away(r_xw_3, (r_01_1 * 48ull));
+    r_a7_2 = away(r_xw_2, (r_01_1 * 48ull));
     if (ld64((r_a7_2 + 32)) == 0ull) goto l_core_jc_1;
     rattle_dealloc(ldp((r_a7_2 + 16)));
 l_core_jc_1:;
@@ -25114,7 +25259,7 @@ l_core_jc_1:;
     if (!(r_36_6 == r_38_5)) { r_01_1 = r_36_6; goto l_join_1a_1; }
 l_std_8o_1:;
     if (r_38_6 == 0ull) goto l_after_94;
-    rattle_dealloc(r_xw_3);
+    rattle_dealloc(r_xw_2);
 l_after_94:;
     u64 r_36_7 = (r_y3 + 1ull);
     if (!(r_36_7 == r_52_2)) { r_y3 = r_36_7; goto l_join_ga; }
@@ -25123,16 +25268,16 @@ l_after_uw:;
     if (ld16(r_y0) == 0u) goto l_capnpc_f7;
     memset((slot_4 + 8), 0u, 24);
     stp(slot_4, slot_1);
-    capnpc_schema_text_Values_put(slot_4, ((u8 *)g_static_144), 4ull, ldp(r_zn), ld64(r_3q));
-    capnpc_schema_text_Values_put(slot_4, ((u8 *)g_static_145), 4ull, ldp(r_be), ld64(r_x1));
-    capnpc_schema_text_Values_put(slot_4, ((u8 *)g_static_146), 3ull, ldp(r_39), ld64(r_9b));
+    capnpc_schema_text_Values_put(slot_4, ((u8 *)g_static_145), 4ull, ldp(r_zn), ld64(r_3q));
+    capnpc_schema_text_Values_put(slot_4, ((u8 *)g_static_146), 4ull, ldp(r_be), ld64(r_x1));
+    capnpc_schema_text_Values_put(slot_4, ((u8 *)g_static_147), 3ull, ldp(r_39), ld64(r_9b));
     mv32(slot_5, slot_4);
     u8 *r_x5_8 = (slot_2 + 8);
     u64 r_24_1 = (u64)ld32(away(r_2b, 200ull));
     memset(r_x5_8, 0u, 24);
     stp(slot_2, slot_1);
     capnpc_schema_text_Text_push_number(slot_2, r_24_1);
-    r_xw_4 = ldp(slot_2);
+    r_xw_3 = ldp(slot_2);
     r_38_7 = ld64(r_x5_8);
     r_38_8 = ld64((slot_2 + 16));
     r_38_9 = ld64((slot_2 + 24));
@@ -25140,30 +25285,30 @@ l_after_uw:;
     r_zd_8 = (slot_5 + 16);
     r_x5_9 = (slot_5 + 8);
     u64 r_52_23 = ld64(r_x5_9);
-    if (!(ld64(r_zd_8) == r_52_23)) { r_xw_5 = r_52_23; goto l_join_yp_1; }
+    if (!(ld64(r_zd_8) == r_52_23)) { r_1k_1 = r_52_23; goto l_join_34_1; }
     u8 r_89_4 = std_alloc_vec_Vec_grow_amortized_c7bbd78b6494f746(slot_5);
     if (!r_89_4) goto l_arm_f8_1;
-    r_xw_5 = ld64(r_x5_9);
-    goto l_join_yp_1;
+    r_1k_1 = ld64(r_x5_9);
+    goto l_join_34_1;
 l_arm_f8_1:;
     if (r_38_8 == 0ull) goto l_join_4s;
-    rattle_dealloc(r_xw_4);
+    rattle_dealloc(r_xw_3);
     goto l_join_4s;
-l_join_yp_1:;
-    u8 *r_a7_3 = (ldp(slot_5) + (i64)((r_xw_5 * 48ull)));
-    stp(r_a7_3, ((u8 *)g_static_149));
+l_join_34_1:;
+    u8 *r_a7_3 = (ldp(slot_5) + (i64)((r_1k_1 * 48ull)));
+    stp(r_a7_3, ((u8 *)g_static_150));
     st64((r_a7_3 + 8), 3ull);
-    stp((r_a7_3 + 16), r_xw_4);
+    stp((r_a7_3 + 16), r_xw_3);
     st64((r_a7_3 + 24), r_38_7);
     st64((r_a7_3 + 32), r_38_8);
     st64((r_a7_3 + 40), r_38_9);
-    st64(r_x5_9, (r_xw_5 + 1ull));
+    st64(r_x5_9, (r_1k_1 + 1ull));
     if (!r_ix_1) goto l_capnpc_51;
 l_join_4s:;
     st8((slot_5 + 24), 1u);
 l_capnpc_51:;
     struct s_p_i64 r_5v = capnpc_layout_rust_unions_parameters(a_1, r_93);
-    capnpc_schema_text_Values_put(slot_5, ((u8 *)g_static_246), 10ull, r_5v.f0, r_5v.f1);
+    capnpc_schema_text_Values_put(slot_5, ((u8 *)g_static_247), 10ull, r_5v.f0, r_5v.f1);
     r_lz_13 = ldp(r_im);
     r_52_24 = ld64(r_t0);
     if (r_52_24 == 0ull) { r_r1 = 0u; goto l_capnpc_fs; }
@@ -25181,7 +25326,7 @@ l_after_sd:;
     goto l_join_ie;
 l_capnpc_fs:;
     r_52_25 = ld64(r_x5);
-    if (r_52_25 == 0ull) goto l_capnpc_wq;
+    if (r_52_25 == 0ull) goto l_capnpc_xm;
     r_zd_9 = (slot_12 + 16);
     u64 r_52_26 = ld64(r_zd_9);
     if (!(r_52_26 == r_52_25)) { r_uc_4 = r_52_26; r_jc_2 = r_52_25; goto l_join_1m_2; }
@@ -25195,14 +25340,14 @@ l_join_1m_2:;
     stp(slot_12, r_lz_14);
     st64(r_x5, (r_jc_2 + 1ull));
     st64(r_zd_9, r_uc_4);
-    goto l_capnpc_wq;
+    goto l_capnpc_xm;
 l_then_4s:;
     st8((slot_12 + 24), 1u);
-l_capnpc_wq:;
-    capnpc_schema_text_Text_push_filled(slot_12, (r_r1 ? ((u8 *)g_static_247) : ((u8 *)g_static_248)), (r_r1 ? 281ull : 140ull), slot_5);
+l_capnpc_xm:;
+    capnpc_schema_text_Text_push_filled(slot_12, (r_r1 ? ((u8 *)g_static_248) : ((u8 *)g_static_249)), (r_r1 ? 281ull : 140ull), slot_5);
     r_lz_15 = ldp(r_im);
     r_52_27 = ld64(r_t0);
-    if (r_52_27 == 0ull) goto l_after_y3;
+    if (r_52_27 == 0ull) goto l_after_0s;
     r_ps_2 = away(r_2b, 8ull);
     r_zd_10 = (slot_2 + 16);
     r_x5_10 = (slot_2 + 8);
@@ -25286,23 +25431,23 @@ l_then_of:;
     capnpc_layout_rust_readers_Schema_field_values(slot_3, a_1, r_bw, r_2b_11, ld64(r_ps_2));
     mv32(slot_2, slot_3);
     u64 r_52_30 = ld64(r_x5_10);
-    if (!(ld64(r_zd_10) == r_52_30)) { r_nu = r_52_30; goto l_join_ns; }
+    if (!(ld64(r_zd_10) == r_52_30)) { r_8a = r_52_30; goto l_join_66; }
     u8 r_89_5 = std_alloc_vec_Vec_grow_amortized_c7bbd78b6494f746(slot_2);
     if (!r_89_5) goto l_join_36_1;
-    r_nu = ld64(r_x5_10);
-l_join_ns:;
-    u8 *r_a7_4 = (ldp(slot_2) + (i64)((r_nu * 48ull)));
-    stp(r_a7_4, ((u8 *)g_static_253));
+    r_8a = ld64(r_x5_10);
+l_join_66:;
+    u8 *r_a7_4 = (ldp(slot_2) + (i64)((r_8a * 48ull)));
+    stp(r_a7_4, ((u8 *)g_static_254));
     st64((r_a7_4 + 8), 6ull);
     stp((r_a7_4 + 16), slot_1);
     memset((r_a7_4 + 24), 0u, 24);
-    st64(r_x5_10, (r_nu + 1ull));
+    st64(r_x5_10, (r_8a + 1ull));
     goto l_capnpc_zh;
 l_join_36_1:;
     st8(r_lk_7, 1u);
 l_capnpc_zh:;
     switch (ld8(r_qj_1)) {
-    case 0u: { static_3y = ((u8 *)g_static_254); goto l_join_p7; }
+    case 0u: { static_3y = ((u8 *)g_static_255); goto l_join_p7; }
     case 1u: goto l_arm_qw_1;
     default: goto l_then_qu;
     }
@@ -25310,7 +25455,7 @@ l_arm_qw_1:;
     if (!(ld32(away(r_2b_11, 144ull)) == 0u)) goto l_then_qu;
     if (ld8(ldp(away(r_2b_11, 152ull))) == 0u) goto l_join_bh;
 l_then_qu:;
-    static_3y = ((u8 *)g_static_255);
+    static_3y = ((u8 *)g_static_256);
 l_join_p7:;
     capnpc_schema_text_Values_put_lines(slot_2, static_3y, 22ull);
 l_join_bh:;
@@ -25321,24 +25466,24 @@ l_loop_cy:;
     if (r_1t == 0ull) goto l_loop_yz;
     u64 r_zn_2 = (r_1t + 0xffffffffffffffffull);
     r_2b_12 = away(r_lz_17, (r_zn_2 * 48ull));
-    u8 r_oc = core_cmp_bytes_equal(ldp(r_2b_12), ld64((r_2b_12 + 8)), ((u8 *)g_static_169), 5ull);
-    if (!r_oc) { r_1t = r_zn_2; goto l_loop_cy; }
-    if (!(ld64(away(r_2b_12, 24ull)) == 0ull)) goto l_after_lx;
+    u8 r_4h = core_cmp_bytes_equal(ldp(r_2b_12), ld64((r_2b_12 + 8)), ((u8 *)g_static_170), 5ull);
+    if (!r_4h) { r_1t = r_zn_2; goto l_loop_cy; }
+    if (!(ld64(away(r_2b_12, 24ull)) == 0ull)) goto l_after_8s;
 l_loop_yz:;
     r_nw = r_52_31;
 l_loop_47:;
-    if (r_nw == 0ull) goto l_then_so;
+    if (r_nw == 0ull) goto l_then_i1;
     u64 r_zn_3 = (r_nw + 0xffffffffffffffffull);
     r_2b_13 = away(r_lz_17, (r_zn_3 * 48ull));
-    u8 r_4h = core_cmp_bytes_equal(ldp(r_2b_13), ld64((r_2b_13 + 8)), ((u8 *)g_static_170), 5ull);
-    if (!r_4h) { r_nw = r_zn_3; goto l_loop_47; }
-    if (ld64(away(r_2b_13, 24ull)) == 0ull) goto l_then_so;
-    goto l_after_lx;
+    u8 r_04 = core_cmp_bytes_equal(ldp(r_2b_13), ld64((r_2b_13 + 8)), ((u8 *)g_static_171), 5ull);
+    if (!r_04) { r_nw = r_zn_3; goto l_loop_47; }
+    if (ld64(away(r_2b_13, 24ull)) == 0ull) goto l_then_i1;
+    goto l_after_8s;
 l_common_ht:;
     rattle_dealloc(r_lz_17);
     goto l_capnpc_in;
-l_then_so:;
-    capnpc_schema_text_Text_push_filled(slot_12, ((u8 *)g_static_256), 57ull, slot_2);
+l_then_i1:;
+    capnpc_schema_text_Text_push_filled(slot_12, ((u8 *)g_static_257), 57ull, slot_2);
     r_38_10 = ld64(r_zd_10);
     if (r_52_31 == 0ull) goto l_std_nw;
     r_01_2 = 0ull;
@@ -25352,10 +25497,10 @@ l_core_jc_2:;
 l_std_nw:;
     if (r_38_10 == 0ull) goto l_capnpc_in;
     goto l_common_ht;
-l_after_lx:;
-    capnpc_schema_text_Text_push_filled(slot_12, ((u8 *)g_static_257), 26ull, slot_2);
-    capnpc_layout_rust_piece_Piece_push_default(slot_12, ((u8 *)g_static_258), 16ull, slot_2);
-    capnpc_schema_text_Text_push_filled(slot_12, ((u8 *)g_static_259), 62ull, slot_2);
+l_after_8s:;
+    capnpc_schema_text_Text_push_filled(slot_12, ((u8 *)g_static_258), 26ull, slot_2);
+    capnpc_layout_rust_piece_Piece_push_default(slot_12, ((u8 *)g_static_259), 16ull, slot_2);
+    capnpc_schema_text_Text_push_filled(slot_12, ((u8 *)g_static_260), 62ull, slot_2);
     r_38_11 = ld64(r_zd_10);
     if (r_52_31 == 0ull) goto l_std_nw_1;
     r_01_3 = 0ull;
@@ -25372,15 +25517,15 @@ l_capnpc_in:;
 l_after_94_1:;
     u64 r_36_13 = (r_7d_1 + 1ull);
     if (!(r_36_13 == r_52_27)) { r_7d_1 = r_36_13; goto l_join_ie_1; }
-l_after_y3:;
-    capnpc_schema_text_Text_push_filled(slot_12, (r_r1 ? ((u8 *)g_static_249) : ((u8 *)g_static_250)), (r_r1 ? 70ull : 69ull), slot_5);
-    r_xw_6 = ldp(slot_5);
+l_after_0s:;
+    capnpc_schema_text_Text_push_filled(slot_12, (r_r1 ? ((u8 *)g_static_250) : ((u8 *)g_static_251)), (r_r1 ? 70ull : 69ull), slot_5);
+    r_xw_4 = ldp(slot_5);
     r_38_12 = ld64(r_x5_9);
     r_38_13 = ld64(r_zd_8);
     if (r_38_12 == 0ull) goto l_std_ab;
     r_01_4 = 0ull;
 l_join_1a_4:;
-    r_a7_7 = away(r_xw_6, (r_01_4 * 48ull));
+    r_a7_7 = away(r_xw_4, (r_01_4 * 48ull));
     if (ld64((r_a7_7 + 32)) == 0ull) goto l_core_jc_4;
     rattle_dealloc(ldp((r_a7_7 + 16)));
 l_core_jc_4:;
@@ -25388,13 +25533,13 @@ l_core_jc_4:;
     if (!(r_36_14 == r_38_12)) { r_01_4 = r_36_14; goto l_join_1a_4; }
 l_std_ab:;
     if (r_38_13 == 0ull) goto l_capnpc_f8;
-    rattle_dealloc(r_xw_6);
+    rattle_dealloc(r_xw_4);
 l_capnpc_f8:;
 l_capnpc_f7:;
     mv32(slot_14, slot_12);
     stp(slot_12, slot_1);
     memset(r_x5, 0u, 24);
-    r_xw_7 = ldp(slot_14);
+    r_xw_5 = ldp(slot_14);
     r_38_14 = ld64((slot_14 + 16));
     capnpc_layout_rust_docs_push_docs(slot_12, ((u8 *)g_static_120), 0ull, ldp(away(r_2b, 112ull)), ld64(away(r_2b, 120ull)), ldp(r_zn), ld64(r_3q));
     capnpc_schema_text_Text_push_filled(slot_12, ((u8 *)g_static_140), 85ull, slot_13);
@@ -25404,131 +25549,264 @@ l_capnpc_f7:;
     u8 *t_x5 = (slot_2 + 8);
     memset(t_x5, 0u, 24);
     stp(slot_2, slot_1);
-    capnpc_schema_text_Values_put(slot_2, ((u8 *)g_static_144), 4ull, ldp(r_zn), ld64(r_3q));
-    capnpc_schema_text_Values_put(slot_2, ((u8 *)g_static_145), 4ull, ldp(r_be), ld64(r_x1));
-    capnpc_schema_text_Values_put(slot_2, ((u8 *)g_static_146), 3ull, ldp(r_39), ld64(r_9b));
-    capnpc_schema_text_Text_push_filled(slot_12, ((u8 *)g_static_266), 336ull, slot_2);
-    capnpc_schema_text_Values_put_lines(slot_2, ((u8 *)g_static_267), 72ull);
-    capnpc_layout_rust_piece_Piece_push_signature(slot_12, ((u8 *)g_static_268), 29ull, slot_2);
-    capnpc_schema_text_Text_push_filled(slot_12, ((u8 *)g_static_269), 56ull, slot_2);
-    r_xw_8 = ldp(slot_2);
+    capnpc_schema_text_Values_put(slot_2, ((u8 *)g_static_145), 4ull, ldp(r_zn), ld64(r_3q));
+    capnpc_schema_text_Values_put(slot_2, ((u8 *)g_static_146), 4ull, ldp(r_be), ld64(r_x1));
+    capnpc_schema_text_Values_put(slot_2, ((u8 *)g_static_147), 3ull, ldp(r_39), ld64(r_9b));
+    capnpc_schema_text_Text_push_filled(slot_12, ((u8 *)g_static_267), 336ull, slot_2);
+    capnpc_schema_text_Values_put_lines(slot_2, ((u8 *)g_static_268), 72ull);
+    capnpc_layout_rust_piece_Piece_push_signature(slot_12, ((u8 *)g_static_269), 29ull, slot_2);
+    capnpc_schema_text_Text_push_filled(slot_12, ((u8 *)g_static_270), 56ull, slot_2);
+    r_xw_6 = ldp(slot_2);
     r_fz = ld64(t_x5);
     r_38_15 = ld64((slot_2 + 16));
     if (r_fz == 0ull) goto l_std_ab_1;
     r_01_5 = 0ull;
 l_join_1a_5:;
-    r_a7_8 = away(r_xw_8, (r_01_5 * 48ull));
+    r_a7_8 = away(r_xw_6, (r_01_5 * 48ull));
     if (ld64((r_a7_8 + 32)) == 0ull) goto l_core_jc_5;
     rattle_dealloc(ldp((r_a7_8 + 16)));
 l_core_jc_5:;
     u64 r_36_15 = (r_01_5 + 1ull);
     if (!(r_36_15 == r_fz)) { r_01_5 = r_36_15; goto l_join_1a_5; }
 l_std_ab_1:;
-    if (r_38_15 == 0ull) goto l_capnpc_18;
+    if (r_38_15 == 0ull) goto l_capnpc_ic;
+    rattle_dealloc(r_xw_6);
+l_capnpc_ic:;
+    r_x5_11 = (slot_4 + 8);
+    u64 r_52_32 = ld64(r_2b);
+    memset(r_x5_11, 0u, 24);
+    stp(slot_4, slot_1);
+    r_x5_12 = (slot_3 + 8);
+    memset(r_x5_12, 0u, 16);
+    memset((slot_3 + 57), 0u, 7);
+    stp(slot_3, slot_1);
+    r_lk_8 = (slot_3 + 24);
+    r_c4_5 = (slot_3 + 48);
+    st64(r_c4_5, 0ull);
+    st8((slot_3 + 56), 0u);
+    st32(r_lk_8, 32u);
+    st8((slot_3 + 28), 0u);
+    st8((slot_3 + 29), 0u);
+    st8((slot_3 + 30), 0u);
+    st8((slot_3 + 31), 1u);
+    st64((slot_3 + 32), 16ull);
+    st64((slot_3 + 40), 0xffffffffffffffffull);
+    memset(slot_2, 0u, 64);
+    r_sn = r_52_32;
+    r_zl = 64ull;
+l_loop_ji:;
+    if (r_zl == 0ull) { r_p8 = 0ull; goto l_core_g1; }
+    u64 r_0f = (r_zl + 0xffffffffffffffffull);
+    u64 r_ys = (r_sn & 15ull);
+    u8 r_qb = (u8)r_ys;
+    st8((slot_2 + (i64)(r_0f)), ((r_ys < 10ull) ? (u8)(r_qb | 48u) : (u8)(r_qb + 87u)));
+    if (r_sn < 16ull) { r_p8 = r_0f; goto l_core_g1; }
+    u64 r_1 = (u64)(r_sn >> 4ull);
+    u64 r_2 = r_0f;
+    r_sn = r_1;
+    r_zl = r_2;
+    goto l_loop_ji;
+l_core_g1:;
+    r_lo = (64ull - r_p8);
+    r_k3 = core_fmt_formatter_Formatter_write_before_number_06ddf_19ca4a7c(slot_3, ((u8 *)g_static_235), r_lo);
+    if (!(r_k3.f0 == 0u)) goto l_core_5s;
+    r_h9 = r_k3.f1;
+    r_2b_14 = away(slot_2, r_p8);
+    if (!(ld64(r_c4_5) == 0ull)) goto l_core_na;
+    r_zd_11 = (slot_3 + 16);
+    u64 r_52_33 = ld64(r_zd_11);
+    u64 r_52_34 = ld64(r_x5_12);
+    if (!(r_lo > (r_52_33 - r_52_34))) { r_jm = r_52_33; r_89_6 = r_52_34; goto l_join_hp; }
+    u8 r_iv = std_alloc_vec_Vec_grow_amortized_c3ff9179dc3e231c(slot_3, r_lo);
+    if (!r_iv) goto l_core_5s;
+    r_jm = ld64(r_zd_11);
+    r_89_6 = ld64(r_x5_12);
+l_join_hp:;
+    memcpy_or_none(away(ldp(slot_3), r_89_6), r_2b_14, r_lo);
+    st64(r_x5_12, (r_89_6 + r_lo));
+    st64(r_zd_11, r_jm);
+    goto l_arm_yr;
+l_core_na:;
+    u8 r_ch = core_fmt_formatter_Formatter_write_indented_06ddf0ef6b1ac539(slot_3, r_2b_14, r_lo);
+    if ((u8)(r_ch & 1)) goto l_core_5s;
+l_arm_yr:;
+    if (!(r_h9 == 0ull)) goto l_core_qr;
+    goto l_arm_zy;
+l_core_5s:;
+    goto l_arm_za;
+l_core_qr:;
+    u8 r_ct = core_fmt_formatter_Formatter_write_char_n_times_06ddf0_32a29d0f(slot_3, ld32(r_lk_8), r_h9);
+    if (!(u8)(r_ct & 1)) goto l_arm_zy;
+l_arm_za:;
+    if (ld64((slot_3 + 16)) == 0ull) goto l_arm_n1;
+    rattle_dealloc(ldp(slot_3));
+    goto l_arm_n1;
+l_arm_zy:;
+    r_xw_7 = ldp(slot_3);
+    r_38_16 = ld64(r_x5_12);
+    r_38_17 = ld64((slot_3 + 16));
+    r_zd_12 = (slot_4 + 16);
+    if (r_38_16 == 0ull) { r_yh = slot_1; r_1r = 0ull; r_ef = 0ull; goto l_join_d6; }
+    u8 r_jl_3 = std_alloc_vec_Vec_grow_amortized_827889bc1b348a11(slot_4, r_38_16);
+    if (!r_jl_3) goto l_then_4s_1;
+    r_yh = ldp(slot_4);
+    r_1r = ld64(r_zd_12);
+    r_ef = ld64(r_x5_11);
+l_join_d6:;
+    r_5q_4 = (r_ef + r_38_16);
+    r_2b_15 = away(r_yh, r_ef);
+    if (((u64)(uptr)r_2b_15 - (u64)(uptr)r_xw_7) < r_38_16) { r_il_3 = 0ull; goto l_join_fh_3; }
+    memmove_or_none(r_2b_15, r_xw_7, r_38_16);
+    goto l_std_93_1;
+l_join_fh_3:;
+    st8((r_2b_15 + (i64)(r_il_3)), ld8((r_xw_7 + (i64)(r_il_3))));
+    u64 r_36_16 = (r_il_3 + 1ull);
+    if (!(r_36_16 == r_38_16)) { r_il_3 = r_36_16; goto l_join_fh_3; }
+l_std_93_1:;
+    st64(r_x5_11, r_5q_4);
+    st64(r_zd_12, r_1r);
+    goto l_capnpc_ab;
+l_then_4s_1:;
+    st8((slot_4 + 24), 1u);
+l_capnpc_ab:;
+    if (r_38_17 == 0ull) goto l_capnpc_zy;
+    rattle_dealloc(r_xw_7);
+    goto l_capnpc_zy;
+l_arm_n1:;
+    st8((slot_4 + 24), 1u);
+l_capnpc_zy:;
+    r_xw_8 = ldp(slot_4);
+    r_38_18 = ld64(r_x5_11);
+    r_38_19 = ld64((slot_4 + 16));
+    r_38_20 = ld64((slot_4 + 24));
+    r_ix_2 = (u8)(r_38_20 & 1);
+    r_zd_13 = (slot_13 + 16);
+    r_x5_13 = (slot_13 + 8);
+    u64 r_52_35 = ld64(r_x5_13);
+    if (!(ld64(r_zd_13) == r_52_35)) { r_vc = r_52_35; goto l_join_gh; }
+    u8 r_89_7 = std_alloc_vec_Vec_grow_amortized_c7bbd78b6494f746(slot_13);
+    if (!r_89_7) goto l_arm_f8_3;
+    r_vc = ld64(r_x5_13);
+    goto l_join_gh;
+l_arm_f8_3:;
+    if (r_38_19 == 0ull) goto l_join_4s_1;
     rattle_dealloc(r_xw_8);
-l_capnpc_18:;
-    r_52_32 = ld64(r_2b);
+    goto l_join_4s_1;
+l_join_gh:;
+    u8 *r_a7_9 = (ldp(slot_13) + (i64)((r_vc * 48ull)));
+    stp(r_a7_9, ((u8 *)g_static_143));
+    st64((r_a7_9 + 8), 2ull);
+    stp((r_a7_9 + 16), r_xw_8);
+    st64((r_a7_9 + 24), r_38_18);
+    st64((r_a7_9 + 32), r_38_19);
+    st64((r_a7_9 + 40), r_38_20);
+    st64(r_x5_13, (r_vc + 1ull));
+    if (!r_ix_2) goto l_capnpc_3q;
+l_join_4s_1:;
+    st8((slot_13 + 24), 1u);
+l_capnpc_3q:;
+    r_52_36 = ld64(r_2b);
     r_lz_18 = ldp(away(a_1, 88ull));
-    r_52_33 = ld64(away(a_1, 96ull));
-    if (r_52_33 == 0ull) { r_ay = 0ull; goto l_capnpc_be; }
+    r_52_37 = ld64(away(a_1, 96ull));
+    if (r_52_37 == 0ull) { r_ay = 0ull; goto l_capnpc_be; }
     r_w0 = 0ull;
     goto l_join_5u;
 l_loop_sd_2:;
-    u64 r_36_16 = (r_w0 + 1ull);
-    if (r_36_16 == r_52_33) { r_ay = 0ull; goto l_capnpc_be; }
-    r_w0 = r_36_16;
+    u64 r_36_17 = (r_w0 + 1ull);
+    if (r_36_17 == r_52_37) { r_ay = 0ull; goto l_capnpc_be; }
+    r_w0 = r_36_17;
 l_join_5u:;
-    r_2b_14 = away(r_lz_18, (u64)(r_w0 << 6ull));
-    if (!(ld64(away(r_2b_14, 8ull)) == r_52_32)) goto l_loop_sd_2;
-    r_ay = (u64)ld32(r_2b_14);
+    r_2b_16 = away(r_lz_18, (u64)(r_w0 << 6ull));
+    if (!(ld64(away(r_2b_16, 8ull)) == r_52_36)) goto l_loop_sd_2;
+    r_ay = (u64)ld32(r_2b_16);
 l_capnpc_be:;
-    u8 *r_x5_11 = (slot_2 + 8);
-    memset(r_x5_11, 0u, 24);
+    u8 *r_x5_14 = (slot_2 + 8);
+    memset(r_x5_14, 0u, 24);
     stp(slot_2, slot_1);
     capnpc_schema_text_Text_push_number(slot_2, r_ay);
     r_xw_9 = ldp(slot_2);
-    r_38_16 = ld64(r_x5_11);
-    r_38_17 = ld64((slot_2 + 16));
-    r_38_18 = ld64((slot_2 + 24));
-    r_ix_2 = (u8)(r_38_18 & 1);
-    r_zd_11 = (slot_13 + 16);
-    r_x5_12 = (slot_13 + 8);
-    u64 r_52_34 = ld64(r_x5_12);
-    if (!(ld64(r_zd_11) == r_52_34)) { r_wr = r_52_34; goto l_join_gw; }
-    u8 r_89_6 = std_alloc_vec_Vec_grow_amortized_c7bbd78b6494f746(slot_13);
-    if (!r_89_6) goto l_arm_f8_3;
-    r_wr = ld64(r_x5_12);
-    goto l_join_gw;
-l_arm_f8_3:;
-    if (r_38_17 == 0ull) goto l_join_g8;
-    rattle_dealloc(r_xw_9);
-    goto l_join_g8;
-l_join_gw:;
-    u8 *r_a7_9 = (ldp(slot_13) + (i64)((r_wr * 48ull)));
-    stp(r_a7_9, ((u8 *)g_static_270));
-    st64((r_a7_9 + 8), 3ull);
-    stp((r_a7_9 + 16), r_xw_9);
-    st64((r_a7_9 + 24), r_38_16);
-    st64((r_a7_9 + 32), r_38_17);
-    st64((r_a7_9 + 40), r_38_18);
-    u64 r_7n = (r_wr + 1ull);
-    st64(r_x5_12, r_7n);
-    if (!r_ix_2) { r_h4 = r_7n; goto l_capnpc_80; }
-l_join_g8:;
-    st8((slot_13 + 24), 1u);
-    r_h4 = ld64(r_x5_12);
-l_capnpc_80:;
-    stp(slot_3, slot_1);
-    u8 *r_x5_13 = (slot_3 + 8);
-    memset(r_x5_13, 0u, 24);
-    capnpc_layout_rust_paths_push_path(ldp(a_1), ld64(r_e7), ld64(away(r_2b, 8ull)), ld64(away(a_1, 56ull)), slot_3);
-    r_xw_10 = ldp(slot_3);
-    r_38_19 = ld64(r_x5_13);
-    r_38_20 = ld64((slot_3 + 16));
-    r_38_21 = ld64((slot_3 + 24));
-    r_ix_3 = (u8)(r_38_21 & 1);
-    if (!(ld64(r_zd_11) == r_h4)) { r_b7 = r_h4; goto l_join_3s; }
-    u8 r_89_7 = std_alloc_vec_Vec_grow_amortized_c7bbd78b6494f746(slot_13);
-    if (!r_89_7) goto l_arm_f8_4;
-    r_b7 = ld64(r_x5_12);
+    r_38_21 = ld64(r_x5_14);
+    r_38_22 = ld64((slot_2 + 16));
+    r_38_23 = ld64((slot_2 + 24));
+    r_ix_3 = (u8)(r_38_23 & 1);
+    u64 r_52_38 = ld64(r_x5_13);
+    if (!(ld64(r_zd_13) == r_52_38)) { r_b7 = r_52_38; goto l_join_3s; }
+    u8 r_89_8 = std_alloc_vec_Vec_grow_amortized_c7bbd78b6494f746(slot_13);
+    if (!r_89_8) goto l_arm_f8_4;
+    r_b7 = ld64(r_x5_13);
     goto l_join_3s;
 l_arm_f8_4:;
-    if (r_38_20 == 0ull) goto l_join_4s_1;
-    rattle_dealloc(r_xw_10);
-    goto l_join_4s_1;
+    if (r_38_22 == 0ull) goto l_join_g8;
+    rattle_dealloc(r_xw_9);
+    goto l_join_g8;
 l_join_3s:;
     u8 *r_a7_10 = (ldp(slot_13) + (i64)((r_b7 * 48ull)));
     stp(r_a7_10, ((u8 *)g_static_271));
     st64((r_a7_10 + 8), 3ull);
-    stp((r_a7_10 + 16), r_xw_10);
-    st64((r_a7_10 + 24), r_38_19);
-    st64((r_a7_10 + 32), r_38_20);
-    st64((r_a7_10 + 40), r_38_21);
-    st64(r_x5_12, (r_b7 + 1ull));
-    if (!r_ix_3) goto l_capnpc_09;
-l_join_4s_1:;
+    stp((r_a7_10 + 16), r_xw_9);
+    st64((r_a7_10 + 24), r_38_21);
+    st64((r_a7_10 + 32), r_38_22);
+    st64((r_a7_10 + 40), r_38_23);
+    u64 r_7n = (r_b7 + 1ull);
+    st64(r_x5_13, r_7n);
+    if (!r_ix_3) { r_h4 = r_7n; goto l_capnpc_80; }
+l_join_g8:;
     st8((slot_13 + 24), 1u);
-l_capnpc_09:;
-    capnpc_schema_text_Text_push_filled(slot_12, ((u8 *)g_static_143), 470ull, slot_13);
+    r_h4 = ld64(r_x5_13);
+l_capnpc_80:;
+    stp(slot_3, slot_1);
+    u8 *r_x5_15 = (slot_3 + 8);
+    memset(r_x5_15, 0u, 24);
+    capnpc_layout_rust_paths_push_path(ldp(a_1), ld64(r_e7), ld64(away(r_2b, 8ull)), ld64(away(a_1, 56ull)), slot_3);
+    r_xw_10 = ldp(slot_3);
+    r_38_24 = ld64(r_x5_15);
+    r_38_25 = ld64((slot_3 + 16));
+    r_38_26 = ld64((slot_3 + 24));
+    r_ix_4 = (u8)(r_38_26 & 1);
+    if (!(ld64(r_zd_13) == r_h4)) { r_bn = r_h4; goto l_join_ot; }
+    u8 r_89_9 = std_alloc_vec_Vec_grow_amortized_c7bbd78b6494f746(slot_13);
+    if (!r_89_9) goto l_arm_f8_5;
+    r_bn = ld64(r_x5_13);
+    goto l_join_ot;
+l_arm_f8_5:;
+    if (r_38_25 == 0ull) goto l_join_4s_2;
+    rattle_dealloc(r_xw_10);
+    goto l_join_4s_2;
+l_join_ot:;
+    u8 *r_a7_11 = (ldp(slot_13) + (i64)((r_bn * 48ull)));
+    stp(r_a7_11, ((u8 *)g_static_272));
+    st64((r_a7_11 + 8), 3ull);
+    stp((r_a7_11 + 16), r_xw_10);
+    st64((r_a7_11 + 24), r_38_24);
+    st64((r_a7_11 + 32), r_38_25);
+    st64((r_a7_11 + 40), r_38_26);
+    st64(r_x5_13, (r_bn + 1ull));
+    if (!r_ix_4) goto l_capnpc_5h;
+l_join_4s_2:;
+    st8((slot_13 + 24), 1u);
+l_capnpc_5h:;
+    capnpc_schema_text_Text_push_filled(slot_12, ((u8 *)g_static_144), 503ull, slot_13);
 l_join_0d:;
-    memset(slot_4, 0u, 32);
-    t_x5_1 = (slot_2 + 8);
+    memset(slot_6, 0u, 32);
+    memset(slot_7, 0u, 32);
+    t_x5_1 = (slot_5 + 8);
     memset(t_x5_1, 0u, 24);
-    stp(slot_2, slot_1);
-    capnpc_schema_text_Values_put(slot_2, ((u8 *)g_static_144), 4ull, ldp(r_zn), ld64(r_3q));
-    capnpc_schema_text_Values_put(slot_2, ((u8 *)g_static_145), 4ull, ldp(r_be), ld64(r_x1));
-    capnpc_schema_text_Values_put(slot_2, ((u8 *)g_static_146), 3ull, ldp(r_39), ld64(r_9b));
-    capnpc_schema_text_Text_push_filled(slot_12, ((u8 *)g_static_272), 172ull, slot_2);
+    stp(slot_5, slot_1);
+    capnpc_schema_text_Values_put(slot_5, ((u8 *)g_static_145), 4ull, ldp(r_zn), ld64(r_3q));
+    capnpc_schema_text_Values_put(slot_5, ((u8 *)g_static_146), 4ull, ldp(r_be), ld64(r_x1));
+    capnpc_schema_text_Values_put(slot_5, ((u8 *)g_static_147), 3ull, ldp(r_39), ld64(r_9b));
+    capnpc_schema_text_Text_push_filled(slot_12, ((u8 *)g_static_273), 172ull, slot_5);
     r_lz_19 = ldp(r_im);
-    r_52_35 = ld64(r_t0);
-    if (r_52_35 == 0ull) goto l_after_tr;
+    r_52_39 = ld64(r_t0);
+    if (r_52_39 == 0ull) goto l_after_tr;
     r_ps_3 = away(r_2b, 8ull);
-    r_x5_14 = (slot_3 + 8);
-    r_zd_12 = (slot_3 + 16);
+    r_x5_16 = (slot_6 + 8);
+    r_zd_14 = (slot_6 + 16);
     r_y3_1 = 0ull;
 l_join_ga_1:;
-    r_2b_15 = away(r_lz_19, (r_y3_1 * 208ull));
-    r_47_4 = ld8(away(r_2b_15, 128ull));
+    r_2b_17 = away(r_lz_19, (r_y3_1 * 208ull));
+    r_qj_2 = away(r_2b_17, 128ull);
+    r_47_4 = ld8(r_qj_2);
     switch (r_47_4) {
     case 2u: goto l_after_94_2;
     case 0u: goto l_arm_d2_2;
@@ -25538,40 +25816,40 @@ l_join_ga_1:;
 l_arm_d2_2:;
     r_mb_4 = ldp(a_1);
     r_qw_4 = ld64(r_e7);
-    r_52_36 = ld64(away(r_2b_15, 136ull));
+    r_52_40 = ld64(away(r_2b_17, 136ull));
     if (r_qw_4 == 0ull) goto l_after_94_2;
     r_1y_4 = 0ull;
     goto l_join_v4_4;
 l_loop_94_1:;
-    u64 r_36_17 = (r_1y_4 + 1ull);
-    if (r_36_17 == r_qw_4) goto l_after_94_2;
-    r_1y_4 = r_36_17;
+    u64 r_36_18 = (r_1y_4 + 1ull);
+    if (r_36_18 == r_qw_4) goto l_after_94_2;
+    r_1y_4 = r_36_18;
 l_join_v4_4:;
-    if (ld64(away(r_mb_4, (r_1y_4 * 280ull))) == r_52_36) goto l_then_5h;
+    if (ld64(away(r_mb_4, (r_1y_4 * 280ull))) == r_52_40) goto l_then_5h;
     goto l_loop_94_1;
 l_arm_un_2:;
     r_mb_5 = ldp(a_1);
     r_qw_5 = ld64(r_e7);
-    r_47_5 = ld8(away(r_2b_15, 168ull));
+    r_47_5 = ld8(away(r_2b_17, 168ull));
     if (r_47_5 == 4u) goto l_after_94_2;
-    r_lz_20 = ldp(away(r_2b_15, 152ull));
-    r_52_37 = ld64(away(r_2b_15, 160ull));
+    r_lz_20 = ldp(away(r_2b_17, 152ull));
+    r_52_41 = ld64(away(r_2b_17, 160ull));
     if (r_qw_5 == 0ull) { r_30_2 = ((u8 *)0); t_ul_2 = 1u; goto l_capnpc_wg_2; }
     r_1y_5 = 0ull;
     goto l_join_v4_5;
 l_loop_sd_3:;
-    u64 r_36_18 = (r_1y_5 + 1ull);
-    if (r_36_18 == r_qw_5) { r_30_2 = ((u8 *)0); t_ul_2 = 1u; goto l_capnpc_wg_2; }
-    r_1y_5 = r_36_18;
+    u64 r_36_19 = (r_1y_5 + 1ull);
+    if (r_36_19 == r_qw_5) { r_30_2 = ((u8 *)0); t_ul_2 = 1u; goto l_capnpc_wg_2; }
+    r_1y_5 = r_36_19;
 l_join_v4_5:;
     r_tr_2 = (r_1y_5 * 280ull);
-    if (!(ld64(away(r_mb_5, r_tr_2)) == r_52_37)) goto l_loop_sd_3;
+    if (!(ld64(away(r_mb_5, r_tr_2)) == r_52_41)) goto l_loop_sd_3;
     r_30_2 = away(r_mb_5, r_tr_2);
     t_ul_2 = 0u;
 l_capnpc_wg_2:;
     r_47_6 = ld8(r_lz_20);
     switch (r_47_6) {
-    case 8u: goto l_arm_f8_5;
+    case 8u: goto l_arm_f8_6;
     case 5u: goto l_arm_tt_1;
     case 0u: goto l_then_jh_2;
     case 1u: goto l_then_jh_2;
@@ -25584,7 +25862,7 @@ l_capnpc_wg_2:;
     case 10u: goto l_then_jh_2;
     default: goto l_noarm_e1_7;
     }
-l_arm_f8_5:;
+l_arm_f8_6:;
     if (t_ul_2) goto l_after_94_2;
     goto l_then_jh_2;
 l_arm_tt_1:;
@@ -25594,286 +25872,99 @@ l_arm_tt_1:;
 l_noarm_e1_7:;
     UNREACHABLE();
 l_then_jh_2:;
-    if ((u8)((u8)(r_47_5 == 3u) & (u8)((u8)(r_47_6 + 247u) < 2u)) ? (ld32(away(r_2b_15, 144ull)) == 0u) : 0u) goto l_after_94_2;
+    if ((u8)((u8)(r_47_5 == 3u) & (u8)((u8)(r_47_6 + 247u) < 2u)) ? (ld32(away(r_2b_17, 144ull)) == 0u) : 0u) goto l_after_94_2;
     goto l_then_5h;
 l_noarm_e1_6:;
     UNREACHABLE();
 l_then_5h:;
-    if (!(ld16(away(r_2b_15, 124ull)) == 65535u)) goto l_after_94_2;
+    if (!(ld16(away(r_2b_17, 124ull)) == 65535u)) goto l_after_94_2;
     if (!(r_47_4 == 1u)) goto l_then_8t;
-    if (!(ld32(away(r_2b_15, 144ull)) == 0u)) goto l_then_8t;
-    if (ld8(ldp(away(r_2b_15, 152ull))) == 0u) goto l_after_94_2;
+    if (!(ld32(away(r_2b_17, 144ull)) == 0u)) goto l_then_8t;
+    if (ld8(ldp(away(r_2b_17, 152ull))) == 0u) goto l_after_94_2;
 l_then_8t:;
-    capnpc_layout_rust_readers_Schema_field_values(slot_4, a_1, r_bw, r_2b_15, ld64(r_ps_3));
-    mv32(slot_3, slot_4);
-    r_lz_21 = ldp(slot_3);
-    r_iv = ld64(r_x5_14);
+    capnpc_layout_rust_readers_Schema_field_values(slot_7, a_1, r_bw, r_2b_17, ld64(r_ps_3));
+    mv32(slot_6, slot_7);
+    r_lz_21 = ldp(slot_6);
+    r_iv_1 = ld64(r_x5_16);
 l_loop_bp:;
-    if (r_iv == 0ull) { t_u5 = 19ull; t_6k = ((u8 *)g_static_274); goto l_capnpc_sr; }
-    u64 r_zn_4 = (r_iv + 0xffffffffffffffffull);
-    r_2b_16 = away(r_lz_21, (r_zn_4 * 48ull));
-    u8 r_0t = core_cmp_bytes_equal(ldp(r_2b_16), ld64((r_2b_16 + 8)), ((u8 *)g_static_195), 5ull);
-    if (!r_0t) { r_iv = r_zn_4; goto l_loop_bp; }
-    u8 t_ts = (ld64(away(r_2b_16, 24ull)) == 0ull);
-    t_u5 = (t_ts ? 19ull : 29ull);
-    t_6k = (t_ts ? ((u8 *)g_static_274) : ((u8 *)g_static_273));
-l_capnpc_sr:;
-    capnpc_schema_text_Values_put_lines(slot_3, t_6k, t_u5);
-    r_lz_22 = ldp(r_2b_15);
-    r_52_38 = ld64(away(r_2b_15, 8ull));
-    r_lz_23 = ldp(slot_3);
-    r_52_39 = ld64(r_x5_14);
-    r_iv_1 = r_52_39;
+    if (r_iv_1 == 0ull) { r_gv = 1u; goto l_capnpc_66; }
+    u64 r_zn_4 = (r_iv_1 + 0xffffffffffffffffull);
+    r_2b_18 = away(r_lz_21, (r_zn_4 * 48ull));
+    u8 r_0r = core_cmp_bytes_equal(ldp(r_2b_18), ld64((r_2b_18 + 8)), ((u8 *)g_static_196), 5ull);
+    if (!r_0r) { r_iv_1 = r_zn_4; goto l_loop_bp; }
+    r_gv = (ld64(away(r_2b_18, 24ull)) == 0ull);
+l_capnpc_66:;
+    if (!(ld8(r_qj_2) == 1u)) goto l_else_mc;
+    if (!(ld8(ldp(away(r_2b_17, 152ull))) == 8u)) goto l_else_mc;
+    t_0c = (ld8(away(r_2b_17, 168ull)) == 0u);
+    if (ld32(away(r_2b_17, 144ull)) == 0u) goto l_capnpc_mn;
+    if (t_0c) goto l_else_mc;
+    r_7i = 58ull;
+    r_gb = ((u8 *)g_static_278);
+    goto l_join_lp;
+l_capnpc_mn:;
+    r_7i = (t_0c ? 57ull : 58ull);
+    r_gb = (t_0c ? ((u8 *)g_static_279) : ((u8 *)g_static_278));
+    goto l_join_lp;
+l_else_mc:;
+    r_7i = (r_gv ? 19ull : 29ull);
+    r_gb = (r_gv ? ((u8 *)g_static_275) : ((u8 *)g_static_274));
+l_join_lp:;
+    capnpc_schema_text_Values_put_lines(slot_6, r_gb, r_7i);
+    r_lz_22 = ldp(r_2b_17);
+    r_52_42 = ld64(away(r_2b_17, 8ull));
+    r_lz_23 = ldp(slot_6);
+    r_52_43 = ld64(r_x5_16);
+    r_iv_2 = r_52_43;
 l_loop_bp_1:;
-    if (r_iv_1 == 0ull) { r_hb = 0ull; r_31 = ((u8 *)g_static_120); goto l_capnpc_tf; }
-    u64 r_zn_5 = (r_iv_1 + 0xffffffffffffffffull);
-    r_2b_17 = away(r_lz_23, (r_zn_5 * 48ull));
-    u8 r_0u = core_cmp_bytes_equal(ldp(r_2b_17), ld64((r_2b_17 + 8)), ((u8 *)g_static_275), 4ull);
-    if (!r_0u) { r_iv_1 = r_zn_5; goto l_loop_bp_1; }
-    r_hb = ld64(away(r_2b_17, 24ull));
-    r_31 = ldp(away(r_2b_17, 16ull));
-l_capnpc_tf:;
-    capnpc_layout_rust_piece_Piece_push_shown(slot_12, r_lz_22, r_52_38, r_31, r_hb);
-    r_38_22 = ld64(r_zd_12);
-    if (r_52_39 == 0ull) goto l_std_8o_2;
+    if (r_iv_2 == 0ull) { r_u7 = 0ull; r_x0 = ((u8 *)g_static_120); goto l_capnpc_ed; }
+    u64 r_zn_5 = (r_iv_2 + 0xffffffffffffffffull);
+    r_2b_19 = away(r_lz_23, (r_zn_5 * 48ull));
+    u8 r_wo = core_cmp_bytes_equal(ldp(r_2b_19), ld64((r_2b_19 + 8)), ((u8 *)g_static_276), 4ull);
+    if (!r_wo) { r_iv_2 = r_zn_5; goto l_loop_bp_1; }
+    r_u7 = ld64(away(r_2b_19, 24ull));
+    r_x0 = ldp(away(r_2b_19, 16ull));
+l_capnpc_ed:;
+    capnpc_layout_rust_piece_Piece_push_shown(slot_12, ((u8 *)g_static_164), 8ull, r_lz_22, r_52_42, r_x0, r_u7);
+    r_38_27 = ld64(r_zd_14);
+    if (r_52_43 == 0ull) goto l_std_8o_2;
     r_01_6 = 0ull;
 l_join_1a_6:;
-    r_a7_11 = away(r_lz_23, (r_01_6 * 48ull));
-    if (ld64((r_a7_11 + 32)) == 0ull) goto l_core_jc_6;
-    rattle_dealloc(ldp((r_a7_11 + 16)));
+    r_a7_12 = away(r_lz_23, (r_01_6 * 48ull));
+    if (ld64((r_a7_12 + 32)) == 0ull) goto l_core_jc_6;
+    rattle_dealloc(ldp((r_a7_12 + 16)));
 l_core_jc_6:;
-    u64 r_36_19 = (r_01_6 + 1ull);
-    if (!(r_36_19 == r_52_39)) { r_01_6 = r_36_19; goto l_join_1a_6; }
+    u64 r_36_20 = (r_01_6 + 1ull);
+    if (!(r_36_20 == r_52_43)) { r_01_6 = r_36_20; goto l_join_1a_6; }
 l_std_8o_2:;
-    if (r_38_22 == 0ull) goto l_after_94_2;
+    if (r_38_27 == 0ull) goto l_after_94_2;
     rattle_dealloc(r_lz_23);
 l_after_94_2:;
-    u64 r_36_20 = (r_y3_1 + 1ull);
-    if (!(r_36_20 == r_52_35)) { r_y3_1 = r_36_20; goto l_join_ga_1; }
+    u64 r_36_21 = (r_y3_1 + 1ull);
+    if (!(r_36_21 == r_52_39)) { r_y3_1 = r_36_21; goto l_join_ga_1; }
 l_after_tr:;
-    if (ld16(r_y0) == 0u) goto l_join_k5;
+    if (ld16(r_y0) == 0u) goto l_join_cv;
+    memset(slot_3, 0u, 32);
+    memset(slot_4, 0u, 32);
     r_lz_24 = ldp(r_im);
-    r_52_40 = ld64(r_t0);
-    if (r_52_40 == 0ull) { t_7h = ((u8 *)g_static_277); t_pk = 13ull; goto l_capnpc_rw; }
-    r_7d_2 = 0ull;
-l_join_ie_2:;
-    r_2b_18 = away(r_lz_24, (r_7d_2 * 208ull));
-    if (ld16(away(r_2b_18, 124ull)) == 65535u) goto l_after_sd_1;
-    if (!(ld8(away(r_2b_18, 128ull)) == 1u)) goto l_after_sd_1;
-    if (!(ld32(away(r_2b_18, 144ull)) == 0u)) { t_7h = ((u8 *)g_static_276); t_pk = 23ull; goto l_capnpc_rw; }
-    if ((u8)(ld8(ldp(away(r_2b_18, 152ull))) + 250u) < 4u) { t_7h = ((u8 *)g_static_276); t_pk = 23ull; goto l_capnpc_rw; }
-l_after_sd_1:;
-    u64 r_36_21 = (r_7d_2 + 1ull);
-    if (r_36_21 == r_52_40) { t_7h = ((u8 *)g_static_277); t_pk = 13ull; goto l_capnpc_rw; }
-    r_7d_2 = r_36_21;
-    goto l_join_ie_2;
-l_capnpc_rw:;
-    capnpc_layout_rust_piece_Piece_push_shown(slot_12, ((u8 *)g_static_278), 5ull, t_7h, t_pk);
-l_join_k5:;
-    capnpc_schema_text_Text_push_filled(slot_12, ((u8 *)g_static_279), 31ull, slot_2);
-    r_xw_11 = ldp(slot_2);
-    r_fz_1 = ld64(t_x5_1);
-    r_38_23 = ld64((slot_2 + 16));
-    if (r_fz_1 == 0ull) goto l_std_ab_2;
-    r_01_7 = 0ull;
-l_join_1a_7:;
-    r_a7_12 = away(r_xw_11, (r_01_7 * 48ull));
-    if (ld64((r_a7_12 + 32)) == 0ull) goto l_core_jc_7;
-    rattle_dealloc(ldp((r_a7_12 + 16)));
-l_core_jc_7:;
-    u64 r_36_22 = (r_01_7 + 1ull);
-    if (!(r_36_22 == r_fz_1)) { r_01_7 = r_36_22; goto l_join_1a_7; }
-l_std_ab_2:;
-    if (r_38_23 == 0ull) goto l_capnpc_f3;
-    rattle_dealloc(r_xw_11);
-l_capnpc_f3:;
-    mv40(slot_11, slot_12);
-    if (r_38_14 == 0ull) goto l_std_wp;
-    rattle_dealloc(r_xw_7);
-l_std_wp:;
-    r_xw_12 = ldp(slot_13);
-    r_38_24 = ld64((slot_13 + 8));
-    r_38_25 = ld64((slot_13 + 16));
-    if (r_38_24 == 0ull) goto l_std_ab_3;
-    r_01_8 = 0ull;
-l_join_1a_8:;
-    r_a7_13 = away(r_xw_12, (r_01_8 * 48ull));
-    if (ld64((r_a7_13 + 32)) == 0ull) goto l_core_jc_8;
-    rattle_dealloc(ldp((r_a7_13 + 16)));
-l_core_jc_8:;
-    u64 r_36_23 = (r_01_8 + 1ull);
-    if (!(r_36_23 == r_38_24)) { r_01_8 = r_36_23; goto l_join_1a_8; }
-l_std_ab_3:;
-    if (r_38_25 == 0ull) goto l_capnpc_cl;
-    rattle_dealloc(r_xw_12);
-l_capnpc_cl:;
-    mv40(slot_17, slot_11);
-    r_xw_13 = ldp(slot_17);
-    u64 r_38_26 = ld64((slot_17 + 16));
-    capnpc_layout_rust_piece_Piece_push_into(slot_17, a_2, a_4);
-    if (r_38_26 == 0ull) goto l_std_8q;
-    rattle_dealloc(r_xw_13);
-l_std_8q:;
-    r_mn = uadd_sat64(a_4, 1ull);
-    u64 r_52_41 = ld64(r_08);
-    u64 r_52_42 = ld64(r_rq);
-    if (!(r_52_41 == r_52_42)) { r_w4_1 = r_52_41; r_61_1 = r_52_42; goto l_join_e4_1; }
-    u8 r_y4 = std_alloc_vec_Vec_grow_amortized_827889bc1b348a11(a_2, 1ull);
-    if (!r_y4) goto l_then_pm_1;
-    r_w4_1 = ld64(r_08);
-    r_61_1 = ld64(r_rq);
-l_join_e4_1:;
-    u8 *r_fx_1 = ldp(a_2);
-    st8(away(r_fx_1, r_61_1), 10u);
-    stp(a_2, r_fx_1);
-    st64(r_rq, (r_61_1 + 1ull));
-    st64(r_08, r_w4_1);
-    goto l_capnpc_tf_1;
-l_then_pm_1:;
-    st8(away(a_2, 24ull), 1u);
-l_capnpc_tf_1:;
-    capnpc_layout_rust_generating_open_module(a_2, r_bw, a_4);
-    memset(slot_13, 0u, 40);
-    memset(slot_16, 0u, 32);
-    stp(slot_14, slot_1);
-    r_x5_15 = (slot_14 + 8);
-    memset(r_x5_15, 0u, 24);
-    st64((slot_14 + 32), ((r_mn > 0x3fffffffffffffffull) ? 0ull : usub_sat64(100ull, (u64)(r_mn << 2ull))));
-    memset((slot_12 + 8), 0u, 24);
-    stp(slot_12, slot_1);
-    capnpc_schema_text_Values_put(slot_12, ((u8 *)g_static_144), 4ull, ldp(r_zn), ld64(r_3q));
-    capnpc_schema_text_Values_put(slot_12, ((u8 *)g_static_145), 4ull, ldp(r_be), ld64(r_x1));
-    capnpc_schema_text_Values_put(slot_12, ((u8 *)g_static_146), 3ull, ldp(r_39), ld64(r_9b));
-    mv32(slot_15, slot_12);
-    u8 *r_x5_16 = (slot_2 + 8);
-    u64 r_u7 = (u64)ld16(away(r_2b, 194ull));
-    memset(r_x5_16, 0u, 24);
-    stp(slot_2, slot_1);
-    capnpc_schema_text_Text_push_number(slot_2, r_u7);
-    r_xw_14 = ldp(slot_2);
-    r_38_27 = ld64(r_x5_16);
-    r_38_28 = ld64((slot_2 + 16));
-    r_38_29 = ld64((slot_2 + 24));
-    r_ix_4 = (u8)(r_38_29 & 1);
-    r_zd_13 = (slot_15 + 16);
-    r_x5_17 = (slot_15 + 8);
-    u64 r_52_43 = ld64(r_x5_17);
-    if (!(ld64(r_zd_13) == r_52_43)) { r_q7_1 = r_52_43; goto l_join_wq; }
-    u8 r_89_8 = std_alloc_vec_Vec_grow_amortized_c7bbd78b6494f746(slot_15);
-    if (!r_89_8) goto l_arm_f8_6;
-    r_q7_1 = ld64(r_x5_17);
-    goto l_join_wq;
-l_arm_f8_6:;
-    if (r_38_28 == 0ull) goto l_join_g8_1;
-    rattle_dealloc(r_xw_14);
-    goto l_join_g8_1;
-l_join_wq:;
-    u8 *r_a7_14 = (ldp(slot_15) + (i64)((r_q7_1 * 48ull)));
-    stp(r_a7_14, ((u8 *)g_static_287));
-    st64((r_a7_14 + 8), 4ull);
-    stp((r_a7_14 + 16), r_xw_14);
-    st64((r_a7_14 + 24), r_38_27);
-    st64((r_a7_14 + 32), r_38_28);
-    st64((r_a7_14 + 40), r_38_29);
-    u64 r_7n_1 = (r_q7_1 + 1ull);
-    st64(r_x5_17, r_7n_1);
-    if (!r_ix_4) { r_yb = r_7n_1; goto l_capnpc_e1; }
-l_join_g8_1:;
-    st8((slot_15 + 24), 1u);
-    r_yb = ld64(r_x5_17);
-l_capnpc_e1:;
-    u8 *r_x5_18 = (slot_2 + 8);
-    u64 r_u7_1 = (u64)ld16(away(r_2b, 196ull));
-    memset(r_x5_18, 0u, 24);
-    stp(slot_2, slot_1);
-    capnpc_schema_text_Text_push_number(slot_2, r_u7_1);
-    r_xw_15 = ldp(slot_2);
-    r_38_30 = ld64(r_x5_18);
-    r_38_31 = ld64((slot_2 + 16));
-    r_38_32 = ld64((slot_2 + 24));
-    r_ix_5 = (u8)(r_38_32 & 1);
-    if (!(ld64(r_zd_13) == r_yb)) { r_ai = r_yb; goto l_join_an; }
-    u8 r_89_9 = std_alloc_vec_Vec_grow_amortized_c7bbd78b6494f746(slot_15);
-    if (!r_89_9) goto l_arm_f8_7;
-    r_ai = ld64(r_x5_17);
-    goto l_join_an;
-l_arm_f8_7:;
-    if (r_38_31 == 0ull) goto l_join_4s_2;
-    rattle_dealloc(r_xw_15);
-    goto l_join_4s_2;
-l_join_an:;
-    u8 *r_a7_15 = (ldp(slot_15) + (i64)((r_ai * 48ull)));
-    stp(r_a7_15, ((u8 *)g_static_288));
-    st64((r_a7_15 + 8), 8ull);
-    stp((r_a7_15 + 16), r_xw_15);
-    st64((r_a7_15 + 24), r_38_30);
-    st64((r_a7_15 + 32), r_38_31);
-    st64((r_a7_15 + 40), r_38_32);
-    st64(r_x5_17, (r_ai + 1ull));
-    if (!r_ix_5) goto l_capnpc_6e;
-l_join_4s_2:;
-    st8((slot_15 + 24), 1u);
-l_capnpc_6e:;
-    memset(slot_11, 0u, 32);
-    r_lz_25 = ldp(r_im);
     r_52_44 = ld64(r_t0);
-    if (r_52_44 == 0ull) goto l_capnpc_ts;
-    r_zd_14 = (slot_10 + 16);
-    r_x5_19 = (slot_10 + 8);
-    r_lk_8 = (slot_10 + 24);
+    if (r_52_44 == 0ull) { t_cf = 13ull; t_mz = ((u8 *)g_static_294); goto l_then_kt; }
+    r_ps_4 = away(r_2b, 8ull);
     r_9r_1 = away(r_2b, 200ull);
-    r_x5_20 = (slot_2 + 8);
+    r_x5_17 = (slot_2 + 8);
     r_zd_15 = (slot_2 + 16);
     r_lk_9 = (slot_2 + 24);
-    t_x5_2 = (slot_2 + 8);
-    r_zd_16 = (slot_2 + 16);
-    r_lk_10 = (slot_2 + 24);
-    r_ti_2 = away(r_2b, 144ull);
-    r_v3_1 = away(r_2b, 136ull);
-    r_x5_21 = (slot_8 + 8);
-    r_x5_22 = (slot_9 + 8);
-    r_x5_23 = (slot_3 + 8);
-    r_zd_17 = (slot_3 + 16);
-    r_zd_18 = (slot_9 + 16);
-    r_lk_11 = (slot_9 + 24);
-    t_89 = (slot_2 + 32);
-    t_a8 = (slot_3 + 40);
-    r_x5_24 = (slot_7 + 8);
-    r_zd_19 = (slot_7 + 16);
-    r_lk_12 = (slot_7 + 24);
-    r_89_10 = (slot_7 + 32);
-    r_a8_3 = (slot_7 + 40);
-    r_x5_25 = (slot_6 + 8);
-    r_zd_20 = (slot_6 + 16);
-    r_lk_13 = (slot_6 + 24);
-    r_89_11 = (slot_6 + 32);
-    r_a8_4 = (slot_6 + 40);
-    r_x5_26 = (slot_5 + 8);
-    r_zd_21 = (slot_5 + 16);
-    r_lk_14 = (slot_5 + 24);
-    r_89_12 = (slot_5 + 32);
-    r_a8_5 = (slot_5 + 40);
-    r_x5_27 = (slot_4 + 8);
-    r_zd_22 = (slot_4 + 16);
-    r_lk_15 = (slot_4 + 24);
-    r_89_13 = (slot_4 + 32);
-    r_a8_6 = (slot_4 + 40);
-    r_x5_28 = (slot_3 + 8);
-    r_zd_23 = (slot_3 + 16);
-    r_lk_16 = (slot_3 + 24);
-    r_89_14 = (slot_3 + 32);
-    r_x5_29 = (slot_2 + 8);
-    r_zd_24 = (slot_2 + 16);
-    r_lk_17 = (slot_2 + 24);
-    r_a8_7 = (slot_2 + 40);
-    r_lk_18 = (slot_8 + 24);
-    r_zd_25 = (slot_8 + 16);
-    r_y3_2 = 0ull;
-l_join_ga_3:;
-    r_2b_19 = away(r_lz_25, (r_y3_2 * 208ull));
-    r_qj_2 = away(r_2b_19, 128ull);
-    switch (ld8(r_qj_2)) {
-    case 2u: goto l_after_sd_2;
+    r_zd_16 = (slot_3 + 16);
+    r_x5_18 = (slot_3 + 8);
+    r_lk_10 = (slot_3 + 24);
+    r_y3_2 = 1u;
+    r_e6 = 0ull;
+l_join_ga_2:;
+    r_2b_20 = away(r_lz_24, (r_e6 * 208ull));
+    r_qj_3 = away(r_2b_20, 128ull);
+    r_47_7 = ld8(r_qj_3);
+    switch (r_47_7) {
+    case 2u: { r_nd = r_y3_2; goto l_after_94_3; }
     case 0u: goto l_arm_d2_3;
     case 1u: goto l_arm_un_3;
     default: goto l_noarm_e1_8;
@@ -25881,40 +25972,40 @@ l_join_ga_3:;
 l_arm_d2_3:;
     r_mb_6 = ldp(a_1);
     r_qw_6 = ld64(r_e7);
-    r_52_45 = ld64(away(r_2b_19, 136ull));
-    if (r_qw_6 == 0ull) goto l_after_sd_2;
+    r_52_45 = ld64(away(r_2b_20, 136ull));
+    if (r_qw_6 == 0ull) { r_nd = r_y3_2; goto l_after_94_3; }
     r_1y_6 = 0ull;
     goto l_join_v4_6;
 l_loop_94_2:;
-    u64 r_36_24 = (r_1y_6 + 1ull);
-    if (r_36_24 == r_qw_6) goto l_after_sd_2;
-    r_1y_6 = r_36_24;
+    u64 r_36_22 = (r_1y_6 + 1ull);
+    if (r_36_22 == r_qw_6) { r_nd = r_y3_2; goto l_after_94_3; }
+    r_1y_6 = r_36_22;
 l_join_v4_6:;
-    if (ld64(away(r_mb_6, (r_1y_6 * 280ull))) == r_52_45) goto l_then_ap;
+    if (ld64(away(r_mb_6, (r_1y_6 * 280ull))) == r_52_45) goto l_then_di;
     goto l_loop_94_2;
 l_arm_un_3:;
     r_mb_7 = ldp(a_1);
     r_qw_7 = ld64(r_e7);
-    r_47_7 = ld8(away(r_2b_19, 168ull));
-    if (r_47_7 == 4u) goto l_after_sd_2;
-    r_lz_26 = ldp(away(r_2b_19, 152ull));
-    r_52_46 = ld64(away(r_2b_19, 160ull));
+    r_47_8 = ld8(away(r_2b_20, 168ull));
+    if (r_47_8 == 4u) { r_nd = r_y3_2; goto l_after_94_3; }
+    r_lz_25 = ldp(away(r_2b_20, 152ull));
+    r_52_46 = ld64(away(r_2b_20, 160ull));
     if (r_qw_7 == 0ull) { r_30_3 = ((u8 *)0); t_ul_3 = 1u; goto l_capnpc_wg_3; }
     r_1y_7 = 0ull;
     goto l_join_v4_7;
 l_loop_sd_4:;
-    u64 r_36_25 = (r_1y_7 + 1ull);
-    if (r_36_25 == r_qw_7) { r_30_3 = ((u8 *)0); t_ul_3 = 1u; goto l_capnpc_wg_3; }
-    r_1y_7 = r_36_25;
+    u64 r_36_23 = (r_1y_7 + 1ull);
+    if (r_36_23 == r_qw_7) { r_30_3 = ((u8 *)0); t_ul_3 = 1u; goto l_capnpc_wg_3; }
+    r_1y_7 = r_36_23;
 l_join_v4_7:;
     r_tr_3 = (r_1y_7 * 280ull);
     if (!(ld64(away(r_mb_7, r_tr_3)) == r_52_46)) goto l_loop_sd_4;
     r_30_3 = away(r_mb_7, r_tr_3);
     t_ul_3 = 0u;
 l_capnpc_wg_3:;
-    r_47_8 = ld8(r_lz_26);
-    switch (r_47_8) {
-    case 8u: goto l_arm_f8_8;
+    r_47_9 = ld8(r_lz_25);
+    switch (r_47_9) {
+    case 8u: goto l_arm_f8_7;
     case 5u: goto l_arm_tt_2;
     case 0u: goto l_then_jh_3;
     case 1u: goto l_then_jh_3;
@@ -25927,707 +26018,427 @@ l_capnpc_wg_3:;
     case 10u: goto l_then_jh_3;
     default: goto l_noarm_e1_9;
     }
-l_arm_f8_8:;
-    if (t_ul_3) goto l_after_sd_2;
+l_arm_f8_7:;
+    if (t_ul_3) { r_nd = r_y3_2; goto l_after_94_3; }
     goto l_then_jh_3;
 l_arm_tt_2:;
-    if (t_ul_3) goto l_after_sd_2;
+    if (t_ul_3) { r_nd = r_y3_2; goto l_after_94_3; }
     if (ld8(away(r_30_3, 184ull)) == 2u) goto l_then_jh_3;
-    goto l_after_sd_2;
+    r_nd = r_y3_2;
+    goto l_after_94_3;
 l_noarm_e1_9:;
     UNREACHABLE();
 l_then_jh_3:;
-    if ((u8)((u8)(r_47_7 == 3u) & (u8)((u8)(r_47_8 + 247u) < 2u)) ? (ld32(away(r_2b_19, 144ull)) == 0u) : 0u) goto l_after_sd_2;
-    goto l_then_ap;
+    if ((u8)((u8)(r_47_8 == 3u) & (u8)((u8)(r_47_9 + 247u) < 2u)) ? (ld32(away(r_2b_20, 144ull)) == 0u) : 0u) { r_nd = r_y3_2; goto l_after_94_3; }
+    goto l_then_di;
 l_noarm_e1_8:;
     UNREACHABLE();
-l_then_ap:;
-    capnpc_layout_rust_readers_Schema_field_values(slot_11, a_1, r_2b, r_2b_19, ld64(r_2b));
-    mv32(slot_10, slot_11);
-    u64 r_52_47 = ld64(r_x5_19);
-    if (!(ld64(r_zd_14) == r_52_47)) { r_bz = r_52_47; goto l_join_0a; }
-    u8 r_89_15 = std_alloc_vec_Vec_grow_amortized_c7bbd78b6494f746(slot_10);
-    if (!r_89_15) goto l_join_5f;
-    r_bz = ld64(r_x5_19);
-l_join_0a:;
-    u8 *r_a7_16 = (ldp(slot_10) + (i64)((r_bz * 48ull)));
-    stp(r_a7_16, ((u8 *)g_static_295));
-    st64((r_a7_16 + 8), 6ull);
-    stp((r_a7_16 + 16), slot_1);
-    u64 r_7n_2 = (r_bz + 1ull);
-    memset((r_a7_16 + 24), 0u, 24);
-    st64(r_x5_19, r_7n_2);
-    r_b5 = r_7n_2;
-    goto l_capnpc_ta;
-l_join_5f:;
-    st8(r_lk_8, 1u);
-    r_b5 = ld64(r_x5_19);
-l_capnpc_ta:;
+l_then_di:;
+    if (!(u8)((u8)(r_47_7 == 1u) & (u8)(ld16(away(r_2b_20, 124ull)) != 65535u))) { r_nd = r_y3_2; goto l_after_94_3; }
+    if (!(ld8(ldp(away(r_2b_20, 152ull))) == 8u)) { r_nd = r_y3_2; goto l_after_94_3; }
+    if (ld32(away(r_2b_20, 144ull)) == 0u) goto l_then_8o;
+    if (ld8(away(r_2b_20, 168ull)) == 0u) { r_nd = r_y3_2; goto l_after_94_3; }
+l_then_8o:;
+    capnpc_layout_rust_readers_Schema_field_values(slot_4, a_1, r_bw, r_2b_20, ld64(r_ps_4));
+    mv32(slot_3, slot_4);
     u64 r_24_2 = (u64)ld32(r_9r_1);
-    memset(r_x5_20, 0u, 24);
+    memset(r_x5_17, 0u, 24);
     stp(slot_2, slot_1);
     capnpc_schema_text_Text_push_number(slot_2, r_24_2);
-    r_xw_16 = ldp(slot_2);
-    r_38_33 = ld64(r_x5_20);
-    r_38_34 = ld64(r_zd_15);
-    r_38_35 = ld64(r_lk_9);
-    r_ix_6 = (u8)(r_38_35 & 1);
-    if (!(ld64(r_zd_14) == r_b5)) { r_xw_17 = r_b5; goto l_join_yp_2; }
-    u8 r_89_16 = std_alloc_vec_Vec_grow_amortized_c7bbd78b6494f746(slot_10);
-    if (!r_89_16) goto l_arm_f8_9;
-    r_xw_17 = ld64(r_x5_19);
-    goto l_join_yp_2;
-l_arm_f8_9:;
-    if (r_38_34 == 0ull) goto l_join_36_2;
-    rattle_dealloc(r_xw_16);
+    r_xw_11 = ldp(slot_2);
+    r_38_28 = ld64(r_x5_17);
+    r_38_29 = ld64(r_zd_15);
+    r_38_30 = ld64(r_lk_9);
+    r_ix_5 = (u8)(r_38_30 & 1);
+    u64 r_52_47 = ld64(r_x5_18);
+    if (!(ld64(r_zd_16) == r_52_47)) { r_1k_2 = r_52_47; goto l_join_34_2; }
+    u8 r_89_10 = std_alloc_vec_Vec_grow_amortized_c7bbd78b6494f746(slot_3);
+    if (!r_89_10) goto l_arm_f8_8;
+    r_1k_2 = ld64(r_x5_18);
+    goto l_join_34_2;
+l_arm_f8_8:;
+    if (r_38_29 == 0ull) goto l_join_36_2;
+    rattle_dealloc(r_xw_11);
     goto l_join_36_2;
-l_join_yp_2:;
-    u8 *r_a7_17 = (ldp(slot_10) + (i64)((r_xw_17 * 48ull)));
-    stp(r_a7_17, ((u8 *)g_static_149));
-    st64((r_a7_17 + 8), 3ull);
-    stp((r_a7_17 + 16), r_xw_16);
-    st64((r_a7_17 + 24), r_38_33);
-    st64((r_a7_17 + 32), r_38_34);
-    st64((r_a7_17 + 40), r_38_35);
-    st64(r_x5_19, (r_xw_17 + 1ull));
-    if (!r_ix_6) goto l_capnpc_g2;
+l_join_34_2:;
+    u8 *r_a7_13 = (ldp(slot_3) + (i64)((r_1k_2 * 48ull)));
+    stp(r_a7_13, ((u8 *)g_static_150));
+    st64((r_a7_13 + 8), 3ull);
+    stp((r_a7_13 + 16), r_xw_11);
+    st64((r_a7_13 + 24), r_38_28);
+    st64((r_a7_13 + 32), r_38_29);
+    st64((r_a7_13 + 40), r_38_30);
+    st64(r_x5_18, (r_1k_2 + 1ull));
+    if (!r_ix_5) goto l_capnpc_kq;
 l_join_36_2:;
-    st8(r_lk_8, 1u);
-l_capnpc_g2:;
-    r_bb = away(r_2b_19, 124ull);
-    if (ld16(r_bb) == 65535u) goto l_join_nd;
-    memset(t_x5_2, 0u, 24);
+    st8(r_lk_10, 1u);
+l_capnpc_kq:;
+    capnpc_schema_text_Values_put_lines(slot_3, ((u8 *)g_static_286), 26ull);
+    if (!(ld8(r_qj_3) == 1u)) goto l_thread_16;
+    if (!(ld8(away(r_2b_20, 168ull)) == 0u)) { t_ns = 39ull; t_6w = ((u8 *)g_static_297); goto l_capnpc_4q; }
+l_thread_16:;
+    t_ns = 23ull;
+    t_6w = ((u8 *)g_static_298);
+l_capnpc_4q:;
+    capnpc_schema_text_Values_put_lines(slot_3, t_6w, t_ns);
+    u8 r_mp = (u8)(r_y3_2 & 1);
+    capnpc_schema_text_Values_put(slot_3, ((u8 *)g_static_287), 6ull, (r_mp ? ((u8 *)g_static_164) : ((u8 *)g_static_288)), (r_mp ? 8ull : 6ull));
+    capnpc_schema_text_Text_push_filled(slot_12, ((u8 *)g_static_289), 60ull, slot_3);
+    r_lz_26 = ldp(slot_3);
+    r_52_48 = ld64(r_x5_18);
+    r_iv_3 = r_52_48;
+l_loop_bp_2:;
+    if (r_iv_3 == 0ull) { r_2b_21 = 0ull; r_js = ((u8 *)g_static_120); goto l_capnpc_wh; }
+    u64 r_zn_6 = (r_iv_3 + 0xffffffffffffffffull);
+    r_2b_22 = away(r_lz_26, (r_zn_6 * 48ull));
+    u8 r_wo_1 = core_cmp_bytes_equal(ldp(r_2b_22), ld64((r_2b_22 + 8)), ((u8 *)g_static_276), 4ull);
+    if (!r_wo_1) { r_iv_3 = r_zn_6; goto l_loop_bp_2; }
+    r_2b_21 = ld64(away(r_2b_22, 24ull));
+    r_js = ldp(away(r_2b_22, 16ull));
+l_capnpc_wh:;
+    capnpc_layout_rust_piece_Piece_push_shown(slot_12, ((u8 *)g_static_290), 12ull, ((u8 *)g_static_291), 5ull, r_js, r_2b_21);
+    capnpc_schema_text_Text_push_filled(slot_12, ((u8 *)g_static_292), 9ull, slot_3);
+    r_38_31 = ld64(r_zd_16);
+    if (r_52_48 == 0ull) goto l_std_8o_3;
+    r_01_7 = 0ull;
+l_join_1a_7:;
+    r_a7_14 = away(r_lz_26, (r_01_7 * 48ull));
+    if (ld64((r_a7_14 + 32)) == 0ull) goto l_core_jc_7;
+    rattle_dealloc(ldp((r_a7_14 + 16)));
+l_core_jc_7:;
+    u64 r_36_24 = (r_01_7 + 1ull);
+    if (!(r_36_24 == r_52_48)) { r_01_7 = r_36_24; goto l_join_1a_7; }
+l_std_8o_3:;
+    if (r_38_31 == 0ull) { r_nd = 0u; goto l_after_94_3; }
+    rattle_dealloc(r_lz_26);
+    r_nd = 0u;
+l_after_94_3:;
+    u64 r_36_25 = (r_e6 + 1ull);
+    if (!(r_36_25 == r_52_44)) { r_y3_2 = r_nd; r_e6 = r_36_25; goto l_join_ga_2; }
+    r_xw_12 = ldp(r_im);
+    r_38_32 = ld64(r_t0);
+    t_mp = (u8)(r_nd & 1);
+    if (r_38_32 == 0ull) { t_p5 = ((u8 *)g_static_294); t_7h = 13ull; goto l_capnpc_3m; }
+    r_7d_2 = 0ull;
+l_join_ie_2:;
+    r_2b_23 = away(r_xw_12, (r_7d_2 * 208ull));
+    if (ld16(away(r_2b_23, 124ull)) == 65535u) goto l_after_sd_1;
+    if (!(ld8(away(r_2b_23, 128ull)) == 1u)) goto l_after_sd_1;
+    if (!(ld32(away(r_2b_23, 144ull)) == 0u)) { t_p5 = ((u8 *)g_static_293); t_7h = 23ull; goto l_capnpc_3m; }
+    if ((u8)(ld8(ldp(away(r_2b_23, 152ull))) + 250u) < 4u) { t_p5 = ((u8 *)g_static_293); t_7h = 23ull; goto l_capnpc_3m; }
+l_after_sd_1:;
+    u64 r_36_26 = (r_7d_2 + 1ull);
+    if (r_36_26 == r_38_32) { t_p5 = ((u8 *)g_static_294); t_7h = 13ull; goto l_capnpc_3m; }
+    r_7d_2 = r_36_26;
+    goto l_join_ie_2;
+l_capnpc_3m:;
+    if (t_mp) { t_cf = t_7h; t_mz = t_p5; goto l_then_kt; }
+    goto l_else_pb;
+l_then_kt:;
+    capnpc_layout_rust_piece_Piece_push_shown(slot_12, ((u8 *)g_static_164), 8ull, ((u8 *)g_static_291), 5ull, t_mz, t_cf);
+    goto l_capnpc_mp;
+l_else_pb:;
+    r_zd_17 = (slot_12 + 16);
+    u64 r_52_49 = ld64(r_zd_17);
+    u64 r_52_50 = ld64(r_x5);
+    if (!((r_52_49 - r_52_50) < 8ull)) { r_4v = r_52_49; r_23 = r_52_50; goto l_join_3c; }
+    u8 r_9g = std_alloc_vec_Vec_grow_amortized_827889bc1b348a11(slot_12, 8ull);
+    if (!r_9g) goto l_then_4s_2;
+    r_4v = ld64(r_zd_17);
+    r_23 = ld64(r_x5);
+l_join_3c:;
+    r_5q_5 = (r_23 + 8ull);
+    r_lz_27 = ldp(slot_12);
+    r_2b_24 = away(r_lz_27, r_23);
+    if (((u64)(uptr)r_2b_24 - (u64)(uptr)((u8 *)g_static_295)) < 8ull) { r_67 = 0ull; goto l_join_yg; }
+    st64(r_2b_24, 0xa7b2065736c6520ull);
+    goto l_std_5f_2;
+l_join_yg:;
+    st8((r_2b_24 + (i64)(r_67)), ld8((((u8 *)g_static_295) + (i64)(r_67))));
+    u64 r_c4_6 = (r_67 + 1ull);
+    if (!(r_c4_6 == 8ull)) { r_67 = r_c4_6; goto l_join_yg; }
+l_std_5f_2:;
+    stp(slot_12, r_lz_27);
+    st64(r_x5, r_5q_5);
+    st64(r_zd_17, r_4v);
+    goto l_capnpc_a5;
+l_then_4s_2:;
+    st8((slot_12 + 24), 1u);
+l_capnpc_a5:;
+    capnpc_layout_rust_piece_Piece_push_shown(slot_12, ((u8 *)g_static_290), 12ull, ((u8 *)g_static_291), 5ull, t_p5, t_7h);
+    u64 r_52_51 = ld64(r_zd_17);
+    u64 r_52_52 = ld64(r_x5);
+    if (!((r_52_51 - r_52_52) < 10ull)) { r_co = r_52_51; r_ui = r_52_52; goto l_join_9r; }
+    u8 r_48 = std_alloc_vec_Vec_grow_amortized_827889bc1b348a11(slot_12, 10ull);
+    if (!r_48) goto l_then_4s_3;
+    r_co = ld64(r_zd_17);
+    r_ui = ld64(r_x5);
+l_join_9r:;
+    r_ob = (r_ui + 10ull);
+    r_lz_28 = ldp(slot_12);
+    r_2b_25 = away(r_lz_28, r_ui);
+    if (((u64)(uptr)r_2b_25 - (u64)(uptr)((u8 *)g_static_296)) < 10ull) { r_ft = 0ull; goto l_join_cj; }
+    mv10(r_2b_25, ((u8 *)g_static_296));
+    goto l_std_5f_3;
+l_join_cj:;
+    st8((r_2b_25 + (i64)(r_ft)), ld8((((u8 *)g_static_296) + (i64)(r_ft))));
+    u64 r_c4_7 = (r_ft + 1ull);
+    if (!(r_c4_7 == 10ull)) { r_ft = r_c4_7; goto l_join_cj; }
+l_std_5f_3:;
+    stp(slot_12, r_lz_28);
+    st64(r_x5, r_ob);
+    st64(r_zd_17, r_co);
+    goto l_capnpc_mp;
+l_then_4s_3:;
+    st8((slot_12 + 24), 1u);
+l_capnpc_mp:;
+l_join_cv:;
+    capnpc_schema_text_Text_push_filled(slot_12, ((u8 *)g_static_277), 31ull, slot_5);
+    r_xw_13 = ldp(slot_5);
+    r_fz_1 = ld64(t_x5_1);
+    r_38_33 = ld64((slot_5 + 16));
+    if (r_fz_1 == 0ull) goto l_std_ab_2;
+    r_01_8 = 0ull;
+l_join_1a_8:;
+    r_a7_15 = away(r_xw_13, (r_01_8 * 48ull));
+    if (ld64((r_a7_15 + 32)) == 0ull) goto l_core_jc_8;
+    rattle_dealloc(ldp((r_a7_15 + 16)));
+l_core_jc_8:;
+    u64 r_36_27 = (r_01_8 + 1ull);
+    if (!(r_36_27 == r_fz_1)) { r_01_8 = r_36_27; goto l_join_1a_8; }
+l_std_ab_2:;
+    if (r_38_33 == 0ull) goto l_capnpc_f3;
+    rattle_dealloc(r_xw_13);
+l_capnpc_f3:;
+    mv40(slot_11, slot_12);
+    if (r_38_14 == 0ull) goto l_std_wp;
+    rattle_dealloc(r_xw_5);
+l_std_wp:;
+    r_xw_14 = ldp(slot_13);
+    r_38_34 = ld64((slot_13 + 8));
+    r_38_35 = ld64((slot_13 + 16));
+    if (r_38_34 == 0ull) goto l_std_ab_3;
+    r_01_9 = 0ull;
+l_join_1a_9:;
+    r_a7_16 = away(r_xw_14, (r_01_9 * 48ull));
+    if (ld64((r_a7_16 + 32)) == 0ull) goto l_core_jc_9;
+    rattle_dealloc(ldp((r_a7_16 + 16)));
+l_core_jc_9:;
+    u64 r_36_28 = (r_01_9 + 1ull);
+    if (!(r_36_28 == r_38_34)) { r_01_9 = r_36_28; goto l_join_1a_9; }
+l_std_ab_3:;
+    if (r_38_35 == 0ull) goto l_capnpc_cl;
+    rattle_dealloc(r_xw_14);
+l_capnpc_cl:;
+    mv40(slot_17, slot_11);
+    r_xw_15 = ldp(slot_17);
+    u64 r_38_36 = ld64((slot_17 + 16));
+    capnpc_layout_rust_piece_Piece_push_into(slot_17, a_2, a_4);
+    if (r_38_36 == 0ull) goto l_std_8q;
+    rattle_dealloc(r_xw_15);
+l_std_8q:;
+    r_mn = uadd_sat64(a_4, 1ull);
+    u64 r_52_53 = ld64(r_08);
+    u64 r_52_54 = ld64(r_rq);
+    if (!(r_52_53 == r_52_54)) { r_w4_1 = r_52_53; r_61_1 = r_52_54; goto l_join_e4_1; }
+    u8 r_y4 = std_alloc_vec_Vec_grow_amortized_827889bc1b348a11(a_2, 1ull);
+    if (!r_y4) goto l_then_pm_1;
+    r_w4_1 = ld64(r_08);
+    r_61_1 = ld64(r_rq);
+l_join_e4_1:;
+    u8 *r_fx_1 = ldp(a_2);
+    st8(away(r_fx_1, r_61_1), 10u);
+    stp(a_2, r_fx_1);
+    st64(r_rq, (r_61_1 + 1ull));
+    st64(r_08, r_w4_1);
+    goto l_capnpc_tf;
+l_then_pm_1:;
+    st8(away(a_2, 24ull), 1u);
+l_capnpc_tf:;
+    capnpc_layout_rust_generating_open_module(a_2, r_bw, a_4);
+    memset(slot_13, 0u, 40);
+    memset(slot_16, 0u, 32);
+    stp(slot_14, slot_1);
+    r_x5_19 = (slot_14 + 8);
+    memset(r_x5_19, 0u, 24);
+    r_89_11 = (slot_14 + 32);
+    st64(r_89_11, ((r_mn > 0x3fffffffffffffffull) ? 0ull : usub_sat64(100ull, (u64)(r_mn << 2ull))));
+    memset((slot_12 + 8), 0u, 24);
+    stp(slot_12, slot_1);
+    capnpc_schema_text_Values_put(slot_12, ((u8 *)g_static_145), 4ull, ldp(r_zn), ld64(r_3q));
+    capnpc_schema_text_Values_put(slot_12, ((u8 *)g_static_146), 4ull, ldp(r_be), ld64(r_x1));
+    capnpc_schema_text_Values_put(slot_12, ((u8 *)g_static_147), 3ull, ldp(r_39), ld64(r_9b));
+    mv32(slot_15, slot_12);
+    u8 *r_x5_20 = (slot_2 + 8);
+    u64 r_u7_1 = (u64)ld16(away(r_2b, 194ull));
+    memset(r_x5_20, 0u, 24);
     stp(slot_2, slot_1);
-    capnpc_schema_text_Text_push_filled(slot_2, ((u8 *)g_static_296), 40ull, slot_10);
-    r_xw_18 = ldp(slot_2);
-    r_fz_2 = ld64(t_x5_2);
-    r_38_36 = ld64(r_zd_16);
-    r_38_37 = ld64(r_lk_10);
-    r_ix_7 = (u8)(r_38_37 & 1);
-    u64 r_52_48 = ld64(r_x5_19);
-    if (!(ld64(r_zd_14) == r_52_48)) { r_bz_1 = r_52_48; goto l_join_0a_1; }
-    u8 r_89_17 = std_alloc_vec_Vec_grow_amortized_c7bbd78b6494f746(slot_10);
-    if (!r_89_17) goto l_arm_f8_10;
-    r_bz_1 = ld64(r_x5_19);
-    goto l_join_0a_1;
+    capnpc_schema_text_Text_push_number(slot_2, r_u7_1);
+    r_xw_16 = ldp(slot_2);
+    r_38_37 = ld64(r_x5_20);
+    r_38_38 = ld64((slot_2 + 16));
+    r_38_39 = ld64((slot_2 + 24));
+    r_ix_6 = (u8)(r_38_39 & 1);
+    r_zd_18 = (slot_15 + 16);
+    r_x5_21 = (slot_15 + 8);
+    u64 r_52_55 = ld64(r_x5_21);
+    if (!(ld64(r_zd_18) == r_52_55)) { r_xm_1 = r_52_55; goto l_join_ni; }
+    u8 r_89_12 = std_alloc_vec_Vec_grow_amortized_c7bbd78b6494f746(slot_15);
+    if (!r_89_12) goto l_arm_f8_9;
+    r_xm_1 = ld64(r_x5_21);
+    goto l_join_ni;
+l_arm_f8_9:;
+    if (r_38_38 == 0ull) goto l_join_g8_1;
+    rattle_dealloc(r_xw_16);
+    goto l_join_g8_1;
+l_join_ni:;
+    u8 *r_a7_17 = (ldp(slot_15) + (i64)((r_xm_1 * 48ull)));
+    stp(r_a7_17, ((u8 *)g_static_300));
+    st64((r_a7_17 + 8), 4ull);
+    stp((r_a7_17 + 16), r_xw_16);
+    st64((r_a7_17 + 24), r_38_37);
+    st64((r_a7_17 + 32), r_38_38);
+    st64((r_a7_17 + 40), r_38_39);
+    u64 r_7n_1 = (r_xm_1 + 1ull);
+    st64(r_x5_21, r_7n_1);
+    if (!r_ix_6) { r_yb = r_7n_1; goto l_capnpc_e1; }
+l_join_g8_1:;
+    st8((slot_15 + 24), 1u);
+    r_yb = ld64(r_x5_21);
+l_capnpc_e1:;
+    u8 *r_x5_22 = (slot_2 + 8);
+    u64 r_u7_2 = (u64)ld16(away(r_2b, 196ull));
+    memset(r_x5_22, 0u, 24);
+    stp(slot_2, slot_1);
+    capnpc_schema_text_Text_push_number(slot_2, r_u7_2);
+    r_xw_17 = ldp(slot_2);
+    r_38_40 = ld64(r_x5_22);
+    r_38_41 = ld64((slot_2 + 16));
+    r_38_42 = ld64((slot_2 + 24));
+    r_ix_7 = (u8)(r_38_42 & 1);
+    if (!(ld64(r_zd_18) == r_yb)) { r_dw = r_yb; goto l_join_rx; }
+    u8 r_89_13 = std_alloc_vec_Vec_grow_amortized_c7bbd78b6494f746(slot_15);
+    if (!r_89_13) goto l_arm_f8_10;
+    r_dw = ld64(r_x5_21);
+    goto l_join_rx;
 l_arm_f8_10:;
-    if (r_38_36 == 0ull) goto l_join_q5;
-    rattle_dealloc(r_xw_18);
-    goto l_join_q5;
-l_join_0a_1:;
-    u8 *r_a7_18 = (ldp(slot_10) + (i64)((r_bz_1 * 48ull)));
-    stp(r_a7_18, ((u8 *)g_static_295));
-    st64((r_a7_18 + 8), 6ull);
-    stp((r_a7_18 + 16), r_xw_18);
-    st64((r_a7_18 + 24), r_fz_2);
-    st64((r_a7_18 + 32), r_38_36);
-    st64((r_a7_18 + 40), r_38_37);
-    st64(r_x5_19, (r_bz_1 + 1ull));
-    if (!r_ix_7) goto l_join_nd;
-l_join_q5:;
-    st8(r_lk_8, 1u);
-l_join_nd:;
-    if (!(r_y3_2 < ld64(r_ti_2))) { r_yk = ((u8 *)g_static_120); r_o4 = 0ull; goto l_capnpc_0r; }
-    u8 *r_2b_20 = away(ldp(r_v3_1), (r_y3_2 * 24ull));
-    r_yk = ldp(r_2b_20);
-    r_o4 = ld64(away(r_2b_20, 8ull));
-l_capnpc_0r:;
-    switch (ld8(r_qj_2)) {
-    case 0u: goto l_arm_dz;
-    case 1u: goto l_arm_vp;
-    case 2u: goto l_capnpc_tl_2;
+    if (r_38_41 == 0ull) goto l_join_4s_3;
+    rattle_dealloc(r_xw_17);
+    goto l_join_4s_3;
+l_join_rx:;
+    u8 *r_a7_18 = (ldp(slot_15) + (i64)((r_dw * 48ull)));
+    stp(r_a7_18, ((u8 *)g_static_301));
+    st64((r_a7_18 + 8), 8ull);
+    stp((r_a7_18 + 16), r_xw_17);
+    st64((r_a7_18 + 24), r_38_40);
+    st64((r_a7_18 + 32), r_38_41);
+    st64((r_a7_18 + 40), r_38_42);
+    st64(r_x5_21, (r_dw + 1ull));
+    if (!r_ix_7) goto l_capnpc_6e;
+l_join_4s_3:;
+    st8((slot_15 + 24), 1u);
+l_capnpc_6e:;
+    memset(slot_11, 0u, 32);
+    r_lz_29 = ldp(r_im);
+    r_52_56 = ld64(r_t0);
+    if (r_52_56 == 0ull) goto l_capnpc_ts;
+    r_zd_19 = (slot_10 + 16);
+    r_x5_23 = (slot_10 + 8);
+    r_lk_11 = (slot_10 + 24);
+    r_9r_2 = away(r_2b, 200ull);
+    r_x5_24 = (slot_2 + 8);
+    r_zd_20 = (slot_2 + 16);
+    r_lk_12 = (slot_2 + 24);
+    t_x5_2 = (slot_2 + 8);
+    r_zd_21 = (slot_2 + 16);
+    r_lk_13 = (slot_2 + 24);
+    r_ti_2 = away(r_2b, 144ull);
+    r_v3_1 = away(r_2b, 136ull);
+    r_x5_25 = (slot_8 + 8);
+    r_x5_26 = (slot_9 + 8);
+    r_x5_27 = (slot_3 + 8);
+    r_zd_22 = (slot_3 + 16);
+    r_zd_23 = (slot_9 + 16);
+    r_lk_14 = (slot_9 + 24);
+    t_89 = (slot_2 + 32);
+    t_a8 = (slot_3 + 40);
+    r_x5_28 = (slot_7 + 8);
+    r_zd_24 = (slot_7 + 16);
+    r_lk_15 = (slot_7 + 24);
+    r_89_14 = (slot_7 + 32);
+    r_a8_3 = (slot_7 + 40);
+    r_x5_29 = (slot_6 + 8);
+    r_zd_25 = (slot_6 + 16);
+    r_lk_16 = (slot_6 + 24);
+    r_89_15 = (slot_6 + 32);
+    r_a8_4 = (slot_6 + 40);
+    r_x5_30 = (slot_5 + 8);
+    r_zd_26 = (slot_5 + 16);
+    r_lk_17 = (slot_5 + 24);
+    r_89_16 = (slot_5 + 32);
+    r_a8_5 = (slot_5 + 40);
+    r_x5_31 = (slot_4 + 8);
+    r_zd_27 = (slot_4 + 16);
+    r_lk_18 = (slot_4 + 24);
+    r_89_17 = (slot_4 + 32);
+    r_a8_6 = (slot_4 + 40);
+    r_x5_32 = (slot_3 + 8);
+    r_zd_28 = (slot_3 + 16);
+    r_lk_19 = (slot_3 + 24);
+    r_89_18 = (slot_3 + 32);
+    r_x5_33 = (slot_2 + 8);
+    r_zd_29 = (slot_2 + 16);
+    r_lk_20 = (slot_2 + 24);
+    r_a8_7 = (slot_2 + 40);
+    r_lk_21 = (slot_8 + 24);
+    r_zd_30 = (slot_8 + 16);
+    r_y3_3 = 0ull;
+l_join_ga_4:;
+    r_2b_26 = away(r_lz_29, (r_y3_3 * 208ull));
+    r_qj_4 = away(r_2b_26, 128ull);
+    switch (ld8(r_qj_4)) {
+    case 2u: goto l_after_sd_2;
+    case 0u: goto l_arm_d2_4;
+    case 1u: goto l_arm_un_4;
     default: goto l_noarm_e1_10;
     }
-l_arm_dz:;
-    r_52_49 = ld64(away(r_2b_19, 136ull));
-    u8 r_e0 = (ld16(r_bb) == 65535u);
-    capnpc_schema_text_Values_put_lines(slot_10, ((u8 *)g_static_299), 62ull);
-    capnpc_layout_rust_builders_push_call(slot_14, r_yk, r_o4, ((u8 *)g_static_300), 39ull, slot_10);
-    if (r_e0) goto l_capnpc_tl_2;
-    stp(slot_8, slot_1);
-    memset(r_x5_21, 0u, 24);
+l_arm_d2_4:;
     r_mb_8 = ldp(a_1);
     r_qw_8 = ld64(r_e7);
-    if (!(r_qw_8 == 0ull)) { r_8p = 0ull; goto l_join_cg; }
-    stp(slot_9, slot_1);
-    memset(r_x5_22, 0u, 24);
-    r_av = 0ull;
-    r_w7 = 0u;
-    r_u5 = slot_1;
-    goto l_after_wx;
-l_join_cg:;
-    r_2b_21 = away(r_mb_8, (r_8p * 280ull));
-    if (!(ld8(away(r_2b_21, 184ull)) == 1u)) goto l_after_sd_3;
-    if (!(u8)(ld8(away(r_2b_21, 192ull)) & 1)) goto l_after_sd_3;
-    r_5p = ld64(r_2b_21);
-    r_fz_3 = 0ull;
-    r_so = r_2b_21;
-l_join_hf:;
-    if (r_5p == r_52_49) goto l_join_4t;
-    r_0v = away(r_so, 184ull);
-    r_52_50 = ld64(away(r_so, 8ull));
+    r_52_57 = ld64(away(r_2b_26, 136ull));
+    if (r_qw_8 == 0ull) goto l_after_sd_2;
     r_1y_8 = 0ull;
     goto l_join_v4_8;
 l_loop_94_3:;
-    u64 r_36_26 = (r_1y_8 + 1ull);
-    if (r_36_26 == r_qw_8) goto l_after_sd_3;
-    r_1y_8 = r_36_26;
+    u64 r_36_29 = (r_1y_8 + 1ull);
+    if (r_36_29 == r_qw_8) goto l_after_sd_2;
+    r_1y_8 = r_36_29;
 l_join_v4_8:;
-    r_tr_4 = (r_1y_8 * 280ull);
-    if (!(ld64(away(r_mb_8, r_tr_4)) == r_52_50)) goto l_loop_94_3;
-    if (!(ld8(r_0v) == 1u)) goto l_after_sd_3;
-    u64 r_36_27 = (r_fz_3 + 1ull);
-    if ((u8)(ld8(away(r_so, 192ull)) & 1) ? (r_36_27 != r_qw_8) : 0u) { r_5p = r_52_50; r_fz_3 = r_36_27; r_so = away(r_mb_8, r_tr_4); goto l_join_hf; }
-    goto l_after_sd_3;
-l_join_4t:;
-    if (ld16(away(r_2b_21, 198ull)) == 0u) goto l_join_iv;
-    capnpc_schema_slots_add_slot_once(((u8 *)g_static_305), 8ull, ld32(away(r_2b_21, 200ull)), slot_8);
-l_join_iv:;
-    r_lz_27 = ldp(away(r_2b_21, 256ull));
-    r_52_51 = ld64(away(r_2b_21, 264ull));
-    if (r_52_51 == 0ull) goto l_after_sd_3;
-    r_y3_3 = 0ull;
-l_join_ga_2:;
-    r_2b_22 = away(r_lz_27, (r_y3_3 * 208ull));
-    if (!(ld8(away(r_2b_22, 128ull)) == 1u)) goto l_after_94_3;
-    r_rv = ldp(away(r_2b_22, 152ull));
-    if (!(ld32(away(r_2b_22, 144ull)) == 0u)) { r_yy = 7ull; r_xv = ((u8 *)g_static_306); goto l_then_rm; }
-    if (ld8(r_rv) == 0u) goto l_after_94_3;
-    r_52_52 = ld64(away(r_rv, 40ull));
-    if (!(ctpop64(r_52_52) == 1ull)) { r_yy = 7ull; r_xv = ((u8 *)g_static_306); goto l_then_rm; }
-    t_vt = cttz64(r_52_52);
-    if (!(t_vt < 7ull)) { r_yy = 7ull; r_xv = ((u8 *)g_static_306); goto l_then_rm; }
-    r_yy = ld64((((u8 *)switch_table_capnpc_layout_rust_generating_write_entry) + (i64)(8 * t_vt)));
-    r_xv = ldp((((u8 *)switch_table_capnpc_layout_rust_generating_write_entry_11) + (i64)(8 * t_vt)));
-l_then_rm:;
-    capnpc_schema_slots_add_slot_once(r_xv, r_yy, ld32(away(r_2b_22, 136ull)), slot_8);
-l_after_94_3:;
-    u64 r_36_28 = (r_y3_3 + 1ull);
-    if (!(r_36_28 == r_52_51)) { r_y3_3 = r_36_28; goto l_join_ga_2; }
-l_after_sd_3:;
-    u64 r_36_29 = (r_8p + 1ull);
-    if (!(r_36_29 == r_qw_8)) { r_8p = r_36_29; goto l_join_cg; }
-    r_xw_19 = ldp(slot_8);
-    r_38_38 = ld64(r_x5_21);
-    stp(slot_9, slot_1);
-    memset(r_x5_22, 0u, 24);
-    if (!(r_38_38 == 0ull)) { r_wq = 0ull; goto l_join_og; }
-    r_av = ld64(r_zd_25);
-    r_w7 = ld8(r_lk_18);
-    r_u5 = r_xw_19;
-    goto l_after_wx;
-l_join_og:;
-    r_2b_23 = away(r_xw_19, (r_wq * 24ull));
-    r_lz_28 = ldp(r_2b_23);
-    r_ps_4 = away(r_2b_23, 8ull);
-    r_52_53 = ld64(r_ps_4);
-    memset(slot_3, 0u, 24);
-    st32(slot_2, 32u);
-    core_iter_pattern_CharPattern_first_in(slot_3, slot_2, r_lz_28, r_52_53);
-    t_0q = (ld8(slot_3) == 1u);
-    if (!t_0q) { r_xu = 0ull; r_xk = ((u8 *)g_static_120); sink_ck = ((u8 *)0); sink_n0 = 0ull; goto l_core_4v; }
-    u64 r_38_39 = ld64(r_zd_17);
-    r_xu = (r_52_53 - r_38_39);
-    r_xk = away(r_lz_28, r_38_39);
-    sink_ck = r_lz_28;
-    sink_n0 = ld64(r_x5_23);
-l_core_4v:;
-    r_v7 = (t_0q ? sink_ck : ldp(r_2b_23));
-    r_7q = (t_0q ? sink_n0 : ld64(r_ps_4));
-    u64 r_52_54 = ld64(r_zd_18);
-    u64 r_52_55 = ld64(r_x5_22);
-    if (!((r_52_54 - r_52_55) < 15ull)) { r_sa = r_52_54; r_kj = r_52_55; goto l_join_f0; }
-    u8 r_zn_6 = std_alloc_vec_Vec_grow_amortized_827889bc1b348a11(slot_9, 15ull);
-    if (!r_zn_6) goto l_then_36_4;
-    r_sa = ld64(r_zd_18);
-    r_kj = ld64(r_x5_22);
-l_join_f0:;
-    r_87 = (r_kj + 15ull);
-    r_2b_24 = away(ldp(slot_9), r_kj);
-    if (((u64)(uptr)r_2b_24 - (u64)(uptr)((u8 *)g_static_304)) < 15ull) { r_s8 = 0ull; goto l_join_mm; }
-    mv15(r_2b_24, ((u8 *)g_static_304));
-    goto l_std_93_1;
-l_join_mm:;
-    st8((r_2b_24 + (i64)(r_s8)), ld8((((u8 *)g_static_304) + (i64)(r_s8))));
-    u64 r_c4_5 = (r_s8 + 1ull);
-    if (!(r_c4_5 == 15ull)) { r_s8 = r_c4_5; goto l_join_mm; }
-l_std_93_1:;
-    st64(r_x5_22, r_87);
-    st64(r_zd_18, r_sa);
-    goto l_capnpc_xs;
-l_then_36_4:;
-    st8(r_lk_11, 1u);
-l_capnpc_xs:;
-    u8 r_je = core_cmp_bytes_equal(r_v7, r_7q, ((u8 *)g_static_307), 3ull);
-    if (!r_je) goto l_join_dx;
-    stp(slot_2, ((u8 *)g_static_311));
-    st64(r_x5_29, 9ull);
-    stp(r_zd_24, r_xk);
-    st64(r_lk_17, r_xu);
-    stp(t_89, ((u8 *)g_static_312));
-    st64(r_a8_7, 10ull);
-    r_id_3 = 0ull;
-l_join_ge_3:;
-    u8 *r_2b_25 = away(slot_2, (u64)(r_id_3 << 4ull));
-    r_52_56 = ld64(away(r_2b_25, 8ull));
-    r_lz_29 = ldp(r_2b_25);
-    u64 r_52_57 = ld64(r_zd_18);
-    u64 r_52_58 = ld64(r_x5_22);
-    if (!(r_52_56 > (r_52_57 - r_52_58))) { r_q7_2 = r_52_57; r_dv_1 = r_52_58; goto l_join_xn_1; }
-    u8 r_jl_3 = std_alloc_vec_Vec_grow_amortized_827889bc1b348a11(slot_9, r_52_56);
-    if (!r_jl_3) goto l_then_36_5;
-    r_q7_2 = ld64(r_zd_18);
-    r_dv_1 = ld64(r_x5_22);
-l_join_xn_1:;
-    r_5q_4 = (r_dv_1 + r_52_56);
-    r_2b_26 = away(ldp(slot_9), r_dv_1);
-    if (((u64)(uptr)r_2b_26 - (u64)(uptr)r_lz_29) < r_52_56) { r_il_3 = 0ull; goto l_join_fh_3; }
-    memmove_or_none(r_2b_26, r_lz_29, r_52_56);
-    goto l_std_93_2;
-l_join_fh_3:;
-    st8((r_2b_26 + (i64)(r_il_3)), ld8((r_lz_29 + (i64)(r_il_3))));
-    u64 r_36_30 = (r_il_3 + 1ull);
-    if (!(r_36_30 == r_52_56)) { r_il_3 = r_36_30; goto l_join_fh_3; }
-l_std_93_2:;
-    st64(r_x5_22, r_5q_4);
-    st64(r_zd_18, r_q7_2);
-    goto l_capnpc_nc_1;
-l_then_36_5:;
-    st8(r_lk_11, 1u);
-l_capnpc_nc_1:;
-    u64 r_c4_6 = (r_id_3 + 1ull);
-    if (r_c4_6 == 3ull) goto l_capnpc_f7_1;
-    r_id_3 = r_c4_6;
-    goto l_join_ge_3;
-l_join_dx:;
-    u8 r_p8 = core_cmp_bytes_equal(r_v7, r_7q, ((u8 *)g_static_308), 4ull);
-    if (!r_p8) goto l_join_tm;
-    stp(slot_3, ((u8 *)g_static_313));
-    st64(r_x5_28, 4ull);
-    stp(r_zd_23, r_xk);
-    st64(r_lk_16, r_xu);
-    stp(r_89_14, ((u8 *)g_static_314));
-    st64(t_a8, 8ull);
-    r_id_4 = 0ull;
-l_join_ge_4:;
-    u8 *r_2b_27 = away(slot_3, (u64)(r_id_4 << 4ull));
-    r_52_59 = ld64(away(r_2b_27, 8ull));
-    r_lz_30 = ldp(r_2b_27);
-    u64 r_52_60 = ld64(r_zd_18);
-    u64 r_52_61 = ld64(r_x5_22);
-    if (!(r_52_59 > (r_52_60 - r_52_61))) { r_q7_3 = r_52_60; r_dv_2 = r_52_61; goto l_join_xn_2; }
-    u8 r_jl_4 = std_alloc_vec_Vec_grow_amortized_827889bc1b348a11(slot_9, r_52_59);
-    if (!r_jl_4) goto l_then_36_6;
-    r_q7_3 = ld64(r_zd_18);
-    r_dv_2 = ld64(r_x5_22);
-l_join_xn_2:;
-    r_5q_5 = (r_dv_2 + r_52_59);
-    r_2b_28 = away(ldp(slot_9), r_dv_2);
-    if (((u64)(uptr)r_2b_28 - (u64)(uptr)r_lz_30) < r_52_59) { r_il_4 = 0ull; goto l_join_fh_4; }
-    memmove_or_none(r_2b_28, r_lz_30, r_52_59);
-    goto l_std_93_3;
-l_join_fh_4:;
-    st8((r_2b_28 + (i64)(r_il_4)), ld8((r_lz_30 + (i64)(r_il_4))));
-    u64 r_36_31 = (r_il_4 + 1ull);
-    if (!(r_36_31 == r_52_59)) { r_il_4 = r_36_31; goto l_join_fh_4; }
-l_std_93_3:;
-    st64(r_x5_22, r_5q_5);
-    st64(r_zd_18, r_q7_3);
-    goto l_capnpc_nc_2;
-l_then_36_6:;
-    st8(r_lk_11, 1u);
-l_capnpc_nc_2:;
-    u64 r_c4_7 = (r_id_4 + 1ull);
-    if (r_c4_7 == 3ull) goto l_capnpc_f7_1;
-    r_id_4 = r_c4_7;
-    goto l_join_ge_4;
-l_join_tm:;
-    u8 r_03 = core_cmp_bytes_equal(r_v7, r_7q, ((u8 *)g_static_305), 8ull);
-    if (!r_03) goto l_join_nf;
-    stp(slot_4, ((u8 *)g_static_313));
-    st64(r_x5_27, 4ull);
-    stp(r_zd_22, r_xk);
-    st64(r_lk_15, r_xu);
-    stp(r_89_13, ((u8 *)g_static_315));
-    st64(r_a8_6, 9ull);
-    r_id_5 = 0ull;
-l_join_ge_5:;
-    u8 *r_2b_29 = away(slot_4, (u64)(r_id_5 << 4ull));
-    r_52_62 = ld64(away(r_2b_29, 8ull));
-    r_lz_31 = ldp(r_2b_29);
-    u64 r_52_63 = ld64(r_zd_18);
-    u64 r_52_64 = ld64(r_x5_22);
-    if (!(r_52_62 > (r_52_63 - r_52_64))) { r_q7_4 = r_52_63; r_dv_3 = r_52_64; goto l_join_xn_3; }
-    u8 r_jl_5 = std_alloc_vec_Vec_grow_amortized_827889bc1b348a11(slot_9, r_52_62);
-    if (!r_jl_5) goto l_then_36_7;
-    r_q7_4 = ld64(r_zd_18);
-    r_dv_3 = ld64(r_x5_22);
-l_join_xn_3:;
-    r_5q_6 = (r_dv_3 + r_52_62);
-    r_2b_30 = away(ldp(slot_9), r_dv_3);
-    if (((u64)(uptr)r_2b_30 - (u64)(uptr)r_lz_31) < r_52_62) { r_il_5 = 0ull; goto l_join_fh_5; }
-    memmove_or_none(r_2b_30, r_lz_31, r_52_62);
-    goto l_std_93_4;
-l_join_fh_5:;
-    st8((r_2b_30 + (i64)(r_il_5)), ld8((r_lz_31 + (i64)(r_il_5))));
-    u64 r_36_32 = (r_il_5 + 1ull);
-    if (!(r_36_32 == r_52_62)) { r_il_5 = r_36_32; goto l_join_fh_5; }
-l_std_93_4:;
-    st64(r_x5_22, r_5q_6);
-    st64(r_zd_18, r_q7_4);
-    goto l_capnpc_nc_3;
-l_then_36_7:;
-    st8(r_lk_11, 1u);
-l_capnpc_nc_3:;
-    u64 r_c4_8 = (r_id_5 + 1ull);
-    if (r_c4_8 == 3ull) goto l_capnpc_f7_1;
-    r_id_5 = r_c4_8;
-    goto l_join_ge_5;
-l_join_nf:;
-    u8 r_k1 = core_cmp_bytes_equal(r_v7, r_7q, ((u8 *)g_static_309), 9ull);
-    if (!r_k1) goto l_join_nt;
-    stp(slot_5, ((u8 *)g_static_313));
-    st64(r_x5_26, 4ull);
-    stp(r_zd_21, r_xk);
-    st64(r_lk_14, r_xu);
-    stp(r_89_12, ((u8 *)g_static_316));
-    st64(r_a8_5, 9ull);
-    r_id_6 = 0ull;
-l_join_ge_6:;
-    u8 *r_2b_31 = away(slot_5, (u64)(r_id_6 << 4ull));
-    r_52_65 = ld64(away(r_2b_31, 8ull));
-    r_lz_32 = ldp(r_2b_31);
-    u64 r_52_66 = ld64(r_zd_18);
-    u64 r_52_67 = ld64(r_x5_22);
-    if (!(r_52_65 > (r_52_66 - r_52_67))) { r_q7_5 = r_52_66; r_dv_4 = r_52_67; goto l_join_xn_4; }
-    u8 r_jl_6 = std_alloc_vec_Vec_grow_amortized_827889bc1b348a11(slot_9, r_52_65);
-    if (!r_jl_6) goto l_then_36_8;
-    r_q7_5 = ld64(r_zd_18);
-    r_dv_4 = ld64(r_x5_22);
-l_join_xn_4:;
-    r_5q_7 = (r_dv_4 + r_52_65);
-    r_2b_32 = away(ldp(slot_9), r_dv_4);
-    if (((u64)(uptr)r_2b_32 - (u64)(uptr)r_lz_32) < r_52_65) { r_il_6 = 0ull; goto l_join_fh_6; }
-    memmove_or_none(r_2b_32, r_lz_32, r_52_65);
-    goto l_std_93_5;
-l_join_fh_6:;
-    st8((r_2b_32 + (i64)(r_il_6)), ld8((r_lz_32 + (i64)(r_il_6))));
-    u64 r_36_33 = (r_il_6 + 1ull);
-    if (!(r_36_33 == r_52_65)) { r_il_6 = r_36_33; goto l_join_fh_6; }
-l_std_93_5:;
-    st64(r_x5_22, r_5q_7);
-    st64(r_zd_18, r_q7_5);
-    goto l_capnpc_nc_4;
-l_then_36_8:;
-    st8(r_lk_11, 1u);
-l_capnpc_nc_4:;
-    u64 r_c4_9 = (r_id_6 + 1ull);
-    if (r_c4_9 == 3ull) goto l_capnpc_f7_1;
-    r_id_6 = r_c4_9;
-    goto l_join_ge_6;
-l_join_nt:;
-    u8 r_lb = core_cmp_bytes_equal(r_v7, r_7q, ((u8 *)g_static_310), 10ull);
-    if (!r_lb) goto l_join_hm;
-    stp(slot_6, ((u8 *)g_static_313));
-    st64(r_x5_25, 4ull);
-    stp(r_zd_20, r_xk);
-    st64(r_lk_13, r_xu);
-    stp(r_89_11, ((u8 *)g_static_317));
-    st64(r_a8_4, 9ull);
-    r_id_7 = 0ull;
-l_join_ge_7:;
-    u8 *r_2b_33 = away(slot_6, (u64)(r_id_7 << 4ull));
-    r_52_68 = ld64(away(r_2b_33, 8ull));
-    r_lz_33 = ldp(r_2b_33);
-    u64 r_52_69 = ld64(r_zd_18);
-    u64 r_52_70 = ld64(r_x5_22);
-    if (!(r_52_68 > (r_52_69 - r_52_70))) { r_q7_6 = r_52_69; r_dv_5 = r_52_70; goto l_join_xn_5; }
-    u8 r_jl_7 = std_alloc_vec_Vec_grow_amortized_827889bc1b348a11(slot_9, r_52_68);
-    if (!r_jl_7) goto l_then_36_9;
-    r_q7_6 = ld64(r_zd_18);
-    r_dv_5 = ld64(r_x5_22);
-l_join_xn_5:;
-    r_5q_8 = (r_dv_5 + r_52_68);
-    r_2b_34 = away(ldp(slot_9), r_dv_5);
-    if (((u64)(uptr)r_2b_34 - (u64)(uptr)r_lz_33) < r_52_68) { r_il_7 = 0ull; goto l_join_fh_7; }
-    memmove_or_none(r_2b_34, r_lz_33, r_52_68);
-    goto l_std_93_6;
-l_join_fh_7:;
-    st8((r_2b_34 + (i64)(r_il_7)), ld8((r_lz_33 + (i64)(r_il_7))));
-    u64 r_36_34 = (r_il_7 + 1ull);
-    if (!(r_36_34 == r_52_68)) { r_il_7 = r_36_34; goto l_join_fh_7; }
-l_std_93_6:;
-    st64(r_x5_22, r_5q_8);
-    st64(r_zd_18, r_q7_6);
-    goto l_capnpc_nc_5;
-l_then_36_9:;
-    st8(r_lk_11, 1u);
-l_capnpc_nc_5:;
-    u64 r_c4_10 = (r_id_7 + 1ull);
-    if (r_c4_10 == 3ull) goto l_capnpc_f7_1;
-    r_id_7 = r_c4_10;
-    goto l_join_ge_7;
-l_join_hm:;
-    stp(slot_7, ((u8 *)g_static_318));
-    st64(r_x5_24, 6ull);
-    stp(r_zd_19, r_xk);
-    st64(r_lk_12, r_xu);
-    stp(r_89_10, ((u8 *)g_static_282));
-    st64(r_a8_3, 3ull);
-    r_id_8 = 0ull;
-l_join_ge_8:;
-    u8 *r_2b_35 = away(slot_7, (u64)(r_id_8 << 4ull));
-    r_52_71 = ld64(away(r_2b_35, 8ull));
-    r_lz_34 = ldp(r_2b_35);
-    u64 r_52_72 = ld64(r_zd_18);
-    u64 r_52_73 = ld64(r_x5_22);
-    if (!(r_52_71 > (r_52_72 - r_52_73))) { r_q7_7 = r_52_72; r_dv_6 = r_52_73; goto l_join_xn_6; }
-    u8 r_jl_8 = std_alloc_vec_Vec_grow_amortized_827889bc1b348a11(slot_9, r_52_71);
-    if (!r_jl_8) goto l_then_36_10;
-    r_q7_7 = ld64(r_zd_18);
-    r_dv_6 = ld64(r_x5_22);
-l_join_xn_6:;
-    r_5q_9 = (r_dv_6 + r_52_71);
-    r_2b_36 = away(ldp(slot_9), r_dv_6);
-    if (((u64)(uptr)r_2b_36 - (u64)(uptr)r_lz_34) < r_52_71) { r_il_8 = 0ull; goto l_join_fh_8; }
-    memmove_or_none(r_2b_36, r_lz_34, r_52_71);
-    goto l_std_93_7;
-l_join_fh_8:;
-    st8((r_2b_36 + (i64)(r_il_8)), ld8((r_lz_34 + (i64)(r_il_8))));
-    u64 r_36_35 = (r_il_8 + 1ull);
-    if (!(r_36_35 == r_52_71)) { r_il_8 = r_36_35; goto l_join_fh_8; }
-l_std_93_7:;
-    st64(r_x5_22, r_5q_9);
-    st64(r_zd_18, r_q7_7);
-    goto l_capnpc_nc_6;
-l_then_36_10:;
-    st8(r_lk_11, 1u);
-l_capnpc_nc_6:;
-    u64 r_c4_11 = (r_id_8 + 1ull);
-    if (!(r_c4_11 == 3ull)) { r_id_8 = r_c4_11; goto l_join_ge_8; }
-l_capnpc_f7_1:;
-    u64 r_36_36 = (r_wq + 1ull);
-    if (r_36_36 == r_38_38) goto l_after_i8;
-    r_wq = r_36_36;
-    goto l_join_og;
-l_after_wx:;
-    st8(r_lk_11, r_w7);
-    r_lj = r_av;
-    r_dm = r_u5;
-    goto l_std_ab_4;
-l_after_i8:;
-    st8(r_lk_11, (u8)(ld8(r_lk_11) | ld8(r_lk_18)));
-    r_38_40 = ld64(r_zd_25);
-    r_iu = 0ull;
-l_join_9n:;
-    r_a7_19 = away(r_xw_19, (r_iu * 24ull));
-    if (ld64((r_a7_19 + 16)) == 0ull) goto l_core_jc_9;
-    rattle_dealloc(ldp(r_a7_19));
-l_core_jc_9:;
-    u64 r_36_37 = (r_iu + 1ull);
-    if (r_36_37 == r_38_38) { r_lj = r_38_40; r_dm = r_xw_19; goto l_std_ab_4; }
-    r_iu = r_36_37;
-    goto l_join_9n;
-l_std_ab_4:;
-    if (r_lj == 0ull) goto l_capnpc_66;
-    rattle_dealloc(r_dm);
-l_capnpc_66:;
-    r_xw_20 = ldp(slot_9);
-    r_38_41 = ld64(r_x5_22);
-    r_38_42 = ld64(r_zd_18);
-    r_38_43 = ld64(r_lk_11);
-    r_ix_8 = (u8)(r_38_43 & 1);
-    u64 r_52_74 = ld64(r_x5_19);
-    if (!(ld64(r_zd_14) == r_52_74)) { r_dw = r_52_74; goto l_join_rx; }
-    u8 r_89_18 = std_alloc_vec_Vec_grow_amortized_c7bbd78b6494f746(slot_10);
-    if (!r_89_18) goto l_arm_f8_11;
-    r_dw = ld64(r_x5_19);
-    goto l_join_rx;
-l_arm_f8_11:;
-    if (r_38_42 == 0ull) goto l_join_36_3;
-    rattle_dealloc(r_xw_20);
-    goto l_join_36_3;
-l_join_rx:;
-    u8 *r_a7_20 = (ldp(slot_10) + (i64)((r_dw * 48ull)));
-    stp(r_a7_20, ((u8 *)g_static_301));
-    st64((r_a7_20 + 8), 5ull);
-    stp((r_a7_20 + 16), r_xw_20);
-    st64((r_a7_20 + 24), r_38_41);
-    st64((r_a7_20 + 32), r_38_42);
-    st64((r_a7_20 + 40), r_38_43);
-    st64(r_x5_19, (r_dw + 1ull));
-    if (!r_ix_8) goto l_capnpc_dj;
-l_join_36_3:;
-    st8(r_lk_8, 1u);
-l_capnpc_dj:;
-    capnpc_schema_text_Values_put_lines(slot_10, ((u8 *)g_static_302), 17ull);
-    capnpc_layout_rust_builders_push_call(slot_14, ((u8 *)g_static_120), 0ull, ((u8 *)g_static_303), 125ull, slot_10);
-    goto l_capnpc_tl_2;
-l_arm_vp:;
-    r_2p = (ld32(away(r_2b_19, 144ull)) == 0u);
-    if (!r_2p) goto l_join_qu;
-    switch (ld8(ldp(away(r_2b_19, 152ull)))) {
-    case 0u: goto l_then_6j;
-    case 8u: goto l_join_qu;
-    case 10u: goto l_join_qu;
-    case 9u: { t_x6 = 0ull; t_yp = ((u8 *)g_static_120); goto l_join_li; }
-    case 1u: { t_x6 = 0ull; t_yp = ((u8 *)g_static_120); goto l_join_li; }
-    case 2u: { t_x6 = 0ull; t_yp = ((u8 *)g_static_120); goto l_join_li; }
-    case 3u: { t_x6 = 0ull; t_yp = ((u8 *)g_static_120); goto l_join_li; }
-    case 4u: { t_x6 = 0ull; t_yp = ((u8 *)g_static_120); goto l_join_li; }
-    case 5u: { t_x6 = 0ull; t_yp = ((u8 *)g_static_120); goto l_join_li; }
-    case 6u: { t_x6 = 0ull; t_yp = ((u8 *)g_static_120); goto l_join_li; }
-    case 7u: { t_x6 = 0ull; t_yp = ((u8 *)g_static_120); goto l_join_li; }
-    default: goto l_noarm_e1_11;
-    }
-l_then_6j:;
-    if (ld16(r_bb) == 65535u) goto l_capnpc_tl_2;
-    capnpc_schema_text_Values_put_lines(slot_10, ((u8 *)g_static_297), 49ull);
-    capnpc_layout_rust_builders_push_call(slot_14, r_yk, r_o4, ((u8 *)g_static_298), 27ull, slot_10);
-    goto l_capnpc_tl_2;
-l_join_qu:;
-    t_x6 = 13ull;
-    t_yp = ((u8 *)g_static_323);
-l_join_li:;
-    capnpc_schema_text_Values_put(slot_10, ((u8 *)g_static_322), 7ull, t_yp, t_x6);
-    capnpc_schema_text_Values_put_lines(slot_10, ((u8 *)g_static_324), 73ull);
-    capnpc_layout_rust_builders_push_call(slot_14, r_yk, r_o4, ((u8 *)g_static_325), 42ull, slot_10);
-    r_lz_35 = ldp(slot_10);
-    r_52_75 = ld64(r_x5_19);
-    r_m1_1 = r_52_75;
-l_loop_mq_1:;
-    if (r_m1_1 == 0ull) { r_hb_1 = r_52_75; r_zk = r_lz_35; goto l_join_yz; }
-    u64 r_zn_7 = (r_m1_1 + 0xffffffffffffffffull);
-    r_2b_37 = away(r_lz_35, (r_zn_7 * 48ull));
-    u8 r_ol = core_cmp_bytes_equal(ldp(r_2b_37), ld64((r_2b_37 + 8)), ((u8 *)g_static_326), 4ull);
-    if (!r_ol) { r_m1_1 = r_zn_7; goto l_loop_mq_1; }
-    if (ld64(away(r_2b_37, 24ull)) == 0ull) { r_hb_1 = r_52_75; r_zk = r_lz_35; goto l_join_yz; }
-    capnpc_schema_text_Values_put(slot_10, ((u8 *)g_static_327), 5ull, (r_2p ? ((u8 *)g_static_120) : ((u8 *)g_static_328)), (r_2p ? 0ull : 13ull));
-    capnpc_schema_text_Values_put_lines(slot_10, ((u8 *)g_static_329), 60ull);
-    capnpc_layout_rust_builders_push_call(slot_14, ((u8 *)g_static_120), 0ull, ((u8 *)g_static_330), 51ull, slot_10);
-    r_hb_1 = ld64(r_x5_19);
-    r_zk = ldp(slot_10);
-l_join_yz:;
-    r_iv_2 = r_hb_1;
-l_loop_bp_2:;
-    if (r_iv_2 == 0ull) goto l_capnpc_tl_2;
-    u64 r_zn_8 = (r_iv_2 + 0xffffffffffffffffull);
-    r_2b_38 = away(r_zk, (r_zn_8 * 48ull));
-    u8 r_bf = core_cmp_bytes_equal(ldp(r_2b_38), ld64((r_2b_38 + 8)), ((u8 *)g_static_331), 4ull);
-    if (!r_bf) { r_iv_2 = r_zn_8; goto l_loop_bp_2; }
-    if (ld64(away(r_2b_38, 24ull)) == 0ull) goto l_capnpc_tl_2;
-    if (!(ld8(away(r_2b_19, 168ull)) == 0u)) goto l_capnpc_tl_2;
-    capnpc_schema_text_Values_put_lines(slot_10, ((u8 *)g_static_332), 65ull);
-    capnpc_layout_rust_builders_push_call(slot_14, ((u8 *)g_static_120), 0ull, ((u8 *)g_static_333), 51ull, slot_10);
-    goto l_capnpc_tl_2;
-l_noarm_e1_11:;
-    UNREACHABLE();
-l_noarm_e1_10:;
-    UNREACHABLE();
-l_capnpc_tl_2:;
-    r_xw_21 = ldp(slot_10);
-    r_38_44 = ld64(r_x5_19);
-    r_38_45 = ld64(r_zd_14);
-    if (r_38_44 == 0ull) goto l_std_8o_3;
-    r_01_9 = 0ull;
-l_join_1a_9:;
-    r_a7_21 = away(r_xw_21, (r_01_9 * 48ull));
-    if (ld64((r_a7_21 + 32)) == 0ull) goto l_core_jc_10;
-    rattle_dealloc(ldp((r_a7_21 + 16)));
-l_core_jc_10:;
-    u64 r_36_38 = (r_01_9 + 1ull);
-    if (!(r_36_38 == r_38_44)) { r_01_9 = r_36_38; goto l_join_1a_9; }
-l_std_8o_3:;
-    if (r_38_45 == 0ull) goto l_after_sd_2;
-    rattle_dealloc(r_xw_21);
-l_after_sd_2:;
-    u64 r_36_39 = (r_y3_2 + 1ull);
-    if (!(r_36_39 == r_52_44)) { r_y3_2 = r_36_39; goto l_join_ga_3; }
-l_capnpc_ts:;
-    mv32(slot_16, slot_14);
-    stp(slot_14, slot_1);
-    memset(r_x5_15, 0u, 24);
-    r_xw_22 = ldp(slot_16);
-    r_38_46 = ld64((slot_16 + 16));
-    capnpc_schema_text_Text_push_filled(slot_14, ((u8 *)g_static_289), 14ull, slot_15);
-    if ((u8)(ld8(r_93) & 1)) goto l_join_7h;
-    capnpc_schema_text_Text_push_filled(slot_14, ((u8 *)g_static_290), 141ull, slot_15);
-l_join_7h:;
-    capnpc_schema_text_Text_push_filled(slot_14, ((u8 *)g_static_291), 86ull, slot_15);
-    capnpc_layout_rust_piece_Piece_push_impl(slot_14, ((u8 *)g_static_292), 19ull, slot_16, slot_15);
-    capnpc_schema_text_Text_push_filled(slot_14, ((u8 *)g_static_293), 264ull, slot_15);
-    if ((u8)(ld8(r_93) & 1)) goto l_join_tr;
-    capnpc_schema_text_Text_push_filled(slot_14, ((u8 *)g_static_294), 88ull, slot_15);
-l_join_tr:;
-    if (ld16(r_y0) == 0u) goto l_join_hr;
-    t_x5_3 = (slot_3 + 8);
-    memset(t_x5_3, 0u, 24);
-    stp(slot_3, slot_1);
-    capnpc_schema_text_Values_put(slot_3, ((u8 *)g_static_144), 4ull, ldp(r_zn), ld64(r_3q));
-    capnpc_schema_text_Values_put(slot_3, ((u8 *)g_static_145), 4ull, ldp(r_be), ld64(r_x1));
-    capnpc_schema_text_Values_put(slot_3, ((u8 *)g_static_146), 3ull, ldp(r_39), ld64(r_9b));
-    struct s_p_i64 r_5v_1 = capnpc_layout_rust_unions_parameters(a_1, r_93);
-    u8 *r_ij = r_5v_1.f0;
-    u64 r_vn = r_5v_1.f1;
-    u8 r_bk = core_cmp_bytes_equal(r_ij, r_vn, ((u8 *)g_static_251), 7ull);
-    capnpc_schema_text_Values_put(slot_3, ((u8 *)g_static_246), 10ull, (r_bk ? ((u8 *)g_static_334) : r_ij), (r_bk ? 28ull : r_vn));
-    capnpc_schema_text_Text_push_filled(slot_14, ((u8 *)g_static_335), 102ull, slot_3);
-    r_lz_36 = ldp(r_im);
-    r_52_76 = ld64(r_t0);
-    if (r_52_76 == 0ull) goto l_after_2p;
-    r_ti_3 = away(r_2b, 144ull);
-    r_v3_2 = away(r_2b, 136ull);
-    r_zd_26 = (slot_2 + 16);
-    r_x5_30 = (slot_2 + 8);
-    r_lk_19 = (slot_2 + 24);
-    r_7d_3 = 0ull;
-l_join_ie_3:;
-    r_2b_39 = away(r_lz_36, (r_7d_3 * 208ull));
-    if (ld16(away(r_2b_39, 124ull)) == 65535u) goto l_after_94_4;
-    r_qj_3 = away(r_2b_39, 128ull);
-    switch (ld8(r_qj_3)) {
-    case 2u: goto l_after_94_4;
-    case 0u: goto l_arm_d2_4;
-    case 1u: goto l_arm_un_4;
-    default: goto l_noarm_e1_12;
-    }
-l_arm_d2_4:;
+    if (ld64(away(r_mb_8, (r_1y_8 * 280ull))) == r_52_57) goto l_then_ap;
+    goto l_loop_94_3;
+l_arm_un_4:;
     r_mb_9 = ldp(a_1);
     r_qw_9 = ld64(r_e7);
-    r_52_77 = ld64(away(r_2b_39, 136ull));
-    if (r_qw_9 == 0ull) goto l_after_94_4;
+    r_47_10 = ld8(away(r_2b_26, 168ull));
+    if (r_47_10 == 4u) goto l_after_sd_2;
+    r_lz_30 = ldp(away(r_2b_26, 152ull));
+    r_52_58 = ld64(away(r_2b_26, 160ull));
+    if (r_qw_9 == 0ull) { r_30_4 = ((u8 *)0); t_ul_4 = 1u; goto l_capnpc_wg_4; }
     r_1y_9 = 0ull;
     goto l_join_v4_9;
-l_loop_94_4:;
-    u64 r_36_40 = (r_1y_9 + 1ull);
-    if (r_36_40 == r_qw_9) goto l_after_94_4;
-    r_1y_9 = r_36_40;
-l_join_v4_9:;
-    if (ld64(away(r_mb_9, (r_1y_9 * 280ull))) == r_52_77) goto l_then_nd;
-    goto l_loop_94_4;
-l_arm_un_4:;
-    r_mb_10 = ldp(a_1);
-    r_qw_10 = ld64(r_e7);
-    r_47_9 = ld8(away(r_2b_39, 168ull));
-    if (r_47_9 == 4u) goto l_after_94_4;
-    r_lz_37 = ldp(away(r_2b_39, 152ull));
-    r_52_78 = ld64(away(r_2b_39, 160ull));
-    if (r_qw_10 == 0ull) { r_30_4 = ((u8 *)0); t_ul_4 = 1u; goto l_capnpc_wg_4; }
-    r_1y_10 = 0ull;
-    goto l_join_v4_10;
 l_loop_sd_5:;
-    u64 r_36_41 = (r_1y_10 + 1ull);
-    if (r_36_41 == r_qw_10) { r_30_4 = ((u8 *)0); t_ul_4 = 1u; goto l_capnpc_wg_4; }
-    r_1y_10 = r_36_41;
-l_join_v4_10:;
-    r_tr_5 = (r_1y_10 * 280ull);
-    if (!(ld64(away(r_mb_10, r_tr_5)) == r_52_78)) goto l_loop_sd_5;
-    r_30_4 = away(r_mb_10, r_tr_5);
+    u64 r_36_30 = (r_1y_9 + 1ull);
+    if (r_36_30 == r_qw_9) { r_30_4 = ((u8 *)0); t_ul_4 = 1u; goto l_capnpc_wg_4; }
+    r_1y_9 = r_36_30;
+l_join_v4_9:;
+    r_tr_4 = (r_1y_9 * 280ull);
+    if (!(ld64(away(r_mb_9, r_tr_4)) == r_52_58)) goto l_loop_sd_5;
+    r_30_4 = away(r_mb_9, r_tr_4);
     t_ul_4 = 0u;
 l_capnpc_wg_4:;
-    r_47_10 = ld8(r_lz_37);
-    switch (r_47_10) {
-    case 8u: goto l_arm_f8_12;
+    r_47_11 = ld8(r_lz_30);
+    switch (r_47_11) {
+    case 8u: goto l_arm_f8_11;
     case 5u: goto l_arm_tt_3;
     case 0u: goto l_then_jh_4;
     case 1u: goto l_then_jh_4;
@@ -26638,152 +26449,676 @@ l_capnpc_wg_4:;
     case 7u: goto l_then_jh_4;
     case 9u: goto l_then_jh_4;
     case 10u: goto l_then_jh_4;
-    default: goto l_noarm_e1_13;
+    default: goto l_noarm_e1_11;
     }
-l_arm_f8_12:;
-    if (t_ul_4) goto l_after_94_4;
+l_arm_f8_11:;
+    if (t_ul_4) goto l_after_sd_2;
     goto l_then_jh_4;
 l_arm_tt_3:;
-    if (t_ul_4) goto l_after_94_4;
+    if (t_ul_4) goto l_after_sd_2;
     if (ld8(away(r_30_4, 184ull)) == 2u) goto l_then_jh_4;
-    goto l_after_94_4;
-l_noarm_e1_13:;
+    goto l_after_sd_2;
+l_noarm_e1_11:;
     UNREACHABLE();
 l_then_jh_4:;
-    if ((u8)((u8)(r_47_9 == 3u) & (u8)((u8)(r_47_10 + 247u) < 2u)) ? (ld32(away(r_2b_39, 144ull)) == 0u) : 0u) goto l_after_94_4;
-    goto l_then_nd;
+    if ((u8)((u8)(r_47_10 == 3u) & (u8)((u8)(r_47_11 + 247u) < 2u)) ? (ld32(away(r_2b_26, 144ull)) == 0u) : 0u) goto l_after_sd_2;
+    goto l_then_ap;
+l_noarm_e1_10:;
+    UNREACHABLE();
+l_then_ap:;
+    capnpc_layout_rust_readers_Schema_field_values(slot_11, a_1, r_2b, r_2b_26, ld64(r_2b));
+    mv32(slot_10, slot_11);
+    u64 r_52_59 = ld64(r_x5_23);
+    if (!(ld64(r_zd_19) == r_52_59)) { r_la = r_52_59; goto l_join_z0; }
+    u8 r_89_19 = std_alloc_vec_Vec_grow_amortized_c7bbd78b6494f746(slot_10);
+    if (!r_89_19) goto l_join_5f;
+    r_la = ld64(r_x5_23);
+l_join_z0:;
+    u8 *r_a7_19 = (ldp(slot_10) + (i64)((r_la * 48ull)));
+    stp(r_a7_19, ((u8 *)g_static_308));
+    st64((r_a7_19 + 8), 6ull);
+    stp((r_a7_19 + 16), slot_1);
+    u64 r_7n_2 = (r_la + 1ull);
+    memset((r_a7_19 + 24), 0u, 24);
+    st64(r_x5_23, r_7n_2);
+    r_b5 = r_7n_2;
+    goto l_capnpc_ta;
+l_join_5f:;
+    st8(r_lk_11, 1u);
+    r_b5 = ld64(r_x5_23);
+l_capnpc_ta:;
+    u64 r_24_3 = (u64)ld32(r_9r_2);
+    memset(r_x5_24, 0u, 24);
+    stp(slot_2, slot_1);
+    capnpc_schema_text_Text_push_number(slot_2, r_24_3);
+    r_xw_18 = ldp(slot_2);
+    r_38_43 = ld64(r_x5_24);
+    r_38_44 = ld64(r_zd_20);
+    r_38_45 = ld64(r_lk_12);
+    r_ix_8 = (u8)(r_38_45 & 1);
+    if (!(ld64(r_zd_19) == r_b5)) { r_1k_3 = r_b5; goto l_join_34_3; }
+    u8 r_89_20 = std_alloc_vec_Vec_grow_amortized_c7bbd78b6494f746(slot_10);
+    if (!r_89_20) goto l_arm_f8_12;
+    r_1k_3 = ld64(r_x5_23);
+    goto l_join_34_3;
+l_arm_f8_12:;
+    if (r_38_44 == 0ull) goto l_join_36_3;
+    rattle_dealloc(r_xw_18);
+    goto l_join_36_3;
+l_join_34_3:;
+    u8 *r_a7_20 = (ldp(slot_10) + (i64)((r_1k_3 * 48ull)));
+    stp(r_a7_20, ((u8 *)g_static_150));
+    st64((r_a7_20 + 8), 3ull);
+    stp((r_a7_20 + 16), r_xw_18);
+    st64((r_a7_20 + 24), r_38_43);
+    st64((r_a7_20 + 32), r_38_44);
+    st64((r_a7_20 + 40), r_38_45);
+    st64(r_x5_23, (r_1k_3 + 1ull));
+    if (!r_ix_8) goto l_capnpc_g2;
+l_join_36_3:;
+    st8(r_lk_11, 1u);
+l_capnpc_g2:;
+    r_bb = away(r_2b_26, 124ull);
+    if (ld16(r_bb) == 65535u) goto l_join_nd;
+    memset(t_x5_2, 0u, 24);
+    stp(slot_2, slot_1);
+    capnpc_schema_text_Text_push_filled(slot_2, ((u8 *)g_static_309), 40ull, slot_10);
+    r_xw_19 = ldp(slot_2);
+    r_fz_2 = ld64(t_x5_2);
+    r_38_46 = ld64(r_zd_21);
+    r_38_47 = ld64(r_lk_13);
+    r_ix_9 = (u8)(r_38_47 & 1);
+    u64 r_52_60 = ld64(r_x5_23);
+    if (!(ld64(r_zd_19) == r_52_60)) { r_la_1 = r_52_60; goto l_join_z0_1; }
+    u8 r_89_21 = std_alloc_vec_Vec_grow_amortized_c7bbd78b6494f746(slot_10);
+    if (!r_89_21) goto l_arm_f8_13;
+    r_la_1 = ld64(r_x5_23);
+    goto l_join_z0_1;
+l_arm_f8_13:;
+    if (r_38_46 == 0ull) goto l_join_q5;
+    rattle_dealloc(r_xw_19);
+    goto l_join_q5;
+l_join_z0_1:;
+    u8 *r_a7_21 = (ldp(slot_10) + (i64)((r_la_1 * 48ull)));
+    stp(r_a7_21, ((u8 *)g_static_308));
+    st64((r_a7_21 + 8), 6ull);
+    stp((r_a7_21 + 16), r_xw_19);
+    st64((r_a7_21 + 24), r_fz_2);
+    st64((r_a7_21 + 32), r_38_46);
+    st64((r_a7_21 + 40), r_38_47);
+    st64(r_x5_23, (r_la_1 + 1ull));
+    if (!r_ix_9) goto l_join_nd;
+l_join_q5:;
+    st8(r_lk_11, 1u);
+l_join_nd:;
+    if (!(r_y3_3 < ld64(r_ti_2))) { r_yk = ((u8 *)g_static_120); r_o4 = 0ull; goto l_capnpc_0r; }
+    u8 *r_2b_27 = away(ldp(r_v3_1), (r_y3_3 * 24ull));
+    r_yk = ldp(r_2b_27);
+    r_o4 = ld64(away(r_2b_27, 8ull));
+l_capnpc_0r:;
+    switch (ld8(r_qj_4)) {
+    case 0u: goto l_arm_dz;
+    case 1u: goto l_arm_vp;
+    case 2u: goto l_capnpc_tl_2;
+    default: goto l_noarm_e1_12;
+    }
+l_arm_dz:;
+    r_52_61 = ld64(away(r_2b_26, 136ull));
+    u8 r_e0 = (ld16(r_bb) == 65535u);
+    capnpc_schema_text_Values_put_lines(slot_10, ((u8 *)g_static_312), 62ull);
+    capnpc_layout_rust_builders_push_call(slot_14, r_yk, r_o4, ((u8 *)g_static_313), 39ull, slot_10);
+    if (r_e0) goto l_capnpc_tl_2;
+    stp(slot_8, slot_1);
+    memset(r_x5_25, 0u, 24);
+    r_mb_10 = ldp(a_1);
+    r_qw_10 = ld64(r_e7);
+    if (!(r_qw_10 == 0ull)) { r_8p = 0ull; goto l_join_cg; }
+    stp(slot_9, slot_1);
+    memset(r_x5_26, 0u, 24);
+    r_av = 0ull;
+    r_w7 = 0u;
+    r_u5 = slot_1;
+    goto l_after_wx;
+l_join_cg:;
+    r_2b_28 = away(r_mb_10, (r_8p * 280ull));
+    if (!(ld8(away(r_2b_28, 184ull)) == 1u)) goto l_after_sd_3;
+    if (!(u8)(ld8(away(r_2b_28, 192ull)) & 1)) goto l_after_sd_3;
+    r_5p = ld64(r_2b_28);
+    r_fz_3 = 0ull;
+    r_so = r_2b_28;
+l_join_hf:;
+    if (r_5p == r_52_61) goto l_join_4t;
+    r_0v = away(r_so, 184ull);
+    r_52_62 = ld64(away(r_so, 8ull));
+    r_1y_10 = 0ull;
+    goto l_join_v4_10;
+l_loop_94_4:;
+    u64 r_36_31 = (r_1y_10 + 1ull);
+    if (r_36_31 == r_qw_10) goto l_after_sd_3;
+    r_1y_10 = r_36_31;
+l_join_v4_10:;
+    r_tr_5 = (r_1y_10 * 280ull);
+    if (!(ld64(away(r_mb_10, r_tr_5)) == r_52_62)) goto l_loop_94_4;
+    if (!(ld8(r_0v) == 1u)) goto l_after_sd_3;
+    u64 r_36_32 = (r_fz_3 + 1ull);
+    if ((u8)(ld8(away(r_so, 192ull)) & 1) ? (r_36_32 != r_qw_10) : 0u) { r_5p = r_52_62; r_fz_3 = r_36_32; r_so = away(r_mb_10, r_tr_5); goto l_join_hf; }
+    goto l_after_sd_3;
+l_join_4t:;
+    if (ld16(away(r_2b_28, 198ull)) == 0u) goto l_join_iv;
+    capnpc_schema_slots_add_slot_once(((u8 *)g_static_318), 8ull, ld32(away(r_2b_28, 200ull)), slot_8);
+l_join_iv:;
+    r_lz_31 = ldp(away(r_2b_28, 256ull));
+    r_52_63 = ld64(away(r_2b_28, 264ull));
+    if (r_52_63 == 0ull) goto l_after_sd_3;
+    r_y3_4 = 0ull;
+l_join_ga_3:;
+    r_2b_29 = away(r_lz_31, (r_y3_4 * 208ull));
+    if (!(ld8(away(r_2b_29, 128ull)) == 1u)) goto l_after_94_4;
+    r_rv = ldp(away(r_2b_29, 152ull));
+    if (!(ld32(away(r_2b_29, 144ull)) == 0u)) { r_yy = 7ull; r_xv = ((u8 *)g_static_319); goto l_then_rm; }
+    if (ld8(r_rv) == 0u) goto l_after_94_4;
+    r_52_64 = ld64(away(r_rv, 40ull));
+    if (!(ctpop64(r_52_64) == 1ull)) { r_yy = 7ull; r_xv = ((u8 *)g_static_319); goto l_then_rm; }
+    t_vt = cttz64(r_52_64);
+    if (!(t_vt < 7ull)) { r_yy = 7ull; r_xv = ((u8 *)g_static_319); goto l_then_rm; }
+    r_yy = ld64((((u8 *)switch_table_capnpc_layout_rust_generating_write_entry) + (i64)(8 * t_vt)));
+    r_xv = ldp((((u8 *)switch_table_capnpc_layout_rust_generating_write_entry_11) + (i64)(8 * t_vt)));
+l_then_rm:;
+    capnpc_schema_slots_add_slot_once(r_xv, r_yy, ld32(away(r_2b_29, 136ull)), slot_8);
+l_after_94_4:;
+    u64 r_36_33 = (r_y3_4 + 1ull);
+    if (!(r_36_33 == r_52_63)) { r_y3_4 = r_36_33; goto l_join_ga_3; }
+l_after_sd_3:;
+    u64 r_36_34 = (r_8p + 1ull);
+    if (!(r_36_34 == r_qw_10)) { r_8p = r_36_34; goto l_join_cg; }
+    r_xw_20 = ldp(slot_8);
+    r_38_48 = ld64(r_x5_25);
+    stp(slot_9, slot_1);
+    memset(r_x5_26, 0u, 24);
+    if (!(r_38_48 == 0ull)) { r_wq = 0ull; goto l_join_og; }
+    r_av = ld64(r_zd_30);
+    r_w7 = ld8(r_lk_21);
+    r_u5 = r_xw_20;
+    goto l_after_wx;
+l_join_og:;
+    r_2b_30 = away(r_xw_20, (r_wq * 24ull));
+    r_lz_32 = ldp(r_2b_30);
+    r_ps_5 = away(r_2b_30, 8ull);
+    r_52_65 = ld64(r_ps_5);
+    memset(slot_3, 0u, 24);
+    st32(slot_2, 32u);
+    core_iter_pattern_CharPattern_first_in(slot_3, slot_2, r_lz_32, r_52_65);
+    t_0q = (ld8(slot_3) == 1u);
+    if (!t_0q) { r_xu = 0ull; r_xk = ((u8 *)g_static_120); sink_ck = ((u8 *)0); sink_n0 = 0ull; goto l_core_4v; }
+    u64 r_38_49 = ld64(r_zd_22);
+    r_xu = (r_52_65 - r_38_49);
+    r_xk = away(r_lz_32, r_38_49);
+    sink_ck = r_lz_32;
+    sink_n0 = ld64(r_x5_27);
+l_core_4v:;
+    r_v7 = (t_0q ? sink_ck : ldp(r_2b_30));
+    r_7q = (t_0q ? sink_n0 : ld64(r_ps_5));
+    u64 r_52_66 = ld64(r_zd_23);
+    u64 r_52_67 = ld64(r_x5_26);
+    if (!((r_52_66 - r_52_67) < 15ull)) { r_sa = r_52_66; r_kj = r_52_67; goto l_join_f0; }
+    u8 r_zn_7 = std_alloc_vec_Vec_grow_amortized_827889bc1b348a11(slot_9, 15ull);
+    if (!r_zn_7) goto l_then_36_4;
+    r_sa = ld64(r_zd_23);
+    r_kj = ld64(r_x5_26);
+l_join_f0:;
+    r_87 = (r_kj + 15ull);
+    r_2b_31 = away(ldp(slot_9), r_kj);
+    if (((u64)(uptr)r_2b_31 - (u64)(uptr)((u8 *)g_static_317)) < 15ull) { r_ti_3 = 0ull; goto l_join_5o; }
+    mv15(r_2b_31, ((u8 *)g_static_317));
+    goto l_std_93_2;
+l_join_5o:;
+    st8((r_2b_31 + (i64)(r_ti_3)), ld8((((u8 *)g_static_317) + (i64)(r_ti_3))));
+    u64 r_c4_8 = (r_ti_3 + 1ull);
+    if (!(r_c4_8 == 15ull)) { r_ti_3 = r_c4_8; goto l_join_5o; }
+l_std_93_2:;
+    st64(r_x5_26, r_87);
+    st64(r_zd_23, r_sa);
+    goto l_capnpc_xs;
+l_then_36_4:;
+    st8(r_lk_14, 1u);
+l_capnpc_xs:;
+    u8 r_46 = core_cmp_bytes_equal(r_v7, r_7q, ((u8 *)g_static_320), 3ull);
+    if (!r_46) goto l_join_hz;
+    stp(slot_2, ((u8 *)g_static_324));
+    st64(r_x5_33, 9ull);
+    stp(r_zd_29, r_xk);
+    st64(r_lk_20, r_xu);
+    stp(t_89, ((u8 *)g_static_325));
+    st64(r_a8_7, 10ull);
+    r_id_3 = 0ull;
+l_join_ge_3:;
+    u8 *r_2b_32 = away(slot_2, (u64)(r_id_3 << 4ull));
+    r_52_68 = ld64(away(r_2b_32, 8ull));
+    r_lz_33 = ldp(r_2b_32);
+    u64 r_52_69 = ld64(r_zd_23);
+    u64 r_52_70 = ld64(r_x5_26);
+    if (!(r_52_68 > (r_52_69 - r_52_70))) { r_q7_1 = r_52_69; r_dv_1 = r_52_70; goto l_join_xn_1; }
+    u8 r_jl_4 = std_alloc_vec_Vec_grow_amortized_827889bc1b348a11(slot_9, r_52_68);
+    if (!r_jl_4) goto l_then_36_5;
+    r_q7_1 = ld64(r_zd_23);
+    r_dv_1 = ld64(r_x5_26);
+l_join_xn_1:;
+    r_5q_6 = (r_dv_1 + r_52_68);
+    r_2b_33 = away(ldp(slot_9), r_dv_1);
+    if (((u64)(uptr)r_2b_33 - (u64)(uptr)r_lz_33) < r_52_68) { r_il_4 = 0ull; goto l_join_fh_4; }
+    memmove_or_none(r_2b_33, r_lz_33, r_52_68);
+    goto l_std_93_3;
+l_join_fh_4:;
+    st8((r_2b_33 + (i64)(r_il_4)), ld8((r_lz_33 + (i64)(r_il_4))));
+    u64 r_36_35 = (r_il_4 + 1ull);
+    if (!(r_36_35 == r_52_68)) { r_il_4 = r_36_35; goto l_join_fh_4; }
+l_std_93_3:;
+    st64(r_x5_26, r_5q_6);
+    st64(r_zd_23, r_q7_1);
+    goto l_capnpc_nc_1;
+l_then_36_5:;
+    st8(r_lk_14, 1u);
+l_capnpc_nc_1:;
+    u64 r_c4_9 = (r_id_3 + 1ull);
+    if (r_c4_9 == 3ull) goto l_capnpc_f7_1;
+    r_id_3 = r_c4_9;
+    goto l_join_ge_3;
+l_join_hz:;
+    u8 r_bg = core_cmp_bytes_equal(r_v7, r_7q, ((u8 *)g_static_321), 4ull);
+    if (!r_bg) goto l_join_jg;
+    stp(slot_3, ((u8 *)g_static_326));
+    st64(r_x5_32, 4ull);
+    stp(r_zd_28, r_xk);
+    st64(r_lk_19, r_xu);
+    stp(r_89_18, ((u8 *)g_static_327));
+    st64(t_a8, 8ull);
+    r_id_4 = 0ull;
+l_join_ge_4:;
+    u8 *r_2b_34 = away(slot_3, (u64)(r_id_4 << 4ull));
+    r_52_71 = ld64(away(r_2b_34, 8ull));
+    r_lz_34 = ldp(r_2b_34);
+    u64 r_52_72 = ld64(r_zd_23);
+    u64 r_52_73 = ld64(r_x5_26);
+    if (!(r_52_71 > (r_52_72 - r_52_73))) { r_q7_2 = r_52_72; r_dv_2 = r_52_73; goto l_join_xn_2; }
+    u8 r_jl_5 = std_alloc_vec_Vec_grow_amortized_827889bc1b348a11(slot_9, r_52_71);
+    if (!r_jl_5) goto l_then_36_6;
+    r_q7_2 = ld64(r_zd_23);
+    r_dv_2 = ld64(r_x5_26);
+l_join_xn_2:;
+    r_5q_7 = (r_dv_2 + r_52_71);
+    r_2b_35 = away(ldp(slot_9), r_dv_2);
+    if (((u64)(uptr)r_2b_35 - (u64)(uptr)r_lz_34) < r_52_71) { r_il_5 = 0ull; goto l_join_fh_5; }
+    memmove_or_none(r_2b_35, r_lz_34, r_52_71);
+    goto l_std_93_4;
+l_join_fh_5:;
+    st8((r_2b_35 + (i64)(r_il_5)), ld8((r_lz_34 + (i64)(r_il_5))));
+    u64 r_36_36 = (r_il_5 + 1ull);
+    if (!(r_36_36 == r_52_71)) { r_il_5 = r_36_36; goto l_join_fh_5; }
+l_std_93_4:;
+    st64(r_x5_26, r_5q_7);
+    st64(r_zd_23, r_q7_2);
+    goto l_capnpc_nc_2;
+l_then_36_6:;
+    st8(r_lk_14, 1u);
+l_capnpc_nc_2:;
+    u64 r_c4_10 = (r_id_4 + 1ull);
+    if (r_c4_10 == 3ull) goto l_capnpc_f7_1;
+    r_id_4 = r_c4_10;
+    goto l_join_ge_4;
+l_join_jg:;
+    u8 r_t7 = core_cmp_bytes_equal(r_v7, r_7q, ((u8 *)g_static_318), 8ull);
+    if (!r_t7) goto l_join_yh;
+    stp(slot_4, ((u8 *)g_static_326));
+    st64(r_x5_31, 4ull);
+    stp(r_zd_27, r_xk);
+    st64(r_lk_18, r_xu);
+    stp(r_89_17, ((u8 *)g_static_328));
+    st64(r_a8_6, 9ull);
+    r_id_5 = 0ull;
+l_join_ge_5:;
+    u8 *r_2b_36 = away(slot_4, (u64)(r_id_5 << 4ull));
+    r_52_74 = ld64(away(r_2b_36, 8ull));
+    r_lz_35 = ldp(r_2b_36);
+    u64 r_52_75 = ld64(r_zd_23);
+    u64 r_52_76 = ld64(r_x5_26);
+    if (!(r_52_74 > (r_52_75 - r_52_76))) { r_q7_3 = r_52_75; r_dv_3 = r_52_76; goto l_join_xn_3; }
+    u8 r_jl_6 = std_alloc_vec_Vec_grow_amortized_827889bc1b348a11(slot_9, r_52_74);
+    if (!r_jl_6) goto l_then_36_7;
+    r_q7_3 = ld64(r_zd_23);
+    r_dv_3 = ld64(r_x5_26);
+l_join_xn_3:;
+    r_5q_8 = (r_dv_3 + r_52_74);
+    r_2b_37 = away(ldp(slot_9), r_dv_3);
+    if (((u64)(uptr)r_2b_37 - (u64)(uptr)r_lz_35) < r_52_74) { r_il_6 = 0ull; goto l_join_fh_6; }
+    memmove_or_none(r_2b_37, r_lz_35, r_52_74);
+    goto l_std_93_5;
+l_join_fh_6:;
+    st8((r_2b_37 + (i64)(r_il_6)), ld8((r_lz_35 + (i64)(r_il_6))));
+    u64 r_36_37 = (r_il_6 + 1ull);
+    if (!(r_36_37 == r_52_74)) { r_il_6 = r_36_37; goto l_join_fh_6; }
+l_std_93_5:;
+    st64(r_x5_26, r_5q_8);
+    st64(r_zd_23, r_q7_3);
+    goto l_capnpc_nc_3;
+l_then_36_7:;
+    st8(r_lk_14, 1u);
+l_capnpc_nc_3:;
+    u64 r_c4_11 = (r_id_5 + 1ull);
+    if (r_c4_11 == 3ull) goto l_capnpc_f7_1;
+    r_id_5 = r_c4_11;
+    goto l_join_ge_5;
+l_join_yh:;
+    u8 r_fj = core_cmp_bytes_equal(r_v7, r_7q, ((u8 *)g_static_322), 9ull);
+    if (!r_fj) goto l_join_kv;
+    stp(slot_5, ((u8 *)g_static_326));
+    st64(r_x5_30, 4ull);
+    stp(r_zd_26, r_xk);
+    st64(r_lk_17, r_xu);
+    stp(r_89_16, ((u8 *)g_static_329));
+    st64(r_a8_5, 9ull);
+    r_id_6 = 0ull;
+l_join_ge_6:;
+    u8 *r_2b_38 = away(slot_5, (u64)(r_id_6 << 4ull));
+    r_52_77 = ld64(away(r_2b_38, 8ull));
+    r_lz_36 = ldp(r_2b_38);
+    u64 r_52_78 = ld64(r_zd_23);
+    u64 r_52_79 = ld64(r_x5_26);
+    if (!(r_52_77 > (r_52_78 - r_52_79))) { r_q7_4 = r_52_78; r_dv_4 = r_52_79; goto l_join_xn_4; }
+    u8 r_jl_7 = std_alloc_vec_Vec_grow_amortized_827889bc1b348a11(slot_9, r_52_77);
+    if (!r_jl_7) goto l_then_36_8;
+    r_q7_4 = ld64(r_zd_23);
+    r_dv_4 = ld64(r_x5_26);
+l_join_xn_4:;
+    r_5q_9 = (r_dv_4 + r_52_77);
+    r_2b_39 = away(ldp(slot_9), r_dv_4);
+    if (((u64)(uptr)r_2b_39 - (u64)(uptr)r_lz_36) < r_52_77) { r_il_7 = 0ull; goto l_join_fh_7; }
+    memmove_or_none(r_2b_39, r_lz_36, r_52_77);
+    goto l_std_93_6;
+l_join_fh_7:;
+    st8((r_2b_39 + (i64)(r_il_7)), ld8((r_lz_36 + (i64)(r_il_7))));
+    u64 r_36_38 = (r_il_7 + 1ull);
+    if (!(r_36_38 == r_52_77)) { r_il_7 = r_36_38; goto l_join_fh_7; }
+l_std_93_6:;
+    st64(r_x5_26, r_5q_9);
+    st64(r_zd_23, r_q7_4);
+    goto l_capnpc_nc_4;
+l_then_36_8:;
+    st8(r_lk_14, 1u);
+l_capnpc_nc_4:;
+    u64 r_c4_12 = (r_id_6 + 1ull);
+    if (r_c4_12 == 3ull) goto l_capnpc_f7_1;
+    r_id_6 = r_c4_12;
+    goto l_join_ge_6;
+l_join_kv:;
+    u8 r_rk = core_cmp_bytes_equal(r_v7, r_7q, ((u8 *)g_static_323), 10ull);
+    if (!r_rk) goto l_join_jd;
+    stp(slot_6, ((u8 *)g_static_326));
+    st64(r_x5_29, 4ull);
+    stp(r_zd_25, r_xk);
+    st64(r_lk_16, r_xu);
+    stp(r_89_15, ((u8 *)g_static_330));
+    st64(r_a8_4, 9ull);
+    r_id_7 = 0ull;
+l_join_ge_7:;
+    u8 *r_2b_40 = away(slot_6, (u64)(r_id_7 << 4ull));
+    r_52_80 = ld64(away(r_2b_40, 8ull));
+    r_lz_37 = ldp(r_2b_40);
+    u64 r_52_81 = ld64(r_zd_23);
+    u64 r_52_82 = ld64(r_x5_26);
+    if (!(r_52_80 > (r_52_81 - r_52_82))) { r_q7_5 = r_52_81; r_dv_5 = r_52_82; goto l_join_xn_5; }
+    u8 r_jl_8 = std_alloc_vec_Vec_grow_amortized_827889bc1b348a11(slot_9, r_52_80);
+    if (!r_jl_8) goto l_then_36_9;
+    r_q7_5 = ld64(r_zd_23);
+    r_dv_5 = ld64(r_x5_26);
+l_join_xn_5:;
+    r_5q_10 = (r_dv_5 + r_52_80);
+    r_2b_41 = away(ldp(slot_9), r_dv_5);
+    if (((u64)(uptr)r_2b_41 - (u64)(uptr)r_lz_37) < r_52_80) { r_il_8 = 0ull; goto l_join_fh_8; }
+    memmove_or_none(r_2b_41, r_lz_37, r_52_80);
+    goto l_std_93_7;
+l_join_fh_8:;
+    st8((r_2b_41 + (i64)(r_il_8)), ld8((r_lz_37 + (i64)(r_il_8))));
+    u64 r_36_39 = (r_il_8 + 1ull);
+    if (!(r_36_39 == r_52_80)) { r_il_8 = r_36_39; goto l_join_fh_8; }
+l_std_93_7:;
+    st64(r_x5_26, r_5q_10);
+    st64(r_zd_23, r_q7_5);
+    goto l_capnpc_nc_5;
+l_then_36_9:;
+    st8(r_lk_14, 1u);
+l_capnpc_nc_5:;
+    u64 r_c4_13 = (r_id_7 + 1ull);
+    if (r_c4_13 == 3ull) goto l_capnpc_f7_1;
+    r_id_7 = r_c4_13;
+    goto l_join_ge_7;
+l_join_jd:;
+    stp(slot_7, ((u8 *)g_static_331));
+    st64(r_x5_28, 6ull);
+    stp(r_zd_24, r_xk);
+    st64(r_lk_15, r_xu);
+    stp(r_89_14, ((u8 *)g_static_282));
+    st64(r_a8_3, 3ull);
+    r_id_8 = 0ull;
+l_join_ge_8:;
+    u8 *r_2b_42 = away(slot_7, (u64)(r_id_8 << 4ull));
+    r_52_83 = ld64(away(r_2b_42, 8ull));
+    r_lz_38 = ldp(r_2b_42);
+    u64 r_52_84 = ld64(r_zd_23);
+    u64 r_52_85 = ld64(r_x5_26);
+    if (!(r_52_83 > (r_52_84 - r_52_85))) { r_q7_6 = r_52_84; r_dv_6 = r_52_85; goto l_join_xn_6; }
+    u8 r_jl_9 = std_alloc_vec_Vec_grow_amortized_827889bc1b348a11(slot_9, r_52_83);
+    if (!r_jl_9) goto l_then_36_10;
+    r_q7_6 = ld64(r_zd_23);
+    r_dv_6 = ld64(r_x5_26);
+l_join_xn_6:;
+    r_5q_11 = (r_dv_6 + r_52_83);
+    r_2b_43 = away(ldp(slot_9), r_dv_6);
+    if (((u64)(uptr)r_2b_43 - (u64)(uptr)r_lz_38) < r_52_83) { r_il_9 = 0ull; goto l_join_fh_9; }
+    memmove_or_none(r_2b_43, r_lz_38, r_52_83);
+    goto l_std_93_8;
+l_join_fh_9:;
+    st8((r_2b_43 + (i64)(r_il_9)), ld8((r_lz_38 + (i64)(r_il_9))));
+    u64 r_36_40 = (r_il_9 + 1ull);
+    if (!(r_36_40 == r_52_83)) { r_il_9 = r_36_40; goto l_join_fh_9; }
+l_std_93_8:;
+    st64(r_x5_26, r_5q_11);
+    st64(r_zd_23, r_q7_6);
+    goto l_capnpc_nc_6;
+l_then_36_10:;
+    st8(r_lk_14, 1u);
+l_capnpc_nc_6:;
+    u64 r_c4_14 = (r_id_8 + 1ull);
+    if (!(r_c4_14 == 3ull)) { r_id_8 = r_c4_14; goto l_join_ge_8; }
+l_capnpc_f7_1:;
+    u64 r_36_41 = (r_wq + 1ull);
+    if (r_36_41 == r_38_48) goto l_after_i8;
+    r_wq = r_36_41;
+    goto l_join_og;
+l_after_wx:;
+    st8(r_lk_14, r_w7);
+    r_lj = r_av;
+    r_dm = r_u5;
+    goto l_std_ab_4;
+l_after_i8:;
+    st8(r_lk_14, (u8)(ld8(r_lk_14) | ld8(r_lk_21)));
+    r_38_50 = ld64(r_zd_30);
+    r_iu = 0ull;
+l_join_9n:;
+    r_a7_22 = away(r_xw_20, (r_iu * 24ull));
+    if (ld64((r_a7_22 + 16)) == 0ull) goto l_core_jc_10;
+    rattle_dealloc(ldp(r_a7_22));
+l_core_jc_10:;
+    u64 r_36_42 = (r_iu + 1ull);
+    if (r_36_42 == r_38_48) { r_lj = r_38_50; r_dm = r_xw_20; goto l_std_ab_4; }
+    r_iu = r_36_42;
+    goto l_join_9n;
+l_std_ab_4:;
+    if (r_lj == 0ull) goto l_capnpc_66_1;
+    rattle_dealloc(r_dm);
+l_capnpc_66_1:;
+    r_xw_21 = ldp(slot_9);
+    r_38_51 = ld64(r_x5_26);
+    r_38_52 = ld64(r_zd_23);
+    r_38_53 = ld64(r_lk_14);
+    r_ix_10 = (u8)(r_38_53 & 1);
+    u64 r_52_86 = ld64(r_x5_23);
+    if (!(ld64(r_zd_19) == r_52_86)) { r_uq = r_52_86; goto l_join_10; }
+    u8 r_89_22 = std_alloc_vec_Vec_grow_amortized_c7bbd78b6494f746(slot_10);
+    if (!r_89_22) goto l_arm_f8_14;
+    r_uq = ld64(r_x5_23);
+    goto l_join_10;
+l_arm_f8_14:;
+    if (r_38_52 == 0ull) goto l_join_36_4;
+    rattle_dealloc(r_xw_21);
+    goto l_join_36_4;
+l_join_10:;
+    u8 *r_a7_23 = (ldp(slot_10) + (i64)((r_uq * 48ull)));
+    stp(r_a7_23, ((u8 *)g_static_314));
+    st64((r_a7_23 + 8), 5ull);
+    stp((r_a7_23 + 16), r_xw_21);
+    st64((r_a7_23 + 24), r_38_51);
+    st64((r_a7_23 + 32), r_38_52);
+    st64((r_a7_23 + 40), r_38_53);
+    st64(r_x5_23, (r_uq + 1ull));
+    if (!r_ix_10) goto l_capnpc_oy;
+l_join_36_4:;
+    st8(r_lk_11, 1u);
+l_capnpc_oy:;
+    capnpc_schema_text_Values_put_lines(slot_10, ((u8 *)g_static_315), 17ull);
+    capnpc_layout_rust_builders_push_call(slot_14, ((u8 *)g_static_120), 0ull, ((u8 *)g_static_316), 125ull, slot_10);
+    goto l_capnpc_tl_2;
+l_arm_vp:;
+    r_2p = (ld32(away(r_2b_26, 144ull)) == 0u);
+    if (!r_2p) goto l_join_qu;
+    switch (ld8(ldp(away(r_2b_26, 152ull)))) {
+    case 0u: goto l_then_6j;
+    case 8u: goto l_join_qu;
+    case 10u: goto l_join_qu;
+    case 9u: { t_z2 = 0ull; t_kg = ((u8 *)g_static_120); goto l_join_x0; }
+    case 1u: { t_z2 = 0ull; t_kg = ((u8 *)g_static_120); goto l_join_x0; }
+    case 2u: { t_z2 = 0ull; t_kg = ((u8 *)g_static_120); goto l_join_x0; }
+    case 3u: { t_z2 = 0ull; t_kg = ((u8 *)g_static_120); goto l_join_x0; }
+    case 4u: { t_z2 = 0ull; t_kg = ((u8 *)g_static_120); goto l_join_x0; }
+    case 5u: { t_z2 = 0ull; t_kg = ((u8 *)g_static_120); goto l_join_x0; }
+    case 6u: { t_z2 = 0ull; t_kg = ((u8 *)g_static_120); goto l_join_x0; }
+    case 7u: { t_z2 = 0ull; t_kg = ((u8 *)g_static_120); goto l_join_x0; }
+    default: goto l_noarm_e1_13;
+    }
+l_then_6j:;
+    if (ld16(r_bb) == 65535u) goto l_capnpc_tl_2;
+    capnpc_schema_text_Values_put_lines(slot_10, ((u8 *)g_static_310), 49ull);
+    capnpc_layout_rust_builders_push_call(slot_14, r_yk, r_o4, ((u8 *)g_static_311), 27ull, slot_10);
+    goto l_capnpc_tl_2;
+l_join_qu:;
+    t_z2 = 13ull;
+    t_kg = ((u8 *)g_static_336);
+l_join_x0:;
+    capnpc_schema_text_Values_put(slot_10, ((u8 *)g_static_335), 7ull, t_kg, t_z2);
+    capnpc_schema_text_Values_put_lines(slot_10, ((u8 *)g_static_337), 73ull);
+    capnpc_layout_rust_builders_push_call(slot_14, r_yk, r_o4, ((u8 *)g_static_338), 42ull, slot_10);
+    r_lz_39 = ldp(slot_10);
+    r_52_87 = ld64(r_x5_23);
+    r_m1_1 = r_52_87;
+l_loop_mq_1:;
+    if (r_m1_1 == 0ull) { r_hb = r_52_87; r_zk = r_lz_39; goto l_join_yz; }
+    u64 r_zn_8 = (r_m1_1 + 0xffffffffffffffffull);
+    r_2b_44 = away(r_lz_39, (r_zn_8 * 48ull));
+    u8 r_5a = core_cmp_bytes_equal(ldp(r_2b_44), ld64((r_2b_44 + 8)), ((u8 *)g_static_339), 4ull);
+    if (!r_5a) { r_m1_1 = r_zn_8; goto l_loop_mq_1; }
+    if (ld64(away(r_2b_44, 24ull)) == 0ull) { r_hb = r_52_87; r_zk = r_lz_39; goto l_join_yz; }
+    capnpc_schema_text_Values_put(slot_10, ((u8 *)g_static_340), 5ull, (r_2p ? ((u8 *)g_static_120) : ((u8 *)g_static_341)), (r_2p ? 0ull : 13ull));
+    capnpc_schema_text_Values_put_lines(slot_10, ((u8 *)g_static_342), 60ull);
+    capnpc_layout_rust_builders_push_call(slot_14, ((u8 *)g_static_120), 0ull, ((u8 *)g_static_343), 51ull, slot_10);
+    r_hb = ld64(r_x5_23);
+    r_zk = ldp(slot_10);
+l_join_yz:;
+    r_iv_4 = r_hb;
+l_loop_bp_3:;
+    if (r_iv_4 == 0ull) goto l_capnpc_tl_2;
+    u64 r_zn_9 = (r_iv_4 + 0xffffffffffffffffull);
+    r_2b_45 = away(r_zk, (r_zn_9 * 48ull));
+    u8 r_3b = core_cmp_bytes_equal(ldp(r_2b_45), ld64((r_2b_45 + 8)), ((u8 *)g_static_344), 4ull);
+    if (!r_3b) { r_iv_4 = r_zn_9; goto l_loop_bp_3; }
+    if (ld64(away(r_2b_45, 24ull)) == 0ull) goto l_capnpc_tl_2;
+    if (!(ld8(away(r_2b_26, 168ull)) == 0u)) goto l_capnpc_tl_2;
+    capnpc_schema_text_Values_put_lines(slot_10, ((u8 *)g_static_345), 65ull);
+    capnpc_layout_rust_builders_push_call(slot_14, ((u8 *)g_static_120), 0ull, ((u8 *)g_static_346), 51ull, slot_10);
+    goto l_capnpc_tl_2;
+l_noarm_e1_13:;
+    UNREACHABLE();
 l_noarm_e1_12:;
     UNREACHABLE();
-l_then_nd:;
-    if (!(r_7d_3 < ld64(r_ti_3))) { r_ph = ((u8 *)g_static_120); r_th = 0ull; goto l_capnpc_3d; }
-    u8 *r_2b_40 = away(ldp(r_v3_2), (r_7d_3 * 24ull));
-    r_ph = ldp(r_2b_40);
-    r_th = ld64(away(r_2b_40, 8ull));
-l_capnpc_3d:;
-    memset(slot_2, 0u, 32);
-    capnpc_layout_rust_readers_Schema_field_values(slot_2, a_1, r_2b, r_2b_39, ld64(r_2b));
-    u64 r_52_79 = ld64(r_x5_30);
-    if (!(ld64(r_zd_26) == r_52_79)) { r_nu_1 = r_52_79; goto l_join_ns_1; }
-    u8 r_89_19 = std_alloc_vec_Vec_grow_amortized_c7bbd78b6494f746(slot_2);
-    if (!r_89_19) goto l_join_36_4;
-    r_nu_1 = ld64(r_x5_30);
-l_join_ns_1:;
-    u8 *r_a7_22 = (ldp(slot_2) + (i64)((r_nu_1 * 48ull)));
-    stp(r_a7_22, ((u8 *)g_static_253));
-    st64((r_a7_22 + 8), 6ull);
-    stp((r_a7_22 + 16), slot_1);
-    memset((r_a7_22 + 24), 0u, 24);
-    st64(r_x5_30, (r_nu_1 + 1ull));
-    goto l_capnpc_qb;
-l_join_36_4:;
-    st8(r_lk_19, 1u);
-l_capnpc_qb:;
-    switch (ld8(r_qj_3)) {
-    case 0u: goto l_arm_54;
-    case 1u: goto l_arm_qw_2;
-    default: goto l_then_88;
-    }
-l_arm_54:;
-    capnpc_schema_text_Values_put_lines(slot_2, ((u8 *)g_static_337), 28ull);
-    goto l_join_bh_1;
-l_arm_qw_2:;
-    if (!(ld32(away(r_2b_39, 144ull)) == 0u)) goto l_then_88;
-    if (ld8(ldp(away(r_2b_39, 152ull))) == 0u) goto l_join_bh_1;
-l_then_88:;
-    capnpc_schema_text_Values_put_lines(slot_2, ((u8 *)g_static_338), 18ull);
-l_join_bh_1:;
-    r_lz_38 = ldp(slot_2);
-    r_52_80 = ld64(r_x5_30);
-    r_iv_3 = r_52_80;
-l_loop_bp_3:;
-    if (r_iv_3 == 0ull) { r_gp = 0ull; r_0v_1 = ((u8 *)g_static_120); goto l_capnpc_08; }
-    u64 r_zn_9 = (r_iv_3 + 0xffffffffffffffffull);
-    r_2b_41 = away(r_lz_38, (r_zn_9 * 48ull));
-    u8 r_ka = core_cmp_bytes_equal(ldp(r_2b_41), ld64((r_2b_41 + 8)), ((u8 *)g_static_161), 4ull);
-    if (!r_ka) { r_iv_3 = r_zn_9; goto l_loop_bp_3; }
-    r_gp = ld64(away(r_2b_41, 24ull));
-    r_0v_1 = ldp(away(r_2b_41, 16ull));
-l_capnpc_08:;
-    capnpc_layout_rust_docs_push_docs(slot_14, ((u8 *)g_static_5), 4ull, r_ph, r_th, r_0v_1, r_gp);
-    capnpc_schema_text_Text_push_filled(slot_14, ((u8 *)g_static_339), 23ull, slot_2);
-    r_38_47 = ld64(r_zd_26);
-    if (r_52_80 == 0ull) goto l_std_ab_5;
+l_capnpc_tl_2:;
+    r_xw_22 = ldp(slot_10);
+    r_38_54 = ld64(r_x5_23);
+    r_38_55 = ld64(r_zd_19);
+    if (r_38_54 == 0ull) goto l_std_8o_4;
     r_01_10 = 0ull;
 l_join_1a_10:;
-    r_a7_23 = away(r_lz_38, (r_01_10 * 48ull));
-    if (ld64((r_a7_23 + 32)) == 0ull) goto l_core_jc_11;
-    rattle_dealloc(ldp((r_a7_23 + 16)));
-l_core_jc_11:;
-    u64 r_36_42 = (r_01_10 + 1ull);
-    if (!(r_36_42 == r_52_80)) { r_01_10 = r_36_42; goto l_join_1a_10; }
-l_std_ab_5:;
-    if (r_38_47 == 0ull) goto l_capnpc_va;
-    rattle_dealloc(r_lz_38);
-l_capnpc_va:;
-l_after_94_4:;
-    u64 r_36_43 = (r_7d_3 + 1ull);
-    if (!(r_36_43 == r_52_76)) { r_7d_3 = r_36_43; goto l_join_ie_3; }
-l_after_2p:;
-    capnpc_schema_text_Text_push_filled(slot_14, ((u8 *)g_static_336), 82ull, slot_3);
-    r_xw_23 = ldp(slot_3);
-    r_fz_4 = ld64(t_x5_3);
-    r_38_48 = ld64((slot_3 + 16));
-    if (r_fz_4 == 0ull) goto l_std_ab_6;
-    r_01_11 = 0ull;
-l_join_1a_11:;
-    r_a7_24 = away(r_xw_23, (r_01_11 * 48ull));
-    if (ld64((r_a7_24 + 32)) == 0ull) goto l_core_jc_12;
+    r_a7_24 = away(r_xw_22, (r_01_10 * 48ull));
+    if (ld64((r_a7_24 + 32)) == 0ull) goto l_core_jc_11;
     rattle_dealloc(ldp((r_a7_24 + 16)));
-l_core_jc_12:;
-    u64 r_36_44 = (r_01_11 + 1ull);
-    if (!(r_36_44 == r_fz_4)) { r_01_11 = r_36_44; goto l_join_1a_11; }
-l_std_ab_6:;
-    if (r_38_48 == 0ull) goto l_capnpc_nb;
-    rattle_dealloc(r_xw_23);
-l_capnpc_nb:;
-l_join_hr:;
-    if (!(u8)(ld8(away(a_1, 48ull)) & 1)) goto l_join_2c;
-    memset((slot_9 + 8), 0u, 24);
-    stp(slot_9, slot_1);
-    capnpc_schema_text_Values_put(slot_9, ((u8 *)g_static_144), 4ull, ldp(r_zn), ld64(r_3q));
-    capnpc_schema_text_Values_put(slot_9, ((u8 *)g_static_145), 4ull, ldp(r_be), ld64(r_x1));
-    capnpc_schema_text_Values_put(slot_9, ((u8 *)g_static_146), 3ull, ldp(r_39), ld64(r_9b));
-    mv32(slot_10, slot_9);
-    memset(slot_5, 0u, 32);
-    stp(slot_2, slot_1);
-    r_x5_31 = (slot_2 + 8);
-    memset(r_x5_31, 0u, 24);
+l_core_jc_11:;
+    u64 r_36_43 = (r_01_10 + 1ull);
+    if (!(r_36_43 == r_38_54)) { r_01_10 = r_36_43; goto l_join_1a_10; }
+l_std_8o_4:;
+    if (r_38_55 == 0ull) goto l_after_sd_2;
+    rattle_dealloc(r_xw_22);
+l_after_sd_2:;
+    u64 r_36_44 = (r_y3_3 + 1ull);
+    if (!(r_36_44 == r_52_56)) { r_y3_3 = r_36_44; goto l_join_ga_4; }
+l_capnpc_ts:;
+    mv32(slot_16, slot_14);
+    stp(slot_14, slot_1);
+    memset(r_x5_19, 0u, 24);
+    r_xw_23 = ldp(slot_16);
+    r_38_56 = ld64((slot_16 + 16));
+    capnpc_schema_text_Text_push_filled(slot_14, ((u8 *)g_static_302), 14ull, slot_15);
+    if ((u8)(ld8(r_93) & 1)) goto l_join_yb;
+    capnpc_schema_text_Text_push_filled(slot_14, ((u8 *)g_static_303), 141ull, slot_15);
+l_join_yb:;
+    capnpc_schema_text_Text_push_filled(slot_14, ((u8 *)g_static_304), 86ull, slot_15);
+    capnpc_layout_rust_piece_Piece_push_impl(slot_14, ((u8 *)g_static_305), 19ull, slot_16, slot_15);
+    capnpc_schema_text_Text_push_filled(slot_14, ((u8 *)g_static_306), 264ull, slot_15);
+    if ((u8)(ld8(r_93) & 1)) goto l_join_tr;
+    capnpc_schema_text_Text_push_filled(slot_14, ((u8 *)g_static_307), 88ull, slot_15);
+l_join_tr:;
+    if (ld16(r_y0) == 0u) goto l_join_hr;
+    t_x5_3 = (slot_3 + 8);
+    memset(t_x5_3, 0u, 24);
     stp(slot_3, slot_1);
-    r_x5_32 = (slot_3 + 8);
-    memset(r_x5_32, 0u, 24);
-    stp(slot_4, slot_1);
-    r_x5_33 = (slot_4 + 8);
-    memset(r_x5_33, 0u, 24);
-    r_lz_39 = ldp(r_im);
-    r_52_81 = ld64(r_t0);
-    if (r_52_81 == 0ull) { r_nz = 0ull; r_rc = 0ull; r_ln = 0ull; r_xa = slot_1; goto l_after_54; }
-    r_x5_34 = (slot_5 + 8);
-    r_zd_27 = (slot_5 + 16);
-    r_7d_4 = 0ull;
-l_join_ie_4:;
-    r_2b_42 = away(r_lz_39, (r_7d_4 * 208ull));
-    if (!(ld16(away(r_2b_42, 124ull)) == 65535u)) goto l_after_94_5;
-    r_qj_4 = away(r_2b_42, 128ull);
-    switch (ld8(r_qj_4)) {
-    case 1u: goto l_arm_pv;
+    capnpc_schema_text_Values_put(slot_3, ((u8 *)g_static_145), 4ull, ldp(r_zn), ld64(r_3q));
+    capnpc_schema_text_Values_put(slot_3, ((u8 *)g_static_146), 4ull, ldp(r_be), ld64(r_x1));
+    capnpc_schema_text_Values_put(slot_3, ((u8 *)g_static_147), 3ull, ldp(r_39), ld64(r_9b));
+    struct s_p_i64 r_5v_1 = capnpc_layout_rust_unions_parameters(a_1, r_93);
+    u8 *r_ij = r_5v_1.f0;
+    u64 r_vn = r_5v_1.f1;
+    u8 r_ta = core_cmp_bytes_equal(r_ij, r_vn, ((u8 *)g_static_252), 7ull);
+    capnpc_schema_text_Values_put(slot_3, ((u8 *)g_static_247), 10ull, (r_ta ? ((u8 *)g_static_347) : r_ij), (r_ta ? 28ull : r_vn));
+    capnpc_schema_text_Text_push_filled(slot_14, ((u8 *)g_static_348), 102ull, slot_3);
+    r_lz_40 = ldp(r_im);
+    r_52_88 = ld64(r_t0);
+    if (r_52_88 == 0ull) goto l_after_54;
+    r_ti_4 = away(r_2b, 144ull);
+    r_v3_2 = away(r_2b, 136ull);
+    r_zd_31 = (slot_2 + 16);
+    r_x5_34 = (slot_2 + 8);
+    r_lk_22 = (slot_2 + 24);
+    r_7d_3 = 0ull;
+l_join_ie_3:;
+    r_2b_46 = away(r_lz_40, (r_7d_3 * 208ull));
+    if (ld16(away(r_2b_46, 124ull)) == 65535u) goto l_after_94_5;
+    r_qj_5 = away(r_2b_46, 128ull);
+    switch (ld8(r_qj_5)) {
     case 2u: goto l_after_94_5;
     case 0u: goto l_arm_d2_5;
+    case 1u: goto l_arm_un_5;
     default: goto l_noarm_e1_14;
     }
-l_arm_pv:;
-    r_2p_1 = (ld32(away(r_2b_42, 144ull)) == 0u);
-    if (!r_2p_1) goto l_arm_un_5;
-    if (ld8(ldp(away(r_2b_42, 152ull))) == 0u) goto l_after_94_5;
-    goto l_arm_un_5;
 l_arm_d2_5:;
     r_mb_11 = ldp(a_1);
     r_qw_11 = ld64(r_e7);
-    r_52_82 = ld64(away(r_2b_42, 136ull));
+    r_52_89 = ld64(away(r_2b_46, 136ull));
     if (r_qw_11 == 0ull) goto l_after_94_5;
     r_1y_11 = 0ull;
     goto l_join_v4_11;
@@ -26792,15 +27127,15 @@ l_loop_94_5:;
     if (r_36_45 == r_qw_11) goto l_after_94_5;
     r_1y_11 = r_36_45;
 l_join_v4_11:;
-    if (ld64(away(r_mb_11, (r_1y_11 * 280ull))) == r_52_82) goto l_then_cc;
+    if (ld64(away(r_mb_11, (r_1y_11 * 280ull))) == r_52_89) goto l_then_nd;
     goto l_loop_94_5;
 l_arm_un_5:;
     r_mb_12 = ldp(a_1);
     r_qw_12 = ld64(r_e7);
-    r_47_11 = ld8(away(r_2b_42, 168ull));
-    if (r_47_11 == 4u) goto l_after_94_5;
-    r_lz_40 = ldp(away(r_2b_42, 152ull));
-    r_52_83 = ld64(away(r_2b_42, 160ull));
+    r_47_12 = ld8(away(r_2b_46, 168ull));
+    if (r_47_12 == 4u) goto l_after_94_5;
+    r_lz_41 = ldp(away(r_2b_46, 152ull));
+    r_52_90 = ld64(away(r_2b_46, 160ull));
     if (r_qw_12 == 0ull) { r_30_5 = ((u8 *)0); t_ul_5 = 1u; goto l_capnpc_wg_5; }
     r_1y_12 = 0ull;
     goto l_join_v4_12;
@@ -26810,14 +27145,203 @@ l_loop_sd_6:;
     r_1y_12 = r_36_46;
 l_join_v4_12:;
     r_tr_6 = (r_1y_12 * 280ull);
-    if (!(ld64(away(r_mb_12, r_tr_6)) == r_52_83)) goto l_loop_sd_6;
+    if (!(ld64(away(r_mb_12, r_tr_6)) == r_52_90)) goto l_loop_sd_6;
     r_30_5 = away(r_mb_12, r_tr_6);
     t_ul_5 = 0u;
 l_capnpc_wg_5:;
-    r_47_12 = ld8(r_lz_40);
-    switch (r_47_12) {
-    case 8u: goto l_arm_f8_13;
+    r_47_13 = ld8(r_lz_41);
+    switch (r_47_13) {
+    case 8u: goto l_arm_f8_15;
     case 5u: goto l_arm_tt_4;
+    case 0u: goto l_then_jh_5;
+    case 1u: goto l_then_jh_5;
+    case 2u: goto l_then_jh_5;
+    case 3u: goto l_then_jh_5;
+    case 4u: goto l_then_jh_5;
+    case 6u: goto l_then_jh_5;
+    case 7u: goto l_then_jh_5;
+    case 9u: goto l_then_jh_5;
+    case 10u: goto l_then_jh_5;
+    default: goto l_noarm_e1_15;
+    }
+l_arm_f8_15:;
+    if (t_ul_5) goto l_after_94_5;
+    goto l_then_jh_5;
+l_arm_tt_4:;
+    if (t_ul_5) goto l_after_94_5;
+    if (ld8(away(r_30_5, 184ull)) == 2u) goto l_then_jh_5;
+    goto l_after_94_5;
+l_noarm_e1_15:;
+    UNREACHABLE();
+l_then_jh_5:;
+    if ((u8)((u8)(r_47_12 == 3u) & (u8)((u8)(r_47_13 + 247u) < 2u)) ? (ld32(away(r_2b_46, 144ull)) == 0u) : 0u) goto l_after_94_5;
+    goto l_then_nd;
+l_noarm_e1_14:;
+    UNREACHABLE();
+l_then_nd:;
+    if (!(r_7d_3 < ld64(r_ti_4))) { r_ph = ((u8 *)g_static_120); r_th = 0ull; goto l_capnpc_3d; }
+    u8 *r_2b_47 = away(ldp(r_v3_2), (r_7d_3 * 24ull));
+    r_ph = ldp(r_2b_47);
+    r_th = ld64(away(r_2b_47, 8ull));
+l_capnpc_3d:;
+    memset(slot_2, 0u, 32);
+    capnpc_layout_rust_readers_Schema_field_values(slot_2, a_1, r_2b, r_2b_46, ld64(r_2b));
+    u64 r_52_91 = ld64(r_x5_34);
+    if (!(ld64(r_zd_31) == r_52_91)) { r_8a_1 = r_52_91; goto l_join_66_1; }
+    u8 r_89_23 = std_alloc_vec_Vec_grow_amortized_c7bbd78b6494f746(slot_2);
+    if (!r_89_23) goto l_join_36_5;
+    r_8a_1 = ld64(r_x5_34);
+l_join_66_1:;
+    u8 *r_a7_25 = (ldp(slot_2) + (i64)((r_8a_1 * 48ull)));
+    stp(r_a7_25, ((u8 *)g_static_254));
+    st64((r_a7_25 + 8), 6ull);
+    stp((r_a7_25 + 16), slot_1);
+    memset((r_a7_25 + 24), 0u, 24);
+    st64(r_x5_34, (r_8a_1 + 1ull));
+    goto l_capnpc_qb;
+l_join_36_5:;
+    st8(r_lk_22, 1u);
+l_capnpc_qb:;
+    switch (ld8(r_qj_5)) {
+    case 0u: goto l_arm_z1;
+    case 1u: goto l_arm_qw_2;
+    default: goto l_then_6z;
+    }
+l_arm_z1:;
+    capnpc_schema_text_Values_put_lines(slot_2, ((u8 *)g_static_350), 28ull);
+    goto l_join_bh_1;
+l_arm_qw_2:;
+    if (!(ld32(away(r_2b_46, 144ull)) == 0u)) goto l_then_6z;
+    if (ld8(ldp(away(r_2b_46, 152ull))) == 0u) goto l_join_bh_1;
+l_then_6z:;
+    capnpc_schema_text_Values_put_lines(slot_2, ((u8 *)g_static_351), 18ull);
+l_join_bh_1:;
+    r_lz_42 = ldp(slot_2);
+    r_52_92 = ld64(r_x5_34);
+    r_iv_5 = r_52_92;
+l_loop_bp_4:;
+    if (r_iv_5 == 0ull) { r_sd = 0ull; r_to = ((u8 *)g_static_120); goto l_capnpc_wx; }
+    u64 r_zn_10 = (r_iv_5 + 0xffffffffffffffffull);
+    r_2b_48 = away(r_lz_42, (r_zn_10 * 48ull));
+    u8 r_bp = core_cmp_bytes_equal(ldp(r_2b_48), ld64((r_2b_48 + 8)), ((u8 *)g_static_162), 4ull);
+    if (!r_bp) { r_iv_5 = r_zn_10; goto l_loop_bp_4; }
+    r_sd = ld64(away(r_2b_48, 24ull));
+    r_to = ldp(away(r_2b_48, 16ull));
+l_capnpc_wx:;
+    capnpc_layout_rust_docs_push_docs(slot_14, ((u8 *)g_static_5), 4ull, r_ph, r_th, r_to, r_sd);
+    capnpc_schema_text_Text_push_filled(slot_14, ((u8 *)g_static_352), 23ull, slot_2);
+    r_38_57 = ld64(r_zd_31);
+    if (r_52_92 == 0ull) goto l_std_ab_5;
+    r_01_11 = 0ull;
+l_join_1a_11:;
+    r_a7_26 = away(r_lz_42, (r_01_11 * 48ull));
+    if (ld64((r_a7_26 + 32)) == 0ull) goto l_core_jc_12;
+    rattle_dealloc(ldp((r_a7_26 + 16)));
+l_core_jc_12:;
+    u64 r_36_47 = (r_01_11 + 1ull);
+    if (!(r_36_47 == r_52_92)) { r_01_11 = r_36_47; goto l_join_1a_11; }
+l_std_ab_5:;
+    if (r_38_57 == 0ull) goto l_capnpc_va;
+    rattle_dealloc(r_lz_42);
+l_capnpc_va:;
+l_after_94_5:;
+    u64 r_36_48 = (r_7d_3 + 1ull);
+    if (!(r_36_48 == r_52_88)) { r_7d_3 = r_36_48; goto l_join_ie_3; }
+l_after_54:;
+    capnpc_schema_text_Text_push_filled(slot_14, ((u8 *)g_static_349), 82ull, slot_3);
+    r_xw_24 = ldp(slot_3);
+    r_fz_4 = ld64(t_x5_3);
+    r_38_58 = ld64((slot_3 + 16));
+    if (r_fz_4 == 0ull) goto l_std_ab_6;
+    r_01_12 = 0ull;
+l_join_1a_12:;
+    r_a7_27 = away(r_xw_24, (r_01_12 * 48ull));
+    if (ld64((r_a7_27 + 32)) == 0ull) goto l_core_jc_13;
+    rattle_dealloc(ldp((r_a7_27 + 16)));
+l_core_jc_13:;
+    u64 r_36_49 = (r_01_12 + 1ull);
+    if (!(r_36_49 == r_fz_4)) { r_01_12 = r_36_49; goto l_join_1a_12; }
+l_std_ab_6:;
+    if (r_38_58 == 0ull) goto l_capnpc_nb;
+    rattle_dealloc(r_xw_24);
+l_capnpc_nb:;
+l_join_hr:;
+    if (!(u8)(ld8(away(a_1, 48ull)) & 1)) goto l_join_2c;
+    memset((slot_9 + 8), 0u, 24);
+    stp(slot_9, slot_1);
+    capnpc_schema_text_Values_put(slot_9, ((u8 *)g_static_145), 4ull, ldp(r_zn), ld64(r_3q));
+    capnpc_schema_text_Values_put(slot_9, ((u8 *)g_static_146), 4ull, ldp(r_be), ld64(r_x1));
+    capnpc_schema_text_Values_put(slot_9, ((u8 *)g_static_147), 3ull, ldp(r_39), ld64(r_9b));
+    mv32(slot_10, slot_9);
+    memset(slot_5, 0u, 32);
+    stp(slot_2, slot_1);
+    r_x5_35 = (slot_2 + 8);
+    memset(r_x5_35, 0u, 24);
+    stp(slot_3, slot_1);
+    r_x5_36 = (slot_3 + 8);
+    memset(r_x5_36, 0u, 24);
+    stp(slot_4, slot_1);
+    r_x5_37 = (slot_4 + 8);
+    memset(r_x5_37, 0u, 24);
+    r_lz_43 = ldp(r_im);
+    r_52_93 = ld64(r_t0);
+    if (r_52_93 == 0ull) { r_nz = 0ull; r_rc = 0ull; r_ln = 0ull; r_xa = slot_1; goto l_after_54_1; }
+    r_x5_38 = (slot_5 + 8);
+    r_zd_32 = (slot_5 + 16);
+    r_7d_4 = 0ull;
+l_join_ie_4:;
+    r_2b_49 = away(r_lz_43, (r_7d_4 * 208ull));
+    if (!(ld16(away(r_2b_49, 124ull)) == 65535u)) goto l_after_94_6;
+    r_qj_6 = away(r_2b_49, 128ull);
+    switch (ld8(r_qj_6)) {
+    case 1u: goto l_arm_pv;
+    case 2u: goto l_after_94_6;
+    case 0u: goto l_arm_d2_6;
+    default: goto l_noarm_e1_16;
+    }
+l_arm_pv:;
+    r_2p_1 = (ld32(away(r_2b_49, 144ull)) == 0u);
+    if (!r_2p_1) goto l_arm_un_6;
+    if (ld8(ldp(away(r_2b_49, 152ull))) == 0u) goto l_after_94_6;
+    goto l_arm_un_6;
+l_arm_d2_6:;
+    r_mb_13 = ldp(a_1);
+    r_qw_13 = ld64(r_e7);
+    r_52_94 = ld64(away(r_2b_49, 136ull));
+    if (r_qw_13 == 0ull) goto l_after_94_6;
+    r_1y_13 = 0ull;
+    goto l_join_v4_13;
+l_loop_94_6:;
+    u64 r_36_50 = (r_1y_13 + 1ull);
+    if (r_36_50 == r_qw_13) goto l_after_94_6;
+    r_1y_13 = r_36_50;
+l_join_v4_13:;
+    if (ld64(away(r_mb_13, (r_1y_13 * 280ull))) == r_52_94) goto l_then_cc;
+    goto l_loop_94_6;
+l_arm_un_6:;
+    r_mb_14 = ldp(a_1);
+    r_qw_14 = ld64(r_e7);
+    r_47_14 = ld8(away(r_2b_49, 168ull));
+    if (r_47_14 == 4u) goto l_after_94_6;
+    r_lz_44 = ldp(away(r_2b_49, 152ull));
+    r_52_95 = ld64(away(r_2b_49, 160ull));
+    if (r_qw_14 == 0ull) { r_30_6 = ((u8 *)0); t_ul_6 = 1u; goto l_capnpc_wg_6; }
+    r_1y_14 = 0ull;
+    goto l_join_v4_14;
+l_loop_sd_7:;
+    u64 r_36_51 = (r_1y_14 + 1ull);
+    if (r_36_51 == r_qw_14) { r_30_6 = ((u8 *)0); t_ul_6 = 1u; goto l_capnpc_wg_6; }
+    r_1y_14 = r_36_51;
+l_join_v4_14:;
+    r_tr_7 = (r_1y_14 * 280ull);
+    if (!(ld64(away(r_mb_14, r_tr_7)) == r_52_95)) goto l_loop_sd_7;
+    r_30_6 = away(r_mb_14, r_tr_7);
+    t_ul_6 = 0u;
+l_capnpc_wg_6:;
+    r_47_15 = ld8(r_lz_44);
+    switch (r_47_15) {
+    case 8u: goto l_arm_f8_16;
+    case 5u: goto l_arm_tt_5;
     case 0u: goto l_then_kb;
     case 1u: goto l_then_kb;
     case 2u: goto l_then_kb;
@@ -26827,184 +27351,184 @@ l_capnpc_wg_5:;
     case 7u: goto l_then_kb;
     case 9u: goto l_then_kb;
     case 10u: goto l_then_kb;
-    default: goto l_noarm_e1_15;
+    default: goto l_noarm_e1_17;
     }
-l_arm_f8_13:;
-    if (t_ul_5) goto l_after_94_5;
+l_arm_f8_16:;
+    if (t_ul_6) goto l_after_94_6;
     goto l_then_cc;
-l_arm_tt_4:;
-    if (t_ul_5) goto l_after_94_5;
-    if (ld8(away(r_30_5, 184ull)) == 2u) goto l_then_cc;
-    goto l_after_94_5;
-l_noarm_e1_15:;
+l_arm_tt_5:;
+    if (t_ul_6) goto l_after_94_6;
+    if (ld8(away(r_30_6, 184ull)) == 2u) goto l_then_cc;
+    goto l_after_94_6;
+l_noarm_e1_17:;
     UNREACHABLE();
 l_then_kb:;
-    if ((u8)((u8)r_2p_1 & (u8)(u8)((u8)(r_47_11 == 3u) & (u8)((u8)(r_47_12 + 247u) < 2u)))) goto l_after_94_5;
+    if ((u8)((u8)r_2p_1 & (u8)(u8)((u8)(r_47_14 == 3u) & (u8)((u8)(r_47_15 + 247u) < 2u)))) goto l_after_94_6;
     goto l_then_cc;
-l_noarm_e1_14:;
+l_noarm_e1_16:;
     UNREACHABLE();
 l_then_cc:;
-    capnpc_layout_rust_values_value_of(slot_5, a_1, r_bw, r_2b_42);
-    r_xw_24 = ldp(slot_5);
-    r_38_49 = ld64(r_x5_34);
-    r_38_50 = ld64(r_zd_27);
-    r_m1_2 = r_38_49;
+    capnpc_layout_rust_values_value_of(slot_5, a_1, r_bw, r_2b_49);
+    r_xw_25 = ldp(slot_5);
+    r_38_59 = ld64(r_x5_38);
+    r_38_60 = ld64(r_zd_32);
+    r_m1_2 = r_38_59;
 l_loop_mq_2:;
     if (r_m1_2 == 0ull) goto l_join_2x;
-    u64 r_zn_10 = (r_m1_2 + 0xffffffffffffffffull);
-    r_2b_43 = away(r_xw_24, (r_zn_10 * 48ull));
-    u8 r_9f = core_cmp_bytes_equal(ldp(r_2b_43), ld64((r_2b_43 + 8)), ((u8 *)g_static_352), 5ull);
-    if (!r_9f) { r_m1_2 = r_zn_10; goto l_loop_mq_2; }
-    if (ld64(away(r_2b_43, 24ull)) == 0ull) goto l_join_2x;
-    capnpc_schema_text_Text_push_filled(slot_2, ((u8 *)g_static_353), 42ull, slot_5);
-    capnpc_schema_text_Text_push_filled(slot_3, ((u8 *)g_static_354), 27ull, slot_5);
-    if (!(ld8(r_qj_4) == 1u)) { r_3p = ((u8 *)g_static_370); r_qu = 43ull; goto l_capnpc_mt; }
-    t_pa = (ld8(away(r_2b_42, 168ull)) != 0u);
-    u8 r_2p_2 = (ld32(away(r_2b_42, 144ull)) == 0u);
+    u64 r_zn_11 = (r_m1_2 + 0xffffffffffffffffull);
+    r_2b_50 = away(r_xw_25, (r_zn_11 * 48ull));
+    u8 r_lh = core_cmp_bytes_equal(ldp(r_2b_50), ld64((r_2b_50 + 8)), ((u8 *)g_static_365), 5ull);
+    if (!r_lh) { r_m1_2 = r_zn_11; goto l_loop_mq_2; }
+    if (ld64(away(r_2b_50, 24ull)) == 0ull) goto l_join_2x;
+    capnpc_schema_text_Text_push_filled(slot_2, ((u8 *)g_static_366), 42ull, slot_5);
+    capnpc_schema_text_Text_push_filled(slot_3, ((u8 *)g_static_367), 27ull, slot_5);
+    if (!(ld8(r_qj_6) == 1u)) { r_3p = ((u8 *)g_static_384); r_qu = 43ull; goto l_capnpc_mt; }
+    t_pa = (ld8(away(r_2b_49, 168ull)) != 0u);
+    u8 r_2p_2 = (ld32(away(r_2b_49, 144ull)) == 0u);
     u8 brmerge_n6 = (u8)((u8)t_pa | (u8)r_2p_2);
-    if (!r_2p_2) { r_3p = (brmerge_n6 ? ((u8 *)g_static_372) : ((u8 *)g_static_371)); r_qu = (brmerge_n6 ? 92ull : 147ull); goto l_capnpc_mt; }
-    r_47_13 = ld8(ldp(away(r_2b_42, 152ull)));
-    t_gp = (u8)(r_47_13 & 254u);
-    if (!(u8)((u8)t_pa | (u8)(t_gp != 6u))) { r_3p = ((u8 *)g_static_373); r_qu = 89ull; goto l_capnpc_mt; }
-    if (t_gp == 6u) { r_3p = ((u8 *)g_static_374); r_qu = 38ull; goto l_capnpc_mt; }
-    r_3p = ldp((((u8 *)switch_table_capnpc_layout_rust_generating_write_entry_12) + (i64)(8 * (u64)r_47_13)));
-    r_qu = ld64((((u8 *)switch_table_capnpc_layout_rust_generating_write_entry_13) + (i64)(8 * (u64)r_47_13)));
+    if (!r_2p_2) { r_3p = (brmerge_n6 ? ((u8 *)g_static_386) : ((u8 *)g_static_385)); r_qu = (brmerge_n6 ? 92ull : 147ull); goto l_capnpc_mt; }
+    r_47_16 = ld8(ldp(away(r_2b_49, 152ull)));
+    t_gp = (u8)(r_47_16 & 254u);
+    if (!(u8)((u8)t_pa | (u8)(t_gp != 6u))) { r_3p = ((u8 *)g_static_387); r_qu = 89ull; goto l_capnpc_mt; }
+    if (t_gp == 6u) { r_3p = ((u8 *)g_static_388); r_qu = 38ull; goto l_capnpc_mt; }
+    r_3p = ldp((((u8 *)switch_table_capnpc_layout_rust_generating_write_entry_12) + (i64)(8 * (u64)r_47_16)));
+    r_qu = ld64((((u8 *)switch_table_capnpc_layout_rust_generating_write_entry_13) + (i64)(8 * (u64)r_47_16)));
 l_capnpc_mt:;
     capnpc_schema_text_Text_push_filled(slot_4, r_3p, r_qu, slot_5);
 l_join_2x:;
-    if (r_38_49 == 0ull) goto l_std_8o_4;
-    r_01_12 = 0ull;
-l_join_1a_12:;
-    r_a7_25 = away(r_xw_24, (r_01_12 * 48ull));
-    if (ld64((r_a7_25 + 32)) == 0ull) goto l_core_jc_13;
-    rattle_dealloc(ldp((r_a7_25 + 16)));
-l_core_jc_13:;
-    u64 r_36_47 = (r_01_12 + 1ull);
-    if (!(r_36_47 == r_38_49)) { r_01_12 = r_36_47; goto l_join_1a_12; }
-l_std_8o_4:;
-    if (r_38_50 == 0ull) goto l_after_94_5;
-    rattle_dealloc(r_xw_24);
-l_after_94_5:;
-    u64 r_36_48 = (r_7d_4 + 1ull);
-    if (!(r_36_48 == r_52_81)) { r_7d_4 = r_36_48; goto l_join_ie_4; }
+    if (r_38_59 == 0ull) goto l_std_8o_5;
+    r_01_13 = 0ull;
+l_join_1a_13:;
+    r_a7_28 = away(r_xw_25, (r_01_13 * 48ull));
+    if (ld64((r_a7_28 + 32)) == 0ull) goto l_core_jc_14;
+    rattle_dealloc(ldp((r_a7_28 + 16)));
+l_core_jc_14:;
+    u64 r_36_52 = (r_01_13 + 1ull);
+    if (!(r_36_52 == r_38_59)) { r_01_13 = r_36_52; goto l_join_1a_13; }
+l_std_8o_5:;
+    if (r_38_60 == 0ull) goto l_after_94_6;
+    rattle_dealloc(r_xw_25);
+l_after_94_6:;
+    u64 r_36_53 = (r_7d_4 + 1ull);
+    if (!(r_36_53 == r_52_93)) { r_7d_4 = r_36_53; goto l_join_ie_4; }
     r_nz = ld64((slot_2 + 24));
     r_rc = ld64((slot_2 + 16));
-    r_ln = ld64(r_x5_31);
+    r_ln = ld64(r_x5_35);
     r_xa = ldp(slot_2);
-l_after_54:;
-    r_ix_9 = (u8)(r_nz & 1);
-    r_zd_28 = (slot_10 + 16);
-    r_x5_35 = (slot_10 + 8);
-    u64 r_52_84 = ld64(r_x5_35);
-    if (!(ld64(r_zd_28) == r_52_84)) { r_8o = r_52_84; goto l_join_92; }
-    u8 r_89_20 = std_alloc_vec_Vec_grow_amortized_c7bbd78b6494f746(slot_10);
-    if (!r_89_20) goto l_arm_f8_14;
-    r_8o = ld64(r_x5_35);
-    goto l_join_92;
-l_arm_f8_14:;
+l_after_54_1:;
+    r_ix_11 = (u8)(r_nz & 1);
+    r_zd_33 = (slot_10 + 16);
+    r_x5_39 = (slot_10 + 8);
+    u64 r_52_96 = ld64(r_x5_39);
+    if (!(ld64(r_zd_33) == r_52_96)) { r_sk = r_52_96; goto l_join_l9; }
+    u8 r_89_24 = std_alloc_vec_Vec_grow_amortized_c7bbd78b6494f746(slot_10);
+    if (!r_89_24) goto l_arm_f8_17;
+    r_sk = ld64(r_x5_39);
+    goto l_join_l9;
+l_arm_f8_17:;
     if (r_rc == 0ull) goto l_join_g8_2;
     rattle_dealloc(r_xa);
     goto l_join_g8_2;
-l_join_92:;
-    u8 *r_a7_26 = (ldp(slot_10) + (i64)((r_8o * 48ull)));
-    stp(r_a7_26, ((u8 *)g_static_355));
-    st64((r_a7_26 + 8), 8ull);
-    stp((r_a7_26 + 16), r_xa);
-    st64((r_a7_26 + 24), r_ln);
-    st64((r_a7_26 + 32), r_rc);
-    st64((r_a7_26 + 40), r_nz);
-    u64 r_7n_3 = (r_8o + 1ull);
-    st64(r_x5_35, r_7n_3);
-    if (!r_ix_9) { r_w7_1 = r_7n_3; goto l_capnpc_zy; }
+l_join_l9:;
+    u8 *r_a7_29 = (ldp(slot_10) + (i64)((r_sk * 48ull)));
+    stp(r_a7_29, ((u8 *)g_static_368));
+    st64((r_a7_29 + 8), 8ull);
+    stp((r_a7_29 + 16), r_xa);
+    st64((r_a7_29 + 24), r_ln);
+    st64((r_a7_29 + 32), r_rc);
+    st64((r_a7_29 + 40), r_nz);
+    u64 r_7n_3 = (r_sk + 1ull);
+    st64(r_x5_39, r_7n_3);
+    if (!r_ix_11) { r_w7_1 = r_7n_3; goto l_capnpc_zy_1; }
 l_join_g8_2:;
     st8((slot_10 + 24), 1u);
-    r_w7_1 = ld64(r_x5_35);
-l_capnpc_zy:;
-    r_xw_25 = ldp(slot_3);
-    r_38_51 = ld64(r_x5_32);
-    r_38_52 = ld64((slot_3 + 16));
-    r_38_53 = ld64((slot_3 + 24));
-    r_ix_10 = (u8)(r_38_53 & 1);
-    if (!(ld64(r_zd_28) == r_w7_1)) { r_ku = r_w7_1; goto l_join_yk; }
-    u8 r_89_21 = std_alloc_vec_Vec_grow_amortized_c7bbd78b6494f746(slot_10);
-    if (!r_89_21) goto l_arm_f8_15;
-    r_ku = ld64(r_x5_35);
-    goto l_join_yk;
-l_arm_f8_15:;
-    if (r_38_52 == 0ull) goto l_join_g8_3;
-    rattle_dealloc(r_xw_25);
+    r_w7_1 = ld64(r_x5_39);
+l_capnpc_zy_1:;
+    r_xw_26 = ldp(slot_3);
+    r_38_61 = ld64(r_x5_36);
+    r_38_62 = ld64((slot_3 + 16));
+    r_38_63 = ld64((slot_3 + 24));
+    r_ix_12 = (u8)(r_38_63 & 1);
+    if (!(ld64(r_zd_33) == r_w7_1)) { r_o9 = r_w7_1; goto l_join_cw; }
+    u8 r_89_25 = std_alloc_vec_Vec_grow_amortized_c7bbd78b6494f746(slot_10);
+    if (!r_89_25) goto l_arm_f8_18;
+    r_o9 = ld64(r_x5_39);
+    goto l_join_cw;
+l_arm_f8_18:;
+    if (r_38_62 == 0ull) goto l_join_g8_3;
+    rattle_dealloc(r_xw_26);
     goto l_join_g8_3;
-l_join_yk:;
-    u8 *r_a7_27 = (ldp(slot_10) + (i64)((r_ku * 48ull)));
-    stp(r_a7_27, ((u8 *)g_static_345));
-    st64((r_a7_27 + 8), 5ull);
-    stp((r_a7_27 + 16), r_xw_25);
-    st64((r_a7_27 + 24), r_38_51);
-    st64((r_a7_27 + 32), r_38_52);
-    st64((r_a7_27 + 40), r_38_53);
-    u64 r_7n_4 = (r_ku + 1ull);
-    st64(r_x5_35, r_7n_4);
-    if (!r_ix_10) { r_w7_2 = r_7n_4; goto l_capnpc_zy_1; }
+l_join_cw:;
+    u8 *r_a7_30 = (ldp(slot_10) + (i64)((r_o9 * 48ull)));
+    stp(r_a7_30, ((u8 *)g_static_358));
+    st64((r_a7_30 + 8), 5ull);
+    stp((r_a7_30 + 16), r_xw_26);
+    st64((r_a7_30 + 24), r_38_61);
+    st64((r_a7_30 + 32), r_38_62);
+    st64((r_a7_30 + 40), r_38_63);
+    u64 r_7n_4 = (r_o9 + 1ull);
+    st64(r_x5_39, r_7n_4);
+    if (!r_ix_12) { r_w7_2 = r_7n_4; goto l_capnpc_zy_2; }
 l_join_g8_3:;
     st8((slot_10 + 24), 1u);
-    r_w7_2 = ld64(r_x5_35);
-l_capnpc_zy_1:;
-    r_xw_26 = ldp(slot_4);
-    r_38_54 = ld64(r_x5_33);
-    r_38_55 = ld64((slot_4 + 16));
-    r_38_56 = ld64((slot_4 + 24));
-    r_ix_11 = (u8)(r_38_56 & 1);
-    if (!(ld64(r_zd_28) == r_w7_2)) { r_7f = r_w7_2; goto l_join_no; }
-    u8 r_89_22 = std_alloc_vec_Vec_grow_amortized_c7bbd78b6494f746(slot_10);
-    if (!r_89_22) goto l_arm_f8_16;
-    r_7f = ld64(r_x5_35);
-    goto l_join_no;
-l_arm_f8_16:;
-    if (r_38_55 == 0ull) goto l_join_4s_3;
-    rattle_dealloc(r_xw_26);
-    goto l_join_4s_3;
-l_join_no:;
-    u8 *r_a7_28 = (ldp(slot_10) + (i64)((r_7f * 48ull)));
-    stp(r_a7_28, ((u8 *)g_static_356));
-    st64((r_a7_28 + 8), 4ull);
-    stp((r_a7_28 + 16), r_xw_26);
-    st64((r_a7_28 + 24), r_38_54);
-    st64((r_a7_28 + 32), r_38_55);
-    st64((r_a7_28 + 40), r_38_56);
-    st64(r_x5_35, (r_7f + 1ull));
-    if (!r_ix_11) goto l_capnpc_f7_2;
-l_join_4s_3:;
+    r_w7_2 = ld64(r_x5_39);
+l_capnpc_zy_2:;
+    r_xw_27 = ldp(slot_4);
+    r_38_64 = ld64(r_x5_37);
+    r_38_65 = ld64((slot_4 + 16));
+    r_38_66 = ld64((slot_4 + 24));
+    r_ix_13 = (u8)(r_38_66 & 1);
+    if (!(ld64(r_zd_33) == r_w7_2)) { r_8v = r_w7_2; goto l_join_ap; }
+    u8 r_89_26 = std_alloc_vec_Vec_grow_amortized_c7bbd78b6494f746(slot_10);
+    if (!r_89_26) goto l_arm_f8_19;
+    r_8v = ld64(r_x5_39);
+    goto l_join_ap;
+l_arm_f8_19:;
+    if (r_38_65 == 0ull) goto l_join_4s_4;
+    rattle_dealloc(r_xw_27);
+    goto l_join_4s_4;
+l_join_ap:;
+    u8 *r_a7_31 = (ldp(slot_10) + (i64)((r_8v * 48ull)));
+    stp(r_a7_31, ((u8 *)g_static_369));
+    st64((r_a7_31 + 8), 4ull);
+    stp((r_a7_31 + 16), r_xw_27);
+    st64((r_a7_31 + 24), r_38_64);
+    st64((r_a7_31 + 32), r_38_65);
+    st64((r_a7_31 + 40), r_38_66);
+    st64(r_x5_39, (r_8v + 1ull));
+    if (!r_ix_13) goto l_capnpc_f7_2;
+l_join_4s_4:;
     st8((slot_10 + 24), 1u);
 l_capnpc_f7_2:;
     r_ew = (ld16(r_y0) != 0u);
     if (!r_ew) goto l_join_bh_2;
-    capnpc_schema_text_Values_put(slot_10, ((u8 *)g_static_278), 5ull, ((u8 *)g_static_340), 72ull);
-    capnpc_schema_text_Values_put(slot_10, ((u8 *)g_static_341), 9ull, ((u8 *)g_static_342), 38ull);
-    capnpc_schema_text_Values_put(slot_10, ((u8 *)g_static_343), 9ull, ((u8 *)g_static_344), 33ull);
+    capnpc_schema_text_Values_put(slot_10, ((u8 *)g_static_291), 5ull, ((u8 *)g_static_353), 72ull);
+    capnpc_schema_text_Values_put(slot_10, ((u8 *)g_static_354), 9ull, ((u8 *)g_static_355), 40ull);
+    capnpc_schema_text_Values_put(slot_10, ((u8 *)g_static_356), 9ull, ((u8 *)g_static_357), 33ull);
 l_join_bh_2:;
-    r_lz_41 = ldp(slot_10);
-    r_52_85 = ld64(r_x5_35);
-    r_iv_4 = r_52_85;
-l_loop_bp_4:;
-    if (r_iv_4 == 0ull) { r_ay_1 = 1u; goto l_capnpc_be_1; }
-    u64 r_zn_11 = (r_iv_4 + 0xffffffffffffffffull);
-    r_2b_44 = away(r_lz_41, (r_zn_11 * 48ull));
-    u8 r_aj = core_cmp_bytes_equal(ldp(r_2b_44), ld64((r_2b_44 + 8)), ((u8 *)g_static_345), 5ull);
-    if (!r_aj) { r_iv_4 = r_zn_11; goto l_loop_bp_4; }
-    r_ay_1 = (ld64(away(r_2b_44, 24ull)) == 0ull);
-l_capnpc_be_1:;
-    r_x5_36 = (slot_4 + 8);
-    memset(r_x5_36, 0u, 24);
-    stp(slot_4, slot_1);
-    r_iv_5 = r_52_85;
+    r_lz_45 = ldp(slot_10);
+    r_52_97 = ld64(r_x5_39);
+    r_iv_6 = r_52_97;
 l_loop_bp_5:;
-    if (r_iv_5 == 0ull) { r_jy = 0ull; r_a9 = ((u8 *)g_static_120); goto l_capnpc_wn; }
-    u64 r_zn_12 = (r_iv_5 + 0xffffffffffffffffull);
-    r_2b_45 = away(r_lz_41, (r_zn_12 * 48ull));
-    u8 r_aj_1 = core_cmp_bytes_equal(ldp(r_2b_45), ld64((r_2b_45 + 8)), ((u8 *)g_static_345), 5ull);
-    if (!r_aj_1) { r_iv_5 = r_zn_12; goto l_loop_bp_5; }
-    r_jy = ld64(away(r_2b_45, 24ull));
-    r_a9 = ldp(away(r_2b_45, 16ull));
+    if (r_iv_6 == 0ull) { r_ay_1 = 1u; goto l_capnpc_be_1; }
+    u64 r_zn_12 = (r_iv_6 + 0xffffffffffffffffull);
+    r_2b_51 = away(r_lz_45, (r_zn_12 * 48ull));
+    u8 r_mc = core_cmp_bytes_equal(ldp(r_2b_51), ld64((r_2b_51 + 8)), ((u8 *)g_static_358), 5ull);
+    if (!r_mc) { r_iv_6 = r_zn_12; goto l_loop_bp_5; }
+    r_ay_1 = (ld64(away(r_2b_51, 24ull)) == 0ull);
+l_capnpc_be_1:;
+    r_x5_40 = (slot_4 + 8);
+    memset(r_x5_40, 0u, 24);
+    stp(slot_4, slot_1);
+    r_iv_7 = r_52_97;
+l_loop_bp_6:;
+    if (r_iv_7 == 0ull) { r_jy = 0ull; r_a9 = ((u8 *)g_static_120); goto l_capnpc_wn; }
+    u64 r_zn_13 = (r_iv_7 + 0xffffffffffffffffull);
+    r_2b_52 = away(r_lz_45, (r_zn_13 * 48ull));
+    u8 r_mc_1 = core_cmp_bytes_equal(ldp(r_2b_52), ld64((r_2b_52 + 8)), ((u8 *)g_static_358), 5ull);
+    if (!r_mc_1) { r_iv_7 = r_zn_13; goto l_loop_bp_6; }
+    r_jy = ld64(away(r_2b_52, 24ull));
+    r_a9 = ldp(away(r_2b_52, 16ull));
 l_capnpc_wn:;
     struct s_p_i64 r_mz = core_iter_words_str_trim(r_a9, r_jy);
     r_ij_1 = r_mz.f0;
@@ -27023,896 +27547,895 @@ l_join_9p:;
     common_ay = ((ld8(away(t_2b, 0xfffffffffffffffdull)) > 191u) ? 0xfffffffffffffffdull : 0xfffffffffffffffcull);
 l_core_8u:;
     r_c0 = away(away(r_ij_1, common_ay), r_l6);
-    r_47_14 = ld8(r_c0);
-    r_cf_2 = (u32)r_47_14;
-    if ((i8)r_47_14 > (i8)255u) { r_at = r_cf_2; goto l_core_xp; }
-    r_to = (u32)(u8)(ld8((r_c0 + 1)) & 63u);
-    if (!(r_47_14 < 224u)) goto l_join_zf;
-    r_at = (((u32)(r_cf_2 << 6u) & 1984u) | r_to);
+    r_47_17 = ld8(r_c0);
+    r_cf_2 = (u32)r_47_17;
+    if ((i8)r_47_17 > (i8)255u) { r_at = r_cf_2; goto l_core_xp; }
+    r_to_1 = (u32)(u8)(ld8((r_c0 + 1)) & 63u);
+    if (!(r_47_17 < 224u)) goto l_join_zf;
+    r_at = (((u32)(r_cf_2 << 6u) & 1984u) | r_to_1);
     goto l_core_xp;
 l_join_zf:;
-    r_to_1 = (u32)(u8)(ld8((r_c0 + 2)) & 63u);
-    if (!(r_47_14 < 240u)) goto l_join_pb;
-    r_at = (((u32)(r_to << 6u) | ((u32)(r_cf_2 << 12u) & 61440u)) | r_to_1);
+    r_to_2 = (u32)(u8)(ld8((r_c0 + 2)) & 63u);
+    if (!(r_47_17 < 240u)) goto l_join_pb;
+    r_at = (((u32)(r_to_1 << 6u) | ((u32)(r_cf_2 << 12u) & 61440u)) | r_to_2);
     goto l_core_xp;
 l_join_pb:;
-    r_at = (((u32)(r_to_1 << 6u) | ((u32)(r_to << 12u) | ((u32)(r_cf_2 << 18u) & 0x1c0000u))) | (u32)(u8)(ld8((r_c0 + 3)) & 63u));
+    r_at = (((u32)(r_to_2 << 6u) | ((u32)(r_to_1 << 12u) | ((u32)(r_cf_2 << 18u) & 0x1c0000u))) | (u32)(u8)(ld8((r_c0 + 3)) & 63u));
 l_core_xp:;
     if (r_at == 44u) goto l_loop_dw;
     if (r_l6 < 19ull) { r_j8 = r_l6; goto l_then_oj; }
-    goto l_else_zl;
+    goto l_else_9x;
 l_then_oj:;
     memset(slot_3, 0u, 24);
     st32(slot_2, 10u);
     core_iter_pattern_CharPattern_first_in(slot_3, slot_2, r_ij_1, r_j8);
-    if ((u8)((u8)r_ew | (u8)(u8)(ld8(slot_3) & 1))) goto l_else_zl;
-    r_zd_29 = (slot_4 + 16);
+    if ((u8)((u8)r_ew | (u8)(u8)(ld8(slot_3) & 1))) goto l_else_9x;
+    r_zd_34 = (slot_4 + 16);
     u8 r_dc = std_alloc_vec_Vec_grow_amortized_827889bc1b348a11(slot_4, 16ull);
     if (!r_dc) goto l_then_gb;
-    r_38_57 = ld64(r_zd_29);
-    u64 r_38_58 = ld64(r_x5_36);
-    r_eu = (r_38_58 + 16ull);
-    r_2b_46 = away(ldp(slot_4), r_38_58);
-    if (((u64)(uptr)r_2b_46 - (u64)(uptr)((u8 *)g_static_378)) < 16ull) { r_2c = 0ull; goto l_join_37; }
-    mv16(r_2b_46, ((u8 *)g_static_378));
+    r_38_67 = ld64(r_zd_34);
+    u64 r_38_68 = ld64(r_x5_40);
+    r_eu = (r_38_68 + 16ull);
+    r_2b_53 = away(ldp(slot_4), r_38_68);
+    if (((u64)(uptr)r_2b_53 - (u64)(uptr)((u8 *)g_static_392)) < 16ull) { r_tt = 0ull; goto l_join_9i; }
+    mv16(r_2b_53, ((u8 *)g_static_392));
     goto l_std_7l;
-l_join_37:;
-    st8((r_2b_46 + (i64)(r_2c)), ld8((((u8 *)g_static_378) + (i64)(r_2c))));
-    u64 r_c4_12 = (r_2c + 1ull);
-    if (!(r_c4_12 == 16ull)) { r_2c = r_c4_12; goto l_join_37; }
+l_join_9i:;
+    st8((r_2b_53 + (i64)(r_tt)), ld8((((u8 *)g_static_392) + (i64)(r_tt))));
+    u64 r_c4_15 = (r_tt + 1ull);
+    if (!(r_c4_15 == 16ull)) { r_tt = r_c4_15; goto l_join_9i; }
 l_std_7l:;
-    st64(r_x5_36, r_eu);
+    st64(r_x5_40, r_eu);
     r_63 = r_eu;
-    r_nm = r_38_57;
+    r_nm = r_38_67;
     goto l_capnpc_ys;
 l_then_gb:;
     st8((slot_4 + 24), 1u);
-    r_63 = ld64(r_x5_36);
-    r_nm = ld64(r_zd_29);
+    r_63 = ld64(r_x5_40);
+    r_nm = ld64(r_zd_34);
 l_capnpc_ys:;
-    if (!(r_j8 > (r_nm - r_63))) { r_q7_8 = r_nm; r_dv_7 = r_63; goto l_join_xn_7; }
-    u8 r_jl_9 = std_alloc_vec_Vec_grow_amortized_827889bc1b348a11(slot_4, r_j8);
-    if (!r_jl_9) goto l_then_gb_1;
-    r_q7_8 = ld64(r_zd_29);
-    r_dv_7 = ld64(r_x5_36);
+    if (!(r_j8 > (r_nm - r_63))) { r_q7_7 = r_nm; r_dv_7 = r_63; goto l_join_xn_7; }
+    u8 r_jl_10 = std_alloc_vec_Vec_grow_amortized_827889bc1b348a11(slot_4, r_j8);
+    if (!r_jl_10) goto l_then_gb_1;
+    r_q7_7 = ld64(r_zd_34);
+    r_dv_7 = ld64(r_x5_40);
 l_join_xn_7:;
-    r_5q_10 = (r_dv_7 + r_j8);
-    r_2b_47 = away(ldp(slot_4), r_dv_7);
-    if (((u64)(uptr)r_2b_47 - (u64)(uptr)r_ij_1) < r_j8) { r_il_9 = 0ull; goto l_join_fh_9; }
-    memmove_or_none(r_2b_47, r_ij_1, r_j8);
-    goto l_std_93_8;
-l_join_fh_9:;
-    st8((r_2b_47 + (i64)(r_il_9)), ld8((r_ij_1 + (i64)(r_il_9))));
-    u64 r_c4_13 = (r_il_9 + 1ull);
-    if (!(r_c4_13 == r_j8)) { r_il_9 = r_c4_13; goto l_join_fh_9; }
-l_std_93_8:;
-    st64(r_x5_36, r_5q_10);
-    st64(r_zd_29, r_q7_8);
-    r_q2 = r_5q_10;
-    r_0t_1 = r_q7_8;
+    r_5q_12 = (r_dv_7 + r_j8);
+    r_2b_54 = away(ldp(slot_4), r_dv_7);
+    if (((u64)(uptr)r_2b_54 - (u64)(uptr)r_ij_1) < r_j8) { r_il_10 = 0ull; goto l_join_fh_10; }
+    memmove_or_none(r_2b_54, r_ij_1, r_j8);
+    goto l_std_93_9;
+l_join_fh_10:;
+    st8((r_2b_54 + (i64)(r_il_10)), ld8((r_ij_1 + (i64)(r_il_10))));
+    u64 r_c4_16 = (r_il_10 + 1ull);
+    if (!(r_c4_16 == r_j8)) { r_il_10 = r_c4_16; goto l_join_fh_10; }
+l_std_93_9:;
+    st64(r_x5_40, r_5q_12);
+    st64(r_zd_34, r_q7_7);
+    r_q2 = r_5q_12;
+    r_0t = r_q7_7;
     goto l_capnpc_fi;
 l_then_gb_1:;
     st8((slot_4 + 24), 1u);
-    r_q2 = ld64(r_x5_36);
-    r_0t_1 = ld64(r_zd_29);
+    r_q2 = ld64(r_x5_40);
+    r_0t = ld64(r_zd_34);
 l_capnpc_fi:;
-    if (!((r_0t_1 - r_q2) < 3ull)) { r_r1_1 = r_0t_1; r_68 = r_q2; goto l_join_5q; }
+    if (!((r_0t - r_q2) < 3ull)) { r_r1_1 = r_0t; r_68 = r_q2; goto l_join_5q; }
     u8 r_wz = std_alloc_vec_Vec_grow_amortized_827889bc1b348a11(slot_4, 3ull);
     if (!r_wz) goto l_then_8g;
-    r_r1_1 = ld64(r_zd_29);
-    r_68 = ld64(r_x5_36);
+    r_r1_1 = ld64(r_zd_34);
+    r_68 = ld64(r_x5_40);
 l_join_5q:;
     r_hc_1 = (r_68 + 3ull);
-    r_2b_48 = away(ldp(slot_4), r_68);
-    if (((u64)(uptr)r_2b_48 - (u64)(uptr)((u8 *)g_static_379)) < 3ull) { r_u2 = 0ull; goto l_join_9a; }
-    mv3(r_2b_48, ((u8 *)g_static_379));
+    r_2b_55 = away(ldp(slot_4), r_68);
+    if (((u64)(uptr)r_2b_55 - (u64)(uptr)((u8 *)g_static_393)) < 3ull) { r_8x = 0ull; goto l_join_1a_14; }
+    mv3(r_2b_55, ((u8 *)g_static_393));
     goto l_std_71;
-l_join_9a:;
-    st8((r_2b_48 + (i64)(r_u2)), ld8((((u8 *)g_static_379) + (i64)(r_u2))));
-    u64 r_c4_14 = (r_u2 + 1ull);
-    if (!(r_c4_14 == 3ull)) { r_u2 = r_c4_14; goto l_join_9a; }
+l_join_1a_14:;
+    st8((r_2b_55 + (i64)(r_8x)), ld8((((u8 *)g_static_393) + (i64)(r_8x))));
+    u64 r_c4_17 = (r_8x + 1ull);
+    if (!(r_c4_17 == 3ull)) { r_8x = r_c4_17; goto l_join_1a_14; }
 l_std_71:;
-    st64(r_x5_36, r_hc_1);
-    st64(r_zd_29, r_r1_1);
+    st64(r_x5_40, r_hc_1);
+    st64(r_zd_34, r_r1_1);
     goto l_join_zy;
 l_then_8g:;
     st8((slot_4 + 24), 1u);
     goto l_join_zy;
-l_else_zl:;
-    capnpc_schema_text_Text_push_filled(slot_4, ((u8 *)g_static_380), 44ull, slot_10);
+l_else_9x:;
+    capnpc_schema_text_Text_push_filled(slot_4, ((u8 *)g_static_394), 44ull, slot_10);
 l_join_zy:;
-    r_xw_27 = ldp(slot_4);
-    r_38_59 = ld64(r_x5_36);
-    r_38_60 = ld64((slot_4 + 16));
-    r_38_61 = ld64((slot_4 + 24));
-    r_ix_12 = (u8)(r_38_61 & 1);
-    if (!(ld64(r_zd_28) == r_52_85)) { r_ua = r_lz_41; r_es = r_52_85; goto l_join_mn; }
-    u8 r_89_23 = std_alloc_vec_Vec_grow_amortized_c7bbd78b6494f746(slot_10);
-    if (!r_89_23) goto l_arm_f8_17;
-    r_ua = ldp(slot_10);
-    r_es = ld64(r_x5_35);
-    goto l_join_mn;
-l_arm_f8_17:;
-    if (r_38_60 == 0ull) goto l_join_4s_4;
-    rattle_dealloc(r_xw_27);
-    goto l_join_4s_4;
-l_join_mn:;
-    u8 *r_a7_29 = (r_ua + (i64)((r_es * 48ull)));
-    stp(r_a7_29, ((u8 *)g_static_220));
-    st64((r_a7_29 + 8), 7ull);
-    stp((r_a7_29 + 16), r_xw_27);
-    st64((r_a7_29 + 24), r_38_59);
-    st64((r_a7_29 + 32), r_38_60);
-    st64((r_a7_29 + 40), r_38_61);
-    st64(r_x5_35, (r_es + 1ull));
-    if (!r_ix_12) goto l_capnpc_x8;
-l_join_4s_4:;
+    r_xw_28 = ldp(slot_4);
+    r_38_69 = ld64(r_x5_40);
+    r_38_70 = ld64((slot_4 + 16));
+    r_38_71 = ld64((slot_4 + 24));
+    r_ix_14 = (u8)(r_38_71 & 1);
+    if (!(ld64(r_zd_33) == r_52_97)) { r_ry = r_lz_45; r_ay_2 = r_52_97; goto l_join_xk; }
+    u8 r_89_27 = std_alloc_vec_Vec_grow_amortized_c7bbd78b6494f746(slot_10);
+    if (!r_89_27) goto l_arm_f8_20;
+    r_ry = ldp(slot_10);
+    r_ay_2 = ld64(r_x5_39);
+    goto l_join_xk;
+l_arm_f8_20:;
+    if (r_38_70 == 0ull) goto l_join_4s_5;
+    rattle_dealloc(r_xw_28);
+    goto l_join_4s_5;
+l_join_xk:;
+    u8 *r_a7_32 = (r_ry + (i64)((r_ay_2 * 48ull)));
+    stp(r_a7_32, ((u8 *)g_static_221));
+    st64((r_a7_32 + 8), 7ull);
+    stp((r_a7_32 + 16), r_xw_28);
+    st64((r_a7_32 + 24), r_38_69);
+    st64((r_a7_32 + 32), r_38_70);
+    st64((r_a7_32 + 40), r_38_71);
+    st64(r_x5_39, (r_ay_2 + 1ull));
+    if (!r_ix_14) goto l_capnpc_6k;
+l_join_4s_5:;
     st8((slot_10 + 24), 1u);
-l_capnpc_x8:;
-    capnpc_schema_text_Values_put(slot_10, ((u8 *)g_static_346), 3ull, (r_ay_1 ? ((u8 *)g_static_120) : ((u8 *)g_static_347)), (r_ay_1 ? 0ull : 4ull));
+l_capnpc_6k:;
+    capnpc_schema_text_Values_put(slot_10, ((u8 *)g_static_359), 3ull, (r_ay_1 ? ((u8 *)g_static_120) : ((u8 *)g_static_360)), (r_ay_1 ? 0ull : 4ull));
     u8 spec_lc = (u8)((u8)r_ew | (u8)(u8)((u8)r_ay_1 ^ (u8)1u));
-    capnpc_schema_text_Text_push_filled(slot_14, (spec_lc ? ((u8 *)g_static_348) : ((u8 *)g_static_349)), (spec_lc ? 365ull : 304ull), slot_10);
-    capnpc_schema_text_Text_push_filled(slot_14, ((u8 *)g_static_350), 149ull, slot_10);
+    capnpc_schema_text_Text_push_filled(slot_14, (spec_lc ? ((u8 *)g_static_361) : ((u8 *)g_static_362)), (spec_lc ? 365ull : 304ull), slot_10);
+    capnpc_schema_text_Text_push_filled(slot_14, ((u8 *)g_static_363), 149ull, slot_10);
     if ((u8)(ld8(r_93) & 1)) goto l_join_zm;
-    capnpc_schema_text_Text_push_filled(slot_14, ((u8 *)g_static_351), 478ull, slot_10);
+    capnpc_schema_text_Text_push_filled(slot_14, ((u8 *)g_static_364), 478ull, slot_10);
 l_join_zm:;
     if (r_ew) goto l_then_xs;
     goto l_join_tl;
-l_common_ht_1:;
+l_common_ht_2:;
     rattle_dealloc(r_2f);
-    goto l_capnpc_mp;
+    goto l_capnpc_mp_1;
 l_then_xs:;
-    memset(slot_6, 0u, 32);
     memset(slot_8, 0u, 32);
     stp(slot_3, slot_1);
-    r_x5_37 = (slot_3 + 8);
-    memset(r_x5_37, 0u, 24);
+    r_x5_41 = (slot_3 + 8);
+    memset(r_x5_41, 0u, 24);
     stp(slot_4, slot_1);
-    r_x5_38 = (slot_4 + 8);
-    memset(r_x5_38, 0u, 24);
+    r_x5_42 = (slot_4 + 8);
+    memset(r_x5_42, 0u, 24);
     stp(slot_5, slot_1);
-    r_x5_39 = (slot_5 + 8);
-    memset(r_x5_39, 0u, 24);
-    r_lz_42 = ldp(r_im);
-    r_52_86 = ld64(r_t0);
-    if (r_52_86 == 0ull) goto l_after_au;
-    r_9r_2 = away(r_2b, 200ull);
-    r_x5_40 = (slot_2 + 8);
-    r_zd_30 = (slot_2 + 16);
-    r_lk_20 = (slot_2 + 24);
-    r_zd_31 = (slot_6 + 16);
-    r_x5_41 = (slot_6 + 8);
-    r_lk_21 = (slot_6 + 24);
+    r_x5_43 = (slot_5 + 8);
+    memset(r_x5_43, 0u, 24);
+    r_lz_46 = ldp(r_im);
+    r_52_98 = ld64(r_t0);
+    if (r_52_98 == 0ull) goto l_after_au;
+    r_9r_3 = away(r_2b, 200ull);
+    r_x5_44 = (slot_2 + 8);
+    r_zd_35 = (slot_2 + 16);
+    r_lk_23 = (slot_2 + 24);
+    r_zd_36 = (slot_6 + 16);
+    r_x5_45 = (slot_6 + 8);
+    r_lk_24 = (slot_6 + 24);
+    r_x5_46 = (slot_2 + 8);
+    r_zd_37 = (slot_4 + 16);
+    r_lk_25 = (slot_4 + 24);
+    r_lk_26 = (slot_2 + 24);
+    r_zd_38 = (slot_2 + 16);
     r_7d_5 = 0ull;
 l_join_ie_5:;
-    r_2b_49 = away(r_lz_42, (r_7d_5 * 208ull));
-    if (ld16(away(r_2b_49, 124ull)) == 65535u) goto l_after_94_6;
-    r_qj_5 = away(r_2b_49, 128ull);
-    switch (ld8(r_qj_5)) {
-    case 2u: goto l_after_94_6;
-    case 0u: goto l_arm_d2_6;
-    case 1u: goto l_arm_un_6;
-    default: goto l_noarm_e1_16;
-    }
-l_arm_d2_6:;
-    r_mb_13 = ldp(a_1);
-    r_qw_13 = ld64(r_e7);
-    r_52_87 = ld64(away(r_2b_49, 136ull));
-    if (r_qw_13 == 0ull) goto l_after_94_6;
-    r_1y_13 = 0ull;
-    goto l_join_v4_13;
-l_loop_94_6:;
-    u64 r_36_49 = (r_1y_13 + 1ull);
-    if (r_36_49 == r_qw_13) goto l_after_94_6;
-    r_1y_13 = r_36_49;
-l_join_v4_13:;
-    if (ld64(away(r_mb_13, (r_1y_13 * 280ull))) == r_52_87) goto l_then_7l;
-    goto l_loop_94_6;
-l_arm_un_6:;
-    r_mb_14 = ldp(a_1);
-    r_qw_14 = ld64(r_e7);
-    r_47_15 = ld8(away(r_2b_49, 168ull));
-    if (r_47_15 == 4u) goto l_after_94_6;
-    r_lz_43 = ldp(away(r_2b_49, 152ull));
-    r_52_88 = ld64(away(r_2b_49, 160ull));
-    if (r_qw_14 == 0ull) { r_30_6 = ((u8 *)0); t_ul_6 = 1u; goto l_capnpc_wg_6; }
-    r_1y_14 = 0ull;
-    goto l_join_v4_14;
-l_loop_sd_7:;
-    u64 r_36_50 = (r_1y_14 + 1ull);
-    if (r_36_50 == r_qw_14) { r_30_6 = ((u8 *)0); t_ul_6 = 1u; goto l_capnpc_wg_6; }
-    r_1y_14 = r_36_50;
-l_join_v4_14:;
-    r_tr_7 = (r_1y_14 * 280ull);
-    if (!(ld64(away(r_mb_14, r_tr_7)) == r_52_88)) goto l_loop_sd_7;
-    r_30_6 = away(r_mb_14, r_tr_7);
-    t_ul_6 = 0u;
-l_capnpc_wg_6:;
-    r_47_16 = ld8(r_lz_43);
-    switch (r_47_16) {
-    case 8u: goto l_arm_f8_18;
-    case 5u: goto l_arm_tt_5;
-    case 0u: goto l_then_jh_5;
-    case 1u: goto l_then_jh_5;
-    case 2u: goto l_then_jh_5;
-    case 3u: goto l_then_jh_5;
-    case 4u: goto l_then_jh_5;
-    case 6u: goto l_then_jh_5;
-    case 7u: goto l_then_jh_5;
-    case 9u: goto l_then_jh_5;
-    case 10u: goto l_then_jh_5;
-    default: goto l_noarm_e1_17;
-    }
-l_arm_f8_18:;
-    if (t_ul_6) goto l_after_94_6;
-    goto l_then_jh_5;
-l_arm_tt_5:;
-    if (t_ul_6) goto l_after_94_6;
-    if (ld8(away(r_30_6, 184ull)) == 2u) goto l_then_jh_5;
-    goto l_after_94_6;
-l_noarm_e1_17:;
-    UNREACHABLE();
-l_then_jh_5:;
-    if ((u8)((u8)(r_47_15 == 3u) & (u8)((u8)(r_47_16 + 247u) < 2u)) ? (ld32(away(r_2b_49, 144ull)) == 0u) : 0u) goto l_after_94_6;
-    goto l_then_7l;
-l_noarm_e1_16:;
-    UNREACHABLE();
-l_then_7l:;
-    capnpc_layout_rust_values_value_of(slot_8, a_1, r_bw, r_2b_49);
-    mv32(slot_6, slot_8);
-    u64 r_24_3 = (u64)ld32(r_9r_2);
-    memset(r_x5_40, 0u, 24);
-    stp(slot_2, slot_1);
-    capnpc_schema_text_Text_push_number(slot_2, r_24_3);
-    r_xw_28 = ldp(slot_2);
-    r_38_62 = ld64(r_x5_40);
-    r_38_63 = ld64(r_zd_30);
-    r_38_64 = ld64(r_lk_20);
-    r_ix_13 = (u8)(r_38_64 & 1);
-    u64 r_52_89 = ld64(r_x5_41);
-    if (!(ld64(r_zd_31) == r_52_89)) { r_xw_29 = r_52_89; goto l_join_yp_3; }
-    u8 r_89_24 = std_alloc_vec_Vec_grow_amortized_c7bbd78b6494f746(slot_6);
-    if (!r_89_24) goto l_arm_f8_19;
-    r_xw_29 = ld64(r_x5_41);
-    goto l_join_yp_3;
-l_arm_f8_19:;
-    if (r_38_63 == 0ull) goto l_join_36_5;
-    rattle_dealloc(r_xw_28);
-    goto l_join_36_5;
-l_join_yp_3:;
-    u8 *r_a7_30 = (ldp(slot_6) + (i64)((r_xw_29 * 48ull)));
-    stp(r_a7_30, ((u8 *)g_static_149));
-    st64((r_a7_30 + 8), 3ull);
-    stp((r_a7_30 + 16), r_xw_28);
-    st64((r_a7_30 + 24), r_38_62);
-    st64((r_a7_30 + 32), r_38_63);
-    st64((r_a7_30 + 40), r_38_64);
-    st64(r_x5_41, (r_xw_29 + 1ull));
-    if (!r_ix_13) goto l_capnpc_0e;
-l_join_36_5:;
-    st8(r_lk_21, 1u);
-l_capnpc_0e:;
-    t_0q_1 = (ld8(r_qj_5) == 1u);
-    if (!t_0q_1) goto l_join_bh_3;
-    if (!(ld32(away(r_2b_49, 144ull)) == 0u)) goto l_join_bh_3;
-    if (!(ld8(ldp(away(r_2b_49, 152ull))) == 0u)) goto l_join_bh_3;
-    r_70 = ld64(r_x5_41);
-    r_pq = ldp(slot_6);
-    static_aq = ((u8 *)g_static_384);
-    sink_bs = 32ull;
-    static_zp = ((u8 *)g_static_385);
-    sink_5w = 55ull;
-    r_gc = ((u8 *)g_static_386);
-    r_00 = 87ull;
-    goto l_capnpc_rs;
-l_join_bh_3:;
-    r_lz_44 = ldp(slot_6);
-    r_52_90 = ld64(r_x5_41);
-    r_iv_6 = r_52_90;
-l_loop_bp_6:;
-    if (r_iv_6 == 0ull) { r_70 = r_52_90; r_pq = r_lz_44; static_aq = ((u8 *)g_static_388); sink_bs = 58ull; static_zp = ((u8 *)g_static_389); sink_5w = 58ull; r_gc = ((u8 *)g_static_390); r_00 = 99ull; goto l_capnpc_rs; }
-    u64 r_zn_13 = (r_iv_6 + 0xffffffffffffffffull);
-    r_2b_50 = away(r_lz_44, (r_zn_13 * 48ull));
-    u8 r_ly = core_cmp_bytes_equal(ldp(r_2b_50), ld64((r_2b_50 + 8)), ((u8 *)g_static_387), 5ull);
-    if (!r_ly) { r_iv_6 = r_zn_13; goto l_loop_bp_6; }
-    if (ld64(away(r_2b_50, 24ull)) == 0ull) { r_70 = r_52_90; r_pq = r_lz_44; static_aq = ((u8 *)g_static_388); sink_bs = 58ull; static_zp = ((u8 *)g_static_389); sink_5w = 58ull; r_gc = ((u8 *)g_static_390); r_00 = 99ull; goto l_capnpc_rs; }
-    if (!t_0q_1) { r_70 = r_52_90; r_pq = r_lz_44; static_aq = ((u8 *)g_static_391); sink_bs = 41ull; static_zp = ((u8 *)g_static_392); sink_5w = 67ull; r_gc = ((u8 *)g_static_395); r_00 = 111ull; goto l_capnpc_rs; }
-    if (!(ld32(away(r_2b_49, 144ull)) == 0u)) { r_70 = r_52_90; r_pq = r_lz_44; static_aq = ((u8 *)g_static_391); sink_bs = 41ull; static_zp = ((u8 *)g_static_392); sink_5w = 67ull; r_gc = ((u8 *)g_static_393); r_00 = 155ull; goto l_capnpc_rs; }
-    switch (ld8(ldp(away(r_2b_49, 152ull)))) {
-    case 6u: { r_70 = r_52_90; r_pq = r_lz_44; static_aq = ((u8 *)g_static_391); sink_bs = 41ull; static_zp = ((u8 *)g_static_392); sink_5w = 67ull; r_gc = ((u8 *)g_static_394); r_00 = 99ull; goto l_capnpc_rs; }
-    case 7u: { r_70 = r_52_90; r_pq = r_lz_44; static_aq = ((u8 *)g_static_391); sink_bs = 41ull; static_zp = ((u8 *)g_static_392); sink_5w = 67ull; r_gc = ((u8 *)g_static_394); r_00 = 99ull; goto l_capnpc_rs; }
-    case 8u: goto l_arm_16;
-    case 9u: goto l_arm_16_1;
-    case 0u: goto l_arm_16_2;
-    case 1u: goto l_arm_16_2;
-    case 2u: goto l_arm_16_2;
-    case 3u: goto l_arm_16_2;
-    case 4u: goto l_arm_16_2;
-    case 5u: goto l_arm_16_2;
-    case 10u: goto l_arm_16_2;
+    r_2b_56 = away(r_lz_46, (r_7d_5 * 208ull));
+    if (ld16(away(r_2b_56, 124ull)) == 65535u) goto l_after_94_7;
+    r_qj_7 = away(r_2b_56, 128ull);
+    switch (ld8(r_qj_7)) {
+    case 2u: goto l_after_94_7;
+    case 0u: goto l_arm_d2_7;
+    case 1u: goto l_arm_un_7;
     default: goto l_noarm_e1_18;
     }
-l_arm_16:;
-    r_70 = r_52_90;
-    r_pq = r_lz_44;
-    static_aq = ((u8 *)g_static_391);
-    sink_bs = 41ull;
-    static_zp = ((u8 *)g_static_392);
-    sink_5w = 67ull;
-    r_gc = ((u8 *)g_static_395);
-    r_00 = 111ull;
-    goto l_capnpc_rs;
-l_arm_16_1:;
-    r_70 = r_52_90;
-    r_pq = r_lz_44;
-    static_aq = ((u8 *)g_static_391);
-    sink_bs = 41ull;
-    static_zp = ((u8 *)g_static_392);
-    sink_5w = 67ull;
-    r_gc = ((u8 *)g_static_396);
-    r_00 = 213ull;
-    goto l_capnpc_rs;
-l_arm_16_2:;
-    r_70 = r_52_90;
-    r_pq = r_lz_44;
-    static_aq = ((u8 *)g_static_391);
-    sink_bs = 41ull;
-    static_zp = ((u8 *)g_static_392);
-    sink_5w = 67ull;
-    r_gc = ((u8 *)g_static_397);
-    r_00 = 100ull;
-    goto l_capnpc_rs;
+l_arm_d2_7:;
+    r_mb_15 = ldp(a_1);
+    r_qw_15 = ld64(r_e7);
+    r_52_99 = ld64(away(r_2b_56, 136ull));
+    if (r_qw_15 == 0ull) goto l_after_94_7;
+    r_1y_15 = 0ull;
+    goto l_join_v4_15;
+l_loop_94_7:;
+    u64 r_36_54 = (r_1y_15 + 1ull);
+    if (r_36_54 == r_qw_15) goto l_after_94_7;
+    r_1y_15 = r_36_54;
+l_join_v4_15:;
+    if (ld64(away(r_mb_15, (r_1y_15 * 280ull))) == r_52_99) goto l_then_7l;
+    goto l_loop_94_7;
+l_arm_un_7:;
+    r_mb_16 = ldp(a_1);
+    r_qw_16 = ld64(r_e7);
+    r_47_18 = ld8(away(r_2b_56, 168ull));
+    if (r_47_18 == 4u) goto l_after_94_7;
+    r_lz_47 = ldp(away(r_2b_56, 152ull));
+    r_52_100 = ld64(away(r_2b_56, 160ull));
+    if (r_qw_16 == 0ull) { r_30_7 = ((u8 *)0); t_ul_7 = 1u; goto l_capnpc_wg_7; }
+    r_1y_16 = 0ull;
+    goto l_join_v4_16;
+l_loop_sd_8:;
+    u64 r_36_55 = (r_1y_16 + 1ull);
+    if (r_36_55 == r_qw_16) { r_30_7 = ((u8 *)0); t_ul_7 = 1u; goto l_capnpc_wg_7; }
+    r_1y_16 = r_36_55;
+l_join_v4_16:;
+    r_tr_8 = (r_1y_16 * 280ull);
+    if (!(ld64(away(r_mb_16, r_tr_8)) == r_52_100)) goto l_loop_sd_8;
+    r_30_7 = away(r_mb_16, r_tr_8);
+    t_ul_7 = 0u;
+l_capnpc_wg_7:;
+    r_47_19 = ld8(r_lz_47);
+    switch (r_47_19) {
+    case 8u: goto l_arm_f8_21;
+    case 5u: goto l_arm_tt_6;
+    case 0u: goto l_then_jh_6;
+    case 1u: goto l_then_jh_6;
+    case 2u: goto l_then_jh_6;
+    case 3u: goto l_then_jh_6;
+    case 4u: goto l_then_jh_6;
+    case 6u: goto l_then_jh_6;
+    case 7u: goto l_then_jh_6;
+    case 9u: goto l_then_jh_6;
+    case 10u: goto l_then_jh_6;
+    default: goto l_noarm_e1_19;
+    }
+l_arm_f8_21:;
+    if (t_ul_7) goto l_after_94_7;
+    goto l_then_jh_6;
+l_arm_tt_6:;
+    if (t_ul_7) goto l_after_94_7;
+    if (ld8(away(r_30_7, 184ull)) == 2u) goto l_then_jh_6;
+    goto l_after_94_7;
+l_noarm_e1_19:;
+    UNREACHABLE();
+l_then_jh_6:;
+    if ((u8)((u8)(r_47_18 == 3u) & (u8)((u8)(r_47_19 + 247u) < 2u)) ? (ld32(away(r_2b_56, 144ull)) == 0u) : 0u) goto l_after_94_7;
+    goto l_then_7l;
 l_noarm_e1_18:;
     UNREACHABLE();
-l_capnpc_rs:;
-    capnpc_schema_text_Text_push_filled(slot_3, static_aq, sink_bs, slot_6);
-    capnpc_schema_text_Text_push_filled(slot_4, static_zp, sink_5w, slot_6);
-    capnpc_schema_text_Text_push_filled(slot_5, r_gc, r_00, slot_6);
-    r_38_65 = ld64(r_zd_31);
-    if (r_70 == 0ull) goto l_std_8o_5;
-    r_01_13 = 0ull;
-l_join_1a_13:;
-    r_a7_31 = away(r_pq, (r_01_13 * 48ull));
-    if (ld64((r_a7_31 + 32)) == 0ull) goto l_core_jc_14;
-    rattle_dealloc(ldp((r_a7_31 + 16)));
-l_core_jc_14:;
-    u64 r_36_51 = (r_01_13 + 1ull);
-    if (!(r_36_51 == r_70)) { r_01_13 = r_36_51; goto l_join_1a_13; }
-l_std_8o_5:;
-    if (r_38_65 == 0ull) goto l_after_94_6;
-    rattle_dealloc(r_pq);
-l_after_94_6:;
-    u64 r_36_52 = (r_7d_5 + 1ull);
-    if (!(r_36_52 == r_52_86)) { r_7d_5 = r_36_52; goto l_join_ie_5; }
+l_then_7l:;
+    capnpc_layout_rust_values_value_of(slot_8, a_1, r_bw, r_2b_56);
+    mv32(slot_6, slot_8);
+    u64 r_24_4 = (u64)ld32(r_9r_3);
+    memset(r_x5_44, 0u, 24);
+    stp(slot_2, slot_1);
+    capnpc_schema_text_Text_push_number(slot_2, r_24_4);
+    r_xw_29 = ldp(slot_2);
+    r_38_72 = ld64(r_x5_44);
+    r_38_73 = ld64(r_zd_35);
+    r_38_74 = ld64(r_lk_23);
+    r_ix_15 = (u8)(r_38_74 & 1);
+    u64 r_52_101 = ld64(r_x5_45);
+    if (!(ld64(r_zd_36) == r_52_101)) { r_1k_4 = r_52_101; goto l_join_34_4; }
+    u8 r_89_28 = std_alloc_vec_Vec_grow_amortized_c7bbd78b6494f746(slot_6);
+    if (!r_89_28) goto l_arm_f8_22;
+    r_1k_4 = ld64(r_x5_45);
+    goto l_join_34_4;
+l_arm_f8_22:;
+    if (r_38_73 == 0ull) goto l_join_36_6;
+    rattle_dealloc(r_xw_29);
+    goto l_join_36_6;
+l_join_34_4:;
+    u8 *r_a7_33 = (ldp(slot_6) + (i64)((r_1k_4 * 48ull)));
+    stp(r_a7_33, ((u8 *)g_static_150));
+    st64((r_a7_33 + 8), 3ull);
+    stp((r_a7_33 + 16), r_xw_29);
+    st64((r_a7_33 + 24), r_38_72);
+    st64((r_a7_33 + 32), r_38_73);
+    st64((r_a7_33 + 40), r_38_74);
+    st64(r_x5_45, (r_1k_4 + 1ull));
+    if (!r_ix_15) goto l_capnpc_0e;
+l_join_36_6:;
+    st8(r_lk_24, 1u);
+l_capnpc_0e:;
+    t_0q_1 = (ld8(r_qj_7) == 1u);
+    if (!t_0q_1) goto l_join_bh_3;
+    if (!(ld32(away(r_2b_56, 144ull)) == 0u)) goto l_join_bh_3;
+    if (ld8(ldp(away(r_2b_56, 152ull))) == 0u) { static_0h = ((u8 *)g_static_396); sink_tw = 32ull; static_kc = ((u8 *)g_static_397); sink_yg = 55ull; static_lf = ((u8 *)g_static_398); sink_3a = 86ull; r_qj_8 = ((u8 *)g_static_399); r_3p_1 = 87ull; goto l_capnpc_19; }
+l_join_bh_3:;
+    r_lz_48 = ldp(slot_6);
+    r_iv_8 = ld64(r_x5_45);
+l_loop_bp_7:;
+    if (r_iv_8 == 0ull) { static_0h = ((u8 *)g_static_401); sink_tw = 58ull; static_kc = ((u8 *)g_static_402); sink_yg = 58ull; static_lf = ((u8 *)g_static_403); sink_3a = 89ull; r_qj_8 = ((u8 *)g_static_404); r_3p_1 = 99ull; goto l_capnpc_19; }
+    u64 r_zn_14 = (r_iv_8 + 0xffffffffffffffffull);
+    r_2b_57 = away(r_lz_48, (r_zn_14 * 48ull));
+    u8 r_z4 = core_cmp_bytes_equal(ldp(r_2b_57), ld64((r_2b_57 + 8)), ((u8 *)g_static_400), 5ull);
+    if (!r_z4) { r_iv_8 = r_zn_14; goto l_loop_bp_7; }
+    if (ld64(away(r_2b_57, 24ull)) == 0ull) { static_0h = ((u8 *)g_static_401); sink_tw = 58ull; static_kc = ((u8 *)g_static_402); sink_yg = 58ull; static_lf = ((u8 *)g_static_403); sink_3a = 89ull; r_qj_8 = ((u8 *)g_static_404); r_3p_1 = 99ull; goto l_capnpc_19; }
+    if (!t_0q_1) { static_0h = ((u8 *)g_static_405); sink_tw = 41ull; static_kc = ((u8 *)g_static_406); sink_yg = 71ull; static_lf = ((u8 *)g_static_407); sink_3a = 102ull; r_qj_8 = ((u8 *)g_static_413); r_3p_1 = 111ull; goto l_capnpc_19; }
+    if (!(ld32(away(r_2b_56, 144ull)) == 0u)) { static_0h = ((u8 *)g_static_405); sink_tw = 41ull; static_kc = ((u8 *)g_static_406); sink_yg = 71ull; static_lf = ((u8 *)g_static_407); sink_3a = 102ull; r_qj_8 = ((u8 *)g_static_408); r_3p_1 = 155ull; goto l_capnpc_19; }
+    u8 r_47_20 = ld8(ldp(away(r_2b_56, 152ull)));
+    static_0h = ((u8 *)g_static_405);
+    sink_tw = 41ull;
+    static_kc = ((u8 *)g_static_406);
+    sink_yg = 71ull;
+    static_lf = ((u8 *)g_static_407);
+    sink_3a = 102ull;
+    r_qj_8 = ldp((((u8 *)switch_table_capnpc_layout_rust_generating_write_entry_14) + (i64)(8 * (u64)r_47_20)));
+    r_3p_1 = ld64((((u8 *)switch_table_capnpc_layout_rust_generating_write_entry_15) + (i64)(8 * (u64)r_47_20)));
+l_capnpc_19:;
+    capnpc_schema_text_Text_push_filled(slot_3, static_0h, sink_tw, slot_6);
+    memset(r_x5_46, 0u, 24);
+    stp(slot_2, slot_1);
+    capnpc_schema_text_Text_push_filled(slot_2, static_kc, sink_yg, slot_6);
+    r_52_102 = ld64(r_x5_46);
+    if (r_52_102 > uadd_sat64(ld64(r_89_11), 1ull)) goto l_else_2m;
+    goto l_then_pp;
+l_common_ht_1:;
+    rattle_dealloc(r_2f_1);
+    goto l_capnpc_zy_3;
+l_then_pp:;
+    r_lz_49 = ldp(slot_2);
+    u64 r_52_103 = ld64(r_zd_37);
+    u64 r_52_104 = ld64(r_x5_42);
+    if (!(r_52_102 > (r_52_103 - r_52_104))) { r_q7_8 = r_52_103; r_dv_8 = r_52_104; goto l_join_xn_8; }
+    u8 r_jl_11 = std_alloc_vec_Vec_grow_amortized_827889bc1b348a11(slot_4, r_52_102);
+    if (!r_jl_11) { r_ql = 1u; goto l_capnpc_57; }
+    r_q7_8 = ld64(r_zd_37);
+    r_dv_8 = ld64(r_x5_42);
+l_join_xn_8:;
+    r_5q_13 = (r_dv_8 + r_52_102);
+    r_2b_58 = away(ldp(slot_4), r_dv_8);
+    if (((u64)(uptr)r_2b_58 - (u64)(uptr)r_lz_49) < r_52_102) { r_il_11 = 0ull; goto l_join_fh_11; }
+    memmove_or_none(r_2b_58, r_lz_49, r_52_102);
+    goto l_std_wr;
+l_join_fh_11:;
+    st8((r_2b_58 + (i64)(r_il_11)), ld8((r_lz_49 + (i64)(r_il_11))));
+    u64 r_36_56 = (r_il_11 + 1ull);
+    if (!(r_36_56 == r_52_102)) { r_il_11 = r_36_56; goto l_join_fh_11; }
+l_std_wr:;
+    st64(r_x5_42, r_5q_13);
+    st64(r_zd_37, r_q7_8);
+    r_ql = ld8(r_lk_25);
+l_capnpc_57:;
+    st8(r_lk_25, (u8)(ld8(r_lk_26) | r_ql));
+    if (ld64(r_zd_38) == 0ull) goto l_capnpc_zy_3;
+    r_2f_1 = r_lz_49;
+    goto l_common_ht_1;
+l_else_2m:;
+    capnpc_schema_text_Text_push_filled(slot_4, static_lf, sink_3a, slot_6);
+    if (ld64(r_zd_38) == 0ull) goto l_capnpc_zy_3;
+    r_2f_1 = ldp(slot_2);
+    goto l_common_ht_1;
+l_capnpc_zy_3:;
+    capnpc_schema_text_Text_push_filled(slot_5, r_qj_8, r_3p_1, slot_6);
+    r_xw_30 = ldp(slot_6);
+    r_38_75 = ld64(r_x5_45);
+    r_38_76 = ld64(r_zd_36);
+    if (r_38_75 == 0ull) goto l_std_8o_6;
+    r_01_14 = 0ull;
+l_join_1a_15:;
+    r_a7_34 = away(r_xw_30, (r_01_14 * 48ull));
+    if (ld64((r_a7_34 + 32)) == 0ull) goto l_core_jc_15;
+    rattle_dealloc(ldp((r_a7_34 + 16)));
+l_core_jc_15:;
+    u64 r_36_57 = (r_01_14 + 1ull);
+    if (!(r_36_57 == r_38_75)) { r_01_14 = r_36_57; goto l_join_1a_15; }
+l_std_8o_6:;
+    if (r_38_76 == 0ull) goto l_after_94_7;
+    rattle_dealloc(r_xw_30);
+l_after_94_7:;
+    u64 r_36_58 = (r_7d_5 + 1ull);
+    if (!(r_36_58 == r_52_98)) { r_7d_5 = r_36_58; goto l_join_ie_5; }
 l_after_au:;
     memset((slot_2 + 8), 0u, 24);
     stp(slot_2, slot_1);
-    capnpc_schema_text_Values_put(slot_2, ((u8 *)g_static_144), 4ull, ldp(r_zn), ld64(r_3q));
-    capnpc_schema_text_Values_put(slot_2, ((u8 *)g_static_145), 4ull, ldp(r_be), ld64(r_x1));
-    capnpc_schema_text_Values_put(slot_2, ((u8 *)g_static_146), 3ull, ldp(r_39), ld64(r_9b));
+    capnpc_schema_text_Values_put(slot_2, ((u8 *)g_static_145), 4ull, ldp(r_zn), ld64(r_3q));
+    capnpc_schema_text_Values_put(slot_2, ((u8 *)g_static_146), 4ull, ldp(r_be), ld64(r_x1));
+    capnpc_schema_text_Values_put(slot_2, ((u8 *)g_static_147), 3ull, ldp(r_39), ld64(r_9b));
     mv32(slot_7, slot_2);
-    u8 *r_x5_42 = (slot_2 + 8);
-    u64 r_24_4 = (u64)ld32(away(r_2b, 200ull));
-    memset(r_x5_42, 0u, 24);
+    u8 *r_x5_47 = (slot_2 + 8);
+    u64 r_24_5 = (u64)ld32(away(r_2b, 200ull));
+    memset(r_x5_47, 0u, 24);
     stp(slot_2, slot_1);
-    capnpc_schema_text_Text_push_number(slot_2, r_24_4);
-    r_xw_30 = ldp(slot_2);
-    r_38_66 = ld64(r_x5_42);
-    r_38_67 = ld64((slot_2 + 16));
-    r_38_68 = ld64((slot_2 + 24));
-    r_ix_14 = (u8)(r_38_68 & 1);
-    r_zd_32 = (slot_7 + 16);
-    r_x5_43 = (slot_7 + 8);
-    u64 r_52_91 = ld64(r_x5_43);
-    if (!(ld64(r_zd_32) == r_52_91)) { r_xw_31 = r_52_91; goto l_join_yp_4; }
-    u8 r_89_25 = std_alloc_vec_Vec_grow_amortized_c7bbd78b6494f746(slot_7);
-    if (!r_89_25) goto l_arm_f8_20;
-    r_xw_31 = ld64(r_x5_43);
-    goto l_join_yp_4;
-l_arm_f8_20:;
-    if (r_38_67 == 0ull) goto l_join_4s_5;
-    rattle_dealloc(r_xw_30);
-    goto l_join_4s_5;
-l_join_yp_4:;
-    u8 *r_a7_32 = (ldp(slot_7) + (i64)((r_xw_31 * 48ull)));
-    stp(r_a7_32, ((u8 *)g_static_149));
-    st64((r_a7_32 + 8), 3ull);
-    stp((r_a7_32 + 16), r_xw_30);
-    st64((r_a7_32 + 24), r_38_66);
-    st64((r_a7_32 + 32), r_38_67);
-    st64((r_a7_32 + 40), r_38_68);
-    st64(r_x5_43, (r_xw_31 + 1ull));
-    if (!r_ix_14) goto l_capnpc_vw;
-l_join_4s_5:;
-    st8((slot_7 + 24), 1u);
-l_capnpc_vw:;
-    struct s_p_i64 r_5v_2 = capnpc_layout_rust_unions_parameters(a_1, r_93);
-    u8 r_ts = (r_5v_2.f1 == 0ull);
-    capnpc_schema_text_Values_put(slot_7, ((u8 *)g_static_381), 4ull, (r_ts ? ((u8 *)g_static_120) : ((u8 *)g_static_382)), (r_ts ? 0ull : 4ull));
-    r_xw_32 = ldp(slot_3);
-    r_38_69 = ld64(r_x5_37);
-    r_38_70 = ld64((slot_3 + 16));
-    r_38_71 = ld64((slot_3 + 24));
-    r_ix_15 = (u8)(r_38_71 & 1);
-    u64 r_52_92 = ld64(r_x5_43);
-    if (!(ld64(r_zd_32) == r_52_92)) { r_8o_1 = r_52_92; goto l_join_92_1; }
-    u8 r_89_26 = std_alloc_vec_Vec_grow_amortized_c7bbd78b6494f746(slot_7);
-    if (!r_89_26) goto l_arm_f8_21;
-    r_8o_1 = ld64(r_x5_43);
-    goto l_join_92_1;
-l_arm_f8_21:;
-    if (r_38_70 == 0ull) goto l_join_g8_4;
-    rattle_dealloc(r_xw_32);
+    capnpc_schema_text_Text_push_number(slot_2, r_24_5);
+    r_xw_31 = ldp(slot_2);
+    r_38_77 = ld64(r_x5_47);
+    r_38_78 = ld64((slot_2 + 16));
+    r_38_79 = ld64((slot_2 + 24));
+    r_ix_16 = (u8)(r_38_79 & 1);
+    r_zd_39 = (slot_7 + 16);
+    r_x5_48 = (slot_7 + 8);
+    u64 r_52_105 = ld64(r_x5_48);
+    if (!(ld64(r_zd_39) == r_52_105)) { r_1k_5 = r_52_105; goto l_join_34_5; }
+    u8 r_89_29 = std_alloc_vec_Vec_grow_amortized_c7bbd78b6494f746(slot_7);
+    if (!r_89_29) goto l_arm_f8_23;
+    r_1k_5 = ld64(r_x5_48);
+    goto l_join_34_5;
+l_arm_f8_23:;
+    if (r_38_78 == 0ull) goto l_join_g8_4;
+    rattle_dealloc(r_xw_31);
     goto l_join_g8_4;
-l_join_92_1:;
-    u8 *r_a7_33 = (ldp(slot_7) + (i64)((r_8o_1 * 48ull)));
-    stp(r_a7_33, ((u8 *)g_static_355));
-    st64((r_a7_33 + 8), 8ull);
-    stp((r_a7_33 + 16), r_xw_32);
-    st64((r_a7_33 + 24), r_38_69);
-    st64((r_a7_33 + 32), r_38_70);
-    st64((r_a7_33 + 40), r_38_71);
-    u64 r_7n_5 = (r_8o_1 + 1ull);
-    st64(r_x5_43, r_7n_5);
-    if (!r_ix_15) { r_w7_3 = r_7n_5; goto l_capnpc_zy_2; }
+l_join_34_5:;
+    u8 *r_a7_35 = (ldp(slot_7) + (i64)((r_1k_5 * 48ull)));
+    stp(r_a7_35, ((u8 *)g_static_150));
+    st64((r_a7_35 + 8), 3ull);
+    stp((r_a7_35 + 16), r_xw_31);
+    st64((r_a7_35 + 24), r_38_77);
+    st64((r_a7_35 + 32), r_38_78);
+    st64((r_a7_35 + 40), r_38_79);
+    u64 r_7n_5 = (r_1k_5 + 1ull);
+    st64(r_x5_48, r_7n_5);
+    if (!r_ix_16) { r_k7 = r_7n_5; goto l_capnpc_21; }
 l_join_g8_4:;
     st8((slot_7 + 24), 1u);
-    r_w7_3 = ld64(r_x5_43);
-l_capnpc_zy_2:;
-    r_xw_33 = ldp(slot_4);
-    r_38_72 = ld64(r_x5_38);
-    r_38_73 = ld64((slot_4 + 16));
-    r_38_74 = ld64((slot_4 + 24));
-    r_ix_16 = (u8)(r_38_74 & 1);
-    if (!(ld64(r_zd_32) == r_w7_3)) { r_ku_1 = r_w7_3; goto l_join_yk_1; }
-    u8 r_89_27 = std_alloc_vec_Vec_grow_amortized_c7bbd78b6494f746(slot_7);
-    if (!r_89_27) goto l_arm_f8_22;
-    r_ku_1 = ld64(r_x5_43);
-    goto l_join_yk_1;
-l_arm_f8_22:;
-    if (r_38_73 == 0ull) goto l_join_g8_5;
-    rattle_dealloc(r_xw_33);
+    r_k7 = ld64(r_x5_48);
+l_capnpc_21:;
+    r_xw_32 = ldp(slot_3);
+    r_38_80 = ld64(r_x5_41);
+    r_38_81 = ld64((slot_3 + 16));
+    r_38_82 = ld64((slot_3 + 24));
+    r_ix_17 = (u8)(r_38_82 & 1);
+    if (!(ld64(r_zd_39) == r_k7)) { r_sk_1 = r_k7; goto l_join_l9_1; }
+    u8 r_89_30 = std_alloc_vec_Vec_grow_amortized_c7bbd78b6494f746(slot_7);
+    if (!r_89_30) goto l_arm_f8_24;
+    r_sk_1 = ld64(r_x5_48);
+    goto l_join_l9_1;
+l_arm_f8_24:;
+    if (r_38_81 == 0ull) goto l_join_g8_5;
+    rattle_dealloc(r_xw_32);
     goto l_join_g8_5;
-l_join_yk_1:;
-    u8 *r_a7_34 = (ldp(slot_7) + (i64)((r_ku_1 * 48ull)));
-    stp(r_a7_34, ((u8 *)g_static_345));
-    st64((r_a7_34 + 8), 5ull);
-    stp((r_a7_34 + 16), r_xw_33);
-    st64((r_a7_34 + 24), r_38_72);
-    st64((r_a7_34 + 32), r_38_73);
-    st64((r_a7_34 + 40), r_38_74);
-    u64 r_7n_6 = (r_ku_1 + 1ull);
-    st64(r_x5_43, r_7n_6);
-    if (!r_ix_16) { r_w7_4 = r_7n_6; goto l_capnpc_zy_3; }
+l_join_l9_1:;
+    u8 *r_a7_36 = (ldp(slot_7) + (i64)((r_sk_1 * 48ull)));
+    stp(r_a7_36, ((u8 *)g_static_368));
+    st64((r_a7_36 + 8), 8ull);
+    stp((r_a7_36 + 16), r_xw_32);
+    st64((r_a7_36 + 24), r_38_80);
+    st64((r_a7_36 + 32), r_38_81);
+    st64((r_a7_36 + 40), r_38_82);
+    u64 r_7n_6 = (r_sk_1 + 1ull);
+    st64(r_x5_48, r_7n_6);
+    if (!r_ix_17) { r_w7_3 = r_7n_6; goto l_capnpc_zy_4; }
 l_join_g8_5:;
     st8((slot_7 + 24), 1u);
-    r_w7_4 = ld64(r_x5_43);
-l_capnpc_zy_3:;
+    r_w7_3 = ld64(r_x5_48);
+l_capnpc_zy_4:;
+    r_xw_33 = ldp(slot_4);
+    r_38_83 = ld64(r_x5_42);
+    r_38_84 = ld64((slot_4 + 16));
+    r_38_85 = ld64((slot_4 + 24));
+    r_ix_18 = (u8)(r_38_85 & 1);
+    if (!(ld64(r_zd_39) == r_w7_3)) { r_o9_1 = r_w7_3; goto l_join_cw_1; }
+    u8 r_89_31 = std_alloc_vec_Vec_grow_amortized_c7bbd78b6494f746(slot_7);
+    if (!r_89_31) goto l_arm_f8_25;
+    r_o9_1 = ld64(r_x5_48);
+    goto l_join_cw_1;
+l_arm_f8_25:;
+    if (r_38_84 == 0ull) goto l_join_g8_6;
+    rattle_dealloc(r_xw_33);
+    goto l_join_g8_6;
+l_join_cw_1:;
+    u8 *r_a7_37 = (ldp(slot_7) + (i64)((r_o9_1 * 48ull)));
+    stp(r_a7_37, ((u8 *)g_static_358));
+    st64((r_a7_37 + 8), 5ull);
+    stp((r_a7_37 + 16), r_xw_33);
+    st64((r_a7_37 + 24), r_38_83);
+    st64((r_a7_37 + 32), r_38_84);
+    st64((r_a7_37 + 40), r_38_85);
+    u64 r_7n_7 = (r_o9_1 + 1ull);
+    st64(r_x5_48, r_7n_7);
+    if (!r_ix_18) { r_w7_4 = r_7n_7; goto l_capnpc_zy_5; }
+l_join_g8_6:;
+    st8((slot_7 + 24), 1u);
+    r_w7_4 = ld64(r_x5_48);
+l_capnpc_zy_5:;
     r_xw_34 = ldp(slot_5);
-    r_38_75 = ld64(r_x5_39);
-    r_38_76 = ld64((slot_5 + 16));
-    r_38_77 = ld64((slot_5 + 24));
-    r_ix_17 = (u8)(r_38_77 & 1);
-    if (!(ld64(r_zd_32) == r_w7_4)) { r_7f_1 = r_w7_4; goto l_join_no_1; }
-    u8 r_89_28 = std_alloc_vec_Vec_grow_amortized_c7bbd78b6494f746(slot_7);
-    if (!r_89_28) goto l_arm_f8_23;
-    r_7f_1 = ld64(r_x5_43);
-    goto l_join_no_1;
-l_arm_f8_23:;
-    if (r_38_76 == 0ull) goto l_join_b0;
+    r_38_86 = ld64(r_x5_43);
+    r_38_87 = ld64((slot_5 + 16));
+    r_38_88 = ld64((slot_5 + 24));
+    r_ix_19 = (u8)(r_38_88 & 1);
+    if (!(ld64(r_zd_39) == r_w7_4)) { r_8v_1 = r_w7_4; goto l_join_ap_1; }
+    u8 r_89_32 = std_alloc_vec_Vec_grow_amortized_c7bbd78b6494f746(slot_7);
+    if (!r_89_32) goto l_arm_f8_26;
+    r_8v_1 = ld64(r_x5_48);
+    goto l_join_ap_1;
+l_arm_f8_26:;
+    if (r_38_87 == 0ull) goto l_join_b0;
     rattle_dealloc(r_xw_34);
     goto l_join_b0;
-l_join_no_1:;
-    u8 *r_lz_45 = ldp(slot_7);
-    u8 *r_a7_35 = (r_lz_45 + (i64)((r_7f_1 * 48ull)));
-    stp(r_a7_35, ((u8 *)g_static_356));
-    st64((r_a7_35 + 8), 4ull);
-    stp((r_a7_35 + 16), r_xw_34);
-    st64((r_a7_35 + 24), r_38_75);
-    st64((r_a7_35 + 32), r_38_76);
-    st64((r_a7_35 + 40), r_38_77);
-    u64 r_7n_7 = (r_7f_1 + 1ull);
-    st64(r_x5_43, r_7n_7);
-    if (!r_ix_17) { r_55 = r_lz_45; r_83 = r_7n_7; goto l_capnpc_to; }
+l_join_ap_1:;
+    u8 *r_lz_50 = ldp(slot_7);
+    u8 *r_a7_38 = (r_lz_50 + (i64)((r_8v_1 * 48ull)));
+    stp(r_a7_38, ((u8 *)g_static_369));
+    st64((r_a7_38 + 8), 4ull);
+    stp((r_a7_38 + 16), r_xw_34);
+    st64((r_a7_38 + 24), r_38_86);
+    st64((r_a7_38 + 32), r_38_87);
+    st64((r_a7_38 + 40), r_38_88);
+    u64 r_7n_8 = (r_8v_1 + 1ull);
+    st64(r_x5_48, r_7n_8);
+    if (!r_ix_19) { r_g5 = r_lz_50; r_8v_2 = r_7n_8; goto l_capnpc_bj; }
 l_join_b0:;
     st8((slot_7 + 24), 1u);
-    r_55 = ldp(slot_7);
-    r_83 = ld64(r_x5_43);
-l_capnpc_to:;
-    capnpc_schema_text_Text_push_filled(slot_14, ((u8 *)g_static_383), 698ull, slot_7);
-    r_38_78 = ld64(r_zd_32);
-    if (r_83 == 0ull) goto l_std_ab_7;
-    r_01_14 = 0ull;
-l_join_1a_14:;
-    r_a7_36 = away(r_55, (r_01_14 * 48ull));
-    if (ld64((r_a7_36 + 32)) == 0ull) goto l_core_jc_15;
-    rattle_dealloc(ldp((r_a7_36 + 16)));
-l_core_jc_15:;
-    u64 r_36_53 = (r_01_14 + 1ull);
-    if (!(r_36_53 == r_83)) { r_01_14 = r_36_53; goto l_join_1a_14; }
+    r_g5 = ldp(slot_7);
+    r_8v_2 = ld64(r_x5_48);
+l_capnpc_bj:;
+    capnpc_schema_text_Text_push_filled(slot_14, ((u8 *)g_static_395), 664ull, slot_7);
+    r_38_89 = ld64(r_zd_39);
+    if (r_8v_2 == 0ull) goto l_std_ab_7;
+    r_01_15 = 0ull;
+l_join_1a_16:;
+    r_a7_39 = away(r_g5, (r_01_15 * 48ull));
+    if (ld64((r_a7_39 + 32)) == 0ull) goto l_core_jc_16;
+    rattle_dealloc(ldp((r_a7_39 + 16)));
+l_core_jc_16:;
+    u64 r_36_59 = (r_01_15 + 1ull);
+    if (!(r_36_59 == r_8v_2)) { r_01_15 = r_36_59; goto l_join_1a_16; }
 l_std_ab_7:;
-    if (r_38_78 == 0ull) goto l_capnpc_f7_3;
-    rattle_dealloc(r_55);
+    if (r_38_89 == 0ull) goto l_capnpc_f7_3;
+    rattle_dealloc(r_g5);
 l_capnpc_f7_3:;
     r_xw_35 = ldp(slot_10);
-    r_38_79 = ld64(r_x5_35);
-    r_38_80 = ld64(r_zd_28);
-    if (r_38_79 == 0ull) goto l_std_nw_2;
-    r_01_15 = 0ull;
-l_join_1a_15:;
-    r_a7_37 = away(r_xw_35, (r_01_15 * 48ull));
-    if (ld64((r_a7_37 + 32)) == 0ull) goto l_core_jc_16;
-    rattle_dealloc(ldp((r_a7_37 + 16)));
-l_core_jc_16:;
-    u64 r_36_54 = (r_01_15 + 1ull);
-    if (!(r_36_54 == r_38_79)) { r_01_15 = r_36_54; goto l_join_1a_15; }
+    r_38_90 = ld64(r_x5_39);
+    r_38_91 = ld64(r_zd_33);
+    if (r_38_90 == 0ull) goto l_std_nw_2;
+    r_01_16 = 0ull;
+l_join_1a_17:;
+    r_a7_40 = away(r_xw_35, (r_01_16 * 48ull));
+    if (ld64((r_a7_40 + 32)) == 0ull) goto l_core_jc_17;
+    rattle_dealloc(ldp((r_a7_40 + 16)));
+l_core_jc_17:;
+    u64 r_36_60 = (r_01_16 + 1ull);
+    if (!(r_36_60 == r_38_90)) { r_01_16 = r_36_60; goto l_join_1a_17; }
 l_std_nw_2:;
-    if (r_38_80 == 0ull) goto l_capnpc_mp;
+    if (r_38_91 == 0ull) goto l_capnpc_mp_1;
     r_2f = r_xw_35;
-    goto l_common_ht_1;
+    goto l_common_ht_2;
 l_join_tl:;
     r_xw_36 = ldp(slot_10);
-    r_38_81 = ld64(r_x5_35);
-    r_38_82 = ld64(r_zd_28);
-    if (r_38_81 == 0ull) goto l_std_nw_3;
-    r_01_16 = 0ull;
-l_join_1a_16:;
-    r_a7_38 = away(r_xw_36, (r_01_16 * 48ull));
-    if (ld64((r_a7_38 + 32)) == 0ull) goto l_core_jc_17;
-    rattle_dealloc(ldp((r_a7_38 + 16)));
-l_core_jc_17:;
-    u64 r_36_55 = (r_01_16 + 1ull);
-    if (!(r_36_55 == r_38_81)) { r_01_16 = r_36_55; goto l_join_1a_16; }
+    r_38_92 = ld64(r_x5_39);
+    r_38_93 = ld64(r_zd_33);
+    if (r_38_92 == 0ull) goto l_std_nw_3;
+    r_01_17 = 0ull;
+l_join_1a_18:;
+    r_a7_41 = away(r_xw_36, (r_01_17 * 48ull));
+    if (ld64((r_a7_41 + 32)) == 0ull) goto l_core_jc_18;
+    rattle_dealloc(ldp((r_a7_41 + 16)));
+l_core_jc_18:;
+    u64 r_36_61 = (r_01_17 + 1ull);
+    if (!(r_36_61 == r_38_92)) { r_01_17 = r_36_61; goto l_join_1a_18; }
 l_std_nw_3:;
-    if (!(r_38_82 == 0ull)) { r_2f = r_xw_36; goto l_common_ht_1; }
-l_capnpc_mp:;
+    if (!(r_38_93 == 0ull)) { r_2f = r_xw_36; goto l_common_ht_2; }
+l_capnpc_mp_1:;
 l_join_2c:;
     mv40(slot_13, slot_14);
-    if (r_38_46 == 0ull) goto l_std_tl;
-    rattle_dealloc(r_xw_22);
+    if (r_38_56 == 0ull) goto l_std_tl;
+    rattle_dealloc(r_xw_23);
 l_std_tl:;
     r_xw_37 = ldp(slot_15);
-    r_38_83 = ld64(r_x5_17);
-    r_38_84 = ld64(r_zd_13);
-    if (r_38_83 == 0ull) goto l_std_ab_8;
-    r_01_17 = 0ull;
-l_join_1a_17:;
-    r_a7_39 = away(r_xw_37, (r_01_17 * 48ull));
-    if (ld64((r_a7_39 + 32)) == 0ull) goto l_core_jc_18;
-    rattle_dealloc(ldp((r_a7_39 + 16)));
-l_core_jc_18:;
-    u64 r_36_56 = (r_01_17 + 1ull);
-    if (!(r_36_56 == r_38_83)) { r_01_17 = r_36_56; goto l_join_1a_17; }
+    r_38_94 = ld64(r_x5_21);
+    r_38_95 = ld64(r_zd_18);
+    if (r_38_94 == 0ull) goto l_std_ab_8;
+    r_01_18 = 0ull;
+l_join_1a_19:;
+    r_a7_42 = away(r_xw_37, (r_01_18 * 48ull));
+    if (ld64((r_a7_42 + 32)) == 0ull) goto l_core_jc_19;
+    rattle_dealloc(ldp((r_a7_42 + 16)));
+l_core_jc_19:;
+    u64 r_36_62 = (r_01_18 + 1ull);
+    if (!(r_36_62 == r_38_94)) { r_01_18 = r_36_62; goto l_join_1a_19; }
 l_std_ab_8:;
-    if (r_38_84 == 0ull) goto l_capnpc_cl_1;
+    if (r_38_95 == 0ull) goto l_capnpc_cl_1;
     rattle_dealloc(r_xw_37);
 l_capnpc_cl_1:;
     mv40(slot_18, slot_13);
     r_xw_38 = ldp(slot_18);
-    u64 r_38_85 = ld64((slot_18 + 16));
+    u64 r_38_96 = ld64((slot_18 + 16));
     capnpc_layout_rust_piece_Piece_push_into(slot_18, a_2, r_mn);
-    if (r_38_85 == 0ull) { common_rp = r_mn; goto l_common_ie; }
+    if (r_38_96 == 0ull) { common_rp = r_mn; goto l_common_ie; }
     rattle_dealloc(r_xw_38);
     common_rp = r_mn;
     goto l_common_ie;
 l_arm_z3:;
-    r_lz_46 = ldp(away(r_2b, 192ull));
-    r_52_93 = ld64(away(r_2b, 200ull));
+    r_lz_51 = ldp(away(r_2b, 192ull));
+    r_52_106 = ld64(away(r_2b, 200ull));
     memset(slot_8, 0u, 40);
     stp(slot_9, slot_1);
     memset((slot_9 + 8), 0u, 24);
     st64((slot_9 + 32), ((a_4 > 0x3fffffffffffffffull) ? 0ull : usub_sat64(100ull, (u64)(a_4 << 2ull))));
     memset((slot_7 + 8), 0u, 24);
     stp(slot_7, slot_1);
-    u8 *r_zn_14 = away(r_2b, 16ull);
+    u8 *r_zn_15 = away(r_2b, 16ull);
     u8 *r_3q_1 = away(r_2b, 24ull);
-    capnpc_schema_text_Values_put(slot_7, ((u8 *)g_static_144), 4ull, ldp(r_zn_14), ld64(r_3q_1));
-    capnpc_schema_text_Values_put(slot_7, ((u8 *)g_static_145), 4ull, ldp(away(r_2b, 88ull)), ld64(away(r_2b, 96ull)));
-    capnpc_schema_text_Values_put(slot_7, ((u8 *)g_static_146), 3ull, ldp(away(r_2b, 64ull)), ld64(away(r_2b, 72ull)));
+    capnpc_schema_text_Values_put(slot_7, ((u8 *)g_static_145), 4ull, ldp(r_zn_15), ld64(r_3q_1));
+    capnpc_schema_text_Values_put(slot_7, ((u8 *)g_static_146), 4ull, ldp(away(r_2b, 88ull)), ld64(away(r_2b, 96ull)));
+    capnpc_schema_text_Values_put(slot_7, ((u8 *)g_static_147), 3ull, ldp(away(r_2b, 64ull)), ld64(away(r_2b, 72ull)));
     mv32(slot_10, slot_7);
     u8 r_qh_1 = (a_4 == 0ull);
-    capnpc_schema_text_Values_put(slot_10, ((u8 *)g_static_147), 5ull, (r_qh_1 ? ((u8 *)g_static_148) : ((u8 *)g_static_120)), (r_qh_1 ? 35ull : 0ull));
-    capnpc_layout_rust_docs_push_docs(slot_9, ((u8 *)g_static_120), 0ull, ldp(away(r_2b, 112ull)), ld64(away(r_2b, 120ull)), ldp(r_zn_14), ld64(r_3q_1));
-    if (r_52_93 == 0ull) goto l_then_80;
+    capnpc_schema_text_Values_put(slot_10, ((u8 *)g_static_148), 5ull, (r_qh_1 ? ((u8 *)g_static_149) : ((u8 *)g_static_120)), (r_qh_1 ? 35ull : 0ull));
+    capnpc_layout_rust_docs_push_docs(slot_9, ((u8 *)g_static_120), 0ull, ldp(away(r_2b, 112ull)), ld64(away(r_2b, 120ull)), ldp(r_zn_15), ld64(r_3q_1));
+    if (r_52_106 == 0ull) goto l_then_1j;
     goto l_join_0d_1;
-l_common_ht_2:;
-    rattle_dealloc(r_2f_1);
+l_common_ht_3:;
+    rattle_dealloc(r_2f_2);
     goto l_capnpc_cl_2;
-l_then_80:;
-    capnpc_schema_text_Text_push_filled(slot_9, ((u8 *)g_static_398), 410ull, slot_10);
+l_then_1j:;
+    capnpc_schema_text_Text_push_filled(slot_9, ((u8 *)g_static_414), 410ull, slot_10);
     mv40(slot_8, slot_9);
     r_xw_39 = ldp(slot_10);
-    r_38_86 = ld64((slot_10 + 8));
-    r_38_87 = ld64((slot_10 + 16));
-    if (r_38_86 == 0ull) goto l_std_nw_4;
-    r_01_18 = 0ull;
-l_join_1a_18:;
-    r_a7_40 = away(r_xw_39, (r_01_18 * 48ull));
-    if (ld64((r_a7_40 + 32)) == 0ull) goto l_core_jc_19;
-    rattle_dealloc(ldp((r_a7_40 + 16)));
-l_core_jc_19:;
-    u64 r_36_57 = (r_01_18 + 1ull);
-    if (!(r_36_57 == r_38_86)) { r_01_18 = r_36_57; goto l_join_1a_18; }
+    r_38_97 = ld64((slot_10 + 8));
+    r_38_98 = ld64((slot_10 + 16));
+    if (r_38_97 == 0ull) goto l_std_nw_4;
+    r_01_19 = 0ull;
+l_join_1a_20:;
+    r_a7_43 = away(r_xw_39, (r_01_19 * 48ull));
+    if (ld64((r_a7_43 + 32)) == 0ull) goto l_core_jc_20;
+    rattle_dealloc(ldp((r_a7_43 + 16)));
+l_core_jc_20:;
+    u64 r_36_63 = (r_01_19 + 1ull);
+    if (!(r_36_63 == r_38_97)) { r_01_19 = r_36_63; goto l_join_1a_20; }
 l_std_nw_4:;
-    if (r_38_87 == 0ull) goto l_capnpc_cl_2;
-    r_2f_1 = r_xw_39;
-    goto l_common_ht_2;
+    if (r_38_98 == 0ull) goto l_capnpc_cl_2;
+    r_2f_2 = r_xw_39;
+    goto l_common_ht_3;
 l_join_0d_1:;
     memset(slot_4, 0u, 32);
     stp(slot_2, slot_1);
-    r_x5_44 = (slot_2 + 8);
-    memset(r_x5_44, 0u, 24);
-    r_zd_33 = (slot_3 + 16);
+    r_x5_49 = (slot_2 + 8);
+    memset(r_x5_49, 0u, 24);
+    r_zd_40 = (slot_3 + 16);
     r_wq_1 = 0ull;
 l_join_og_1:;
-    u8 *r_2b_51 = away(r_lz_46, (r_wq_1 * 24ull));
-    capnpc_schema_names_capitalized(slot_4, ldp(r_2b_51), ld64(away(r_2b_51, 8ull)));
+    u8 *r_2b_59 = away(r_lz_51, (r_wq_1 * 24ull));
+    capnpc_schema_names_capitalized(slot_4, ldp(r_2b_59), ld64(away(r_2b_59, 8ull)));
     mv32(slot_3, slot_4);
     capnpc_schema_names_Names_make_unique_and_add(slot_2, slot_3);
-    if (ld64(r_zd_33) == 0ull) goto l_std_sd;
+    if (ld64(r_zd_40) == 0ull) goto l_std_sd;
     rattle_dealloc(ldp(slot_3));
 l_std_sd:;
-    u64 r_36_58 = (r_wq_1 + 1ull);
-    if (!(r_36_58 == r_52_93)) { r_wq_1 = r_36_58; goto l_join_og_1; }
+    u64 r_36_64 = (r_wq_1 + 1ull);
+    if (!(r_36_64 == r_52_106)) { r_wq_1 = r_36_64; goto l_join_og_1; }
     r_xw_40 = ldp(slot_2);
-    r_38_88 = ld64(r_x5_44);
-    r_38_89 = ld64((slot_2 + 16));
+    r_38_99 = ld64(r_x5_49);
+    r_38_100 = ld64((slot_2 + 16));
     u8 r_r5 = ld8((slot_2 + 24));
     stp(slot_3, slot_1);
-    r_x5_45 = (slot_3 + 8);
-    memset(r_x5_45, 0u, 24);
+    r_x5_50 = (slot_3 + 8);
+    memset(r_x5_50, 0u, 24);
     stp(slot_4, slot_1);
-    r_x5_46 = (slot_4 + 8);
-    memset(r_x5_46, 0u, 24);
+    r_x5_51 = (slot_4 + 8);
+    memset(r_x5_51, 0u, 24);
     stp(slot_5, slot_1);
-    r_x5_47 = (slot_5 + 8);
-    memset(r_x5_47, 0u, 24);
-    r_lk_22 = (slot_3 + 24);
-    st8(r_lk_22, r_r5);
-    r_ts_1 = (r_38_88 == 0ull);
-    if (!r_ts_1) goto l_join_fn;
+    r_x5_52 = (slot_5 + 8);
+    memset(r_x5_52, 0u, 24);
+    r_lk_27 = (slot_3 + 24);
+    st8(r_lk_27, r_r5);
+    r_ts = (r_38_99 == 0ull);
+    if (!r_ts) goto l_join_fn;
     r_ng = ld64((slot_10 + 8));
     r_bw_1 = 0ull;
-    r_67 = 0ull;
+    r_67_1 = 0ull;
     r_pi = slot_1;
     goto l_after_am;
 l_join_fn:;
-    r_x5_48 = (slot_6 + 8);
-    r_x5_49 = (slot_2 + 8);
-    r_zd_34 = (slot_2 + 16);
-    r_lk_23 = (slot_2 + 24);
-    r_zd_35 = (slot_6 + 16);
-    r_lk_24 = (slot_6 + 24);
-    r_ti_4 = away(r_2b, 144ull);
+    r_x5_53 = (slot_6 + 8);
+    r_x5_54 = (slot_2 + 8);
+    r_zd_41 = (slot_2 + 16);
+    r_lk_28 = (slot_2 + 24);
+    r_zd_42 = (slot_6 + 16);
+    r_lk_29 = (slot_6 + 24);
+    r_ti_5 = away(r_2b, 144ull);
     r_v3_3 = away(r_2b, 136ull);
     r_xw_41 = ldp(slot_10);
-    r_38_90 = ld64((slot_10 + 8));
+    r_38_101 = ld64((slot_10 + 8));
     r_1a = 0ull;
 l_join_di:;
     r_6l = (r_1a * 24ull);
-    r_2b_52 = away(r_xw_40, r_6l);
+    r_2b_60 = away(r_xw_40, r_6l);
     stp(slot_6, slot_1);
-    memset(r_x5_48, 0u, 24);
-    if (!(r_1a < r_52_93)) { r_ny = ((u8 *)g_static_120); r_px = 0ull; goto l_capnpc_9f; }
-    u8 *r_2b_53 = away(r_lz_46, r_6l);
-    r_ny = ldp(r_2b_53);
-    r_px = ld64(away(r_2b_53, 8ull));
-l_capnpc_9f:;
-    capnpc_schema_text_Values_put(slot_6, ((u8 *)g_static_400), 4ull, r_ny, r_px);
-    capnpc_schema_text_Values_put(slot_6, ((u8 *)g_static_187), 7ull, ldp(r_2b_52), ld64(away(r_2b_52, 8ull)));
-    r_iv_7 = r_38_90;
-l_loop_bp_7:;
-    if (r_iv_7 == 0ull) { r_81 = 0ull; r_jp = ((u8 *)g_static_120); goto l_capnpc_rm; }
-    u64 r_zn_15 = (r_iv_7 + 0xffffffffffffffffull);
-    r_2b_54 = away(r_xw_41, (r_zn_15 * 48ull));
-    u8 r_r1_2 = core_cmp_bytes_equal(ldp(r_2b_54), ld64((r_2b_54 + 8)), ((u8 *)g_static_145), 4ull);
-    if (!r_r1_2) { r_iv_7 = r_zn_15; goto l_loop_bp_7; }
-    r_81 = ld64(away(r_2b_54, 24ull));
-    r_jp = ldp(away(r_2b_54, 16ull));
-l_capnpc_rm:;
-    capnpc_schema_text_Values_put(slot_6, ((u8 *)g_static_145), 4ull, r_jp, r_81);
-    memset(r_x5_49, 0u, 24);
+    memset(r_x5_53, 0u, 24);
+    if (!(r_1a < r_52_106)) { r_5m = ((u8 *)g_static_120); r_n7 = 0ull; goto l_capnpc_9z; }
+    u8 *r_2b_61 = away(r_lz_51, r_6l);
+    r_5m = ldp(r_2b_61);
+    r_n7 = ld64(away(r_2b_61, 8ull));
+l_capnpc_9z:;
+    capnpc_schema_text_Values_put(slot_6, ((u8 *)g_static_416), 4ull, r_5m, r_n7);
+    capnpc_schema_text_Values_put(slot_6, ((u8 *)g_static_188), 7ull, ldp(r_2b_60), ld64(away(r_2b_60, 8ull)));
+    r_iv_9 = r_38_101;
+l_loop_bp_8:;
+    if (r_iv_9 == 0ull) { r_8b = 0ull; r_sa_1 = ((u8 *)g_static_120); goto l_capnpc_ek; }
+    u64 r_zn_16 = (r_iv_9 + 0xffffffffffffffffull);
+    r_2b_62 = away(r_xw_41, (r_zn_16 * 48ull));
+    u8 r_gv_1 = core_cmp_bytes_equal(ldp(r_2b_62), ld64((r_2b_62 + 8)), ((u8 *)g_static_146), 4ull);
+    if (!r_gv_1) { r_iv_9 = r_zn_16; goto l_loop_bp_8; }
+    r_8b = ld64(away(r_2b_62, 24ull));
+    r_sa_1 = ldp(away(r_2b_62, 16ull));
+l_capnpc_ek:;
+    capnpc_schema_text_Values_put(slot_6, ((u8 *)g_static_146), 4ull, r_sa_1, r_8b);
+    memset(r_x5_54, 0u, 24);
     stp(slot_2, slot_1);
     capnpc_schema_text_Text_push_number(slot_2, r_1a);
     r_xw_42 = ldp(slot_2);
-    r_38_91 = ld64(r_x5_49);
-    r_38_92 = ld64(r_zd_34);
-    r_38_93 = ld64(r_lk_23);
-    r_ix_18 = (u8)(r_38_93 & 1);
-    u64 r_52_94 = ld64(r_x5_48);
-    if (!(ld64(r_zd_35) == r_52_94)) { r_06 = r_52_94; goto l_join_iq; }
-    u8 r_89_29 = std_alloc_vec_Vec_grow_amortized_c7bbd78b6494f746(slot_6);
-    if (!r_89_29) goto l_arm_f8_24;
-    r_06 = ld64(r_x5_48);
-    goto l_join_iq;
-l_arm_f8_24:;
-    if (r_38_92 == 0ull) goto l_join_36_6;
+    r_38_102 = ld64(r_x5_54);
+    r_38_103 = ld64(r_zd_41);
+    r_38_104 = ld64(r_lk_28);
+    r_ix_20 = (u8)(r_38_104 & 1);
+    u64 r_52_107 = ld64(r_x5_53);
+    if (!(ld64(r_zd_42) == r_52_107)) { r_j0 = r_52_107; goto l_join_0m; }
+    u8 r_89_33 = std_alloc_vec_Vec_grow_amortized_c7bbd78b6494f746(slot_6);
+    if (!r_89_33) goto l_arm_f8_27;
+    r_j0 = ld64(r_x5_53);
+    goto l_join_0m;
+l_arm_f8_27:;
+    if (r_38_103 == 0ull) goto l_join_36_7;
     rattle_dealloc(r_xw_42);
-    goto l_join_36_6;
-l_join_iq:;
-    u8 *r_a7_41 = (ldp(slot_6) + (i64)((r_06 * 48ull)));
-    stp(r_a7_41, ((u8 *)g_static_188));
-    st64((r_a7_41 + 8), 6ull);
-    stp((r_a7_41 + 16), r_xw_42);
-    st64((r_a7_41 + 24), r_38_91);
-    st64((r_a7_41 + 32), r_38_92);
-    st64((r_a7_41 + 40), r_38_93);
-    st64(r_x5_48, (r_06 + 1ull));
-    if (!r_ix_18) goto l_capnpc_6l;
-l_join_36_6:;
-    st8(r_lk_24, 1u);
-l_capnpc_6l:;
-    capnpc_schema_text_Values_put_lines(slot_6, ((u8 *)g_static_401), 21ull);
-    if (!(r_1a < ld64(r_ti_4))) { r_7u = ((u8 *)g_static_120); r_s3 = 0ull; goto l_capnpc_bh; }
-    u8 *r_2b_55 = away(ldp(r_v3_3), r_6l);
-    r_7u = ldp(r_2b_55);
-    r_s3 = ld64(away(r_2b_55, 8ull));
+    goto l_join_36_7;
+l_join_0m:;
+    u8 *r_a7_44 = (ldp(slot_6) + (i64)((r_j0 * 48ull)));
+    stp(r_a7_44, ((u8 *)g_static_189));
+    st64((r_a7_44 + 8), 6ull);
+    stp((r_a7_44 + 16), r_xw_42);
+    st64((r_a7_44 + 24), r_38_102);
+    st64((r_a7_44 + 32), r_38_103);
+    st64((r_a7_44 + 40), r_38_104);
+    st64(r_x5_53, (r_j0 + 1ull));
+    if (!r_ix_20) goto l_capnpc_r5;
+l_join_36_7:;
+    st8(r_lk_29, 1u);
+l_capnpc_r5:;
+    capnpc_schema_text_Values_put_lines(slot_6, ((u8 *)g_static_417), 21ull);
+    if (!(r_1a < ld64(r_ti_5))) { r_7u = ((u8 *)g_static_120); r_s3 = 0ull; goto l_capnpc_bh; }
+    u8 *r_2b_63 = away(ldp(r_v3_3), r_6l);
+    r_7u = ldp(r_2b_63);
+    r_s3 = ld64(away(r_2b_63, 8ull));
 l_capnpc_bh:;
-    r_lz_47 = ldp(slot_6);
-    r_52_95 = ld64(r_x5_48);
-    r_iv_8 = r_52_95;
-l_loop_bp_8:;
-    if (r_iv_8 == 0ull) { r_c8 = 0ull; r_ff = ((u8 *)g_static_120); goto l_capnpc_vt; }
-    u64 r_zn_16 = (r_iv_8 + 0xffffffffffffffffull);
-    r_2b_56 = away(r_lz_47, (r_zn_16 * 48ull));
-    u8 r_ka_1 = core_cmp_bytes_equal(ldp(r_2b_56), ld64((r_2b_56 + 8)), ((u8 *)g_static_161), 4ull);
-    if (!r_ka_1) { r_iv_8 = r_zn_16; goto l_loop_bp_8; }
-    r_c8 = ld64(away(r_2b_56, 24ull));
-    r_ff = ldp(away(r_2b_56, 16ull));
-l_capnpc_vt:;
-    capnpc_layout_rust_docs_push_docs(slot_3, ((u8 *)g_static_5), 4ull, r_7u, r_s3, r_ff, r_c8);
-    capnpc_schema_text_Text_push_filled(slot_3, ((u8 *)g_static_402), 15ull, slot_6);
-    capnpc_schema_text_Text_push_filled(slot_4, ((u8 *)g_static_403), 41ull, slot_6);
-    capnpc_schema_text_Text_push_filled(slot_5, ((u8 *)g_static_404), 43ull, slot_6);
-    r_38_94 = ld64(r_zd_35);
-    if (r_52_95 == 0ull) goto l_std_p4;
-    r_01_19 = 0ull;
-l_join_1a_19:;
-    r_a7_42 = away(r_lz_47, (r_01_19 * 48ull));
-    if (ld64((r_a7_42 + 32)) == 0ull) goto l_core_jc_20;
-    rattle_dealloc(ldp((r_a7_42 + 16)));
-l_core_jc_20:;
-    u64 r_36_59 = (r_01_19 + 1ull);
-    if (!(r_36_59 == r_52_95)) { r_01_19 = r_36_59; goto l_join_1a_19; }
+    r_lz_52 = ldp(slot_6);
+    r_52_108 = ld64(r_x5_53);
+    r_iv_10 = r_52_108;
+l_loop_bp_9:;
+    if (r_iv_10 == 0ull) { r_lp = 0ull; r_4r = ((u8 *)g_static_120); goto l_capnpc_ox; }
+    u64 r_zn_17 = (r_iv_10 + 0xffffffffffffffffull);
+    r_2b_64 = away(r_lz_52, (r_zn_17 * 48ull));
+    u8 r_bp_1 = core_cmp_bytes_equal(ldp(r_2b_64), ld64((r_2b_64 + 8)), ((u8 *)g_static_162), 4ull);
+    if (!r_bp_1) { r_iv_10 = r_zn_17; goto l_loop_bp_9; }
+    r_lp = ld64(away(r_2b_64, 24ull));
+    r_4r = ldp(away(r_2b_64, 16ull));
+l_capnpc_ox:;
+    capnpc_layout_rust_docs_push_docs(slot_3, ((u8 *)g_static_5), 4ull, r_7u, r_s3, r_4r, r_lp);
+    capnpc_schema_text_Text_push_filled(slot_3, ((u8 *)g_static_418), 15ull, slot_6);
+    capnpc_schema_text_Text_push_filled(slot_4, ((u8 *)g_static_419), 41ull, slot_6);
+    capnpc_schema_text_Text_push_filled(slot_5, ((u8 *)g_static_420), 43ull, slot_6);
+    r_38_105 = ld64(r_zd_42);
+    if (r_52_108 == 0ull) goto l_std_p4;
+    r_01_20 = 0ull;
+l_join_1a_21:;
+    r_a7_45 = away(r_lz_52, (r_01_20 * 48ull));
+    if (ld64((r_a7_45 + 32)) == 0ull) goto l_core_jc_21;
+    rattle_dealloc(ldp((r_a7_45 + 16)));
+l_core_jc_21:;
+    u64 r_36_65 = (r_01_20 + 1ull);
+    if (!(r_36_65 == r_52_108)) { r_01_20 = r_36_65; goto l_join_1a_21; }
 l_std_p4:;
-    if (r_38_94 == 0ull) goto l_std_94;
-    rattle_dealloc(r_lz_47);
+    if (r_38_105 == 0ull) goto l_std_94;
+    rattle_dealloc(r_lz_52);
 l_std_94:;
-    u64 r_36_60 = (r_1a + 1ull);
-    if (!(r_36_60 == r_38_88)) { r_1a = r_36_60; goto l_join_di; }
-    r_ng = r_38_90;
+    u64 r_36_66 = (r_1a + 1ull);
+    if (!(r_36_66 == r_38_99)) { r_1a = r_36_66; goto l_join_di; }
+    r_ng = r_38_101;
     r_bw_1 = ld64((slot_3 + 16));
-    r_67 = ld64(r_x5_45);
+    r_67_1 = ld64(r_x5_50);
     r_pi = ldp(slot_3);
 l_after_am:;
-    r_38_95 = ld64(r_lk_22);
-    r_ix_19 = (u8)(r_38_95 & 1);
-    r_zd_36 = (slot_10 + 16);
-    r_x5_50 = (slot_10 + 8);
-    if (!(ld64(r_zd_36) == r_ng)) { r_f1 = r_ng; goto l_join_gy; }
-    u8 r_89_30 = std_alloc_vec_Vec_grow_amortized_c7bbd78b6494f746(slot_10);
-    if (!r_89_30) goto l_arm_f8_25;
-    r_f1 = ld64(r_x5_50);
-    goto l_join_gy;
-l_arm_f8_25:;
-    if (r_bw_1 == 0ull) goto l_join_g8_6;
+    r_38_106 = ld64(r_lk_27);
+    r_ix_21 = (u8)(r_38_106 & 1);
+    r_zd_43 = (slot_10 + 16);
+    r_x5_55 = (slot_10 + 8);
+    if (!(ld64(r_zd_43) == r_ng)) { r_vc_1 = r_ng; goto l_join_p9; }
+    u8 r_89_34 = std_alloc_vec_Vec_grow_amortized_c7bbd78b6494f746(slot_10);
+    if (!r_89_34) goto l_arm_f8_28;
+    r_vc_1 = ld64(r_x5_55);
+    goto l_join_p9;
+l_arm_f8_28:;
+    if (r_bw_1 == 0ull) goto l_join_g8_7;
     rattle_dealloc(r_pi);
-    goto l_join_g8_6;
-l_join_gy:;
-    u8 *r_a7_43 = (ldp(slot_10) + (i64)((r_f1 * 48ull)));
-    stp(r_a7_43, ((u8 *)g_static_405));
-    st64((r_a7_43 + 8), 8ull);
-    stp((r_a7_43 + 16), r_pi);
-    st64((r_a7_43 + 24), r_67);
-    st64((r_a7_43 + 32), r_bw_1);
-    st64((r_a7_43 + 40), r_38_95);
-    u64 r_7n_8 = (r_f1 + 1ull);
-    st64(r_x5_50, r_7n_8);
-    if (!r_ix_19) { r_w7_5 = r_7n_8; goto l_capnpc_zy_4; }
-l_join_g8_6:;
-    st8((slot_10 + 24), 1u);
-    r_w7_5 = ld64(r_x5_50);
-l_capnpc_zy_4:;
-    r_xw_43 = ldp(slot_4);
-    r_38_96 = ld64(r_x5_46);
-    r_38_97 = ld64((slot_4 + 16));
-    r_38_98 = ld64((slot_4 + 24));
-    r_ix_20 = (u8)(r_38_98 & 1);
-    if (!(ld64(r_zd_36) == r_w7_5)) { r_2f_2 = r_w7_5; goto l_join_iz; }
-    u8 r_89_31 = std_alloc_vec_Vec_grow_amortized_c7bbd78b6494f746(slot_10);
-    if (!r_89_31) goto l_arm_f8_26;
-    r_2f_2 = ld64(r_x5_50);
-    goto l_join_iz;
-l_arm_f8_26:;
-    if (r_38_97 == 0ull) goto l_join_g8_7;
-    rattle_dealloc(r_xw_43);
     goto l_join_g8_7;
-l_join_iz:;
-    u8 *r_a7_44 = (ldp(slot_10) + (i64)((r_2f_2 * 48ull)));
-    stp(r_a7_44, ((u8 *)g_static_406));
-    st64((r_a7_44 + 8), 4ull);
-    stp((r_a7_44 + 16), r_xw_43);
-    st64((r_a7_44 + 24), r_38_96);
-    st64((r_a7_44 + 32), r_38_97);
-    st64((r_a7_44 + 40), r_38_98);
-    u64 r_7n_9 = (r_2f_2 + 1ull);
-    st64(r_x5_50, r_7n_9);
-    if (!r_ix_20) { r_w7_6 = r_7n_9; goto l_capnpc_zy_5; }
+l_join_p9:;
+    u8 *r_a7_46 = (ldp(slot_10) + (i64)((r_vc_1 * 48ull)));
+    stp(r_a7_46, ((u8 *)g_static_421));
+    st64((r_a7_46 + 8), 8ull);
+    stp((r_a7_46 + 16), r_pi);
+    st64((r_a7_46 + 24), r_67_1);
+    st64((r_a7_46 + 32), r_bw_1);
+    st64((r_a7_46 + 40), r_38_106);
+    u64 r_7n_9 = (r_vc_1 + 1ull);
+    st64(r_x5_55, r_7n_9);
+    if (!r_ix_21) { r_w7_5 = r_7n_9; goto l_capnpc_zy_6; }
 l_join_g8_7:;
     st8((slot_10 + 24), 1u);
-    r_w7_6 = ld64(r_x5_50);
-l_capnpc_zy_5:;
+    r_w7_5 = ld64(r_x5_55);
+l_capnpc_zy_6:;
+    r_xw_43 = ldp(slot_4);
+    r_38_107 = ld64(r_x5_51);
+    r_38_108 = ld64((slot_4 + 16));
+    r_38_109 = ld64((slot_4 + 24));
+    r_ix_22 = (u8)(r_38_109 & 1);
+    if (!(ld64(r_zd_43) == r_w7_5)) { r_k4 = r_w7_5; goto l_join_41; }
+    u8 r_89_35 = std_alloc_vec_Vec_grow_amortized_c7bbd78b6494f746(slot_10);
+    if (!r_89_35) goto l_arm_f8_29;
+    r_k4 = ld64(r_x5_55);
+    goto l_join_41;
+l_arm_f8_29:;
+    if (r_38_108 == 0ull) goto l_join_g8_8;
+    rattle_dealloc(r_xw_43);
+    goto l_join_g8_8;
+l_join_41:;
+    u8 *r_a7_47 = (ldp(slot_10) + (i64)((r_k4 * 48ull)));
+    stp(r_a7_47, ((u8 *)g_static_422));
+    st64((r_a7_47 + 8), 4ull);
+    stp((r_a7_47 + 16), r_xw_43);
+    st64((r_a7_47 + 24), r_38_107);
+    st64((r_a7_47 + 32), r_38_108);
+    st64((r_a7_47 + 40), r_38_109);
+    u64 r_7n_10 = (r_k4 + 1ull);
+    st64(r_x5_55, r_7n_10);
+    if (!r_ix_22) { r_w7_6 = r_7n_10; goto l_capnpc_zy_7; }
+l_join_g8_8:;
+    st8((slot_10 + 24), 1u);
+    r_w7_6 = ld64(r_x5_55);
+l_capnpc_zy_7:;
     r_xw_44 = ldp(slot_5);
-    r_38_99 = ld64(r_x5_47);
-    r_38_100 = ld64((slot_5 + 16));
-    r_38_101 = ld64((slot_5 + 24));
-    r_ix_21 = (u8)(r_38_101 & 1);
-    if (!(ld64(r_zd_36) == r_w7_6)) { r_xb = r_w7_6; goto l_join_xg; }
-    u8 r_89_32 = std_alloc_vec_Vec_grow_amortized_c7bbd78b6494f746(slot_10);
-    if (!r_89_32) goto l_arm_f8_27;
-    r_xb = ld64(r_x5_50);
-    goto l_join_xg;
-l_arm_f8_27:;
-    if (r_38_100 == 0ull) goto l_join_4s_6;
+    r_38_110 = ld64(r_x5_52);
+    r_38_111 = ld64((slot_5 + 16));
+    r_38_112 = ld64((slot_5 + 24));
+    r_ix_23 = (u8)(r_38_112 & 1);
+    if (!(ld64(r_zd_43) == r_w7_6)) { r_fq = r_w7_6; goto l_join_ce; }
+    u8 r_89_36 = std_alloc_vec_Vec_grow_amortized_c7bbd78b6494f746(slot_10);
+    if (!r_89_36) goto l_arm_f8_30;
+    r_fq = ld64(r_x5_55);
+    goto l_join_ce;
+l_arm_f8_30:;
+    if (r_38_111 == 0ull) goto l_join_4s_6;
     rattle_dealloc(r_xw_44);
     goto l_join_4s_6;
-l_join_xg:;
-    u8 *r_a7_45 = (ldp(slot_10) + (i64)((r_xb * 48ull)));
-    stp(r_a7_45, ((u8 *)g_static_407));
-    st64((r_a7_45 + 8), 4ull);
-    stp((r_a7_45 + 16), r_xw_44);
-    st64((r_a7_45 + 24), r_38_99);
-    st64((r_a7_45 + 32), r_38_100);
-    st64((r_a7_45 + 40), r_38_101);
-    st64(r_x5_50, (r_xb + 1ull));
-    if (!r_ix_21) goto l_capnpc_f7_4;
+l_join_ce:;
+    u8 *r_a7_48 = (ldp(slot_10) + (i64)((r_fq * 48ull)));
+    stp(r_a7_48, ((u8 *)g_static_423));
+    st64((r_a7_48 + 8), 4ull);
+    stp((r_a7_48 + 16), r_xw_44);
+    st64((r_a7_48 + 24), r_38_110);
+    st64((r_a7_48 + 32), r_38_111);
+    st64((r_a7_48 + 40), r_38_112);
+    st64(r_x5_55, (r_fq + 1ull));
+    if (!r_ix_23) goto l_capnpc_f7_4;
 l_join_4s_6:;
     st8((slot_10 + 24), 1u);
 l_capnpc_f7_4:;
-    capnpc_schema_text_Text_push_filled(slot_9, ((u8 *)g_static_399), 494ull, slot_10);
+    capnpc_schema_text_Text_push_filled(slot_9, ((u8 *)g_static_415), 494ull, slot_10);
     mv40(slot_8, slot_9);
-    if (r_ts_1) goto l_std_p4_1;
+    if (r_ts) goto l_std_p4_1;
     r_iu_1 = 0ull;
 l_join_9n_1:;
-    r_a7_46 = away(r_xw_40, (r_iu_1 * 24ull));
-    if (ld64((r_a7_46 + 16)) == 0ull) goto l_core_jc_21;
-    rattle_dealloc(ldp(r_a7_46));
-l_core_jc_21:;
-    u64 r_36_61 = (r_iu_1 + 1ull);
-    if (!(r_36_61 == r_38_88)) { r_iu_1 = r_36_61; goto l_join_9n_1; }
+    r_a7_49 = away(r_xw_40, (r_iu_1 * 24ull));
+    if (ld64((r_a7_49 + 16)) == 0ull) goto l_core_jc_22;
+    rattle_dealloc(ldp(r_a7_49));
+l_core_jc_22:;
+    u64 r_36_67 = (r_iu_1 + 1ull);
+    if (!(r_36_67 == r_38_99)) { r_iu_1 = r_36_67; goto l_join_9n_1; }
 l_std_p4_1:;
-    if (r_38_89 == 0ull) goto l_std_tl_1;
+    if (r_38_100 == 0ull) goto l_std_tl_1;
     rattle_dealloc(r_xw_40);
 l_std_tl_1:;
     r_xw_45 = ldp(slot_10);
-    r_38_102 = ld64(r_x5_50);
-    r_38_103 = ld64(r_zd_36);
-    if (r_38_102 == 0ull) goto l_std_nw_5;
-    r_01_20 = 0ull;
-l_join_1a_20:;
-    r_a7_47 = away(r_xw_45, (r_01_20 * 48ull));
-    if (ld64((r_a7_47 + 32)) == 0ull) goto l_core_jc_22;
-    rattle_dealloc(ldp((r_a7_47 + 16)));
-l_core_jc_22:;
-    u64 r_36_62 = (r_01_20 + 1ull);
-    if (!(r_36_62 == r_38_102)) { r_01_20 = r_36_62; goto l_join_1a_20; }
+    r_38_113 = ld64(r_x5_55);
+    r_38_114 = ld64(r_zd_43);
+    if (r_38_113 == 0ull) goto l_std_nw_5;
+    r_01_21 = 0ull;
+l_join_1a_22:;
+    r_a7_50 = away(r_xw_45, (r_01_21 * 48ull));
+    if (ld64((r_a7_50 + 32)) == 0ull) goto l_core_jc_23;
+    rattle_dealloc(ldp((r_a7_50 + 16)));
+l_core_jc_23:;
+    u64 r_36_68 = (r_01_21 + 1ull);
+    if (!(r_36_68 == r_38_113)) { r_01_21 = r_36_68; goto l_join_1a_22; }
 l_std_nw_5:;
-    if (!(r_38_103 == 0ull)) { r_2f_1 = r_xw_45; goto l_common_ht_2; }
+    if (!(r_38_114 == 0ull)) { r_2f_2 = r_xw_45; goto l_common_ht_3; }
 l_capnpc_cl_2:;
     mv40(slot_19, slot_8);
     r_xw_46 = ldp(slot_19);
-    u64 r_38_104 = ld64((slot_19 + 16));
+    u64 r_38_115 = ld64((slot_19 + 16));
     capnpc_layout_rust_piece_Piece_push_into(slot_19, a_2, a_4);
-    if (r_38_104 == 0ull) { common_rp = a_4; goto l_common_ie; }
+    if (r_38_115 == 0ull) { common_rp = a_4; goto l_common_ie; }
     rattle_dealloc(r_xw_46);
     common_rp = a_4;
     goto l_common_ie;
 l_arm_mo:;
     memset(slot_14, 0u, 40);
-    if (!(ld8(away(r_2b, 192ull)) == 1u)) goto l_arm_w5;
-    r_9r_3 = away(r_2b, 200ull);
-    r_uq = away(r_2b, 208ull);
-    r_rv_1 = ldp(r_uq);
+    if (!(ld8(away(r_2b, 192ull)) == 1u)) goto l_arm_e3;
+    r_9r_4 = away(r_2b, 200ull);
+    r_uq_1 = away(r_2b, 208ull);
+    r_rv_1 = ldp(r_uq_1);
     switch (ld8(r_rv_1)) {
     case 9u: goto l_arm_6l;
     case 10u: goto l_arm_6l;
@@ -27925,395 +28448,395 @@ l_arm_mo:;
     case 4u: goto l_after_3l;
     case 6u: goto l_after_3l;
     case 7u: goto l_after_3l;
-    default: goto l_noarm_e1_19;
+    default: goto l_noarm_e1_20;
     }
 l_arm_6l:;
-    if (ld32(r_9r_3) == 0u) { r_ib = 23ull; r_ky = ((u8 *)g_static_409); goto l_else_o5; }
+    if (ld32(r_9r_4) == 0u) { r_ib = 23ull; r_ky = ((u8 *)g_static_425); goto l_else_o5; }
     goto l_after_3l;
 l_arm_k8:;
-    r_qw_15 = ld64(away(r_2b, 216ull));
-    r_mb_15 = ldp(a_1);
-    r_qw_16 = ld64(r_e7);
-    if (r_qw_16 == 0ull) { r_ib = 19ull; r_ky = ((u8 *)g_static_150); goto l_else_o5; }
-    r_1y_15 = 0ull;
-    goto l_join_v4_15;
+    r_qw_17 = ld64(away(r_2b, 216ull));
+    r_mb_17 = ldp(a_1);
+    r_qw_18 = ld64(r_e7);
+    if (r_qw_18 == 0ull) { r_ib = 19ull; r_ky = ((u8 *)g_static_151); goto l_else_o5; }
+    r_1y_17 = 0ull;
+    goto l_join_v4_17;
 l_loop_uz:;
-    u64 r_36_63 = (r_1y_15 + 1ull);
-    if (r_36_63 == r_qw_16) { r_ib = 19ull; r_ky = ((u8 *)g_static_150); goto l_else_o5; }
-    r_1y_15 = r_36_63;
-l_join_v4_15:;
-    if (!(ld64(away(r_mb_15, (r_1y_15 * 280ull))) == r_qw_15)) goto l_loop_uz;
+    u64 r_36_69 = (r_1y_17 + 1ull);
+    if (r_36_69 == r_qw_18) { r_ib = 19ull; r_ky = ((u8 *)g_static_151); goto l_else_o5; }
+    r_1y_17 = r_36_69;
+l_join_v4_17:;
+    if (!(ld64(away(r_mb_17, (r_1y_17 * 280ull))) == r_qw_17)) goto l_loop_uz;
 l_after_3l:;
     r_ud = away(r_2b, 224ull);
-    if (ld8(r_ud) == 4u) { r_ib = 20ull; r_ky = ((u8 *)g_static_410); goto l_else_o5; }
+    if (ld8(r_ud) == 4u) { r_ib = 20ull; r_ky = ((u8 *)g_static_426); goto l_else_o5; }
     goto l_then_xs_1;
-l_noarm_e1_19:;
+l_noarm_e1_20:;
     UNREACHABLE();
-l_arm_w5:;
-    capnpc_layout_rust_generating_write_skipped(a_1, a_2, r_2b, ((u8 *)g_static_408), 32ull, a_4);
+l_arm_e3:;
+    capnpc_layout_rust_generating_write_skipped(a_1, a_2, r_2b, ((u8 *)g_static_424), 32ull, a_4);
     goto l_capnpc_kw;
 l_then_xs_1:;
     memset(slot_9, 0u, 40);
     memset(slot_12, 0u, 32);
     stp(slot_10, slot_1);
-    r_x5_51 = (slot_10 + 8);
-    memset(r_x5_51, 0u, 24);
+    r_x5_56 = (slot_10 + 8);
+    memset(r_x5_56, 0u, 24);
     st64((slot_10 + 32), ((a_4 > 0x3fffffffffffffffull) ? 0ull : usub_sat64(100ull, (u64)(a_4 << 2ull))));
-    r_5k = ld32(r_9r_3);
+    r_5k = ld32(r_9r_4);
     r_u1 = away(r_2b, 204ull);
     r_6e = away(r_2b, 216ull);
     u32 r_5k_1 = ld32(r_u1);
-    u64 r_qw_17 = ld64(r_6e);
+    u64 r_qw_19 = ld64(r_6e);
     memset((slot_8 + 8), 0u, 24);
     stp(slot_8, slot_1);
-    capnpc_schema_text_Values_put(slot_8, ((u8 *)g_static_144), 4ull, ldp(away(r_2b, 16ull)), ld64(away(r_2b, 24ull)));
-    capnpc_schema_text_Values_put(slot_8, ((u8 *)g_static_145), 4ull, ldp(away(r_2b, 88ull)), ld64(away(r_2b, 96ull)));
-    capnpc_schema_text_Values_put(slot_8, ((u8 *)g_static_146), 3ull, ldp(away(r_2b, 64ull)), ld64(away(r_2b, 72ull)));
+    capnpc_schema_text_Values_put(slot_8, ((u8 *)g_static_145), 4ull, ldp(away(r_2b, 16ull)), ld64(away(r_2b, 24ull)));
+    capnpc_schema_text_Values_put(slot_8, ((u8 *)g_static_146), 4ull, ldp(away(r_2b, 88ull)), ld64(away(r_2b, 96ull)));
+    capnpc_schema_text_Values_put(slot_8, ((u8 *)g_static_147), 3ull, ldp(away(r_2b, 64ull)), ld64(away(r_2b, 72ull)));
     mv32(slot_11, slot_8);
     u8 r_qh_2 = (a_4 == 0ull);
-    capnpc_schema_text_Values_put(slot_11, ((u8 *)g_static_147), 5ull, (r_qh_2 ? ((u8 *)g_static_148) : ((u8 *)g_static_120)), (r_qh_2 ? 35ull : 0ull));
-    u8 *r_mb_16 = ldp(a_1);
-    u64 r_qw_18 = ld64(r_e7);
+    capnpc_schema_text_Values_put(slot_11, ((u8 *)g_static_148), 5ull, (r_qh_2 ? ((u8 *)g_static_149) : ((u8 *)g_static_120)), (r_qh_2 ? 35ull : 0ull));
+    u8 *r_mb_18 = ldp(a_1);
+    u64 r_qw_20 = ld64(r_e7);
     st32(slot_13, r_5k);
     st32((slot_13 + 4), r_5k_1);
     stp((slot_13 + 8), r_rv_1);
-    st64((slot_13 + 16), r_qw_17);
-    capnpc_schema_model_type_name(slot_12, r_mb_16, r_qw_18, slot_13);
+    st64((slot_13 + 16), r_qw_19);
+    capnpc_schema_model_type_name(slot_12, r_mb_18, r_qw_20, slot_13);
     r_xw_47 = ldp(slot_12);
-    r_38_105 = ld64((slot_12 + 8));
-    r_38_106 = ld64((slot_12 + 16));
-    r_38_107 = ld64((slot_12 + 24));
-    r_ix_22 = (u8)(r_38_107 & 1);
-    r_zd_37 = (slot_11 + 16);
-    r_x5_52 = (slot_11 + 8);
-    u64 r_52_96 = ld64(r_x5_52);
-    if (!(ld64(r_zd_37) == r_52_96)) { r_hw = r_52_96; goto l_join_jn; }
-    u8 r_89_33 = std_alloc_vec_Vec_grow_amortized_c7bbd78b6494f746(slot_11);
-    if (!r_89_33) goto l_arm_f8_28;
-    r_hw = ld64(r_x5_52);
-    goto l_join_jn;
-l_arm_f8_28:;
-    if (r_38_106 == 0ull) goto l_join_4s_7;
+    r_38_116 = ld64((slot_12 + 8));
+    r_38_117 = ld64((slot_12 + 16));
+    r_38_118 = ld64((slot_12 + 24));
+    r_ix_24 = (u8)(r_38_118 & 1);
+    r_zd_44 = (slot_11 + 16);
+    r_x5_57 = (slot_11 + 8);
+    u64 r_52_109 = ld64(r_x5_57);
+    if (!(ld64(r_zd_44) == r_52_109)) { r_ol = r_52_109; goto l_join_de; }
+    u8 r_89_37 = std_alloc_vec_Vec_grow_amortized_c7bbd78b6494f746(slot_11);
+    if (!r_89_37) goto l_arm_f8_31;
+    r_ol = ld64(r_x5_57);
+    goto l_join_de;
+l_arm_f8_31:;
+    if (r_38_117 == 0ull) goto l_join_4s_7;
     rattle_dealloc(r_xw_47);
     goto l_join_4s_7;
-l_join_jn:;
-    u8 *r_a7_48 = (ldp(slot_11) + (i64)((r_hw * 48ull)));
-    stp(r_a7_48, ((u8 *)g_static_411));
-    st64((r_a7_48 + 8), 2ull);
-    stp((r_a7_48 + 16), r_xw_47);
-    st64((r_a7_48 + 24), r_38_105);
-    st64((r_a7_48 + 32), r_38_106);
-    st64((r_a7_48 + 40), r_38_107);
-    st64(r_x5_52, (r_hw + 1ull));
-    if (!r_ix_22) goto l_capnpc_cd;
+l_join_de:;
+    u8 *r_a7_51 = (ldp(slot_11) + (i64)((r_ol * 48ull)));
+    stp(r_a7_51, ((u8 *)g_static_427));
+    st64((r_a7_51 + 8), 2ull);
+    stp((r_a7_51 + 16), r_xw_47);
+    st64((r_a7_51 + 24), r_38_116);
+    st64((r_a7_51 + 32), r_38_117);
+    st64((r_a7_51 + 40), r_38_118);
+    st64(r_x5_57, (r_ol + 1ull));
+    if (!r_ix_24) goto l_capnpc_bp;
 l_join_4s_7:;
     st8((slot_11 + 24), 1u);
-l_capnpc_cd:;
-    capnpc_schema_text_Values_put_lines(slot_11, ((u8 *)g_static_412), 23ull);
-    r_lz_48 = ldp(away(r_2b, 112ull));
-    r_52_97 = ld64(away(r_2b, 120ull));
-    r_lz_49 = ldp(slot_11);
-    r_52_98 = ld64(r_x5_52);
-    r_iv_9 = r_52_98;
-l_loop_bp_9:;
-    if (r_iv_9 == 0ull) { r_ly_1 = 0ull; r_xb_1 = ((u8 *)g_static_120); goto l_capnpc_xl; }
-    u64 r_zn_17 = (r_iv_9 + 0xffffffffffffffffull);
-    r_2b_57 = away(r_lz_49, (r_zn_17 * 48ull));
-    u8 r_ka_2 = core_cmp_bytes_equal(ldp(r_2b_57), ld64((r_2b_57 + 8)), ((u8 *)g_static_161), 4ull);
-    if (!r_ka_2) { r_iv_9 = r_zn_17; goto l_loop_bp_9; }
-    r_ly_1 = ld64(away(r_2b_57, 24ull));
-    r_xb_1 = ldp(away(r_2b_57, 16ull));
+l_capnpc_bp:;
+    capnpc_schema_text_Values_put_lines(slot_11, ((u8 *)g_static_428), 23ull);
+    r_lz_53 = ldp(away(r_2b, 112ull));
+    r_52_110 = ld64(away(r_2b, 120ull));
+    r_lz_54 = ldp(slot_11);
+    r_52_111 = ld64(r_x5_57);
+    r_iv_11 = r_52_111;
+l_loop_bp_10:;
+    if (r_iv_11 == 0ull) { r_ly = 0ull; r_xb = ((u8 *)g_static_120); goto l_capnpc_xl; }
+    u64 r_zn_18 = (r_iv_11 + 0xffffffffffffffffull);
+    r_2b_65 = away(r_lz_54, (r_zn_18 * 48ull));
+    u8 r_bp_2 = core_cmp_bytes_equal(ldp(r_2b_65), ld64((r_2b_65 + 8)), ((u8 *)g_static_162), 4ull);
+    if (!r_bp_2) { r_iv_11 = r_zn_18; goto l_loop_bp_10; }
+    r_ly = ld64(away(r_2b_65, 24ull));
+    r_xb = ldp(away(r_2b_65, 16ull));
 l_capnpc_xl:;
-    capnpc_layout_rust_docs_push_docs(slot_10, ((u8 *)g_static_120), 0ull, r_lz_48, r_52_97, r_xb_1, r_ly_1);
+    capnpc_layout_rust_docs_push_docs(slot_10, ((u8 *)g_static_120), 0ull, r_lz_53, r_52_110, r_xb, r_ly);
     if (!(r_5k == 0u)) goto l_join_0d_2;
     if (ld8(r_rv_1) == 8u) goto l_join_0d_2;
     goto l_after_0d;
-l_common_ht_3:;
+l_common_ht_4:;
     rattle_dealloc(r_2f_3);
     goto l_capnpc_cl_3;
 l_join_0d_2:;
     memset(slot_4, 0u, 32);
-    r_5k_2 = ld32(r_9r_3);
+    r_5k_2 = ld32(r_9r_4);
     mv20(slot_3, r_u1);
     if (!(ld8(r_ud) == 3u)) goto l_arm_be;
-    r_lz_50 = ldp(away(r_2b, 232ull));
-    r_52_99 = ld64(away(r_2b, 240ull));
-    r_x5_53 = (slot_2 + 8);
-    memset(r_x5_53, 0u, 24);
+    r_lz_55 = ldp(away(r_2b, 232ull));
+    r_52_112 = ld64(away(r_2b, 240ull));
+    r_x5_58 = (slot_2 + 8);
+    memset(r_x5_58, 0u, 24);
     stp(slot_2, slot_1);
-    if (r_52_99 == 0ull) { r_rh = 0ull; r_hg = 0ull; r_je_1 = slot_1; goto l_capnpc_nb_1; }
-    r_zd_38 = (slot_2 + 16);
-    r_lk_25 = (slot_2 + 24);
+    if (r_52_112 == 0ull) { r_rh = 0ull; r_hg = 0ull; r_je = slot_1; goto l_capnpc_nb_1; }
+    r_zd_45 = (slot_2 + 16);
+    r_lk_30 = (slot_2 + 24);
     r_k0 = 0ull;
 l_join_w9:;
-    r_2b_58 = away(r_lz_50, r_k0);
-    r_52_100 = ld64(r_x5_53);
-    if (r_52_100 == 0ull) goto l_join_5m;
-    u64 r_52_101 = ld64(r_zd_38);
-    if (!((r_52_101 - r_52_100) < 2ull)) { r_b4 = r_52_101; r_ky_1 = r_52_100; goto l_join_p0; }
+    r_2b_66 = away(r_lz_55, r_k0);
+    r_52_113 = ld64(r_x5_58);
+    if (r_52_113 == 0ull) goto l_join_5m;
+    u64 r_52_114 = ld64(r_zd_45);
+    if (!((r_52_114 - r_52_113) < 2ull)) { r_b4 = r_52_114; r_ky_1 = r_52_113; goto l_join_p0; }
     u8 r_u4 = std_alloc_vec_Vec_grow_amortized_827889bc1b348a11(slot_2, 2ull);
     if (!r_u4) goto l_then_q5;
-    r_b4 = ld64(r_zd_38);
-    r_ky_1 = ld64(r_x5_53);
+    r_b4 = ld64(r_zd_45);
+    r_ky_1 = ld64(r_x5_58);
 l_join_p0:;
     r_x4 = (r_ky_1 + 2ull);
-    r_2b_59 = away(ldp(slot_2), r_ky_1);
-    if (((u64)(uptr)r_2b_59 - (u64)(uptr)((u8 *)g_static_135)) < 2ull) { r_rc_1 = 0ull; goto l_join_en; }
-    st16(r_2b_59, 8236u);
+    r_2b_67 = away(ldp(slot_2), r_ky_1);
+    if (((u64)(uptr)r_2b_67 - (u64)(uptr)((u8 *)g_static_135)) < 2ull) { r_rc_1 = 0ull; goto l_join_en; }
+    st16(r_2b_67, 8236u);
     goto l_std_71_1;
 l_join_en:;
-    st8((r_2b_59 + (i64)(r_rc_1)), ld8((((u8 *)g_static_135) + (i64)(r_rc_1))));
-    u64 r_c4_15 = (r_rc_1 + 1ull);
-    if (!(r_c4_15 == 2ull)) { r_rc_1 = r_c4_15; goto l_join_en; }
+    st8((r_2b_67 + (i64)(r_rc_1)), ld8((((u8 *)g_static_135) + (i64)(r_rc_1))));
+    u64 r_c4_18 = (r_rc_1 + 1ull);
+    if (!(r_c4_18 == 2ull)) { r_rc_1 = r_c4_18; goto l_join_en; }
 l_std_71_1:;
-    st64(r_x5_53, r_x4);
-    st64(r_zd_38, r_b4);
+    st64(r_x5_58, r_x4);
+    st64(r_zd_45, r_b4);
     goto l_join_5m;
 l_then_q5:;
-    st8(r_lk_25, 1u);
+    st8(r_lk_30, 1u);
 l_join_5m:;
-    capnpc_schema_text_Text_push_number(slot_2, (u64)ld8(r_2b_58));
-    u64 r_36_64 = (r_k0 + 1ull);
-    if (!(r_36_64 == r_52_99)) { r_k0 = r_36_64; goto l_join_w9; }
-    r_rh = ld64(r_zd_38);
-    r_hg = ld64(r_x5_53);
-    r_je_1 = ldp(slot_2);
+    capnpc_schema_text_Text_push_number(slot_2, (u64)ld8(r_2b_66));
+    u64 r_36_70 = (r_k0 + 1ull);
+    if (!(r_36_70 == r_52_112)) { r_k0 = r_36_70; goto l_join_w9; }
+    r_rh = ld64(r_zd_45);
+    r_hg = ld64(r_x5_58);
+    r_je = ldp(slot_2);
 l_capnpc_nb_1:;
-    r_jw = r_je_1;
+    r_jw = r_je;
     r_l3 = r_hg;
     r_d5 = r_rh;
     goto l_join_a4;
 l_arm_be:;
-    r_x5_54 = (slot_2 + 8);
-    memset(r_x5_54, 0u, 24);
+    r_x5_59 = (slot_2 + 8);
+    memset(r_x5_59, 0u, 24);
     stp(slot_2, slot_1);
-    r_zd_39 = (slot_2 + 16);
-    r_lk_26 = (slot_2 + 24);
+    r_zd_46 = (slot_2 + 16);
+    r_lk_31 = (slot_2 + 24);
     r_qn = 0ull;
     r_id_9 = 0ull;
     goto l_join_f8;
-l_join_0m:;
-    r_qn = ld64(r_x5_54);
-    r_id_9 = r_c4_16;
+l_join_0m_1:;
+    r_qn = ld64(r_x5_59);
+    r_id_9 = r_c4_19;
 l_join_f8:;
     if (r_qn == 0ull) goto l_join_1l;
-    u64 r_52_102 = ld64(r_zd_39);
-    if (!((r_52_102 - r_qn) < 2ull)) { r_b4_1 = r_52_102; r_ky_2 = r_qn; goto l_join_p0_1; }
+    u64 r_52_115 = ld64(r_zd_46);
+    if (!((r_52_115 - r_qn) < 2ull)) { r_b4_1 = r_52_115; r_ky_2 = r_qn; goto l_join_p0_1; }
     u8 r_u4_1 = std_alloc_vec_Vec_grow_amortized_827889bc1b348a11(slot_2, 2ull);
     if (!r_u4_1) goto l_then_q5_1;
-    r_b4_1 = ld64(r_zd_39);
-    r_ky_2 = ld64(r_x5_54);
+    r_b4_1 = ld64(r_zd_46);
+    r_ky_2 = ld64(r_x5_59);
 l_join_p0_1:;
     r_x4_1 = (r_ky_2 + 2ull);
-    r_2b_60 = away(ldp(slot_2), r_ky_2);
-    if (((u64)(uptr)r_2b_60 - (u64)(uptr)((u8 *)g_static_135)) < 2ull) { r_rc_2 = 0ull; goto l_join_en_1; }
-    st16(r_2b_60, 8236u);
+    r_2b_68 = away(ldp(slot_2), r_ky_2);
+    if (((u64)(uptr)r_2b_68 - (u64)(uptr)((u8 *)g_static_135)) < 2ull) { r_rc_2 = 0ull; goto l_join_en_1; }
+    st16(r_2b_68, 8236u);
     goto l_std_71_2;
 l_join_en_1:;
-    st8((r_2b_60 + (i64)(r_rc_2)), ld8((((u8 *)g_static_135) + (i64)(r_rc_2))));
-    u64 r_c4_17 = (r_rc_2 + 1ull);
-    if (!(r_c4_17 == 2ull)) { r_rc_2 = r_c4_17; goto l_join_en_1; }
+    st8((r_2b_68 + (i64)(r_rc_2)), ld8((((u8 *)g_static_135) + (i64)(r_rc_2))));
+    u64 r_c4_20 = (r_rc_2 + 1ull);
+    if (!(r_c4_20 == 2ull)) { r_rc_2 = r_c4_20; goto l_join_en_1; }
 l_std_71_2:;
-    st64(r_x5_54, r_x4_1);
-    st64(r_zd_39, r_b4_1);
+    st64(r_x5_59, r_x4_1);
+    st64(r_zd_46, r_b4_1);
     goto l_join_1l;
 l_then_q5_1:;
-    st8(r_lk_26, 1u);
+    st8(r_lk_31, 1u);
 l_join_1l:;
     capnpc_schema_text_Text_push_number(slot_2, 0ull);
-    r_c4_16 = (r_id_9 + 1ull);
-    if (!(r_c4_16 == 8ull)) goto l_join_0m;
+    r_c4_19 = (r_id_9 + 1ull);
+    if (!(r_c4_19 == 8ull)) goto l_join_0m_1;
     r_jw = ldp(slot_2);
-    r_l3 = ld64(r_x5_54);
-    r_d5 = ld64(r_zd_39);
+    r_l3 = ld64(r_x5_59);
+    r_d5 = ld64(r_zd_46);
 l_join_a4:;
-    u8 *r_mb_17 = ldp(a_1);
-    u64 r_qw_19 = ld64(r_e7);
-    u64 r_52_103 = ld64(away(r_2b, 8ull));
+    u8 *r_mb_19 = ldp(a_1);
+    u64 r_qw_21 = ld64(r_e7);
+    u64 r_52_116 = ld64(away(r_2b, 8ull));
     st32(slot_5, r_5k_2);
     mv20((slot_5 + 4), slot_3);
-    capnpc_layout_rust_types_element_type(slot_4, r_mb_17, r_qw_19, r_52_103, slot_5, ((u8 *)g_static_415), 7ull);
+    capnpc_layout_rust_types_element_type(slot_4, r_mb_19, r_qw_21, r_52_116, slot_5, ((u8 *)g_static_431), 7ull);
     r_xw_48 = ldp(slot_4);
-    r_38_108 = ld64((slot_4 + 8));
-    r_38_109 = ld64((slot_4 + 16));
-    r_38_110 = ld64((slot_4 + 24));
-    r_ix_23 = (u8)(r_38_110 & 1);
-    if (!(ld64(r_zd_37) == r_52_98)) { r_3j = r_lz_49; r_zy = r_52_98; goto l_join_0l; }
-    u8 r_89_34 = std_alloc_vec_Vec_grow_amortized_c7bbd78b6494f746(slot_11);
-    if (!r_89_34) goto l_arm_f8_29;
-    r_3j = ldp(slot_11);
-    r_zy = ld64(r_x5_52);
-    goto l_join_0l;
-l_arm_f8_29:;
-    if (r_38_109 == 0ull) goto l_join_4s_8;
+    r_38_119 = ld64((slot_4 + 8));
+    r_38_120 = ld64((slot_4 + 16));
+    r_38_121 = ld64((slot_4 + 24));
+    r_ix_25 = (u8)(r_38_121 & 1);
+    if (!(ld64(r_zd_44) == r_52_111)) { r_o1 = r_lz_54; r_4h_1 = r_52_111; goto l_join_go; }
+    u8 r_89_38 = std_alloc_vec_Vec_grow_amortized_c7bbd78b6494f746(slot_11);
+    if (!r_89_38) goto l_arm_f8_32;
+    r_o1 = ldp(slot_11);
+    r_4h_1 = ld64(r_x5_57);
+    goto l_join_go;
+l_arm_f8_32:;
+    if (r_38_120 == 0ull) goto l_join_4s_8;
     rattle_dealloc(r_xw_48);
     goto l_join_4s_8;
-l_join_0l:;
-    u8 *r_a7_49 = (r_3j + (i64)((r_zy * 48ull)));
-    stp(r_a7_49, ((u8 *)g_static_197));
-    st64((r_a7_49 + 8), 7ull);
-    stp((r_a7_49 + 16), r_xw_48);
-    st64((r_a7_49 + 24), r_38_108);
-    st64((r_a7_49 + 32), r_38_109);
-    st64((r_a7_49 + 40), r_38_110);
-    st64(r_x5_52, (r_zy + 1ull));
-    if (!r_ix_23) goto l_capnpc_ev;
+l_join_go:;
+    u8 *r_a7_52 = (r_o1 + (i64)((r_4h_1 * 48ull)));
+    stp(r_a7_52, ((u8 *)g_static_198));
+    st64((r_a7_52 + 8), 7ull);
+    stp((r_a7_52 + 16), r_xw_48);
+    st64((r_a7_52 + 24), r_38_119);
+    st64((r_a7_52 + 32), r_38_120);
+    st64((r_a7_52 + 40), r_38_121);
+    st64(r_x5_57, (r_4h_1 + 1ull));
+    if (!r_ix_25) goto l_capnpc_6h;
 l_join_4s_8:;
     st8((slot_11 + 24), 1u);
-l_capnpc_ev:;
+l_capnpc_6h:;
     u8 r_2p_3 = (r_5k_2 == 0u);
-    capnpc_schema_text_Values_put_lines(slot_11, (r_2p_3 ? ((u8 *)g_static_417) : ((u8 *)g_static_416)), (r_2p_3 ? 48ull : 74ull));
-    capnpc_schema_text_Text_push_filled(slot_10, ((u8 *)g_static_418), 36ull, slot_11);
-    capnpc_layout_rust_piece_Piece_push_array(slot_10, ((u8 *)g_static_5), 4ull, ((u8 *)g_static_171), 25ull, r_jw, r_l3);
-    capnpc_schema_text_Text_push_filled(slot_10, ((u8 *)g_static_419), 13ull, slot_11);
+    capnpc_schema_text_Values_put_lines(slot_11, (r_2p_3 ? ((u8 *)g_static_433) : ((u8 *)g_static_432)), (r_2p_3 ? 48ull : 74ull));
+    capnpc_schema_text_Text_push_filled(slot_10, ((u8 *)g_static_434), 36ull, slot_11);
+    capnpc_layout_rust_piece_Piece_push_array(slot_10, ((u8 *)g_static_5), 4ull, ((u8 *)g_static_172), 25ull, r_jw, r_l3);
+    capnpc_schema_text_Text_push_filled(slot_10, ((u8 *)g_static_435), 13ull, slot_11);
     if (r_d5 == 0ull) goto l_capnpc_f3_1;
     rattle_dealloc(r_jw);
 l_capnpc_f3_1:;
     mv40(slot_9, slot_10);
     r_xw_49 = ldp(slot_11);
-    r_38_111 = ld64(r_x5_52);
-    r_38_112 = ld64(r_zd_37);
-    if (r_38_111 == 0ull) goto l_std_nw_6;
-    r_01_21 = 0ull;
-l_join_1a_21:;
-    r_a7_50 = away(r_xw_49, (r_01_21 * 48ull));
-    if (ld64((r_a7_50 + 32)) == 0ull) goto l_core_jc_23;
-    rattle_dealloc(ldp((r_a7_50 + 16)));
-l_core_jc_23:;
-    u64 r_36_65 = (r_01_21 + 1ull);
-    if (!(r_36_65 == r_38_111)) { r_01_21 = r_36_65; goto l_join_1a_21; }
+    r_38_122 = ld64(r_x5_57);
+    r_38_123 = ld64(r_zd_44);
+    if (r_38_122 == 0ull) goto l_std_nw_6;
+    r_01_22 = 0ull;
+l_join_1a_23:;
+    r_a7_53 = away(r_xw_49, (r_01_22 * 48ull));
+    if (ld64((r_a7_53 + 32)) == 0ull) goto l_core_jc_24;
+    rattle_dealloc(ldp((r_a7_53 + 16)));
+l_core_jc_24:;
+    u64 r_36_71 = (r_01_22 + 1ull);
+    if (!(r_36_71 == r_38_122)) { r_01_22 = r_36_71; goto l_join_1a_23; }
 l_std_nw_6:;
-    if (r_38_112 == 0ull) goto l_capnpc_cl_3;
+    if (r_38_123 == 0ull) goto l_capnpc_cl_3;
     r_2f_3 = r_xw_49;
-    goto l_common_ht_3;
+    goto l_common_ht_4;
 l_after_0d:;
     memset(slot_5, 0u, 32);
     memset(slot_6, 0u, 32);
     memset(slot_7, 0u, 24);
-    r_qw_20 = ld64(r_9r_3);
-    r_rv_2 = ldp(r_uq);
-    r_qw_21 = ld64(r_6e);
+    r_qw_22 = ld64(r_9r_4);
+    r_rv_2 = ldp(r_uq_1);
+    r_qw_23 = ld64(r_6e);
     switch (ld8(r_ud)) {
     case 1u: goto l_join_gr;
     case 2u: goto l_arm_uu;
-    default: { r_fh = ((u8 *)g_static_420); r_6u = 1ull; r_do = 0ull; r_oo = 0ull; r_as = ((u8 *)g_static_120); goto l_join_nm_1; }
+    default: { r_jt = ((u8 *)g_static_436); r_ry_1 = 1ull; r_hy = 0ull; r_xq = 0ull; r_mi = ((u8 *)g_static_120); goto l_join_42; }
     }
 l_join_gr:;
-    r_fh = ldp(away(r_2b, 232ull));
-    r_6u = ld64(away(r_2b, 240ull));
-    r_do = ld64(away(r_2b, 256ull));
-    r_oo = 0ull;
-    r_as = ((u8 *)g_static_120);
-    goto l_join_nm_1;
+    r_jt = ldp(away(r_2b, 232ull));
+    r_ry_1 = ld64(away(r_2b, 240ull));
+    r_hy = ld64(away(r_2b, 256ull));
+    r_xq = 0ull;
+    r_mi = ((u8 *)g_static_120);
+    goto l_join_42;
 l_arm_uu:;
-    r_fh = ((u8 *)g_static_420);
-    r_6u = 1ull;
-    r_do = 0ull;
-    r_oo = ld64(away(r_2b, 240ull));
-    r_as = ldp(away(r_2b, 232ull));
-l_join_nm_1:;
-    capnpc_schema_text_Values_put(slot_11, ((u8 *)g_static_220), 7ull, r_fh, r_6u);
-    u8 *r_x5_55 = (slot_2 + 8);
-    memset(r_x5_55, 0u, 24);
+    r_jt = ((u8 *)g_static_436);
+    r_ry_1 = 1ull;
+    r_hy = 0ull;
+    r_xq = ld64(away(r_2b, 240ull));
+    r_mi = ldp(away(r_2b, 232ull));
+l_join_42:;
+    capnpc_schema_text_Values_put(slot_11, ((u8 *)g_static_221), 7ull, r_jt, r_ry_1);
+    u8 *r_x5_60 = (slot_2 + 8);
+    memset(r_x5_60, 0u, 24);
     stp(slot_2, slot_1);
-    capnpc_schema_text_Text_push_number(slot_2, r_do);
+    capnpc_schema_text_Text_push_number(slot_2, r_hy);
     r_xw_50 = ldp(slot_2);
-    r_38_113 = ld64(r_x5_55);
-    r_38_114 = ld64((slot_2 + 16));
-    r_38_115 = ld64((slot_2 + 24));
-    r_ix_24 = (u8)(r_38_115 & 1);
-    u64 r_52_104 = ld64(r_x5_52);
-    if (!(ld64(r_zd_37) == r_52_104)) { r_up = r_52_104; goto l_join_ne; }
-    u8 r_89_35 = std_alloc_vec_Vec_grow_amortized_c7bbd78b6494f746(slot_11);
-    if (!r_89_35) goto l_arm_f8_30;
-    r_up = ld64(r_x5_52);
-    goto l_join_ne;
-l_arm_f8_30:;
-    if (r_38_114 == 0ull) goto l_join_g8_8;
+    r_38_124 = ld64(r_x5_60);
+    r_38_125 = ld64((slot_2 + 16));
+    r_38_126 = ld64((slot_2 + 24));
+    r_ix_26 = (u8)(r_38_126 & 1);
+    u64 r_52_117 = ld64(r_x5_57);
+    if (!(ld64(r_zd_44) == r_52_117)) { r_7i_1 = r_52_117; goto l_join_k8; }
+    u8 r_89_39 = std_alloc_vec_Vec_grow_amortized_c7bbd78b6494f746(slot_11);
+    if (!r_89_39) goto l_arm_f8_33;
+    r_7i_1 = ld64(r_x5_57);
+    goto l_join_k8;
+l_arm_f8_33:;
+    if (r_38_125 == 0ull) goto l_join_g8_9;
     rattle_dealloc(r_xw_50);
-    goto l_join_g8_8;
-l_join_ne:;
-    u8 *r_a7_51 = (ldp(slot_11) + (i64)((r_up * 48ull)));
-    stp(r_a7_51, ((u8 *)g_static_221));
-    st64((r_a7_51 + 8), 4ull);
-    stp((r_a7_51 + 16), r_xw_50);
-    st64((r_a7_51 + 24), r_38_113);
-    st64((r_a7_51 + 32), r_38_114);
-    st64((r_a7_51 + 40), r_38_115);
-    u64 r_7n_10 = (r_up + 1ull);
-    st64(r_x5_52, r_7n_10);
-    if (!r_ix_24) { r_2p_4 = r_7n_10; goto l_capnpc_6t; }
-l_join_g8_8:;
-    st8((slot_11 + 24), 1u);
-    r_2p_4 = ld64(r_x5_52);
-l_capnpc_6t:;
-    capnpc_layout_rust_forms_byte_string(slot_6, r_as, r_oo);
-    r_xw_51 = ldp(slot_6);
-    r_38_116 = ld64((slot_6 + 8));
-    r_38_117 = ld64((slot_6 + 16));
-    r_38_118 = ld64((slot_6 + 24));
-    r_ix_25 = (u8)(r_38_118 & 1);
-    if (!(ld64(r_zd_37) == r_2p_4)) { r_vc = r_2p_4; goto l_join_p9; }
-    u8 r_89_36 = std_alloc_vec_Vec_grow_amortized_c7bbd78b6494f746(slot_11);
-    if (!r_89_36) goto l_arm_f8_31;
-    r_vc = ld64(r_x5_52);
-    goto l_join_p9;
-l_arm_f8_31:;
-    if (r_38_117 == 0ull) goto l_join_g8_9;
-    rattle_dealloc(r_xw_51);
     goto l_join_g8_9;
-l_join_p9:;
-    u8 *r_a7_52 = (ldp(slot_11) + (i64)((r_vc * 48ull)));
-    stp(r_a7_52, ((u8 *)g_static_421));
-    st64((r_a7_52 + 8), 5ull);
-    stp((r_a7_52 + 16), r_xw_51);
-    st64((r_a7_52 + 24), r_38_116);
-    st64((r_a7_52 + 32), r_38_117);
-    st64((r_a7_52 + 40), r_38_118);
-    u64 r_7n_11 = (r_vc + 1ull);
-    st64(r_x5_52, r_7n_11);
-    if (!r_ix_25) { r_jw_1 = r_7n_11; goto l_capnpc_a4; }
+l_join_k8:;
+    u8 *r_a7_54 = (ldp(slot_11) + (i64)((r_7i_1 * 48ull)));
+    stp(r_a7_54, ((u8 *)g_static_222));
+    st64((r_a7_54 + 8), 4ull);
+    stp((r_a7_54 + 16), r_xw_50);
+    st64((r_a7_54 + 24), r_38_124);
+    st64((r_a7_54 + 32), r_38_125);
+    st64((r_a7_54 + 40), r_38_126);
+    u64 r_7n_11 = (r_7i_1 + 1ull);
+    st64(r_x5_57, r_7n_11);
+    if (!r_ix_26) { r_2p_4 = r_7n_11; goto l_capnpc_6t; }
 l_join_g8_9:;
     st8((slot_11 + 24), 1u);
-    r_jw_1 = ld64(r_x5_52);
+    r_2p_4 = ld64(r_x5_57);
+l_capnpc_6t:;
+    capnpc_layout_rust_forms_byte_string(slot_6, r_mi, r_xq);
+    r_xw_51 = ldp(slot_6);
+    r_38_127 = ld64((slot_6 + 8));
+    r_38_128 = ld64((slot_6 + 16));
+    r_38_129 = ld64((slot_6 + 24));
+    r_ix_27 = (u8)(r_38_129 & 1);
+    if (!(ld64(r_zd_44) == r_2p_4)) { r_h8 = r_2p_4; goto l_join_yt; }
+    u8 r_89_40 = std_alloc_vec_Vec_grow_amortized_c7bbd78b6494f746(slot_11);
+    if (!r_89_40) goto l_arm_f8_34;
+    r_h8 = ld64(r_x5_57);
+    goto l_join_yt;
+l_arm_f8_34:;
+    if (r_38_128 == 0ull) goto l_join_g8_10;
+    rattle_dealloc(r_xw_51);
+    goto l_join_g8_10;
+l_join_yt:;
+    u8 *r_a7_55 = (ldp(slot_11) + (i64)((r_h8 * 48ull)));
+    stp(r_a7_55, ((u8 *)g_static_437));
+    st64((r_a7_55 + 8), 5ull);
+    stp((r_a7_55 + 16), r_xw_51);
+    st64((r_a7_55 + 24), r_38_127);
+    st64((r_a7_55 + 32), r_38_128);
+    st64((r_a7_55 + 40), r_38_129);
+    u64 r_7n_12 = (r_h8 + 1ull);
+    st64(r_x5_57, r_7n_12);
+    if (!r_ix_27) { r_jw_1 = r_7n_12; goto l_capnpc_a4; }
+l_join_g8_10:;
+    st8((slot_11 + 24), 1u);
+    r_jw_1 = ld64(r_x5_57);
 l_capnpc_a4:;
-    u8 *r_mb_18 = ldp(a_1);
-    u64 r_qw_22 = ld64(r_e7);
-    u64 r_52_105 = ld64(away(r_2b, 8ull));
-    st64(slot_7, r_qw_20);
+    u8 *r_mb_20 = ldp(a_1);
+    u64 r_qw_24 = ld64(r_e7);
+    u64 r_52_118 = ld64(away(r_2b, 8ull));
+    st64(slot_7, r_qw_22);
     stp((slot_7 + 8), r_rv_2);
-    st64((slot_7 + 16), r_qw_21);
-    capnpc_layout_rust_types_scalar_type(slot_5, r_mb_18, r_qw_22, r_52_105, slot_7);
+    st64((slot_7 + 16), r_qw_23);
+    capnpc_layout_rust_types_scalar_type(slot_5, r_mb_20, r_qw_24, r_52_118, slot_7);
     r_xw_52 = ldp(slot_5);
-    r_38_119 = ld64((slot_5 + 8));
-    r_38_120 = ld64((slot_5 + 16));
-    r_38_121 = ld64((slot_5 + 24));
-    r_ix_26 = (u8)(r_38_121 & 1);
-    if (!(ld64(r_zd_37) == r_jw_1)) { r_sk = r_jw_1; goto l_join_7q; }
-    u8 r_89_37 = std_alloc_vec_Vec_grow_amortized_c7bbd78b6494f746(slot_11);
-    if (!r_89_37) goto l_arm_f8_32;
-    r_sk = ld64(r_x5_52);
-    goto l_join_7q;
-l_arm_f8_32:;
-    if (r_38_120 == 0ull) goto l_join_4s_9;
+    r_38_130 = ld64((slot_5 + 8));
+    r_38_131 = ld64((slot_5 + 16));
+    r_38_132 = ld64((slot_5 + 24));
+    r_ix_28 = (u8)(r_38_132 & 1);
+    if (!(ld64(r_zd_44) == r_jw_1)) { r_za = r_jw_1; goto l_join_gg; }
+    u8 r_89_41 = std_alloc_vec_Vec_grow_amortized_c7bbd78b6494f746(slot_11);
+    if (!r_89_41) goto l_arm_f8_35;
+    r_za = ld64(r_x5_57);
+    goto l_join_gg;
+l_arm_f8_35:;
+    if (r_38_131 == 0ull) goto l_join_4s_9;
     rattle_dealloc(r_xw_52);
     goto l_join_4s_9;
-l_join_7q:;
-    u8 *r_a7_53 = (ldp(slot_11) + (i64)((r_sk * 48ull)));
-    stp(r_a7_53, ((u8 *)g_static_196));
-    st64((r_a7_53 + 8), 4ull);
-    stp((r_a7_53 + 16), r_xw_52);
-    st64((r_a7_53 + 24), r_38_119);
-    st64((r_a7_53 + 32), r_38_120);
-    st64((r_a7_53 + 40), r_38_121);
-    st64(r_x5_52, (r_sk + 1ull));
-    if (!r_ix_26) goto l_capnpc_1v;
+l_join_gg:;
+    u8 *r_a7_56 = (ldp(slot_11) + (i64)((r_za * 48ull)));
+    stp(r_a7_56, ((u8 *)g_static_197));
+    st64((r_a7_56 + 8), 4ull);
+    stp((r_a7_56 + 16), r_xw_52);
+    st64((r_a7_56 + 24), r_38_130);
+    st64((r_a7_56 + 32), r_38_131);
+    st64((r_a7_56 + 40), r_38_132);
+    st64(r_x5_57, (r_za + 1ull));
+    if (!r_ix_28) goto l_capnpc_1v;
 l_join_4s_9:;
     st8((slot_11 + 24), 1u);
 l_capnpc_1v:;
     switch (ld8(r_rv_2)) {
-    case 0u: { r_hd = ((u8 *)g_static_422); r_2n = 8ull; goto l_join_kn; }
-    case 1u: goto l_arm_p9;
+    case 0u: { r_hd = ((u8 *)g_static_438); r_2n = 8ull; goto l_join_kn; }
+    case 1u: goto l_arm_i3;
     case 4u: goto l_arm_qu;
     case 5u: goto l_arm_qu_1;
     case 6u: goto l_arm_qu_2;
@@ -28323,206 +28846,206 @@ l_capnpc_1v:;
     case 8u: goto l_arm_qu_4;
     case 9u: goto l_arm_qu_4;
     case 10u: goto l_arm_qu_4;
-    default: goto l_noarm_e1_20;
+    default: goto l_noarm_e1_21;
     }
-l_arm_p9:;
-    u8 r_ts_2 = (r_do == 0ull);
-    r_hd = (r_ts_2 ? ((u8 *)g_static_423) : ((u8 *)g_static_424));
-    r_2n = (r_ts_2 ? 11ull : 10ull);
+l_arm_i3:;
+    u8 r_ts_1 = (r_hy == 0ull);
+    r_hd = (r_ts_1 ? ((u8 *)g_static_439) : ((u8 *)g_static_440));
+    r_2n = (r_ts_1 ? 11ull : 10ull);
     goto l_join_kn;
 l_arm_qu:;
-    r_hd = ((u8 *)g_static_425);
+    r_hd = ((u8 *)g_static_441);
     r_2n = 31ull;
     goto l_join_kn;
 l_arm_qu_1:;
-    r_hd = ((u8 *)g_static_426);
+    r_hd = ((u8 *)g_static_442);
     r_2n = 29ull;
     goto l_join_kn;
 l_arm_qu_2:;
-    r_hd = ((u8 *)g_static_427);
+    r_hd = ((u8 *)g_static_443);
     r_2n = 32ull;
     goto l_join_kn;
 l_arm_qu_3:;
-    r_hd = ((u8 *)g_static_428);
+    r_hd = ((u8 *)g_static_444);
     r_2n = 24ull;
     goto l_join_kn;
 l_arm_qu_4:;
-    r_hd = ((u8 *)g_static_429);
+    r_hd = ((u8 *)g_static_445);
     r_2n = 15ull;
 l_join_kn:;
     capnpc_schema_text_Values_put_lines(slot_11, r_hd, r_2n);
-    if (!(ld8(r_rv_2) == 5u)) goto l_capnpc_he;
-    r_mb_19 = ldp(a_1);
-    r_qw_23 = ld64(r_e7);
-    if (r_qw_23 == 0ull) goto l_capnpc_he;
-    r_1y_16 = 0ull;
-    goto l_join_v4_16;
-l_loop_sd_8:;
-    u64 r_36_66 = (r_1y_16 + 1ull);
-    if (r_36_66 == r_qw_23) goto l_capnpc_he;
-    r_1y_16 = r_36_66;
-l_join_v4_16:;
-    r_tr_8 = (r_1y_16 * 280ull);
-    if (!(ld64(away(r_mb_19, r_tr_8)) == r_qw_21)) goto l_loop_sd_8;
-    r_2b_61 = away(r_mb_19, r_tr_8);
-    if (!(ld8(away(r_2b_61, 184ull)) == 2u)) goto l_capnpc_he;
-    r_lz_51 = ldp(away(r_2b_61, 192ull));
-    r_52_106 = ld64(away(r_2b_61, 200ull));
+    if (!(ld8(r_rv_2) == 5u)) goto l_capnpc_gn_1;
+    r_mb_21 = ldp(a_1);
+    r_qw_25 = ld64(r_e7);
+    if (r_qw_25 == 0ull) goto l_capnpc_gn_1;
+    r_1y_18 = 0ull;
+    goto l_join_v4_18;
+l_loop_sd_9:;
+    u64 r_36_72 = (r_1y_18 + 1ull);
+    if (r_36_72 == r_qw_25) goto l_capnpc_gn_1;
+    r_1y_18 = r_36_72;
+l_join_v4_18:;
+    r_tr_9 = (r_1y_18 * 280ull);
+    if (!(ld64(away(r_mb_21, r_tr_9)) == r_qw_23)) goto l_loop_sd_9;
+    r_2b_69 = away(r_mb_21, r_tr_9);
+    if (!(ld8(away(r_2b_69, 184ull)) == 2u)) goto l_capnpc_gn_1;
+    r_lz_56 = ldp(away(r_2b_69, 192ull));
+    r_52_119 = ld64(away(r_2b_69, 200ull));
     memset(slot_4, 0u, 32);
     stp(slot_2, slot_1);
-    r_x5_56 = (slot_2 + 8);
-    memset(r_x5_56, 0u, 24);
-    if (!(r_52_106 == 0ull)) goto l_join_70;
-    goto l_capnpc_he;
+    r_x5_61 = (slot_2 + 8);
+    memset(r_x5_61, 0u, 24);
+    if (!(r_52_119 == 0ull)) goto l_join_70;
+    goto l_capnpc_gn_1;
 l_join_70:;
-    r_zd_40 = (slot_3 + 16);
+    r_zd_47 = (slot_3 + 16);
     r_wq_2 = 0ull;
 l_join_og_2:;
-    u8 *r_2b_62 = away(r_lz_51, (r_wq_2 * 24ull));
-    capnpc_schema_names_capitalized(slot_4, ldp(r_2b_62), ld64(away(r_2b_62, 8ull)));
+    u8 *r_2b_70 = away(r_lz_56, (r_wq_2 * 24ull));
+    capnpc_schema_names_capitalized(slot_4, ldp(r_2b_70), ld64(away(r_2b_70, 8ull)));
     mv32(slot_3, slot_4);
     capnpc_schema_names_Names_make_unique_and_add(slot_2, slot_3);
-    if (ld64(r_zd_40) == 0ull) goto l_std_sd_1;
+    if (ld64(r_zd_47) == 0ull) goto l_std_sd_1;
     rattle_dealloc(ldp(slot_3));
 l_std_sd_1:;
-    u64 r_36_67 = (r_wq_2 + 1ull);
-    if (!(r_36_67 == r_52_106)) { r_wq_2 = r_36_67; goto l_join_og_2; }
-    r_38_122 = ld64(r_x5_56);
+    u64 r_36_73 = (r_wq_2 + 1ull);
+    if (!(r_36_73 == r_52_119)) { r_wq_2 = r_36_73; goto l_join_og_2; }
+    r_38_133 = ld64(r_x5_61);
     r_xw_53 = ldp(slot_2);
-    r_38_123 = ld64((slot_2 + 16));
-    if (!(r_do < r_38_122)) goto l_join_2x_1;
-    r_2b_63 = away(r_xw_53, (r_do * 24ull));
-    r_52_107 = ld64(away(r_2b_63, 8ull));
-    if (r_52_107 == 0ull) goto l_join_qu_1;
-    capnpc_schema_text_Values_put(slot_11, ((u8 *)g_static_187), 7ull, ldp(r_2b_63), r_52_107);
-    capnpc_schema_text_Values_put_lines(slot_11, ((u8 *)g_static_430), 23ull);
+    r_38_134 = ld64((slot_2 + 16));
+    if (!(r_hy < r_38_133)) goto l_join_2x_1;
+    r_2b_71 = away(r_xw_53, (r_hy * 24ull));
+    r_52_120 = ld64(away(r_2b_71, 8ull));
+    if (r_52_120 == 0ull) goto l_join_qu_1;
+    capnpc_schema_text_Values_put(slot_11, ((u8 *)g_static_188), 7ull, ldp(r_2b_71), r_52_120);
+    capnpc_schema_text_Values_put_lines(slot_11, ((u8 *)g_static_446), 23ull);
     r_iu_2 = 0ull;
 l_join_9n_2:;
-    r_a7_54 = away(r_xw_53, (r_iu_2 * 24ull));
-    if (ld64((r_a7_54 + 16)) == 0ull) goto l_core_jc_24;
-    rattle_dealloc(ldp(r_a7_54));
-l_core_jc_24:;
-    u64 r_36_68 = (r_iu_2 + 1ull);
-    if (!(r_36_68 == r_38_122)) { r_iu_2 = r_36_68; goto l_join_9n_2; }
-    if (r_38_123 == 0ull) goto l_capnpc_he;
+    r_a7_57 = away(r_xw_53, (r_iu_2 * 24ull));
+    if (ld64((r_a7_57 + 16)) == 0ull) goto l_core_jc_25;
+    rattle_dealloc(ldp(r_a7_57));
+l_core_jc_25:;
+    u64 r_36_74 = (r_iu_2 + 1ull);
+    if (!(r_36_74 == r_38_133)) { r_iu_2 = r_36_74; goto l_join_9n_2; }
+    if (r_38_134 == 0ull) goto l_capnpc_gn_1;
     rattle_dealloc(r_xw_53);
-    goto l_capnpc_he;
+    goto l_capnpc_gn_1;
 l_join_2x_1:;
-    if (r_38_122 == 0ull) goto l_std_ab_9;
+    if (r_38_133 == 0ull) goto l_std_ab_9;
 l_join_qu_1:;
     r_iu_3 = 0ull;
 l_join_9n_3:;
-    r_a7_55 = away(r_xw_53, (r_iu_3 * 24ull));
-    if (ld64((r_a7_55 + 16)) == 0ull) goto l_core_jc_25;
-    rattle_dealloc(ldp(r_a7_55));
-l_core_jc_25:;
-    u64 r_36_69 = (r_iu_3 + 1ull);
-    if (!(r_36_69 == r_38_122)) { r_iu_3 = r_36_69; goto l_join_9n_3; }
+    r_a7_58 = away(r_xw_53, (r_iu_3 * 24ull));
+    if (ld64((r_a7_58 + 16)) == 0ull) goto l_core_jc_26;
+    rattle_dealloc(ldp(r_a7_58));
+l_core_jc_26:;
+    u64 r_36_75 = (r_iu_3 + 1ull);
+    if (!(r_36_75 == r_38_133)) { r_iu_3 = r_36_75; goto l_join_9n_3; }
 l_std_ab_9:;
-    if (r_38_123 == 0ull) goto l_capnpc_he;
+    if (r_38_134 == 0ull) goto l_capnpc_gn_1;
     rattle_dealloc(r_xw_53);
-    goto l_capnpc_he;
-l_noarm_e1_20:;
+    goto l_capnpc_gn_1;
+l_noarm_e1_21:;
     UNREACHABLE();
-l_capnpc_he:;
-    capnpc_schema_text_Values_put_lines(slot_11, ((u8 *)g_static_413), 41ull);
-    r_lz_52 = ldp(slot_11);
-    r_52_108 = ld64(r_x5_52);
-    r_m1_3 = r_52_108;
+l_capnpc_gn_1:;
+    capnpc_schema_text_Values_put_lines(slot_11, ((u8 *)g_static_429), 41ull);
+    r_lz_57 = ldp(slot_11);
+    r_52_121 = ld64(r_x5_57);
+    r_m1_3 = r_52_121;
 l_loop_mq_3:;
     if (!(r_m1_3 == 0ull)) goto l_arm_ap;
-    u8 *r_zd_41 = (slot_10 + 16);
-    u64 r_52_109 = ld64(r_x5_51);
-    u8 *r_lz_53 = ldp(slot_10);
-    u64 r_52_110 = ld64(r_zd_41);
-    memset(r_x5_51, 0u, 16);
-    r_b8 = away(r_lz_53, r_52_109);
-    r_ab = r_lz_53;
-    r_n0 = r_52_109;
-    r_qs = r_52_110;
+    u8 *r_zd_48 = (slot_10 + 16);
+    u64 r_52_122 = ld64(r_x5_56);
+    u8 *r_lz_58 = ldp(slot_10);
+    u64 r_52_123 = ld64(r_zd_48);
+    memset(r_x5_56, 0u, 16);
+    r_b8 = away(r_lz_58, r_52_122);
+    r_ab = r_lz_58;
+    r_n0 = r_52_122;
+    r_qs = r_52_123;
     r_rp = 0ull;
     r_qg = ((u8 *)g_static_120);
-    r_c2 = r_zd_41;
+    r_c2 = r_zd_48;
     goto l_apart_bq;
 l_arm_ap:;
-    u64 r_zn_18 = (r_m1_3 + 0xffffffffffffffffull);
-    r_2b_64 = away(r_lz_52, (r_zn_18 * 48ull));
-    u8 r_0o = core_cmp_bytes_equal(ldp(r_2b_64), ld64((r_2b_64 + 8)), ((u8 *)g_static_147), 5ull);
-    if (!r_0o) { r_m1_3 = r_zn_18; goto l_loop_mq_3; }
-    r_lz_54 = ldp(away(r_2b_64, 16ull));
-    r_52_111 = ld64(away(r_2b_64, 24ull));
-    r_zd_42 = (slot_10 + 16);
-    u64 r_52_112 = ld64(r_zd_42);
-    u64 r_52_113 = ld64(r_x5_51);
-    if (!(r_52_111 > (r_52_112 - r_52_113))) { r_c3_2 = r_52_112; r_cf_3 = r_52_113; goto l_join_9z_2; }
-    u8 r_jl_10 = std_alloc_vec_Vec_grow_amortized_827889bc1b348a11(slot_10, r_52_111);
-    if (!r_jl_10) goto l_then_v7;
-    r_c3_2 = ld64(r_zd_42);
-    r_cf_3 = ld64(r_x5_51);
+    u64 r_zn_19 = (r_m1_3 + 0xffffffffffffffffull);
+    r_2b_72 = away(r_lz_57, (r_zn_19 * 48ull));
+    u8 r_32 = core_cmp_bytes_equal(ldp(r_2b_72), ld64((r_2b_72 + 8)), ((u8 *)g_static_148), 5ull);
+    if (!r_32) { r_m1_3 = r_zn_19; goto l_loop_mq_3; }
+    r_lz_59 = ldp(away(r_2b_72, 16ull));
+    r_52_124 = ld64(away(r_2b_72, 24ull));
+    r_zd_49 = (slot_10 + 16);
+    u64 r_52_125 = ld64(r_zd_49);
+    u64 r_52_126 = ld64(r_x5_56);
+    if (!(r_52_124 > (r_52_125 - r_52_126))) { r_c3_2 = r_52_125; r_cf_3 = r_52_126; goto l_join_9z_2; }
+    u8 r_jl_12 = std_alloc_vec_Vec_grow_amortized_827889bc1b348a11(slot_10, r_52_124);
+    if (!r_jl_12) goto l_then_v7;
+    r_c3_2 = ld64(r_zd_49);
+    r_cf_3 = ld64(r_x5_56);
 l_join_9z_2:;
-    r_5q_11 = (r_cf_3 + r_52_111);
-    r_lz_55 = ldp(slot_10);
-    memset(r_x5_51, 0u, 16);
-    r_2b_65 = away(r_lz_55, r_cf_3);
-    if (((u64)(uptr)r_2b_65 - (u64)(uptr)r_lz_54) < r_52_111) { r_il_10 = 0ull; goto l_join_fh_10; }
-    r_b8 = r_2b_65;
-    r_ab = r_lz_55;
-    r_n0 = r_5q_11;
+    r_5q_14 = (r_cf_3 + r_52_124);
+    r_lz_60 = ldp(slot_10);
+    memset(r_x5_56, 0u, 16);
+    r_2b_73 = away(r_lz_60, r_cf_3);
+    if (((u64)(uptr)r_2b_73 - (u64)(uptr)r_lz_59) < r_52_124) { r_il_12 = 0ull; goto l_join_fh_12; }
+    r_b8 = r_2b_73;
+    r_ab = r_lz_60;
+    r_n0 = r_5q_14;
     r_qs = r_c3_2;
-    r_rp = r_52_111;
-    r_qg = r_lz_54;
-    r_c2 = r_zd_42;
+    r_rp = r_52_124;
+    r_qg = r_lz_59;
+    r_c2 = r_zd_49;
 l_apart_bq:;
     memmove_or_none(r_b8, r_qg, r_rp);
-    r_rk = r_ab;
+    r_rk_1 = r_ab;
     r_hx = r_n0;
     r_rf = r_qs;
-    r_hw_1 = r_c2;
+    r_hw = r_c2;
     goto l_std_ol;
-l_join_fh_10:;
-    st8((r_2b_65 + (i64)(r_il_10)), ld8((r_lz_54 + (i64)(r_il_10))));
-    u64 r_36_70 = (r_il_10 + 1ull);
-    if (r_36_70 == r_52_111) { r_rk = r_lz_55; r_hx = r_5q_11; r_rf = r_c3_2; r_hw_1 = r_zd_42; goto l_std_ol; }
-    r_il_10 = r_36_70;
-    goto l_join_fh_10;
+l_join_fh_12:;
+    st8((r_2b_73 + (i64)(r_il_12)), ld8((r_lz_59 + (i64)(r_il_12))));
+    u64 r_36_76 = (r_il_12 + 1ull);
+    if (r_36_76 == r_52_124) { r_rk_1 = r_lz_60; r_hx = r_5q_14; r_rf = r_c3_2; r_hw = r_zd_49; goto l_std_ol; }
+    r_il_12 = r_36_76;
+    goto l_join_fh_12;
 l_std_ol:;
-    stp(slot_10, r_rk);
-    st64(r_x5_51, r_hx);
-    st64(r_hw_1, r_rf);
+    stp(slot_10, r_rk_1);
+    st64(r_x5_56, r_hx);
+    st64(r_hw, r_rf);
     goto l_loop_yz_1;
 l_then_v7:;
     st8((slot_10 + 24), 1u);
 l_loop_yz_1:;
-    r_iv_10 = r_52_108;
-l_loop_bp_10:;
-    if (r_iv_10 == 0ull) { r_3c = 0ull; r_aa = ((u8 *)g_static_120); goto l_capnpc_qu; }
-    u64 r_zn_19 = (r_iv_10 + 0xffffffffffffffffull);
-    r_2b_66 = away(r_lz_52, (r_zn_19 * 48ull));
-    u8 r_oc_1 = core_cmp_bytes_equal(ldp(r_2b_66), ld64((r_2b_66 + 8)), ((u8 *)g_static_169), 5ull);
-    if (!r_oc_1) { r_iv_10 = r_zn_19; goto l_loop_bp_10; }
-    r_3c = ld64(away(r_2b_66, 24ull));
-    r_aa = ldp(away(r_2b_66, 16ull));
+    r_iv_12 = r_52_121;
+l_loop_bp_11:;
+    if (r_iv_12 == 0ull) { r_3c = 0ull; r_aa = ((u8 *)g_static_120); goto l_capnpc_qu; }
+    u64 r_zn_20 = (r_iv_12 + 0xffffffffffffffffull);
+    r_2b_74 = away(r_lz_57, (r_zn_20 * 48ull));
+    u8 r_4h_2 = core_cmp_bytes_equal(ldp(r_2b_74), ld64((r_2b_74 + 8)), ((u8 *)g_static_170), 5ull);
+    if (!r_4h_2) { r_iv_12 = r_zn_20; goto l_loop_bp_11; }
+    r_3c = ld64(away(r_2b_74, 24ull));
+    r_aa = ldp(away(r_2b_74, 16ull));
 l_capnpc_qu:;
     capnpc_layout_rust_piece_Piece_push_constant(slot_10, ((u8 *)g_static_120), 0ull, r_aa, r_3c);
     mv40(slot_9, slot_10);
-    r_38_124 = ld64(r_zd_37);
-    if (r_52_108 == 0ull) goto l_std_nw_7;
-    r_01_22 = 0ull;
-l_join_1a_22:;
-    r_a7_56 = away(r_lz_52, (r_01_22 * 48ull));
-    if (ld64((r_a7_56 + 32)) == 0ull) goto l_core_jc_26;
-    rattle_dealloc(ldp((r_a7_56 + 16)));
-l_core_jc_26:;
-    u64 r_36_71 = (r_01_22 + 1ull);
-    if (!(r_36_71 == r_52_108)) { r_01_22 = r_36_71; goto l_join_1a_22; }
+    r_38_135 = ld64(r_zd_44);
+    if (r_52_121 == 0ull) goto l_std_nw_7;
+    r_01_23 = 0ull;
+l_join_1a_24:;
+    r_a7_59 = away(r_lz_57, (r_01_23 * 48ull));
+    if (ld64((r_a7_59 + 32)) == 0ull) goto l_core_jc_27;
+    rattle_dealloc(ldp((r_a7_59 + 16)));
+l_core_jc_27:;
+    u64 r_36_77 = (r_01_23 + 1ull);
+    if (!(r_36_77 == r_52_121)) { r_01_23 = r_36_77; goto l_join_1a_24; }
 l_std_nw_7:;
-    if (!(r_38_124 == 0ull)) { r_2f_3 = r_lz_52; goto l_common_ht_3; }
+    if (!(r_38_135 == 0ull)) { r_2f_3 = r_lz_57; goto l_common_ht_4; }
 l_capnpc_cl_3:;
     mv40(slot_14, slot_9);
     r_xw_54 = ldp(slot_14);
-    u64 r_38_125 = ld64((slot_14 + 16));
+    u64 r_38_136 = ld64((slot_14 + 16));
     capnpc_layout_rust_piece_Piece_push_into(slot_14, a_2, a_4);
-    if (r_38_125 == 0ull) goto l_capnpc_kw;
+    if (r_38_136 == 0ull) goto l_capnpc_kw;
     rattle_dealloc(r_xw_54);
     goto l_capnpc_kw;
 l_else_o5:;
@@ -28532,22 +29055,22 @@ l_capnpc_kw:;
     goto l_common_ie;
 l_arm_rb:;
     capnpc_layout_rust_generating_write_skipped(a_1, a_2, r_2b, ldp(away(r_2b, 192ull)), ld64(away(r_2b, 200ull)), a_4);
-    r_mb_20 = ldp(a_1);
-    r_qw_24 = ld64(r_e7);
-    r_52_114 = ld64(r_2b);
-    if (r_qw_24 == 0ull) { common_p0 = a_4; goto l_capnpc_kw_1; }
+    r_mb_22 = ldp(a_1);
+    r_qw_26 = ld64(r_e7);
+    r_52_127 = ld64(r_2b);
+    if (r_qw_26 == 0ull) { common_p0 = a_4; goto l_capnpc_kw_1; }
     r_ls = 0ull;
     goto l_join_jh;
-l_loop_sd_9:;
-    u64 r_36_72 = (r_ls + 1ull);
-    if (r_36_72 == r_qw_24) { common_p0 = a_4; goto l_capnpc_kw_1; }
-    r_ls = r_36_72;
+l_loop_sd_10:;
+    u64 r_36_78 = (r_ls + 1ull);
+    if (r_36_78 == r_qw_26) { common_p0 = a_4; goto l_capnpc_kw_1; }
+    r_ls = r_36_78;
 l_join_jh:;
-    if (!(ld64(away(away(r_mb_20, (r_ls * 280ull)), 8ull)) == r_52_114)) goto l_loop_sd_9;
+    if (!(ld64(away(away(r_mb_22, (r_ls * 280ull)), 8ull)) == r_52_127)) goto l_loop_sd_10;
     r_yt = uadd_sat64(a_4, 1ull);
-    u64 r_52_115 = ld64(r_08);
-    u64 r_52_116 = ld64(r_rq);
-    if (!(r_52_115 == r_52_116)) { r_w4_2 = r_52_115; r_61_2 = r_52_116; goto l_join_e4_2; }
+    u64 r_52_128 = ld64(r_08);
+    u64 r_52_129 = ld64(r_rq);
+    if (!(r_52_128 == r_52_129)) { r_w4_2 = r_52_128; r_61_2 = r_52_129; goto l_join_e4_2; }
     u8 r_qf_1 = std_alloc_vec_Vec_grow_amortized_827889bc1b348a11(a_2, 1ull);
     if (!r_qf_1) goto l_then_pm_2;
     r_w4_2 = ld64(r_08);
@@ -28564,30 +29087,30 @@ l_then_pm_2:;
 l_capnpc_g9:;
     capnpc_layout_rust_generating_open_module(a_2, r_2b, a_4);
     stp(slot_2, slot_1);
-    r_x5_57 = (slot_2 + 8);
-    memset(r_x5_57, 0u, 24);
+    r_x5_62 = (slot_2 + 8);
+    memset(r_x5_62, 0u, 24);
     st64((slot_2 + 32), ((r_yt > 0x3fffffffffffffffull) ? 0ull : usub_sat64(100ull, (u64)(r_yt << 2ull))));
-    r_zd_43 = (slot_2 + 16);
-    u8 r_01_23 = std_alloc_vec_Vec_grow_amortized_827889bc1b348a11(slot_2, 39ull);
-    if (!r_01_23) goto l_then_g8;
-    u64 r_38_126 = ld64(r_x5_57);
-    r_38_127 = ld64(r_zd_43);
-    r_n2 = (r_38_126 + 39ull);
-    r_2b_67 = away(ldp(slot_2), r_38_126);
-    if (((u64)(uptr)r_2b_67 - (u64)(uptr)((u8 *)g_static_432)) < 39ull) { r_bn = 0ull; goto l_join_zo; }
-    mv39(r_2b_67, ((u8 *)g_static_432));
+    r_zd_50 = (slot_2 + 16);
+    u8 r_01_24 = std_alloc_vec_Vec_grow_amortized_827889bc1b348a11(slot_2, 39ull);
+    if (!r_01_24) goto l_then_g8;
+    u64 r_38_137 = ld64(r_x5_62);
+    r_38_138 = ld64(r_zd_50);
+    r_n2 = (r_38_137 + 39ull);
+    r_2b_75 = away(ldp(slot_2), r_38_137);
+    if (((u64)(uptr)r_2b_75 - (u64)(uptr)((u8 *)g_static_448)) < 39ull) { r_mj = 0ull; goto l_join_oa; }
+    mv39(r_2b_75, ((u8 *)g_static_448));
     goto l_std_7l_1;
-l_join_zo:;
-    st8((r_2b_67 + (i64)(r_bn)), ld8((((u8 *)g_static_432) + (i64)(r_bn))));
-    u64 r_c4_18 = (r_bn + 1ull);
-    if (!(r_c4_18 == 39ull)) { r_bn = r_c4_18; goto l_join_zo; }
+l_join_oa:;
+    st8((r_2b_75 + (i64)(r_mj)), ld8((((u8 *)g_static_448) + (i64)(r_mj))));
+    u64 r_c4_21 = (r_mj + 1ull);
+    if (!(r_c4_21 == 39ull)) { r_mj = r_c4_21; goto l_join_oa; }
 l_std_7l_1:;
-    st64(r_x5_57, r_n2);
-    r_cl = r_38_127;
+    st64(r_x5_62, r_n2);
+    r_cl = r_38_138;
     goto l_capnpc_gs;
 l_then_g8:;
     st8((slot_2 + 24), 1u);
-    r_cl = ld64(r_zd_43);
+    r_cl = ld64(r_zd_50);
 l_capnpc_gs:;
     capnpc_layout_rust_piece_Piece_push_into(slot_2, a_2, r_yt);
     if (r_cl == 0ull) { common_p0 = r_yt; goto l_capnpc_kw_1; }
@@ -28705,8 +29228,8 @@ static void capnpc_layout_rust_readers_push_getter(u8 *a_1, u8 *a_2, u64 a_3, u8
     u8 *r_fx_1;
     u64 r_iv;
     u8 *r_2b;
-    u64 r_g3;
-    u8 *r_s7;
+    u64 r_ui;
+    u8 *r_f1;
     r_rq = away(a_1, 8ull);
     r_52 = ld64(r_rq);
     if (r_52 == 0ull) goto l_capnpc_hd;
@@ -28730,18 +29253,18 @@ l_capnpc_hd:;
     r_fx_1 = ldp(a_4);
     r_iv = ld64(away(a_4, 8ull));
 l_loop_bp:;
-    if (r_iv == 0ull) { r_g3 = 0ull; r_s7 = ((u8 *)g_static_120); goto l_capnpc_ax; }
+    if (r_iv == 0ull) { r_ui = 0ull; r_f1 = ((u8 *)g_static_120); goto l_capnpc_u6; }
     u64 r_zn = (r_iv + 0xffffffffffffffffull);
     r_2b = away(r_fx_1, (r_zn * 48ull));
-    u8 r_2b_1 = core_cmp_bytes_equal(ldp(r_2b), ld64((r_2b + 8)), ((u8 *)g_static_161), 4ull);
-    if (!r_2b_1) { r_iv = r_zn; goto l_loop_bp; }
-    r_g3 = ld64(away(r_2b, 24ull));
-    r_s7 = ldp(away(r_2b, 16ull));
-l_capnpc_ax:;
-    capnpc_layout_rust_docs_push_docs(a_1, ((u8 *)g_static_5), 4ull, a_2, a_3, r_s7, r_g3);
-    capnpc_layout_rust_piece_Piece_push_signature(a_1, ((u8 *)g_static_162), 18ull, a_4);
-    capnpc_layout_rust_piece_Piece_push_default(a_1, ((u8 *)g_static_163), 8ull, a_4);
-    capnpc_schema_text_Text_push_filled(a_1, ((u8 *)g_static_164), 21ull, a_4);
+    u8 r_7c = core_cmp_bytes_equal(ldp(r_2b), ld64((r_2b + 8)), ((u8 *)g_static_162), 4ull);
+    if (!r_7c) { r_iv = r_zn; goto l_loop_bp; }
+    r_ui = ld64(away(r_2b, 24ull));
+    r_f1 = ldp(away(r_2b, 16ull));
+l_capnpc_u6:;
+    capnpc_layout_rust_docs_push_docs(a_1, ((u8 *)g_static_5), 4ull, a_2, a_3, r_f1, r_ui);
+    capnpc_layout_rust_piece_Piece_push_signature(a_1, ((u8 *)g_static_163), 18ull, a_4);
+    capnpc_layout_rust_piece_Piece_push_default(a_1, ((u8 *)g_static_164), 8ull, a_4);
+    capnpc_schema_text_Text_push_filled(a_1, ((u8 *)g_static_165), 21ull, a_4);
     return;
 }
 
@@ -28793,10 +29316,11 @@ static void capnpc_layout_rust_piece_Piece_push_signature(u8 *a_1, u8 *a_2, u64 
     u64 r_5q;
     u8 *r_2b_3;
     u64 r_il;
-    u8 *r_lz_1;
     u64 r_52;
     u8 *r_08;
     u8 *r_rq_1;
+    u8 *r_px;
+    u8 *r_lz_1;
     u64 r_18;
     u64 r_2p;
     u64 r_5q_1;
@@ -28804,8 +29328,6 @@ static void capnpc_layout_rust_piece_Piece_push_signature(u8 *a_1, u8 *a_2, u64 
     u8 *r_2b_4;
     u64 r_il_1;
     u8 r_i8;
-    u8 *r_08_1;
-    u8 *r_rq_2;
     u64 r_w4;
     u64 r_61;
     u8 *r_fx_3;
@@ -28831,10 +29353,10 @@ static void capnpc_layout_rust_piece_Piece_push_signature(u8 *a_1, u8 *a_2, u64 
     u8 r_47_1;
     u64 r_p5;
     u64 r_q9;
-    u64 r_d1;
-    u8 *r_t3;
-    u8 t_5m;
-    u64 r_hd;
+    u64 r_ea;
+    u8 *r_7q;
+    u8 t_r7;
+    u64 r_ud;
     u64 r_id;
     u64 r_52_5;
     u8 *r_lz_2;
@@ -28857,8 +29379,8 @@ l_loop_bp:;
     if (r_iv == 0ull) { r_tm = 0ull; r_mz = ((u8 *)g_static_120); goto l_capnpc_br; }
     u64 r_zn = (r_iv + 0xffffffffffffffffull);
     r_2b = away(r_fx, (r_zn * 48ull));
-    u8 r_3q = core_cmp_bytes_equal(ldp(r_2b), ld64((r_2b + 8)), ((u8 *)g_static_165), 6ull);
-    if (!r_3q) { r_iv = r_zn; goto l_loop_bp; }
+    u8 r_fw = core_cmp_bytes_equal(ldp(r_2b), ld64((r_2b + 8)), ((u8 *)g_static_166), 6ull);
+    if (!r_fw) { r_iv = r_zn; goto l_loop_bp; }
     r_tm = ld64(away(r_2b, 24ull));
     r_mz = ldp(away(r_2b, 16ull));
 l_capnpc_br:;
@@ -28964,19 +29486,19 @@ l_then_36:;
     st8(r_lk, 1u);
 l_capnpc_3d:;
     if (t_gu) { r_90 = r_f2; r_zg = r_nw; r_ha = 1u; goto l_arm_qe; }
-    capnpc_schema_text_Text_push_filled(slot_4, ((u8 *)g_static_166), 15ull, a_4);
-    r_lz_1 = ldp(slot_4);
+    capnpc_schema_text_Text_push_filled(slot_4, ((u8 *)g_static_167), 15ull, a_4);
     r_52 = ld64(r_x5);
-    if (r_52 > uadd_sat64(ld64(away(a_1, 32ull)), 1ull)) goto l_join_f5;
-    goto l_then_cl;
+    r_08 = away(a_1, 16ull);
+    r_rq_1 = away(a_1, 8ull);
+    if (r_52 > uadd_sat64(ld64(away(a_1, 32ull)), 1ull)) goto l_join_td;
+    goto l_then_pp;
 l_common_fo:;
-    rattle_dealloc(r_lz_1);
+    rattle_dealloc(r_px);
 l_common_68:;
     return;
-l_then_cl:;
-    r_08 = away(a_1, 16ull);
+l_then_pp:;
+    r_lz_1 = ldp(slot_4);
     u64 r_52_1 = ld64(r_08);
-    r_rq_1 = away(a_1, 8ull);
     u64 r_52_2 = ld64(r_rq_1);
     if (!(r_52 > (r_52_1 - r_52_2))) { r_18 = r_52_1; r_2p = r_52_2; goto l_join_ep; }
     u8 r_py = std_alloc_vec_Vec_grow_amortized_827889bc1b348a11(a_1, r_52);
@@ -29003,24 +29525,23 @@ l_std_us:;
 l_capnpc_zj:;
     st8(away(a_1, 24ull), (u8)(ld8(r_lk) | r_i8));
     if (ld64(r_zd_2) == 0ull) goto l_common_68;
+    r_px = r_lz_1;
     goto l_common_fo;
-l_join_f5:;
+l_join_td:;
     capnpc_schema_text_Text_push_filled(a_1, a_2, a_3, a_4);
-    r_08_1 = away(a_1, 16ull);
-    u64 r_52_3 = ld64(r_08_1);
-    r_rq_2 = away(a_1, 8ull);
-    u64 r_52_4 = ld64(r_rq_2);
+    u64 r_52_3 = ld64(r_08);
+    u64 r_52_4 = ld64(r_rq_1);
     if (!(r_52_3 == r_52_4)) { r_w4 = r_52_3; r_61 = r_52_4; goto l_join_e4; }
     u8 r_y4 = std_alloc_vec_Vec_grow_amortized_827889bc1b348a11(a_1, 1ull);
     if (!r_y4) goto l_then_pm;
-    r_w4 = ld64(r_08_1);
-    r_61 = ld64(r_rq_2);
+    r_w4 = ld64(r_08);
+    r_61 = ld64(r_rq_1);
 l_join_e4:;
     u8 *r_fx_2 = ldp(a_1);
     st8(away(r_fx_2, r_61), 10u);
     stp(a_1, r_fx_2);
-    st64(r_rq_2, (r_61 + 1ull));
-    st64(r_08_1, r_w4);
+    st64(r_rq_1, (r_61 + 1ull));
+    st64(r_08, r_w4);
     goto l_capnpc_6k;
 l_then_pm:;
     st8(away(a_1, 24ull), 1u);
@@ -29031,8 +29552,8 @@ l_loop_7z:;
     if (r_5a == 0ull) { r_1m = 0ull; r_15 = ((u8 *)g_static_120); goto l_arm_u0; }
     u64 r_zn_1 = (r_5a + 0xffffffffffffffffull);
     r_2b_5 = away(r_fx_3, (r_zn_1 * 48ull));
-    u8 r_3q_1 = core_cmp_bytes_equal(ldp(r_2b_5), ld64((r_2b_5 + 8)), ((u8 *)g_static_165), 6ull);
-    if (!r_3q_1) { r_5a = r_zn_1; goto l_loop_7z; }
+    u8 r_fw_1 = core_cmp_bytes_equal(ldp(r_2b_5), ld64((r_2b_5 + 8)), ((u8 *)g_static_166), 6ull);
+    if (!r_fw_1) { r_5a = r_zn_1; goto l_loop_7z; }
     r_1m = ld64(away(r_2b_5, 24ull));
     r_15 = ldp(away(r_2b_5, 16ull));
 l_arm_u0:;
@@ -29058,8 +29579,8 @@ l_arm_u0:;
     r_ha_1 = 0u;
     goto l_arm_qe_1;
 l_loop_hh:;
-    if (t_5m) { r_90_1 = r_d1; r_zg_1 = r_t3; r_ha_1 = 1u; goto l_arm_qe_1; }
-    goto l_after_tc;
+    if (t_r7) { r_90_1 = r_ea; r_zg_1 = r_7q; r_ha_1 = 1u; goto l_arm_qe_1; }
+    goto l_after_ib;
 l_arm_qe_1:;
     memset(slot_2, 0u, 24);
     core_iter_pattern_CharPattern_first_in(slot_2, r_nk_1, r_zg_1, r_90_1);
@@ -29080,41 +29601,41 @@ l_arm_lu:;
     st64(slot_5, 1ull);
     stp(r_x5_3, r_2b_6);
     st64(r_zd_3, r_t9_1);
-    r_d1 = r_t9_1;
-    r_t3 = r_2b_6;
-    t_5m = 1u;
-    r_hd = r_p5;
-    goto l_arm_e9;
+    r_ea = r_t9_1;
+    r_7q = r_2b_6;
+    t_r7 = 1u;
+    r_ud = r_p5;
+    goto l_arm_b6;
 l_arm_w3:;
     st8(r_lk_1, 1u);
     memset(slot_5, 0u, 24);
-    r_d1 = 0ull;
-    r_t3 = ((u8 *)0);
-    t_5m = 0u;
-    r_hd = r_90_1;
-l_arm_e9:;
-    stp(slot_6, ((u8 *)g_static_163));
+    r_ea = 0ull;
+    r_7q = ((u8 *)0);
+    t_r7 = 0u;
+    r_ud = r_90_1;
+l_arm_b6:;
+    stp(slot_6, ((u8 *)g_static_164));
     st64(r_x5_5, 8ull);
     stp(r_zd_5, r_zg_1);
-    st64(r_lk_2, r_hd);
-    stp(r_89, ((u8 *)g_static_167));
+    st64(r_lk_2, r_ud);
+    stp(r_89, ((u8 *)g_static_168));
     st64(r_a8, 2ull);
     r_id = 0ull;
 l_join_ge:;
     u8 *r_2b_7 = away(slot_6, (u64)(r_id << 4ull));
     r_52_5 = ld64(away(r_2b_7, 8ull));
     r_lz_2 = ldp(r_2b_7);
-    u64 r_52_6 = ld64(r_08_1);
-    u64 r_52_7 = ld64(r_rq_2);
+    u64 r_52_6 = ld64(r_08);
+    u64 r_52_7 = ld64(r_rq_1);
     if (!(r_52_5 > (r_52_6 - r_52_7))) { r_18_1 = r_52_6; r_2p_1 = r_52_7; goto l_join_ep_1; }
     u8 r_py_1 = std_alloc_vec_Vec_grow_amortized_827889bc1b348a11(a_1, r_52_5);
     if (!r_py_1) goto l_then_1w;
-    r_18_1 = ld64(r_08_1);
-    r_2p_1 = ld64(r_rq_2);
+    r_18_1 = ld64(r_08);
+    r_2p_1 = ld64(r_rq_1);
 l_join_ep_1:;
     r_5q_2 = (r_2p_1 + r_52_5);
     r_fx_4 = ldp(a_1);
-    memset(r_rq_2, 0u, 16);
+    memset(r_rq_1, 0u, 16);
     r_2b_8 = away(r_fx_4, r_2p_1);
     if (((u64)(uptr)r_2b_8 - (u64)(uptr)r_lz_2) < r_52_5) { r_il_2 = 0ull; goto l_join_fh_2; }
     memmove_or_none(r_2b_8, r_lz_2, r_52_5);
@@ -29125,8 +29646,8 @@ l_join_fh_2:;
     if (!(r_36_2 == r_52_5)) { r_il_2 = r_36_2; goto l_join_fh_2; }
 l_std_92:;
     stp(a_1, r_fx_4);
-    st64(r_rq_2, r_5q_2);
-    st64(r_08_1, r_18_1);
+    st64(r_rq_1, r_5q_2);
+    st64(r_08, r_18_1);
     goto l_capnpc_sa;
 l_then_1w:;
     st8(r_xz, 1u);
@@ -29135,9 +29656,10 @@ l_capnpc_sa:;
     if (r_c4_1 == 3ull) goto l_loop_hh;
     r_id = r_c4_1;
     goto l_join_ge;
-l_after_tc:;
-    capnpc_schema_text_Text_push_filled(a_1, ((u8 *)g_static_168), 19ull, a_4);
+l_after_ib:;
+    capnpc_schema_text_Text_push_filled(a_1, ((u8 *)g_static_169), 19ull, a_4);
     if (ld64(r_zd_2) == 0ull) goto l_common_68;
+    r_px = ldp(slot_4);
     goto l_common_fo;
 }
 
@@ -29159,8 +29681,8 @@ static void capnpc_layout_rust_piece_Piece_push_default(u8 *a_1, u8 *a_2, u64 a_
     u8 *r_2b_2;
     u64 r_iv_1;
     u8 *r_2b_3;
-    u64 r_4i;
-    u8 *r_il;
+    u64 r_4m;
+    u8 *r_np;
     r_fx = ldp(a_4);
     r_rq = away(a_4, 8ull);
     r_52 = ld64(r_rq);
@@ -29169,16 +29691,16 @@ l_loop_mq:;
     if (r_m1 == 0ull) { r_hb = r_52; r_zk = r_fx; goto l_join_yz; }
     u64 r_zn = (r_m1 + 0xffffffffffffffffull);
     r_2b = away(r_fx, (r_zn * 48ull));
-    u8 r_2s = core_cmp_bytes_equal(ldp(r_2b), ld64((r_2b + 8)), ((u8 *)g_static_169), 5ull);
-    if (!r_2s) { r_m1 = r_zn; goto l_loop_mq; }
+    u8 r_9s = core_cmp_bytes_equal(ldp(r_2b), ld64((r_2b + 8)), ((u8 *)g_static_170), 5ull);
+    if (!r_9s) { r_m1 = r_zn; goto l_loop_mq; }
     if (ld64(away(r_2b, 24ull)) == 0ull) { r_hb = r_52; r_zk = r_fx; goto l_join_yz; }
     r_iv = r_52;
 l_loop_bp:;
     if (r_iv == 0ull) { r_qt = 0ull; r_7o = ((u8 *)g_static_120); goto l_capnpc_nf; }
     u64 r_zn_1 = (r_iv + 0xffffffffffffffffull);
     r_2b_1 = away(r_fx, (r_zn_1 * 48ull));
-    u8 r_2s_1 = core_cmp_bytes_equal(ldp(r_2b_1), ld64((r_2b_1 + 8)), ((u8 *)g_static_169), 5ull);
-    if (!r_2s_1) { r_iv = r_zn_1; goto l_loop_bp; }
+    u8 r_9s_1 = core_cmp_bytes_equal(ldp(r_2b_1), ld64((r_2b_1 + 8)), ((u8 *)g_static_170), 5ull);
+    if (!r_9s_1) { r_iv = r_zn_1; goto l_loop_bp; }
     r_qt = ld64(away(r_2b_1, 24ull));
     r_7o = ldp(away(r_2b_1, 16ull));
 l_capnpc_nf:;
@@ -29191,20 +29713,20 @@ l_loop_mq_1:;
     if (r_m1_1 == 0ull) goto l_join_68;
     u64 r_zn_2 = (r_m1_1 + 0xffffffffffffffffull);
     r_2b_2 = away(r_zk, (r_zn_2 * 48ull));
-    u8 r_9s = core_cmp_bytes_equal(ldp(r_2b_2), ld64((r_2b_2 + 8)), ((u8 *)g_static_170), 5ull);
-    if (!r_9s) { r_m1_1 = r_zn_2; goto l_loop_mq_1; }
+    u8 r_94 = core_cmp_bytes_equal(ldp(r_2b_2), ld64((r_2b_2 + 8)), ((u8 *)g_static_171), 5ull);
+    if (!r_94) { r_m1_1 = r_zn_2; goto l_loop_mq_1; }
     if (ld64(away(r_2b_2, 24ull)) == 0ull) goto l_join_68;
     r_iv_1 = r_hb;
 l_loop_bp_1:;
-    if (r_iv_1 == 0ull) { r_4i = 0ull; r_il = ((u8 *)g_static_120); goto l_capnpc_q9; }
+    if (r_iv_1 == 0ull) { r_4m = 0ull; r_np = ((u8 *)g_static_120); goto l_capnpc_19; }
     u64 r_zn_3 = (r_iv_1 + 0xffffffffffffffffull);
     r_2b_3 = away(r_zk, (r_zn_3 * 48ull));
-    u8 r_9s_1 = core_cmp_bytes_equal(ldp(r_2b_3), ld64((r_2b_3 + 8)), ((u8 *)g_static_170), 5ull);
-    if (!r_9s_1) { r_iv_1 = r_zn_3; goto l_loop_bp_1; }
-    r_4i = ld64(away(r_2b_3, 24ull));
-    r_il = ldp(away(r_2b_3, 16ull));
-l_capnpc_q9:;
-    capnpc_layout_rust_piece_Piece_push_array(a_1, a_2, a_3, ((u8 *)g_static_171), 25ull, r_il, r_4i);
+    u8 r_94_1 = core_cmp_bytes_equal(ldp(r_2b_3), ld64((r_2b_3 + 8)), ((u8 *)g_static_171), 5ull);
+    if (!r_94_1) { r_iv_1 = r_zn_3; goto l_loop_bp_1; }
+    r_4m = ld64(away(r_2b_3, 24ull));
+    r_np = ldp(away(r_2b_3, 16ull));
+l_capnpc_19:;
+    capnpc_layout_rust_piece_Piece_push_array(a_1, a_2, a_3, ((u8 *)g_static_172), 25ull, r_np, r_4m);
 l_join_68:;
     return;
 }
@@ -29245,7 +29767,7 @@ static void capnpc_layout_rust_piece_Piece_push_constant(u8 *a_1, u8 *a_2, u64 a
     u64 r_il_1;
     r_52 = ld64(away(a_1, 32ull));
     memset(slot_2, 0u, 24);
-    stp(slot_1, ((u8 *)g_static_172));
+    stp(slot_1, ((u8 *)g_static_173));
     st64((slot_1 + 8), 3ull);
     core_iter_pattern_RefStrPattern_first_in(slot_2, slot_1, a_4, a_5);
     if (ld8(slot_2) == 1u) goto l_arm_75;
@@ -29258,7 +29780,7 @@ l_arm_75:;
     st64((slot_3 + 8), a_3);
     stp((slot_3 + 16), a_4);
     st64((slot_3 + 24), r_38);
-    stp((slot_3 + 32), ((u8 *)g_static_173));
+    stp((slot_3 + 32), ((u8 *)g_static_174));
     st64((slot_3 + 40), 3ull);
     stp((slot_3 + 48), a_2);
     st64((slot_3 + 56), a_3);
@@ -29365,7 +29887,7 @@ static void capnpc_layout_rust_readers_push_has(u8 *a_1, u8 *a_2)
     u64 r_61;
     r_rq = away(a_1, 8ull);
     r_52 = ld64(r_rq);
-    if (r_52 == 0ull) goto l_capnpc_tu;
+    if (r_52 == 0ull) goto l_capnpc_je;
     r_08 = away(a_1, 16ull);
     u64 r_52_1 = ld64(r_08);
     if (!(r_52_1 == r_52)) { r_w4 = r_52_1; r_61 = r_52; goto l_join_e4; }
@@ -29379,14 +29901,14 @@ l_join_e4:;
     stp(a_1, r_fx);
     st64(r_rq, (r_61 + 1ull));
     st64(r_08, r_w4);
-    goto l_capnpc_tu;
+    goto l_capnpc_je;
 l_then_pm:;
     st8(away(a_1, 24ull), 1u);
-l_capnpc_tu:;
-    capnpc_schema_text_Values_put_lines(a_2, ((u8 *)g_static_179), 27ull);
-    capnpc_schema_text_Text_push_filled(a_1, ((u8 *)g_static_180), 16ull, a_2);
-    capnpc_layout_rust_piece_Piece_push_signature(a_1, ((u8 *)g_static_162), 18ull, a_2);
-    capnpc_schema_text_Text_push_filled(a_1, ((u8 *)g_static_181), 21ull, a_2);
+l_capnpc_je:;
+    capnpc_schema_text_Values_put_lines(a_2, ((u8 *)g_static_180), 27ull);
+    capnpc_schema_text_Text_push_filled(a_1, ((u8 *)g_static_181), 16ull, a_2);
+    capnpc_layout_rust_piece_Piece_push_signature(a_1, ((u8 *)g_static_163), 18ull, a_2);
+    capnpc_schema_text_Text_push_filled(a_1, ((u8 *)g_static_182), 21ull, a_2);
     return;
 }
 
@@ -29420,7 +29942,7 @@ static void capnpc_layout_rust_readers_Schema_field_values(u8 *a_1, u8 *a_2, u8 
     u64 r_il;
     u64 r_bk;
     u8 *r_pp;
-    u64 r_sb;
+    u64 r_ee;
     u8 r_jv;
     u8 *r_ki;
     u64 r_a8;
@@ -29431,19 +29953,19 @@ static void capnpc_layout_rust_readers_Schema_field_values(u8 *a_1, u8 *a_2, u8 
     u8 r_ix;
     u8 *r_zd_1;
     u8 *r_x5_1;
-    u64 r_dm;
+    u64 r_av;
     u8 *r_xw_1;
     u64 r_38_2;
     u64 r_38_3;
     u64 r_38_4;
     u8 r_ix_1;
-    u64 r_5j;
+    u64 r_2t;
     u8 *r_xw_2;
     u64 r_38_5;
     u64 r_38_6;
     u64 r_38_7;
     u8 r_ix_2;
-    u64 r_06;
+    u64 r_j0;
     u8 *r_3m;
     u8 *r_mb;
     u64 r_qw;
@@ -29456,15 +29978,15 @@ static void capnpc_layout_rust_readers_Schema_field_values(u8 *a_1, u8 *a_2, u8 
     u64 r_38_9;
     u64 r_38_10;
     u8 r_ix_3;
-    u64 r_cm;
-    u64 r_bg;
     u64 r_3y;
+    u64 r_bg;
+    u64 r_sk;
     u8 *r_xw_4;
     u64 r_38_11;
     u64 r_38_12;
     u64 r_38_13;
     u8 r_ix_4;
-    u64 r_sk;
+    u64 r_za;
     u8 *t_x5;
     u8 r_ts;
     u64 r_1y;
@@ -29474,7 +29996,7 @@ static void capnpc_layout_rust_readers_Schema_field_values(u8 *a_1, u8 *a_2, u8 
     u64 r_wx;
     u8 *r_6s;
     u8 r_ix_5;
-    u64 r_j0;
+    u64 r_n4;
     u64 r_1y_1;
     u64 r_tr_1;
     u8 *r_xw_5;
@@ -29482,13 +30004,13 @@ static void capnpc_layout_rust_readers_Schema_field_values(u8 *a_1, u8 *a_2, u8 
     u64 r_38_15;
     u64 r_38_16;
     u8 r_ix_6;
-    u64 r_za;
+    u64 r_1b;
     u8 *r_xw_6;
     u64 r_38_17;
     u64 r_38_18;
     u64 r_38_19;
     u8 r_ix_7;
-    u64 r_fj;
+    u64 r_w8;
     u64 r_xq;
     u8 *r_gq;
     u8 *r_xw_7;
@@ -29496,13 +30018,13 @@ static void capnpc_layout_rust_readers_Schema_field_values(u8 *a_1, u8 *a_2, u8 
     u64 r_38_21;
     u64 r_38_22;
     u8 r_ix_8;
-    u64 r_up;
+    u64 r_7i;
     u8 *r_xw_8;
     u64 r_38_23;
     u64 r_38_24;
     u64 r_38_25;
     u8 r_ix_9;
-    u64 r_od;
+    u64 r_up;
     u64 r_la;
     u8 *r_c2;
     u8 *r_lz_1;
@@ -29523,7 +30045,7 @@ static void capnpc_layout_rust_readers_Schema_field_values(u8 *a_1, u8 *a_2, u8 
     u64 r_wx_1;
     u8 *r_6s_1;
     u8 r_ix_10;
-    u64 r_nm;
+    u64 r_ef_1;
     u64 r_la_1;
     u8 *r_c2_1;
     u8 *r_lz_2;
@@ -29545,7 +30067,7 @@ static void capnpc_layout_rust_readers_Schema_field_values(u8 *a_1, u8 *a_2, u8 
     u64 r_wx_2;
     u8 *r_6s_2;
     u8 r_ix_11;
-    u64 r_j0_1;
+    u64 r_n4_1;
     u8 *r_mb_2;
     u64 r_qw_4;
     u64 r_52_18;
@@ -29579,7 +30101,7 @@ static void capnpc_layout_rust_readers_Schema_field_values(u8 *a_1, u8 *a_2, u8 
     u64 r_jq_1;
     u64 r_d4_1;
     u64 r_ub_1;
-    u64 r_06_1;
+    u64 r_06;
     u64 r_9k;
     u8 *r_xw_9;
     u64 r_38_26;
@@ -29597,7 +30119,7 @@ static void capnpc_layout_rust_readers_Schema_field_values(u8 *a_1, u8 *a_2, u8 
     u64 r_pk;
     u8 *r_lz_9;
     u8 *r_2b_9;
-    u64 r_1y_4;
+    u64 r_ls_1;
     u64 r_q7;
     u64 r_dv;
     u64 r_5q_3;
@@ -29609,20 +30131,20 @@ static void capnpc_layout_rust_readers_Schema_field_values(u8 *a_1, u8 *a_2, u8 
     u64 r_n1;
     u64 r_38_28;
     u8 r_ix_12;
-    u64 r_1w;
+    u64 r_jc;
     memset(slot_11, 0u, 32);
     memset(slot_12, 0u, 32);
     memset((slot_10 + 8), 0u, 24);
     stp(slot_10, slot_1);
-    capnpc_schema_text_Values_put(slot_10, ((u8 *)g_static_144), 4ull, ldp(away(a_3, 16ull)), ld64(away(a_3, 24ull)));
-    capnpc_schema_text_Values_put(slot_10, ((u8 *)g_static_145), 4ull, ldp(away(a_3, 88ull)), ld64(away(a_3, 96ull)));
-    capnpc_schema_text_Values_put(slot_10, ((u8 *)g_static_146), 3ull, ldp(away(a_3, 64ull)), ld64(away(a_3, 72ull)));
+    capnpc_schema_text_Values_put(slot_10, ((u8 *)g_static_145), 4ull, ldp(away(a_3, 16ull)), ld64(away(a_3, 24ull)));
+    capnpc_schema_text_Values_put(slot_10, ((u8 *)g_static_146), 4ull, ldp(away(a_3, 88ull)), ld64(away(a_3, 96ull)));
+    capnpc_schema_text_Values_put(slot_10, ((u8 *)g_static_147), 3ull, ldp(away(a_3, 64ull)), ld64(away(a_3, 72ull)));
     mv32(slot_11, slot_10);
     r_rq = away(a_4, 8ull);
-    capnpc_schema_text_Values_put(slot_11, ((u8 *)g_static_182), 5ull, ldp(a_4), ld64(r_rq));
+    capnpc_schema_text_Values_put(slot_11, ((u8 *)g_static_183), 5ull, ldp(a_4), ld64(r_rq));
     r_xz = away(a_4, 24ull);
     r_xm = away(a_4, 32ull);
-    capnpc_schema_text_Values_put(slot_11, ((u8 *)g_static_183), 5ull, ldp(r_xz), ld64(r_xm));
+    capnpc_schema_text_Values_put(slot_11, ((u8 *)g_static_184), 5ull, ldp(r_xz), ld64(r_xm));
     r_x5 = (slot_2 + 8);
     memset(r_x5, 0u, 24);
     stp(slot_2, slot_1);
@@ -29656,12 +30178,12 @@ l_then_bz:;
     r_bk = ld64(r_x5);
     r_pp = ldp(slot_2);
 l_capnpc_qu:;
-    r_sb = 0ull;
-l_join_bm:;
-    u8 *r_xi = away(((u8 *)g_static_193), (u64)(r_sb << 4ull));
-    r_jv = core_cmp_bytes_equal(ldp(r_xi), ld64((r_xi + 8)), r_pp, r_bk);
-    u64 r_c4 = (r_sb + 1ull);
-    if (!(r_jv ? 1u : (r_c4 == 51ull))) { r_sb = r_c4; goto l_join_bm; }
+    r_ee = 0ull;
+l_join_a3:;
+    u8 *r_ls = away(((u8 *)g_static_194), (u64)(r_ee << 4ull));
+    r_jv = core_cmp_bytes_equal(ldp(r_ls), ld64((r_ls + 8)), r_pp, r_bk);
+    u64 r_c4 = (r_ee + 1ull);
+    if (!(r_jv ? 1u : (r_c4 == 51ull))) { r_ee = r_c4; goto l_join_a3; }
     if (!r_jv) { r_if = r_bk; goto l_capnpc_0r; }
     if (!(ld64(r_zd) == r_bk)) { r_ki = r_pp; r_a8 = r_bk; goto l_std_7b; }
     u8 r_uc = std_alloc_vec_Vec_grow_amortized_827889bc1b348a11(slot_2, 1ull);
@@ -29683,58 +30205,58 @@ l_capnpc_0r:;
     r_zd_1 = (slot_11 + 16);
     r_x5_1 = (slot_11 + 8);
     u64 r_52_1 = ld64(r_x5_1);
-    if (!(ld64(r_zd_1) == r_52_1)) { r_dm = r_52_1; goto l_join_w2; }
+    if (!(ld64(r_zd_1) == r_52_1)) { r_av = r_52_1; goto l_join_tu; }
     u8 r_89 = std_alloc_vec_Vec_grow_amortized_c7bbd78b6494f746(slot_11);
     if (!r_89) goto l_arm_f8;
-    r_dm = ld64(r_x5_1);
-    goto l_join_w2;
+    r_av = ld64(r_x5_1);
+    goto l_join_tu;
 l_arm_f8:;
     if (r_38 == 0ull) goto l_join_4s;
     rattle_dealloc(r_xw);
     goto l_join_4s;
-l_join_w2:;
-    u8 *r_a7 = (ldp(slot_11) + (i64)((r_dm * 48ull)));
-    stp(r_a7, ((u8 *)g_static_184));
+l_join_tu:;
+    u8 *r_a7 = (ldp(slot_11) + (i64)((r_av * 48ull)));
+    stp(r_a7, ((u8 *)g_static_185));
     st64((r_a7 + 8), 4ull);
     stp((r_a7 + 16), r_xw);
     st64((r_a7 + 24), r_if);
     st64((r_a7 + 32), r_38);
     st64((r_a7 + 40), r_38_1);
-    st64(r_x5_1, (r_dm + 1ull));
-    if (!r_ix) goto l_capnpc_pp;
+    st64(r_x5_1, (r_av + 1ull));
+    if (!r_ix) goto l_capnpc_cb;
 l_join_4s:;
     st8((slot_11 + 24), 1u);
-l_capnpc_pp:;
-    capnpc_layout_rust_naming_call_name(slot_12, ((u8 *)g_static_120), 0ull, ldp(r_xz), ld64(r_xm), ((u8 *)g_static_185), 6ull);
+l_capnpc_cb:;
+    capnpc_layout_rust_naming_call_name(slot_12, ((u8 *)g_static_120), 0ull, ldp(r_xz), ld64(r_xm), ((u8 *)g_static_186), 6ull);
     r_xw_1 = ldp(slot_12);
     r_38_2 = ld64((slot_12 + 8));
     r_38_3 = ld64((slot_12 + 16));
     r_38_4 = ld64((slot_12 + 24));
     r_ix_1 = (u8)(r_38_4 & 1);
     u64 r_52_2 = ld64(r_x5_1);
-    if (!(ld64(r_zd_1) == r_52_2)) { r_5j = r_52_2; goto l_join_jc; }
+    if (!(ld64(r_zd_1) == r_52_2)) { r_2t = r_52_2; goto l_join_cm; }
     u8 r_89_1 = std_alloc_vec_Vec_grow_amortized_c7bbd78b6494f746(slot_11);
     if (!r_89_1) goto l_arm_f8_1;
-    r_5j = ld64(r_x5_1);
-    goto l_join_jc;
+    r_2t = ld64(r_x5_1);
+    goto l_join_cm;
 l_arm_f8_1:;
     if (r_38_3 == 0ull) goto l_join_4s_1;
     rattle_dealloc(r_xw_1);
     goto l_join_4s_1;
-l_join_jc:;
-    u8 *r_a7_1 = (ldp(slot_11) + (i64)((r_5j * 48ull)));
-    stp(r_a7_1, ((u8 *)g_static_186));
+l_join_cm:;
+    u8 *r_a7_1 = (ldp(slot_11) + (i64)((r_2t * 48ull)));
+    stp(r_a7_1, ((u8 *)g_static_187));
     st64((r_a7_1 + 8), 10ull);
     stp((r_a7_1 + 16), r_xw_1);
     st64((r_a7_1 + 24), r_38_2);
     st64((r_a7_1 + 32), r_38_3);
     st64((r_a7_1 + 40), r_38_4);
-    st64(r_x5_1, (r_5j + 1ull));
+    st64(r_x5_1, (r_2t + 1ull));
     if (!r_ix_1) goto l_capnpc_ig;
 l_join_4s_1:;
     st8((slot_11 + 24), 1u);
 l_capnpc_ig:;
-    capnpc_schema_text_Values_put(slot_11, ((u8 *)g_static_187), 7ull, ldp(away(a_4, 48ull)), ld64(away(a_4, 56ull)));
+    capnpc_schema_text_Values_put(slot_11, ((u8 *)g_static_188), 7ull, ldp(away(a_4, 48ull)), ld64(away(a_4, 56ull)));
     u8 *r_x5_2 = (slot_2 + 8);
     u64 r_u7 = (u64)ld16(away(a_4, 124ull));
     memset(r_x5_2, 0u, 24);
@@ -29746,24 +30268,24 @@ l_capnpc_ig:;
     r_38_7 = ld64((slot_2 + 24));
     r_ix_2 = (u8)(r_38_7 & 1);
     u64 r_52_3 = ld64(r_x5_1);
-    if (!(ld64(r_zd_1) == r_52_3)) { r_06 = r_52_3; goto l_join_iq; }
+    if (!(ld64(r_zd_1) == r_52_3)) { r_j0 = r_52_3; goto l_join_0m; }
     u8 r_89_2 = std_alloc_vec_Vec_grow_amortized_c7bbd78b6494f746(slot_11);
     if (!r_89_2) goto l_arm_f8_2;
-    r_06 = ld64(r_x5_1);
-    goto l_join_iq;
+    r_j0 = ld64(r_x5_1);
+    goto l_join_0m;
 l_arm_f8_2:;
     if (r_38_6 == 0ull) goto l_join_4s_2;
     rattle_dealloc(r_xw_2);
     goto l_join_4s_2;
-l_join_iq:;
-    u8 *r_a7_2 = (ldp(slot_11) + (i64)((r_06 * 48ull)));
-    stp(r_a7_2, ((u8 *)g_static_188));
+l_join_0m:;
+    u8 *r_a7_2 = (ldp(slot_11) + (i64)((r_j0 * 48ull)));
+    stp(r_a7_2, ((u8 *)g_static_189));
     st64((r_a7_2 + 8), 6ull);
     stp((r_a7_2 + 16), r_xw_2);
     st64((r_a7_2 + 24), r_38_5);
     st64((r_a7_2 + 32), r_38_6);
     st64((r_a7_2 + 40), r_38_7);
-    st64(r_x5_1, (r_06 + 1ull));
+    st64(r_x5_1, (r_j0 + 1ull));
     if (!r_ix_2) goto l_capnpc_xg;
 l_join_4s_2:;
     st8((slot_11 + 24), 1u);
@@ -29794,41 +30316,41 @@ l_capnpc_xg:;
     r_38_10 = ld64((slot_2 + 24));
     r_ix_3 = (u8)(r_38_10 & 1);
     u64 r_52_4 = ld64(r_x5_1);
-    if (!(ld64(r_zd_1) == r_52_4)) { r_cm = r_52_4; goto l_join_d3; }
+    if (!(ld64(r_zd_1) == r_52_4)) { r_3y = r_52_4; goto l_join_61; }
     u8 r_89_3 = std_alloc_vec_Vec_grow_amortized_c7bbd78b6494f746(slot_11);
     if (!r_89_3) goto l_arm_f8_3;
-    r_cm = ld64(r_x5_1);
-    goto l_join_d3;
+    r_3y = ld64(r_x5_1);
+    goto l_join_61;
 l_arm_f8_3:;
     if (r_38_9 == 0ull) goto l_join_g8;
     rattle_dealloc(r_xw_3);
     goto l_join_g8;
-l_join_d3:;
-    u8 *r_a7_3 = (ldp(slot_11) + (i64)((r_cm * 48ull)));
-    stp(r_a7_3, ((u8 *)g_static_194));
+l_join_61:;
+    u8 *r_a7_3 = (ldp(slot_11) + (i64)((r_3y * 48ull)));
+    stp(r_a7_3, ((u8 *)g_static_195));
     st64((r_a7_3 + 8), 5ull);
     stp((r_a7_3 + 16), r_xw_3);
     st64((r_a7_3 + 24), r_38_8);
     st64((r_a7_3 + 32), r_38_9);
     st64((r_a7_3 + 40), r_38_10);
-    u64 r_7n = (r_cm + 1ull);
+    u64 r_7n = (r_3y + 1ull);
     st64(r_x5_1, r_7n);
     if (!r_ix_3) { r_bg = r_7n; goto l_capnpc_h4; }
 l_join_g8:;
     st8((slot_11 + 24), 1u);
     r_bg = ld64(r_x5_1);
 l_capnpc_h4:;
-    if (!(ld64(r_zd_1) == r_bg)) { r_3y = r_bg; goto l_join_61; }
+    if (!(ld64(r_zd_1) == r_bg)) { r_sk = r_bg; goto l_join_7q; }
     u8 r_89_4 = std_alloc_vec_Vec_grow_amortized_c7bbd78b6494f746(slot_11);
     if (!r_89_4) goto l_join_4s_3;
-    r_3y = ld64(r_x5_1);
-l_join_61:;
-    u8 *r_a7_4 = (ldp(slot_11) + (i64)((r_3y * 48ull)));
-    stp(r_a7_4, ((u8 *)g_static_195));
+    r_sk = ld64(r_x5_1);
+l_join_7q:;
+    u8 *r_a7_4 = (ldp(slot_11) + (i64)((r_sk * 48ull)));
+    stp(r_a7_4, ((u8 *)g_static_196));
     st64((r_a7_4 + 8), 5ull);
     stp((r_a7_4 + 16), slot_1);
     memset((r_a7_4 + 24), 0u, 24);
-    st64(r_x5_1, (r_3y + 1ull));
+    st64(r_x5_1, (r_sk + 1ull));
     goto l_capnpc_rj;
 l_join_4s_3:;
     st8((slot_11 + 24), 1u);
@@ -29843,24 +30365,24 @@ l_capnpc_rj:;
     r_38_13 = ld64((slot_4 + 24));
     r_ix_4 = (u8)(r_38_13 & 1);
     u64 r_52_5 = ld64(r_x5_1);
-    if (!(ld64(r_zd_1) == r_52_5)) { r_sk = r_52_5; goto l_join_7q; }
+    if (!(ld64(r_zd_1) == r_52_5)) { r_za = r_52_5; goto l_join_gg; }
     u8 r_89_5 = std_alloc_vec_Vec_grow_amortized_c7bbd78b6494f746(slot_11);
     if (!r_89_5) goto l_arm_f8_4;
-    r_sk = ld64(r_x5_1);
-    goto l_join_7q;
+    r_za = ld64(r_x5_1);
+    goto l_join_gg;
 l_arm_f8_4:;
     if (r_38_12 == 0ull) goto l_join_4s_4;
     rattle_dealloc(r_xw_4);
     goto l_join_4s_4;
-l_join_7q:;
-    u8 *r_a7_5 = (ldp(slot_11) + (i64)((r_sk * 48ull)));
-    stp(r_a7_5, ((u8 *)g_static_196));
+l_join_gg:;
+    u8 *r_a7_5 = (ldp(slot_11) + (i64)((r_za * 48ull)));
+    stp(r_a7_5, ((u8 *)g_static_197));
     st64((r_a7_5 + 8), 4ull);
     stp((r_a7_5 + 16), r_xw_4);
     st64((r_a7_5 + 24), r_38_11);
     st64((r_a7_5 + 32), r_38_12);
     st64((r_a7_5 + 40), r_38_13);
-    st64(r_x5_1, (r_sk + 1ull));
+    st64(r_x5_1, (r_za + 1ull));
     if (!r_ix_4) goto l_capnpc_au;
 l_join_4s_4:;
     st8((slot_11 + 24), 1u);
@@ -29887,24 +30409,24 @@ l_join_v4:;
 l_capnpc_8x:;
     r_ix_5 = (u8)(r_dg & 1);
     u64 r_52_6 = ld64(r_x5_1);
-    if (!(ld64(r_zd_1) == r_52_6)) { r_j0 = r_52_6; goto l_join_0m; }
+    if (!(ld64(r_zd_1) == r_52_6)) { r_n4 = r_52_6; goto l_join_gm; }
     u8 r_89_6 = std_alloc_vec_Vec_grow_amortized_c7bbd78b6494f746(slot_11);
     if (!r_89_6) goto l_arm_f8_5;
-    r_j0 = ld64(r_x5_1);
-    goto l_join_0m;
+    r_n4 = ld64(r_x5_1);
+    goto l_join_gm;
 l_arm_f8_5:;
     if (r_8i == 0ull) goto l_join_4s_5;
     rattle_dealloc(r_6s);
     goto l_join_4s_5;
-l_join_0m:;
-    u8 *r_a7_6 = (ldp(slot_11) + (i64)((r_j0 * 48ull)));
-    stp(r_a7_6, ((u8 *)g_static_189));
+l_join_gm:;
+    u8 *r_a7_6 = (ldp(slot_11) + (i64)((r_n4 * 48ull)));
+    stp(r_a7_6, ((u8 *)g_static_190));
     st64((r_a7_6 + 8), 4ull);
     stp((r_a7_6 + 16), r_6s);
     st64((r_a7_6 + 24), r_wx);
     st64((r_a7_6 + 32), r_8i);
     st64((r_a7_6 + 40), r_dg);
-    st64(r_x5_1, (r_j0 + 1ull));
+    st64(r_x5_1, (r_n4 + 1ull));
     if (!r_ix_5) goto l_capnpc_j0;
 l_join_4s_5:;
     st8((slot_11 + 24), 1u);
@@ -29920,37 +30442,37 @@ l_join_v4_1:;
     r_tr_1 = (r_1y_1 * 280ull);
     if (!(ld64(away(r_mb, r_tr_1)) == r_qw_2)) goto l_loop_9k;
     u8 *r_2b_1 = away(r_mb, r_tr_1);
-    capnpc_schema_text_Values_put(slot_11, ((u8 *)g_static_190), 4ull, ldp(away(r_2b_1, 88ull)), ld64(away(r_2b_1, 96ull)));
-    capnpc_schema_text_Values_put(slot_11, ((u8 *)g_static_191), 6ull, ldp(away(r_2b_1, 64ull)), ld64(away(r_2b_1, 72ull)));
+    capnpc_schema_text_Values_put(slot_11, ((u8 *)g_static_191), 4ull, ldp(away(r_2b_1, 88ull)), ld64(away(r_2b_1, 96ull)));
+    capnpc_schema_text_Values_put(slot_11, ((u8 *)g_static_192), 6ull, ldp(away(r_2b_1, 64ull)), ld64(away(r_2b_1, 72ull)));
 l_join_rj:;
     st64(slot_7, r_qw_1);
     stp((slot_7 + 8), r_rv);
     st64((slot_7 + 16), r_qw_2);
-    capnpc_layout_rust_types_element_type(slot_6, r_mb, r_qw, a_5, slot_7, ((u8 *)g_static_198), 2ull);
+    capnpc_layout_rust_types_element_type(slot_6, r_mb, r_qw, a_5, slot_7, ((u8 *)g_static_199), 2ull);
     r_xw_5 = ldp(slot_6);
     r_38_14 = ld64((slot_6 + 8));
     r_38_15 = ld64((slot_6 + 16));
     r_38_16 = ld64((slot_6 + 24));
     r_ix_6 = (u8)(r_38_16 & 1);
     u64 r_52_7 = ld64(r_x5_1);
-    if (!(ld64(r_zd_1) == r_52_7)) { r_za = r_52_7; goto l_join_gg; }
+    if (!(ld64(r_zd_1) == r_52_7)) { r_1b = r_52_7; goto l_join_is; }
     u8 r_89_7 = std_alloc_vec_Vec_grow_amortized_c7bbd78b6494f746(slot_11);
     if (!r_89_7) goto l_arm_f8_6;
-    r_za = ld64(r_x5_1);
-    goto l_join_gg;
+    r_1b = ld64(r_x5_1);
+    goto l_join_is;
 l_arm_f8_6:;
     if (r_38_15 == 0ull) goto l_join_4s_6;
     rattle_dealloc(r_xw_5);
     goto l_join_4s_6;
-l_join_gg:;
-    u8 *r_a7_7 = (ldp(slot_11) + (i64)((r_za * 48ull)));
-    stp(r_a7_7, ((u8 *)g_static_197));
+l_join_is:;
+    u8 *r_a7_7 = (ldp(slot_11) + (i64)((r_1b * 48ull)));
+    stp(r_a7_7, ((u8 *)g_static_198));
     st64((r_a7_7 + 8), 7ull);
     stp((r_a7_7 + 16), r_xw_5);
     st64((r_a7_7 + 24), r_38_14);
     st64((r_a7_7 + 32), r_38_15);
     st64((r_a7_7 + 40), r_38_16);
-    st64(r_x5_1, (r_za + 1ull));
+    st64(r_x5_1, (r_1b + 1ull));
     if (!r_ix_6) goto l_capnpc_rj_1;
 l_join_4s_6:;
     st8((slot_11 + 24), 1u);
@@ -29958,49 +30480,49 @@ l_capnpc_rj_1:;
     st64(slot_9, r_qw_1);
     stp((slot_9 + 8), r_rv);
     st64((slot_9 + 16), r_qw_2);
-    capnpc_layout_rust_types_element_type(slot_8, r_mb, r_qw, a_5, slot_9, ((u8 *)g_static_200), 2ull);
+    capnpc_layout_rust_types_element_type(slot_8, r_mb, r_qw, a_5, slot_9, ((u8 *)g_static_201), 2ull);
     r_xw_6 = ldp(slot_8);
     r_38_17 = ld64((slot_8 + 8));
     r_38_18 = ld64((slot_8 + 16));
     r_38_19 = ld64((slot_8 + 24));
     r_ix_7 = (u8)(r_38_19 & 1);
     u64 r_52_8 = ld64(r_x5_1);
-    if (!(ld64(r_zd_1) == r_52_8)) { r_fj = r_52_8; goto l_join_ry; }
+    if (!(ld64(r_zd_1) == r_52_8)) { r_w8 = r_52_8; goto l_join_t1; }
     u8 r_89_8 = std_alloc_vec_Vec_grow_amortized_c7bbd78b6494f746(slot_11);
     if (!r_89_8) goto l_arm_f8_7;
-    r_fj = ld64(r_x5_1);
-    goto l_join_ry;
+    r_w8 = ld64(r_x5_1);
+    goto l_join_t1;
 l_arm_f8_7:;
     if (r_38_18 == 0ull) goto l_join_4s_7;
     rattle_dealloc(r_xw_6);
     goto l_join_4s_7;
-l_join_ry:;
-    u8 *r_a7_8 = (ldp(slot_11) + (i64)((r_fj * 48ull)));
-    stp(r_a7_8, ((u8 *)g_static_199));
+l_join_t1:;
+    u8 *r_a7_8 = (ldp(slot_11) + (i64)((r_w8 * 48ull)));
+    stp(r_a7_8, ((u8 *)g_static_200));
     st64((r_a7_8 + 8), 5ull);
     stp((r_a7_8 + 16), r_xw_6);
     st64((r_a7_8 + 24), r_38_17);
     st64((r_a7_8 + 32), r_38_18);
     st64((r_a7_8 + 40), r_38_19);
-    st64(r_x5_1, (r_fj + 1ull));
+    st64(r_x5_1, (r_w8 + 1ull));
     if (!r_ix_7) goto l_capnpc_kx;
 l_join_4s_7:;
     st8((slot_11 + 24), 1u);
 l_capnpc_kx:;
     switch (r_wt) {
-    case 1u: goto l_capnpc_ib;
+    case 1u: goto l_capnpc_5b;
     case 0u: goto l_join_1g;
-    default: { r_xq = 275ull; r_gq = ((u8 *)g_static_212); goto l_capnpc_0p; }
+    default: { r_xq = 275ull; r_gq = ((u8 *)g_static_213); goto l_capnpc_0p; }
     }
-l_capnpc_ib:;
+l_capnpc_5b:;
     u8 t_5f = (ld8(r_rv) == 8u);
     r_xq = (t_5f ? 398ull : 275ull);
-    r_gq = (t_5f ? ((u8 *)g_static_211) : ((u8 *)g_static_212));
+    r_gq = (t_5f ? ((u8 *)g_static_212) : ((u8 *)g_static_213));
     goto l_capnpc_0p;
 l_join_1g:;
     u8 r_47_1 = ld8(r_rv);
     r_xq = ld64((((u8 *)switch_table_capnpc_layout_rust_readers_Schema_field_values) + (i64)(8 * (u64)r_47_1)));
-    r_gq = ldp((((u8 *)switch_table_capnpc_layout_rust_readers_Schema_field_values_14) + (i64)(8 * (u64)r_47_1)));
+    r_gq = ldp((((u8 *)switch_table_capnpc_layout_rust_readers_Schema_field_values_16) + (i64)(8 * (u64)r_47_1)));
 l_capnpc_0p:;
     capnpc_schema_text_Values_put_lines(slot_11, r_gq, r_xq);
     memset(slot_3, 0u, 32);
@@ -30013,7 +30535,7 @@ l_capnpc_0p:;
     default: goto l_noarm_e1;
     }
 l_arm_cw:;
-    capnpc_schema_text_Values_put(slot_11, ((u8 *)g_static_220), 7ull, ldp(away(a_4, 176ull)), ld64(away(a_4, 184ull)));
+    capnpc_schema_text_Values_put(slot_11, ((u8 *)g_static_221), 7ull, ldp(away(a_4, 176ull)), ld64(away(a_4, 184ull)));
     u8 *r_x5_4 = (slot_2 + 8);
     u64 r_52_9 = ld64(away(a_4, 200ull));
     memset(r_x5_4, 0u, 24);
@@ -30025,30 +30547,30 @@ l_arm_cw:;
     r_38_22 = ld64((slot_2 + 24));
     r_ix_8 = (u8)(r_38_22 & 1);
     u64 r_52_10 = ld64(r_x5_1);
-    if (!(ld64(r_zd_1) == r_52_10)) { r_up = r_52_10; goto l_join_ne; }
+    if (!(ld64(r_zd_1) == r_52_10)) { r_7i = r_52_10; goto l_join_k8; }
     u8 r_89_9 = std_alloc_vec_Vec_grow_amortized_c7bbd78b6494f746(slot_11);
     if (!r_89_9) goto l_arm_f8_8;
-    r_up = ld64(r_x5_1);
-    goto l_join_ne;
+    r_7i = ld64(r_x5_1);
+    goto l_join_k8;
 l_arm_f8_8:;
     if (r_38_21 == 0ull) goto l_join_4s_8;
     rattle_dealloc(r_xw_7);
     goto l_join_4s_8;
-l_join_ne:;
-    u8 *r_a7_9 = (ldp(slot_11) + (i64)((r_up * 48ull)));
-    stp(r_a7_9, ((u8 *)g_static_221));
+l_join_k8:;
+    u8 *r_a7_9 = (ldp(slot_11) + (i64)((r_7i * 48ull)));
+    stp(r_a7_9, ((u8 *)g_static_222));
     st64((r_a7_9 + 8), 4ull);
     stp((r_a7_9 + 16), r_xw_7);
     st64((r_a7_9 + 24), r_38_20);
     st64((r_a7_9 + 32), r_38_21);
     st64((r_a7_9 + 40), r_38_22);
-    st64(r_x5_1, (r_up + 1ull));
-    if (!r_ix_8) goto l_capnpc_71;
+    st64(r_x5_1, (r_7i + 1ull));
+    if (!r_ix_8) goto l_capnpc_zy;
 l_join_4s_8:;
     st8((slot_11 + 24), 1u);
-l_capnpc_71:;
+l_capnpc_zy:;
     u8 r_dd = ld8(r_rv);
-    capnpc_schema_text_Values_put_lines(slot_11, ldp((((u8 *)switch_table_capnpc_layout_rust_readers_Schema_field_values_16) + (i64)(8 * (u64)r_dd))), ld64((((u8 *)switch_table_capnpc_layout_rust_readers_Schema_field_values_15) + (i64)(8 * (u64)r_dd))));
+    capnpc_schema_text_Values_put_lines(slot_11, ldp((((u8 *)switch_table_capnpc_layout_rust_readers_Schema_field_values_18) + (i64)(8 * (u64)r_dd))), ld64((((u8 *)switch_table_capnpc_layout_rust_readers_Schema_field_values_17) + (i64)(8 * (u64)r_dd))));
     goto l_capnpc_a7;
 l_arm_qu:;
     capnpc_layout_rust_forms_byte_string(slot_3, ldp(away(a_4, 176ull)), ld64(away(a_4, 184ull)));
@@ -30058,33 +30580,33 @@ l_arm_qu:;
     r_38_25 = ld64((slot_3 + 24));
     r_ix_9 = (u8)(r_38_25 & 1);
     u64 r_52_11 = ld64(r_x5_1);
-    if (!(ld64(r_zd_1) == r_52_11)) { r_od = r_52_11; goto l_join_32; }
+    if (!(ld64(r_zd_1) == r_52_11)) { r_up = r_52_11; goto l_join_ne; }
     u8 r_89_10 = std_alloc_vec_Vec_grow_amortized_c7bbd78b6494f746(slot_11);
     if (!r_89_10) goto l_arm_f8_9;
-    r_od = ld64(r_x5_1);
-    goto l_join_32;
+    r_up = ld64(r_x5_1);
+    goto l_join_ne;
 l_arm_f8_9:;
     if (r_38_24 == 0ull) goto l_join_4s_9;
     rattle_dealloc(r_xw_8);
     goto l_join_4s_9;
-l_join_32:;
-    u8 *r_a7_10 = (ldp(slot_11) + (i64)((r_od * 48ull)));
-    stp(r_a7_10, ((u8 *)g_static_220));
+l_join_ne:;
+    u8 *r_a7_10 = (ldp(slot_11) + (i64)((r_up * 48ull)));
+    stp(r_a7_10, ((u8 *)g_static_221));
     st64((r_a7_10 + 8), 7ull);
     stp((r_a7_10 + 16), r_xw_8);
     st64((r_a7_10 + 24), r_38_23);
     st64((r_a7_10 + 32), r_38_24);
     st64((r_a7_10 + 40), r_38_25);
-    st64(r_x5_1, (r_od + 1ull));
-    if (!r_ix_9) goto l_capnpc_nj;
+    st64(r_x5_1, (r_up + 1ull));
+    if (!r_ix_9) goto l_capnpc_0c;
 l_join_4s_9:;
     st8((slot_11 + 24), 1u);
-l_capnpc_nj:;
-    capnpc_schema_text_Values_put_lines(slot_11, ((u8 *)g_static_222), 39ull);
-    if (!((r_qw_1 & 0xffffffffull) == 0ull)) { r_la = 53ull; r_c2 = ((u8 *)g_static_235); goto l_capnpc_sm; }
+l_capnpc_0c:;
+    capnpc_schema_text_Values_put_lines(slot_11, ((u8 *)g_static_223), 39ull);
+    if (!((r_qw_1 & 0xffffffffull) == 0ull)) { r_la = 53ull; r_c2 = ((u8 *)g_static_236); goto l_capnpc_sm; }
     u8 r_47_2 = ld8(r_rv);
-    r_la = ld64((((u8 *)switch_table_capnpc_layout_rust_readers_Schema_field_values_19) + (i64)(8 * (u64)r_47_2)));
-    r_c2 = ldp((((u8 *)switch_table_capnpc_layout_rust_readers_Schema_field_values_20) + (i64)(8 * (u64)r_47_2)));
+    r_la = ld64((((u8 *)switch_table_capnpc_layout_rust_readers_Schema_field_values_21) + (i64)(8 * (u64)r_47_2)));
+    r_c2 = ldp((((u8 *)switch_table_capnpc_layout_rust_readers_Schema_field_values_22) + (i64)(8 * (u64)r_47_2)));
 l_capnpc_sm:;
     capnpc_schema_text_Values_put_lines(slot_11, r_c2, r_la);
     goto l_capnpc_a7;
@@ -30135,32 +30657,32 @@ l_join_5m:;
 l_capnpc_8x_1:;
     r_ix_10 = (u8)(r_dg_1 & 1);
     u64 r_52_15 = ld64(r_x5_1);
-    if (!(ld64(r_zd_1) == r_52_15)) { r_nm = r_52_15; goto l_join_hl; }
+    if (!(ld64(r_zd_1) == r_52_15)) { r_ef_1 = r_52_15; goto l_join_35; }
     u8 r_89_11 = std_alloc_vec_Vec_grow_amortized_c7bbd78b6494f746(slot_11);
     if (!r_89_11) goto l_arm_f8_10;
-    r_nm = ld64(r_x5_1);
-    goto l_join_hl;
+    r_ef_1 = ld64(r_x5_1);
+    goto l_join_35;
 l_arm_f8_10:;
     if (r_8i_1 == 0ull) goto l_join_4s_10;
     rattle_dealloc(r_6s_1);
     goto l_join_4s_10;
-l_join_hl:;
-    u8 *r_a7_11 = (ldp(slot_11) + (i64)((r_nm * 48ull)));
-    stp(r_a7_11, ((u8 *)g_static_170));
+l_join_35:;
+    u8 *r_a7_11 = (ldp(slot_11) + (i64)((r_ef_1 * 48ull)));
+    stp(r_a7_11, ((u8 *)g_static_171));
     st64((r_a7_11 + 8), 5ull);
     stp((r_a7_11 + 16), r_6s_1);
     st64((r_a7_11 + 24), r_wx_1);
     st64((r_a7_11 + 32), r_8i_1);
     st64((r_a7_11 + 40), r_dg_1);
-    st64(r_x5_1, (r_nm + 1ull));
+    st64(r_x5_1, (r_ef_1 + 1ull));
     if (!r_ix_10) goto l_capnpc_sq;
 l_join_4s_10:;
     st8((slot_11 + 24), 1u);
 l_capnpc_sq:;
-    if (!((r_qw_1 & 0xffffffffull) == 0ull)) { r_la_1 = 53ull; r_c2_1 = ((u8 *)g_static_235); goto l_capnpc_sm_1; }
+    if (!((r_qw_1 & 0xffffffffull) == 0ull)) { r_la_1 = 53ull; r_c2_1 = ((u8 *)g_static_236); goto l_capnpc_sm_1; }
     u8 r_47_3 = ld8(r_rv);
-    r_la_1 = ld64((((u8 *)switch_table_capnpc_layout_rust_readers_Schema_field_values_19) + (i64)(8 * (u64)r_47_3)));
-    r_c2_1 = ldp((((u8 *)switch_table_capnpc_layout_rust_readers_Schema_field_values_20) + (i64)(8 * (u64)r_47_3)));
+    r_la_1 = ld64((((u8 *)switch_table_capnpc_layout_rust_readers_Schema_field_values_21) + (i64)(8 * (u64)r_47_3)));
+    r_c2_1 = ldp((((u8 *)switch_table_capnpc_layout_rust_readers_Schema_field_values_22) + (i64)(8 * (u64)r_47_3)));
 l_capnpc_sm_1:;
     capnpc_schema_text_Values_put_lines(slot_11, r_c2_1, r_la_1);
     goto l_capnpc_a7;
@@ -30170,13 +30692,13 @@ l_capnpc_a7:;
     r_lz_2 = ldp(slot_11);
     r_iv = ld64(r_x5_1);
 l_loop_bp:;
-    if (r_iv == 0ull) { t_ig = ((u8 *)g_static_202); t_ke = 27ull; goto l_capnpc_g5; }
+    if (r_iv == 0ull) { t_ig = ((u8 *)g_static_203); t_ke = 27ull; goto l_capnpc_g5; }
     u64 r_zn = (r_iv + 0xffffffffffffffffull);
     r_2b_4 = away(r_lz_2, (r_zn * 48ull));
-    u8 r_0t = core_cmp_bytes_equal(ldp(r_2b_4), ld64((r_2b_4 + 8)), ((u8 *)g_static_195), 5ull);
-    if (!r_0t) { r_iv = r_zn; goto l_loop_bp; }
+    u8 r_0r = core_cmp_bytes_equal(ldp(r_2b_4), ld64((r_2b_4 + 8)), ((u8 *)g_static_196), 5ull);
+    if (!r_0r) { r_iv = r_zn; goto l_loop_bp; }
     u8 t_ts = (ld64(away(r_2b_4, 24ull)) == 0ull);
-    t_ig = (t_ts ? ((u8 *)g_static_202) : ((u8 *)g_static_201));
+    t_ig = (t_ts ? ((u8 *)g_static_203) : ((u8 *)g_static_202));
     t_ke = (t_ts ? 27ull : 44ull);
 l_capnpc_g5:;
     capnpc_schema_text_Values_put_lines(slot_11, t_ig, t_ke);
@@ -30209,24 +30731,24 @@ l_join_v4_2:;
 l_capnpc_8x_2:;
     r_ix_11 = (u8)(r_dg_2 & 1);
     u64 r_52_17 = ld64(r_x5_1);
-    if (!(ld64(r_zd_1) == r_52_17)) { r_j0_1 = r_52_17; goto l_join_0m_1; }
+    if (!(ld64(r_zd_1) == r_52_17)) { r_n4_1 = r_52_17; goto l_join_gm_1; }
     u8 r_89_12 = std_alloc_vec_Vec_grow_amortized_c7bbd78b6494f746(slot_11);
     if (!r_89_12) goto l_arm_f8_11;
-    r_j0_1 = ld64(r_x5_1);
-    goto l_join_0m_1;
+    r_n4_1 = ld64(r_x5_1);
+    goto l_join_gm_1;
 l_arm_f8_11:;
     if (r_8i_2 == 0ull) goto l_join_4s_11;
     rattle_dealloc(r_6s_2);
     goto l_join_4s_11;
-l_join_0m_1:;
-    u8 *r_a7_12 = (ldp(slot_11) + (i64)((r_j0_1 * 48ull)));
-    stp(r_a7_12, ((u8 *)g_static_189));
+l_join_gm_1:;
+    u8 *r_a7_12 = (ldp(slot_11) + (i64)((r_n4_1 * 48ull)));
+    stp(r_a7_12, ((u8 *)g_static_190));
     st64((r_a7_12 + 8), 4ull);
     stp((r_a7_12 + 16), r_6s_2);
     st64((r_a7_12 + 24), r_wx_2);
     st64((r_a7_12 + 32), r_8i_2);
     st64((r_a7_12 + 40), r_dg_2);
-    st64(r_x5_1, (r_j0_1 + 1ull));
+    st64(r_x5_1, (r_n4_1 + 1ull));
     if (!r_ix_11) goto l_capnpc_ud;
 l_join_4s_11:;
     st8((slot_11 + 24), 1u);
@@ -30245,8 +30767,8 @@ l_join_v4_3:;
     r_tr_3 = (r_1y_3 * 280ull);
     if (!(ld64(away(r_mb_2, r_tr_3)) == r_52_18)) goto l_loop_9k_1;
     u8 *r_2b_5 = away(r_mb_2, r_tr_3);
-    capnpc_schema_text_Values_put(slot_11, ((u8 *)g_static_190), 4ull, ldp(away(r_2b_5, 88ull)), ld64(away(r_2b_5, 96ull)));
-    capnpc_schema_text_Values_put(slot_11, ((u8 *)g_static_191), 6ull, ldp(away(r_2b_5, 64ull)), ld64(away(r_2b_5, 72ull)));
+    capnpc_schema_text_Values_put(slot_11, ((u8 *)g_static_191), 4ull, ldp(away(r_2b_5, 88ull)), ld64(away(r_2b_5, 96ull)));
+    capnpc_schema_text_Values_put(slot_11, ((u8 *)g_static_192), 6ull, ldp(away(r_2b_5, 64ull)), ld64(away(r_2b_5, 72ull)));
 l_join_bh:;
     r_lz_3 = ldp(slot_11);
     r_iv_1 = ld64(r_x5_1);
@@ -30254,8 +30776,8 @@ l_loop_bp_1:;
     if (r_iv_1 == 0ull) { r_fy = 0ull; r_gd = ((u8 *)g_static_120); goto l_capnpc_0d; }
     u64 r_zn_1 = (r_iv_1 + 0xffffffffffffffffull);
     r_2b_6 = away(r_lz_3, (r_zn_1 * 48ull));
-    u8 r_qo = core_cmp_bytes_equal(ldp(r_2b_6), ld64((r_2b_6 + 8)), ((u8 *)g_static_192), 5ull);
-    if (!r_qo) { r_iv_1 = r_zn_1; goto l_loop_bp_1; }
+    u8 r_l6 = core_cmp_bytes_equal(ldp(r_2b_6), ld64((r_2b_6 + 8)), ((u8 *)g_static_193), 5ull);
+    if (!r_l6) { r_iv_1 = r_zn_1; goto l_loop_bp_1; }
     r_fy = ld64(away(r_2b_6, 24ull));
     r_gd = ldp(away(r_2b_6, 16ull));
 l_capnpc_0d:;
@@ -30356,17 +30878,17 @@ l_then_gb_2:;
     r_d4_1 = ld64(r_x5_6);
     r_ub_1 = ld64(r_zd_3);
 l_join_z4:;
-    if (!(r_ub_1 == r_d4_1)) { r_06_1 = r_ub_1; r_9k = r_d4_1; goto l_join_68; }
+    if (!(r_ub_1 == r_d4_1)) { r_06 = r_ub_1; r_9k = r_d4_1; goto l_join_68; }
     u8 r_uc_4 = std_alloc_vec_Vec_grow_amortized_827889bc1b348a11(slot_2, 1ull);
     if (!r_uc_4) goto l_then_4s_1;
-    r_06_1 = ld64(r_zd_3);
+    r_06 = ld64(r_zd_3);
     r_9k = ld64(r_x5_6);
 l_join_68:;
     u8 *r_lz_7 = ldp(slot_2);
     st8(away(r_lz_7, r_9k), 58u);
     stp(slot_2, r_lz_7);
     st64(r_x5_6, (r_9k + 1ull));
-    st64(r_zd_3, r_06_1);
+    st64(r_zd_3, r_06);
     goto l_capnpc_p4;
 l_then_4s_1:;
     st8((slot_2 + 24), 1u);
@@ -30421,13 +30943,13 @@ l_join_h9:;
     r_pk = (r_tv + 5ull);
     r_lz_9 = ldp(slot_2);
     r_2b_9 = away(r_lz_9, r_tv);
-    if (((u64)(uptr)r_2b_9 - (u64)(uptr)((u8 *)g_static_242)) < 5ull) { r_1y_4 = 0ull; goto l_join_th; }
-    mv5(r_2b_9, ((u8 *)g_static_242));
+    if (((u64)(uptr)r_2b_9 - (u64)(uptr)((u8 *)g_static_243)) < 5ull) { r_ls_1 = 0ull; goto l_join_dq; }
+    mv5(r_2b_9, ((u8 *)g_static_243));
     goto l_std_pi;
-l_join_th:;
-    st8((r_2b_9 + (i64)(r_1y_4)), ld8((((u8 *)g_static_242) + (i64)(r_1y_4))));
-    u64 r_c4_2 = (r_1y_4 + 1ull);
-    if (!(r_c4_2 == 5ull)) { r_1y_4 = r_c4_2; goto l_join_th; }
+l_join_dq:;
+    st8((r_2b_9 + (i64)(r_ls_1)), ld8((((u8 *)g_static_243) + (i64)(r_ls_1))));
+    u64 r_c4_2 = (r_ls_1 + 1ull);
+    if (!(r_c4_2 == 5ull)) { r_ls_1 = r_c4_2; goto l_join_dq; }
 l_std_pi:;
     stp(slot_2, r_lz_9);
     st64(r_x5_6, r_pk);
@@ -30468,24 +30990,24 @@ l_capnpc_8i:;
     r_38_28 = ld64((slot_2 + 24));
     r_ix_12 = (u8)(r_38_28 & 1);
     u64 r_52_28 = ld64(r_x5_1);
-    if (!(ld64(r_zd_1) == r_52_28)) { r_1w = r_52_28; goto l_join_l6; }
+    if (!(ld64(r_zd_1) == r_52_28)) { r_jc = r_52_28; goto l_join_29; }
     u8 r_89_13 = std_alloc_vec_Vec_grow_amortized_c7bbd78b6494f746(slot_11);
     if (!r_89_13) goto l_arm_f8_12;
-    r_1w = ld64(r_x5_1);
-    goto l_join_l6;
+    r_jc = ld64(r_x5_1);
+    goto l_join_29;
 l_arm_f8_12:;
     if (r_n1 == 0ull) goto l_join_4s_12;
     rattle_dealloc(r_os);
     goto l_join_4s_12;
-l_join_l6:;
-    u8 *r_a7_13 = (ldp(slot_11) + (i64)((r_1w * 48ull)));
-    stp(r_a7_13, ((u8 *)g_static_161));
+l_join_29:;
+    u8 *r_a7_13 = (ldp(slot_11) + (i64)((r_jc * 48ull)));
+    stp(r_a7_13, ((u8 *)g_static_162));
     st64((r_a7_13 + 8), 4ull);
     stp((r_a7_13 + 16), r_os);
     st64((r_a7_13 + 24), r_0s);
     st64((r_a7_13 + 32), r_n1);
     st64((r_a7_13 + 40), r_38_28);
-    st64(r_x5_1, (r_1w + 1ull));
+    st64(r_x5_1, (r_jc + 1ull));
     if (!r_ix_12) goto l_capnpc_sw;
 l_join_4s_12:;
     st8((slot_11 + 24), 1u);
@@ -30526,12 +31048,12 @@ static void capnpc_layout_rust_types_scalar_type(u8 *a_1, u8 *a_2, u64 a_3, u64 
     u64 r_68;
     u64 r_hc;
     u8 *r_2b_1;
-    u64 r_e1;
+    u64 r_jo;
     u64 r_r1_1;
     u64 r_68_1;
     u64 r_hc_1;
     u8 *r_2b_2;
-    u64 r_jo;
+    u64 r_yh;
     u8 *r_rv_1;
     u64 r_qw_1;
     u8 *r_zd_2;
@@ -30629,13 +31151,13 @@ l_arm_h5:;
 l_join_5q:;
     r_hc = (r_68 + 3ull);
     r_2b_1 = away(ldp(slot_3), r_68);
-    if (((u64)(uptr)r_2b_1 - (u64)(uptr)((u8 *)g_static_203)) < 3ull) { r_e1 = 0ull; goto l_join_nd; }
-    mv3(r_2b_1, ((u8 *)g_static_203));
+    if (((u64)(uptr)r_2b_1 - (u64)(uptr)((u8 *)g_static_204)) < 3ull) { r_jo = 0ull; goto l_join_po; }
+    mv3(r_2b_1, ((u8 *)g_static_204));
     goto l_std_71_1;
-l_join_nd:;
-    st8((r_2b_1 + (i64)(r_e1)), ld8((((u8 *)g_static_203) + (i64)(r_e1))));
-    u64 r_c4 = (r_e1 + 1ull);
-    if (!(r_c4 == 3ull)) { r_e1 = r_c4; goto l_join_nd; }
+l_join_po:;
+    st8((r_2b_1 + (i64)(r_jo)), ld8((((u8 *)g_static_204) + (i64)(r_jo))));
+    u64 r_c4 = (r_jo + 1ull);
+    if (!(r_c4 == 3ull)) { r_jo = r_c4; goto l_join_po; }
 l_std_71_1:;
     st64(r_x5_1, r_hc);
     st64(r_zd_1, r_r1);
@@ -30652,13 +31174,13 @@ l_default_mo:;
 l_join_5q_1:;
     r_hc_1 = (r_68_1 + 3ull);
     r_2b_2 = away(ldp(slot_3), r_68_1);
-    if (((u64)(uptr)r_2b_2 - (u64)(uptr)((u8 *)g_static_204)) < 3ull) { r_jo = 0ull; goto l_join_po; }
-    mv3(r_2b_2, ((u8 *)g_static_204));
+    if (((u64)(uptr)r_2b_2 - (u64)(uptr)((u8 *)g_static_205)) < 3ull) { r_yh = 0ull; goto l_join_9k; }
+    mv3(r_2b_2, ((u8 *)g_static_205));
     goto l_std_71_2;
-l_join_po:;
-    st8((r_2b_2 + (i64)(r_jo)), ld8((((u8 *)g_static_204) + (i64)(r_jo))));
-    u64 r_c4_1 = (r_jo + 1ull);
-    if (!(r_c4_1 == 3ull)) { r_jo = r_c4_1; goto l_join_po; }
+l_join_9k:;
+    st8((r_2b_2 + (i64)(r_yh)), ld8((((u8 *)g_static_205) + (i64)(r_yh))));
+    u64 r_c4_1 = (r_yh + 1ull);
+    if (!(r_c4_1 == 3ull)) { r_yh = r_c4_1; goto l_join_9k; }
 l_std_71_2:;
     st64(r_x5_1, r_hc_1);
     st64(r_zd_1, r_r1_1);
@@ -30724,28 +31246,28 @@ static void capnpc_layout_rust_types_element_type(u8 *a_1, u8 *a_2, u64 a_3, u64
     u64 r_wr;
     u8 *r_lz;
     u8 *r_2b;
-    u64 r_yh;
+    u64 r_z8;
     u8 *r_zd_1;
     u64 r_r1;
     u64 r_68;
     u64 r_hc;
     u8 *r_lz_1;
     u8 *r_2b_1;
-    u64 r_z8;
+    u64 r_7n;
     u8 *r_zd_2;
     u64 r_fy;
     u64 r_ge;
     u64 r_5b;
     u8 *r_lz_2;
     u8 *r_2b_2;
-    u64 r_7n;
+    u64 r_bh;
     u8 *r_zd_3;
     u64 r_0q;
     u64 r_qi;
     u64 r_sb;
     u8 *r_lz_3;
     u8 *r_2b_3;
-    u64 r_bh;
+    u64 r_7c;
     u8 *t_x5;
     u8 r_qh;
     u64 r_hm;
@@ -30829,13 +31351,13 @@ l_join_49:;
     r_wr = (r_90 + 9ull);
     r_lz = ldp(slot_4);
     r_2b = away(r_lz, r_90);
-    if (((u64)(uptr)r_2b - (u64)(uptr)((u8 *)g_static_205)) < 9ull) { r_yh = 0ull; goto l_join_9k; }
-    mv9(r_2b, ((u8 *)g_static_205));
+    if (((u64)(uptr)r_2b - (u64)(uptr)((u8 *)g_static_206)) < 9ull) { r_z8 = 0ull; goto l_join_4k; }
+    mv9(r_2b, ((u8 *)g_static_206));
     goto l_std_5f;
-l_join_9k:;
-    st8((r_2b + (i64)(r_yh)), ld8((((u8 *)g_static_205) + (i64)(r_yh))));
-    u64 r_c4 = (r_yh + 1ull);
-    if (!(r_c4 == 9ull)) { r_yh = r_c4; goto l_join_9k; }
+l_join_4k:;
+    st8((r_2b + (i64)(r_z8)), ld8((((u8 *)g_static_206) + (i64)(r_z8))));
+    u64 r_c4 = (r_z8 + 1ull);
+    if (!(r_c4 == 9ull)) { r_z8 = r_c4; goto l_join_4k; }
 l_std_5f:;
     stp(slot_4, r_lz);
     st64(r_x5, r_wr);
@@ -30874,13 +31396,13 @@ l_join_5q:;
     r_hc = (r_68 + 3ull);
     r_lz_1 = ldp(slot_4);
     r_2b_1 = away(r_lz_1, r_68);
-    if (((u64)(uptr)r_2b_1 - (u64)(uptr)((u8 *)g_static_206)) < 3ull) { r_z8 = 0ull; goto l_join_4k; }
-    mv3(r_2b_1, ((u8 *)g_static_206));
+    if (((u64)(uptr)r_2b_1 - (u64)(uptr)((u8 *)g_static_207)) < 3ull) { r_7n = 0ull; goto l_join_ms; }
+    mv3(r_2b_1, ((u8 *)g_static_207));
     goto l_std_pi;
-l_join_4k:;
-    st8((r_2b_1 + (i64)(r_z8)), ld8((((u8 *)g_static_206) + (i64)(r_z8))));
-    u64 r_c4_1 = (r_z8 + 1ull);
-    if (!(r_c4_1 == 3ull)) { r_z8 = r_c4_1; goto l_join_4k; }
+l_join_ms:;
+    st8((r_2b_1 + (i64)(r_7n)), ld8((((u8 *)g_static_207) + (i64)(r_7n))));
+    u64 r_c4_1 = (r_7n + 1ull);
+    if (!(r_c4_1 == 3ull)) { r_7n = r_c4_1; goto l_join_ms; }
 l_std_pi:;
     stp(slot_4, r_lz_1);
     st64(r_x5, r_hc);
@@ -30902,13 +31424,13 @@ l_join_pg:;
     r_5b = (r_ge + 4ull);
     r_lz_2 = ldp(slot_4);
     r_2b_2 = away(r_lz_2, r_ge);
-    if (((u64)(uptr)r_2b_2 - (u64)(uptr)((u8 *)g_static_207)) < 4ull) { r_7n = 0ull; goto l_join_ms; }
+    if (((u64)(uptr)r_2b_2 - (u64)(uptr)((u8 *)g_static_208)) < 4ull) { r_bh = 0ull; goto l_join_tw; }
     st32(r_2b_2, 0x5d38755bu);
     goto l_std_pi_1;
-l_join_ms:;
-    st8((r_2b_2 + (i64)(r_7n)), ld8((((u8 *)g_static_207) + (i64)(r_7n))));
-    u64 r_c4_2 = (r_7n + 1ull);
-    if (!(r_c4_2 == 4ull)) { r_7n = r_c4_2; goto l_join_ms; }
+l_join_tw:;
+    st8((r_2b_2 + (i64)(r_bh)), ld8((((u8 *)g_static_208) + (i64)(r_bh))));
+    u64 r_c4_2 = (r_bh + 1ull);
+    if (!(r_c4_2 == 4ull)) { r_bh = r_c4_2; goto l_join_tw; }
 l_std_pi_1:;
     stp(slot_4, r_lz_2);
     st64(r_x5, r_5b);
@@ -30930,13 +31452,13 @@ l_join_q0:;
     r_sb = (r_qi + 11ull);
     r_lz_3 = ldp(slot_4);
     r_2b_3 = away(r_lz_3, r_qi);
-    if (((u64)(uptr)r_2b_3 - (u64)(uptr)((u8 *)g_static_208)) < 11ull) { r_bh = 0ull; goto l_join_tw; }
-    mv11(r_2b_3, ((u8 *)g_static_208));
+    if (((u64)(uptr)r_2b_3 - (u64)(uptr)((u8 *)g_static_209)) < 11ull) { r_7c = 0ull; goto l_join_5l; }
+    mv11(r_2b_3, ((u8 *)g_static_209));
     goto l_std_pi_2;
-l_join_tw:;
-    st8((r_2b_3 + (i64)(r_bh)), ld8((((u8 *)g_static_208) + (i64)(r_bh))));
-    u64 r_c4_3 = (r_bh + 1ull);
-    if (!(r_c4_3 == 11ull)) { r_bh = r_c4_3; goto l_join_tw; }
+l_join_5l:;
+    st8((r_2b_3 + (i64)(r_7c)), ld8((((u8 *)g_static_209) + (i64)(r_7c))));
+    u64 r_c4_3 = (r_7c + 1ull);
+    if (!(r_c4_3 == 11ull)) { r_7c = r_c4_3; goto l_join_5l; }
 l_std_pi_2:;
     stp(slot_4, r_lz_3);
     st64(r_x5, r_sb);
@@ -31059,11 +31581,11 @@ l_join_yw_1:;
     u64 r_52_12 = ld64(away(r_8z, 96ull));
     stp(slot_3, ldp(away(r_8z, 88ull)));
     st64((slot_3 + 8), r_52_12);
-    stp((slot_3 + 16), ((u8 *)g_static_210));
+    stp((slot_3 + 16), ((u8 *)g_static_211));
     st64((slot_3 + 24), 1ull);
     stp((slot_3 + 32), a_6);
     st64((slot_3 + 40), a_7);
-    stp((slot_3 + 48), ((u8 *)g_static_209));
+    stp((slot_3 + 48), ((u8 *)g_static_210));
     st64((slot_3 + 56), 1ull);
     r_id = 0ull;
 l_join_ge:;
@@ -31185,7 +31707,7 @@ static void capnpc_layout_rust_forms_byte_string(u8 *a_1, u8 *a_2, u64 a_3)
     u64 r_38;
     u64 r_x4;
     u8 *r_2b;
-    u64 r_2y;
+    u64 r_om;
     u8 *r_lk;
     u8 *r_lk_1;
     u8 *r_nk;
@@ -31203,7 +31725,7 @@ static void capnpc_layout_rust_forms_byte_string(u8 *a_1, u8 *a_2, u64 a_3)
     u64 r_ky;
     u64 r_x4_1;
     u8 *r_2b_1;
-    u64 r_w0;
+    u64 r_6g;
     u64 r_7d;
     u64 r_i3;
     u64 r_52_4;
@@ -31213,12 +31735,12 @@ static void capnpc_layout_rust_forms_byte_string(u8 *a_1, u8 *a_2, u64 a_3)
     u64 r_ky_1;
     u64 r_x4_2;
     u8 *r_2b_2;
-    u64 r_a6;
+    u64 r_gi;
     u64 r_sn;
     u64 r_zl;
-    u64 r_dg;
+    u64 r_6v;
     u64 r_lo;
-    struct s_i8_i64 r_3x;
+    struct s_i8_i64 r_ct;
     u64 r_h9;
     u8 *r_2b_3;
     u64 r_jm;
@@ -31237,13 +31759,13 @@ static void capnpc_layout_rust_forms_byte_string(u8 *a_1, u8 *a_2, u64 a_3)
     u64 r_38_1 = ld64(r_x5);
     r_x4 = (r_38_1 + 2ull);
     r_2b = away(ldp(slot_5), r_38_1);
-    if (((u64)(uptr)r_2b - (u64)(uptr)((u8 *)g_static_227)) < 2ull) { r_2y = 0ull; goto l_join_6j; }
+    if (((u64)(uptr)r_2b - (u64)(uptr)((u8 *)g_static_228)) < 2ull) { r_om = 0ull; goto l_join_06; }
     st16(r_2b, 8802u);
     goto l_std_93;
-l_join_6j:;
-    st8((r_2b + (i64)(r_2y)), ld8((((u8 *)g_static_227) + (i64)(r_2y))));
-    u64 r_c4 = (r_2y + 1ull);
-    if (!(r_c4 == 2ull)) { r_2y = r_c4; goto l_join_6j; }
+l_join_06:;
+    st8((r_2b + (i64)(r_om)), ld8((((u8 *)g_static_228) + (i64)(r_om))));
+    u64 r_c4 = (r_om + 1ull);
+    if (!(r_c4 == 2ull)) { r_om = r_c4; goto l_join_06; }
 l_std_93:;
     st64(r_x5, r_x4);
     st64(r_zd, r_38);
@@ -31282,13 +31804,13 @@ l_arm_d4:;
 l_join_p0:;
     r_x4_1 = (r_ky + 2ull);
     r_2b_1 = away(ldp(slot_5), r_ky);
-    if (((u64)(uptr)r_2b_1 - (u64)(uptr)((u8 *)g_static_229)) < 2ull) { r_w0 = 0ull; goto l_join_wk; }
+    if (((u64)(uptr)r_2b_1 - (u64)(uptr)((u8 *)g_static_230)) < 2ull) { r_6g = 0ull; goto l_join_0k; }
     st16(r_2b_1, 8796u);
     goto l_std_93_1;
-l_join_wk:;
-    st8((r_2b_1 + (i64)(r_w0)), ld8((((u8 *)g_static_229) + (i64)(r_w0))));
-    u64 r_c4_2 = (r_w0 + 1ull);
-    if (!(r_c4_2 == 2ull)) { r_w0 = r_c4_2; goto l_join_wk; }
+l_join_0k:;
+    st8((r_2b_1 + (i64)(r_6g)), ld8((((u8 *)g_static_230) + (i64)(r_6g))));
+    u64 r_c4_2 = (r_6g + 1ull);
+    if (!(r_c4_2 == 2ull)) { r_6g = r_c4_2; goto l_join_0k; }
 l_std_93_1:;
     st64(r_x5, r_x4_1);
     st64(r_zd, r_b4);
@@ -31343,13 +31865,13 @@ l_after_wz:;
 l_join_p0_1:;
     r_x4_2 = (r_ky_1 + 2ull);
     r_2b_2 = away(ldp(slot_3), r_ky_1);
-    if (((u64)(uptr)r_2b_2 - (u64)(uptr)((u8 *)g_static_231)) < 2ull) { r_a6 = 0ull; goto l_join_9u; }
+    if (((u64)(uptr)r_2b_2 - (u64)(uptr)((u8 *)g_static_232)) < 2ull) { r_gi = 0ull; goto l_join_9q; }
     st16(r_2b_2, 30812u);
     goto l_core_m6;
-l_join_9u:;
-    st8((r_2b_2 + (i64)(r_a6)), ld8((((u8 *)g_static_231) + (i64)(r_a6))));
-    u64 r_c4_3 = (r_a6 + 1ull);
-    if (!(r_c4_3 == 2ull)) { r_a6 = r_c4_3; goto l_join_9u; }
+l_join_9q:;
+    st8((r_2b_2 + (i64)(r_gi)), ld8((((u8 *)g_static_232) + (i64)(r_gi))));
+    u64 r_c4_3 = (r_gi + 1ull);
+    if (!(r_c4_3 == 2ull)) { r_gi = r_c4_3; goto l_join_9q; }
 l_core_m6:;
     st64(r_x5_1, r_x4_2);
     st64(r_zd_1, r_b4_1);
@@ -31364,23 +31886,23 @@ l_core_m6:;
     r_sn = r_eg;
     r_zl = 64ull;
 l_loop_ji:;
-    if (r_zl == 0ull) { r_dg = 0ull; goto l_core_j1; }
+    if (r_zl == 0ull) { r_6v = 0ull; goto l_core_do; }
     u64 r_0f = (r_zl + 0xffffffffffffffffull);
     u64 r_ys = (r_sn & 15ull);
     u8 r_qb = (u8)r_ys;
     st8((slot_2 + (i64)(r_0f)), ((r_ys < 10ull) ? (u8)(r_qb | 48u) : (u8)(r_qb + 87u)));
-    if (r_sn < 16ull) { r_dg = r_0f; goto l_core_j1; }
+    if (r_sn < 16ull) { r_6v = r_0f; goto l_core_do; }
     u64 r_1 = (u64)(r_sn >> 4ull);
     u64 r_2 = r_0f;
     r_sn = r_1;
     r_zl = r_2;
     goto l_loop_ji;
-l_core_j1:;
-    r_lo = (64ull - r_dg);
-    r_3x = core_fmt_formatter_Formatter_write_before_number_6986d_039dc031(slot_3, ((u8 *)g_static_234), 2ull, r_lo);
-    if (!(r_3x.f0 == 0u)) goto l_core_nb;
-    r_h9 = r_3x.f1;
-    r_2b_3 = away(slot_2, r_dg);
+l_core_do:;
+    r_lo = (64ull - r_6v);
+    r_ct = core_fmt_formatter_Formatter_write_before_number_6986d_039dc031(slot_3, ((u8 *)g_static_235), 2ull, r_lo);
+    if (!(r_ct.f0 == 0u)) goto l_core_nb;
+    r_h9 = r_ct.f1;
+    r_2b_3 = away(slot_2, r_6v);
     if (!(ld64(r_c4_1) == 0ull)) goto l_core_tg;
     u64 r_52_7 = ld64(r_zd_1);
     u64 r_52_8 = ld64(r_x5_1);
@@ -31510,7 +32032,7 @@ static void capnpc_layout_rust_paths_push_path(u8 *a_1, u64 a_2, u64 a_3, u64 a_
     u64 r_xe;
     u8 *r_fx_1;
     u8 *r_2b_3;
-    u64 r_hc;
+    u64 r_49;
     u64 r_hm_1;
     u64 r_tr_1;
     u64 r_zv;
@@ -31553,7 +32075,7 @@ l_join_yw:;
     memset(r_x5, 0u, 24);
     stp(slot_3, r_lz);
     st64(r_x5_1, r_52);
-    stp(r_zd, ((u8 *)g_static_240));
+    stp(r_zd, ((u8 *)g_static_241));
     st64(r_lk, 2ull);
     exitcond_80 = 0u;
     r_q5 = slot_3;
@@ -31682,13 +32204,13 @@ l_join_me:;
     r_xe = (r_nq + 7ull);
     r_fx_1 = ldp(a_5);
     r_2b_3 = away(r_fx_1, r_nq);
-    if (((u64)(uptr)r_2b_3 - (u64)(uptr)((u8 *)g_static_239)) < 7ull) { r_hc = 0ull; goto l_join_xa; }
-    mv7(r_2b_3, ((u8 *)g_static_239));
+    if (((u64)(uptr)r_2b_3 - (u64)(uptr)((u8 *)g_static_240)) < 7ull) { r_49 = 0ull; goto l_join_00; }
+    mv7(r_2b_3, ((u8 *)g_static_240));
     goto l_std_92;
-l_join_xa:;
-    st8((r_2b_3 + (i64)(r_hc)), ld8((((u8 *)g_static_239) + (i64)(r_hc))));
-    u64 r_c4 = (r_hc + 1ull);
-    if (!(r_c4 == 7ull)) { r_hc = r_c4; goto l_join_xa; }
+l_join_00:;
+    st8((r_2b_3 + (i64)(r_49)), ld8((((u8 *)g_static_240) + (i64)(r_49))));
+    u64 r_c4 = (r_49 + 1ull);
+    if (!(r_c4 == 7ull)) { r_49 = r_c4; goto l_join_00; }
 l_std_92:;
     stp(a_5, r_fx_1);
     st64(r_rq, r_xe);
@@ -31733,7 +32255,7 @@ static void capnpc_schema_model_type_name(u8 *a_1, u8 *a_2, u64 a_3, u8 *a_4)
     u64 r_tv;
     u64 r_pk;
     u8 *r_2b;
-    u64 r_ls;
+    u64 r_l8;
     u64 r_qw_1;
     u8 *r_rv_1;
     u8 *r_zd_1;
@@ -31757,7 +32279,7 @@ static void capnpc_schema_model_type_name(u8 *a_1, u8 *a_2, u64 a_3, u8 *a_4)
     u64 r_6j;
     u64 r_xe;
     u8 *r_2b_3;
-    u64 r_l8;
+    u64 r_e5;
     u8 *r_zd_4;
     u8 *r_lk_1;
     u32 r_o1;
@@ -31785,13 +32307,13 @@ l_join_ln:;
 l_join_h9:;
     r_pk = (r_tv + 5ull);
     r_2b = away(ldp(slot_2), r_tv);
-    if (((u64)(uptr)r_2b - (u64)(uptr)((u8 *)g_static_243)) < 5ull) { r_ls = 0ull; goto l_join_dq; }
-    mv5(r_2b, ((u8 *)g_static_243));
+    if (((u64)(uptr)r_2b - (u64)(uptr)((u8 *)g_static_244)) < 5ull) { r_l8 = 0ull; goto l_join_j7; }
+    mv5(r_2b, ((u8 *)g_static_244));
     goto l_std_93;
-l_join_dq:;
-    st8((r_2b + (i64)(r_ls)), ld8((((u8 *)g_static_243) + (i64)(r_ls))));
-    u64 r_c4 = (r_ls + 1ull);
-    if (!(r_c4 == 5ull)) { r_ls = r_c4; goto l_join_dq; }
+l_join_j7:;
+    st8((r_2b + (i64)(r_l8)), ld8((((u8 *)g_static_244) + (i64)(r_l8))));
+    u64 r_c4 = (r_l8 + 1ull);
+    if (!(r_c4 == 5ull)) { r_l8 = r_c4; goto l_join_j7; }
 l_std_93:;
     st64(r_x5, r_pk);
     st64(r_zd, r_8u);
@@ -31881,13 +32403,13 @@ l_arm_pb:;
 l_join_4z:;
     r_xe = (r_6j + 7ull);
     r_2b_3 = away(ldp(slot_2), r_6j);
-    if (((u64)(uptr)r_2b_3 - (u64)(uptr)((u8 *)g_static_244)) < 7ull) { r_l8 = 0ull; goto l_join_j7; }
-    mv7(r_2b_3, ((u8 *)g_static_244));
+    if (((u64)(uptr)r_2b_3 - (u64)(uptr)((u8 *)g_static_245)) < 7ull) { r_e5 = 0ull; goto l_join_vq; }
+    mv7(r_2b_3, ((u8 *)g_static_245));
     goto l_std_71_2;
-l_join_j7:;
-    st8((r_2b_3 + (i64)(r_l8)), ld8((((u8 *)g_static_244) + (i64)(r_l8))));
-    u64 r_c4_1 = (r_l8 + 1ull);
-    if (!(r_c4_1 == 7ull)) { r_l8 = r_c4_1; goto l_join_j7; }
+l_join_vq:;
+    st8((r_2b_3 + (i64)(r_e5)), ld8((((u8 *)g_static_245) + (i64)(r_e5))));
+    u64 r_c4_1 = (r_e5 + 1ull);
+    if (!(r_c4_1 == 7ull)) { r_e5 = r_c4_1; goto l_join_vq; }
 l_std_71_2:;
     st64(r_x5, r_xe);
     st64(r_zd_3, r_sk);
@@ -32036,34 +32558,34 @@ l_noarm_e1:;
     UNREACHABLE();
 l_then_3h:;
     switch (r_47) {
-    case 0u: { r_o1 = 7ull; r_81 = ((u8 *)g_static_251); goto l_return_m9; }
+    case 0u: { r_o1 = 7ull; r_81 = ((u8 *)g_static_252); goto l_return_m9; }
     case 1u: goto l_arm_8b;
     case 2u: { r_59 = r_pt; r_zz = r_7d; goto l_after_ri; }
     default: goto l_noarm_e1_2;
     }
 l_arm_8b:;
     r_dd = ld8(ldp(away(r_2b, 152ull)));
-    if (!(ld32(away(r_2b, 144ull)) == 0u)) { r_o1 = 7ull; r_81 = ((u8 *)g_static_251); goto l_return_m9; }
+    if (!(ld32(away(r_2b, 144ull)) == 0u)) { r_o1 = 7ull; r_81 = ((u8 *)g_static_252); goto l_return_m9; }
     switch (r_dd) {
-    case 8u: { r_o1 = 7ull; r_81 = ((u8 *)g_static_251); goto l_return_m9; }
-    case 10u: { r_o1 = 7ull; r_81 = ((u8 *)g_static_251); goto l_return_m9; }
-    case 0u: goto l_join_1d;
-    case 1u: goto l_join_1d;
-    case 2u: goto l_join_1d;
-    case 3u: goto l_join_1d;
-    case 4u: goto l_join_1d;
-    case 5u: goto l_join_1d;
-    case 6u: goto l_join_1d;
-    case 7u: goto l_join_1d;
-    case 9u: goto l_join_1d;
+    case 8u: { r_o1 = 7ull; r_81 = ((u8 *)g_static_252); goto l_return_m9; }
+    case 10u: { r_o1 = 7ull; r_81 = ((u8 *)g_static_252); goto l_return_m9; }
+    case 0u: goto l_join_v4_2;
+    case 1u: goto l_join_v4_2;
+    case 2u: goto l_join_v4_2;
+    case 3u: goto l_join_v4_2;
+    case 4u: goto l_join_v4_2;
+    case 5u: goto l_join_v4_2;
+    case 6u: goto l_join_v4_2;
+    case 7u: goto l_join_v4_2;
+    case 9u: goto l_join_v4_2;
     default: goto l_noarm_e1_3;
     }
 l_noarm_e1_3:;
     UNREACHABLE();
-l_join_1d:;
+l_join_v4_2:;
     u8 switch_7k = ((u8)(r_dd & 254u) == 6u);
     r_59 = (switch_7k ? 4ull : r_pt);
-    r_zz = (switch_7k ? ((u8 *)g_static_252) : r_7d);
+    r_zz = (switch_7k ? ((u8 *)g_static_253) : r_7d);
 l_after_ri:;
     u64 r_36_2 = (r_3h + 1ull);
     if (r_36_2 == r_52) { r_o1 = r_59; r_81 = r_zz; goto l_return_m9; }
@@ -32102,7 +32624,7 @@ static void capnpc_layout_rust_docs_push_docs(u8 *a_1, u8 *a_2, u64 a_3, u8 *a_4
     u64 r_dq;
     u8 *r_2b;
     u64 r_t9;
-    u64 r_i6;
+    u64 r_m7;
     u8 exitcond_80;
     u8 *r_q5;
     u64 r_52;
@@ -32201,14 +32723,14 @@ l_join_5s:;
     u64 r_h0 = r_zb.f1;
     r_2b = away(r_uf, r_h0);
     r_t9 = (r_kj - r_h0);
-    if (r_dq == r_kj) { r_i6 = r_kj; goto l_arm_7k; }
-    if (r_dq == 0ull) { r_i6 = 0ull; goto l_arm_7k; }
+    if (r_dq == r_kj) { r_m7 = r_kj; goto l_arm_ch; }
+    if (r_dq == 0ull) { r_m7 = 0ull; goto l_arm_ch; }
     u64 r_zn = (r_dq + 0xffffffffffffffffull);
-    r_i6 = ((ld8((r_uf + (i64)(r_zn))) == 13u) ? r_zn : r_dq);
-l_arm_7k:;
+    r_m7 = ((ld8((r_uf + (i64)(r_zn))) == 13u) ? r_zn : r_dq);
+l_arm_ch:;
     stp(slot_1, a_2);
     st64(r_x5, a_3);
-    stp(r_zd_2, ((u8 *)g_static_260));
+    stp(r_zd_2, ((u8 *)g_static_261));
     st64(r_lk, 3ull);
     exitcond_80 = 0u;
     r_q5 = slot_1;
@@ -32243,7 +32765,7 @@ l_then_1w:;
     st8(r_xz, 1u);
 l_capnpc_cu:;
     if (!exitcond_80) { exitcond_80 = 1u; r_q5 = r_zd_1; goto l_join_5d; }
-    struct s_p_i64 r_ko = core_iter_words_str_trim(r_uf, r_i6);
+    struct s_p_i64 r_ko = core_iter_words_str_trim(r_uf, r_m7);
     r_ij = r_ko.f0;
     r_vn_1 = r_ko.f1;
     r_38 = ld64(r_08);
@@ -32479,7 +33001,7 @@ l_capnpc_78:;
     if (!(r_t9 == 0ull)) { r_kj = r_t9; r_uf = r_2b; goto l_join_5s; }
     stp(slot_2, a_2);
     st64((slot_2 + 8), a_3);
-    stp((slot_2 + 16), ((u8 *)g_static_261));
+    stp((slot_2 + 16), ((u8 *)g_static_262));
     st64((slot_2 + 24), 4ull);
     exitcond_80_1 = 0u;
     r_q5_1 = slot_2;
@@ -32517,11 +33039,11 @@ l_capnpc_3m:;
 l_join_4p:;
     stp(slot_3, a_2);
     st64((slot_3 + 8), a_3);
-    stp((slot_3 + 16), ((u8 *)g_static_262));
+    stp((slot_3 + 16), ((u8 *)g_static_263));
     st64((slot_3 + 24), 5ull);
     stp((slot_3 + 32), a_6);
     st64((slot_3 + 40), a_7);
-    stp((slot_3 + 48), ((u8 *)g_static_263));
+    stp((slot_3 + 48), ((u8 *)g_static_264));
     st64((slot_3 + 56), 2ull);
     r_08_1 = away(a_1, 16ull);
     r_rq_1 = away(a_1, 8ull);
@@ -32714,7 +33236,7 @@ static void capnpc_layout_rust_piece_Piece_push_impl(u8 *a_1, u8 *a_2, u64 a_3, 
     u64 r_x4;
     u8 *r_fx_3;
     u8 *r_2b_1;
-    u64 r_7b;
+    u64 r_51;
     r_rq = away(a_4, 8ull);
     if (ld64(r_rq) == 0ull) goto l_join_68;
     r_08 = away(a_1, 16ull);
@@ -32783,13 +33305,13 @@ l_join_p3:;
     r_x4 = (r_54 + 2ull);
     r_fx_3 = ldp(a_1);
     r_2b_1 = away(r_fx_3, r_54);
-    if (((u64)(uptr)r_2b_1 - (u64)(uptr)((u8 *)g_static_265)) < 2ull) { r_7b = 0ull; goto l_join_8b; }
+    if (((u64)(uptr)r_2b_1 - (u64)(uptr)((u8 *)g_static_266)) < 2ull) { r_51 = 0ull; goto l_join_fz; }
     st16(r_2b_1, 2685u);
     goto l_std_ci;
-l_join_8b:;
-    st8((r_2b_1 + (i64)(r_7b)), ld8((((u8 *)g_static_265) + (i64)(r_7b))));
-    u64 r_c4 = (r_7b + 1ull);
-    if (!(r_c4 == 2ull)) { r_7b = r_c4; goto l_join_8b; }
+l_join_fz:;
+    st8((r_2b_1 + (i64)(r_51)), ld8((((u8 *)g_static_266) + (i64)(r_51))));
+    u64 r_c4 = (r_51 + 1ull);
+    if (!(r_c4 == 2ull)) { r_51 = r_c4; goto l_join_fz; }
 l_std_ci:;
     stp(a_1, r_fx_3);
     st64(r_rq_1, r_x4);
@@ -32801,11 +33323,426 @@ l_join_68:;
     return;
 }
 
-/* capnpc_layout_rust::piece::Piece::push_shown */
-static void capnpc_layout_rust_piece_Piece_push_shown(u8 *a_1, u8 *a_2, u64 a_3, u8 *a_4, u64 a_5)
+/* core::fmt::formatter::Formatter::write_before_number::<#06ddf0ef6b1ac539> */
+static struct s_i8_i64 core_fmt_formatter_Formatter_write_before_number_06ddf_19ca4a7c(u8 *a_1, u8 *a_2, u64 a_3)
 {
-    A(8) u8 slot_1[80];
-    A(8) u8 slot_2[80];
+    u32 r_5k;
+    u8 r_dd;
+    u8 r_dd_3;
+    u8 *static_3e;
+    u64 r_u2;
+    u64 a_2f;
+    u64 r_no;
+    u64 r_ib;
+    u64 r_6v;
+    u8 r_mp;
+    u64 r_gn;
+    u64 a_l3;
+    u64 a_r3;
+    u8 r_g3;
+    u8 t_os;
+    u64 t_08;
+    r_5k = ld32(away(a_1, 24ull));
+    r_dd = ld8(away(a_1, 28ull));
+    u8 r_dd_1 = ld8(away(a_1, 29ull));
+    u8 r_dd_2 = ld8(away(a_1, 30ull));
+    r_dd_3 = ld8(away(a_1, 31ull));
+    static_3e = ((u8)(r_dd_1 & 1) ? ((u8 *)g_static_7) : ((u8 *)g_static_120));
+    r_u2 = (u64)(u8)(r_dd_1 & 1u);
+    a_2f = (u64)((u64)r_dd_2 << 1ull);
+    u64 r_5s = usub_sat64(ld64(away(a_1, 32ull)), a_3);
+    u64 r_qa = usub_sat64(r_5s, r_u2);
+    if ((u8)((u8)(r_dd_2 == 0u) | (u8)(r_5s <= r_u2))) { r_6v = r_qa; goto l_core_54; }
+    r_no = r_qa;
+    r_ib = 0ull;
+l_join_ui:;
+    u64 spec_5q = (r_no + (u64)(0 - (u64)((i8)ld8(away(a_2, r_ib)) > (i8)191u)));
+    if (((r_ib + 1ull) >= a_2f) ? 1u : (spec_5q == 0ull)) { r_6v = spec_5q; goto l_core_54; }
+    r_no = spec_5q;
+    r_ib = 1ull;
+    goto l_join_ui;
+l_core_54:;
+    r_mp = (u8)(r_dd_3 & 1);
+    switch (r_dd) {
+    case 1u: { r_gn = 0ull; goto l_core_73; }
+    case 2u: goto l_then_j0;
+    default: goto l_join_js;
+    }
+l_then_j0:;
+    r_gn = (u64)(r_6v >> 1ull);
+    goto l_core_73;
+l_join_js:;
+    r_gn = r_6v;
+l_core_73:;
+    a_l3 = (r_mp ? 0ull : r_gn);
+    a_r3 = (r_mp ? r_6v : 0ull);
+    if (a_l3 == 0ull) { r_g3 = 0u; goto l_core_cp; }
+    u8 r_th = core_fmt_formatter_Formatter_write_char_n_times_06ddf0_32a29d0f(a_1, r_5k, a_l3);
+    r_g3 = r_th;
+l_core_cp:;
+    u8 r_xz = core_fmt_formatter_Formatter_and_write_bytes_06ddf0ef6b1ac539(a_1, r_g3, static_3e, r_u2);
+    u8 r_o0 = core_fmt_formatter_Formatter_and_write_bytes_06ddf0ef6b1ac539(a_1, r_xz, a_2, a_2f);
+    if ((u8)(r_o0 & 1)) { t_os = 1u; t_08 = 0ull; goto l_core_s5; }
+    if (!(a_r3 == 0ull)) goto l_core_kf;
+    t_os = 0u;
+    t_08 = (usub_sat64(r_6v, a_l3) - a_r3);
+    goto l_core_s5;
+l_core_kf:;
+    u8 r_mb = core_fmt_formatter_Formatter_write_char_n_times_06ddf0_32a29d0f(a_1, 48u, a_r3);
+    t_os = r_mb;
+    t_08 = ((u8)(r_mb & 1) ? 0ull : usub_sat64(usub_sat64(r_6v, a_l3), a_r3));
+l_core_s5:;
+    struct s_i8_i64 r_or = (struct s_i8_i64){ 0 };
+    r_or.f0 = t_os;
+    struct s_i8_i64 r_99 = r_or;
+    r_99.f1 = t_08;
+    return r_99;
+}
+
+/* core::fmt::formatter::Formatter::write_char_n_times::<#06ddf0ef6b1ac539> */
+static u8 core_fmt_formatter_Formatter_write_char_n_times_06ddf0_32a29d0f(u8 *a_1, u32 a_2, u64 a_3)
+{
+    A(1) u8 slot_1[16];
+    A(4) u8 slot_2[4];
+    A(8) u8 slot_3[24];
+    u8 *sink_p9;
+    u8 *sink_u0;
+    u8 *sink_e6;
+    u8 *r_t9;
+    u8 *r_08;
+    u8 *r_rq;
+    u64 r_9x;
+    u64 r_3h;
+    u64 r_fu;
+    u64 r_ls;
+    u8 *r_08_1;
+    u8 *r_rq_1;
+    u64 r_kp;
+    u64 r_ai;
+    u8 r_ww;
+    u8 *sink_se;
+    u8 r_3c;
+    u64 r_te;
+    u8 *r_xw;
+    u64 r_38;
+    u8 *r_t9_1;
+    u8 *r_08_2;
+    u8 *r_rq_2;
+    u64 r_tz;
+    u64 r_9x_1;
+    u64 r_18;
+    u64 r_2p;
+    u64 r_5q;
+    u8 *r_fx_2;
+    u8 *r_2b;
+    u64 r_il;
+    u8 r_fk;
+    memset(slot_3, 0u, 24);
+    sink_p9 = (slot_2 + 1);
+    sink_u0 = (slot_2 + 2);
+    sink_e6 = (slot_2 + 3);
+    if (!(a_2 < 128u)) goto l_join_51;
+    memset(slot_1, (u8)a_2, 16);
+    if (!(a_3 > 16ull)) { r_ls = a_3; goto l_after_ip; }
+    r_t9 = away(a_1, 48ull);
+    r_08 = away(a_1, 16ull);
+    r_rq = away(a_1, 8ull);
+    r_9x = a_3;
+l_join_de:;
+    if (!(ld64(r_t9) == 0ull)) goto l_core_3c;
+    u64 r_52 = ld64(r_08);
+    u64 r_52_1 = ld64(r_rq);
+    if (!((r_52 - r_52_1) < 16ull)) { r_3h = r_52; r_fu = r_52_1; goto l_join_1j; }
+    u8 r_sk = std_alloc_vec_Vec_grow_amortized_c3ff9179dc3e231c(a_1, 16ull);
+    if (!r_sk) { r_ww = 1u; goto l_core_2s; }
+    r_3h = ld64(r_08);
+    r_fu = ld64(r_rq);
+l_join_1j:;
+    u8 *r_fx = ldp(a_1);
+    mv16(away(r_fx, r_fu), slot_1);
+    stp(a_1, r_fx);
+    st64(r_rq, (r_fu + 16ull));
+    st64(r_08, r_3h);
+    goto l_arm_wa;
+l_core_3c:;
+    u8 r_vc = core_fmt_formatter_Formatter_write_indented_06ddf0ef6b1ac539(a_1, slot_1, 16ull);
+    if ((u8)(r_vc & 1)) { r_ww = 1u; goto l_core_2s; }
+l_arm_wa:;
+    u64 r_ao = (r_9x + 0xfffffffffffffff0ull);
+    if (r_ao > 16ull) { r_9x = r_ao; goto l_join_de; }
+    r_ls = r_ao;
+l_after_ip:;
+    if (!(ld64(away(a_1, 48ull)) == 0ull)) goto l_else_vc;
+    r_08_1 = away(a_1, 16ull);
+    u64 r_52_2 = ld64(r_08_1);
+    r_rq_1 = away(a_1, 8ull);
+    u64 r_52_3 = ld64(r_rq_1);
+    if (!(r_ls > (r_52_2 - r_52_3))) { r_kp = r_52_2; r_ai = r_52_3; goto l_join_o0; }
+    u8 r_12 = std_alloc_vec_Vec_grow_amortized_c3ff9179dc3e231c(a_1, r_ls);
+    if (!r_12) { r_ww = 1u; goto l_core_2s; }
+    r_kp = ld64(r_08_1);
+    r_ai = ld64(r_rq_1);
+l_join_o0:;
+    u8 *r_fx_1 = ldp(a_1);
+    memcpy_or_none(away(r_fx_1, r_ai), slot_1, r_ls);
+    stp(a_1, r_fx_1);
+    st64(r_rq_1, (r_ai + r_ls));
+    st64(r_08_1, r_kp);
+    r_ww = 0u;
+    goto l_core_2s;
+l_else_vc:;
+    u8 r_cz = core_fmt_formatter_Formatter_write_indented_06ddf0ef6b1ac539(a_1, slot_1, r_ls);
+    r_ww = r_cz;
+l_core_2s:;
+    r_fk = r_ww;
+    goto l_return_ri;
+l_join_51:;
+    st32(slot_2, 0u);
+    if (!(a_2 < 2048u)) goto l_else_fp;
+    st8(slot_2, (u8)((u8)(u32)(a_2 >> 6u) | 192u));
+    sink_se = sink_p9;
+    r_3c = (u8)((u8)((u8)a_2 & 63u) | 128u);
+    r_te = 2ull;
+    goto l_core_kp;
+l_else_fp:;
+    if ((u8)((u8)(a_2 < 55296u) | (u8)((a_2 + 0xffff2000u) < 0x102000u))) goto l_else_00;
+    st8(slot_2, 239u);
+    st8(sink_p9, 191u);
+    sink_se = sink_u0;
+    r_3c = 189u;
+    r_te = 3ull;
+    goto l_core_kp;
+l_else_00:;
+    if (!(a_2 < 0x10000u)) goto l_else_t5;
+    st8(slot_2, (u8)((u8)(u32)(a_2 >> 12u) | 224u));
+    st8(sink_p9, (u8)((u8)((u8)(u32)(a_2 >> 6u) & 63u) | 128u));
+    sink_se = sink_u0;
+    r_3c = (u8)((u8)((u8)a_2 & 63u) | 128u);
+    r_te = 3ull;
+    goto l_core_kp;
+l_else_t5:;
+    st8(slot_2, (u8)((u8)(u32)(a_2 >> 18u) | 240u));
+    st8(sink_p9, (u8)((u8)((u8)(u32)(a_2 >> 12u) & 63u) | 128u));
+    st8(sink_u0, (u8)((u8)((u8)(u32)(a_2 >> 6u) & 63u) | 128u));
+    sink_se = sink_e6;
+    r_3c = (u8)((u8)((u8)a_2 & 63u) | 128u);
+    r_te = 4ull;
+l_core_kp:;
+    st8(sink_se, r_3c);
+    core_str_utf8_from_utf8(slot_3, slot_2, r_te);
+    if (!(ld8(slot_3) == 0u)) { r_fk = 1u; goto l_return_ri; }
+    r_xw = ldp((slot_3 + 8));
+    r_38 = ld64((slot_3 + 16));
+    r_t9_1 = away(a_1, 48ull);
+    r_08_2 = away(a_1, 16ull);
+    r_rq_2 = away(a_1, 8ull);
+    r_tz = (u64)(uptr)r_xw;
+    r_9x_1 = 0ull;
+l_join_de_1:;
+    if (!(ld64(r_t9_1) == 0ull)) goto l_core_w9;
+    u64 r_52_4 = ld64(r_08_2);
+    u64 r_52_5 = ld64(r_rq_2);
+    if (!(r_38 > (r_52_4 - r_52_5))) { r_18 = r_52_4; r_2p = r_52_5; goto l_join_ep; }
+    u8 r_12_1 = std_alloc_vec_Vec_grow_amortized_c3ff9179dc3e231c(a_1, r_38);
+    if (!r_12_1) { r_fk = 1u; goto l_return_ri; }
+    r_18 = ld64(r_08_2);
+    r_2p = ld64(r_rq_2);
+l_join_ep:;
+    r_5q = (r_2p + r_38);
+    r_fx_2 = ldp(a_1);
+    memset(r_rq_2, 0u, 16);
+    r_2b = away(r_fx_2, r_2p);
+    if (((u64)(uptr)r_2b - r_tz) < r_38) { r_il = 0ull; goto l_join_fh; }
+    memmove_or_none(r_2b, r_xw, r_38);
+    goto l_core_aw;
+l_join_fh:;
+    st8((r_2b + (i64)(r_il)), ld8((r_xw + (i64)(r_il))));
+    u64 r_36 = (r_il + 1ull);
+    if (!(r_36 == r_38)) { r_il = r_36; goto l_join_fh; }
+l_core_aw:;
+    stp(a_1, r_fx_2);
+    st64(r_rq_2, r_5q);
+    st64(r_08_2, r_18);
+    goto l_arm_90;
+l_core_w9:;
+    u8 r_e7 = core_fmt_formatter_Formatter_write_indented_06ddf0ef6b1ac539(a_1, r_xw, r_38);
+    if ((u8)(r_e7 & 1)) { r_fk = 1u; goto l_return_ri; }
+l_arm_90:;
+    u64 r_36_1 = (r_9x_1 + 1ull);
+    if (r_36_1 == a_3) { r_fk = 0u; goto l_return_ri; }
+    r_9x_1 = r_36_1;
+    goto l_join_de_1;
+l_return_ri:;
+    return r_fk;
+}
+
+/* core::fmt::formatter::Formatter::write_indented::<#06ddf0ef6b1ac539> */
+static NEVER COLD u8 core_fmt_formatter_Formatter_write_indented_06ddf0ef6b1ac539(u8 *a_1, u8 *a_2, u64 a_3)
+{
+    u64 r_4q;
+    u64 r_11;
+    u64 r_36;
+    u64 r_9y;
+    u64 r_c4;
+    u8 r_fk;
+    if (a_3 == 0ull) { r_c4 = 0ull; goto l_after_xu; }
+    r_4q = 0ull;
+    r_11 = 0ull;
+l_core_q2:;
+    r_36 = (r_11 + 1ull);
+    if (!(ld8((a_2 + (i64)(r_11))) == 10u)) { r_9y = r_4q; goto l_join_lk; }
+    u8 r_8l = core_fmt_formatter_Formatter_write_indented_line_06ddf_05aae2b6(a_1, away(a_2, ((r_4q > r_36) ? 0ull : r_4q)), usub_sat64(r_36, r_4q), 1u);
+    if ((u8)(r_8l & 1)) { r_fk = 1u; goto l_return_ri; }
+    r_9y = r_36;
+l_join_lk:;
+    if (r_36 == a_3) { r_c4 = r_9y; goto l_after_xu; }
+    r_4q = r_9y;
+    r_11 = r_36;
+    goto l_core_q2;
+l_after_xu:;
+    u8 r_mi = core_fmt_formatter_Formatter_write_indented_line_06ddf_05aae2b6(a_1, away(a_2, ((r_c4 > a_3) ? 0ull : r_c4)), usub_sat64(a_3, r_c4), 0u);
+    r_fk = r_mi;
+l_return_ri:;
+    return r_fk;
+}
+
+/* core::fmt::formatter::Formatter::write_indented_line::<#06ddf0ef6b1ac539> */
+static u8 core_fmt_formatter_Formatter_write_indented_line_06ddf_05aae2b6(u8 *a_1, u8 *a_2, u64 a_3, u8 a_4)
+{
+    u8 *r_r2;
+    u64 r_52;
+    u8 *r_08;
+    u8 *r_rq;
+    u64 r_xr;
+    u64 r_2o;
+    u64 r_r4;
+    u64 r_tg;
+    u64 r_99;
+    u8 *r_08_1;
+    u8 *r_rq_1;
+    u64 r_0p;
+    u64 r_fj;
+    u64 r_zx;
+    u8 *r_fx_1;
+    u8 *r_2b;
+    u64 r_31;
+    u8 r_fk;
+    if (a_3 == 0ull) { r_fk = 0u; goto l_return_ri; }
+    r_r2 = away(a_1, 56ull);
+    if (!(u8)(ld8(r_r2) & 1)) goto l_arm_an;
+    r_52 = ld64(away(a_1, 48ull));
+    if (r_52 == 0ull) goto l_arm_an;
+    r_08 = away(a_1, 16ull);
+    r_rq = away(a_1, 8ull);
+    r_xr = ld64(r_rq);
+    r_2o = ld64(r_08);
+    r_r4 = 0ull;
+l_join_r4:;
+    if (!((r_2o - r_xr) < 4ull)) { r_tg = r_2o; r_99 = r_xr; goto l_join_bu; }
+    u8 r_li = std_alloc_vec_Vec_grow_amortized_c3ff9179dc3e231c(a_1, 4ull);
+    if (!r_li) { r_fk = 1u; goto l_return_ri; }
+    r_tg = ld64(r_08);
+    r_99 = ld64(r_rq);
+l_join_bu:;
+    u64 r_5b = (r_99 + 4ull);
+    u8 *r_fx = ldp(a_1);
+    st32(away(r_fx, r_99), 0x20202020u);
+    stp(a_1, r_fx);
+    st64(r_rq, r_5b);
+    st64(r_08, r_tg);
+    u64 r_36 = (r_r4 + 1ull);
+    if (!(r_36 == r_52)) { r_xr = r_5b; r_2o = r_tg; r_r4 = r_36; goto l_join_r4; }
+l_arm_an:;
+    st8(r_r2, (u8)a_4);
+    u8 r_ne = core_fmt_utf8_is_utf8(a_2, a_3);
+    if (!r_ne) { r_fk = 1u; goto l_return_ri; }
+    r_08_1 = away(a_1, 16ull);
+    u64 r_52_1 = ld64(r_08_1);
+    r_rq_1 = away(a_1, 8ull);
+    u64 r_52_2 = ld64(r_rq_1);
+    if (!(a_3 > (r_52_1 - r_52_2))) { r_0p = r_52_1; r_fj = r_52_2; goto l_join_8y; }
+    u8 r_lz = std_alloc_vec_Vec_grow_amortized_c3ff9179dc3e231c(a_1, a_3);
+    if (!r_lz) { r_fk = 1u; goto l_return_ri; }
+    r_0p = ld64(r_08_1);
+    r_fj = ld64(r_rq_1);
+l_join_8y:;
+    r_zx = (r_fj + a_3);
+    r_fx_1 = ldp(a_1);
+    memset(r_rq_1, 0u, 16);
+    r_2b = away(r_fx_1, r_fj);
+    if (((u64)(uptr)r_2b - (u64)(uptr)a_2) < a_3) { r_31 = 0ull; goto l_join_sz; }
+    memmove_or_none(r_2b, a_2, a_3);
+    goto l_core_x2;
+l_join_sz:;
+    st8((r_2b + (i64)(r_31)), ld8((a_2 + (i64)(r_31))));
+    u64 r_36_1 = (r_31 + 1ull);
+    if (!(r_36_1 == a_3)) { r_31 = r_36_1; goto l_join_sz; }
+l_core_x2:;
+    stp(a_1, r_fx_1);
+    st64(r_rq_1, r_zx);
+    st64(r_08_1, r_0p);
+    r_fk = 0u;
+l_return_ri:;
+    return r_fk;
+}
+
+/* core::fmt::formatter::Formatter::and_write_bytes::<#06ddf0ef6b1ac539> */
+static u8 core_fmt_formatter_Formatter_and_write_bytes_06ddf0ef6b1ac539(u8 *a_1, u8 a_2, u8 *a_3, u64 a_4)
+{
+    u8 *r_08;
+    u8 *r_rq;
+    u64 r_0p;
+    u64 r_fj;
+    u64 r_zx;
+    u8 *r_fx;
+    u8 *r_2b;
+    u64 r_31;
+    u8 r_fk;
+    if ((u8)(a_2 & 1)) { r_fk = 1u; goto l_join_ri; }
+    if (a_4 == 0ull) { r_fk = 0u; goto l_join_ri; }
+    if (!(ld64(away(a_1, 48ull)) == 0ull)) goto l_else_a2;
+    u8 r_ne = core_fmt_utf8_is_utf8(a_3, a_4);
+    if (!r_ne) { r_fk = 1u; goto l_join_ri; }
+    r_08 = away(a_1, 16ull);
+    u64 r_52 = ld64(r_08);
+    r_rq = away(a_1, 8ull);
+    u64 r_52_1 = ld64(r_rq);
+    if (!(a_4 > (r_52 - r_52_1))) { r_0p = r_52; r_fj = r_52_1; goto l_join_8y; }
+    u8 r_lz = std_alloc_vec_Vec_grow_amortized_c3ff9179dc3e231c(a_1, a_4);
+    if (!r_lz) { r_fk = 1u; goto l_join_ri; }
+    r_0p = ld64(r_08);
+    r_fj = ld64(r_rq);
+l_join_8y:;
+    r_zx = (r_fj + a_4);
+    r_fx = ldp(a_1);
+    memset(r_rq, 0u, 16);
+    r_2b = away(r_fx, r_fj);
+    if (((u64)(uptr)r_2b - (u64)(uptr)a_3) < a_4) { r_31 = 0ull; goto l_join_sz; }
+    memmove_or_none(r_2b, a_3, a_4);
+    goto l_core_ci;
+l_join_sz:;
+    st8((r_2b + (i64)(r_31)), ld8((a_3 + (i64)(r_31))));
+    u64 r_c4 = (r_31 + 1ull);
+    if (!(r_c4 == a_4)) { r_31 = r_c4; goto l_join_sz; }
+l_core_ci:;
+    stp(a_1, r_fx);
+    st64(r_rq, r_zx);
+    st64(r_08, r_0p);
+    r_fk = 0u;
+    goto l_join_ri;
+l_else_a2:;
+    u8 r_h5 = core_fmt_formatter_Formatter_write_indented_06ddf0ef6b1ac539(a_1, a_3, a_4);
+    r_fk = r_h5;
+l_join_ri:;
+    return r_fk;
+}
+
+/* capnpc_layout_rust::piece::Piece::push_shown */
+static void capnpc_layout_rust_piece_Piece_push_shown(u8 *a_1, u8 *a_2, u64 a_3, u8 *a_4, u64 a_5, u8 *a_6, u64 a_7)
+{
+    A(8) u8 slot_1[96];
+    A(8) u8 slot_2[96];
+    A(8) u8 slot_3[96];
     u64 r_75;
     u8 *r_08;
     u8 *r_rq;
@@ -32831,23 +33768,35 @@ static void capnpc_layout_rust_piece_Piece_push_shown(u8 *a_1, u8 *a_2, u64 a_3,
     u8 *r_fx_1;
     u8 *r_2b_3;
     u64 r_il_1;
-    r_75 = uadd_sat64(a_5, a_3);
-    if (!(r_75 < 57ull)) goto l_after_f6;
-    if ((r_75 + 26ull) > ld64(away(a_1, 32ull))) goto l_after_f6;
-    goto l_then_8o;
+    u64 r_id_2;
+    u64 r_52_6;
+    u8 *r_lz_2;
+    u64 r_pp_2;
+    u64 r_wl_2;
+    u64 r_5q_2;
+    u8 *r_fx_2;
+    u8 *r_2b_5;
+    u64 r_il_2;
+    memset(slot_3, 0u, 96);
+    r_75 = uadd_sat64(a_7, a_5);
+    if (!(r_75 < 57ull)) goto l_after_4p;
+    if ((a_3 + (r_75 + 18ull)) > ld64(away(a_1, 32ull))) goto l_after_4p;
+    goto l_then_4p;
 l_common_68:;
     return;
-l_then_8o:;
-    stp(slot_1, ((u8 *)g_static_280));
-    st64((slot_1 + 8), 21ull);
-    stp((slot_1 + 16), a_2);
-    st64((slot_1 + 24), a_3);
-    stp((slot_1 + 32), ((u8 *)g_static_281));
-    st64((slot_1 + 40), 3ull);
-    stp((slot_1 + 48), a_4);
-    st64((slot_1 + 56), a_5);
-    stp((slot_1 + 64), ((u8 *)g_static_282));
-    st64((slot_1 + 72), 3ull);
+l_then_4p:;
+    stp(slot_1, a_2);
+    st64((slot_1 + 8), a_3);
+    stp((slot_1 + 16), ((u8 *)g_static_280));
+    st64((slot_1 + 24), 13ull);
+    stp((slot_1 + 32), a_4);
+    st64((slot_1 + 40), a_5);
+    stp((slot_1 + 48), ((u8 *)g_static_281));
+    st64((slot_1 + 56), 3ull);
+    stp((slot_1 + 64), a_6);
+    st64((slot_1 + 72), a_7);
+    stp((slot_1 + 80), ((u8 *)g_static_282));
+    st64((slot_1 + 88), 3ull);
     r_08 = away(a_1, 16ull);
     r_rq = away(a_1, 8ull);
     r_xz = away(a_1, 24ull);
@@ -32879,25 +33828,27 @@ l_std_92:;
     stp(a_1, r_fx);
     st64(r_rq, r_5q);
     st64(r_08, r_pp);
-    goto l_capnpc_41;
+    goto l_capnpc_nw;
 l_then_1w:;
     st8(r_xz, 1u);
-l_capnpc_41:;
+l_capnpc_nw:;
     u64 r_c4 = (r_id + 1ull);
-    if (r_c4 == 5ull) goto l_common_68;
+    if (r_c4 == 6ull) goto l_common_68;
     r_id = r_c4;
     goto l_join_ge;
-l_after_f6:;
-    stp(slot_2, ((u8 *)g_static_283));
-    st64((slot_2 + 8), 34ull);
-    stp((slot_2 + 16), a_2);
-    st64((slot_2 + 24), a_3);
-    stp((slot_2 + 32), ((u8 *)g_static_284));
-    st64((slot_2 + 40), 15ull);
-    stp((slot_2 + 48), a_4);
-    st64((slot_2 + 56), a_5);
-    stp((slot_2 + 64), ((u8 *)g_static_285));
-    st64((slot_2 + 72), 13ull);
+l_after_4p:;
+    stp(slot_2, a_2);
+    st64((slot_2 + 8), a_3);
+    stp((slot_2 + 16), ((u8 *)g_static_283));
+    st64((slot_2 + 24), 13ull);
+    stp((slot_2 + 32), a_2);
+    st64((slot_2 + 40), a_3);
+    stp((slot_2 + 48), ((u8 *)g_static_284));
+    st64((slot_2 + 56), 5ull);
+    stp((slot_2 + 64), a_4);
+    st64((slot_2 + 72), a_5);
+    stp((slot_2 + 80), ((u8 *)g_static_285));
+    st64((slot_2 + 88), 3ull);
     r_08_1 = away(a_1, 16ull);
     r_rq_1 = away(a_1, 8ull);
     r_xz_1 = away(a_1, 24ull);
@@ -32929,14 +33880,60 @@ l_std_92_1:;
     stp(a_1, r_fx_1);
     st64(r_rq_1, r_5q_1);
     st64(r_08_1, r_pp_1);
-    goto l_capnpc_41_1;
+    goto l_capnpc_8d;
 l_then_1w_1:;
     st8(r_xz_1, 1u);
-l_capnpc_41_1:;
+l_capnpc_8d:;
     u64 r_c4_1 = (r_id_1 + 1ull);
-    if (r_c4_1 == 5ull) goto l_common_68;
-    r_id_1 = r_c4_1;
-    goto l_join_ge_1;
+    if (!(r_c4_1 == 6ull)) { r_id_1 = r_c4_1; goto l_join_ge_1; }
+    stp(slot_3, a_2);
+    st64((slot_3 + 8), a_3);
+    stp((slot_3 + 16), ((u8 *)g_static_5));
+    st64((slot_3 + 24), 4ull);
+    stp((slot_3 + 32), a_6);
+    st64((slot_3 + 40), a_7);
+    stp((slot_3 + 48), ((u8 *)g_static_168));
+    st64((slot_3 + 56), 2ull);
+    stp((slot_3 + 64), a_2);
+    st64((slot_3 + 72), a_3);
+    stp((slot_3 + 80), ((u8 *)g_static_282));
+    st64((slot_3 + 88), 3ull);
+    r_id_2 = 0ull;
+l_join_ge_2:;
+    u8 *r_2b_4 = away(slot_3, (u64)(r_id_2 << 4ull));
+    r_52_6 = ld64(away(r_2b_4, 8ull));
+    r_lz_2 = ldp(r_2b_4);
+    u64 r_52_7 = ld64(r_08_1);
+    u64 r_52_8 = ld64(r_rq_1);
+    if (!(r_52_6 > (r_52_7 - r_52_8))) { r_pp_2 = r_52_7; r_wl_2 = r_52_8; goto l_join_1w_2; }
+    u8 r_1y_2 = std_alloc_vec_Vec_grow_amortized_827889bc1b348a11(a_1, r_52_6);
+    if (!r_1y_2) goto l_then_1w_2;
+    r_pp_2 = ld64(r_08_1);
+    r_wl_2 = ld64(r_rq_1);
+l_join_1w_2:;
+    r_5q_2 = (r_wl_2 + r_52_6);
+    r_fx_2 = ldp(a_1);
+    memset(r_rq_1, 0u, 16);
+    r_2b_5 = away(r_fx_2, r_wl_2);
+    if (((u64)(uptr)r_2b_5 - (u64)(uptr)r_lz_2) < r_52_6) { r_il_2 = 0ull; goto l_join_fh_2; }
+    memmove_or_none(r_2b_5, r_lz_2, r_52_6);
+    goto l_std_92_2;
+l_join_fh_2:;
+    st8((r_2b_5 + (i64)(r_il_2)), ld8((r_lz_2 + (i64)(r_il_2))));
+    u64 r_36_2 = (r_il_2 + 1ull);
+    if (!(r_36_2 == r_52_6)) { r_il_2 = r_36_2; goto l_join_fh_2; }
+l_std_92_2:;
+    stp(a_1, r_fx_2);
+    st64(r_rq_1, r_5q_2);
+    st64(r_08_1, r_pp_2);
+    goto l_capnpc_nw_1;
+l_then_1w_2:;
+    st8(r_xz_1, 1u);
+l_capnpc_nw_1:;
+    u64 r_c4_2 = (r_id_2 + 1ull);
+    if (r_c4_2 == 6ull) goto l_common_68;
+    r_id_2 = r_c4_2;
+    goto l_join_ge_2;
 }
 
 /* capnpc_layout_rust::generating::open_module */
@@ -32955,12 +33952,12 @@ static void capnpc_layout_rust_generating_open_module(u8 *a_1, u8 *a_2, u64 a_3)
     st64((slot_3 + 32), ((a_3 > 0x3fffffffffffffffull) ? 0ull : usub_sat64(100ull, (u64)(a_3 << 2ull))));
     memset((slot_2 + 8), 0u, 24);
     stp(slot_2, slot_1);
-    capnpc_schema_text_Values_put(slot_2, ((u8 *)g_static_144), 4ull, ldp(away(a_2, 16ull)), ld64(away(a_2, 24ull)));
-    capnpc_schema_text_Values_put(slot_2, ((u8 *)g_static_145), 4ull, ldp(away(a_2, 88ull)), ld64(away(a_2, 96ull)));
-    capnpc_schema_text_Values_put(slot_2, ((u8 *)g_static_146), 3ull, ldp(away(a_2, 64ull)), ld64(away(a_2, 72ull)));
+    capnpc_schema_text_Values_put(slot_2, ((u8 *)g_static_145), 4ull, ldp(away(a_2, 16ull)), ld64(away(a_2, 24ull)));
+    capnpc_schema_text_Values_put(slot_2, ((u8 *)g_static_146), 4ull, ldp(away(a_2, 88ull)), ld64(away(a_2, 96ull)));
+    capnpc_schema_text_Values_put(slot_2, ((u8 *)g_static_147), 3ull, ldp(away(a_2, 64ull)), ld64(away(a_2, 72ull)));
     u8 r_qh = (a_3 == 0ull);
-    capnpc_schema_text_Values_put(slot_2, ((u8 *)g_static_147), 5ull, (r_qh ? ((u8 *)g_static_148) : ((u8 *)g_static_120)), (r_qh ? 35ull : 0ull));
-    capnpc_schema_text_Text_push_filled(slot_3, ((u8 *)g_static_286), 53ull, slot_2);
+    capnpc_schema_text_Values_put(slot_2, ((u8 *)g_static_148), 5ull, (r_qh ? ((u8 *)g_static_149) : ((u8 *)g_static_120)), (r_qh ? 35ull : 0ull));
+    capnpc_schema_text_Text_push_filled(slot_3, ((u8 *)g_static_299), 53ull, slot_2);
     capnpc_layout_rust_piece_Piece_push_into(slot_3, a_1, a_3);
     r_xw = ldp(slot_2);
     r_38 = ld64((slot_2 + 8));
@@ -33096,13 +34093,13 @@ static void capnpc_layout_rust_builders_push_call(u8 *a_1, u8 *a_2, u64 a_3, u8 
     u8 *r_2b;
     u64 r_ks;
     u8 *r_6a;
-    u8 *r_nv;
-    u64 r_r0;
+    u8 *r_mr;
+    u64 r_0n;
     u8 *r_fx_2;
     u64 r_iv_1;
-    u8 *r_2b_2;
-    u64 r_q4;
-    u8 *r_lz;
+    u8 *r_2b_1;
+    u64 r_lm;
+    u8 *r_fv;
     r_rq = away(a_1, 8ull);
     r_52 = ld64(r_rq);
     if (r_52 == 0ull) goto l_capnpc_d9;
@@ -33144,45 +34141,45 @@ l_loop_bp:;
     if (r_iv == 0ull) { r_ks = 0ull; r_6a = ((u8 *)g_static_120); goto l_capnpc_hz; }
     u64 r_zn = (r_iv + 0xffffffffffffffffull);
     r_2b = away(r_fx_1, (r_zn * 48ull));
-    u8 r_2b_1 = core_cmp_bytes_equal(ldp(r_2b), ld64((r_2b + 8)), ((u8 *)g_static_161), 4ull);
-    if (!r_2b_1) { r_iv = r_zn; goto l_loop_bp; }
+    u8 r_7c = core_cmp_bytes_equal(ldp(r_2b), ld64((r_2b + 8)), ((u8 *)g_static_162), 4ull);
+    if (!r_7c) { r_iv = r_zn; goto l_loop_bp; }
     r_ks = ld64(away(r_2b, 24ull));
     r_6a = ldp(away(r_2b, 16ull));
 l_capnpc_hz:;
     capnpc_layout_rust_docs_push_docs(a_1, ((u8 *)g_static_5), 4ull, a_2, a_3, r_6a, r_ks);
-    r_nv = r_xb;
-    r_r0 = r_cr;
-    goto l_join_tw;
+    r_mr = r_xb;
+    r_0n = r_cr;
+    goto l_join_gm;
 l_else_9a:;
     capnpc_schema_text_Text_push_filled(a_1, a_4, r_38, a_6);
-    r_nv = r_8z;
-    r_r0 = r_0j;
-l_join_tw:;
-    capnpc_layout_rust_piece_Piece_push_signature(a_1, ((u8 *)g_static_162), 18ull, a_6);
+    r_mr = r_8z;
+    r_0n = r_0j;
+l_join_gm:;
+    capnpc_layout_rust_piece_Piece_push_signature(a_1, ((u8 *)g_static_163), 18ull, a_6);
     memset(slot_2, 0u, 24);
-    stp(slot_1, ((u8 *)g_static_319));
+    stp(slot_1, ((u8 *)g_static_332));
     st64((slot_1 + 8), 5ull);
-    core_iter_pattern_RefStrPattern_first_in(slot_2, slot_1, r_nv, r_r0);
+    core_iter_pattern_RefStrPattern_first_in(slot_2, slot_1, r_mr, r_0n);
     if (!(u8)(ld8(slot_2) & 1)) goto l_after_zu;
     r_fx_2 = ldp(a_6);
     r_iv_1 = ld64(away(a_6, 8ull));
 l_loop_bp_1:;
-    if (r_iv_1 == 0ull) { r_q4 = 0ull; r_lz = ((u8 *)g_static_120); goto l_capnpc_u0; }
+    if (r_iv_1 == 0ull) { r_lm = 0ull; r_fv = ((u8 *)g_static_120); goto l_capnpc_5a; }
     u64 r_zn_1 = (r_iv_1 + 0xffffffffffffffffull);
-    r_2b_2 = away(r_fx_2, (r_zn_1 * 48ull));
-    u8 r_y4 = core_cmp_bytes_equal(ldp(r_2b_2), ld64((r_2b_2 + 8)), ((u8 *)g_static_320), 3ull);
-    if (!r_y4) { r_iv_1 = r_zn_1; goto l_loop_bp_1; }
-    r_q4 = ld64(away(r_2b_2, 24ull));
-    r_lz = ldp(away(r_2b_2, 16ull));
-l_capnpc_u0:;
+    r_2b_1 = away(r_fx_2, (r_zn_1 * 48ull));
+    u8 r_ob = core_cmp_bytes_equal(ldp(r_2b_1), ld64((r_2b_1 + 8)), ((u8 *)g_static_333), 3ull);
+    if (!r_ob) { r_iv_1 = r_zn_1; goto l_loop_bp_1; }
+    r_lm = ld64(away(r_2b_1, 24ull));
+    r_fv = ldp(away(r_2b_1, 16ull));
+l_capnpc_5a:;
     memset(slot_2, 0u, 24);
-    stp(slot_1, ((u8 *)g_static_321));
+    stp(slot_1, ((u8 *)g_static_334));
     st64((slot_1 + 8), 7ull);
-    core_iter_pattern_RefStrPattern_first_in(slot_2, slot_1, r_lz, r_q4);
+    core_iter_pattern_RefStrPattern_first_in(slot_2, slot_1, r_fv, r_lm);
     if (!(u8)(ld8(slot_2) & 1)) goto l_after_zu;
-    capnpc_layout_rust_piece_Piece_push_default(a_1, ((u8 *)g_static_163), 8ull, a_6);
+    capnpc_layout_rust_piece_Piece_push_default(a_1, ((u8 *)g_static_164), 8ull, a_6);
 l_after_zu:;
-    capnpc_schema_text_Text_push_filled(a_1, r_nv, r_r0, a_6);
+    capnpc_schema_text_Text_push_filled(a_1, r_mr, r_0n, a_6);
     return;
 }
 
@@ -33195,6 +34192,7 @@ static void capnpc_layout_rust_values_value_of(u8 *a_1, u8 *a_2, u8 *a_3, u8 *a_
     A(8) u8 slot_4[32];
     A(8) u8 slot_5[24];
     A(8) u8 slot_6[32];
+    u8 *r_3m;
     u8 *r_mb;
     u64 r_qw;
     u64 r_yz;
@@ -33214,21 +34212,21 @@ static void capnpc_layout_rust_values_value_of(u8 *a_1, u8 *a_2, u8 *a_3, u8 *a_
     u64 r_xe;
     u8 *r_lz;
     u8 *r_2b;
-    u64 r_rc;
+    u64 r_2d;
     u8 *r_zd_1;
     u64 r_ni;
     u64 r_90;
     u64 r_wr;
     u8 *r_lz_1;
     u8 *r_2b_1;
-    u64 r_67;
+    u64 r_5h;
     u8 *r_zd_2;
     u64 r_co;
     u64 r_ui;
     u64 r_ob;
     u8 *r_lz_2;
     u8 *r_2b_2;
-    u64 r_1z;
+    u64 r_2z;
     u8 *t_x5;
     u8 r_ts;
     u64 r_1y;
@@ -33275,7 +34273,7 @@ static void capnpc_layout_rust_values_value_of(u8 *a_1, u8 *a_2, u8 *a_3, u8 *a_
     u64 r_xe_1;
     u8 *r_lz_7;
     u8 *r_2b_6;
-    u64 r_le;
+    u64 r_w7;
     u8 *r_xw_1;
     u64 r_38;
     u64 r_38_1;
@@ -33299,14 +34297,15 @@ static void capnpc_layout_rust_values_value_of(u8 *a_1, u8 *a_2, u8 *a_3, u8 *a_
     u64 r_38_5;
     u8 r_ix_1;
     u8 *r_x5_1;
-    u64 r_4a;
+    u64 r_3a;
     u32 r_5k_2;
     u8 r_47;
-    u64 r_rm;
-    u8 *r_s6;
+    u64 r_51;
+    u8 *r_vu;
     memset(slot_6, 0u, 32);
     capnpc_layout_rust_readers_Schema_field_values(slot_6, a_2, a_3, a_4, ld64(a_3));
-    if (!(ld8(away(a_4, 128ull)) == 1u)) goto l_arm_ja;
+    r_3m = away(a_4, 128ull);
+    if (!(ld8(r_3m) == 1u)) goto l_arm_zl;
     r_mb = ldp(a_2);
     r_qw = ld64((a_2 + 8));
     r_yz = ld64(a_3);
@@ -33338,13 +34337,13 @@ l_join_4z:;
     r_xe = (r_6j + 7ull);
     r_lz = ldp(slot_3);
     r_2b = away(r_lz, r_6j);
-    if (((u64)(uptr)r_2b - (u64)(uptr)((u8 *)g_static_360)) < 7ull) { r_rc = 0ull; goto l_join_3k; }
-    mv7(r_2b, ((u8 *)g_static_360));
+    if (((u64)(uptr)r_2b - (u64)(uptr)((u8 *)g_static_374)) < 7ull) { r_2d = 0ull; goto l_join_06; }
+    mv7(r_2b, ((u8 *)g_static_374));
     goto l_std_5f;
-l_join_3k:;
-    st8((r_2b + (i64)(r_rc)), ld8((((u8 *)g_static_360) + (i64)(r_rc))));
-    u64 r_c4 = (r_rc + 1ull);
-    if (!(r_c4 == 7ull)) { r_rc = r_c4; goto l_join_3k; }
+l_join_06:;
+    st8((r_2b + (i64)(r_2d)), ld8((((u8 *)g_static_374) + (i64)(r_2d))));
+    u64 r_c4 = (r_2d + 1ull);
+    if (!(r_c4 == 7ull)) { r_2d = r_c4; goto l_join_06; }
 l_std_5f:;
     stp(slot_3, r_lz);
     st64(r_x5, r_xe);
@@ -33383,13 +34382,13 @@ l_join_49:;
     r_wr = (r_90 + 9ull);
     r_lz_1 = ldp(slot_3);
     r_2b_1 = away(r_lz_1, r_90);
-    if (((u64)(uptr)r_2b_1 - (u64)(uptr)((u8 *)g_static_361)) < 9ull) { r_67 = 0ull; goto l_join_3m; }
-    mv9(r_2b_1, ((u8 *)g_static_361));
+    if (((u64)(uptr)r_2b_1 - (u64)(uptr)((u8 *)g_static_375)) < 9ull) { r_5h = 0ull; goto l_join_pu; }
+    mv9(r_2b_1, ((u8 *)g_static_375));
     goto l_std_pi;
-l_join_3m:;
-    st8((r_2b_1 + (i64)(r_67)), ld8((((u8 *)g_static_361) + (i64)(r_67))));
-    u64 r_c4_1 = (r_67 + 1ull);
-    if (!(r_c4_1 == 9ull)) { r_67 = r_c4_1; goto l_join_3m; }
+l_join_pu:;
+    st8((r_2b_1 + (i64)(r_5h)), ld8((((u8 *)g_static_375) + (i64)(r_5h))));
+    u64 r_c4_1 = (r_5h + 1ull);
+    if (!(r_c4_1 == 9ull)) { r_5h = r_c4_1; goto l_join_pu; }
 l_std_pi:;
     stp(slot_3, r_lz_1);
     st64(r_x5, r_wr);
@@ -33411,13 +34410,13 @@ l_join_9r:;
     r_ob = (r_ui + 10ull);
     r_lz_2 = ldp(slot_3);
     r_2b_2 = away(r_lz_2, r_ui);
-    if (((u64)(uptr)r_2b_2 - (u64)(uptr)((u8 *)g_static_362)) < 10ull) { r_1z = 0ull; goto l_join_gb; }
-    mv10(r_2b_2, ((u8 *)g_static_362));
+    if (((u64)(uptr)r_2b_2 - (u64)(uptr)((u8 *)g_static_376)) < 10ull) { r_2z = 0ull; goto l_join_0h; }
+    mv10(r_2b_2, ((u8 *)g_static_376));
     goto l_std_pi_1;
-l_join_gb:;
-    st8((r_2b_2 + (i64)(r_1z)), ld8((((u8 *)g_static_362) + (i64)(r_1z))));
-    u64 r_c4_2 = (r_1z + 1ull);
-    if (!(r_c4_2 == 10ull)) { r_1z = r_c4_2; goto l_join_gb; }
+l_join_0h:;
+    st8((r_2b_2 + (i64)(r_2z)), ld8((((u8 *)g_static_376) + (i64)(r_2z))));
+    u64 r_c4_2 = (r_2z + 1ull);
+    if (!(r_c4_2 == 10ull)) { r_2z = r_c4_2; goto l_join_0h; }
 l_std_pi_1:;
     stp(slot_3, r_lz_2);
     st64(r_x5, r_ob);
@@ -33579,13 +34578,13 @@ l_join_od:;
     r_lz_7 = ldp(slot_3);
     st64((slot_3 + 16), 0ull);
     r_2b_6 = away(r_lz_7, r_8v);
-    if (((u64)(uptr)r_2b_6 - (u64)(uptr)((u8 *)g_static_363)) < 7ull) { r_le = 0ull; goto l_join_a1; }
-    mv7(r_2b_6, ((u8 *)g_static_363));
+    if (((u64)(uptr)r_2b_6 - (u64)(uptr)((u8 *)g_static_377)) < 7ull) { r_w7 = 0ull; goto l_join_8y_1; }
+    mv7(r_2b_6, ((u8 *)g_static_377));
     goto l_std_pi_2;
-l_join_a1:;
-    st8((r_2b_6 + (i64)(r_le)), ld8((((u8 *)g_static_363) + (i64)(r_le))));
-    u64 r_c4_3 = (r_le + 1ull);
-    if (!(r_c4_3 == 7ull)) { r_le = r_c4_3; goto l_join_a1; }
+l_join_8y_1:;
+    st8((r_2b_6 + (i64)(r_w7)), ld8((((u8 *)g_static_377) + (i64)(r_w7))));
+    u64 r_c4_3 = (r_w7 + 1ull);
+    if (!(r_c4_3 == 7ull)) { r_w7 = r_c4_3; goto l_join_8y_1; }
 l_std_pi_2:;
     stp(slot_3, r_lz_7);
     st64(r_x5, r_xe_1);
@@ -33670,24 +34669,24 @@ l_capnpc_zy:;
     r_ix_1 = (u8)(r_38_5 & 1);
     r_x5_1 = (slot_6 + 8);
     u64 r_52_17 = ld64(r_x5_1);
-    if (!(ld64((slot_6 + 16)) == r_52_17)) { r_4a = r_52_17; goto l_join_y2; }
+    if (!(ld64((slot_6 + 16)) == r_52_17)) { r_3a = r_52_17; goto l_join_ft; }
     u8 r_89 = std_alloc_vec_Vec_grow_amortized_c7bbd78b6494f746(slot_6);
     if (!r_89) goto l_arm_f8;
-    r_4a = ld64(r_x5_1);
-    goto l_join_y2;
+    r_3a = ld64(r_x5_1);
+    goto l_join_ft;
 l_arm_f8:;
     if (r_38_4 == 0ull) goto l_join_4s;
     rattle_dealloc(r_xw_2);
     goto l_join_4s;
-l_join_y2:;
-    u8 *r_a7 = (ldp(slot_6) + (i64)((r_4a * 48ull)));
-    stp(r_a7, ((u8 *)g_static_357));
+l_join_ft:;
+    u8 *r_a7 = (ldp(slot_6) + (i64)((r_3a * 48ull)));
+    stp(r_a7, ((u8 *)g_static_370));
     st64((r_a7 + 8), 6ull);
     stp((r_a7 + 16), r_xw_2);
     st64((r_a7 + 24), r_38_3);
     st64((r_a7 + 32), r_38_4);
     st64((r_a7 + 40), r_38_5);
-    st64(r_x5_1, (r_4a + 1ull));
+    st64(r_x5_1, (r_3a + 1ull));
     if (!r_ix_1) goto l_capnpc_zp;
 l_join_4s:;
     st8((slot_6 + 24), 1u);
@@ -33695,8 +34694,8 @@ l_capnpc_zp:;
     r_5k_2 = ld32(r_fx);
     r_47 = ld8(ldp(r_hr));
     switch (r_47) {
-    case 10u: { r_rm = 13ull; r_s6 = ((u8 *)g_static_364); goto l_capnpc_qu; }
-    case 9u: goto l_capnpc_ff;
+    case 10u: { r_51 = 13ull; r_vu = ((u8 *)g_static_378); goto l_capnpc_se; }
+    case 9u: goto l_capnpc_i8;
     case 0u: goto l_join_pw;
     case 1u: goto l_join_pw;
     case 2u: goto l_join_pw;
@@ -33710,24 +34709,25 @@ l_capnpc_zp:;
     }
 l_noarm_e1_1:;
     UNREACHABLE();
-l_capnpc_ff:;
+l_capnpc_i8:;
     u8 r_2p_1 = (r_5k_2 == 0u);
-    r_rm = (r_2p_1 ? 55ull : 13ull);
-    r_s6 = (r_2p_1 ? ((u8 *)g_static_368) : ((u8 *)g_static_364));
-    goto l_capnpc_qu;
+    r_51 = (r_2p_1 ? 59ull : 13ull);
+    r_vu = (r_2p_1 ? ((u8 *)g_static_382) : ((u8 *)g_static_378));
+    goto l_capnpc_se;
 l_join_pw:;
-    if (!(r_5k_2 == 0u)) { r_rm = 79ull; r_s6 = ((u8 *)g_static_365); goto l_capnpc_qu; }
-    r_rm = ld64((((u8 *)switch_table_capnpc_layout_rust_values_value_of) + (i64)(8 * (u64)r_47)));
-    r_s6 = ldp((((u8 *)switch_table_capnpc_layout_rust_values_value_of_21) + (i64)(8 * (u64)r_47)));
-l_capnpc_qu:;
-    capnpc_schema_text_Values_put_lines(slot_6, r_s6, r_rm);
-    if (ld8(away(a_4, 168ull)) == 0u) goto l_join_sw;
-    if (!(ld32(r_fx) == 0u)) goto l_join_sw;
+    if (!(r_5k_2 == 0u)) { r_51 = 83ull; r_vu = ((u8 *)g_static_379); goto l_capnpc_se; }
+    r_51 = ld64((((u8 *)switch_table_capnpc_layout_rust_values_value_of) + (i64)(8 * (u64)r_47)));
+    r_vu = ldp((((u8 *)switch_table_capnpc_layout_rust_values_value_of_23) + (i64)(8 * (u64)r_47)));
+l_capnpc_se:;
+    capnpc_schema_text_Values_put_lines(slot_6, r_vu, r_51);
+    if (!(ld8(r_3m) == 1u)) goto l_join_sw;
     if (!(ld8(ldp(r_hr)) == 8u)) goto l_join_sw;
-    capnpc_schema_text_Values_put_lines(slot_6, ((u8 *)g_static_358), 31ull);
+    if (ld8(away(a_4, 168ull)) == 0u) goto l_join_sw;
+    u8 r_2p_2 = (ld32(r_fx) == 0u);
+    capnpc_schema_text_Values_put_lines(slot_6, (r_2p_2 ? ((u8 *)g_static_372) : ((u8 *)g_static_371)), (r_2p_2 ? 101ull : 107ull));
     goto l_join_sw;
-l_arm_ja:;
-    capnpc_schema_text_Values_put_lines(slot_6, ((u8 *)g_static_359), 79ull);
+l_arm_zl:;
+    capnpc_schema_text_Values_put_lines(slot_6, ((u8 *)g_static_373), 83ull);
 l_join_sw:;
     mv32(a_1, slot_6);
     return;
@@ -33772,15 +34772,15 @@ static void capnpc_layout_rust_generating_write_skipped(u8 *a_1, u8 *a_2, u8 *a_
     st64((slot_3 + 32), ((a_6 > 0x3fffffffffffffffull) ? 0ull : usub_sat64(100ull, (u64)(a_6 << 2ull))));
     r_lz = ldp(away(a_3, 16ull));
     r_52 = ld64(away(a_3, 24ull));
-    stp(slot_4, ((u8 *)g_static_431));
+    stp(slot_4, ((u8 *)g_static_447));
     st64((slot_4 + 8), 3ull);
     stp((slot_4 + 16), r_lz);
     st64((slot_4 + 24), r_52);
-    stp((slot_4 + 32), ((u8 *)g_static_157));
+    stp((slot_4 + 32), ((u8 *)g_static_158));
     st64((slot_4 + 40), 16ull);
     stp((slot_4 + 48), a_4);
     st64((slot_4 + 56), a_5);
-    stp((slot_4 + 64), ((u8 *)g_static_158));
+    stp((slot_4 + 64), ((u8 *)g_static_159));
     st64((slot_4 + 72), 2ull);
     r_zd = (slot_3 + 16);
     r_lk = (slot_3 + 24);
@@ -33819,7 +34819,7 @@ l_capnpc_5g:;
     r_08 = away(a_1, 16ull);
     stp(slot_2, r_lz);
     st64((slot_2 + 8), r_52);
-    stp((slot_2 + 16), ((u8 *)g_static_157));
+    stp((slot_2 + 16), ((u8 *)g_static_158));
     st64((slot_2 + 24), 16ull);
     stp((slot_2 + 32), a_4);
     st64((slot_2 + 40), a_5);
@@ -33885,7 +34885,7 @@ static void capnpc_layout_rust_generating_close_modules(u8 *a_1, u64 a_2, u64 a_
     u64 r_x4;
     u8 *r_fx_1;
     u8 *r_2b;
-    u64 r_7b;
+    u64 r_51;
     r_ck = usub_sat64(a_2, a_3);
     if (!(a_2 > a_3)) goto l_after_68;
     r_08 = away(a_1, 16ull);
@@ -33928,13 +34928,13 @@ l_join_p3:;
     r_x4 = (r_54 + 2ull);
     r_fx_1 = ldp(a_1);
     r_2b = away(r_fx_1, r_54);
-    if (((u64)(uptr)r_2b - (u64)(uptr)((u8 *)g_static_265)) < 2ull) { r_7b = 0ull; goto l_join_8b; }
+    if (((u64)(uptr)r_2b - (u64)(uptr)((u8 *)g_static_266)) < 2ull) { r_51 = 0ull; goto l_join_fz; }
     st16(r_2b, 2685u);
     goto l_std_92;
-l_join_8b:;
-    st8((r_2b + (i64)(r_7b)), ld8((((u8 *)g_static_265) + (i64)(r_7b))));
-    u64 r_c4 = (r_7b + 1ull);
-    if (!(r_c4 == 2ull)) { r_7b = r_c4; goto l_join_8b; }
+l_join_fz:;
+    st8((r_2b + (i64)(r_51)), ld8((((u8 *)g_static_266) + (i64)(r_51))));
+    u64 r_c4 = (r_51 + 1ull);
+    if (!(r_c4 == 2ull)) { r_51 = r_c4; goto l_join_fz; }
 l_std_92:;
     stp(a_1, r_fx_1);
     st64(r_rq, r_x4);
@@ -34306,7 +35306,7 @@ l_join_sl:;
     r_h2 = r_36;
     goto l_join_sl;
 l_os_y7:;
-    if (r_h2 < r_52) goto l_std_1o;
+    if (r_h2 < r_52) goto l_std_ou;
 l_arm_5h:;
     memset(slot_6, 0u, 72);
     memset(slot_3, 0u, 86);
@@ -34316,7 +35316,7 @@ l_arm_5h:;
     t_2b = away(slot_1, r_52);
     r_4p = 0xffffffffffffffffull;
 l_loop_tl:;
-    if (r_4p == 0ull) goto l_after_5q;
+    if (r_4p == 0ull) goto l_after_8m;
     r_zn = (r_4p + 0xffffffffffffffffull);
     if (r_yw) { sink_jn = 36u; goto l_os_yr; }
     if (!r_ts) { r_h2_1 = 0ull; goto l_join_sl_1; }
@@ -34403,8 +35403,8 @@ l_std_87:;
     r_bx = r_sx_1;
     r_l2 = slot_3;
     goto l_std_rm;
-l_after_5q:;
-    std_io_io_error_Error_from_bytes(slot_1, 2u, 22u, ((u8 *)g_static_437), 43ull, 43ull);
+l_after_8m:;
+    std_io_io_error_Error_from_bytes(slot_1, 2u, 22u, ((u8 *)g_static_453), 43ull, 43ull);
     u8 r_r5_1 = ld8(slot_1);
     u8 r_dd_1 = ld8(r_p9_5);
     memcpy(slot_4, r_u0_3, 86);
@@ -34414,8 +35414,8 @@ l_after_5q:;
     r_bx = r_sx;
     r_l2 = slot_4;
     goto l_std_rm;
-l_std_1o:;
-    std_io_io_error_Error_from_bytes(slot_1, 2u, 20u, ((u8 *)g_static_433), 42ull, 42ull);
+l_std_ou:;
+    std_io_io_error_Error_from_bytes(slot_1, 2u, 20u, ((u8 *)g_static_449), 42ull, 42ull);
     u8 *r_xw = ldp(slot_1);
     u64 r_38 = ld64(r_x5);
     memcpy(slot_6, r_zd, 72);
@@ -34454,7 +35454,7 @@ l_join_bn:;
     r_gp = c_write(r_99, r_sq, r_up);
     if ((i64)r_gp < (i64)0ull) goto l_arm_es;
     if (!(r_gp == 0ull)) goto l_default_4w;
-    std_io_io_error_Error_from_bytes(slot_1, 2u, 23u, ((u8 *)g_static_438), 28ull, 28ull);
+    std_io_io_error_Error_from_bytes(slot_1, 2u, 23u, ((u8 *)g_static_454), 28ull, 28ull);
     u64 r_38_1 = ld64(slot_1);
     u64 r_38_2 = ld64(r_x5_4);
     memcpy(slot_4, r_zd_4, 72);
@@ -34525,7 +35525,7 @@ l_then_1r:;
     goto l_std_nq;
 l_join_tl:;
     if (!(r_zn_1 == 0ull)) { r_sq = r_xa; r_up = r_4p_1; r_e8 = r_zn_1; goto l_join_ds; }
-    std_io_io_error_Error_from_bytes(slot_1, 2u, 22u, ((u8 *)g_static_437), 43ull, 43ull);
+    std_io_io_error_Error_from_bytes(slot_1, 2u, 22u, ((u8 *)g_static_453), 43ull, 43ull);
     u64 r_38_5 = ld64(slot_1);
     u64 r_38_6 = ld64(r_x5_5);
     memcpy(slot_3, r_zd_5, 72);
@@ -35044,7 +36044,7 @@ l_join_gp:;
     goto l_arm_zg;
 l_else_wv:;
     if (!(r_11 == 0ull)) goto l_else_p6;
-    std_io_io_error_Error_from_bytes(slot_1, 2u, 23u, ((u8 *)g_static_438), 28ull, 28ull);
+    std_io_io_error_Error_from_bytes(slot_1, 2u, 23u, ((u8 *)g_static_454), 28ull, 28ull);
     u8 r_r5_1 = ld8(slot_1);
     u8 r_dd_2 = ld8((slot_1 + 1));
     u8 r_sw_1 = ld8((slot_1 + 2));
@@ -36273,7 +37273,7 @@ int main(int count, char **words)
     r_e1 = (slot_4 + 1032);
     r_pv = 0ull;
     r_m0 = 7ull;
-    r_w9 = ((u8 *)g_static_440);
+    r_w9 = ((u8 *)g_static_456);
 l_arm_td:;
     r_62 = away(r_w9, 1ull);
     r_0f = (r_m0 + 0xffffffffffffffffull);
@@ -36333,10 +37333,10 @@ l_arm_q9:;
     mv24(r_s4, slot_3);
     goto l_arm_9c;
 l_join_de:;
-    if (!(ld64(r_lp) == 0ull)) goto l_core_gn;
+    if (!(ld64(r_lp) == 0ull)) goto l_core_3w;
     r_pv_1 = ld64(r_e1);
     r_m0_1 = 12ull;
-    r_w9_1 = ((u8 *)g_static_441);
+    r_w9_1 = ((u8 *)g_static_457);
 l_arm_td_1:;
     r_62_2 = away(r_w9_1, 1ull);
     r_0f_1 = (r_m0_1 + 0xffffffffffffffffull);
@@ -36355,9 +37355,9 @@ l_std_41_2:;
     r_m0_1 = r_0f_1;
     r_w9_1 = r_62_2;
     goto l_arm_td_1;
-l_core_gn:;
-    u8 r_uq = core_fmt_formatter_Formatter_write_indented_bf264aed5fa78656(slot_4, ((u8 *)g_static_441), 12ull);
-    if ((u8)(r_uq & 1)) goto l_core_pf;
+l_core_3w:;
+    u8 r_af = core_fmt_formatter_Formatter_write_indented_bf264aed5fa78656(slot_4, ((u8 *)g_static_457), 12ull);
+    if ((u8)(r_af & 1)) goto l_core_pf;
 l_arm_jn:;
     memset(slot_2, 0u, 24);
     st32(slot_1, 30u);
@@ -36379,10 +37379,10 @@ l_then_mp:;
     r_8l = 0ull;
     goto l_join_j2;
 l_then_de:;
-    if (!(ld64(r_lp) == 0ull)) goto l_core_ol;
+    if (!(ld64(r_lp) == 0ull)) goto l_core_rn;
     r_pv_2 = ld64(r_e1);
     r_m0_2 = 5ull;
-    r_w9_2 = ((u8 *)g_static_442);
+    r_w9_2 = ((u8 *)g_static_458);
 l_arm_td_2:;
     r_62_3 = away(r_w9_2, 1ull);
     r_0f_2 = (r_m0_2 + 0xffffffffffffffffull);
@@ -36396,27 +37396,27 @@ l_std_41_3:;
     st8((r_ix + (i64)(r_km_3)), r_47_3);
     u64 r_c4_3 = (r_km_3 + 1ull);
     st64(r_e1, r_c4_3);
-    if (r_0f_2 == 0ull) goto l_arm_yt;
+    if (r_0f_2 == 0ull) goto l_arm_fa;
     r_pv_2 = r_c4_3;
     r_m0_2 = r_0f_2;
     r_w9_2 = r_62_3;
     goto l_arm_td_2;
-l_core_ol:;
-    u8 r_vb = core_fmt_formatter_Formatter_write_indented_bf264aed5fa78656(slot_4, ((u8 *)g_static_442), 5ull);
-    if ((u8)(r_vb & 1)) goto l_core_pf;
-l_arm_yt:;
-    u8 r_uk = anyhow_error_write_lines_bf264aed5fa78656(slot_4, spec_48, r_9x, ((u8 *)g_static_442), 5ull);
-    r_pw = r_uk;
+l_core_rn:;
+    u8 r_1i = core_fmt_formatter_Formatter_write_indented_bf264aed5fa78656(slot_4, ((u8 *)g_static_458), 5ull);
+    if ((u8)(r_1i & 1)) goto l_core_pf;
+l_arm_fa:;
+    u8 r_3r = anyhow_error_write_lines_bf264aed5fa78656(slot_4, spec_48, r_9x, ((u8 *)g_static_458), 5ull);
+    r_pw = r_3r;
     goto l_core_9d;
 l_then_9c:;
     mv24(slot_2, r_s4);
     st32(r_s4, 32u);
     memset(r_uy, 0u, 12);
     st64(r_ky, 0xffffffffffffffffull);
-    if (!(ld64(r_lp) == 0ull)) goto l_core_ac;
+    if (!(ld64(r_lp) == 0ull)) goto l_core_e7;
     r_pv_3 = ld64(r_e1);
     r_m0_3 = 13ull;
-    r_w9_3 = ((u8 *)g_static_443);
+    r_w9_3 = ((u8 *)g_static_459);
 l_arm_td_3:;
     r_62_4 = away(r_w9_3, 1ull);
     r_0f_3 = (r_m0_3 + 0xffffffffffffffffull);
@@ -36435,9 +37435,9 @@ l_std_41_4:;
     r_m0_3 = r_0f_3;
     r_w9_3 = r_62_4;
     goto l_arm_td_3;
-l_core_ac:;
-    u8 r_3n = core_fmt_formatter_Formatter_write_indented_bf264aed5fa78656(slot_4, ((u8 *)g_static_443), 13ull);
-    if (!(r_3n == 0u)) goto l_core_8y;
+l_core_e7:;
+    u8 r_xi = core_fmt_formatter_Formatter_write_indented_bf264aed5fa78656(slot_4, ((u8 *)g_static_459), 13ull);
+    if (!(r_xi == 0u)) goto l_core_8y;
 l_core_1p:;
     st32(r_s4, 32u);
     memset(r_uy, 0u, 12);
@@ -36504,10 +37504,10 @@ l_arm_1p:;
     st32(r_s4, 32u);
     memset(r_uy, 0u, 12);
     st64(r_ky, 0xffffffffffffffffull);
-    if (!(ld64(r_lp) == 0ull)) goto l_core_v9;
+    if (!(ld64(r_lp) == 0ull)) goto l_core_1b;
     r_pv_4 = ld64(r_e1);
     r_m0_4 = 10ull;
-    r_w9_4 = ((u8 *)g_static_444);
+    r_w9_4 = ((u8 *)g_static_460);
 l_arm_td_4:;
     r_62_6 = away(r_w9_4, 1ull);
     r_0f_4 = (r_m0_4 + 0xffffffffffffffffull);
@@ -36524,10 +37524,10 @@ l_std_41_6:;
     if (!(r_0f_4 == 0ull)) { r_pv_4 = r_c4_6; r_m0_4 = r_0f_4; r_w9_4 = r_62_6; goto l_arm_td_4; }
     mv24(r_s4, slot_2);
     goto l_arm_0m;
-l_core_v9:;
-    u8 r_mz = core_fmt_formatter_Formatter_write_indented_bf264aed5fa78656(slot_4, ((u8 *)g_static_444), 10ull);
+l_core_1b:;
+    u8 r_i1 = core_fmt_formatter_Formatter_write_indented_bf264aed5fa78656(slot_4, ((u8 *)g_static_460), 10ull);
     mv24(r_s4, slot_2);
-    if ((u8)(r_mz & 1)) goto l_core_pf;
+    if ((u8)(r_i1 & 1)) goto l_core_pf;
 l_arm_0m:;
     r_8l = ld64(r_hi);
 l_join_j2:;
@@ -36617,9 +37617,9 @@ l_arm_0h:;
     st32(r_s4, 32u);
     memset(r_uy, 0u, 12);
     st64(r_ky, 0xffffffffffffffffull);
-    if (!(ld64(r_lp) == 0ull)) goto l_core_le;
+    if (!(ld64(r_lp) == 0ull)) goto l_core_65;
     r_vd = ld64(r_e1);
-    r_ae = ((u8 *)g_static_445);
+    r_ae = ((u8 *)g_static_461);
 l_arm_21:;
     r_62_7 = away(r_ae, 1ull);
     r_47_8 = ld8(r_ae);
@@ -36632,19 +37632,19 @@ l_std_41_7:;
     st8((r_ix + (i64)(r_km_7)), r_47_8);
     u64 r_c4_7 = (r_km_7 + 1ull);
     st64(r_e1, r_c4_7);
-    if (!((uptr)r_ae == (uptr)(((u8 *)g_static_445) + 1))) { r_vd = r_c4_7; r_ae = r_62_7; goto l_arm_21; }
+    if (!((uptr)r_ae == (uptr)(((u8 *)g_static_461) + 1))) { r_vd = r_c4_7; r_ae = r_62_7; goto l_arm_21; }
     mv24(r_s4, slot_1);
-    goto l_arm_cb;
+    goto l_arm_y7;
 l_core_6g:;
     r_2a = 1u;
     goto l_anyhow_8y;
-l_core_le:;
-    u8 r_o6 = core_fmt_formatter_Formatter_write_indented_bf264aed5fa78656(slot_4, ((u8 *)g_static_445), 2ull);
+l_core_65:;
+    u8 r_yt = core_fmt_formatter_Formatter_write_indented_bf264aed5fa78656(slot_4, ((u8 *)g_static_461), 2ull);
     mv24(r_s4, slot_1);
-    if ((u8)(r_o6 & 1)) { r_2a = 1u; goto l_anyhow_8y; }
-l_arm_cb:;
-    u8 r_jr = anyhow_error_write_lines_bf264aed5fa78656(slot_4, r_zg, r_ce, ((u8 *)g_static_446), 8ull);
-    if ((u8)(r_jr & 1)) { r_2a = 1u; goto l_anyhow_8y; }
+    if ((u8)(r_yt & 1)) { r_2a = 1u; goto l_anyhow_8y; }
+l_arm_y7:;
+    u8 r_rv = anyhow_error_write_lines_bf264aed5fa78656(slot_4, r_zg, r_ce, ((u8 *)g_static_462), 8ull);
+    if ((u8)(r_rv & 1)) { r_2a = 1u; goto l_anyhow_8y; }
     if (t_0q) { u64 r_1 = r_hi_1; u8 *r_2 = r_wi; u8 r_3 = 1u; u64 r_4 = uadd_sat64(r_3q, 1ull); r_90 = r_1; r_zg = r_2; r_ha = r_3; r_3q = r_4; goto l_arm_qe; }
     r_2a = 0u;
 l_anyhow_8y:;
