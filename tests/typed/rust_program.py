@@ -243,7 +243,8 @@ class Code:
         fields have it as their default value again. Empty if the field has none."""
         if not has_default(field):
             return ''
-        return f'{{\nlet depth = if r.has_{snake(name_of(field))}() {{ depth }} else {{ depth.min({DEFAULT_DEPTH}) }};\n'
+        # lists of numbers and texts are printed without a depth
+        return f'{{\nlet depth = if r.has_{snake(name_of(field))}() {{ depth }} else {{ depth.min({DEFAULT_DEPTH}) }};\nlet _ = depth;\n'
 
     def shower(self, node):
         body = []
