@@ -32,7 +32,7 @@ use capnp_arena::arena::{
     Allocator, BuilderArena, BuilderArenaImpl, MAX_SEGMENT_WORDS, ReaderArena,
 };
 use capnp_arena_traits::arena::WordPlace;
-use capnp_copies::copy::{copy_struct, copy_value};
+use capnp_copies::copy::{copy_in_form, copy_struct};
 use capnp_copies::form::{CopyForm, Destination};
 use capnp_objects::pointers::Pointer;
 use capnp_objects::source::Source;
@@ -67,42 +67,19 @@ fn canonicalize_to_pointer<A: BuilderArena, B: ReaderArena>(
         × StopsCopy (end_original (end_read B.ReaderArena from.entry)) (copy_call canonical
         (call_at to.segment to.at (A.view arena.old) (A.view arena.new)) lim.old lim.new) t k) }
 {
+    let form = CopyForm::Canonical;
+    let to = Destination { place: to, form };
     match from {
-        Reached::Pointer(pointer) => copy_value(arena, to, pointer, lim, true),
-        Reached::Element(element) => {
-            let form = CopyForm::Canonical;
-            let to = Destination { place: to, form };
-            copy_struct(arena, to, element.first, element.size, lim)
-        }
+        Reached::Pointer(pointer) => copy_in_form(arena, to, pointer, lim),
+        Reached::Element(element) => copy_struct(arena, to, element.first, element.size, lim),
     }
 }
 
 /// Copies what `from` leads to in canonical form to the root of a message whose only word is the
-/// root, a null pointer. Words that don't fit after the root go into further segments if the
-/// allocator grants any; otherwise the copy is refused. Charges the copy to a new limiter with
-/// `left` words left, and returns this limiter.
-fn canonicalize_to_root<A: BuilderArena, B: ReaderArena>(
-    arena: &mut A,
-    from: Reached<'_, B>,
-    left: Option<usize>,
-) -> Result<ReadLimiter, ErrorKind>
-    requires root { (A.view arena.old).words ≡ (0 ∷ []) ∷ [] }
-    ensures there { IsEndThere (end_read B.ReaderArena from.entry) }
-    ensures copied { IfOk result (λ after.
-        MakesCopy (end_original (end_read B.ReaderArena from.entry)) (copy_call canonical
-        (call_at 0 0 (A.view arena.old) (A.view arena.new)) (unused left) after)) }
-    ensures refused { IfErr result (λ k. (after : Meter) × (t : Tree)
-        × StopsCopy (end_original (end_read B.ReaderArena from.entry)) (copy_call canonical
-        (call_at 0 0 (A.view arena.old) (A.view arena.new)) (unused left) after) t k) }
-{
-    let mut lim = ReadLimiter::new(left);
-    let root = WordPlace { segment: 0, at: 0 };
-    canonicalize_to_pointer(arena, root, from, &mut lim)?;
-    Ok(lim)
-}
-
-/// Like `canonicalize_to_root`, but the copy has to fit in the message's only segment, which has room
-/// for at least `room` words. Refuses with `MessageTooLarge(room)` if the copy doesn't fit.
+/// root, a null pointer. Charges the copy to a new limiter with `left` words left, and returns this
+/// limiter. The copy has to fit in the message's only segment, which has room for at least `room`
+/// words: refuses with `MessageTooLarge(room)` if it doesn't, or if the allocator grants another
+/// segment for words that don't fit.
 fn canonicalize_to_segment<A: Allocator, B: ReaderArena>(
     arena: &mut BuilderArenaImpl<A>,
     from: Reached<'_, B>,
@@ -120,10 +97,12 @@ fn canonicalize_to_segment<A: Allocator, B: ReaderArena>(
         (RefusesCopy (Ok (end_read B.ReaderArena from.entry), unused left) room) }
 {
     let too_large = ErrorKind::MessageTooLarge(room as usize);
-    match canonicalize_to_root(arena, from, left) {
-        Ok(after) => {
+    let root = WordPlace { segment: 0, at: 0 };
+    let mut lim = ReadLimiter::new(left);
+    match canonicalize_to_pointer(arena, root, from, &mut lim) {
+        Ok(()) => {
             if arena.len() == 1 {
-                Ok(after)
+                Ok(lim)
             } else {
                 Err(too_large)
             }

@@ -14,7 +14,7 @@ ghost use Rattle.capnp_messages.specs.Parts.{to_pointer};
 ghost use Rattle.capnp_messages.specs.Tries.{IsFirstTry, IsSegmentRoom};
 ghost use Rattle.capnp_messages.specs.Messages.{HasSizeOf, HasSizeWithin, IsCanonicalWithin, IsFaultOf, IsValueOf, RefusesCanon, RefusesCheck, RefusesSize, arena_limits, message_size, root_within};
 
-use super::canonical_copy::{canonicalize_pointer, canonicalize_reached_into};
+use super::canonical_copy::{canonicalize_reached, canonicalize_reached_into};
 use super::message_fault::canonical_fault;
 use super::path::Reached;
 use super::root::read_root;
@@ -55,7 +55,7 @@ pub fn canonicalize<A: Allocator, S: ReaderSegments>(
 {
     let mut lim = ReadLimiter::new(traversal_limit_in_words);
     match read_root(source, &mut lim) {
-        Ok(root) => canonicalize_pointer(alloc, allocator, root, &mut lim),
+        Ok(root) => canonicalize_reached(alloc, allocator, Reached::Pointer(root), &mut lim),
         Err(kind) => Err((kind, allocator)),
     }
 }
