@@ -11,7 +11,7 @@ ghost use Rattle.capnp_canonical.specs.Taking.{IsDigestAfter, IsPartDigestAfter}
 use crate::calls::Limits;
 use crate::frames::message_in;
 use crate::refusal::Refusal;
-use crate::segments::LentSegments;
+use crate::segments::lent_message;
 use crate::taking::{Prefix, lend_part_words, lend_words};
 use crate::words::message_of;
 use std::alloc::Global;
@@ -51,7 +51,7 @@ pub fn digest_segments_after(
     ensures lent { InSegments segments.now
         (NeedsNoHeap (limits_of limits.nesting limits.words)) → IsOk result }
 {
-    let lent = LentSegments::new(segments)?;
+    let lent = lent_message(segments)?;
     lend_words(alloc, lent, limits, &mut Prefix { bytes: prefix })
 }
 
@@ -111,7 +111,7 @@ pub fn digest_segments_part_after(
     ensures lent { InSegments segments.now
         (PartNeedsNoHeap (limits_of limits.nesting limits.words) path.now) → IsOk result }
 {
-    let lent = LentSegments::new(segments)?;
+    let lent = lent_message(segments)?;
     lend_part_words(alloc, lent, path, limits, &mut Prefix { bytes: prefix })
 }
 

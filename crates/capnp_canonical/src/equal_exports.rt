@@ -9,7 +9,7 @@ ghost use Rattle.capnp_canonical.specs.Taking.{AreTheSame, IsComparison, Refuses
 use crate::calls::Limits;
 use crate::frames::message_in;
 use crate::refusal::Refusal;
-use crate::segments::LentSegments;
+use crate::segments::lent_message;
 use crate::taking::{Beside, WordTaker, lend_words};
 use crate::words::message_of;
 use std::alloc::Global;
@@ -51,7 +51,7 @@ impl WordTaker for OtherSegments<'_> {
         (RefusesSegments other.bytes.now) (limits_of other.limits.nesting other.limits.words) words made };
 
     fn take(&mut self, words: &[u8]) -> Result<bool, Refusal> {
-        match LentSegments::new(self.bytes) {
+        match lent_message(self.bytes) {
             Ok(lent) => lend_words(self.alloc, lent, self.limits, &mut Beside { words }),
             Err(refusal) => Err(refusal),
         }
@@ -108,7 +108,7 @@ fn equal_segments(
     ensures refused { IfErr result (RefusesOne (InSegments one.now) (RefusesSegments one.now)
         (InSegments other.now) (RefusesSegments other.now) (limits_of limits.nesting limits.words)) }
 {
-    let first = LentSegments::new(one)?;
+    let first = lent_message(one)?;
     let mut other = OtherSegments {
         alloc,
         bytes: other,

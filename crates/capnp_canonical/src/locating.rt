@@ -8,7 +8,7 @@ ghost use Rattle.capnp_canonical.specs.Locating.{PointerIs, command_of_reading, 
 use crate::calls::Limits;
 use crate::frames::message_in;
 use crate::refusal::Refusal;
-use crate::segments::LentSegments;
+use crate::segments::lent_message;
 use crate::words::message_of;
 use capnp_arena::arena::ReaderSegments;
 use capnp_messages::messages::{Command, Form};
@@ -91,7 +91,7 @@ pub fn locate_in_segments(
         (PointerIs reading (limits_of limits.nesting limits.words) p)) }
     ensures refused { IfErr result (RefusesSegments segments.now) }
 {
-    let lent = LentSegments::new(segments)?;
+    let lent = lent_message(segments)?;
     Ok(locate(lent, limits, reading))
 }
 

@@ -10,7 +10,7 @@ ghost use Rattle.capnp_canonical.specs.Parts.{HasPartSize, IsCopyOfPart, Refuses
 use crate::calls::Limits;
 use crate::frames::message_in;
 use crate::refusal::Refusal;
-use crate::segments::LentSegments;
+use crate::segments::lent_message;
 use crate::taking::{Room, lend_part_words};
 use crate::words::message_of;
 use capnp_arena::arena::{ReaderArenaImpl, ReaderSegments};
@@ -122,7 +122,7 @@ pub fn copy_segments_part(
     ensures lent { InSegments segments.now
         (PartNeedsNoHeap (limits_of limits.nesting limits.words) path.now) → IfErr result IsNoRoom }
 {
-    let lent = LentSegments::new(segments)?;
+    let lent = lent_message(segments)?;
     copy_at(alloc, lent, path, limits, to)
 }
 
@@ -139,7 +139,7 @@ pub fn size_segments_part(
         ⊎ InSegments segments.now
         (λ S. RefusesPartSize (limits_of limits.nesting limits.words) path.now S r)) }
 {
-    let lent = LentSegments::new(segments)?;
+    let lent = lent_message(segments)?;
     size_at(lent, path, limits)
 }
 

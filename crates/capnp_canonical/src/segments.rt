@@ -1,6 +1,6 @@
 //! Copies, tests and measures a message in the caller's segments.
-ghost use Rattle.std.specs.Prelude.{◌≡◌, ◌⊎◌, map, length, IfOk, IfErr, IsOk};
-ghost use Rattle.capnp_arena_traits.specs.Limits.{AreSmall, IsSmall};
+ghost use Rattle.std.specs.Prelude.{◌≡◌, ◌⊎◌, length, IfOk, IfErr, IsOk};
+ghost use Rattle.capnp_arena_traits.specs.Limits.{AreSmall};
 ghost use Rattle.capnp_messages.specs.Messages.{HasSizeOf};
 ghost use Rattle.capnp_messages.specs.declared.messages.command.Command.{Command};
 ghost use Rattle.capnp_messages.specs.declared.messages.command.Form.{Form};
@@ -15,57 +15,21 @@ use capnp_objects::pointers::{CanonicalFault, MessageSize};
 use capnp_words::error::ErrorKind;
 use std::alloc::Global;
 
-/// The caller's segments: whole words, and within the limits of `SegmentArray::new`.
-#[derive(Clone, Copy)]
-pub struct LentSegments<'a> {
-    segments: &'a [&'a [u8]],
-    ghost small: { IsSmall (map (λ s. s.now) segments.now) },
-}
-
-impl<'a> LentSegments<'a> {
-    /// Wraps `segments`. Refuses with `SegmentIsNotWholeWords` if the bytes of a segment aren't
-    /// whole words, and with `MessageTooLarge` if there are more segments or words than
-    /// `SegmentArray::new` allows.
-    pub fn new(segments: &'a [&'a [u8]]) -> Result<Self, Refusal>
-        ensures segments { IfOk result (λ lent.
-            ⟦<LentSegments<'static> as ReaderSegments>⟧.segments lent ≡ lent_bytes segments.now) }
-        ensures whole { IfOk result (λ lent. AreWholeWords segments.now × AreSmall segments.now) }
-        ensures refused { IfErr result (RefusesSegments segments.now) }
-    {
-        if !segments.iter().all(|s| s.len() % 8 == 0) {
-            return Err(Refusal::SegmentIsNotWholeWords);
-        }
-        if SegmentArray::new(segments).is_none() {
-            return Err(Refusal::Layout(ErrorKind::MessageTooLarge(usize::MAX)));
-        }
-        Ok(LentSegments { segments })
-    }
-}
-
-/// Returns `bytes`. If `bytes` is empty, returns an empty slice with another pointer, because C may
-/// have passed a null pointer.
-pub fn without_null(bytes: &[u8]) -> &[u8]
-    ensures { result.now ≡ bytes.now }
+/// Returns the message in `segments`. Refuses with `SegmentIsNotWholeWords` if the bytes of a segment
+/// aren't whole words, and with `MessageTooLarge` if there are more segments or words than
+/// `SegmentArray::new` allows.
+pub fn lent_message<'a>(segments: &'a [&'a [u8]]) -> Result<SegmentArray<'a>, Refusal>
+    ensures segments { IfOk result (λ lent.
+        ⟦<SegmentArray<'static> as ReaderSegments>⟧.segments lent ≡ lent_bytes segments.now) }
+    ensures whole { IfOk result (λ lent. AreWholeWords segments.now × AreSmall segments.now) }
+    ensures refused { IfErr result (RefusesSegments segments.now) }
 {
-    if bytes.is_empty() { &[] } else { bytes }
-}
-
-impl ReaderSegments for LentSegments<'_> {
-    ghost segments = { λ lent. map (λ s. s.now) lent.segments.now };
-
-    fn get_segment(&self, id: u32) -> Option<&[u8]> {
-        match self.segments.get(id as usize) {
-            Some(s) => Some(without_null(*s)),
-            None => None,
-        }
+    if !segments.iter().all(|s| s.len() % 8 == 0) {
+        return Err(Refusal::SegmentIsNotWholeWords);
     }
-
-    fn len(&self) -> usize {
-        self.segments.len()
-    }
-
-    fn is_empty(&self) -> bool {
-        self.segments.is_empty()
+    match SegmentArray::new(segments) {
+        Some(lent) => Ok(lent),
+        None => Err(Refusal::Layout(ErrorKind::MessageTooLarge(usize::MAX))),
     }
 }
 
@@ -86,7 +50,7 @@ pub fn copy_segments(
     ensures lent { InSegments segments.now
         (NeedsNoHeap (limits_of limits.nesting limits.words)) → IfErr result IsNoRoom }
 {
-    let lent = LentSegments::new(segments)?;
+    let lent = lent_message(segments)?;
     copy(alloc, form, lent, limits, to)
 }
 
@@ -98,7 +62,7 @@ pub fn check_segments(segments: &[&[u8]], limits: Limits) -> Result<Option<Canon
         ⊎ InSegments segments.now
         (λ S. RefusesMeaning Command.Check (limits_of limits.nesting limits.words) S r)) }
 {
-    let lent = LentSegments::new(segments)?;
+    let lent = lent_message(segments)?;
     check(lent, limits)
 }
 
@@ -111,6 +75,6 @@ pub fn size_segments(segments: &[&[u8]], limits: Limits) -> Result<MessageSize, 
         ⊎ InSegments segments.now
         (λ S. RefusesMeaning Command.Size (limits_of limits.nesting limits.words) S r)) }
 {
-    let lent = LentSegments::new(segments)?;
+    let lent = lent_message(segments)?;
     size(lent, limits)
 }

@@ -8,7 +8,7 @@ ghost use Rattle.capnp_canonical.specs.Validation.{ExtentIs, RefusesExtent, c_ex
 use crate::calls::Limits;
 use crate::frames::message_in;
 use crate::refusal::Refusal;
-use crate::segments::LentSegments;
+use crate::segments::lent_message;
 use crate::words::message_of;
 use capnp_arena::arena::{ReaderArenaImpl, ReaderSegments};
 use capnp_messages::messages;
@@ -90,7 +90,7 @@ pub fn validate_segments(segments: &[&[u8]], limits: Limits) -> Result<SoundMess
         ⊎ InSegments segments.now
         (λ S. RefusesExtent (limits_of limits.nesting limits.words) S r)) }
 {
-    let lent = LentSegments::new(segments)?;
+    let lent = lent_message(segments)?;
     validate(lent, limits)
 }
 

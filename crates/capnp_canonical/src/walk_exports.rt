@@ -9,7 +9,7 @@ ghost use Rattle.capnp_canonical.specs.Walking.{NotWalked, c_walk};
 use crate::calls::Limits;
 use crate::frames::message_in;
 use crate::refusal::Refusal;
-use crate::segments::LentSegments;
+use crate::segments::lent_message;
 use crate::words::message_of;
 use capnp_arena::arena::ReaderSegments;
 use capnp_walks::walks::{WalkedObject, walk_message};
@@ -84,7 +84,7 @@ pub extern "C" fn capnp_canonical_segments_walk(
         ≡ c_walk (walk_message S (limits_of nesting words)) objects.old)
         ⊎ NotWalked (RefusesSegments segments.now) objects.old objects.new count.new result }
 {
-    match LentSegments::new(segments) {
+    match lent_message(segments) {
         Ok(lent) => walk(lent, Limits { nesting, words }, objects, count),
         Err(refusal) => {
             *count = 0;

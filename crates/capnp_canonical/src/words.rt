@@ -11,12 +11,19 @@ ghost use Rattle.capnp_canonical.specs.Calls.{Fills, InWords, IsCopyOf, IsNoRoom
 
 use crate::calls::{Limits, check, copy, size};
 use crate::refusal::Refusal;
-use crate::segments::without_null;
 use capnp_arena::arena::OutputSegments;
 use capnp_messages::messages::Form;
 use capnp_objects::pointers::{CanonicalFault, MessageSize};
 use capnp_words::error::ErrorKind;
 use std::alloc::Global;
+
+/// Returns `bytes`. If `bytes` is empty, returns an empty slice with another pointer, because C may
+/// have passed a null pointer.
+fn without_null(bytes: &[u8]) -> &[u8]
+    ensures { result.now ≡ bytes.now }
+{
+    if bytes.is_empty() { &[] } else { bytes }
+}
 
 /// Returns the message whose one segment is `words`. Refuses with `SegmentIsNotWholeWords` if
 /// `words` isn't whole words, and with `MessageTooLarge` if it is 2^32 words or more.

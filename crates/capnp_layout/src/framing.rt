@@ -2,7 +2,7 @@
 //! messages in canonical form (encoding specification, "Serialization Over a Stream" and
 //! "Canonicalization").
 
-mod pointed;
+mod writing;
 
 pub use capnp_framing::framing::{
     FrameError, FrameSegments, MAX_SEGMENTS, OwnedSegments, read, read_from_flat_slice, read_into,
@@ -10,8 +10,8 @@ pub use capnp_framing::framing::{
 };
 pub use capnp_messages::messages::{
     CanonicalError, CopyMemory, MessageExtent, canonical_bytes, canonical_fault, canonical_segment,
-    canonicalize, canonicalize_into, check, is_canonical_message, laws, size, validate,
-    validate_root, write_copy,
+    canonicalize, canonicalize_into, canonicalize_pointer, check, is_canonical_message, laws,
+    read_root, size, validate, validate_root, write_copy,
 };
 pub use capnp_readers::readers::{CanonicalFault, CanonicalFaultReason};
-pub use pointed::{canonicalize_pointer, read_root, write_canonical};
+pub use writing::write_canonical;

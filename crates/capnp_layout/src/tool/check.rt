@@ -8,8 +8,9 @@ ghost use Rattle.capnp_layout.specs.Messages.{segments_in};
 use super::args::Args;
 use super::limits::ensure_small;
 use super::lines::Message;
-use crate::framing::read_root;
 use capnp_arena::arena::{ReaderArenaImpl, ReaderOptions};
+use capnp_messages::messages::read_root;
+use capnp_readers::readers::PointerReader;
 use capnp_words::error::ErrorKind;
 use capnp_words::read_limiter::ReadLimiter;
 
@@ -27,5 +28,5 @@ pub(crate) fn is_canonical(source: Message, options: ReaderOptions) -> Result<bo
     let mut lim = ReadLimiter::new(options.traversal_limit_in_words);
     let root = read_root(&arena, &mut lim)?;
     let mut head = 1;
-    root.is_canonical(&mut lim, &mut head)
+    PointerReader::from_pointer(root).is_canonical(&mut lim, &mut head)
 }

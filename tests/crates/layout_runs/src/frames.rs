@@ -7,9 +7,10 @@ use capnp_proved::capnp_layout::arena::{
 };
 use capnp_proved::capnp_layout::devices::{MemoryInput, MemoryOutput};
 use capnp_proved::capnp_layout::framing::{
-    read, read_from_flat_slice, read_root, write, write_canonical, OwnedSegments,
+    read, read_from_flat_slice, write, write_canonical, OwnedSegments,
 };
 use capnp_proved::capnp_layout::read_limiter::ReadLimiter;
+use capnp_proved::capnp_layout::readers::PointerReader;
 use capnp_proved::support::alloc::Global;
 use std::hint::black_box;
 use test_support::encode_hex;
@@ -117,7 +118,7 @@ fn write_canonical_copy(
     to: &mut MemoryOutput,
 ) -> &'static str {
     let source = ReaderArenaImpl::new(segments, ReaderOptions::default());
-    match read_root(&source, limiter) {
+    match PointerReader::get_root_from_arena(&source, limiter) {
         Ok(root) => {
             write_canonical(Global, to, root, limiter).map_or_else(|error| error.name(), |()| OK)
         }

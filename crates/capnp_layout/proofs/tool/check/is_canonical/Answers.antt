@@ -16,9 +16,12 @@ returns c =
     let read : IsOk c.read_root.result = search rules in
     let at : AtRoot (message (segments_in c.args.source)) c.args.options _ c.read_root.new.lim =
     at_root c.new-arena.ensures.words c.new-arena.ensures.nesting c.new-lim.ensures c.in_ok-root.ensures.place c.in_ok-root.ensures.charged (c.read_root.ensures.exactly.0 read) in
+    let from = c.from_pointer.ensures in
+    let computed = rw (from.source, from.place, from.nesting) at c.is_canonical.ensures.computed in
+    let held = rw (from.source, from.place, from.nesting) at c.is_canonical.ensures.small in
     record {
       small = search rules;
-      check = check_answers c.is_canonical.result c.is_canonical.new.head c.is_canonical.new.lim at c.is_canonical.ensures.small c.is_canonical.ensures.computed;
-      answered = λ small canonical. check_answered c.is_canonical.result c.is_canonical.new.head c.is_canonical.new.lim at c.is_canonical.ensures.computed canonical;
-      refused = IfErr-weaker c.is_canonical.result _ _ (λ k refused. inr refused) (check_refused c.is_canonical.result c.is_canonical.new.head c.is_canonical.new.lim at c.is_canonical.ensures.computed);
+      check = check_answers c.is_canonical.result c.is_canonical.new.head c.is_canonical.new.lim at held computed;
+      answered = λ small canonical. check_answered c.is_canonical.result c.is_canonical.new.head c.is_canonical.new.lim at computed canonical;
+      refused = IfErr-weaker c.is_canonical.result _ _ (λ k refused. inr refused) (check_refused c.is_canonical.result c.is_canonical.new.head c.is_canonical.new.lim at computed);
     }
