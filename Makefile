@@ -9,6 +9,7 @@
 #     make check-streams      runs the program over all streams, with python3; this takes minutes
 #     make install            installs them below PREFIX, with DESTDIR in front; LIBDIR and others can be set separately
 #     make layout             the static library capnp_layout only
+#     make FOLDER/PROGRAM     a program of yours, of the one file FOLDER/PROGRAM.c, over both static libraries, which are built first
 #     make check-layout, make install-layout    test and install only capnp_layout, both forms
 #     make install-python     installs the Python module into PYTHONDIR
 #     make wasm               the library for JavaScript, with clang and wasm-ld
@@ -129,6 +130,11 @@ $(BUILD)/%: generated/%.c
 	@mkdir -p $(BUILD)
 	$(CC) $(ALL_FLAGS) $(LDFLAGS) -o $@ generated/$*.c
 
+# a program of one file, wherever it is, over both libraries. It is compiled anew each time, since nothing says which headers it
+# includes.
+%: %.c $(BUILD)/libcapnp_layout.a $(BUILD)/libcapnp_canonical.a anew
+	$(CC) -Ibindings/c $(CPPFLAGS) $(LEVEL) $(CFLAGS) $(LDFLAGS) -o $@ $< $(BUILD)/libcapnp_layout.a $(BUILD)/libcapnp_canonical.a
+
 TESTED_BY = BUILD='$(BUILD)' CC='$(CC)' FLAGS='$(CPPFLAGS) $(CFLAGS) $(LDFLAGS)' PYTHON='$(PYTHON)' RUNNER='$(RUNNER)' sh
 
 check test: program $(CANONICAL) check-layout
@@ -186,4 +192,6 @@ crate:
 clean:
 	rm -rf $(BUILD)
 
-.PHONY: all check check-layout check-streams clean crate install install-layout install-python layout program test wasm
+anew:
+
+.PHONY: all anew check check-layout check-streams clean crate install install-layout install-python layout program test wasm

@@ -1,7 +1,7 @@
 #!/usr/bin/env python3
 """Types what docs/TYPED.md has under "For programs in Rust" and "For programs in C", each in a clone of the last commit, without a
 command `rt`, and looks at what the programs print: the order, and the SHA-256 of the type's id and the canonical words, which
-`capnp` and hashlib make here.
+`capnp` and hashlib make here. Each section has five commands, none of them two in one.
 
     page.py [rust] [c]
 
@@ -26,6 +26,12 @@ def block(text, kind):
 
 def section(page, heading):
     return re.search(rf'^## {re.escape(heading)}\n(.*?)(?=^## )', page, re.M | re.S)[1]
+
+
+def count_of(commands):
+    """How many commands these lines are. What `cat` is given up to the line END is one with it, and `&&`, `;` and `|` part two."""
+    outside = re.sub(r"<<'END'\n.*?^END$", '', commands, flags=re.M | re.S)
+    return sum(len(re.split(r'&&|;|\|', line.split(' #')[0])) for line in outside.splitlines())
 
 
 def expected(schema):
@@ -53,7 +59,8 @@ def typed(page, name, folder):
     environment.pop('CARGO_TARGET_DIR', None)
     run = subprocess.run(['sh', '-e'], input=commands, cwd=clone, env=environment, stdout=subprocess.PIPE, stderr=subprocess.STDOUT, encoding='utf-8', errors='replace')
     said = run.stdout.splitlines()
-    return run.returncode == 0 and said[-2:] == expected(str(clone / 'shop.capnp')), '\n'.join(said[-30:])
+    count = count_of(commands)
+    return run.returncode == 0 and count == 5 and said[-2:] == expected(str(clone / 'shop.capnp')), '\n'.join([*said[-30:], f'{count} commands'])
 
 
 def main(names):
