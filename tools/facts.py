@@ -20,7 +20,7 @@ import re
 import sys
 
 TOP = pathlib.Path(__file__).resolve().parents[1]
-PAGES = ('README.md', 'SECURITY.md', 'tests/*.md', 'tests/*/README.md', 'release_files/README.md', 'packaging/README.md', 'viewer/README.md', 'docs/*.md', 'bindings/**/README.md')
+PAGES = ('README.md', 'SECURITY.md', 'tests/*.md', 'tests/*/README.md', 'dev/release_files/README.md', 'packaging/README.md', 'viewer/README.md', 'docs/*.md', 'bindings/**/README.md')
 UNITS = r'(?:processor )?(?:minutes?|hours?|seconds?|microseconds?|KB|kB|KiB|MB|MiB|GB|GiB|messages?|vectors?|mutants?|bugs?|cases?|definitions?|lines?|sequences?|runs?|functions?|times?)'
 TOOLS = r"(?:gcc|clang|Rust|Python|node|glibc|Debian|LLVM|Meson|version|Cap'n Proto|crate `capnp`|`capnp`)"
 NUMBER = re.compile(rf"(?<![\w.])(?:\d[\d,]*(?:\.\d+)? {UNITS}\b|{TOOLS} \d+(?:\.\d+)*)")

@@ -285,7 +285,7 @@ def lines_of(pattern, without=''):
 def tries():
     facts = sum(len(re.findall(r'(?m)^    (?:means|has|lacks|refused) ', path.read_text(encoding='utf-8'))) for path in TOP.glob('crates/outside_facts/specs/*.antt'))
     table = (
-        ('mutants: bugs planted in the source, each refused by the prover (`./test --every-mutant` tries all)', '`tests/mutants/`', len(list(TOP.glob('tests/mutants/*/*.mutant')))),
+        ('mutants: bugs planted in the source, each refused by the prover (`dev/test --every-mutant` tries all)', '`tests/mutants/`', len(list(TOP.glob('tests/mutants/*/*.mutant')))),
         ('mutants that the gate tries', '`tests/mutants/gate.txt`', len((TOP / 'tests/mutants/gate.txt').read_text(encoding='utf-8').split())),
         ('vectors: runs of `layout_tool`, with answers from outside of this repository', '`tests/vectors/`', lines_of('tests/vectors/*.jsonl', 'worked.jsonl')),
         ('vectors that were worked out by hand', '`tests/vectors/worked.jsonl`', lines_of('tests/vectors/worked.jsonl')),

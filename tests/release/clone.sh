@@ -93,7 +93,7 @@ layout_by_cmake() {
 # The script of the program that isn't in the quick start, and that scripts pass on input.
 programs() {
     make all CC="$CC" && ./capnp_canon canon --flat <"$message" | is_canonical &&
-        [ "$(echo 0000000001000000 2a00000000000000 | tr -d ' ' | ./layout_tool canon 64 8388608)" = 00000000010000002a00000000000000 ]
+        [ "$(echo 0000000001000000 2a00000000000000 | tr -d ' ' | dev/layout_tool canon 64 8388608)" = 00000000010000002a00000000000000 ]
 }
 
 # The generators, which make builds first, write the code that the repository has.
@@ -239,7 +239,7 @@ by_wasm() {
 
 # Two releases of the clone are the same, and one builds.
 released() {
-    ./release "$work/one" && ./release "$work/two" && cmp "$work"/one/*.tar.gz "$work"/two/*.tar.gz && tar xzf "$work"/one/*.tar.gz -C "$work" &&
+    dev/release "$work/one" && dev/release "$work/two" && cmp "$work"/one/*.tar.gz "$work"/two/*.tar.gz && tar xzf "$work"/one/*.tar.gz -C "$work" &&
         make -C "$work"/capnp_canonical-* check CC="$CC"
 }
 

@@ -59,7 +59,7 @@ summed() {
 
 # Makes the release here and in a clone elsewhere, and compares them.
 releases() {
-    git clone -q "$top" "$work/a/folder/elsewhere" && "$top/release" "$work/one" && "$work/a/folder/elsewhere/release" "$work/two" &&
+    git clone -q "$top" "$work/a/folder/elsewhere" && "$top/dev/release" "$work/one" && "$work/a/folder/elsewhere/dev/release" "$work/two" &&
         cmp "$work/one"/*.tar.gz "$work/two"/*.tar.gz
 }
 
@@ -233,7 +233,7 @@ versions() {
 if [ $# -gt 0 ]; then
     mkdir "$work/one" && cp "$1" "$work/one" || exit 2
 else
-    if has rt generated; then summed generated "$top/test" --generated; fi
+    if has rt generated; then summed generated "$top/dev/test" --generated; fi
     part 'two releases, from two folders' releases
 fi
 tar xzf "$work/one"/*.tar.gz -C "$work" || { say '0 passed, 1 failed'; exit 1; }
