@@ -123,11 +123,11 @@ library() {
     folder=$work/$1 cc=$2
     shift 2
     make BUILD="$folder" CC="$cc" "$folder/libcapnp_canonical.a" || return 1
-    for it in tests/library/test.c tests/release/vectors.c; do
+    for it in tests/library/c/test.c tests/release/vectors.c; do
         # shellcheck disable=SC2086
         $cc -std=c11 -O2 -Ibindings/c -o "$folder/$(basename $it .c).exe" $it "$folder/libcapnp_canonical.a" || return 1
     done
-    "$@" "$folder/test.exe" tests/library/messages.txt && python3 -B tests/release/lines.py >"$folder/vectors.txt" && "$@" "$folder/vectors.exe" <"$folder/vectors.txt"
+    "$@" "$folder/test.exe" tests/library/rows/messages.txt && python3 -B tests/release/lines.py >"$folder/vectors.txt" && "$@" "$folder/vectors.exe" <"$folder/vectors.txt"
 }
 
 on_windows() {

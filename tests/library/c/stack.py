@@ -10,7 +10,7 @@ import pathlib
 import re
 import sys
 
-TOP = pathlib.Path(__file__).resolve().parents[2]
+TOP = pathlib.Path(__file__).resolve().parents[3]
 MEASURED = re.compile(r': (\d+) bytes per level, (\d+) in addition$', re.M)
 NUMBER = r'([\d,]+)'
 BUILDS = 'install', 'clang', 'gcc', 'unoptimised'
