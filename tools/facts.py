@@ -30,7 +30,7 @@ DIFFERENT = {
     # the compilers and the messages of a measurement
     'clang 14', 'gcc 12', '66 MB', '67 MB',
 }
-QUOTED = re.compile(r'<!-- (?:clauses|function|item|definitions?|types|notation|count|tries|sizes)\b.*?<!-- end -->|```.*?```', re.S)
+QUOTED = re.compile(r'<!-- (?:clauses|function|item|definitions?|types|notation|count|tries|mutants|sizes)\b.*?<!-- end -->|```.*?```', re.S)
 
 
 def text(path):
