@@ -83,7 +83,7 @@ def facts():
     mutants = len([*TOP.glob('tests/mutants/*/*.mutant')])
     wasm, small = 'capnp_canonical.wasm', 'capnp_canonical_small.wasm'
     yield 'version', version, ('This is version #',)
-    yield 'least Rust', rust, ('Rust # or later', 'plain Rust \\(#', '`alloc`, Rust #', 'without `unsafe`, Rust #', 'needs Rust #')
+    yield 'least Rust', rust, ('Rust # or later', '`alloc`, Rust #', 'without `unsafe`, Rust #', 'needs Rust #')
     yield 'least Python', python, ('Python # (?:or|and) later',)
     yield 'least node', node, ('node # and later',)
     yield 'planted bugs', rounded(mutants, 1000), ('each of more than # bugs',)
