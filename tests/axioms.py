@@ -1,7 +1,7 @@
 #!/usr/bin/env python3
 """Compares what the toolchain reports that each proof rests on with `axioms.txt`.
 
-    axioms.py LOG             compares the crates whose reports are in LOG, which has what `./test` or `rt ci` printed
+    axioms.py LOG             compares the crates whose reports are in LOG, which has what `dev/test` or `rt ci` printed
     axioms.py --write LOG     writes the reports in LOG into `axioms.txt`; those of other crates stay
 
 A report is the end of a proof's verdict: its words after the number of functions, and, for a program or a library for C, a

@@ -1,7 +1,7 @@
 #!/usr/bin/env python3
 """The gate. Checks the names of definitions, the prose, the quotations, links and facts in pages, the header for C and that it keeps to its
-earlier versions, whether a crate has changed since the C in generated/ was written, the logic of the toolchain, the scripts at
-the top, the printer of Rust, that doc comments state preconditions, and that generated/rust is what the sources are printed as.
+earlier versions, whether a crate has changed since the C in generated/ was written, the logic of the toolchain, the scripts that
+run programs, the printer of Rust, that doc comments state preconditions, and that generated/rust is what the sources are printed as.
 Then runs `rt ci`, which proves and builds everything; compares what it reports that the proofs rest on with `tests/axioms.txt`;
 and tries the mutants with the libraries that it built. Builds the programs and runs the tests of tests/crates with cargo, which
 are plain Rust over generated/rust. Then runs the outside vectors and the streams with the programs that `rt ci` built, and the

@@ -1,6 +1,6 @@
 #!/usr/bin/env python3
-"""Tests the scripts at the top that run programs, ./prove, tests/toolchain.py and tools/facts.py, with a made-up toolchain. For the scripts that
-run programs, its command `rt` only names a version, and leaves a mark if it is called for anything else. For ./prove it proves
+"""Tests the scripts that run programs, dev/prove, tests/toolchain.py and tools/facts.py, with a made-up toolchain. For the scripts that
+run programs, its command `rt` only names a version, and leaves a mark if it is called for anything else. For dev/prove it proves
 everything in which the word `wrong` isn't.
 
     scripts.py
@@ -20,7 +20,7 @@ import time
 
 TOP = pathlib.Path(__file__).resolve().parents[1]
 COPIED = (
-    'capnp_canon', 'layout_tool', 'capnpc-rattle', 'prove', 'crates.txt', 'HANDLES', 'TOOLCHAIN', 'README.md', 'docs/PROVED.md', 'generated/ORIGIN',
+    'capnp_canon', 'capnpc-rattle', 'dev/layout_tool', 'dev/prove', 'crates.txt', 'HANDLES', 'TOOLCHAIN', 'README.md', 'docs/PROVED.md', 'generated/ORIGIN',
     'tools/run_program', 'tools/current.sh', 'tools/proved.py', 'tools/generated.py', 'tools/libraries.py', 'tests/toolchain.py',
 )
 # What each made-up program does: says which one it is, or the version; passes its input on; and ends with its own status.
@@ -64,8 +64,8 @@ printf '#!/bin/sh\\n[ "$*" = --version ] || exit 3\\necho capnp_canon 0\\n' >"$6
 }
 BUILT_FIRST = "capnp_canon: build/capnp_canon isn't built yet, so make builds it first\n"
 BUILT_AGAIN = 'capnp_canon: build/capnp_canon is older than the C in generated/, so make builds it first\n'
-NEWER = 'capnp_canon: crates/{} is newer than generated/, from which make compiles this program; ./prove capnp_canon proves and builds the sources\n'
-REFUSED = "capnpc_rattle: it isn't built from the current sources: run ./prove capnpc_rattle, which proves and builds it with the toolchain's command rt\n"
+NEWER = 'capnp_canon: crates/{} is newer than generated/, from which make compiles this program; dev/prove capnp_canon proves and builds the sources\n'
+REFUSED = "capnpc_rattle: it isn't built from the current sources: run dev/prove capnpc_rattle, which proves and builds it with the toolchain's command rt\n"
 BY_MAKE = 'compiled by make from generated/: build/capnp_canon\n'
 BY_RT = 'proved and built with rt: crates/capnp_canon/out/capnp_canon\n'
 
@@ -209,13 +209,13 @@ def proved(tree):
 
 
 def proving(tree):
-    """Facts about ./prove."""
+    """Facts about dev/prove."""
     kit = tree.proving()
 
     def prove(*crates):
         """What it says, without seconds; its exit status; and what the toolchain was asked for."""
         (kit / 'said').write_text('', encoding='utf-8')
-        _, err, status = tree.run('./prove', *crates)
+        _, err, status = tree.run('dev/prove', *crates)
         return re.sub(r', \d+ s\n', '\n', err), status, (kit / 'said').read_text(encoding='utf-8').split('\n')[:-1]
 
     shutil.rmtree(tree.top / 'crates/capnp_canon/out')

@@ -1,7 +1,7 @@
 #!/bin/sh
 # shell.sh [PROGRAM]: runs the commands of docs/PROGRAM.md and tests/layout_tool.md, part by part in one folder, and compares the output of
 # each part with the page. PROGRAM is a built capnp_canon. Without it, runs ./capnp_canon at the top of the repository and also
-# ./layout_tool, which run what is built. A part whose tools are missing is skipped.
+# dev/layout_tool, which run what is built. A part whose tools are missing is skipped.
 #
 # Prints a line `ok: COMMAND`, `FAILED: COMMAND` or `skipped: COMMAND: no TOOL` for each part; the last line is
 # `N passed, M failed`.
@@ -14,7 +14,7 @@ mkdir "$work/parts" "$work/folder" || exit 2
 
 # Makes a script of this name in the folder; the script runs a program.
 run_by() {
-    printf '#!/bin/sh\nexec "%s" "$@"\n' "$2" >"$work/folder/$1" && chmod +x "$work/folder/$1"
+    mkdir -p "$(dirname "$work/folder/$1")" && printf '#!/bin/sh\nexec "%s" "$@"\n' "$2" >"$work/folder/$1" && chmod +x "$work/folder/$1"
 }
 
 # Writes each part of the page to N.sh or N.bash, and its expected output to N.text.
@@ -28,17 +28,17 @@ take_apart() {
 
 # The tools that a part needs and that are missing.
 lacking() {
-    grep -q layout_tool "$1" && [ ! -e "$work/folder/layout_tool" ] && echo layout_tool
+    grep -q layout_tool "$1" && [ ! -e "$work/folder/dev/layout_tool" ] && echo layout_tool
     for tool in bash jq openssl sha256sum xxd; do
         if [ "${1##*.}" = $tool ] || grep -qw -e "$tool" "$1"; then command -v $tool >/dev/null || echo $tool; fi
     done
 }
 
 run_by capnp_canon "$program"
-[ $# -gt 0 ] || run_by layout_tool "$top/layout_tool"
+[ $# -gt 0 ] || run_by dev/layout_tool "$top/dev/layout_tool"
 # a build that is needed is announced here
 "$program" --version >"$work/log" || exit 2
-[ $# -gt 0 ] || "$top/layout_tool" --help >"$work/log" || exit 2
+[ $# -gt 0 ] || "$top/dev/layout_tool" --help >"$work/log" || exit 2
 take_apart
 cd "$work/folder" || exit 2
 passed=0 failed=0

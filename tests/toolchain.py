@@ -39,7 +39,7 @@ def about_kit(logic, kits):
         return fault, False
     if own != logic:
         return (f'{kit} has the logic {own}, and this repository is proved in the logic {logic}. Use a kit of that logic: {", ".join(kits)}. Or move the '
-                f'repository to {own}: write this logic and the kit into TOOLCHAIN and into {", ".join(PAGES[:2])}, run ./test --anew, and write generated/ again'), False
+                f'repository to {own}: write this logic and the kit into TOOLCHAIN and into {", ".join(PAGES[:2])}, run dev/test --anew, and write generated/ again'), False
     if kit in kits:
         return f'{kit} of the logic {logic}, with which this repository has been proved before', True
     return f'{kit} has the logic {logic}, but TOOLCHAIN does not list it: if all else passes, add the line `kit: {kit}` there', True

@@ -1,5 +1,5 @@
 #!/usr/bin/env python3
-"""Proves a crate, or some functions of it, over the libraries that `./test` or `./prove` built.
+"""Proves a crate, or some functions of it, over the libraries that `dev/test` or `dev/prove` built.
 
     check.py CRATE [FUNCTION..]
 
@@ -25,7 +25,7 @@ def main(words):
     name, *functions = words
     lacking = crates.lacking(name)
     if lacking:
-        sys.stderr.write(f'check: these libraries are not built from the current sources: run ./test, or ./prove {" ".join(lacking)}\n')
+        sys.stderr.write(f'check: these libraries are not built from the current sources: run dev/test, or dev/prove {" ".join(lacking)}\n')
         return 2
     command = [f'{crates.kit}/bin/rattle', 'check', *crates.words(name), '--incremental', 'out/checked']
     for path in functions:

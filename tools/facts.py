@@ -20,7 +20,7 @@ import re
 import sys
 
 TOP = pathlib.Path(__file__).resolve().parents[1]
-PAGES = ('README.md', 'SECURITY.md', 'tests/*.md', 'tests/*/README.md', 'release_files/README.md', 'packaging/README.md', 'viewer/README.md', 'docs/*.md', 'bindings/**/README.md')
+PAGES = ('README.md', 'SECURITY.md', 'tests/*.md', 'tests/*/README.md', 'dev/release_files/README.md', 'packaging/README.md', 'viewer/README.md', 'docs/*.md', 'bindings/**/README.md')
 UNITS = r'(?:processor )?(?:minutes?|hours?|seconds?|microseconds?|KB|kB|KiB|MB|MiB|GB|GiB|messages?|vectors?|mutants?|bugs?|cases?|definitions?|lines?|sequences?|runs?|functions?|times?)'
 TOOLS = r"(?:gcc|clang|Rust|Python|node|glibc|Debian|LLVM|Meson|version|Cap'n Proto|crate `capnp`|`capnp`)"
 NUMBER = re.compile(rf"(?<![\w.])(?:\d[\d,]*(?:\.\d+)? {UNITS}\b|{TOOLS} \d+(?:\.\d+)*)")
@@ -30,7 +30,7 @@ DIFFERENT = {
     # the compilers and the messages of a measurement
     'clang 14', 'gcc 12', '66 MB', '67 MB',
 }
-QUOTED = re.compile(r'<!-- (?:clauses|function|item|definitions?|types|notation|count|tries|sizes)\b.*?<!-- end -->|```.*?```', re.S)
+QUOTED = re.compile(r'<!-- (?:clauses|function|item|definitions?|types|notation|count|tries|mutants|sizes)\b.*?<!-- end -->|```.*?```', re.S)
 
 
 def text(path):
@@ -83,7 +83,7 @@ def facts():
     mutants = len([*TOP.glob('tests/mutants/*/*.mutant')])
     wasm, small = 'capnp_canonical.wasm', 'capnp_canonical_small.wasm'
     yield 'version', version, ('This is version #',)
-    yield 'least Rust', rust, ('Rust # or later', 'plain Rust \\(#', '`alloc`, Rust #', 'without `unsafe`, Rust #', 'needs Rust #')
+    yield 'least Rust', rust, ('Rust # or later', '`alloc`, Rust #', 'without `unsafe`, Rust #', 'needs Rust #')
     yield 'least Python', python, ('Python # (?:or|and) later',)
     yield 'least node', node, ('node # and later',)
     yield 'planted bugs', rounded(mutants, 1000), ('each of more than # bugs',)

@@ -5,7 +5,7 @@
 
 Writes FOLDER/CRATE.c for a library or a program, from the current sources; for a program of several files FOLDER/CRATE.h and
 FOLDER/CRATE_PART.c too; for a library whose header has another name, FOLDER/HEADER.c. proved.py proves the crates
-first, over the libraries that `./test` has left in this tree if they are of the current sources. `rattle build` lowers a crate
+first, over the libraries that `dev/test` has left in this tree if they are of the current sources. `rattle build` lowers a crate
 to an LLVM module and passes it to clang. Here a script takes the place of clang: it also makes the toolchain's clang write the
 module as optimised text. c_of_module translates that text to C."""
 import pathlib

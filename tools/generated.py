@@ -1,7 +1,7 @@
 #!/usr/bin/env python3
 """Writes generated/, the compiled form of the proved sources in C, which a C compiler builds without the toolchain.
 
-    generated.py            writes it again from the current sources, over the libraries that `./test` left here; minutes
+    generated.py            writes it again from the current sources, over the libraries that `dev/test` left here; minutes
     generated.py --check    writes it into a temporary folder and compares every byte
     generated.py --sums     compares the sums in generated/ORIGIN with the files; needs no toolchain, takes milliseconds
     generated.py --map NAME prints generated/NAME.map as it is written, for ./install

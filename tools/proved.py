@@ -7,7 +7,7 @@ Builds each crate from the current sources: the program crates/CRATE/out/CRATE, 
 or the library crates/CRATE/out/rlib, on which other crates are proved and built. It works with each kit of the toolchain, also
 with one that has no `rt ci NAME`.
 
-`./test` and earlier runs of this script leave libraries in this tree. If nearly all libraries that the crates depend on are
+`dev/test` and earlier runs of this script leave libraries in this tree. If nearly all libraries that the crates depend on are
 there, built from the current sources, `rattle build` proves and builds the others and the crates over these. Otherwise `rt ci`
 proves all of the libraries first, in a folder of its own, side by side, and this script leaves them in this tree.
 

@@ -4,8 +4,8 @@
     theorem.py             rewrites each page that differs
     theorem.py --check     says which pages differ. The last line is `N passed, M failed`, which counts pages
     theorem.py --words     counts the words of README.md and docs/*.md, without what is quoted
-    theorem.py --call PATH prints the contract of a function, such as `readers::PointerReader::get_struct`, with all definitions
-                           that it rests on, each before those that it cites
+    theorem.py --call PATH prints the contract of a function, such as `readers::PointerReader::get_struct` or `capnp_canonical_copy_flat`,
+                           with all definitions that it rests on, each before those that it cites
 
 A line of a page says what is quoted. The quotation comes after it, and ends with `<!-- end -->`:
 
@@ -18,9 +18,11 @@ A line of a page says what is quoted. The quotation comes after it, and ends wit
     <!-- notation -->                           the notation of these definitions and clauses
     <!-- count N -->                            what a reader has to read: the number of definitions and of their lines; without N, of both parts
     <!-- tries -->                              a table of the tests: how many mutants, vectors, cases and streams there are
+    <!-- mutants CRATE -->                      a table of the bugs that are planted in the functions of a crate
 
 The marks `definitions`, `types` and `notation` are for docs/THEOREM.md and docs/REFUSALS.md.
 """
+import collections
 import functools
 import re
 import sys
@@ -150,7 +152,7 @@ WORDS = (
     ('', '`A.view x`', 'what the type A says about x, under the name `view`'),
     ('', '`⟦<A as T>⟧.view x`', 'the same, for the trait T of A'),
 )
-MARK = re.compile(r'<!-- (clauses|function|item|definitions|definition|types|notation|count|tries)\b ?(.*?) ?-->')
+MARK = re.compile(r'<!-- (clauses|function|item|definitions|definition|types|notation|count|tries|mutants)\b ?(.*?) ?-->')
 END = '<!-- end -->'
 
 
@@ -273,8 +275,8 @@ def count(number):
 def both_counts():
     first, second, _ = (found for found, _, _ in parts().values())
     return [
-        f'To judge the claims about copying and testing a whole message, you read {len(first)} definitions with {length(first):,} lines.',
-        f'For copies and tests from a pointer inside a message, and for builders, you read another {len(second)} with {length(second):,} lines.',
+        f'To judge the claims about copying and testing a whole message, you read {len(first)} [definitions](docs/THEOREM.md#the-definitions-of-parts-1-to-3) with {length(first):,} lines.',
+        f'For copies and tests from a pointer inside a message, and for builders, you read [another {len(second)}](docs/THEOREM.md#the-definitions-of-parts-4-and-5) with {length(second):,} lines.',
     ]
 
 
@@ -285,7 +287,7 @@ def lines_of(pattern, without=''):
 def tries():
     facts = sum(len(re.findall(r'(?m)^    (?:means|has|lacks|refused) ', path.read_text(encoding='utf-8'))) for path in TOP.glob('crates/outside_facts/specs/*.antt'))
     table = (
-        ('mutants: bugs planted in the source, each refused by the prover (`./test --every-mutant` tries all)', '`tests/mutants/`', len(list(TOP.glob('tests/mutants/*/*.mutant')))),
+        ('mutants: bugs planted in the source, each refused by the prover (`dev/test --every-mutant` tries all)', '`tests/mutants/`', len(list(TOP.glob('tests/mutants/*/*.mutant')))),
         ('mutants that the gate tries', '`tests/mutants/gate.txt`', len((TOP / 'tests/mutants/gate.txt').read_text(encoding='utf-8').split())),
         ('vectors: runs of `layout_tool`, with answers from outside of this repository', '`tests/vectors/`', lines_of('tests/vectors/*.jsonl', 'worked.jsonl')),
         ('vectors that were worked out by hand', '`tests/vectors/worked.jsonl`', lines_of('tests/vectors/worked.jsonl')),
@@ -295,6 +297,17 @@ def tries():
         ('streams: runs of `capnp_canon`', '`tests/streams/`', lines_of('tests/streams/*.jsonl')),
     )
     return ['| What | Where | How many |', '|---|---|---|', *(f'| {what} | {where} | {number:,} |' for what, where, number in table)]
+
+
+def mutants(crate):
+    """The bugs that are planted in the functions of a crate's root files: for each function what its mutants are called."""
+    planted = collections.defaultdict(list)
+    for path in sorted(TOP.glob(f'tests/mutants/{crate}/*.mutant')):
+        lines = path.read_text(encoding='utf-8').splitlines()
+        file, old = (next(it.removeprefix(word) for it in lines if it.startswith(word)) for word in ('file: ', 'old: '))
+        before = (TOP / f'crates/{crate}/{file}').read_text(encoding='utf-8').partition(old)[0]
+        planted[re.findall(r'\bfn (\w+)', before)[-1]].append(path.stem.replace('isn_t', "isn't").replace('_', ' '))
+    return ['| Planted in | Bugs |', '|---|---|', *(f'| `{name}` | {"; ".join(bugs)} |' for name, bugs in sorted(planted.items()))]
 
 
 def chosen(rest):
@@ -324,7 +337,7 @@ def quotation(kind, rest):
         return ['```antt', *found.text.split('\n'), '```']
     if kind == 'item':
         return ['```rust', *quoted.item(*rest.split()), '```']
-    return {'definitions': definitions, 'types': types, 'count': count}[kind](rest) if rest else {'notation': notation, 'tries': tries, 'count': both_counts}[kind]()
+    return {'definitions': definitions, 'types': types, 'count': count, 'mutants': mutants}[kind](rest) if rest else {'notation': notation, 'tries': tries, 'count': both_counts}[kind]()
 
 
 def written(text):
@@ -343,8 +356,13 @@ def written(text):
 
 
 def found_call(path):
-    """The public function with a path such as `readers::PointerReader::get_struct`, wherever its file is below the first module."""
+    """The public function with a path such as `readers::PointerReader::get_struct`, wherever its file is below the first module, or
+    with a name such as `capnp_canonical_copy_flat`, in whatever file."""
     module, *rest = path.split('::')
+    if not rest:
+        for file in sorted(TOP.glob('crates/*/src/**/*.rt')):
+            if re.search(rf'^pub (?:extern "C" )?fn {module}\b', file.read_text(encoding='utf-8'), re.M):
+                return quoted.function(file.relative_to(TOP), module)
     for file in sorted([*TOP.glob(f'crates/*/src/{module}.rt'), *TOP.glob(f'crates/*/src/{module}/**/*.rt')]):
         for kept in range(len(rest)):
             try:
@@ -381,7 +399,7 @@ def pages():
 
 def prose(text):
     """The number of words of a page, without what this script writes."""
-    return len(re.sub(r'<!-- (?:clauses|function|item|definitions?|types|notation|count|tries)\b.*?<!-- end -->', '', text, flags=re.S).split())
+    return len(re.sub(r'<!-- (?:clauses|function|item|definitions?|types|notation|count|tries|mutants)\b.*?<!-- end -->', '', text, flags=re.S).split())
 
 
 def main():

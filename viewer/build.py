@@ -13,7 +13,7 @@ import re
 import sys
 
 HERE = pathlib.Path(__file__).resolve().parent
-TESTS = HERE.parent / 'tests/library'
+TESTS = HERE.parent / 'tests/library/rows'
 # The modules of the package, each after those that it imports.
 PACKAGE = 'library.js', 'answers.js', 'calls.js'
 # What the page uses of them, and of walk.js.

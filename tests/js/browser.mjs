@@ -1,5 +1,5 @@
 // browser.mjs CHROMIUM: has a browser load the package from a server that this starts, and run the messages and packed bytes of
-// tests/library there. The last line is `N passed, M failed`.
+// tests/library/rows there. The last line is `N passed, M failed`.
 import { spawn } from 'node:child_process';
 import { mkdtempSync, readFileSync, rmSync } from 'node:fs';
 import { createServer } from 'node:http';

@@ -24,7 +24,7 @@ function segmentsOf(bytes) {
 
 test('messages', () => {
   let count = 0;
-  for (const [name, frame, copy, flat, check, size, digest] of rowsOf('library/messages.txt')) {
+  for (const [name, frame, copy, flat, check, size, digest] of rowsOf('library/rows/messages.txt')) {
     const bytes = hex(frame), isCopied = copy === 'Done', segments = segmentsOf(bytes);
     assert.equal(said(() => hexOf(capnp.canonicalize(bytes))), isCopied ? hexOf(framed([hex(flat)])) : `!${copy}`, name);
     assert.equal(said(() => hexOf(capnp.canonicalizeFlat(bytes))), isCopied ? flat : `!${copy}`, name);
@@ -50,7 +50,7 @@ test('messages', () => {
 
 test('digests of a prefix, and packed frames', () => {
   let count = 0;
-  for (const [name, frame, path, prefix, digest, packed] of rowsOf('library/prefixes.txt')) {
+  for (const [name, frame, path, prefix, digest, packed] of rowsOf('library/rows/prefixes.txt')) {
     const bytes = hex(frame), segments = segmentsOf(bytes), before = hex(prefix), indexes = path === '-' ? [] : path.split('.').slice(0, -1).map(Number);
     const what = `${name} ${path} ${prefix}`, flat = capnp.canonicalizeFlatAt(bytes, indexes);
     assert.equal(hexOf(capnp.digestWithAt(before, bytes, indexes)), digest, what);
@@ -88,7 +88,7 @@ const wordsOfPart = (flat) => `${hex(flat).length / 8 - 1},0`;
 test('parts of messages', () => {
   let count = 0;
   const forms = new Map([[capnp, 0], [capnp.segments, 0], [capnp.words, 0]]);
-  for (const [name, frame, path, answer, flat, digest] of rowsOf('library/parts.txt')) {
+  for (const [name, frame, path, answer, flat, digest] of rowsOf('library/rows/parts.txt')) {
     const bytes = hex(frame), segments = segmentsOf(bytes), indexes = path === '-' ? [] : path.split('.').slice(0, -1).map(Number);
     const wanted = (text) => (answer === 'Done' ? text : `!${answer}`), what = `${name} ${path}`;
     const messages = [[capnp, bytes], [capnp.segments, segments], [capnp.segments, new Set(segments)]];
@@ -149,7 +149,7 @@ test('parts of messages', () => {
 
 test('the extent of messages', () => {
   let count = 0;
-  for (const [name, frame, answer, ...numbers] of rowsOf('library/extents.txt')) {
+  for (const [name, frame, answer, ...numbers] of rowsOf('library/rows/extents.txt')) {
     const bytes = hex(frame), segments = segmentsOf(bytes), wanted = answer === 'Done' ? numbers.join() : `!${answer}`;
     const shown = ({ depth, words, capabilities, cost }) => [depth, words, capabilities, cost].join();
     assert.equal(said(() => shown(capnp.validate(bytes))), wanted, name);
@@ -170,7 +170,7 @@ test('the extent of messages', () => {
 
 test('packed bytes', () => {
   let count = 0;
-  for (const [name, packed, unpacked] of rowsOf('library/packed.txt')) {
+  for (const [name, packed, unpacked] of rowsOf('library/rows/packed.txt')) {
     assert.equal(said(() => hexOf(capnp.unpack(hex(packed), { words: Infinity }))), refusal(unpacked), name);
     count++;
   }
@@ -221,7 +221,7 @@ test('vectors', () => {
 test('places of broken pointers', () => {
   const calls = [['validate'], ['canonicalize', 'digest'], ['size']];
   let count = 0;
-  for (const [name, frame, reading, nesting, words, code, segment, word] of rowsOf('library/places.txt')) {
+  for (const [name, frame, reading, nesting, words, code, segment, word] of rowsOf('library/rows/places.txt')) {
     const bytes = hex(frame), segments = segmentsOf(bytes), isSound = code === 'Done', way = Number(reading);
     const limits = { nesting: Number(nesting), words: Number(words) }, wanted = isSound ? 'sound' : `${code} ${segment} ${word}`;
     const messages = [[capnp.segments, segments]];
@@ -520,7 +520,7 @@ const collected = async (pieces, limits) => {
 
 test('packed streams', async () => {
   let count = 0;
-  const rows = rowsOf('library/streams.txt');
+  const rows = rowsOf('library/rows/streams.txt');
   assert.equal(rows.length, 18);
   for (const [name, shown, wanted, end] of rows) {
     const parts = shown.split(',').map(hex), stream = hex(shown.replaceAll(',', '')), frames = wanted === '-' ? [] : wanted.split(',');
@@ -569,7 +569,7 @@ test('packed streams', async () => {
 test('packed streams of any messages', async () => {
   let count = 0, state = 7;
   const drawn = (below) => (state = (state * 48271) % 2147483647) % below;
-  const frames = rowsOf('library/messages.txt').map(([, frame]) => hex(frame)).filter((it) => said(() => capnp.frameSize(it)) === it.length);
+  const frames = rowsOf('library/rows/messages.txt').map(([, frame]) => hex(frame)).filter((it) => said(() => capnp.frameSize(it)) === it.length);
   for (let time = 0; time < 200; time++) {
     const chosen = Array.from({ length: 1 + drawn(12) }, () => frames[drawn(frames.length)]), all = Buffer.concat(chosen), most = drawn(3) ? 255 : drawn(4);
     // each message is packed by itself, or runs go over from one to the next
@@ -661,7 +661,7 @@ test('streams that end early', async () => {
 
 test('the size of a frame from its first bytes', async () => {
   let count = 0;
-  for (const [name, frame] of rowsOf('library/messages.txt')) {
+  for (const [name, frame] of rowsOf('library/rows/messages.txt')) {
     const bytes = hex(frame);
     if (bytes.length < 8 || said(() => capnp.frameSize(bytes)) !== bytes.length) continue;
     // each answer is more than there is, until the frame is whole; from its table on it is the frame's size
@@ -693,7 +693,7 @@ test('raw words hash to the same', () => {
 test('hostile frames', () => {
   let state = 1, count = 0;
   const drawn = (below) => (state = (state * 48271) % 2147483647) % below;
-  for (const [, frame] of rowsOf('library/messages.txt')) {
+  for (const [, frame] of rowsOf('library/rows/messages.txt')) {
     for (let time = 0; time < 300; time++) {
       const bytes = hex(frame).slice();
       for (let turns = drawn(4); turns && bytes.length; turns--) bytes[drawn(bytes.length)] ^= 1 << drawn(8);

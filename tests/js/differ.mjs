@@ -29,7 +29,7 @@ function unpacked(bytes, words) {
   return [...found, end].join();
 }
 
-const sources = rowsOf('library/messages.txt').map((it) => hex(it[1]));
+const sources = rowsOf('library/rows/messages.txt').map((it) => hex(it[1]));
 for (const [command, , , parts] of vectors()) {
   if (parts === '-' || parts.length > 20000) continue;
   const it = parts.split(',').map(hex);

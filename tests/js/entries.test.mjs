@@ -17,7 +17,7 @@ mkdirSync(join(folder, 'node_modules'));
 symlinkSync(PACKAGE, join(folder, 'node_modules/capnp_canonical'));
 after(() => rmSync(folder, { recursive: true }));
 
-const [, frame, , flat, , , digest] = rowsOf('library/messages.txt').find((it) => it[2] === 'Done');
+const [, frame, , flat, , , digest] = rowsOf('library/rows/messages.txt').find((it) => it[2] === 'Done');
 const given = `Uint8Array.from('${frame}'.match(/../g), (it) => parseInt(it, 16))`;
 const wasm = (name) => readFileSync(join(PACKAGE, `${name}.wasm`));
 
@@ -113,7 +113,7 @@ test('one file by esbuild', { skip: (() => { try { execFileSync('esbuild', ['--v
 
 test('digests and comparisons', () => {
   let count = 0;
-  const rows = rowsOf('library/messages.txt').filter((it) => it[2] === 'Done');
+  const rows = rowsOf('library/rows/messages.txt').filter((it) => it[2] === 'Done');
   for (const [name, frame, , flat, , , digest] of rows) {
     assert.equal(capnp.digestHex(hex(frame)), digest, name);
     assert.equal(capnp.words.digestHex(hex(flat)), digest, name);
@@ -258,7 +258,7 @@ test('TransformStreams', async () => {
       count++;
     }
   };
-  for (const [name, packed, wanted, end] of rowsOf('library/streams.txt')) {
+  for (const [name, packed, wanted, end] of rowsOf('library/rows/streams.txt')) {
     await compared(hex(packed.replaceAll(',', '')), capnp.packedFramesFrom, capnp.packedFrameStream, name);
     const unpacked = hex(wanted.replaceAll(',', ''));
     await compared(unpacked, capnp.framesFrom, capnp.frameStream, `${name} ${end}`);

@@ -33,7 +33,7 @@ LEVELS = {
     'bindings/rust/src/limits.rs': r'^    pub const MAX_NESTING: i32 = (\d+);$',
 }
 # The files of the repository that the package for cargo has a copy of.
-PACKAGED = {'LICENSE': 'LICENSE', **{f'tests/{it}': f'tests/library/{it}' for it in ('messages.txt', 'packed.txt', 'parts.txt', 'prefixes.txt', 'streams.txt')}}
+PACKAGED = {'LICENSE': 'LICENSE', **{f'tests/{it}': f'tests/library/rows/{it}' for it in ('messages.txt', 'packed.txt', 'parts.txt', 'prefixes.txt', 'streams.txt')}}
 
 
 def in_capitals(name):

@@ -84,8 +84,8 @@ def fragment(page, text):
     if not shutil.which('cc'):
         print(f'skipped: {what}: no cc')
         return
-    outside = text.startswith('static ')
-    parts = {'before': text if outside else '', 'inside': '' if outside else text}
+    is_before = text.startswith('static ')
+    parts = {'before': text if is_before else '', 'inside': '' if is_before else text}
     codes = [text] if text.startswith('#include') else [AROUND.format(kind=it, **parts) for it in ('capnp_message', 'capnp_builder')]
     folders = [f'-I{TOP / it}' for it in ('bindings/c', 'tests/typed/c')]
     words = ['cc', '-std=c99', '-Wall', '-Werror', '-Wno-unused', '-fsyntax-only', *folders, '-x', 'c', '-']

@@ -1,10 +1,11 @@
 #!/bin/sh
-# run.sh [PREFIX]: tests the library installed at PREFIX in C, C++, Rust and Python, with the messages of messages.txt.
+# run.sh [PREFIX]: tests the library installed at PREFIX in C, C++, Rust and Python, with the messages of rows/.
 # Without PREFIX, installs it into a temporary folder first. If the tools for a part are missing, the part is skipped, and a
 # line says so. The last line is `N passed, M failed`, with what was skipped.
 set -u
 here=$(cd "$(dirname "$0")" && pwd)
 top=$(cd "$here/../.." && pwd)
+rows=$here/rows
 work=$(mktemp -d)
 trap 'rm -rf "$work"' EXIT
 trap 'exit 1' INT TERM
@@ -59,8 +60,8 @@ cxx_messages() {
     standard=$1
     shift
     "$cxx" -std="$standard" -Wall -Wextra -Wpedantic -Wshadow -Werror -O1 "$@" -I"$prefix/include" \
-        -o "$work/messages" "$here/messages.cpp" "$prefix/lib/libcapnp_canonical.a" &&
-        "$work/messages" "$here/messages.txt" "$here/packed.txt" "$here/parts.txt" "$here/streams.txt" "$here/places.txt" "$here/prefixes.txt"
+        -o "$work/messages" "$here/cpp/messages.cpp" "$prefix/lib/libcapnp_canonical.a" &&
+        "$work/messages" "$rows/messages.txt" "$rows/packed.txt" "$rows/parts.txt" "$rows/streams.txt" "$rows/places.txt" "$rows/prefixes.txt"
 }
 
 # Makes random messages, flat ones and nested ones, and their canonical words with C++ Cap'n Proto.
@@ -79,13 +80,13 @@ cxx_types() {
     if echo '#include <openssl/sha.h>' | "$cxx" -E -x c++ - >/dev/null 2>&1; then openssl='-DWITH_OPENSSL -lcrypto'; fi
     # shellcheck disable=SC2086
     capnp compile -oc++ people.capnp &&
-        "$cxx" -std="$1" -Wall -Wextra -O1 -I"$prefix/include" -I. -o types "$here/capnp_types.cpp" people.capnp.c++ \
+        "$cxx" -std="$1" -Wall -Wextra -O1 -I"$prefix/include" -I. -o types "$here/cpp/capnp_types.cpp" people.capnp.c++ \
             -L"$prefix/lib" -Wl,-rpath,"$prefix/lib" -lcapnp_canonical -lcapnp -lkj $openssl && ./types
 }
 
 cxx_reader() {
     capnp compile -oc++ people.capnp &&
-        "$cxx" -std=c++17 -Wall -Wextra -O2 -DNDEBUG -I"$prefix/include" -I. -o reader "$here/compare.cpp" \
+        "$cxx" -std=c++17 -Wall -Wextra -O2 -DNDEBUG -I"$prefix/include" -I. -o reader "$here/cpp/compare.cpp" \
             people.capnp.c++ -L"$prefix/lib" -Wl,-rpath,"$prefix/lib" -lcapnp_canonical -lcapnp -lkj &&
         ./reader people.bin && ./reader write people.bin >ours && same 'all words' ours people.canonical
 }
@@ -136,7 +137,7 @@ no_unsafe() {
 
 # Compares the crate with the library in C, on all vectors and on altered ones.
 cargo_beside_c() {
-    mkdir -p beside/src && cp "$here/beside_c.rs" beside/src/main.rs && cat >beside/Cargo.toml <<END || return 1
+    mkdir -p beside/src && cp "$here/rust/beside_c.rs" beside/src/main.rs && cat >beside/Cargo.toml <<END || return 1
 [package]
 name = "beside"
 version = "0.0.0"
@@ -175,18 +176,18 @@ cargo_with() {
 wheel() {
     python3 -m venv "$work/venv" && mkdir "$work/wheel_of" && cp -R "$top/bindings" "$top/LICENSE" "$work/wheel_of" || return 1
     CAPNP_CANONICAL_LIBRARY=$prefix/lib/libcapnp_canonical.so "$work/venv/bin/pip" install --no-index "$work/wheel_of/bindings/python" || return 1
-    cd "$here" && env -u PYTHONPATH -u CAPNP_CANONICAL_LIBRARY "$work/venv/bin/python" -B -m unittest -v test_capnp_canonical test_interface test_commands
+    cd "$here/python" && env -u PYTHONPATH -u CAPNP_CANONICAL_LIBRARY "$work/venv/bin/python" -B -m unittest -v test_capnp_canonical test_interface test_commands
 }
 
 compiled_for_pip() {
-    cd "$here" && CAPNP_CANONICAL_LIBRARY=$prefix/lib/libcapnp_canonical.so python3 -B -m unittest -v test_build_wheel
+    cd "$here/python" && CAPNP_CANONICAL_LIBRARY=$prefix/lib/libcapnp_canonical.so python3 -B -m unittest -v test_build_wheel
 }
 
 # Checks the types of the package, of a program that uses it, and of the example.
 types_of_python() {
     cd "$prefix/python" && set -- "$(python_with mypy)" -m mypy --strict --cache-dir "$work/mypy" &&
         "$@" -p capnp_canonical && echo 'ok: mypy --strict' &&
-        "$@" "$here/types_of_python.py" "$top/bindings/python/examples/canonical.py" && echo 'ok: mypy --strict of programs'
+        "$@" "$here/python/types_of_python.py" "$top/bindings/python/examples/canonical.py" && echo 'ok: mypy --strict of programs'
 }
 
 # Builds a program that finds the library with CMake.
@@ -226,11 +227,11 @@ python_with() {
 }
 
 cluster() {
-    cd "$here" && PYTHONPATH=$prefix/python "$(python_with distributed)" -B -m unittest -v test_cluster
+    cd "$here/python" && PYTHONPATH=$prefix/python "$(python_with distributed)" -B -m unittest -v test_cluster
 }
 
 unittest() {
-    cd "$here" && PYTHONPATH=$prefix/python "$1" -B -m unittest -v test_capnp_canonical test_interface test_commands
+    cd "$here/python" && PYTHONPATH=$prefix/python "$1" -B -m unittest -v test_capnp_canonical test_interface test_commands
 }
 
 if [ $# -gt 0 ]; then
@@ -248,9 +249,9 @@ has_cargo=$(has cargo && echo 1)
 has_python=$(has python3 && echo 1)
 has_capnp=$(has capnp python3 && echo 1)
 
-if [ "$has_cc" ]; then summed C sh "$here/c.sh" "$prefix"; else skip C cc; fi
+if [ "$has_cc" ]; then summed C sh "$here/c/run.sh" "$prefix"; else skip C cc; fi
 if has cc pkg-config python3 && [ "$(uname -m)" = x86_64 ]; then
-    part stack sh "$here/stack.sh" "$prefix"
+    part stack sh "$here/c/stack.sh" "$prefix"
 else
     skip stack 'cc, pkg-config, python3 or x86-64'
 fi
@@ -265,10 +266,10 @@ for standard in c++17 c++20; do
     fi
 done
 if [ "$has_cxx" ]; then
-    part 'temporaries of C++' sh "$here/temporaries.sh" "$prefix/include"
-    part 'headers of C++' sh "$here/cpp.sh" "$prefix"
+    part 'temporaries of C++' sh "$here/cpp/temporaries.sh" "$prefix/include"
+    part 'headers of C++' sh "$here/cpp/headers.sh" "$prefix"
 fi
-if has clang-tidy clang++; then part clang-tidy sh "$here/tidy.sh"; else skip clang-tidy clang-tidy; fi
+if has clang-tidy clang++; then part clang-tidy sh "$here/cpp/tidy.sh"; else skip clang-tidy clang-tidy; fi
 if [ "$has_cargo" ]; then
     part Rust cargo_test
     if [ "$has_python" ]; then
@@ -277,7 +278,7 @@ if [ "$has_cargo" ]; then
     else
         skip 'package for cargo, Rust beside C' python3
     fi
-    part 'crate over capnp' sh "$here/capnp_crate.sh"
+    part 'crate over capnp' sh "$here/rust/capnp_crate.sh"
 else
     skip Rust cargo
 fi
@@ -308,7 +309,7 @@ else
         if ! has openssl xxd "$prefix/bin/capnp_canon" || ! echo '#include <openssl/hmac.h>' | "$cxx" -E -x c++ - >log 2>&1; then
             skip 'signed in C++' "openssl, openssl/hmac.h, xxd or $prefix/bin/capnp_canon"
         else
-            part 'signed in C++, verified in Python and at the shell' sh "$here/signed.sh" "$prefix"
+            part 'signed in C++, verified in Python and at the shell' sh "$here/cpp/signed.sh" "$prefix"
         fi
     fi
     [ ! "$has_cc" ] || part 'example in C' example_c

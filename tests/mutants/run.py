@@ -4,7 +4,7 @@
     run.py [--every] [CRATE..]
 
 Tries the mutants that `gate.txt` in this folder names; with --every, all mutants in the subfolders. With CRATE.., only
-those of these crates. The libraries that each crate depends on must be built first: `./test` or `rt check` does that.
+those of these crates. The libraries that each crate depends on must be built first: `dev/test` or `rt check` does that.
 
 A mutant is a file CRATE/WHAT_IS_WRONG.mutant. It has a line `file: src/..`, and then pairs of lines `old: TEXT` and
 `new: TEXT`; each old text must occur exactly once in that file. The mutant is refused if the function that contains it
@@ -420,7 +420,7 @@ def main():
     for name, mutants in by_crate.items():
         if lacking := crates.lacking(name):
             for mutant in mutants:
-                tell(mutant.label(), False, f'NOT TRIED: {lacking[0]} is not built from the current sources: run ./test, or ./prove {" ".join(lacking)}')
+                tell(mutant.label(), False, f'NOT TRIED: {lacking[0]} is not built from the current sources: run dev/test, or dev/prove {" ".join(lacking)}')
         else:
             tasks.append(rounds_of(mutants))
     tasks.sort(key=lambda it: -sum(map(len, it)))

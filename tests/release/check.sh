@@ -33,8 +33,8 @@ said=$(run "$build/capnp_canon" check <"$build/frame" || true)
 [ "$said" = 'not canonical: a data section whose last word is zero at segment 0, word 3' ]
 echo 'one message: passed'
 
-compile test_shared tests/library/test.c -L"$build" -lcapnp_canonical
-run "$build/test_shared" tests/library/messages.txt
+compile test_shared tests/library/c/test.c -L"$build" -lcapnp_canonical
+run "$build/test_shared" tests/library/rows/messages.txt
 if command -v "$python" >/dev/null; then
     # messages have up to 3,000 levels, which need more than the usual stack if the compiler doesn't optimise
     ulimit -s 131072 2>/dev/null || true

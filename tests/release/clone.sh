@@ -93,7 +93,7 @@ layout_by_cmake() {
 # The script of the program that isn't in the quick start, and that scripts pass on input.
 programs() {
     make all CC="$CC" && ./capnp_canon canon --flat <"$message" | is_canonical &&
-        [ "$(echo 0000000001000000 2a00000000000000 | tr -d ' ' | ./layout_tool canon 64 8388608)" = 00000000010000002a00000000000000 ]
+        [ "$(echo 0000000001000000 2a00000000000000 | tr -d ' ' | dev/layout_tool canon 64 8388608)" = 00000000010000002a00000000000000 ]
 }
 
 # The generators, which make builds first, write the code that the repository has.
@@ -123,11 +123,11 @@ library() {
     folder=$work/$1 cc=$2
     shift 2
     make BUILD="$folder" CC="$cc" "$folder/libcapnp_canonical.a" || return 1
-    for it in tests/library/test.c tests/release/vectors.c; do
+    for it in tests/library/c/test.c tests/release/vectors.c; do
         # shellcheck disable=SC2086
         $cc -std=c11 -O2 -Ibindings/c -o "$folder/$(basename $it .c).exe" $it "$folder/libcapnp_canonical.a" || return 1
     done
-    "$@" "$folder/test.exe" tests/library/messages.txt && python3 -B tests/release/lines.py >"$folder/vectors.txt" && "$@" "$folder/vectors.exe" <"$folder/vectors.txt"
+    "$@" "$folder/test.exe" tests/library/rows/messages.txt && python3 -B tests/release/lines.py >"$folder/vectors.txt" && "$@" "$folder/vectors.exe" <"$folder/vectors.txt"
 }
 
 on_windows() {
@@ -239,7 +239,7 @@ by_wasm() {
 
 # Two releases of the clone are the same, and one builds.
 released() {
-    ./release "$work/one" && ./release "$work/two" && cmp "$work"/one/*.tar.gz "$work"/two/*.tar.gz && tar xzf "$work"/one/*.tar.gz -C "$work" &&
+    dev/release "$work/one" && dev/release "$work/two" && cmp "$work"/one/*.tar.gz "$work"/two/*.tar.gz && tar xzf "$work"/one/*.tar.gz -C "$work" &&
         make -C "$work"/capnp_canonical-* check CC="$CC"
 }
 

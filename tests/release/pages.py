@@ -1,5 +1,6 @@
 #!/usr/bin/env python3
-"""Whether a release, or the repository, has each page that its pages and headers name, and each file and heading that they link to.
+"""Whether a release, or the repository, has each page that its pages and headers name, and each file and heading that they link to;
+and whether the repository has each file of `tests`, `tools` and `dev` that its pages name.
 
     pages.py FOLDER
 
@@ -9,6 +10,8 @@ import re
 import sys
 
 NAMED = re.compile(r'(?<![\w/])docs/\w+\.md')
+# A file of the tests or tools that a page names, or a script of `dev/`; a release has few of them.
+SCRIPT = re.compile(r'(?<![\w/.-])(?:(?:tests|tools)/[a-z0-9_./-]*\w\.[a-z]\w*|dev/\w+)')
 LINK = re.compile(r'(?<!!)\[[^\]]*\]\(([^)\s]+)\)')
 HEADING = re.compile(r'^#+ +(.*)$', re.MULTILINE)
 
@@ -24,6 +27,8 @@ def lacking(top, page):
     yield from sorted(it for it in {*NAMED.findall(text)} if not (top / it).is_file())
     if page.suffix != '.md':
         return
+    if (top / 'dev').is_dir():
+        yield from sorted(it for it in {*SCRIPT.findall(text)} if not (top / it).exists())
     for link in sorted({*LINK.findall(text)}):
         file, _, anchor = link.partition('#')
         if '://' in link:

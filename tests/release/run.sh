@@ -59,7 +59,7 @@ summed() {
 
 # Makes the release here and in a clone elsewhere, and compares them.
 releases() {
-    git clone -q "$top" "$work/a/folder/elsewhere" && "$top/release" "$work/one" && "$work/a/folder/elsewhere/release" "$work/two" &&
+    git clone -q "$top" "$work/a/folder/elsewhere" && "$top/dev/release" "$work/one" && "$work/a/folder/elsewhere/dev/release" "$work/two" &&
         cmp "$work/one"/*.tar.gz "$work/two"/*.tar.gz
 }
 
@@ -138,7 +138,7 @@ by_compiler() {
     fi
     part "standards of C, $1" by_standard "$1"
     part "make install, $1" installed "$1-O2" "$1"
-    summed "c.sh, $1" env CC="$1" sh "$release/tests/library/c.sh" "$work/prefix_$1-O2"
+    summed "library in C, $1" env CC="$1" sh "$release/tests/library/c/run.sh" "$work/prefix_$1-O2"
     part "stack, $1" sh "$here/stack.sh" "$release" "$1"
     sed -n 's/^\(.* bytes per level.*\)/    \1/p; s/^\(FAILED: .*\)/    \1/p' "$work/log"
 }
@@ -206,7 +206,7 @@ by_cargo() {
 
 by_pip() {
     python3 -m venv "$work/venv" && "$work/venv/bin/pip" wheel --no-index --no-deps -w "$work/wheels" "$release/bindings/python" &&
-        "$work/venv/bin/pip" install --no-index "$work/wheels"/*.whl && cd "$release/tests/library" && "$work/venv/bin/python" -B -m unittest test_capnp_canonical
+        "$work/venv/bin/pip" install --no-index "$work/wheels"/*.whl && cd "$release/tests/library/python" && "$work/venv/bin/python" -B -m unittest test_capnp_canonical
 }
 
 # Checks that the example of the README prints the hash that the README says.
@@ -233,7 +233,7 @@ versions() {
 if [ $# -gt 0 ]; then
     mkdir "$work/one" && cp "$1" "$work/one" || exit 2
 else
-    if has rt generated; then summed generated "$top/test" --generated; fi
+    if has rt generated; then summed generated "$top/dev/test" --generated; fi
     part 'two releases, from two folders' releases
 fi
 tar xzf "$work/one"/*.tar.gz -C "$work" || { say '0 passed, 1 failed'; exit 1; }

@@ -17,6 +17,6 @@ for level in -O2 -O0; do
     "$folder/stack" >"$folder/lines"
     sed "s/^/$cc $level, /" "$folder/lines"
     [ $level = -O2 ] && build=$optimised || build=unoptimised
-    python3 -B "$here/../library/stack.py" $build <"$folder/lines" || status=1
+    python3 -B "$here/../library/c/stack.py" $build <"$folder/lines" || status=1
 done
 exit $status

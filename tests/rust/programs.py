@@ -120,7 +120,7 @@ def features(_, target):
 
 
 def typed(program, _):
-    """Whether `example_typed` prints what it is proved to print, and what `./test` expects."""
+    """Whether `example_typed` prints what it is proved to print, and what `dev/test` expects."""
     folder = TOP / 'crates/example_typed'
     words = (folder / 'args').read_text(encoding='utf-8').split()
     with open(folder / 'stdin', 'rb') as data:

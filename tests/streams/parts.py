@@ -1,11 +1,11 @@
-"""Runs capnp_canon with `--at` on the rows of tests/library/parts.txt, whose answers come from C++ Cap'n Proto: each path in a
+"""Runs capnp_canon with `--at` on the rows of tests/library/rows/parts.txt, whose answers come from C++ Cap'n Proto: each path in a
 frame, in two frames, and in packed bytes; each index with and without brackets."""
 import pathlib
 
 from packing import packed
 from runs import same
 
-ROWS = pathlib.Path(__file__).resolve().parents[1] / 'library' / 'parts.txt'
+ROWS = pathlib.Path(__file__).resolve().parents[1] / 'library/rows/parts.txt'
 
 
 def rows():

@@ -10,7 +10,7 @@
   of tests/vectors and tests/corpus, unchanged or altered. Their answers come from a model of the format outside of this
   repository, which reads the whole value. Those of conforming.jsonl are messages of one schema, and were worked out by hand.
 - vectors.py makes streams from the vectors of tests/vectors, whose answers were made outside of this repository.
-- parts.py takes the rows of tests/library/parts.txt, whose answers are those of C++ Cap'n Proto.
+- parts.py takes the rows of tests/library/rows/parts.txt, whose answers are those of C++ Cap'n Proto.
 - devices.py lets standard input and output fail, limits memory, and checks how much memory a run takes.
 - shown.py compares what `show` writes about messages of tests/corpus, unchanged (show.jsonl) and altered, with a model
   that is written from docs/PROGRAM.md and docs/FORMAT.md.

@@ -496,7 +496,8 @@ def type_page(folder, counts):
     top, typed = pathlib.Path(folder) / 'page', blocks('docs/TYPED.md', 'In five commands')
     shutil.copytree(TOP / 'crates', top / 'crates', ignore=kept)
     shutil.copytree(TOP / 'tools', top / 'tools')
-    for file in ('HANDLES', 'crates.txt', 'prove', 'capnpc-rattle'):
+    shutil.copytree(TOP / 'dev', top / 'dev')
+    for file in ('HANDLES', 'crates.txt', 'capnpc-rattle'):
         shutil.copy2(TOP / file, top)
     (top / 'shop.capnp').write_text(typed['capnp'], encoding='utf-8')
     run = subprocess.run(['sh', '-e'], cwd=top, input=typed['sh'], encoding='utf-8')
@@ -504,7 +505,7 @@ def type_page(folder, counts):
     for file in ('src/clock.rt', 'stdin', 'stdout'):
         (top / 'crates/my_program' / file).unlink()
     (top / 'crates/my_program/src/main.rt').write_text(typed['rust'], encoding='utf-8')
-    run = subprocess.run(['./prove', 'my_program'], cwd=top)
+    run = subprocess.run(['dev/prove', 'my_program'], cwd=top)
     counts.say(run.returncode == 0, 'the program of docs/TYPED.md is proved')
     orders = subprocess.run(['capnp', 'encode', 'shop.capnp', 'Order'], cwd=top, input=b'(id = 1, customer = "Ada")(id = 2, customer = "Bob")', stdout=subprocess.PIPE, check=True).stdout
     run = subprocess.run([top / 'crates/my_program/out/my_program'], input=orders, stdout=subprocess.PIPE)
@@ -533,7 +534,7 @@ def main():
     if unknown := set(given.parts) - set(PARTS):
         arguments.error(f'there is no part {unknown.pop()}')
     parts, jobs, counts = given.parts or PARTS, 0 if given.unproved else given.jobs, Counts()
-    subprocess.run([str(TOP / 'prove'), 'capnpc_rattle'], check=True)
+    subprocess.run([str(TOP / 'dev/prove'), 'capnpc_rattle'], check=True)
     if 'ours' in parts:
         same_as_ours(counts, described())
         same_as_ours(counts, str(TOP / 'tests/typed/addressbook.capnp'))

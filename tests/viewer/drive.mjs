@@ -13,7 +13,7 @@ import { gzipSync } from 'node:zlib';
 const [, , given, shots] = process.argv;
 const page = /^https?:/.test(given) ? given : pathToFileURL(resolve(given)).href;
 const HERE = import.meta.dirname ?? new URL('.', import.meta.url).pathname;
-const linesOf = (name) => readFileSync(join(HERE, '../library', name), 'utf-8').split('\n').filter((it) => it && it[0] !== '#').map((it) => it.split(' '));
+const linesOf = (name) => readFileSync(join(HERE, '../library/rows', name), 'utf-8').split('\n').filter((it) => it && it[0] !== '#').map((it) => it.split(' '));
 const rows = Object.fromEntries(linesOf('messages.txt').map((it) => [it[0], it])), packed = Object.fromEntries(linesOf('packed.txt').map((it) => [it[0], it]));
 
 // ---- the browser

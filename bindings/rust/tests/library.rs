@@ -1,4 +1,4 @@
-//! The messages of tests/library/messages.txt, and what that file can't say. As version 1.0.0 had them, so they also show
+//! The messages of tests/library/rows/messages.txt, and what that file can't say. As version 1.0.0 had them, so they also show
 //! that programs for it go on to compile.
 #![allow(deprecated)]
 use capnp_canonical::{

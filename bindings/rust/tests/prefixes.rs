@@ -1,4 +1,4 @@
-//! The rows of tests/library/prefixes.txt: digests of a prefix and words, and packed frames; and messages that are compared.
+//! The rows of tests/library/rows/prefixes.txt: digests of a prefix and words, and packed frames; and messages that are compared.
 use capnp_canonical::{
     canonical_copy, canonical_words_at, digest_with, digest_with_at, equal, pack, pack_into,
     segments, unpack, words, Error, Limits, Words,

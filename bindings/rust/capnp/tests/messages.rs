@@ -9,7 +9,7 @@ use capnp_canonical_capnp::{
 };
 
 /// The ten messages of the library's tests: NAME FRAME COPY FLAT CHECK SIZE DIGEST.
-const MESSAGES: &str = include_str!("../../../../tests/library/messages.txt");
+const MESSAGES: &str = include_str!("../../../../tests/library/rows/messages.txt");
 
 /// Digests of a prefix and words: NAME FRAME PATH PREFIX DIGEST PACKED.
 const PREFIXES: &str = include_str!("../../tests/prefixes.txt");

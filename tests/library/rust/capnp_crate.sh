@@ -4,7 +4,7 @@
 # asks no registry. Prints cargo's lines, and for each build `ok: BUILD`. CARGO_TARGET_DIR names the folder for what is built; by
 # default it is a temporary one.
 set -u
-top=$(cd "$(dirname "$0")/../.." && pwd) || exit 2
+top=$(cd "$(dirname "$0")/../../.." && pwd) || exit 2
 crates=${1:-/usr/share/cargo/registry}
 work=$(mktemp -d) || exit 2
 trap 'rm -rf "$work"' EXIT
@@ -16,8 +16,8 @@ export CARGO_TARGET_DIR
 #
 #     copied FOLDER
 copied() {
-    mkdir -p "$1/bindings" "$1/generated/rust" "$1/tests/library" && cp -R "$top/bindings/rust" "$1/bindings/rust" &&
-        cp -R "$top/generated/rust/src" "$1/generated/rust" && cp "$top/tests/library/messages.txt" "$1/tests/library" &&
+    mkdir -p "$1/bindings" "$1/generated/rust" "$1/tests/library/rows" && cp -R "$top/bindings/rust" "$1/bindings/rust" &&
+        cp -R "$top/generated/rust/src" "$1/generated/rust" && cp "$top/tests/library/rows/messages.txt" "$1/tests/library/rows" &&
         cd "$1/bindings/rust/capnp"
 }
 

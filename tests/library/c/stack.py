@@ -10,7 +10,7 @@ import pathlib
 import re
 import sys
 
-TOP = pathlib.Path(__file__).resolve().parents[2]
+TOP = pathlib.Path(__file__).resolve().parents[3]
 MEASURED = re.compile(r': (\d+) bytes per level, (\d+) in addition$', re.M)
 NUMBER = r'([\d,]+)'
 BUILDS = 'install', 'clang', 'gcc', 'unoptimised'
@@ -32,16 +32,16 @@ TABLE = {it: row(it, 0) for it in BUILDS}
 TABLE_OF_CALLS = {it: row(it, 1) for it in BUILDS}
 PAGES = {
     'bindings/c/capnp_canonical.h': (SENTENCE, CALL), 'docs/C.md': (TABLE, TABLE_OF_CALLS),
-    'release_files/README.md': (TABLE, TABLE_OF_CALLS), 'README.md': (TABLE, TABLE_OF_CALLS),
+    'dev/release_files/README.md': (TABLE, TABLE_OF_CALLS), 'README.md': (TABLE, TABLE_OF_CALLS),
     'bindings/python/capnp_canonical/__init__.py': (SHORT, None),
 }
 
 
 def text_of(page):
     """The page without line ends and the marks of comments; none where it isn't there, or isn't the README of a release."""
-    if page == 'README.md' and (TOP / 'release_files').is_dir():
+    if page == 'README.md' and (TOP / 'dev/release_files').is_dir():
         return None
-    if page == 'release_files/README.md' and not (TOP / page).is_file():
+    if page == 'dev/release_files/README.md' and not (TOP / page).is_file():
         return None
     return re.sub(r'\s*\n(?: \*|//!|//)?\s*', ' ', (TOP / page).read_text(encoding='utf-8'))
 

@@ -12,7 +12,7 @@ import unittest
 import zipfile
 from unittest import mock
 
-TOP = pathlib.Path(__file__).resolve().parents[2]
+TOP = pathlib.Path(__file__).resolve().parents[3]
 sys.path.insert(0, str(TOP / 'bindings/python'))
 import build_wheel  # noqa: E402
 import platform_tags  # noqa: E402

@@ -13,7 +13,7 @@ import time
 import unittest
 
 HERE = pathlib.Path(__file__).resolve().parent
-EXAMPLES = HERE.parents[1] / 'bindings/python/examples'
+EXAMPLES = HERE.parents[2] / 'bindings/python/examples'
 # the workers import it too
 os.environ['PYTHONPATH'] = os.pathsep.join([str(EXAMPLES), os.environ.get('PYTHONPATH', '')])
 sys.path.insert(0, str(EXAMPLES))
@@ -22,7 +22,7 @@ import cluster  # noqa: E402
 from distributed import Client, LocalCluster  # noqa: E402
 
 WORKERS = 3
-LINES = [line.split() for line in (HERE / 'messages.txt').read_text().splitlines() if not line.startswith('#')]
+LINES = [line.split() for line in (HERE.parent / 'rows/messages.txt').read_text().splitlines() if not line.startswith('#')]
 FRAMES = [bytes.fromhex(frame) for _, frame, copy, *_ in LINES if copy == 'Done']
 
 

@@ -8,5 +8,5 @@ trap 'rm -rf "$folder"' EXIT
 export PKG_CONFIG_PATH="$1/lib/pkgconfig"
 build=release
 [ -z "$(pkg-config --variable=cpu capnp_canonical)" ] || build=install
-${CC:-cc} -std=gnu11 -O2 -I"$1/include" -o "$folder/stack" "$here/../release/stack.c" "$1/lib/libcapnp_canonical.a" -lpthread &&
+${CC:-cc} -std=gnu11 -O2 -I"$1/include" -o "$folder/stack" "$here/../../release/stack.c" "$1/lib/libcapnp_canonical.a" -lpthread &&
     "$folder/stack" >"$folder/lines" && cat "$folder/lines" && python3 -B "$here/stack.py" $build <"$folder/lines"

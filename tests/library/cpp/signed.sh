@@ -21,7 +21,7 @@ test_that() {
 }
 
 builds() {
-    cp "$here/signed.capnp" "$work" && (cd "$work" && capnp compile -oc++ signed.capnp) &&
+    cp "$here/../rows/signed.capnp" "$work" && (cd "$work" && capnp compile -oc++ signed.capnp) &&
         "${CXX:-c++}" -std=c++17 -Wall -Wextra -O1 -I"$prefix/include" -I"$work" -o "$work/sign" "$here/sign.cpp" "$work/signed.capnp.c++" \
             "$prefix/lib/libcapnp_canonical.a" -lcapnp -lkj -lcrypto
 }
@@ -45,7 +45,7 @@ verified_at_the_shell() {
 }
 
 verified_in_python() {
-    PYTHONPATH=$prefix/python python3 -B "$here/verify.py" "$key" "$1" >"$work/said"
+    PYTHONPATH=$prefix/python python3 -B "$here/../python/verify.py" "$key" "$1" >"$work/said"
 }
 
 refused_at_the_shell() {
@@ -64,7 +64,7 @@ is_copy() {
 
 # Writes a message in text, as `capnp` reads it, with a change by sed.
 changed() {
-    capnp decode "$here/signed.capnp" Signed <"$work/sent" | sed "$1" | capnp encode "$here/signed.capnp" Signed
+    capnp decode "$here/../rows/signed.capnp" Signed <"$work/sent" | sed "$1" | capnp encode "$here/../rows/signed.capnp" Signed
 }
 
 test_that 'sign in C++' builds || exit 1

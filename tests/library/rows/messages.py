@@ -9,7 +9,7 @@ import hashlib
 import pathlib
 import subprocess
 
-SCHEMA = pathlib.Path(__file__).resolve().parents[1] / 'peer/people.capnp'
+SCHEMA = pathlib.Path(__file__).resolve().parents[2] / 'peer/people.capnp'
 BOOK = '''(title = "People", people = [
   (id = 7, name = "Ada", phones = [(number = "12"), (number = "345", kind = 2)], birth = (year = 1815), flags = [true, false, true],
    scores = [[1.5], [], [2.5, -0.0]], blob = "\\x01\\x02", voids = [void, void], note = "first"),

@@ -8,7 +8,7 @@ import random
 import sys
 
 HERE = pathlib.Path(__file__).resolve().parent
-sys.path.insert(0, str(HERE.parent / 'streams'))
+sys.path.insert(0, str(HERE.parents[1] / 'streams'))
 
 from places import TOO_DEEP, Reading, Refused, segments_of  # noqa: E402
 

@@ -1,10 +1,10 @@
 #!/bin/sh
-# c.sh PREFIX: runs the C example and the C test with the library that ./install put below PREFIX. If the tools for a part are
+# run.sh PREFIX: runs the C example and the C test with the library that ./install put below PREFIX. If the tools for a part are
 # missing, the part is skipped, and a line says so. The last line is `N passed, M failed`.
 set -u
 here=$(cd "$(dirname "$0")" && pwd) || exit 2
-top=$here/../..
-prefix=${1:?usage: c.sh PREFIX}
+top=$here/../../.. rows=$here/../rows
+prefix=${1:?usage: run.sh PREFIX}
 CC=${CC:-cc}
 PKG_CONFIG_PATH=$prefix/lib/pkgconfig
 export PKG_CONFIG_PATH
@@ -48,7 +48,7 @@ build() {
 
 # Runs the example on each message of the data file that has a copy, and compares with C++ Cap'n Proto.
 example() {
-    grep -v '^#' "$here/messages.txt" | while read -r name frame copy flat rest; do
+    grep -v '^#' "$rows/messages.txt" | while read -r name frame copy flat rest; do
         [ "$copy" = Done ] || continue
         printf %s "$frame" | xxd -r -p >"$folder/frame"
         printf %s "$flat" | xxd -r -p >"$folder/flat"
@@ -114,7 +114,7 @@ older() {
     mkdir -p "$folder/older" && awk '$1 == 1 { print "int " $2 "(void) { return 0; }" }' "$top/tools/exports.txt" >"$folder/older.c" &&
         printf 'CAPNP_CANONICAL_1 { global: capnp_canonical_*; local: *; };\n' >"$folder/older.map" &&
         "$CC" -shared -Wl,-soname,libcapnp_canonical.so.1 -Wl,--version-script="$folder/older.map" -o "$folder/older/libcapnp_canonical.so.1" "$folder/older.c" || return 1
-    LD_LIBRARY_PATH=$folder/older "$folder/$1" "$here/messages.txt" >"$folder/written" 2>&1 && return 1
+    LD_LIBRARY_PATH=$folder/older "$folder/$1" "$rows/messages.txt" >"$folder/written" 2>&1 && return 1
     cat "$folder/written"
     grep -q "CAPNP_CANONICAL_1.1' not found" "$folder/written"
 }
@@ -155,12 +155,12 @@ told() {
 
 # Checks that a header that isn't that of a released version any more is refused.
 interfaces() {
-    python3 -B "$here/interface.py" || return 1
+    python3 -B "$here/../interface.py" || return 1
     for change in 's/REASON_PADDING = 8/REASON_PADDING = 15/' 's/_words_size(const uint8_t \*message, size_t size, int32_t nesting, uint64_t words/_words_size(const uint8_t *message, size_t size, uint64_t words, int32_t nesting/' \
         's/uint64_t pointer_segment;/uint32_t pointer_segment;/' 's/define CAPNP_CANONICAL_TEXT_ROOM 96/define CAPNP_CANONICAL_TEXT_ROOM 97/' 's/ capnp_canonical_looks_text(/ capnp_canonical_seems_text(/'; do
         mkdir -p "$folder/headers" && cp "$top/bindings/c/capnp_canonical_limits.h" "$folder/headers" || return 1
         sed "$change" "$top/bindings/c/capnp_canonical.h" >"$folder/headers/capnp_canonical.h"
-        if python3 -B "$here/interface.py" "$folder/headers" >"$folder/changed"; then echo "$change isn't seen" && return 1; fi
+        if python3 -B "$here/../interface.py" "$folder/headers" >"$folder/changed"; then echo "$change isn't seen" && return 1; fi
         # one line differs, and the sentence about it names its version
         if [ "$(grep -c '^not as in version 1' "$folder/changed")" != 1 ]; then cat "$folder/changed" && return 1; fi
     done
@@ -180,60 +180,60 @@ for which in static shared; do
     part "example, $which, built" build "example_$which" bindings/c/example.c "$which"
     has xxd "the examples' answers" && part "example, $which" example "example_$which"
     has xxd "the example's mistakes" && part "mistakes, $which" mistakes "example_$which"
-    part "functions of the header, $which, built" build "inline_$which" tests/library/inline.c "$which"
-    part "functions of the header, $which" "$folder/inline_$which" "$here/messages.txt"
-    part "limits in a struct, $which, built" build "limits_$which" tests/library/limits.c "$which"
-    part "limits in a struct, $which" "$folder/limits_$which" "$here/messages.txt"
-    part "test, $which, built" build "test_$which" tests/library/test.c "$which"
-    part "test, $which" "$folder/test_$which" "$here/messages.txt"
-    part "packed bytes, $which, built" build "unpack_$which" tests/library/unpack.c "$which"
-    part "packed bytes, $which" "$folder/unpack_$which" "$here/packed.txt"
-    part "pieces of packed streams, $which, built" build "pieces_$which" tests/library/pieces.c "$which"
-    part "pieces of packed streams, $which" "$folder/pieces_$which" "$here/streams.txt"
-    part "parts of messages, $which, built" build "parts_$which" tests/library/parts.c "$which"
-    part "parts of messages, $which" "$folder/parts_$which" "$here/parts.txt"
-    part "prefixes, comparisons and packing, $which, built" build "prefixes_$which" tests/library/prefixes.c "$which"
-    part "prefixes, comparisons and packing, $which" "$folder/prefixes_$which" "$here/prefixes.txt"
-    part "sound messages, $which, built" build "extents_$which" tests/library/extents.c "$which"
-    part "sound messages, $which" "$folder/extents_$which" "$here/extents.txt"
-    part "places of broken pointers, $which, built" build "places_$which" tests/library/places.c "$which"
-    part "places of broken pointers, $which" "$folder/places_$which" "$here/places.txt"
-    part "objects of messages, $which, built" build "walks_$which" tests/library/walks.c "$which"
-    part "objects of messages, $which" "$folder/walks_$which" "$here/walks.txt"
+    part "functions of the header, $which, built" build "inline_$which" tests/library/c/inline.c "$which"
+    part "functions of the header, $which" "$folder/inline_$which" "$rows/messages.txt"
+    part "limits in a struct, $which, built" build "limits_$which" tests/library/c/limits.c "$which"
+    part "limits in a struct, $which" "$folder/limits_$which" "$rows/messages.txt"
+    part "test, $which, built" build "test_$which" tests/library/c/test.c "$which"
+    part "test, $which" "$folder/test_$which" "$rows/messages.txt"
+    part "packed bytes, $which, built" build "unpack_$which" tests/library/c/unpack.c "$which"
+    part "packed bytes, $which" "$folder/unpack_$which" "$rows/packed.txt"
+    part "pieces of packed streams, $which, built" build "pieces_$which" tests/library/c/pieces.c "$which"
+    part "pieces of packed streams, $which" "$folder/pieces_$which" "$rows/streams.txt"
+    part "parts of messages, $which, built" build "parts_$which" tests/library/c/parts.c "$which"
+    part "parts of messages, $which" "$folder/parts_$which" "$rows/parts.txt"
+    part "prefixes, comparisons and packing, $which, built" build "prefixes_$which" tests/library/c/prefixes.c "$which"
+    part "prefixes, comparisons and packing, $which" "$folder/prefixes_$which" "$rows/prefixes.txt"
+    part "sound messages, $which, built" build "extents_$which" tests/library/c/extents.c "$which"
+    part "sound messages, $which" "$folder/extents_$which" "$rows/extents.txt"
+    part "places of broken pointers, $which, built" build "places_$which" tests/library/c/places.c "$which"
+    part "places of broken pointers, $which" "$folder/places_$which" "$rows/places.txt"
+    part "objects of messages, $which, built" build "walks_$which" tests/library/c/walks.c "$which"
+    part "objects of messages, $which" "$folder/walks_$which" "$rows/walks.txt"
 done
 part "a program with an older library" older parts_shared
-part "test with the address sanitizer, built" build sanitized tests/library/test.c static -fsanitize=address,undefined -fno-sanitize-recover
-part "test with the address sanitizer" "$folder/sanitized" "$here/messages.txt"
-part "functions of the header with the address sanitizer, built" build inline_sanitized tests/library/inline.c static -fsanitize=address,undefined -fno-sanitize-recover
-part "functions of the header with the address sanitizer" "$folder/inline_sanitized" "$here/messages.txt"
-part "limits in a struct with the address sanitizer, built" build limits_sanitized tests/library/limits.c static -fsanitize=address,undefined -fno-sanitize-recover
-part "limits in a struct with the address sanitizer" "$folder/limits_sanitized" "$here/messages.txt"
-part "packed bytes with the address sanitizer, built" build unpack_sanitized tests/library/unpack.c static -fsanitize=address,undefined -fno-sanitize-recover
-part "packed bytes with the address sanitizer" "$folder/unpack_sanitized" "$here/packed.txt"
-part "pieces of packed streams with the address sanitizer, built" build pieces_sanitized tests/library/pieces.c static -fsanitize=address,undefined -fno-sanitize-recover
-part "pieces of packed streams with the address sanitizer" "$folder/pieces_sanitized" "$here/streams.txt"
-part "parts of messages with the address sanitizer, built" build parts_sanitized tests/library/parts.c static -fsanitize=address,undefined -fno-sanitize-recover
-part "parts of messages with the address sanitizer" "$folder/parts_sanitized" "$here/parts.txt"
-part "prefixes, comparisons and packing with the address sanitizer, built" build prefixes_sanitized tests/library/prefixes.c static -fsanitize=address,undefined -fno-sanitize-recover
-part "prefixes, comparisons and packing with the address sanitizer" "$folder/prefixes_sanitized" "$here/prefixes.txt"
-part "sound messages with the address sanitizer, built" build extents_sanitized tests/library/extents.c static -fsanitize=address,undefined -fno-sanitize-recover
-part "sound messages with the address sanitizer" "$folder/extents_sanitized" "$here/extents.txt"
-part "places of broken pointers with the address sanitizer, built" build places_sanitized tests/library/places.c static -fsanitize=address,undefined -fno-sanitize-recover
-part "places of broken pointers with the address sanitizer" "$folder/places_sanitized" "$here/places.txt"
-part "objects of messages with the address sanitizer, built" build walks_sanitized tests/library/walks.c static -fsanitize=address,undefined -fno-sanitize-recover
-part "objects of messages with the address sanitizer" "$folder/walks_sanitized" "$here/walks.txt"
-part "packed bytes where malloc is counted, built" build unpack_counting tests/library/unpack.c static -DWRAP -Wl,--wrap=malloc -Wl,--wrap=realloc
-part "packed bytes where malloc is counted" "$folder/unpack_counting" "$here/packed.txt"
-part "packing with malloc counted, built" build prefixes_counting tests/library/prefixes.c static -DWRAP -Wl,--wrap=malloc -Wl,--wrap=realloc
-part "packing with malloc counted" "$folder/prefixes_counting" "$here/prefixes.txt"
-part "pieces of packed streams where malloc is counted, built" build pieces_counting tests/library/pieces.c static -DWRAP -Wl,--wrap=malloc -Wl,--wrap=realloc
-part "pieces of packed streams where malloc is counted" "$folder/pieces_counting" "$here/streams.txt"
-part "test where malloc refuses, built" build refusing tests/library/test.c static -DWRAP -Wl,--wrap=malloc -Wl,--wrap=realloc
-part "test where malloc refuses" "$folder/refusing" "$here/messages.txt"
+part "test with the address sanitizer, built" build sanitized tests/library/c/test.c static -fsanitize=address,undefined -fno-sanitize-recover
+part "test with the address sanitizer" "$folder/sanitized" "$rows/messages.txt"
+part "functions of the header with the address sanitizer, built" build inline_sanitized tests/library/c/inline.c static -fsanitize=address,undefined -fno-sanitize-recover
+part "functions of the header with the address sanitizer" "$folder/inline_sanitized" "$rows/messages.txt"
+part "limits in a struct with the address sanitizer, built" build limits_sanitized tests/library/c/limits.c static -fsanitize=address,undefined -fno-sanitize-recover
+part "limits in a struct with the address sanitizer" "$folder/limits_sanitized" "$rows/messages.txt"
+part "packed bytes with the address sanitizer, built" build unpack_sanitized tests/library/c/unpack.c static -fsanitize=address,undefined -fno-sanitize-recover
+part "packed bytes with the address sanitizer" "$folder/unpack_sanitized" "$rows/packed.txt"
+part "pieces of packed streams with the address sanitizer, built" build pieces_sanitized tests/library/c/pieces.c static -fsanitize=address,undefined -fno-sanitize-recover
+part "pieces of packed streams with the address sanitizer" "$folder/pieces_sanitized" "$rows/streams.txt"
+part "parts of messages with the address sanitizer, built" build parts_sanitized tests/library/c/parts.c static -fsanitize=address,undefined -fno-sanitize-recover
+part "parts of messages with the address sanitizer" "$folder/parts_sanitized" "$rows/parts.txt"
+part "prefixes, comparisons and packing with the address sanitizer, built" build prefixes_sanitized tests/library/c/prefixes.c static -fsanitize=address,undefined -fno-sanitize-recover
+part "prefixes, comparisons and packing with the address sanitizer" "$folder/prefixes_sanitized" "$rows/prefixes.txt"
+part "sound messages with the address sanitizer, built" build extents_sanitized tests/library/c/extents.c static -fsanitize=address,undefined -fno-sanitize-recover
+part "sound messages with the address sanitizer" "$folder/extents_sanitized" "$rows/extents.txt"
+part "places of broken pointers with the address sanitizer, built" build places_sanitized tests/library/c/places.c static -fsanitize=address,undefined -fno-sanitize-recover
+part "places of broken pointers with the address sanitizer" "$folder/places_sanitized" "$rows/places.txt"
+part "objects of messages with the address sanitizer, built" build walks_sanitized tests/library/c/walks.c static -fsanitize=address,undefined -fno-sanitize-recover
+part "objects of messages with the address sanitizer" "$folder/walks_sanitized" "$rows/walks.txt"
+part "packed bytes where malloc is counted, built" build unpack_counting tests/library/c/unpack.c static -DWRAP -Wl,--wrap=malloc -Wl,--wrap=realloc
+part "packed bytes where malloc is counted" "$folder/unpack_counting" "$rows/packed.txt"
+part "packing with malloc counted, built" build prefixes_counting tests/library/c/prefixes.c static -DWRAP -Wl,--wrap=malloc -Wl,--wrap=realloc
+part "packing with malloc counted" "$folder/prefixes_counting" "$rows/prefixes.txt"
+part "pieces of packed streams where malloc is counted, built" build pieces_counting tests/library/c/pieces.c static -DWRAP -Wl,--wrap=malloc -Wl,--wrap=realloc
+part "pieces of packed streams where malloc is counted" "$folder/pieces_counting" "$rows/streams.txt"
+part "test where malloc refuses, built" build refusing tests/library/c/test.c static -DWRAP -Wl,--wrap=malloc -Wl,--wrap=realloc
+part "test where malloc refuses" "$folder/refusing" "$rows/messages.txt"
 if has valgrind "the example and the test under it"; then
-    grep -v '^#' "$here/messages.txt" | awk '$3 == "Done" { printf "%s", $2 }' | xxd -r -p >"$folder/stream"
+    grep -v '^#' "$rows/messages.txt" | awk '$3 == "Done" { printf "%s", $2 }' | xxd -r -p >"$folder/stream"
     part "example under valgrind" sh -c "valgrind -q --error-exitcode=9 --leak-check=full --show-leak-kinds=all '$folder/example_shared' <'$folder/stream' >/dev/null"
-    part "test under valgrind" valgrind -q --error-exitcode=9 --leak-check=full --show-leak-kinds=all "$folder/test_shared" "$here/messages.txt"
+    part "test under valgrind" valgrind -q --error-exitcode=9 --leak-check=full --show-leak-kinds=all "$folder/test_shared" "$rows/messages.txt"
 fi
 echo "$passed passed, $failed failed"
 [ $failed = 0 ]

@@ -1,10 +1,10 @@
 #!/bin/sh
-# cpp.sh PREFIX: tests the headers for C++ that are installed at PREFIX, by each compiler that is there: what they have for
+# headers.sh PREFIX: tests the headers for C++ that are installed at PREFIX, by each compiler that is there: what they have for
 # programs that are typed strictly or have no exceptions, that no compiler warns of them, which types are visible, and that
 # they don't look for Cap'n Proto's own headers. A line `ok: WHAT` or `FAILED: WHAT` for each test.
 set -u
 here=$(cd "$(dirname "$0")" && pwd) || exit 2
-prefix=${1:?usage: cpp.sh PREFIX}
+prefix=${1:?usage: headers.sh PREFIX}
 folder=$(mktemp -d) || exit 2
 trap 'rm -rf "$folder"' EXIT
 failed=0
@@ -67,7 +67,7 @@ for compiler in $compilers; do
     "$folder/program" stop >"$folder/log" 2>&1
     [ $? -gt 128 ] && grep -q '^MessageContainsOutOfBoundsPointer at segment 0, word 0: ' "$folder/log"
     report $? "$compiler, a refusal that ends the process"
-    compiled 'the example' "$here/../../bindings/cpp/example.cpp" -std=c++17
+    compiled 'the example' "$here/../../../bindings/cpp/example.cpp" -std=c++17
     compiled 'the header for C as C++' "$here/limits.cpp" -std=c++17
     if command -v readelf >/dev/null && command -v c++filt >/dev/null; then
         visible

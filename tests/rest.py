@@ -3,7 +3,7 @@
 pages and options, of the JavaScript package, of the printed Rust and the crate over it, of generated code, of messages that are
 tested against schemas, of the viewer, and the comparison with C++ Cap'n Proto.
 
-    outside.py [NAME..]
+    rest.py [NAME..]
 
 NAMEs choose the parts: start, completion, shell, peer, js, rust, crate, typed, typed_rust, typed_c, typed_page, conforming, validating,
 viewer, library, layout_c, clone, release, packages; by default all, which takes more than an hour. Some parts prove and build what
@@ -74,7 +74,7 @@ def main(words):
     # bytes pass unchanged in every locale
     sys.stdout.reconfigure(encoding='utf-8', errors='surrogateescape')
     if unknown := [word for word in words if word not in (name for name, *_ in PARTS)]:
-        sys.exit(f'outside.py: there is no part {" ".join(unknown)}\n\n{__doc__}')
+        sys.exit(f'rest.py: there is no part {" ".join(unknown)}\n\n{__doc__}')
     passed = failed = skipped = 0
     for name, command, tools in PARTS:
         if words and name not in words:

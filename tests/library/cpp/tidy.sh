@@ -3,7 +3,7 @@
 # `FAILED: FILE` for each program through which they are read.
 set -u
 here=$(cd "$(dirname "$0")" && pwd) || exit 2
-bindings=$here/../../bindings
+bindings=$here/../../../bindings
 failed=0
 
 # Reads a program with a language's standard; the headers that count have names of this form.

@@ -10,7 +10,7 @@ import tempfile
 import time
 import unittest
 
-MESSAGES = pathlib.Path(__file__).with_name('messages.txt')
+MESSAGES = pathlib.Path(__file__).resolve().parents[1] / 'rows' / 'messages.txt'
 LINES = [line.split() for line in MESSAGES.read_text().splitlines() if not line.startswith('#')]
 FRAMES = {name: bytes.fromhex(frame.strip('-')) for name, frame, *_ in LINES}
 WORDS = {name: bytes.fromhex(flat) for name, _, copy, flat, *_ in LINES if copy == 'Done'}

@@ -13,8 +13,8 @@ import subprocess
 import sys
 import tempfile
 
-TOP = pathlib.Path(__file__).resolve().parents[2]
-HERE = pathlib.Path(__file__).resolve().parent / 'figures'
+TOP = pathlib.Path(__file__).resolve().parents[3]
+HERE = pathlib.Path(__file__).resolve().parent
 # The messages: a name, the number of people, the calls of a round.
 MESSAGES = ('small', 2, 20000), ('1 MB', 7000, 20)
 

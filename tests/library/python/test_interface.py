@@ -18,7 +18,7 @@ import warnings
 import capnp_canonical
 from capnp_canonical import Error, Limits, Refusal, Words
 
-STREAMS = pathlib.Path(__file__).with_name('streams.txt')
+STREAMS = pathlib.Path(__file__).resolve().parents[1] / 'rows' / 'streams.txt'
 FRAME = bytes.fromhex('0000000004000000 0000000003000000 1111111111111111 ffffffffffffffff 0000000000000000')
 FLAT = bytes.fromhex('0000000002000000 1111111111111111 ffffffffffffffff')
 CANONICAL = bytes.fromhex('0000000003000000') + FLAT
@@ -279,7 +279,7 @@ class Pycapnp(unittest.TestCase):
     @unittest.skipUnless(importlib.util.find_spec('capnp'), 'no pycapnp')
     def test_real_ones(self):
         import capnp
-        person = capnp.load(str(pathlib.Path(__file__).parents[1] / 'peer/people.capnp')).Person.new_message(id=1, name='Ada')
+        person = capnp.load(str(pathlib.Path(__file__).resolve().parents[2] / 'peer/people.capnp')).Person.new_message(id=1, name='Ada')
         wanted = capnp_canonical.hexdigest(person.to_bytes())
         self.assertEqual(wanted, '62cac392152416d2e5417a2626d7f3eae39e50670674e711134666536187c231')
         self.assertEqual([capnp_canonical.hexdigest(it) for it in (person, person.as_reader(), person)], [wanted] * 3)

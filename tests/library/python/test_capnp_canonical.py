@@ -19,12 +19,13 @@ import unittest
 import capnp_canonical
 from capnp_canonical import Error, Fault, Limits, Reason, Refusal, Size
 
-MESSAGES = pathlib.Path(__file__).with_name('messages.txt')
-PLACES = pathlib.Path(__file__).with_name('places.txt')
-PACKED = pathlib.Path(__file__).with_name('packed.txt')
-PARTS = pathlib.Path(__file__).with_name('parts.txt')
-PREFIXES = pathlib.Path(__file__).with_name('prefixes.txt')
-STREAMS = pathlib.Path(__file__).with_name('streams.txt')
+ROWS = pathlib.Path(__file__).resolve().parents[1] / 'rows'
+MESSAGES = ROWS / 'messages.txt'
+PLACES = ROWS / 'places.txt'
+PACKED = ROWS / 'packed.txt'
+PARTS = ROWS / 'parts.txt'
+PREFIXES = ROWS / 'prefixes.txt'
+STREAMS = ROWS / 'streams.txt'
 LIBRARY = 'CAPNP_CANONICAL_LIBRARY'
 # A struct of three words that ends in a zero word.
 ZERO_WORD = bytes.fromhex('0000000004000000 0000000003000000 1111111111111111 ffffffffffffffff 0000000000000000')
