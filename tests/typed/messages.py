@@ -213,8 +213,10 @@ class Difference(Exception):
 class Compared:
     """Compares what a program printed with what `capnp decode` prints, and counts the fields."""
 
-    def __init__(self, schema):
+    def __init__(self, schema, keeps_null):
         self.schema, self.fields = schema, 0
+        # whether a struct or a list with a default value is printed as null if its pointer is null
+        self.keeps_null = keeps_null
         # how many default values this is in
         self.defaults = 0
 
@@ -273,7 +275,10 @@ class Compared:
         if ours is None or 'group' in field:
             return
         what = kind(field['slot']['type'])
-        if has_default(field):
+        if has_default(field) and self.keeps_null:
+            if ours != 'null':
+                raise Difference(where, ours, 'null')
+        elif has_default(field):
             self.defaults += 1
             self.value(field['slot']['type'], ours, self.schema.default(name_of(field)), where)
             self.defaults -= 1
@@ -284,10 +289,10 @@ class Compared:
             raise Difference(where, ours, 'nothing')
 
 
-def compared(schema, roots, ours, theirs):
+def compared(schema, roots, ours, theirs, keeps_null=False):
     """The numbers of messages and of fields that are the same, and the first difference or None. The messages are texts, and their
     roots these structs in turn."""
-    compare = Compared(schema)
+    compare = Compared(schema, keeps_null)
     if len(ours) != len(theirs):
         return 0, 0, f'{len(ours)} messages instead of {len(theirs)}'
     for i, (one, other) in enumerate(zip(ours, theirs)):

@@ -1,12 +1,13 @@
 """Writes a program that prints messages by generated readers: each field, in the notation of `capnp decode`, except that enums
 are numbers, and floats their bits, and that bytes are lists."""
+import re
+
 from schema import BITS, DEFAULT_DEPTH, RUST, always, has_default, kind, members, name_of
 
 HEAD = '''//! Prints each message of standard input, by generated readers.
 #![tactic(auto)]
 
-use {crate}::{{{modules}}};
-use capnp_arena::arena::{{ReaderArena, ReaderArenaImpl, ReaderOptions}};
+{uses}use capnp_arena::arena::{{ReaderArena, ReaderArenaImpl, ReaderOptions}};
 use capnp_framing::devices::ReaderInput;
 use capnp_framing::framing::read;
 use capnp_words::read_limiter::ReadLimiter;
@@ -134,6 +135,80 @@ class Printer:
                 f'    let _ = (&r, &lim);\n{"".join(body)}    print!(rt; ")")?;\n    Ok(())\n}}\n')
 
 
+class CheckedPrinter(Printer):
+    """The same by readers of checked messages. A struct or a list with a default value is printed as null if its pointer is null.
+    `crate` is the folder of their crate."""
+
+    def __init__(self, schema, crate):
+        super().__init__(schema)
+        self.source = {it.stem: it.read_text(encoding='utf-8') for it in (crate / 'src').glob('*.rt')}
+        self.words = [int(it) for it in re.findall(r'\d+', self.source['schema_table'].partition('] = [')[2].partition(']')[0])]
+
+    def getter(self, module, getter):
+        """The text of a getter from its name on."""
+        return self.source[module].partition(f'pub fn get_{getter}(')[2]
+
+    def value(self, of, got, row, to, pad):
+        """Prints what the expression `got` reads of a pointer. `row` is that of the elements of a list of pointers."""
+        what = kind(of)
+        if what == 'text':
+            to.append(f'{pad}print_bytes(rt, {got}.as_bytes())?;\n')
+        elif what == 'data':
+            to.append(f'{pad}print_bytes(rt, {got})?;\n')
+        elif what == 'struct':
+            to.append(f'{pad}print_{self.schema.declared(of)["module"]}(rt, {got}, lim, depth - 1)?;\n')
+        else:
+            self.list(of['list']['elementType'], got, row, to, pad)
+
+    def list(self, of, got, row, to, pad):
+        """Prints a list."""
+        what, inner = kind(of), pad + '    '
+        to.append(f'{pad}let l = {got};\n{pad}print!(rt; "[")?;\n{pad}for i in 0..l.len() {{\n')
+        if what in RUST or what == 'struct':
+            self.element(of, 'l.get(i)', to, inner)
+        elif what in ('text', 'data', 'list'):
+            to.append(f'{inner}let e = l.get(i);\n')
+            below = self.words[row + 1] // 16
+            self.value(of, self.read_element(of, below), below, to, inner)
+            to.append(f'{inner}print!(rt; ", ")?;\n')
+        else:
+            to.append(f'{inner}print!(rt; "any, ")?;\n')
+        to.append(f'{pad}}}\n{pad}print!(rt; "]")?;\n')
+
+    def read_element(self, of, row):
+        """What reads pointer 0 of an element `e` of a list of pointers. `row` is that of what the pointer leads to."""
+        what = kind(of)
+        if what != 'list':
+            return f'e.get_{ {"text": "str"}.get(what, what)}(0)'
+        inner = of['list']['elementType']
+        if kind(inner) == 'struct':
+            return f'{self.schema.declared(inner)["module"]}::CheckedList {{ list: e.get_structs(0) }}'
+        if kind(inner) in RUST:
+            return f'e.get_numbers::<{RUST[kind(inner)]}>(0)'
+        return f'e.get_pointers::<{row}>(0)'
+
+    def slot(self, of, getter, to, pad, is_never_null):
+        what = kind(of)
+        if what not in ('text', 'data', 'struct', 'list'):
+            super().slot(of, getter, to, pad, is_never_null)
+            return
+        text = self.getter(self.module, getter)
+        gives = text.partition(' -> ')[2].partition('\n')[0]
+        row = int((re.search(r'schema_table::Table, (\d+)>', gives) or [0, 0])[1])
+        may_be_null = what in ('struct', 'list')
+        to.append(f'{pad}if r.has_{getter}() {{\n' if may_be_null else '')
+        if gives.startswith('Option<'):
+            to.append(f'{pad}let Some(v) = r.get_{getter}() else {{\n{pad}    anyhow::bail!("{getter} is not set");\n{pad}}};\n')
+            self.value(of, 'v', row, to, pad)
+        else:
+            self.value(of, f'r.get_{getter}()', row, to, pad)
+        to.append(f'{pad}}} else {{\n{pad}    print!(rt; "null")?;\n{pad}}}\n' if may_be_null else '')
+
+    def function(self, node):
+        self.module = node['module']
+        return super().function(node).replace(f'{node["module"]}::Reader<', f'{node["module"]}::Checked<')
+
+
 def arms(arm, roots, **names):
     """The arms of a match: what a program does with a message whose root is each of these structs in turn."""
     return ''.join(arm.format(which=i if i + 1 < len(roots) else '_', module=root['module'], **names) for i, root in enumerate(roots))
@@ -141,8 +216,22 @@ def arms(arm, roots, **names):
 
 def program(schema, crate, roots):
     """The text of the program for messages whose roots are these structs in turn."""
-    printer = Printer(schema)
+    return written(Printer(schema), schema, crate, crate, roots)
+
+
+def checked_program(schema, reading, folder, roots):
+    """The same by readers of checked messages, whose crate is in a folder."""
+    text = written(CheckedPrinter(schema, folder), schema, folder.name, reading, roots)
+    return text.replace('::Reader::root(&arena, &mut lim)?', '::Checked::root(&arena, &mut lim).map_err(|misfit| misfit.error)?')
+
+
+def written(printer, schema, crate, reading, roots):
+    """The text of a program. `crate` has the structs, and `reading` the enums."""
     structs = [node for node in schema.written if 'struct' in node]
     functions = ''.join(printer.function(node) for node in structs)
-    modules = sorted({node['module'] for node in schema.written if node['module'] + '::' in functions} | {node['which'] for node in structs if 'which' in node})
-    return HEAD.format(crate=crate, modules=', '.join(modules)) + functions + MAIN.format(count=len(roots), arms=arms(ARM, [schema.find(it) for it in roots]))
+    enums = {node['module'] for node in schema.written if 'enum' in node and node['module'] + '::' in functions} | {node['which'] for node in structs if 'which' in node}
+    uses = {crate: {node['module'] for node in structs}} | ({reading: enums} if enums else {})
+    if crate == reading:
+        uses = {crate: uses[crate] | enums}
+    uses = ''.join(f'use {name}::{{{", ".join(sorted(of))}}};\n' for name, of in sorted(uses.items()))
+    return HEAD.format(uses=uses) + functions + MAIN.format(count=len(roots), arms=arms(ARM, [schema.find(it) for it in roots]))

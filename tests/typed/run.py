@@ -1,18 +1,18 @@
 #!/usr/bin/env python3
-"""Tests `capnpc-rattle`, and what it generates.
+"""Tests `capnpc-rattle-checked`, and what it generates: what `capnpc-rattle` does, and readers of checked messages.
 
     run.py [--schemas N] [--structs S] [--messages M] [--jobs J] [--unproved] [PART..]
 
 The parts, by default all of them:
 
-- `ours`: for `schema.capnp` and `addressbook.capnp` the generator writes the crates `schema_reading`, `addressbook_reading` and
-  `addressbook_building`, byte for byte.
-- `fields`: the readers and the builders of `fields.capnp` are proved at the first check, without a proof. A program over the
-  readers prints M random messages (by default 200), made by `capnp encode`, as `capnp decode` prints them. Another copies them,
-  by readers and builders: `capnp decode` prints the copies as it prints the messages, and C++ makes the same canonical words of
-  both.
-- `bugs`: planted bugs in the readers and the builders of `fields.capnp`, one of each kind for each kind of field, are refused by
-  a clause of that field's call.
+- `ours`: for `schema.capnp` and `addressbook.capnp` the generator writes the crates `schema_reading`, `addressbook_reading`,
+  `addressbook_building` and `addressbook_checking`, byte for byte; and `capnpc-rattle` writes the first three of them.
+- `fields`: the readers, the builders and the readers of checked messages of `fields.capnp` are proved at the first check, without
+  a proof. A program over the readers prints M random messages (by default 200), made by `capnp encode`, as `capnp decode` prints
+  them, and so does one over the readers of checked messages. Another copies them, by readers and builders: `capnp decode` prints
+  the copies as it prints the messages, and C++ makes the same canonical words of both.
+- `bugs`: planted bugs in these three crates of `fields.capnp`, one of each kind for each kind of field, are refused by a clause of
+  that field's call, or because a call requires something of the table.
 - `random`: like `fields`, for N random schemas (by default 2) of S structs (by default 8). Each struct in turn is the root of a
   message.
 - `page`: the commands of docs/TYPED.md, typed in a copy of the repository, write and prove crates for the schema of that page, and
@@ -56,6 +56,7 @@ from libraries import Crates
 # What the crates of a schema depend on, and the programs over them.
 READERS = 'capnp_format capnp_words capnp_arena_traits capnp_objects capnp_readers typed_reading'
 PROGRAM = 'capnp_format capnp_words capnp_arena_traits capnp_arena capnp_framing capnp_objects capnp_readers typed_reading'
+CHECKING = 'typed_conforming typed_checking'
 BUILT_ON = 'capnp_making capnp_contents capnp_copies capnp_builders typed_building'
 PARTS = 'ours', 'fields', 'bugs', 'random', 'versions', 'odd', 'page'
 # Faults that `capnp decode` finds and upstream doesn't, in landing pads of two words; that the programs don't look at, since they don't
@@ -129,6 +130,20 @@ BUILDER_BUGS = (
     ('offset read', 'union', '', r'reading::get_number\(arena, self\.place, (\d+)\)', lambda n: f'reading::get_number(arena, self.place, {int(n) - 1})'),
     ('arm', 'variants', '', r'(\w+::\w+) => (\d+)(,\s+)(\w+::\w+) => (\d+)', lambda one, first, between, other, second: f'{one} => {second}{between}{other} => {first}'),
 )
+CHECKING_BUGS = (
+    ('offset', 'uint32', 'get', r'value::get_number\(&self\.checked\.reader, (\d+)\)', lambda n: f'value::get_number(&self.checked.reader, {int(n) + 1})'),
+    ('index', 'text', 'get', r'self\.checked\.get_str\((\d+)\)', lambda n: f'self.checked.get_str({int(n) + 1})'),
+    ('kind', 'data', 'get', r'self\.checked\.get_data\((\d+)\)', lambda n: f'self.checked.get_str({n}).as_bytes()'),
+    ('default', 'text', 'get', r'self\.checked\.get_str_or\((\d+), "[^"]*"\)', lambda n: f'self.checked.get_str({n})'),
+    ('index', 'struct', 'get', r'self\.checked\.get_struct\((\d+)\)', lambda n: f'self.checked.get_struct({int(n) + 1})'),
+    ('null', 'struct', 'get', r'if !value::has\(&self\.checked\.reader, (\d+)\)', lambda n: f'if value::has(&self.checked.reader, {n})'),
+    ('index', 'list', 'get', r'self\.checked\.get_numbers\((\d+)\)', lambda n: f'self.checked.get_numbers({int(n) + 1})'),
+    ('number', 'data', 'get', r'get_member_data\(&\[Member\((\d+), (\d+)\)\]', lambda tag, number: f'get_member_data(&[Member({tag}, {int(number) + 1})]'),
+    ('tag', 'list', 'get', r'get_member_structs\(&\[Member\((\d+), (\d+)\)\]', lambda tag, number: f'get_member_structs(&[Member({int(tag) + 1}, {number})]'),
+    ('test', 'struct', 'get', r'match self\.checked\.get_member_struct\(&\[Member\(\d+, \d+\)\], (\d+)\)', lambda n: f'match Some(self.checked.get_struct({n}))'),
+    ('outer test', 'text', 'get', r'get_member_str\(&\[Member\((\d+), (\d+)\), Member\(\d+, \d+\)\]', lambda tag, number: f'get_member_str(&[Member({tag}, {number})]'),
+    ('offset', 'union', '', r'of_number\(value::get_number\(&self\.checked\.reader, (\d+)\)\)', lambda n: f'of_number(value::get_number(&self.checked.reader, {int(n) + 1}))'),
+)
 
 
 class Counts:
@@ -142,10 +157,10 @@ class Counts:
         print(f'{what}' if holds else f'FAILED {what}', flush=True)
 
 
-def generate(path, folder):
+def generate(path, folder, generator='capnpc-rattle-checked'):
     """Runs `capnp compile` with the generator, which writes crates into the folder, and returns what their names begin with."""
     source = pathlib.Path(path).parent
-    subprocess.run(['capnp', 'compile', f'--src-prefix={source}', f'-o{TOP}/capnpc-rattle:{folder}', path], check=True)
+    subprocess.run(['capnp', 'compile', f'--src-prefix={source}', f'-o{TOP}/{generator}:{folder}', path], check=True)
     return pathlib.Path(path).stem
 
 
@@ -214,14 +229,17 @@ def check(folder, name, jobs, functions):
 
 def same_as_ours(counts, path):
     """What the generator writes for a schema whose crates are in the repository."""
-    with tempfile.TemporaryDirectory() as folder:
-        stem = generate(path, folder)
-        for name in (f'{stem}_reading', f'{stem}_building'):
-            made, ours = pathlib.Path(folder) / name, TOP / 'crates' / name
-            if ours.is_dir():
-                files, others = ({it.relative_to(crate) for part in ('src', 'specs') for it in (crate / part).iterdir()} for crate in (ours, made))
-                same = files == others and all(filecmp.cmp(ours / it, made / it, shallow=False) for it in files)
-                counts.say(same, f'{name}: {len(files)} files are the same as in crates/{name}')
+    for generator, parts in (('capnpc-rattle', ('reading', 'building')), ('capnpc-rattle-checked', ('reading', 'building', 'checking'))):
+        with tempfile.TemporaryDirectory() as folder:
+            stem = generate(path, folder, generator)
+            written = {it.name for it in pathlib.Path(folder).iterdir()}
+            counts.say(written == {f'{stem}_{part}' for part in parts}, f'{generator}: {" ".join(sorted(written))}')
+            for name in sorted(written):
+                made, ours = pathlib.Path(folder) / name, TOP / 'crates' / name
+                if ours.is_dir():
+                    files, others = ({it.relative_to(crate) for part in ('src', 'specs') for it in (crate / part).iterdir()} for crate in (ours, made))
+                    same = files == others and all(filecmp.cmp(ours / it, made / it, shallow=False) for it in files)
+                    counts.say(same, f'{name}: {len(files)} files are the same as in crates/{name}')
 
 
 def prover_seconds():
@@ -281,11 +299,11 @@ class Programs:
 
         return messages.every(words, range(len(frames)))
 
-    def read(self, frames, whose, counts):
+    def read(self, frames, whose, counts, program='printer'):
         """Compares what the readers' program prints with what `capnp decode` prints. `whose` says who wrote the messages."""
-        ours = list(values('\n'.join(self.run('printer', frames))))
-        same, fields, difference = messages.compared(self.schema, self.roots, ours, self.decoded(frames))
-        counts.say(frames and not difference, f'{self.file}: {same} messages{whose} with {fields} fields' + (f', then {difference}' if difference else ''))
+        ours = list(values('\n'.join(self.run(program, frames))))
+        same, fields, difference = messages.compared(self.schema, self.roots, ours, self.decoded(frames), program == 'checked')
+        counts.say(frames and not difference, f'{self.file}: {same} {"checked " if program == "checked" else ""}messages{whose} with {fields} fields' + (f', then {difference}' if difference else ''))
 
     def read_altered(self, frames, seed, counts):
         """Reads altered messages. What the program and `capnp decode` both read, they print the same. What that refuses, the program
@@ -336,16 +354,18 @@ class Generated(Programs):
         self.schema = Schema(str(path))
         self.roots = roots or self.schema.structs()
         generate(str(path), str(self.crates))
-        self.readers, self.builders = f'{stem}_reading', f'{stem}_building'
+        self.readers, self.builders, self.checking = f'{stem}_reading', f'{stem}_building', f'{stem}_checking'
         add(folder, f'{self.readers}: {READERS}')
         add(folder, f'{self.builders}: {READERS} {BUILT_ON} {self.readers}')
+        add(folder, f'{self.checking}: {READERS} {CHECKING} {self.readers}')
         self.add_program(f'{stem}_printer', printer.program(self.schema, self.readers, self.roots))
+        self.add_program(f'{stem}_checked', printer.checked_program(self.schema, self.readers, self.crates / self.checking, self.roots))
         self.add_program(f'{stem}_copier', copier.program(self.schema, self.readers, self.builders, self.roots))
 
     def add_program(self, name, text):
         (self.crates / name / 'src').mkdir(parents=True)
         (self.crates / name / 'src/main.rt').write_text(text, encoding='utf-8')
-        add(self.folder, f'{name}: {PROGRAM} {BUILT_ON} {self.readers} {self.builders} anyhow')
+        add(self.folder, f'{name}: {PROGRAM} {CHECKING} {BUILT_ON} {self.readers} {self.builders} {self.checking} anyhow')
 
     def prove(self, name, jobs, counts):
         """Proves a crate, which has no proof, and prints what a call costs. Builds the library of the readers."""
@@ -381,11 +401,11 @@ def calls(made, crate, of, prefixes, what):
     those of a union's members."""
     for node in made.schema.written:
         module, fields = node['module'], [it for it in node.get('fields', ()) if what == (kind(it['slot']['type']) if 'slot' in it else 'group')]
-        names = [f'{of}::{prefix}_{field["getter" if of == "Reader" else "setter"]}' for field in fields for prefix in prefixes]
+        names = [f'{of}::{prefix}_{field["setter" if of == "Builder" else "getter"]}' for field in fields for prefix in prefixes]
         if what == 'union' and 'which' in node:
             names = [f'{of}::which']
         elif what == 'variants' and 'enum' in node:
-            names = ['of_number' if of == 'Reader' else 'number']
+            names = ['number' if of == 'Builder' else 'of_number']
         elif what == 'members' and 'which' in node:
             module, names = node['which'], ['of_number']
         path = made.crates / crate / f'src/{module}.rt'
@@ -395,15 +415,16 @@ def calls(made, crate, of, prefixes, what):
                 yield f'{module}::{name}', path, call.start(), text.index('\n    }\n' if '::' in name else '\n}\n', call.start())
 
 
-def goals(crate, function, said):
-    """The goals on what a function ensures for which a check found no proof."""
+def goals(crate, function, said, kinds):
+    """The goals for which a check found no proof, of those that begin or end with one of `kinds`."""
     found = re.search(rf'^fn {re.escape(f"{crate}::{function}")}: no proof: .* did not prove (.*)', said, re.MULTILINE)
-    return [goal for goal in re.findall('`([^`]*)`', found[1]) if goal.startswith('returns')] if found else []
+    return [goal for goal in re.findall('`([^`]*)`', found[1]) if any(goal.startswith(it) or goal.endswith(it) for it in kinds)] if found else []
 
 
 def plant(made, crate, of, bugs, jobs, counts):
     """Plants each bug into the first call that it fits and that has none yet, and checks these calls: each has to be refused by one
-    of its clauses."""
+    of its clauses; in a getter of a checked message, also by what the call that it makes requires of the table."""
+    kinds = ('returns', '-requires') if of == 'Checked' else ('returns',)
     planted, texts = {}, {}
     for wrong, what, prefixes, pattern, change in bugs:
         for function, path, start, end in calls(made, crate, of, prefixes.split(), what):
@@ -420,7 +441,7 @@ def plant(made, crate, of, bugs, jobs, counts):
         path.write_text(text, encoding='utf-8')
     _, said, _ = check(made.folder, crate, jobs, planted)
     for function, (wrong, what, *_) in planted.items():
-        left = goals(crate, function, said)
+        left = goals(crate, function, said, kinds)
         counts.say(left, f'{crate}: a bug in the {wrong} of a field of kind {what}, {function}: ' + (f'refused, {", ".join(left)}' if left else 'not refused by a clause'))
     for path, text in texts.items():
         path.write_text(text, encoding='utf-8')
@@ -433,10 +454,12 @@ def trip(made, count, seed, jobs, counts):
     if count:
         frames = messages.frames(made.schema, made.roots, count, seed)
         made.read(frames, '', counts)
+        made.read(frames, '', counts, 'checked')
         made.copy(frames, counts)
     if jobs:
         made.prove(made.readers, jobs, counts)
         made.prove(made.builders, jobs, counts)
+        made.prove(made.checking, jobs, counts)
 
 
 def versions(folder, structs, count, jobs, counts):
@@ -445,16 +468,19 @@ def versions(folder, structs, count, jobs, counts):
     new, old = (Generated(folder / stem, text, stem, texts.structs) for stem, text in (('new', texts.text), ('old', texts.old)))
     for made, other in ((new, old), (old, new)):
         if count:
-            made.read(messages.frames(other.schema, other.roots, count, 0), f' of {other.file}', counts)
+            frames = messages.frames(other.schema, other.roots, count, 0)
+            made.read(frames, f' of {other.file}', counts)
+            made.read(frames, f' of {other.file}', counts, 'checked')
         if jobs:
             made.prove(made.readers, jobs, counts)
+            made.prove(made.checking, jobs, counts)
 
 
 def odd(folder, jobs, counts):
     """The schemas of the folder `odd`, whose crates are in one repository."""
     folder.mkdir()
     crates, said, here = tree(folder), '', TOP / 'tests/typed/odd'
-    command = ['capnp', 'compile', f'--src-prefix={here}', f'-o{TOP}/capnpc-rattle:{crates}']
+    command = ['capnp', 'compile', f'--src-prefix={here}', f'-o{TOP}/capnpc-rattle-checked:{crates}']
     before = {*crates.iterdir()}
     several = subprocess.run([*command, here / 'a.capnp', here / 'b.capnp'], stderr=subprocess.PIPE)
     counts.say(several.returncode and {*crates.iterdir()} == before, 'odd: several schemas are refused, and nothing is written')
@@ -463,15 +489,16 @@ def odd(folder, jobs, counts):
             ran = subprocess.run([*command, path], stderr=subprocess.PIPE, encoding='utf-8')
             status, text = ran.returncode, ran.stderr
         else:
-            status, text = unknown.generate(f'{TOP}/capnpc-rattle', crates)
+            status, text = unknown.generate(f'{TOP}/capnpc-rattle-checked', crates)
         said += text
         made = sorted(it.name for it in {*crates.iterdir()} - before)
         before = {*crates.iterdir()}
-        counts.say(status == 0 and len(made) == 2, f'odd: {path.name if path else "a later schema compiler"}: {" ".join(made)}')
-        builders, readers = made
+        counts.say(status == 0 and len(made) == 3, f'odd: {path.name if path else "a later schema compiler"}: {" ".join(made)}')
+        builders, checking, readers = made
         add(folder, f'{readers}: {READERS}')
         add(folder, f'{builders}: {READERS} {BUILT_ON} {readers}')
-        for name in (readers, builders) if jobs else ():
+        add(folder, f'{checking}: {READERS} {CHECKING} {readers}')
+        for name in (readers, builders, checking) if jobs else ():
             start = prover_seconds()
             proved, why, _ = prove(folder, name, jobs)
             functions = len(re.findall(r'^(?:fn|struct) .*: proved', why, re.MULTILINE))
@@ -497,7 +524,7 @@ def type_page(folder, counts):
     shutil.copytree(TOP / 'crates', top / 'crates', ignore=kept)
     shutil.copytree(TOP / 'tools', top / 'tools')
     shutil.copytree(TOP / 'dev', top / 'dev')
-    for file in ('HANDLES', 'crates.txt', 'capnpc-rattle'):
+    for file in ('HANDLES', 'crates.txt', 'capnpc-rattle', 'capnpc-rattle-checked'):
         shutil.copy2(TOP / file, top)
     (top / 'shop.capnp').write_text(typed['capnp'], encoding='utf-8')
     run = subprocess.run(['sh', '-e'], cwd=top, input=typed['sh'], encoding='utf-8')
@@ -522,6 +549,7 @@ def fields(folder, parts, count, jobs, counts):
             made.prove(made.readers, jobs, counts)
         plant(made, made.readers, 'Reader', READER_BUGS, jobs, counts)
         plant(made, made.builders, 'Builder', BUILDER_BUGS, jobs, counts)
+        plant(made, made.checking, 'Checked', CHECKING_BUGS, jobs, counts)
 
 
 def main():

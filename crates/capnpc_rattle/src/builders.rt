@@ -71,7 +71,7 @@ impl<'m> Builders<'m> {
         let mut module = Module::new(self.alloc, node.module.as_str());
         let mut values = Values::new(self.alloc);
         values.put("full", node.full.as_str());
-        values.put("owner", self.owner(node).module.as_str());
+        values.put("owner", self.output.owner(node).module.as_str());
         values.put("what", if it.is_group { "the group" } else { "a struct" });
         put_sections(it, &mut values);
         if !it.is_group {
@@ -80,7 +80,7 @@ impl<'m> Builders<'m> {
         }
         self.write_calls(&mut module, node, it);
         let methods = module.take_body();
-        self.add_size_if_named(&mut module, self.owner(node), &methods);
+        self.add_size_if_named(&mut module, self.output.owner(node), &methods);
         if !it.is_group {
             module.push_filled(templates::SIZE, &values);
         }
@@ -104,18 +104,6 @@ impl<'m> Builders<'m> {
                 .sizes
                 .add_once(self.alloc, size.as_str().trim_start());
         }
-    }
-
-    // The struct that a struct or a group is in.
-    fn owner(&self, node: &'m Node) -> &'m Node {
-        let mut at = node;
-        for _ in 0..self.output.nodes.len() {
-            match (&at.kind, self.output.node(at.scope)) {
-                (NodeKind::Struct(it), Some(outer)) if it.is_group => at = outer,
-                _ => break,
-            }
-        }
-        at
     }
 
     // Writes the calls of a struct's fields, and that of its union.
@@ -148,7 +136,7 @@ impl<'m> Builders<'m> {
     fn common_values(&self, node: &'m Node) -> Values {
         let mut values = Values::new(self.alloc);
         values.put("full", node.full.as_str());
-        values.put("owner", self.owner(node).module.as_str());
+        values.put("owner", self.output.owner(node).module.as_str());
         values.put("reading", self.reading);
         values.put("reads", templates::READS);
         values

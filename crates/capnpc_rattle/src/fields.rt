@@ -4,9 +4,10 @@ use crate::forms::{reader_of_list, size_of_elements};
 use crate::names::{ENUM_WORDS, VARIANT_WORDS};
 use crate::output::Output;
 use crate::writing::Module;
-use capnpc_schema::model::{Default, Node, NodeKind, Slot, type_name};
+use capnpc_schema::model::{Default, Node, NodeKind, Slot, lacking, type_name};
 use capnpc_schema::names::capitalized;
 use capnpc_schema::text::{Text, Values};
+use capnpc_schema::types::BaseKind;
 use std::alloc::Global;
 
 /// Puts what the calls of a field have in common: its type and its place, and its default value.
@@ -39,8 +40,13 @@ pub fn put_slot(output: &Output<'_>, slot: &Slot, values: &mut Values) {
 
 /// Puts what names the declaration of a struct or an enum, and notes that the module does.
 pub fn put_declared(module: &mut Module, node: &Node, values: &mut Values) {
+    module.put_path(node.module.as_str(), values);
+    put_names(module, node, values);
+}
+
+/// Puts the same, except for the path.
+pub fn put_names(module: &mut Module, node: &Node, values: &mut Values) {
     let of = node.module.as_str();
-    module.put_path(of, values);
     values.put("module", of);
     if let NodeKind::Enum(names) = &node.kind {
         module.numbers.add_once(module.alloc, of);
@@ -78,6 +84,47 @@ pub fn enum_type_name(alloc: Global, node: &Node) -> Text {
         name.push_char('_');
     }
     name
+}
+
+/// Why a field has no getter; empty if it has one.
+pub fn skip_reason(nodes: &[Node], slot: &Slot) -> &'static str {
+    if matches!(slot.default, Default::Words(_))
+        && slot.of.lists == 0
+        && !matches!(slot.of.base.kind, BaseKind::Struct)
+    {
+        return "it has a default value, and can lead to anything";
+    }
+    lacking(nodes, slot)
+}
+
+/// Bytes as a literal of Rust's that is a byte string.
+pub fn bytes_literal(alloc: Global, bytes: &[u8]) -> Text {
+    let mut literal = Text::new(alloc);
+    literal.push("b\"");
+    for byte in bytes {
+        literal.push_escaped_byte(*byte);
+    }
+    literal.push("\"");
+    literal
+}
+
+/// A text as a literal of Rust's; `None` if it isn't UTF-8.
+pub fn text_literal(alloc: Global, bytes: &[u8]) -> Option<Text> {
+    let text = str::from_utf8(bytes).ok()?;
+    let mut literal = Text::new(alloc);
+    literal.push("\"");
+    for c in text.chars() {
+        match c {
+            '"' | '\\' => {
+                literal.push("\\");
+                literal.push_char(c);
+            }
+            '\x00'..='\x1f' | '\x7f' => literal.push_escaped_byte(c as u8),
+            _ => literal.push_char(c),
+        }
+    }
+    literal.push("\"");
+    Some(literal)
 }
 
 // Bytes as a list of the prover's.

@@ -148,12 +148,12 @@ const BOOL: &Form = &Form {
 gives=~rust~
 sense=≡
 value=bits_in ~bit~ ~bits~ t
-read=value::get_bool(&self.reader, ~index~)",
+read=value::get_bool(&self.~in~reader, ~index~)",
     read_or: "type=ℕ
 gives=~rust~
 sense=≢
 value=bits_in ~bit~ ~bits~ t
-read=value::get_bool_or(&self.reader, ~index~, true)",
+read=value::get_bool_or(&self.~in~reader, ~index~, true)",
     getter: templates::BOOL,
     getter_or: templates::BOOL,
     build: "value_type=bool
@@ -185,11 +185,11 @@ const SIGNED: &Form = &Form {
     read: "type=ℕ
 gives=~rust~
 value=bits_in ~bit~ ~bits~ t
-read=value::get_number(&self.reader, ~index~)",
+read=value::get_number(&self.~in~reader, ~index~)",
     read_or: "type=ℕ
 gives=~rust~
 value=bit_xor (bits_in ~bit~ ~bits~ t) ~mask~
-read=value::get_number_or::<A, ~rust~>(&self.reader, ~index~, ~literal~)",
+read=value::get_number_or::<A, ~rust~>(&self.~in~reader, ~index~, ~literal~)",
     getter: templates::SIGNED,
     getter_or: templates::SIGNED,
     build: "value_type=~rust~
@@ -222,11 +222,11 @@ const UNSIGNED: &Form = &Form {
     read: "type=ℕ
 gives=~rust~
 value=bits_in ~bit~ ~bits~ t
-read=value::get_number(&self.reader, ~index~)",
+read=value::get_number(&self.~in~reader, ~index~)",
     read_or: "type=ℕ
 gives=~rust~
 value=bit_xor (bits_in ~bit~ ~bits~ t) ~mask~
-read=value::get_number_or::<A, ~rust~>(&self.reader, ~index~, ~literal~)",
+read=value::get_number_or::<A, ~rust~>(&self.~in~reader, ~index~, ~literal~)",
     getter: templates::UNSIGNED,
     getter_or: templates::UNSIGNED,
     build: "value_type=~rust~
@@ -259,12 +259,12 @@ const ENUM: &Form = &Form {
     read: "type=ℕ
 gives=~rust~
 value=bits_in ~bit~ ~bits~ t
-read=value::get_number(&self.reader, ~index~)
+read=value::get_number(&self.~in~reader, ~index~)
 gives=Result<~path~~enum~, NotInSchema>",
     read_or: "type=ℕ
 gives=~rust~
 value=bit_xor (bits_in ~bit~ ~bits~ t) ~mask~
-read=value::get_number_or::<A, ~rust~>(&self.reader, ~index~, ~literal~)
+read=value::get_number_or::<A, ~rust~>(&self.~in~reader, ~index~, ~literal~)
 gives=Result<~path~~enum~, NotInSchema>",
     getter: templates::ENUM,
     getter_or: templates::ENUM,
@@ -299,12 +299,12 @@ const TEXT: &Form = &Form {
 gives=Result<&'a [u8], ErrorKind>
 type=List ℕ
 value=text_bytes (child ~index~ t)
-read=value::get_text(&self.reader, ~index~, lim)",
+read=value::get_text(&self.~in~reader, ~index~, lim)",
     read_or: "params=&self;lim: &mut ReadLimiter
 gives=Result<&'a [u8], ErrorKind>
 type=List ℕ
 value=text_or (~numbers~) (child ~index~ t)
-read=let default =~literal~;~line~value::get_text_or(&self.reader, ~index~, default, lim)",
+read=let default =~literal~;~line~value::get_text_or(&self.~in~reader, ~index~, default, lim)",
     getter: templates::TEXT,
     getter_or: templates::TEXT,
     build: "",
@@ -321,12 +321,12 @@ const DATA: &Form = &Form {
 gives=Result<&'a [u8], ErrorKind>
 type=List ℕ
 value=list_numbers (child ~index~ t)
-read=value::get_data(&self.reader, ~index~, lim)",
+read=value::get_data(&self.~in~reader, ~index~, lim)",
     read_or: "params=&self;lim: &mut ReadLimiter
 gives=Result<&'a [u8], ErrorKind>
 type=List ℕ
 value=data_or (~numbers~) (child ~index~ t)
-read=let default =~literal~;~line~value::get_data_or(&self.reader, ~index~, default, lim)",
+read=let default =~literal~;~line~value::get_data_or(&self.~in~reader, ~index~, default, lim)",
     getter: templates::DATA,
     getter_or: templates::DATA,
     build: "",
@@ -425,13 +425,13 @@ value=child ~index~ t
 params=&self;lim: &mut ReadLimiter
 list=r.list.reader
 gives=Result<~path~Readers<'a, A>, ErrorKind>
-read=match list::get_structs(&self.reader, ~index~, lim) {~line~    Ok(list) => Ok(~path~Readers { list }),~line~    Err(k) => Err(k),~line~}",
+read=match list::get_structs(&self.~in~reader, ~index~, lim) {~line~    Ok(list) => Ok(~path~Readers { list }),~line~    Err(k) => Err(k),~line~}",
     read_or: "type=Tree
 value=child ~index~ t
 params=&self;lim: &mut ReadLimiter
 list=r.list.reader
 gives=Result<~path~Readers<'a, A>, ErrorKind>
-read=match list::get_structs_or(&self.reader, ~index~, default, lim) {~line~    Ok(list) => Ok(~path~Readers { list }),~line~    Err(k) => Err(k),~line~}",
+read=match list::get_structs_or(&self.~in~reader, ~index~, default, lim) {~line~    Ok(list) => Ok(~path~Readers { list }),~line~    Err(k) => Err(k),~line~}",
     getter: templates::LIST,
     getter_or: templates::LIST_OR,
     build: "from=&~reading~::~module~::Readers<'_, B>
@@ -464,13 +464,13 @@ value=child ~index~ t
 params=&self;lim: &mut ReadLimiter
 list=r.reader
 gives=Result<~reader~<'a, A~arguments~>, ErrorKind>
-read=list::~get~(&self.reader, ~index~, lim)",
+read=list::~get~(&self.~in~reader, ~index~, lim)",
     read_or: "type=Tree
 value=child ~index~ t
 params=&self;lim: &mut ReadLimiter
 list=r.reader
 gives=Result<~reader~<'a, A~arguments~>, ErrorKind>
-read=list::~get~_or(&self.reader, ~index~, default, lim)",
+read=list::~get~_or(&self.~in~reader, ~index~, default, lim)",
     getter: templates::LIST,
     getter_or: templates::LIST_OR,
     build: "from=&~reader~<'_, B~arguments~>

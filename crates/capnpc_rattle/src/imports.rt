@@ -30,6 +30,14 @@ pub const BUILDERS: &Kind = &Kind {
     imports: BUILDER_IMPORTS,
 };
 
+/// Readers of checked messages.
+pub const CHECKING: &Kind = &Kind {
+    about: "Readers of checked messages",
+    definitions: "Table",
+    ghost_imports: CHECKING_GHOST_IMPORTS,
+    imports: CHECKING_IMPORTS,
+};
+
 // Names of clauses of readers.
 const GHOST_IMPORTS: &str = "Rattle.std.specs.Prelude
  ≡ |◌≡◌
@@ -409,3 +417,135 @@ typed_reading::list
 &NumbersReader<|NumbersReader
 &PointersReader<|PointersReader
 &TextsReader<|TextsReader";
+
+// Names of clauses of readers of checked messages.
+const CHECKING_GHOST_IMPORTS: &str = "Rattle.std.specs.Prelude
+ ≡ |◌≡◌
+ ≢ |◌≢◌
+ ⊎ |◌⊎◌
+ < |◌<◌
+ ≤ |◌≤◌
+ + |◌+◌
+ ↔ |◌↔◌
+ℕ)|ℕ
+(IsTrue |IsTrue
+IfOk |IfOk
+IfErr |IfErr
+IfSome |IfSome
+IsOk |IsOk
+(IsSome |IsSome
+OnOk |OnOk
+⊤ }|⊤
+
+Rattle.std.specs.Int
+ cast_unsigned |cast_unsigned
+ w8 |w8
+ w16 |w16
+ w32 |w32
+ w64 |w64
+
+Rattle.capnp_format.specs.Bytes
+ message (|message
+
+Rattle.capnp_format.specs.Means
+ Means |Means
+
+Rattle.capnp_format.specs.Tree
+ Tree) |Tree
+ Capability |Capability
+ Null)|Null
+
+Rattle.capnp_words.specs.Meter
+ Affords |Affords
+(charged |charged
+
+Rattle.capnp_arena_traits.specs.Checks
+ Holds |Holds
+(Holds |Holds
+
+Rattle.capnp_objects.specs.Reading
+(word_of |word_of
+
+Rattle.capnp_objects.specs.Source
+(levels |levels
+
+Rattle.capnp_objects.specs.Spending
+(Paid |Paid
+(pointers_in |pointers_in
+
+Rattle.capnp_readers.specs.Readers
+(read_by |read_by
+ read_by |read_by
+
+Rattle.capnp_readers.specs.Values
+ HasStructs |HasStructs
+ HasValue |HasValue
+ ShowsListOf |ShowsListOf
+ ShowsStructOf |ShowsStructOf
+ list_length |list_length
+(struct_element |struct_element
+
+Rattle.typed_reading.specs.Outcomes
+ capability_index|capability_index
+
+Rattle.typed_reading.specs.Sections
+ ShowsSectionsOf |ShowsSectionsOf
+(pointer_field |pointer_field
+ pointer_field |pointer_field
+
+Rattle.typed_reading.specs.Values
+(child |child
+
+Rattle.typed_conforming.specs.Blame
+IsTrueFrom |IsTrueFrom
+ arena_root |arena_root
+(first_visit |first_visit
+
+Rattle.typed_conforming.specs.Conforms
+ Conforms |Conforms
+
+Rattle.typed_conforming.specs.Walk
+ misfit_at |misfit_at
+(rowless_pointer |rowless_pointer
+
+Rattle.typed_conforming.specs.declared.schema.Kind.TheVariants
+(Struct |Struct";
+
+// Names of code of readers of checked messages.
+const CHECKING_IMPORTS: &str = "capnp_arena_traits::arena
+ A: ReaderArena>|ReaderArena
+
+capnp_readers::readers
+ PointerReader<|PointerReader
+
+capnp_words::error
+ ErrorKind>|ErrorKind
+
+capnp_words::read_limiter
+&mut ReadLimiter|ReadLimiter
+
+std::alloc
+ AllocError>|AllocError
+
+typed_checking::rows
+ RowStruct<|RowStruct
+ RowStructs<|RowStructs
+
+typed_checking::schema
+[Member(|Member
+impl Schema|Schema
+
+typed_conforming::schema
+ Misfit>|Misfit
+
+typed_reading::error
+ NotInSchema>|NotInSchema
+
+typed_reading::list
+ NumbersReader<|NumbersReader
+<NumbersReader<|NumbersReader
+
+typed_reading
+ value::|value
+(value::|value
+!value::|value";

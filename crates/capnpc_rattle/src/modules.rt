@@ -1,6 +1,6 @@
 //! Names the modules of a generated crate.
 
-use crate::names::{MODULE_WORDS, module_name};
+use crate::names::{MODULE_WORDS, TABLE_MODULE, module_name};
 use capnpc_schema::model::{Node, NodeKind, find_node};
 use capnpc_schema::names::Names;
 use capnpc_schema::noted::Noted;
@@ -47,6 +47,7 @@ pub fn is_declared_in(nodes: &[Node], node: &Node, file: u64) -> bool {
 /// Names the module of each declaration that is written, and then the modules of unions.
 pub fn name_modules(nodes: &mut Vec<Node>, order: &[usize], noted: &mut Noted) {
     let mut taken = Names::new(noted.alloc);
+    taken.add(noted.alloc, TABLE_MODULE);
     for i in order {
         if let Some(node) = nodes.get_mut(*i) {
             name_module(node, &mut taken, noted);

@@ -15,6 +15,10 @@ pub const MODULE_WORDS: &[&str] = &[
     "copying", "groups", "opening", "places", "reading",
 ];
 
+/// The module of the table in a crate of readers of checked messages. No module of a declaration has this
+/// name.
+pub const TABLE_MODULE: &str = "schema_table";
+
 /// Names that an enum and its variants can't have.
 pub const VARIANT_WORDS: &[&str] = &["Self", "Type", "Below"];
 

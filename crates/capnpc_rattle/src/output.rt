@@ -60,6 +60,18 @@ impl<'m> Output<'m> {
         find_node(self.nodes, id)
     }
 
+    /// The struct that a struct or a group is in.
+    pub fn owner(&self, node: &'m Node) -> &'m Node {
+        let mut at = node;
+        for _ in 0..self.nodes.len() {
+            match (&at.kind, self.node(at.scope)) {
+                (NodeKind::Struct(it), Some(outer)) if it.is_group => at = outer,
+                _ => break,
+            }
+        }
+        at
+    }
+
     /// Returns the files that are written.
     pub fn into_files(self) -> Result<Vec<File>, AllocError> {
         if self.has_failed || self.modules.has_failed || self.numbers.has_failed {

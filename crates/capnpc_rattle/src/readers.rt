@@ -1,7 +1,7 @@
 //! Generates readers.
 
 use crate::fields::{
-    enum_type_name, push_field_comment, push_skip_comment, put_declared, put_slot,
+    enum_type_name, push_field_comment, push_skip_comment, put_declared, put_slot, skip_reason,
 };
 use crate::forms::form_of;
 use crate::imports::READERS;
@@ -10,10 +10,9 @@ use crate::output::Output;
 use crate::templates;
 use crate::writing::Module;
 use capnpc_schema::files::File;
-use capnpc_schema::model::{Default, Field, FieldKind, Node, NodeKind, Slot, Struct, lacking};
+use capnpc_schema::model::{Default, Field, FieldKind, Node, NodeKind, Slot, Struct};
 use capnpc_schema::names::Names;
 use capnpc_schema::text::{Text, Values};
-use capnpc_schema::types::BaseKind;
 use std::alloc::{AllocError, Global};
 
 /// What is generated for readers.
@@ -199,7 +198,7 @@ impl<'m> Readers<'m> {
         match &field.kind {
             FieldKind::Group(id) => self.write_group_getter(module, *id, values),
             FieldKind::Slot(slot) => {
-                let why = self.skip_reason(slot);
+                let why = skip_reason(self.output.nodes, slot);
                 if !why.is_empty() {
                     self.skip_field(module, why, values);
                 } else if !slot.of.is_void() {
@@ -228,17 +227,6 @@ impl<'m> Readers<'m> {
         push_skip_comment(module, why, values);
         self.skipped
             .push_filled("~full~.~name~ isn't written: ~why~\n", values);
-    }
-
-    // Why a field has no getter; empty if it has one.
-    fn skip_reason(&self, slot: &Slot) -> &'static str {
-        if matches!(slot.default, Default::Words(_))
-            && slot.of.lists == 0
-            && !matches!(slot.of.base.kind, BaseKind::Struct)
-        {
-            return "it has a default value, and can lead to anything";
-        }
-        lacking(self.output.nodes, slot)
     }
 
     // Writes the getter of a field that isn't a group, and of a pointer the call that says whether it is

@@ -99,9 +99,9 @@ impl<'a, A: ReaderArena> Readers<'a, A> {
 
 /// A number without a sign, or the bits of a float.
 pub const UNSIGNED: &str =
-    "        ensures value { (t : Tree) → ShowsStructOf A.ReaderArena self.now.reader t
+    "        ensures value { (t : Tree) → ShowsStructOf A.ReaderArena self.now.~in~reader t
             → result ≡ ~spec~ t }
-        ensures sections { (t : Tree) → ShowsSectionsOf A.ReaderArena self.now.reader t
+        ensures sections { (t : Tree) → ShowsSectionsOf A.ReaderArena self.now.~in~reader t
             → result ≡ ~spec~ t }
     {
         ~read~
@@ -110,9 +110,9 @@ pub const UNSIGNED: &str =
 
 /// A number with a sign.
 pub const SIGNED: &str =
-    "        ensures value { (t : Tree) → ShowsStructOf A.ReaderArena self.now.reader t
+    "        ensures value { (t : Tree) → ShowsStructOf A.ReaderArena self.now.~in~reader t
             → cast_unsigned w~bits~ result ≡ ~spec~ t }
-        ensures sections { (t : Tree) → ShowsSectionsOf A.ReaderArena self.now.reader t
+        ensures sections { (t : Tree) → ShowsSectionsOf A.ReaderArena self.now.~in~reader t
             → cast_unsigned w~bits~ result ≡ ~spec~ t }
     {
         ~read~
@@ -131,7 +131,7 @@ pub const GROUP_PARTS: Lines = "gives=~path~Reader<'a, A>";
 pub const WHICH: Lines = "about=Which member of ~full~ is set.
 type=ℕ
 value=bits_in ~bit~ 16 t
-read=value::get_number(&self.reader, ~index~)
+read=value::get_number(&self.~in~reader, ~index~)
 call=which
 gives=Result<~path~Which, NotInSchema>";
 
@@ -158,9 +158,9 @@ pub const HAS_ABOUT: &str = "
 
 /// A bit.
 pub const BOOL: &str =
-    "        ensures value { (t : Tree) → ShowsStructOf A.ReaderArena self.now.reader t
+    "        ensures value { (t : Tree) → ShowsStructOf A.ReaderArena self.now.~in~reader t
             → (IsTrue result ↔ (~spec~ t ~sense~ 1)) }
-        ensures sections { (t : Tree) → ShowsSectionsOf A.ReaderArena self.now.reader t
+        ensures sections { (t : Tree) → ShowsSectionsOf A.ReaderArena self.now.~in~reader t
             → (IsTrue result ↔ (~spec~ t ~sense~ 1)) }
     {
         ~read~
@@ -169,17 +169,17 @@ pub const BOOL: &str =
 
 /// An enum, or which member of a union is set.
 pub const ENUM: &str =
-    "        ensures value { (t : Tree) → ShowsStructOf A.ReaderArena self.now.reader t
+    "        ensures value { (t : Tree) → ShowsStructOf A.ReaderArena self.now.~in~reader t
             → IfOk result (λ e. ~module~_number e
             ≡ ~spec~ t) }
-        ensures unknown { (t : Tree) → ShowsStructOf A.ReaderArena self.now.reader t
+        ensures unknown { (t : Tree) → ShowsStructOf A.ReaderArena self.now.~in~reader t
             → IfErr result (λ e. (e.0 ≡ ~spec~ t)
             × (~count~ ≤ ~spec~ t)) }
-        ensures sections { (t : Tree) → ShowsSectionsOf A.ReaderArena self.now.reader t
+        ensures sections { (t : Tree) → ShowsSectionsOf A.ReaderArena self.now.~in~reader t
             → IfOk result (λ e. ~module~_number e
             ≡ ~spec~ t) }
         ensures unknown_sections { (t : Tree)
-            → ShowsSectionsOf A.ReaderArena self.now.reader t
+            → ShowsSectionsOf A.ReaderArena self.now.~in~reader t
             → IfErr result (λ e. (e.0 ≡ ~spec~ t)
             × (~count~ ≤ ~spec~ t)) }
     {
@@ -198,15 +198,15 @@ pub const GROUP: &str = "        ensures { result.reader ≡ self.now.reader }
 
 /// A text.
 pub const TEXT: &str =
-    "        ensures value { (t : Tree) → ShowsStructOf A.ReaderArena self.now.reader t
+    "        ensures value { (t : Tree) → ShowsStructOf A.ReaderArena self.now.~in~reader t
             → IfOk result (λ text. text.now ≡ ~spec~ t) }
-        ensures answered { let start = source_start A.ReaderArena self.now.reader.source in
-            (t : Tree) (shows : ShowsStructOf A.ReaderArena self.now.reader t)
+        ensures answered { let start = source_start A.ReaderArena self.now.~in~reader.source in
+            (t : Tree) (shows : ShowsStructOf A.ReaderArena self.now.~in~reader t)
             → IsText (child ~index~ t)
             → Affords start.charging lim.old (child_cost A.ReaderArena shows ~index~)
             → IsOk result }
         ensures exactly { reading_outcome text_expected
-            (pointer_field A.ReaderArena self.now.reader ~index~) lim.old
+            (pointer_field A.ReaderArena self.now.~in~reader ~index~) lim.old
             ≡ (result_err result, lim.new) }
     {
         ~read~
@@ -215,15 +215,15 @@ pub const TEXT: &str =
 
 /// Data.
 pub const DATA: &str =
-    "        ensures value { (t : Tree) → ShowsStructOf A.ReaderArena self.now.reader t
+    "        ensures value { (t : Tree) → ShowsStructOf A.ReaderArena self.now.~in~reader t
             → IfOk result (λ bytes. bytes.now ≡ ~spec~ t) }
-        ensures answered { let start = source_start A.ReaderArena self.now.reader.source in
-            (t : Tree) (shows : ShowsStructOf A.ReaderArena self.now.reader t)
+        ensures answered { let start = source_start A.ReaderArena self.now.~in~reader.source in
+            (t : Tree) (shows : ShowsStructOf A.ReaderArena self.now.~in~reader t)
             → IsBytes (child ~index~ t)
             → Affords start.charging lim.old (child_cost A.ReaderArena shows ~index~)
             → IsOk result }
         ensures exactly { reading_outcome data_expected
-            (pointer_field A.ReaderArena self.now.reader ~index~) lim.old
+            (pointer_field A.ReaderArena self.now.~in~reader ~index~) lim.old
             ≡ (result_err result, lim.new) }
     {
         ~read~
@@ -232,29 +232,29 @@ pub const DATA: &str =
 
 /// A struct.
 pub const STRUCT: &str =
-    "        ensures value { (t : Tree) → ShowsStructOf A.ReaderArena self.now.reader t
+    "        ensures value { (t : Tree) → ShowsStructOf A.ReaderArena self.now.~in~reader t
             → IfOk result (λ r.
             ShowsStructOf A.ReaderArena r.reader (~spec~ t)) }
-        ensures answered { let start = source_start A.ReaderArena self.now.reader.source in
-            (t : Tree) (shows : ShowsStructOf A.ReaderArena self.now.reader t)
+        ensures answered { let start = source_start A.ReaderArena self.now.~in~reader.source in
+            (t : Tree) (shows : ShowsStructOf A.ReaderArena self.now.~in~reader t)
             → IsStructOrNull (~spec~ t)
             → Affords start.charging lim.old (child_cost A.ReaderArena shows ~index~)
             → IsOk result }
-        ensures left { let start = source_start A.ReaderArena self.now.reader.source in
-            (t : Tree) (shows : ShowsStructOf A.ReaderArena self.now.reader t)
+        ensures left { let start = source_start A.ReaderArena self.now.~in~reader.source in
+            (t : Tree) (shows : ShowsStructOf A.ReaderArena self.now.~in~reader t)
             → Affords start.charging lim.old (child_cost A.ReaderArena shows ~index~)
             → IfOk result (λ r.
             (inner : ShowsStructOf A.ReaderArena r.reader (~spec~ t)) (i : ℕ)
             → Affords (source_start A.ReaderArena r.reader.source).charging lim.new
             (child_cost A.ReaderArena inner i)) }
         ensures exactly { reading_outcome struct_expected
-            (pointer_field A.ReaderArena self.now.reader ~index~) lim.old
+            (pointer_field A.ReaderArena self.now.~in~reader ~index~) lim.old
             ≡ (result_err result, lim.new) }
         ensures sections { (t : Tree)
-            → LeadsToSectionsOf (pointer_field A.ReaderArena self.now.reader ~index~) t
+            → LeadsToSectionsOf (pointer_field A.ReaderArena self.now.~in~reader ~index~) t
             → IfOk result (λ r. ShowsSectionsOf A.ReaderArena r.reader t) }
     {
-        match value::get_struct(&self.reader, ~index~, lim) {
+        match value::get_struct(&self.~in~reader, ~index~, lim) {
             Ok(reader) => Ok(~path~Reader { reader }),
             Err(k) => Err(k),
         }
@@ -263,29 +263,29 @@ pub const STRUCT: &str =
 
 /// A struct with a default value.
 pub const STRUCT_OR: &str =
-    "        ensures value { (t : Tree) → ShowsStructOf A.ReaderArena self.now.reader t
+    "        ensures value { (t : Tree) → ShowsStructOf A.ReaderArena self.now.~in~reader t
             → ~spec~ t ≢ Null → IfOk result (λ r.
             ShowsStructOf A.ReaderArena r.reader (~spec~ t)) }
-        ensures default { (t d : Tree) → ShowsStructOf A.ReaderArena self.now.reader t
+        ensures default { (t d : Tree) → ShowsStructOf A.ReaderArena self.now.~in~reader t
             → ~spec~ t ≡ Null
             → IsDefault ~default~ d
             → IfOk result (λ r. ShowsStructOf A.ReaderArena r.reader d) }
-        ensures answered { let start = source_start A.ReaderArena self.now.reader.source in
-            (t : Tree) (shows : ShowsStructOf A.ReaderArena self.now.reader t)
+        ensures answered { let start = source_start A.ReaderArena self.now.~in~reader.source in
+            (t : Tree) (shows : ShowsStructOf A.ReaderArena self.now.~in~reader t)
             → ~spec~ t ≢ Null
             → IsStructOrNull (~spec~ t)
             → Affords start.charging lim.old (child_cost A.ReaderArena shows ~index~)
             → IsOk result }
-        ensures default_answered { (t d : Tree) → ShowsStructOf A.ReaderArena self.now.reader t
+        ensures default_answered { (t d : Tree) → ShowsStructOf A.ReaderArena self.now.~in~reader t
             → ~spec~ t ≡ Null
             → IsDefault ~default~ d
             → IsStructOrNull d → IsOk result }
         ensures exactly { default_outcome struct_expected ~default~
-            (pointer_field A.ReaderArena self.now.reader ~index~) lim.old
+            (pointer_field A.ReaderArena self.now.~in~reader ~index~) lim.old
             ≡ (result_err result, lim.new) }
     {
         let default =~literal~;
-        match value::get_struct_or(&self.reader, ~index~, default, lim) {
+        match value::get_struct_or(&self.~in~reader, ~index~, default, lim) {
             Ok(reader) => Ok(~path~Reader { reader }),
             Err(k) => Err(k),
         }
@@ -294,25 +294,25 @@ pub const STRUCT_OR: &str =
 
 /// A list with a default value.
 pub const LIST_OR: &str =
-    "        ensures value { (t : Tree) → ShowsStructOf A.ReaderArena self.now.reader t
+    "        ensures value { (t : Tree) → ShowsStructOf A.ReaderArena self.now.~in~reader t
             → ~spec~ t ≢ Null → IfOk result (λ r.
             ShowsListOf A.ReaderArena ~list~ (~spec~ t)) }
-        ensures default { (t d : Tree) → ShowsStructOf A.ReaderArena self.now.reader t
+        ensures default { (t d : Tree) → ShowsStructOf A.ReaderArena self.now.~in~reader t
             → ~spec~ t ≡ Null
             → IsDefault ~default~ d
             → IfOk result (λ r. ShowsListOf A.ReaderArena ~list~ d) }
-        ensures answered { let start = source_start A.ReaderArena self.now.reader.source in
-            (t : Tree) (shows : ShowsStructOf A.ReaderArena self.now.reader t)
+        ensures answered { let start = source_start A.ReaderArena self.now.~in~reader.source in
+            (t : Tree) (shows : ShowsStructOf A.ReaderArena self.now.~in~reader t)
             → ~spec~ t ≢ Null
             → FitsSize ~size~ (~spec~ t)
             → Affords start.charging lim.old (child_cost A.ReaderArena shows ~index~)
             → IsOk result }
-        ensures default_answered { (t d : Tree) → ShowsStructOf A.ReaderArena self.now.reader t
+        ensures default_answered { (t d : Tree) → ShowsStructOf A.ReaderArena self.now.~in~reader t
             → ~spec~ t ≡ Null
             → IsDefault ~default~ d
             → FitsSize ~size~ d → IsOk result }
         ensures exactly { default_outcome (list_expected ~size~) ~default~
-            (pointer_field A.ReaderArena self.now.reader ~index~) lim.old
+            (pointer_field A.ReaderArena self.now.~in~reader ~index~) lim.old
             ≡ (result_err result, lim.new) }
     {
         let default =~literal~;
@@ -322,23 +322,23 @@ pub const LIST_OR: &str =
 
 /// A list.
 pub const LIST: &str =
-    "        ensures value { (t : Tree) → ShowsStructOf A.ReaderArena self.now.reader t
+    "        ensures value { (t : Tree) → ShowsStructOf A.ReaderArena self.now.~in~reader t
             → IfOk result (λ r.
             ShowsListOf A.ReaderArena ~list~ (~spec~ t)) }
-        ensures answered { let start = source_start A.ReaderArena self.now.reader.source in
-            (t : Tree) (shows : ShowsStructOf A.ReaderArena self.now.reader t)
+        ensures answered { let start = source_start A.ReaderArena self.now.~in~reader.source in
+            (t : Tree) (shows : ShowsStructOf A.ReaderArena self.now.~in~reader t)
             → FitsSize ~size~ (~spec~ t)
             → Affords start.charging lim.old (child_cost A.ReaderArena shows ~index~)
             → IsOk result }
-        ensures left { let start = source_start A.ReaderArena self.now.reader.source in
-            (t : Tree) (shows : ShowsStructOf A.ReaderArena self.now.reader t)
+        ensures left { let start = source_start A.ReaderArena self.now.~in~reader.source in
+            (t : Tree) (shows : ShowsStructOf A.ReaderArena self.now.~in~reader t)
             → Affords start.charging lim.old (child_cost A.ReaderArena shows ~index~)
             → IfOk result (λ r.
             (inner : ShowsListOf A.ReaderArena ~list~ (~spec~ t))
             → Affords (source_start A.ReaderArena ~list~.source).charging lim.new
             inner.cost) }
         ensures exactly { reading_outcome (list_expected ~size~)
-            (pointer_field A.ReaderArena self.now.reader ~index~) lim.old
+            (pointer_field A.ReaderArena self.now.~in~reader ~index~) lim.old
             ≡ (result_err result, lim.new) }
     {
         ~read~
@@ -347,34 +347,34 @@ pub const LIST: &str =
 
 /// A pointer that can lead to anything.
 pub const POINTER: &str =
-    "        ensures value { (t : Tree) → ShowsStructOf A.ReaderArena self.now.reader t
+    "        ensures value { (t : Tree) → ShowsStructOf A.ReaderArena self.now.~in~reader t
             → HasValue (read_by A.ReaderArena result) (~spec~ t) }
         ensures place { read_by A.ReaderArena result
-            ≡ pointer_field A.ReaderArena self.now.reader ~index~ }
+            ≡ pointer_field A.ReaderArena self.now.~in~reader ~index~ }
     {
-        value::get_pointer(&self.reader, ~index~)
+        value::get_pointer(&self.~in~reader, ~index~)
     }
 ";
 
 /// A capability.
 pub const CAPABILITY: &str =
-    "        ensures value { (t : Tree) (i : ℕ) → ShowsStructOf A.ReaderArena self.now.reader t
+    "        ensures value { (t : Tree) (i : ℕ) → ShowsStructOf A.ReaderArena self.now.~in~reader t
             → ~spec~ t ≡ Capability i → IfOk result (λ n. n ≡ i) }
         ensures exactly { result ≡ capability_index
-            (word_of (pointer_field A.ReaderArena self.now.reader ~index~)) }
+            (word_of (pointer_field A.ReaderArena self.now.~in~reader ~index~)) }
     {
-        value::get_capability(&self.reader, ~index~)
+        value::get_capability(&self.~in~reader, ~index~)
     }
 ";
 
 /// Whether a pointer is set.
 pub const HAS: &str =
-    "        ensures value { (t : Tree) → ShowsStructOf A.ReaderArena self.now.reader t
+    "        ensures value { (t : Tree) → ShowsStructOf A.ReaderArena self.now.~in~reader t
             → (IsTrue result ↔ (child ~index~ t ≢ Null)) }
         ensures word { IsTrue result
-            ↔ (word_of (pointer_field A.ReaderArena self.now.reader ~index~) ≢ 0) }
+            ↔ (word_of (pointer_field A.ReaderArena self.now.~in~reader ~index~) ≢ 0) }
     {
-        value::has(&self.reader, ~index~)
+        value::has(&self.~in~reader, ~index~)
     }
 ";
 
@@ -437,4 +437,8 @@ pub const SPECS_IMPORT: &str = "ghost use Rattle.~reading~.specs.Schema.{~specs~
 
 /// How a module imports the numbers of an enum.
 pub const NUMBERS_IMPORT: &str = "ghost use Rattle.~reading~.specs.Of~file~.{~module~_number};
+";
+
+/// How a module imports the definition of the schema's table.
+pub const TABLE_IMPORT: &str = "ghost use Rattle.~crate~.specs.Table.{schema_table};
 ";

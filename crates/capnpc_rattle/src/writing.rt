@@ -27,6 +27,10 @@ pub struct Module {
     pub numbers: Names,
     /// The modules that it names.
     pub modules: Names,
+    /// The modules of the crate of readers that it names.
+    pub outside: Names,
+    /// Whether it names the definition of the schema's table.
+    pub has_table: bool,
 }
 
 impl Module {
@@ -42,6 +46,8 @@ impl Module {
             sizes: Names::new(alloc),
             numbers: Names::new(alloc),
             modules: Names::new(alloc),
+            outside: Names::new(alloc),
+            has_table: false,
         }
     }
 
@@ -141,9 +147,13 @@ impl Module {
             return;
         }
         self.modules.add_once(self.alloc, other);
-        let mut path = Text::new(self.alloc);
-        path.push_all(&[other, "::"]);
-        values.put_text("path", path);
+        put_module_path(self.alloc, other, values);
+    }
+
+    /// Puts the same for a module of the crate of readers.
+    pub fn put_outside(&mut self, other: &str, values: &mut Values) {
+        self.outside.add_once(self.alloc, other);
+        put_module_path(self.alloc, other, values);
     }
 
     /// Returns the text of the module's file.
@@ -166,7 +176,9 @@ impl Module {
         self.push_own_imports(&mut text, &mut values);
         text.push("\n");
         self.modules.sort();
-        push_module_imports(alloc, &mut text, &self.modules);
+        push_module_imports(alloc, &mut text, "crate", &self.modules);
+        self.outside.sort();
+        push_module_imports(alloc, &mut text, reading, &self.outside);
         let mut uses = Text::new(alloc);
         push_imports(
             alloc,
@@ -186,6 +198,9 @@ impl Module {
 
     // Appends the imports of the crate's own definitions.
     fn push_own_imports(&self, text: &mut Text, values: &mut Values) {
+        if self.has_table {
+            text.push_filled(templates::TABLE_IMPORT, values);
+        }
         self.push_own_import(templates::SIZES_IMPORT, &self.sizes, text, values);
         self.push_own_import(templates::SPECS_IMPORT, &self.specs, text, values);
         for module in self.numbers.as_slice() {
@@ -209,6 +224,13 @@ impl Module {
     }
 }
 
+// Puts the path of a module's items.
+fn put_module_path(alloc: Global, module: &str, values: &mut Values) {
+    let mut path = Text::new(alloc);
+    path.push_all(&[module, "::"]);
+    values.put_text("path", path);
+}
+
 // Appends imports, with the two that `rt fmt` makes one of as one.
 fn push_joined_imports(text: &mut Text, uses: &str) {
     match uses.split_once(BOTH) {
@@ -220,25 +242,26 @@ fn push_joined_imports(text: &mut Text, uses: &str) {
     }
 }
 
-// Appends the import of modules of the crate, in the layout of `rt fmt`.
-fn push_module_imports(alloc: Global, to: &mut Text, modules: &Names) {
+// Appends the import of modules of a crate, in the layout of `rt fmt`.
+fn push_module_imports(alloc: Global, to: &mut Text, from: &str, modules: &Names) {
     let mut all = Text::new(alloc);
     modules.join_into(&mut all);
     let mut values = Values::new(alloc);
     values.put_text("all", all);
+    values.put("from", from);
     let count = modules.as_slice().len();
     if count == 1 {
-        to.push_filled("use crate::~all~;\n", &values);
-    } else if count > 1 && values.get("all").len() <= 86 {
-        to.push_filled("use crate::{~all~};\n", &values);
+        to.push_filled("use ~from~::~all~;\n", &values);
+    } else if count > 1 && values.get("all").len().saturating_add(from.len()) <= 91 {
+        to.push_filled("use ~from~::{~all~};\n", &values);
     } else if count > 1 {
-        push_module_import_lines(to, modules.as_slice());
+        push_module_import_lines(to, from, modules.as_slice());
     }
 }
 
 // Appends an import of modules that takes more than one line.
-fn push_module_import_lines(to: &mut Text, modules: &[String]) {
-    to.push("use crate::{\n   ");
+fn push_module_import_lines(to: &mut Text, from: &str, modules: &[String]) {
+    to.push_all(&["use ", from, "::{\n   "]);
     let mut column = 3u64;
     for module in modules {
         let width = (module.len() as u64).saturating_add(2);

@@ -1,0 +1,11 @@
+use Rattle.std.proofs.Common.{IsTrue, rules}
+use Rattle.capnp_readers.specs.Values.{struct_data}
+use Rattle.typed_conforming.specs.declared.schema.Kind.TheVariants.{Data}
+use Rattle.typed_checking.proofs.Given.{wanted_given}
+use Rattle.typed_checking.proofs.rows.RowStruct.get_member_data.Goals as goal
+
+pub get_data-requires : goal.get_data-requires
+get_data-requires g c = λ t shows.
+    let are_set : IsTrue c.are_set.result = search rules in
+    let set = (c.are_set.ensures t (rw c.checked.ensures.reader at shows)).0 are_set in
+    rw (c.checked.ensures.table, c.checked.ensures.row) (wanted_given g.S.Schema.table g.row.ROW c.args.members.now (struct_data t) c.args.index Data set c.requires)
