@@ -4,7 +4,7 @@
 use crate::proved::capnp_canonical::calls::Limits;
 use crate::proved::capnp_canonical::frames::message_in;
 use crate::proved::capnp_canonical::refusal::Refusal;
-use crate::proved::capnp_canonical::segments::LentSegments;
+use crate::proved::capnp_canonical::segments::lent_message;
 use crate::proved::capnp_canonical::taking::{lend_part_words, lend_words, Prefix};
 use crate::proved::capnp_canonical::words::message_of;
 use crate::proved::support::alloc::Global;
@@ -28,7 +28,7 @@ pub fn digest_segments_after(
     segments: &[&[u8]],
     limits: Limits,
 ) -> Result<[u8; 32], Refusal> {
-    let lent = LentSegments::new(segments)?;
+    let lent = lent_message(segments)?;
     lend_words(alloc, lent, limits, &mut Prefix { bytes: prefix })
 }
 
@@ -64,7 +64,7 @@ pub fn digest_segments_part_after(
     path: &[u32],
     limits: Limits,
 ) -> Result<[u8; 32], Refusal> {
-    let lent = LentSegments::new(segments)?;
+    let lent = lent_message(segments)?;
     lend_part_words(alloc, lent, path, limits, &mut Prefix { bytes: prefix })
 }
 

@@ -3,7 +3,7 @@
 use crate::proved::capnp_canonical::calls::Limits;
 use crate::proved::capnp_canonical::frames::message_in;
 use crate::proved::capnp_canonical::refusal::Refusal;
-use crate::proved::capnp_canonical::segments::LentSegments;
+use crate::proved::capnp_canonical::segments::lent_message;
 use crate::proved::capnp_canonical::taking::{lend_words, Beside, WordTaker};
 use crate::proved::capnp_canonical::words::message_of;
 use crate::proved::support::alloc::Global;
@@ -39,7 +39,7 @@ impl WordTaker for OtherSegments<'_> {
     type Output = Result<bool, Refusal>;
 
     fn take(&mut self, words: &[u8]) -> Result<bool, Refusal> {
-        match LentSegments::new(self.bytes) {
+        match lent_message(self.bytes) {
             Ok(lent) => lend_words(self.alloc, lent, self.limits, &mut Beside { words }),
             Err(refusal) => Err(refusal),
         }
@@ -83,7 +83,7 @@ fn equal_segments(
     other: &[&[u8]],
     limits: Limits,
 ) -> Result<bool, Refusal> {
-    let first = LentSegments::new(one)?;
+    let first = lent_message(one)?;
     let mut other = OtherSegments {
         alloc,
         bytes: other,

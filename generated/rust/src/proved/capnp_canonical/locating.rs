@@ -4,7 +4,7 @@ use crate::proved::capnp_arena::arena::ReaderSegments;
 use crate::proved::capnp_canonical::calls::Limits;
 use crate::proved::capnp_canonical::frames::message_in;
 use crate::proved::capnp_canonical::refusal::Refusal;
-use crate::proved::capnp_canonical::segments::LentSegments;
+use crate::proved::capnp_canonical::segments::lent_message;
 use crate::proved::capnp_canonical::words::message_of;
 use crate::proved::capnp_messages::messages::{Command, Form};
 use crate::proved::capnp_refusals::refusals::{refused_pointer, RefusedPointer};
@@ -84,7 +84,7 @@ pub fn locate_in_segments(
     limits: Limits,
     reading: u32,
 ) -> Result<BrokenPointer, Refusal> {
-    let lent = LentSegments::new(segments)?;
+    let lent = lent_message(segments)?;
     Ok(locate(lent, limits, reading))
 }
 

@@ -5,7 +5,7 @@ use crate::proved::capnp_arena::arena::{ReaderArenaImpl, ReaderSegments};
 use crate::proved::capnp_canonical::calls::Limits;
 use crate::proved::capnp_canonical::frames::message_in;
 use crate::proved::capnp_canonical::refusal::Refusal;
-use crate::proved::capnp_canonical::segments::LentSegments;
+use crate::proved::capnp_canonical::segments::lent_message;
 use crate::proved::capnp_canonical::taking::{lend_part_words, Room};
 use crate::proved::capnp_canonical::words::message_of;
 use crate::proved::capnp_messages::messages;
@@ -91,7 +91,7 @@ pub fn copy_segments_part(
     limits: Limits,
     to: &mut [u8],
 ) -> Result<usize, Refusal> {
-    let lent = LentSegments::new(segments)?;
+    let lent = lent_message(segments)?;
     copy_at(alloc, lent, path, limits, to)
 }
 
@@ -101,7 +101,7 @@ pub fn size_segments_part(
     path: &[u32],
     limits: Limits,
 ) -> Result<MessageSize, Refusal> {
-    let lent = LentSegments::new(segments)?;
+    let lent = lent_message(segments)?;
     size_at(lent, path, limits)
 }
 

@@ -4,7 +4,7 @@ use crate::proved::capnp_arena::arena::{ReaderArenaImpl, ReaderSegments};
 use crate::proved::capnp_canonical::calls::Limits;
 use crate::proved::capnp_canonical::frames::message_in;
 use crate::proved::capnp_canonical::refusal::Refusal;
-use crate::proved::capnp_canonical::segments::LentSegments;
+use crate::proved::capnp_canonical::segments::lent_message;
 use crate::proved::capnp_canonical::words::message_of;
 use crate::proved::capnp_messages::messages;
 use crate::proved::capnp_messages::messages::MessageExtent;
@@ -71,7 +71,7 @@ pub fn validate_frame(frame: &[u8], limits: Limits) -> Result<SoundMessage, Refu
 
 /// The same for the message of these segments.
 pub fn validate_segments(segments: &[&[u8]], limits: Limits) -> Result<SoundMessage, Refusal> {
-    let lent = LentSegments::new(segments)?;
+    let lent = lent_message(segments)?;
     validate(lent, limits)
 }
 

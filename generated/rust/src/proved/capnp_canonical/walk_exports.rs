@@ -4,7 +4,7 @@ use crate::proved::capnp_arena::arena::ReaderSegments;
 use crate::proved::capnp_canonical::calls::Limits;
 use crate::proved::capnp_canonical::frames::message_in;
 use crate::proved::capnp_canonical::refusal::Refusal;
-use crate::proved::capnp_canonical::segments::LentSegments;
+use crate::proved::capnp_canonical::segments::lent_message;
 use crate::proved::capnp_canonical::words::message_of;
 use crate::proved::capnp_walks::walks::{walk_message, WalkedObject};
 
@@ -70,7 +70,7 @@ pub fn capnp_canonical_segments_walk(
     objects: &mut [WalkedObject],
     count: &mut usize,
 ) -> u32 {
-    match LentSegments::new(segments) {
+    match lent_message(segments) {
         Ok(lent) => walk(lent, Limits { nesting, words }, objects, count),
         Err(refusal) => {
             *count = 0;

@@ -4,11 +4,20 @@
 use crate::proved::capnp_arena::arena::OutputSegments;
 use crate::proved::capnp_canonical::calls::{check, copy, size, Limits};
 use crate::proved::capnp_canonical::refusal::Refusal;
-use crate::proved::capnp_canonical::segments::without_null;
 use crate::proved::capnp_messages::messages::Form;
 use crate::proved::capnp_objects::pointers::{CanonicalFault, MessageSize};
 use crate::proved::capnp_words::error::ErrorKind;
 use crate::proved::support::alloc::Global;
+
+/// Returns `bytes`. If `bytes` is empty, returns an empty slice with another pointer, because C may
+/// have passed a null pointer.
+fn without_null(bytes: &[u8]) -> &[u8] {
+    if bytes.is_empty() {
+        &[]
+    } else {
+        bytes
+    }
+}
 
 /// Returns the message whose one segment is `words`. Refuses with `SegmentIsNotWholeWords` if
 /// `words` isn't whole words, and with `MessageTooLarge` if it is 2^32 words or more.

@@ -16,7 +16,19 @@ pub trait ReaderSegments {
     }
 }
 
-/// Borrowed segments: fewer than 2^32, each of fewer than 2^32 words.
+/// Returns `bytes`. If `bytes` is empty, returns an empty slice with another pointer, because C may
+/// have passed a null pointer.
+#[inline]
+fn without_null(bytes: &[u8]) -> &[u8] {
+    if bytes.is_empty() {
+        &[]
+    } else {
+        bytes
+    }
+}
+
+/// Borrowed segments: fewer than 2^32, each of fewer than 2^32 words. C may have lent an empty one as
+/// a null pointer.
 #[derive(Clone, Copy)]
 pub struct SegmentArray<'a> {
     segments: &'a [&'a [u8]],
@@ -42,7 +54,7 @@ impl ReaderSegments for SegmentArray<'_> {
     #[inline]
     fn get_segment(&self, id: u32) -> Option<&[u8]> {
         match self.segments.get(id as usize) {
-            Some(s) => Some(*s),
+            Some(s) => Some(without_null(*s)),
             None => None,
         }
     }

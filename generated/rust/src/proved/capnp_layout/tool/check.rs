@@ -4,7 +4,8 @@ use super::args::Args;
 use super::limits::ensure_small;
 use super::lines::Message;
 use crate::proved::capnp_arena::arena::{ReaderArenaImpl, ReaderOptions};
-use crate::proved::capnp_layout::framing::read_root;
+use crate::proved::capnp_messages::messages::read_root;
+use crate::proved::capnp_readers::readers::PointerReader;
 use crate::proved::capnp_words::error::ErrorKind;
 use crate::proved::capnp_words::read_limiter::ReadLimiter;
 
@@ -19,5 +20,5 @@ pub(in crate::proved::capnp_layout) fn is_canonical(
     let mut lim = ReadLimiter::new(options.traversal_limit_in_words);
     let root = read_root(&arena, &mut lim)?;
     let mut head = 1;
-    root.is_canonical(&mut lim, &mut head)
+    PointerReader::from_pointer(root).is_canonical(&mut lim, &mut head)
 }
