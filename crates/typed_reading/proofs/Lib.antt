@@ -4,3 +4,4 @@ pub mod Root
 pub mod Outcomes
 pub mod Sections
 pub mod Left
+pub mod Lists

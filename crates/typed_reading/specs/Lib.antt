@@ -1,3 +1,4 @@
 pub mod Values
 pub mod Sections
 pub mod Outcomes
+pub mod Lists

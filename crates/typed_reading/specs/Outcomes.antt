@@ -1,5 +1,5 @@
--- What calls return that follow a pointer, and what they leave of the limiter: functions of the words
--- that they read.
+-- What calls return that follow a pointer, and what they leave of the limiter: functions of the
+-- words that they read.
 use Rattle.std.specs.Prelude.{ℕ, List, length, Option, Some, Result, Ok, Err, if◌then◌else◌}
 use Rattle.std.specs.Prelude.{nat_eq, nat_le}
 use Rattle.std.specs.Borrow.{Bor}

@@ -14,8 +14,8 @@ use Rattle.capnp_readers.specs.Values.{first_element, struct_children, struct_da
 use Rattle.capnp_readers.specs.declared.readers.list_reader.ListReader.{ListReader}
 use Rattle.capnp_readers.specs.declared.readers.struct_reader.StructReader.{StructReader}
 
--- The pointer at the place leads to a struct with the data words of t, and with as many pointers; it
--- is null if t is. What the struct's pointers lead to may be anything.
+-- The pointer at the place leads to a struct with the data words of t, and with as many pointers;
+-- it is null if t is. What the struct's pointers lead to may be anything.
 abbrev pub LeadsToSectionsOf : Reading → Tree → Type 0
 LeadsToSectionsOf r Null = word_of r ≡ 0
 LeadsToSectionsOf r (Struct ws ts) =
@@ -24,8 +24,8 @@ LeadsToSectionsOf r (Struct ws ts) =
 LeadsToSectionsOf r t = ⊥
 
 module _ {A : Type 0} (g : Ghosts A) where
-  -- The reader r shows the sections of the struct t: its data words, and the number of its pointers.
-  -- What the pointers lead to may be anything.
+  -- The reader r shows the sections of the struct t: its data words, and the number of its
+  -- pointers. What the pointers lead to may be anything.
   pub record ShowsSectionsOf (r : StructReader A g) (t : Tree) : Type 0 where
     pub bits_are : r.bits ≡ 64 * length (struct_data t)
     pub words_are : words_of r.content.now ≡ struct_data t
@@ -44,8 +44,8 @@ module _ {A : Type 0} (g : Ghosts A) where
   element_pointer r i =
       place_past (first_element g r) (pointers_offset r.element_size r.struct_size i)
 
-  -- Element i of the list that r reads is a struct with the data words of t, and with as many pointers.
-  -- What these pointers lead to may be anything.
+  -- Element i of the list that r reads is a struct with the data words of t, and with as many
+  -- pointers. What these pointers lead to may be anything.
   pub record ElementHasSections (r : ListReader A g) (i : ℕ) (t : Tree) : Type 0 where
     pub of_structs : r.element_size ≡ InlineComposite
     pub data_of : r.struct_size.data_words ≡ length (struct_data t)

@@ -20,12 +20,12 @@ ghost use Rattle.typed_reading.specs.Sections.{LeadsToSectionsOf, ShowsSectionsO
 use capnp_arena_traits::arena::ReaderArena;
 use capnp_readers::readers::StructReader;
 
-/// A call succeeds exactly if the pointer is null or leads to what the call expects, and the limiter
-/// covers what that charges (`answered`). It is refused with the error of the first check that fails
-/// (`refused`). A null pointer charges nothing and isn't counted (`null`). Another one is counted, and
-/// if the call succeeds, the words of its landing pads and of the object are charged (`charged`).
-/// A place that isn't charged, like a default's, leaves the limiter unchanged, also after a refusal
-/// (`free`).
+/// A call succeeds exactly if the pointer is null or leads to what the call expects, and the
+/// limiter covers what that charges (`answered`). It is refused with the error of the first check
+/// that fails (`refused`). A null pointer charges nothing and isn't counted (`null`). Another one
+/// is counted, and if the call succeeds, the words of its landing pads and of the object are
+/// charged (`charged`). A place that isn't charged, like a default's, leaves the limiter unchanged,
+/// also after a refusal (`free`).
 pub fn outcome_of_reading()
     ensures answered { (e : Expected) (r : Reading) (m m' : Meter)
         → reading_outcome (expectation e) r m ≡ (None, m') → HasExpected (expectation e) r m }

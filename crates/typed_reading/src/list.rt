@@ -1,19 +1,20 @@
 //! Lists of structs, of numbers and of texts that are read.
-ghost use Rattle.std.specs.Prelude.{◌≡◌, ◌≢◌, ◌<◌, ◌≤◌, ◌-◌, ◌%◌, ◌/◌, ◌^◌, ℕ, List, length, IfOk, IsOk, OnOk, slice_index, ⊤};
+ghost use Rattle.std.specs.Prelude.{◌≡◌, ◌≢◌, ◌<◌, ◌≤◌, ◌%◌, ◌/◌, ◌^◌, ℕ, List, length, IfOk, IsOk, OnOk, slice_index, ⊤};
 ghost use Rattle.std.specs.Result.{result_err};
 ghost use Rattle.capnp_format.specs.Numbers.{element_bits};
 ghost use Rattle.capnp_format.specs.Tree.{Tree, Null, Flat};
 ghost use Rattle.capnp_words.specs.Meter.{Affords};
 ghost use Rattle.capnp_words.specs.Sizes.{size_number};
 ghost use Rattle.capnp_words.specs.declared.wire_pointer.ElementSize.TheVariants.{InlineComposite, Pointer};
-ghost use Rattle.capnp_objects.specs.Expected.{data_expected, list_expected, text_expected};
+ghost use Rattle.capnp_objects.specs.Expected.{data_expected, text_expected};
 ghost use Rattle.capnp_objects.specs.Reading.{source_start};
 ghost use Rattle.capnp_objects.specs.Spending.{Paid};
 ghost use Rattle.capnp_readers.specs.Sections.{data_bits};
-ghost use Rattle.capnp_readers.specs.Values.{ShowsListOf, ShowsNumber, ShowsStructOf, StaysIn, FitsElements, FitsSize, HasStructs, IsBytes, IsText, child_cost, element_number, list_length, list_numbers, pointer_cost, struct_element, text_bytes};
-ghost use Rattle.typed_reading.specs.Outcomes.{default_outcome, reading_outcome};
-ghost use Rattle.typed_reading.specs.Sections.{ElementHasSections, ShowsSectionsOf, element_pointer, pointer_field};
-ghost use Rattle.typed_reading.specs.Values.{IsDefault, child, pointer_element};
+ghost use Rattle.capnp_readers.specs.Values.{ShowsListOf, ShowsNumber, ShowsStructOf, FitsElements, HasStructs, IsBytes, IsText, element_number, list_length, list_numbers, pointer_cost, struct_element, text_bytes};
+ghost use Rattle.typed_reading.specs.Outcomes.{reading_outcome};
+ghost use Rattle.typed_reading.specs.Lists.{GetsList, GetsListOr, field_call};
+ghost use Rattle.typed_reading.specs.Sections.{ElementHasSections, ShowsSectionsOf, element_pointer};
+ghost use Rattle.typed_reading.specs.Values.{pointer_element};
 
 use crate::value::is_null;
 use capnp_arena_traits::arena::ReaderArena;
@@ -271,27 +272,10 @@ fn get_list<'a, A: ReaderArena>(
     expected: ElementSize,
     lim: &mut ReadLimiter,
 ) -> Result<ListReader<'a, A>, ErrorKind>
-    ensures value { (t : Tree) → ShowsStructOf A.ReaderArena reader.now t
-        → IfOk result (λ list. ShowsListOf A.ReaderArena list (child index t)) }
-    ensures answered { let start = source_start A.ReaderArena reader.now.source in
-        (t : Tree) (shows : ShowsStructOf A.ReaderArena reader.now t)
-        → FitsSize expected (child index t)
-        → Affords start.charging lim.old (child_cost A.ReaderArena shows index) → IsOk result }
-    ensures spent { let start = source_start A.ReaderArena reader.now.source in
-        (t : Tree) (shows : ShowsStructOf A.ReaderArena reader.now t) → child index t ≢ Null
-        → IfOk result (λ list. (inner : ShowsListOf A.ReaderArena list (child index t))
-        → Paid start.charging lim.old lim.new
-        (child_cost A.ReaderArena shows index - inner.cost) 1) }
-    ensures stays { IfOk result (λ list. StaysIn (source_start A.ReaderArena reader.now.source)
-        (source_start A.ReaderArena list.source)) }
-    ensures left { let start = source_start A.ReaderArena reader.now.source in
-        (t : Tree) (shows : ShowsStructOf A.ReaderArena reader.now t)
-        → Affords start.charging lim.old (child_cost A.ReaderArena shows index)
-        → IfOk result (λ list. (inner : ShowsListOf A.ReaderArena list (child index t))
-        → Affords (source_start A.ReaderArena list.source).charging lim.new inner.cost) }
+    ensures gets { GetsList A.ReaderArena
+        (field_call A.ReaderArena reader.now index lim.old lim.new) expected result
+        (λ list. list) }
     ensures fits { IfOk result (FitsElements A.ReaderArena expected) }
-    ensures exactly { reading_outcome (list_expected expected)
-        (pointer_field A.ReaderArena reader.now index) lim.old ≡ (result_err result, lim.new) }
 {
     reader
         .get_pointer_field(index)
@@ -307,26 +291,9 @@ pub fn get_structs<'a, A: ReaderArena>(
     index: usize,
     lim: &mut ReadLimiter,
 ) -> Result<StructsReader<'a, A>, ErrorKind>
-    ensures value { (t : Tree) → ShowsStructOf A.ReaderArena reader.now t
-        → IfOk result (λ list. ShowsListOf A.ReaderArena list.reader (child index t)) }
-    ensures answered { let start = source_start A.ReaderArena reader.now.source in
-        (t : Tree) (shows : ShowsStructOf A.ReaderArena reader.now t)
-        → FitsSize InlineComposite (child index t)
-        → Affords start.charging lim.old (child_cost A.ReaderArena shows index) → IsOk result }
-    ensures spent { let start = source_start A.ReaderArena reader.now.source in
-        (t : Tree) (shows : ShowsStructOf A.ReaderArena reader.now t) → child index t ≢ Null
-        → IfOk result (λ list. (inner : ShowsListOf A.ReaderArena list.reader (child index t))
-        → Paid start.charging lim.old lim.new
-        (child_cost A.ReaderArena shows index - inner.cost) 1) }
-    ensures stays { IfOk result (λ list. StaysIn (source_start A.ReaderArena reader.now.source)
-        (source_start A.ReaderArena list.reader.source)) }
-    ensures left { let start = source_start A.ReaderArena reader.now.source in
-        (t : Tree) (shows : ShowsStructOf A.ReaderArena reader.now t)
-        → Affords start.charging lim.old (child_cost A.ReaderArena shows index)
-        → IfOk result (λ list. (inner : ShowsListOf A.ReaderArena list.reader (child index t))
-        → Affords (source_start A.ReaderArena list.reader.source).charging lim.new inner.cost) }
-    ensures exactly { reading_outcome (list_expected InlineComposite)
-        (pointer_field A.ReaderArena reader.now index) lim.old ≡ (result_err result, lim.new) }
+    ensures { GetsList A.ReaderArena
+        (field_call A.ReaderArena reader.now index lim.old lim.new) InlineComposite result
+        (λ list. list.reader) }
 {
     match get_list(reader, index, ElementSize::InlineComposite, lim) {
         Ok(reader) => Ok(StructsReader { reader }),
@@ -343,26 +310,9 @@ pub fn get_numbers<'a, A: ReaderArena, T: PrimitiveElement>(
     index: usize,
     lim: &mut ReadLimiter,
 ) -> Result<NumbersReader<'a, A, T>, ErrorKind>
-    ensures value { (t : Tree) → ShowsStructOf A.ReaderArena reader.now t
-        → IfOk result (λ list. ShowsListOf A.ReaderArena list.reader (child index t)) }
-    ensures answered { let start = source_start A.ReaderArena reader.now.source in
-        (t : Tree) (shows : ShowsStructOf A.ReaderArena reader.now t)
-        → FitsSize T.size (child index t)
-        → Affords start.charging lim.old (child_cost A.ReaderArena shows index) → IsOk result }
-    ensures spent { let start = source_start A.ReaderArena reader.now.source in
-        (t : Tree) (shows : ShowsStructOf A.ReaderArena reader.now t) → child index t ≢ Null
-        → IfOk result (λ list. (inner : ShowsListOf A.ReaderArena list.reader (child index t))
-        → Paid start.charging lim.old lim.new
-        (child_cost A.ReaderArena shows index - inner.cost) 1) }
-    ensures stays { IfOk result (λ list. StaysIn (source_start A.ReaderArena reader.now.source)
-        (source_start A.ReaderArena list.reader.source)) }
-    ensures left { let start = source_start A.ReaderArena reader.now.source in
-        (t : Tree) (shows : ShowsStructOf A.ReaderArena reader.now t)
-        → Affords start.charging lim.old (child_cost A.ReaderArena shows index)
-        → IfOk result (λ list. (inner : ShowsListOf A.ReaderArena list.reader (child index t))
-        → Affords (source_start A.ReaderArena list.reader.source).charging lim.new inner.cost) }
-    ensures exactly { reading_outcome (list_expected T.size)
-        (pointer_field A.ReaderArena reader.now index) lim.old ≡ (result_err result, lim.new) }
+    ensures { GetsList A.ReaderArena
+        (field_call A.ReaderArena reader.now index lim.old lim.new) T.size result
+        (λ list. list.reader) }
 {
     match get_list(reader, index, T::element_size(), lim) {
         Ok(reader) => Ok(NumbersReader {
@@ -382,26 +332,9 @@ pub fn get_texts<'a, A: ReaderArena>(
     index: usize,
     lim: &mut ReadLimiter,
 ) -> Result<TextsReader<'a, A>, ErrorKind>
-    ensures value { (t : Tree) → ShowsStructOf A.ReaderArena reader.now t
-        → IfOk result (λ list. ShowsListOf A.ReaderArena list.reader (child index t)) }
-    ensures answered { let start = source_start A.ReaderArena reader.now.source in
-        (t : Tree) (shows : ShowsStructOf A.ReaderArena reader.now t)
-        → FitsSize Pointer (child index t)
-        → Affords start.charging lim.old (child_cost A.ReaderArena shows index) → IsOk result }
-    ensures spent { let start = source_start A.ReaderArena reader.now.source in
-        (t : Tree) (shows : ShowsStructOf A.ReaderArena reader.now t) → child index t ≢ Null
-        → IfOk result (λ list. (inner : ShowsListOf A.ReaderArena list.reader (child index t))
-        → Paid start.charging lim.old lim.new
-        (child_cost A.ReaderArena shows index - inner.cost) 1) }
-    ensures stays { IfOk result (λ list. StaysIn (source_start A.ReaderArena reader.now.source)
-        (source_start A.ReaderArena list.reader.source)) }
-    ensures left { let start = source_start A.ReaderArena reader.now.source in
-        (t : Tree) (shows : ShowsStructOf A.ReaderArena reader.now t)
-        → Affords start.charging lim.old (child_cost A.ReaderArena shows index)
-        → IfOk result (λ list. (inner : ShowsListOf A.ReaderArena list.reader (child index t))
-        → Affords (source_start A.ReaderArena list.reader.source).charging lim.new inner.cost) }
-    ensures exactly { reading_outcome (list_expected Pointer)
-        (pointer_field A.ReaderArena reader.now index) lim.old ≡ (result_err result, lim.new) }
+    ensures { GetsList A.ReaderArena
+        (field_call A.ReaderArena reader.now index lim.old lim.new) Pointer result
+        (λ list. list.reader) }
 {
     match get_list(reader, index, ElementSize::Pointer, lim) {
         Ok(reader) => Ok(TextsReader { reader }),
@@ -418,26 +351,9 @@ pub fn get_data_list<'a, A: ReaderArena>(
     index: usize,
     lim: &mut ReadLimiter,
 ) -> Result<DataListReader<'a, A>, ErrorKind>
-    ensures value { (t : Tree) → ShowsStructOf A.ReaderArena reader.now t
-        → IfOk result (λ list. ShowsListOf A.ReaderArena list.reader (child index t)) }
-    ensures answered { let start = source_start A.ReaderArena reader.now.source in
-        (t : Tree) (shows : ShowsStructOf A.ReaderArena reader.now t)
-        → FitsSize Pointer (child index t)
-        → Affords start.charging lim.old (child_cost A.ReaderArena shows index) → IsOk result }
-    ensures spent { let start = source_start A.ReaderArena reader.now.source in
-        (t : Tree) (shows : ShowsStructOf A.ReaderArena reader.now t) → child index t ≢ Null
-        → IfOk result (λ list. (inner : ShowsListOf A.ReaderArena list.reader (child index t))
-        → Paid start.charging lim.old lim.new
-        (child_cost A.ReaderArena shows index - inner.cost) 1) }
-    ensures stays { IfOk result (λ list. StaysIn (source_start A.ReaderArena reader.now.source)
-        (source_start A.ReaderArena list.reader.source)) }
-    ensures left { let start = source_start A.ReaderArena reader.now.source in
-        (t : Tree) (shows : ShowsStructOf A.ReaderArena reader.now t)
-        → Affords start.charging lim.old (child_cost A.ReaderArena shows index)
-        → IfOk result (λ list. (inner : ShowsListOf A.ReaderArena list.reader (child index t))
-        → Affords (source_start A.ReaderArena list.reader.source).charging lim.new inner.cost) }
-    ensures exactly { reading_outcome (list_expected Pointer)
-        (pointer_field A.ReaderArena reader.now index) lim.old ≡ (result_err result, lim.new) }
+    ensures { GetsList A.ReaderArena
+        (field_call A.ReaderArena reader.now index lim.old lim.new) Pointer result
+        (λ list. list.reader) }
 {
     match get_list(reader, index, ElementSize::Pointer, lim) {
         Ok(reader) => Ok(DataListReader { reader }),
@@ -454,26 +370,9 @@ pub fn get_pointers<'a, A: ReaderArena>(
     index: usize,
     lim: &mut ReadLimiter,
 ) -> Result<PointersReader<'a, A>, ErrorKind>
-    ensures value { (t : Tree) → ShowsStructOf A.ReaderArena reader.now t
-        → IfOk result (λ list. ShowsListOf A.ReaderArena list.reader (child index t)) }
-    ensures answered { let start = source_start A.ReaderArena reader.now.source in
-        (t : Tree) (shows : ShowsStructOf A.ReaderArena reader.now t)
-        → FitsSize Pointer (child index t)
-        → Affords start.charging lim.old (child_cost A.ReaderArena shows index) → IsOk result }
-    ensures spent { let start = source_start A.ReaderArena reader.now.source in
-        (t : Tree) (shows : ShowsStructOf A.ReaderArena reader.now t) → child index t ≢ Null
-        → IfOk result (λ list. (inner : ShowsListOf A.ReaderArena list.reader (child index t))
-        → Paid start.charging lim.old lim.new
-        (child_cost A.ReaderArena shows index - inner.cost) 1) }
-    ensures stays { IfOk result (λ list. StaysIn (source_start A.ReaderArena reader.now.source)
-        (source_start A.ReaderArena list.reader.source)) }
-    ensures left { let start = source_start A.ReaderArena reader.now.source in
-        (t : Tree) (shows : ShowsStructOf A.ReaderArena reader.now t)
-        → Affords start.charging lim.old (child_cost A.ReaderArena shows index)
-        → IfOk result (λ list. (inner : ShowsListOf A.ReaderArena list.reader (child index t))
-        → Affords (source_start A.ReaderArena list.reader.source).charging lim.new inner.cost) }
-    ensures exactly { reading_outcome (list_expected Pointer)
-        (pointer_field A.ReaderArena reader.now index) lim.old ≡ (result_err result, lim.new) }
+    ensures { GetsList A.ReaderArena
+        (field_call A.ReaderArena reader.now index lim.old lim.new) Pointer result
+        (λ list. list.reader) }
 {
     match get_list(reader, index, ElementSize::Pointer, lim) {
         Ok(reader) => Ok(PointersReader { reader }),
@@ -490,20 +389,10 @@ fn get_list_or<'a, A: ReaderArena>(
     lim: &mut ReadLimiter,
 ) -> Result<ListReader<'a, A>, ErrorKind>
     requires { length default.now / 8 < 2 ^ 32 }
-    ensures value { (t : Tree) → ShowsStructOf A.ReaderArena reader.now t → child index t ≢ Null
-        → IfOk result (λ list. ShowsListOf A.ReaderArena list (child index t)) }
-    ensures default { (t d : Tree) → ShowsStructOf A.ReaderArena reader.now t
-        → child index t ≡ Null → IsDefault default.now d
-        → IfOk result (λ list. ShowsListOf A.ReaderArena list d) }
-    ensures answered { let start = source_start A.ReaderArena reader.now.source in
-        (t : Tree) (shows : ShowsStructOf A.ReaderArena reader.now t)
-        → child index t ≢ Null → FitsSize expected (child index t)
-        → Affords start.charging lim.old (child_cost A.ReaderArena shows index) → IsOk result }
-    ensures default_answered { (t d : Tree) → ShowsStructOf A.ReaderArena reader.now t
-        → child index t ≡ Null → IsDefault default.now d → FitsSize expected d → IsOk result }
+    ensures gets { GetsListOr A.ReaderArena
+        (field_call A.ReaderArena reader.now index lim.old lim.new) default.now expected result
+        (λ list. list) }
     ensures fits { IfOk result (FitsElements A.ReaderArena expected) }
-    ensures exactly { default_outcome (list_expected expected) default.now
-        (pointer_field A.ReaderArena reader.now index) lim.old ≡ (result_err result, lim.new) }
 {
     if is_null(reader, index) {
         return match PointerReader::from_default(default) {
@@ -524,20 +413,9 @@ pub fn get_structs_or<'a, A: ReaderArena>(
     lim: &mut ReadLimiter,
 ) -> Result<StructsReader<'a, A>, ErrorKind>
     requires { length default.now / 8 < 2 ^ 32 }
-    ensures value { (t : Tree) → ShowsStructOf A.ReaderArena reader.now t → child index t ≢ Null
-        → IfOk result (λ list. ShowsListOf A.ReaderArena list.reader (child index t)) }
-    ensures default { (t d : Tree) → ShowsStructOf A.ReaderArena reader.now t
-        → child index t ≡ Null → IsDefault default.now d
-        → IfOk result (λ list. ShowsListOf A.ReaderArena list.reader d) }
-    ensures answered { let start = source_start A.ReaderArena reader.now.source in
-        (t : Tree) (shows : ShowsStructOf A.ReaderArena reader.now t)
-        → child index t ≢ Null → FitsSize InlineComposite (child index t)
-        → Affords start.charging lim.old (child_cost A.ReaderArena shows index) → IsOk result }
-    ensures default_answered { (t d : Tree) → ShowsStructOf A.ReaderArena reader.now t
-        → child index t ≡ Null → IsDefault default.now d → FitsSize InlineComposite d
-        → IsOk result }
-    ensures exactly { default_outcome (list_expected InlineComposite) default.now
-        (pointer_field A.ReaderArena reader.now index) lim.old ≡ (result_err result, lim.new) }
+    ensures { GetsListOr A.ReaderArena
+        (field_call A.ReaderArena reader.now index lim.old lim.new) default.now InlineComposite
+        result (λ list. list.reader) }
 {
     match get_list_or(reader, index, ElementSize::InlineComposite, default, lim) {
         Ok(list) => Ok(StructsReader { reader: list }),
@@ -555,19 +433,9 @@ pub fn get_numbers_or<'a, A: ReaderArena, T: PrimitiveElement>(
     lim: &mut ReadLimiter,
 ) -> Result<NumbersReader<'a, A, T>, ErrorKind>
     requires { length default.now / 8 < 2 ^ 32 }
-    ensures value { (t : Tree) → ShowsStructOf A.ReaderArena reader.now t → child index t ≢ Null
-        → IfOk result (λ list. ShowsListOf A.ReaderArena list.reader (child index t)) }
-    ensures default { (t d : Tree) → ShowsStructOf A.ReaderArena reader.now t
-        → child index t ≡ Null → IsDefault default.now d
-        → IfOk result (λ list. ShowsListOf A.ReaderArena list.reader d) }
-    ensures answered { let start = source_start A.ReaderArena reader.now.source in
-        (t : Tree) (shows : ShowsStructOf A.ReaderArena reader.now t)
-        → child index t ≢ Null → FitsSize T.size (child index t)
-        → Affords start.charging lim.old (child_cost A.ReaderArena shows index) → IsOk result }
-    ensures default_answered { (t d : Tree) → ShowsStructOf A.ReaderArena reader.now t
-        → child index t ≡ Null → IsDefault default.now d → FitsSize T.size d → IsOk result }
-    ensures exactly { default_outcome (list_expected T.size) default.now
-        (pointer_field A.ReaderArena reader.now index) lim.old ≡ (result_err result, lim.new) }
+    ensures { GetsListOr A.ReaderArena
+        (field_call A.ReaderArena reader.now index lim.old lim.new) default.now T.size result
+        (λ list. list.reader) }
 {
     match get_list_or(reader, index, T::element_size(), default, lim) {
         Ok(reader) => Ok(NumbersReader {
@@ -588,19 +456,9 @@ pub fn get_texts_or<'a, A: ReaderArena>(
     lim: &mut ReadLimiter,
 ) -> Result<TextsReader<'a, A>, ErrorKind>
     requires { length default.now / 8 < 2 ^ 32 }
-    ensures value { (t : Tree) → ShowsStructOf A.ReaderArena reader.now t → child index t ≢ Null
-        → IfOk result (λ list. ShowsListOf A.ReaderArena list.reader (child index t)) }
-    ensures default { (t d : Tree) → ShowsStructOf A.ReaderArena reader.now t
-        → child index t ≡ Null → IsDefault default.now d
-        → IfOk result (λ list. ShowsListOf A.ReaderArena list.reader d) }
-    ensures answered { let start = source_start A.ReaderArena reader.now.source in
-        (t : Tree) (shows : ShowsStructOf A.ReaderArena reader.now t)
-        → child index t ≢ Null → FitsSize Pointer (child index t)
-        → Affords start.charging lim.old (child_cost A.ReaderArena shows index) → IsOk result }
-    ensures default_answered { (t d : Tree) → ShowsStructOf A.ReaderArena reader.now t
-        → child index t ≡ Null → IsDefault default.now d → FitsSize Pointer d → IsOk result }
-    ensures exactly { default_outcome (list_expected Pointer) default.now
-        (pointer_field A.ReaderArena reader.now index) lim.old ≡ (result_err result, lim.new) }
+    ensures { GetsListOr A.ReaderArena
+        (field_call A.ReaderArena reader.now index lim.old lim.new) default.now Pointer result
+        (λ list. list.reader) }
 {
     match get_list_or(reader, index, ElementSize::Pointer, default, lim) {
         Ok(list) => Ok(TextsReader { reader: list }),
@@ -618,19 +476,9 @@ pub fn get_data_list_or<'a, A: ReaderArena>(
     lim: &mut ReadLimiter,
 ) -> Result<DataListReader<'a, A>, ErrorKind>
     requires { length default.now / 8 < 2 ^ 32 }
-    ensures value { (t : Tree) → ShowsStructOf A.ReaderArena reader.now t → child index t ≢ Null
-        → IfOk result (λ list. ShowsListOf A.ReaderArena list.reader (child index t)) }
-    ensures default { (t d : Tree) → ShowsStructOf A.ReaderArena reader.now t
-        → child index t ≡ Null → IsDefault default.now d
-        → IfOk result (λ list. ShowsListOf A.ReaderArena list.reader d) }
-    ensures answered { let start = source_start A.ReaderArena reader.now.source in
-        (t : Tree) (shows : ShowsStructOf A.ReaderArena reader.now t)
-        → child index t ≢ Null → FitsSize Pointer (child index t)
-        → Affords start.charging lim.old (child_cost A.ReaderArena shows index) → IsOk result }
-    ensures default_answered { (t d : Tree) → ShowsStructOf A.ReaderArena reader.now t
-        → child index t ≡ Null → IsDefault default.now d → FitsSize Pointer d → IsOk result }
-    ensures exactly { default_outcome (list_expected Pointer) default.now
-        (pointer_field A.ReaderArena reader.now index) lim.old ≡ (result_err result, lim.new) }
+    ensures { GetsListOr A.ReaderArena
+        (field_call A.ReaderArena reader.now index lim.old lim.new) default.now Pointer result
+        (λ list. list.reader) }
 {
     match get_list_or(reader, index, ElementSize::Pointer, default, lim) {
         Ok(list) => Ok(DataListReader { reader: list }),
@@ -648,19 +496,9 @@ pub fn get_pointers_or<'a, A: ReaderArena>(
     lim: &mut ReadLimiter,
 ) -> Result<PointersReader<'a, A>, ErrorKind>
     requires { length default.now / 8 < 2 ^ 32 }
-    ensures value { (t : Tree) → ShowsStructOf A.ReaderArena reader.now t → child index t ≢ Null
-        → IfOk result (λ list. ShowsListOf A.ReaderArena list.reader (child index t)) }
-    ensures default { (t d : Tree) → ShowsStructOf A.ReaderArena reader.now t
-        → child index t ≡ Null → IsDefault default.now d
-        → IfOk result (λ list. ShowsListOf A.ReaderArena list.reader d) }
-    ensures answered { let start = source_start A.ReaderArena reader.now.source in
-        (t : Tree) (shows : ShowsStructOf A.ReaderArena reader.now t)
-        → child index t ≢ Null → FitsSize Pointer (child index t)
-        → Affords start.charging lim.old (child_cost A.ReaderArena shows index) → IsOk result }
-    ensures default_answered { (t d : Tree) → ShowsStructOf A.ReaderArena reader.now t
-        → child index t ≡ Null → IsDefault default.now d → FitsSize Pointer d → IsOk result }
-    ensures exactly { default_outcome (list_expected Pointer) default.now
-        (pointer_field A.ReaderArena reader.now index) lim.old ≡ (result_err result, lim.new) }
+    ensures { GetsListOr A.ReaderArena
+        (field_call A.ReaderArena reader.now index lim.old lim.new) default.now Pointer result
+        (λ list. list.reader) }
 {
     match get_list_or(reader, index, ElementSize::Pointer, default, lim) {
         Ok(list) => Ok(PointersReader { reader: list }),

@@ -26,11 +26,11 @@ use capnp_words::primitive::Primitive;
 use capnp_words::read_limiter::ReadLimiter;
 use capnp_words::zero::Zero;
 
-/// Returns the struct that the root of a message is; a struct without sections if the root pointer is
-/// null. Charges one word for the root pointer, and the struct's own words.
+/// Returns the struct that the root of a message is; a struct without sections if the root pointer
+/// is null. Charges one word for the root pointer, and the struct's own words.
 ///
-/// Refuses like `PointerReader::get_root_from_arena` and `PointerReader::get_struct`. What was charged
-/// before a refusal stays charged.
+/// Refuses like `PointerReader::get_root_from_arena` and `PointerReader::get_struct`. What was
+/// charged before a refusal stays charged.
 pub fn root<'a, A: ReaderArena>(
     arena: &'a A,
     lim: &mut ReadLimiter,

@@ -18,16 +18,18 @@ returns g c =
     let place = field_read g.A.ReaderArena c.args.reader.now c.args.index c.get_pointer_field.result field.source field.place field.nesting field.nothing field.nowhere in
     let here = pointer_field g.A.ReaderArena c.args.reader.now c.args.index in
     record {
-      value = λ t shows. read.value (child c.args.index t) (field.value t shows);
-      answered = λ t shows is covers.
-          let k = child_cost g.A.ReaderArena shows c.args.index in
-          read.answered (child c.args.index t) k tt is (field.means t shows) (field.stays.affords c.args.lim.now k covers);
-      spent = λ t shows other. rw (field.charging t shows other) at (read.spent (child c.args.index t) (child_cost g.A.ReaderArena shows c.args.index) other (field.means t shows));
-      left = λ t shows covers.
-          let from = read_by g.A.ReaderArena c.get_pointer_field.result in
-          list_left g.A.ReaderArena c.get_pointer_field.result c.args.expected c.args.lim.now c.get_list.new.lim c.get_list.result read.read (read.stays from (stays_itself from))
-          (child c.args.index t) (child_cost g.A.ReaderArena shows c.args.index) (field.means t shows) (field.stays.affords c.args.lim.now (child_cost g.A.ReaderArena shows c.args.index) covers);
-      exactly = list_outcome g.A.ReaderArena c.args.expected c.get_pointer_field.result here place c.args.lim.now c.get_list.new.lim c.get_list.result read.exactly read.read read.refused;
-      stays = read.stays (source_start g.A.ReaderArena c.args.reader.now.source) field.stays;
+      gets = record {
+        value = λ t shows. read.value (child c.args.index t) (field.value t shows);
+        answered = λ t shows is covers.
+            let k = child_cost g.A.ReaderArena shows c.args.index in
+            read.answered (child c.args.index t) k tt is (field.means t shows) (field.stays.affords c.args.lim.now k covers);
+        spent = λ t shows other. rw (field.charging t shows other) at (read.spent (child c.args.index t) (child_cost g.A.ReaderArena shows c.args.index) other (field.means t shows));
+        left = λ t shows covers.
+            let from = read_by g.A.ReaderArena c.get_pointer_field.result in
+            list_left g.A.ReaderArena c.get_pointer_field.result c.args.expected c.args.lim.now c.get_list.new.lim c.get_list.result read.read (read.stays from (stays_itself from))
+            (child c.args.index t) (child_cost g.A.ReaderArena shows c.args.index) (field.means t shows) (field.stays.affords c.args.lim.now (child_cost g.A.ReaderArena shows c.args.index) covers);
+        exactly = list_outcome g.A.ReaderArena c.args.expected c.get_pointer_field.result here place c.args.lim.now c.get_list.new.lim c.get_list.result read.exactly read.read read.refused;
+        stays = read.stays (source_start g.A.ReaderArena c.args.reader.now.source) field.stays;
+      };
       fits = read.fits;
     }

@@ -1,21 +1,12 @@
-use Rattle.std.proofs.Common.{refl}
 use Rattle.typed_reading.proofs.Elements.{pointers_held}
+use Rattle.typed_reading.proofs.Lists.{gets_none, gets_part}
 use Rattle.typed_reading.proofs.list.get_texts.Goals as goal
 
 pub invariant_of-result : goal.invariant_of-result
 invariant_of-result g c = record { pointers = pointers_held g.A.ReaderArena c.in-Ok.reader c.in-Ok.ensures.fits }
 
 pub returns-in-Ok : goal.returns-in-Ok
-returns-in-Ok g c =
-    let list = c.in-Ok.ensures in
-    record { value = list.value; answered = λ t shows fits covers. refl; spent = list.spent; stays = list.stays; left = list.left; exactly = list.exactly }
+returns-in-Ok g c = gets_part g.A.ReaderArena _ _ _ _ c.in-Ok.ensures.gets
 
 pub returns-in-Err : goal.returns-in-Err
-returns-in-Err g c = record {
-  value = λ t shows. tt;
-  answered = c.in-Err.ensures.answered;
-  spent = λ t shows other. tt;
-  stays = tt;
-  left = λ t shows covers. tt;
-  exactly = c.in-Err.ensures.exactly;
-}
+returns-in-Err g c = gets_none g.A.ReaderArena _ _ c.in-Err.kind _ c.in-Err.ensures.gets
