@@ -1,7 +1,7 @@
 #!/usr/bin/env python3
-"""Types what docs/TYPED.md has under "For programs in Rust" and "For programs in C", each in a clone of the last commit, without a
-command `rt`, and looks at what the programs print: the order, and the SHA-256 of the type's id and the canonical words, which
-`capnp` and hashlib make here. Each section has five commands, none of them two in one.
+"""Types the commands of docs/TYPED_RUST.md and docs/TYPED_C.md, each in a clone of the last commit, without a command `rt`, and
+looks at what the programs print: the order, and the SHA-256 of the type's id and the canonical words, which `capnp` and hashlib
+make here. Each page has five commands, none of them two in one.
 
     page.py [rust] [c]
 
@@ -16,16 +16,12 @@ import sys
 import tempfile
 
 TOP = pathlib.Path(__file__).resolve().parents[2]
-HEADINGS = {'rust': 'For programs in Rust', 'c': 'For programs in C'}
+PAGES = {'rust': 'docs/TYPED_RUST.md', 'c': 'docs/TYPED_C.md'}
 
 
 def block(text, kind):
     """The first block of a kind in a text."""
     return re.search(rf'^```{kind}\n(.*?)^```$', text, re.M | re.S)[1]
-
-
-def section(page, heading):
-    return re.search(rf'^## {re.escape(heading)}\n(.*?)(?=^## )', page, re.M | re.S)[1]
 
 
 def count_of(commands):
@@ -49,12 +45,13 @@ def without(command):
     return os.pathsep.join(it for it in os.environ['PATH'].split(os.pathsep) if not shutil.which(command, path=it))
 
 
-def typed(page, name, folder):
-    """Types the commands of a section in a clone. Returns whether the program prints what is expected, and what went wrong."""
+def typed(name, folder):
+    """Types the commands of a page in a clone. Returns whether the program prints what is expected, and what went wrong."""
     clone = folder / name / 'capnp_layout'
     subprocess.run(['git', 'clone', '-q', str(TOP), str(clone)], check=True)
+    page = (TOP / PAGES[name]).read_text(encoding='utf-8')
     (clone / 'shop.capnp').write_text(block(page, 'capnp'), encoding='utf-8')
-    commands = block(section(page, HEADINGS[name]), 'sh')
+    commands = block(page, 'sh')
     environment = {**os.environ, 'PATH': without('rt')}
     environment.pop('CARGO_TARGET_DIR', None)
     run = subprocess.run(['sh', '-e'], input=commands, cwd=clone, env=environment, stdout=subprocess.PIPE, stderr=subprocess.STDOUT, encoding='utf-8', errors='replace')
@@ -64,16 +61,15 @@ def typed(page, name, folder):
 
 
 def main(names):
-    page = (TOP / 'docs/TYPED.md').read_text(encoding='utf-8')
     passed = failed = 0
     with tempfile.TemporaryDirectory() as folder:
-        for name in names or HEADINGS:
+        for name in names or PAGES:
             if name == 'rust' and not shutil.which('cargo'):
                 print('rust: skipped, no cargo')
                 continue
-            fine, said = typed(page, name, pathlib.Path(folder))
+            fine, said = typed(name, pathlib.Path(folder))
             passed, failed = passed + fine, failed + (not fine)
-            print(f'{"ok" if fine else "FAILED"}: {HEADINGS[name]}' + ('' if fine else f'\n{said}'), flush=True)
+            print(f'{"ok" if fine else "FAILED"}: {PAGES[name]}' + ('' if fine else f'\n{said}'), flush=True)
     print(f'{passed} passed, {failed} failed')
     return 0 if passed and not failed else 1
 
