@@ -288,7 +288,7 @@ def bugs(options, room, counts):
 
 
 def build(options, room, counts):
-    example, target, generator = room / 'example', room / 'target', os.path.abspath(options.generator)
+    example, target, generator = room / 'example', room / 'target', options.generator
     shutil.copytree(BUILD / 'example', example, ignore=shutil.ignore_patterns('target', 'Cargo.lock'))
     manifest = (example / 'Cargo.toml').read_text(encoding='utf-8')
     manifest = manifest.replace('"../../capnp_layout"', f'"{LAYOUT}"').replace('".."', f'"{BUILD}"')
@@ -342,6 +342,7 @@ def main():
     parser.add_argument('--write', action='store_true')
     parser.add_argument('parts', nargs='*', choices=[[], *PARTS], metavar='PART')
     options = parser.parse_args()
+    options.generator = os.path.abspath(options.generator)
     counts = run.Counts()
     with tempfile.TemporaryDirectory(prefix='typed-rust-') as room:
         for name in options.parts or PARTS:
