@@ -18,7 +18,7 @@ returns c =
     at_root c.new-arena.ensures.words c.new-arena.ensures.nesting c.new-lim.ensures c.in_ok-root.ensures.place c.in_ok-root.ensures.charged (c.read_root.ensures.exactly.0 read) in
     let from = c.from_pointer.ensures in
     let computed = rw (from.source, from.place, from.nesting) at c.is_canonical.ensures.computed in
-    let held = rw (from.source, from.place, from.nesting) at c.is_canonical.ensures.small in
+    let held = rw (from.source, from.place) at c.is_canonical.ensures.small in
     record {
       small = search rules;
       check = check_answers c.is_canonical.result c.is_canonical.new.head c.is_canonical.new.lim at held computed;
