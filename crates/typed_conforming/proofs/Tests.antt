@@ -1,7 +1,7 @@
 -- Following the tests of a table: the kind doesn't change on the way.
-use Rattle.std.proofs.Common.{◌≡◌, ℕ, zero, suc, ◌+◌, ◌/◌, ◌%◌, ◌<◌, ◌≤◌, Bool, true, false, nat_eq, nat_le, nat_lt, if◌then◌else◌, List, [], ◌∷◌, length, refl, sym, ap, ◌∙◌, arith, eq-eqb}
-use Rattle.std.proofs.lemmas.Bool.{le-leb, lt-leb, ne_eqb}
-use Rattle.std.proofs.lemmas.List.{get_or_past}
+use Rattle.std.proofs.Common.{◌≡◌, ℕ, zero, suc, ◌+◌, ◌/◌, ◌%◌, ◌<◌, ◌≤◌, Bool, true, false, nat_eq, nat_le, nat_lt, if◌then◌else◌, List, [], ◌∷◌, length, take, drop, refl, sym, ap, ◌∙◌, arith, eq-eqb, ltb-true}
+use Rattle.std.proofs.lemmas.Bool.{le-leb, lt-leb, ltb-false, ne_eqb}
+use Rattle.std.proofs.lemmas.List.{get_or_past, get_or-take, get_or-drop, length-take}
 use Rattle.std.specs.Prelude.{slice_index}
 use Rattle.typed_conforming.specs.declared.schema.Kind.{Kind}
 use Rattle.typed_conforming.specs.declared.schema.Kind.TheVariants.{Any}
@@ -86,3 +86,25 @@ wanted_is [] row ws i = go (nat_lt i 0)
     go true = refl
     go false = refl
 wanted_is (w ∷ T) row ws i = refl
+
+-- The kind words of a row: n words after its first. It has no more, or the table has no more.
+pub kinds_are : (T : List ℕ) (row n : ℕ) → n ≤ slice_index T row → (n < slice_index T row → length T ≤ row + 1 + n) → (i : ℕ) → slice_index (take n (drop (row + 1) T)) i ≡ kind_word T row i
+kinds_are T row n few all i = go (nat_lt i n) refl (nat_lt i (slice_index T row)) refl
+  where
+    go : (a : Bool) → nat_lt i n ≡ a → (b : Bool) → nat_lt i (slice_index T row) ≡ b → slice_index (take n (drop (row + 1) T)) i ≡ kind_word T row i
+    go true a true b = rw b (get_or-take n (drop (row + 1) T) i 0 (ltb-true i n a) ∙ get_or-drop (row + 1) T i 0)
+    go true a false b = let below = ltb-true i n a in let past = ltb-false i (slice_index T row) b in absurd (omega (arith, few))
+    go false a true b =
+        let past = ltb-false i n a in
+        let below = ltb-true i (slice_index T row) b in
+        let long = all (omega arith) in
+        rw b (get_or_past (take n (drop (row + 1) T)) i 0 (omega (arith, length-take n (drop (row + 1) T))) ∙ sym (get_or_past T (row + 1 + i) 0 (omega arith)))
+    go false a false b = let past = ltb-false i n a in rw b (get_or_past (take n (drop (row + 1) T)) i 0 (omega (arith, length-take n (drop (row + 1) T))))
+
+-- A row past the table's end has none.
+pub no_kinds : (T : List ℕ) (row : ℕ) → length T ≤ row → (i : ℕ) → 0 ≡ kind_word T row i
+no_kinds T row past i = rw (get_or_past T row 0 past) (go (nat_lt i 0))
+  where
+    go : (b : Bool) → 0 ≡ (if b then slice_index T (row + 1 + i) else 0)
+    go true = sym (get_or_past T (row + 1 + i) 0 (omega (arith, past)))
+    go false = refl

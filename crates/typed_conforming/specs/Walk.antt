@@ -1,12 +1,13 @@
 -- The walk that tests whether a value conforms to a schema: a function of the place and the
 -- limiter. It reads the objects of the value in order.
-use Rattle.std.specs.Prelude.{ℕ, zero, suc, ◌+◌, List, Option, Some, None, Result, Ok, Err}
+use Rattle.std.specs.Prelude.{◌≡◌, ℕ, zero, suc, ◌+◌, List, Option, Some, None, Result, Ok, Err}
 use Rattle.capnp_words.specs.Meter.{Meter}
 use Rattle.capnp_words.specs.declared.error.ErrorKind.{ErrorKind}
 use Rattle.capnp_objects.specs.declared.object.Purpose.TheVariants.{Value}
 use Rattle.capnp_objects.specs.Enter.{Shape, struct, pointers, structs, read}
 use Rattle.capnp_objects.specs.Reading.{Reading, place_past, words_from}
 use Rattle.typed_conforming.specs.declared.conforms.SchemaPointer.{SchemaPointer}
+use Rattle.typed_conforming.specs.declared.conforms.SchemaWalk.{SchemaWalk}
 use Rattle.typed_conforming.specs.declared.schema.Kind.{Kind}
 use Rattle.typed_conforming.specs.declared.schema.Misfit.{Misfit}
 use Rattle.typed_conforming.specs.Tables.{row_below, table_below, wanted, word_kind}
@@ -95,3 +96,14 @@ check_within T (suc n) p r m =
 -- The same with the levels of r.
 abbrev pub check_place : List ℕ → PointerTest
 check_place T p r m = check_within T r.levels p r m
+
+-- What a call of the program's walk returns: nothing, or the refusal that it has left.
+abbrev pub walk_result : {A E : Type 0} → Result A E → SchemaWalk → Result (Unit {0}) Misfit
+walk_result (Ok x) new = Ok tt
+walk_result (Err k) new = Err new.misfit
+
+-- A call of the program's walk does what the test f does: from its limiter to what it returns and
+-- leaves.
+abbrev pub Performs :
+    {A E : Type 0} → (Meter → TestOutcome) → SchemaWalk → SchemaWalk → Result A E → Type 0
+Performs f old new result = f old.lim ≡ (walk_result result new, new.lim)

@@ -1,5 +1,5 @@
 //! Reads a schema's table: what a pointer may lead to.
-ghost use Rattle.std.specs.Prelude.{◌≡◌, ◌+◌, ◌<◌, ◌≤◌, ◌*◌, ◌^◌, length, take, drop, slice_index};
+ghost use Rattle.std.specs.Prelude.{◌≡◌, ℕ, ◌+◌, ◌<◌, ◌≤◌, ◌*◌, ◌^◌, length, take, drop, slice_index};
 ghost use Rattle.capnp_format.specs.Bytes.{words_of};
 ghost use Rattle.capnp_format.specs.Fields.{field_in};
 ghost use Rattle.typed_conforming.specs.Tables.{kind_word, next_word, row_below, table_below, tested_kind, word_kind, wanted};
@@ -103,38 +103,42 @@ fn tested_word(table: &[u32], word: u32, section: Place, count: u32) -> u32
     word
 }
 
-// The kind word of pointer `index` of the row at `row`; 0 if the row doesn't have it.
-#[inline(always)]
-fn kind_word(table: &[u32], row: u32, index: u32) -> u32
-    ensures { result ≡ kind_word table.now row index }
-{
-    let row = row as usize;
-    if index >= table_word(table, row) {
-        return 0;
-    }
-    table_word(table, row + 1 + index as usize)
-}
-
-// The kind word that says what pointer `index` of the row at `row` may lead to, in a struct with
-// `count` data words at `section`. It names no test, or counts as 0.
-#[inline(always)]
-pub(crate) fn wanted_word(table: &[u32], row: u32, section: Place, count: u32, index: u32) -> u32
-    requires inside { section.at + count ≤ length (words_of section.bytes.now) }
-    ensures { let ws = take count (drop section.entry.at (words_of section.entry.bytes.now)) in
-        word_kind result ≡ wanted table.now row ws index }
-{
-    let word = kind_word(table, row, index);
-    if word % 16 == TEST {
-        return tested_word(table, word, section, count);
-    }
-    word
-}
-
 // A row of a table, by its position.
 #[derive(Clone, Copy)]
 pub(crate) struct TableRow<'s> {
     pub(crate) table: &'s [u32],
     pub(crate) row: u32,
+    // The kind words of the row that are in the table. They are found once for all elements of a
+    // list.
+    kinds: &'s [u32],
+    ghost kinds_of_row: { (i : ℕ) → slice_index kinds.now i ≡ kind_word table.now row i },
+}
+
+// The kind words of the row at `row` that are in the table.
+fn kinds_of(table: &[u32], row: u32) -> &[u32]
+    ensures { (i : ℕ) → slice_index result.now i ≡ kind_word table.entry.now row i }
+{
+    let row = row as usize;
+    if row >= table.len() {
+        return &[];
+    }
+    let rest = &table[row + 1..];
+    &rest[..rest.len().min(table[row] as usize)]
+}
+
+// The kind word that says what pointer `index` of a row may lead to, in a struct with `count` data
+// words at `section`. It names no test, or counts as 0.
+#[inline(always)]
+pub(crate) fn wanted_word(row: TableRow<'_>, section: Place, count: u32, index: u32) -> u32
+    requires inside { section.at + count ≤ length (words_of section.bytes.now) }
+    ensures { let ws = take count (drop section.entry.at (words_of section.entry.bytes.now)) in
+        word_kind result ≡ wanted row.entry.table.now row.entry.row ws index }
+{
+    let word = table_word(row.kinds, index as usize);
+    if word % 16 == TEST {
+        return tested_word(row.table, word, section, count);
+    }
+    word
 }
 
 // The row of the structs that a pointer of this kind leads to; one of an empty table, in which every
@@ -145,7 +149,15 @@ pub(crate) fn row_below(table: &[u32], kind: Kind) -> TableRow<'_>
     ensures row { result.row ≡ row_below kind }
 {
     match kind {
-        Kind::Struct(row) | Kind::List(_, row) => TableRow { table, row },
-        _ => TableRow { table: &[], row: 0 },
+        Kind::Struct(row) | Kind::List(_, row) => TableRow {
+            table,
+            row,
+            kinds: kinds_of(table, row),
+        },
+        _ => TableRow {
+            table: &[],
+            row: 0,
+            kinds: &[],
+        },
     }
 }

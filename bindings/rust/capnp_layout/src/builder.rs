@@ -65,7 +65,7 @@ impl Default for Builder {
 impl Builder {
     /// An empty message: its root is null.
     pub fn new() -> Self {
-        Builder::with_capacity(1024)
+        Builder::with_capacity(4096)
     }
 
     /// An empty message, with memory for this number of bytes.
@@ -291,7 +291,7 @@ pub(crate) fn canonical_words<M: Meter>(
     meter: M,
     copy: impl FnOnce(&mut BuiltPointer<'_>, &mut ReadLimiter) -> Result<(), ErrorKind>,
 ) -> Result<Vec<u8>, Error> {
-    let mut made = Builder::new();
+    let mut made = Builder::with_capacity(1024);
     made.copy_to_root(meter, copy);
     made.into_words()
 }

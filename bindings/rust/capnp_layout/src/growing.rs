@@ -9,8 +9,8 @@ use crate::proved::support::alloc::Global;
 use crate::proved::support::vec::Vec as ListOf;
 use rust_alloc::vec::Vec;
 
-/// How many bytes are zeroed before they are needed: at least and at most. The first of a builder
-/// are fewer, 1024, since it has no memory for more; the next growth makes it 4096.
+/// How many bytes are zeroed before they are needed: at least and at most, and no more than there is
+/// memory for.
 const FIRST: usize = 3 * 1024;
 const PIECE: usize = 64 * 1024;
 

@@ -21,11 +21,11 @@ decreases-check_elements g l = 6 * levels l.from.now.nesting_limit + 3
 abbrev pub invariant-check_pointers-loop-i : goal.invariant-check_pointers-loop-i
 invariant-check_pointers-loop-i g l =
     let r : Reading = reading_on g.A.ReaderArena l.from l.at l.from.nesting_limit in
-    let ps : ℕ → SchemaPointer = schema_pointer l.table l.row (words_from r l.data_words) in
+    let ps : ℕ → SchemaPointer = schema_pointer l.row.table.now l.row.row (words_from r l.data_words) in
     let first : Reading = place_past r l.data_words in
     (k : ℕ) → l.i + k ≡ l.pointers →
-    check_pointers (check_within l.table r.levels) ps 0 l.pointers first l.fn.lim
-    ≡ check_pointers (check_within l.table r.levels) ps l.i k (place_past first l.i) l.lim
+    check_pointers (check_within l.row.table.now r.levels) ps 0 l.pointers first l.fn.walk.lim
+    ≡ check_pointers (check_within l.row.table.now r.levels) ps l.i k (place_past first l.i) l.walk.lim
 
 abbrev pub invariant-check_elements-loop-i : goal.invariant-check_elements-loop-i
 invariant-check_elements-loop-i g l =
@@ -33,5 +33,5 @@ invariant-check_elements-loop-i g l =
     let d : ℕ = l.data_words in
     let q : ℕ = l.pointers in
     (k : ℕ) → l.i + k ≡ l.count →
-    check_elements (check_within l.table r.levels) (schema_pointer l.table l.row) d q l.count r l.fn.lim
-    ≡ check_elements (check_within l.table r.levels) (schema_pointer l.table l.row) d q k (place_past r (l.i * (d + q))) l.lim
+    check_elements (check_within l.row.table.now r.levels) (schema_pointer l.row.table.now l.row.row) d q l.count r l.fn.walk.lim
+    ≡ check_elements (check_within l.row.table.now r.levels) (schema_pointer l.row.table.now l.row.row) d q k (place_past r (l.i * (d + q))) l.walk.lim

@@ -7,6 +7,7 @@ use Rattle.typed_conforming.proofs.table.wanted_word.Goals as goal
 pub returns : goal.returns
 returns c =
     let ws = take c.args.count (drop c.args.section.at (words_of c.args.section.bytes.now)) in
-    no_test c.args.table.now ws (length c.args.table.now) 0 c.kind_word-word.result c.if-word-eq-TEST.false
-    ∙ ap (tested_kind c.args.table.now ws (length c.args.table.now) 0) c.kind_word-word.ensures
-    ∙ wanted_is c.args.table.now c.args.row ws c.args.index
+    let T = c.args.row.table.now in
+    no_test T ws (length T) 0 c.table_word-word.result c.if-word-eq-TEST.false
+    ∙ ap (tested_kind T ws (length T) 0) (c.table_word-word.ensures ∙ c.args.row.kinds_of_row c.args.index)
+    ∙ wanted_is T c.args.row.row ws c.args.index

@@ -12,7 +12,10 @@ use crate::proved::capnp_words::wire_pointer::{
 };
 use crate::proved::capnp_words::words::word_at;
 use crate::proved::typed_conforming::schema::{Kind, Misfit, NOT_UTF8};
-use crate::proved::typed_conforming::table::{row_below, wanted_word, word_kind, TEXT, UTF8};
+use crate::proved::typed_conforming::table::{
+    row_below, wanted_word, word_kind, TableRow, TEXT, UTF8,
+};
+use core::mem;
 
 // The highest bit of each byte of a word, which ASCII doesn't have.
 const HIGH_BITS: u64 = 0x8080_8080_8080_8080;
@@ -298,6 +301,36 @@ struct SchemaPointer {
     index: u32,
 }
 
+// A walk: the limiter that it charges, and why it stopped. The refusal is here so that calls return
+// a `Result` with `Stopped`, which fits a register.
+struct SchemaWalk {
+    // Why the walk stopped. Before that, it has no meaning.
+    misfit: Misfit,
+    // The limiter, moved here during the walk.
+    lim: ReadLimiter,
+}
+
+// The walk has stopped, with its `misfit`.
+#[derive(Clone, Copy)]
+struct Stopped;
+
+impl SchemaWalk {
+    // Begins a walk, and moves the limiter from `lim` into it.
+    #[inline]
+    fn begin(lim: &mut ReadLimiter) -> Self {
+        SchemaWalk {
+            misfit: Misfit {
+                error: ErrorKind::ReadLimitExceeded,
+                segment: 0,
+                word: 0,
+                row: 0,
+                index: 0,
+            },
+            lim: mem::replace(lim, ReadLimiter::new(None)),
+        }
+    }
+}
+
 // The refusal of the pointer at `at`.
 #[inline(always)]
 fn misfit_of<A: ReaderArena>(
@@ -322,34 +355,44 @@ fn misfit_of<A: ReaderArena>(
 ///     (reading_on A.ReaderArena from.now at from.now.nesting_limit) }
 /// requires is_list { kind word.0 ≡ 1 }
 /// requires of_bits { (0 < element_size word.0) × (element_size word.0 ≤ 5) }
+/// requires of_size { size_number size ≡ element_size word.0 }
 /// ```
-// Tests the list of bits or numbers that the word at `at` describes.
+// Tests the list of bits or numbers that the word at `at` describes, whose elements have this size.
 #[inline(always)]
 fn check_primitive_list<A: ReaderArena>(
     pointer: SchemaPointer,
     from: &Pointer<'_, A>,
     at: u32,
     word: WirePointer,
-    lim: &mut ReadLimiter,
-) -> Result<(), Misfit> {
+    size: ElementSize,
+    walk: &mut SchemaWalk,
+) -> Result<(), Stopped> {
     let place = PointerWord {
         place: Place { at, ..from.place },
         word,
         nesting_limit: from.nesting_limit,
     };
-    let size = word.list_element_size();
     let count = word.list_element_count();
     let words = words_for_elements(size, count);
-    let first = match from.source.read_near_primitive_list(place, words, lim) {
+    let first = match from
+        .source
+        .read_near_primitive_list(place, words, &mut walk.lim)
+    {
         Ok(first) => first,
-        Err(error) => return Err(misfit_of(pointer, from, at, error)),
+        Err(error) => {
+            walk.misfit = misfit_of(pointer, from, at, error);
+            return Err(Stopped);
+        }
     };
     let start = Place {
         at: first,
         ..from.place
     };
     match misfit_error(pointer.kind, Object::Flat { start, size, count }) {
-        Some(error) => Err(misfit_of(pointer, from, at, error)),
+        Some(error) => {
+            walk.misfit = misfit_of(pointer, from, at, error);
+            Err(Stopped)
+        }
         None => Ok(()),
     }
 }
@@ -364,7 +407,7 @@ fn check_primitive_list<A: ReaderArena>(
 /// ```
 // Tests the list of bits or numbers that the word at `at` describes, for pointer `index` of the row
 // at `row`, whose kind word in the table is `wanted`. Texts are told apart first: most lists are
-// texts, and of a constant kind little is left to test.
+// texts, and of a constant kind and size little is left to test.
 #[inline(always)]
 fn check_wanted_list<A: ReaderArena>(
     wanted: u32,
@@ -373,30 +416,34 @@ fn check_wanted_list<A: ReaderArena>(
     from: &Pointer<'_, A>,
     at: u32,
     word: WirePointer,
-    lim: &mut ReadLimiter,
-) -> Result<(), Misfit> {
-    if wanted == TEXT {
-        let text = SchemaPointer {
-            kind: Kind::Text,
-            row,
-            index,
-        };
-        return check_primitive_list(text, from, at, word, lim);
+    walk: &mut SchemaWalk,
+) -> Result<(), Stopped> {
+    match word.list_element_size() {
+        ElementSize::Byte if wanted == TEXT => {
+            let text = SchemaPointer {
+                kind: Kind::Text,
+                row,
+                index,
+            };
+            check_primitive_list(text, from, at, word, ElementSize::Byte, walk)
+        }
+        ElementSize::Byte if wanted == UTF8 => {
+            let text = SchemaPointer {
+                kind: Kind::Utf8,
+                row,
+                index,
+            };
+            check_primitive_list(text, from, at, word, ElementSize::Byte, walk)
+        }
+        size => {
+            let list = SchemaPointer {
+                kind: word_kind(wanted),
+                row,
+                index,
+            };
+            check_primitive_list(list, from, at, word, size, walk)
+        }
     }
-    if wanted == UTF8 {
-        let text = SchemaPointer {
-            kind: Kind::Utf8,
-            row,
-            index,
-        };
-        return check_primitive_list(text, from, at, word, lim);
-    }
-    let list = SchemaPointer {
-        kind: word_kind(wanted),
-        row,
-        index,
-    };
-    check_primitive_list(list, from, at, word, lim)
 }
 
 /// # Preconditions
@@ -409,14 +456,13 @@ fn check_wanted_list<A: ReaderArena>(
 // segment, such as a text, is tested in place.
 #[inline(always)]
 fn check_pointer<A: ReaderArena>(
-    table: &[u32],
-    row: u32,
+    row: TableRow<'_>,
     from: &Pointer<'_, A>,
     at: u32,
     data_words: u32,
     index: u32,
-    lim: &mut ReadLimiter,
-) -> Result<(), Misfit> {
+    walk: &mut SchemaWalk,
+) -> Result<(), Stopped> {
     let position = at + data_words + index;
     let word = Place {
         at: position,
@@ -427,18 +473,18 @@ fn check_pointer<A: ReaderArena>(
         return Ok(());
     }
     let element = Place { at, ..from.place };
-    let wanted = wanted_word(table, row, element, data_words, index);
+    let wanted = wanted_word(row, element, data_words, index);
     match word.kind() {
         WirePointerKind::List if is_primitive_list(word) => {
-            check_wanted_list(wanted, row, index, from, position, word, lim)
+            check_wanted_list(wanted, row.row, index, from, position, word, walk)
         }
         _ => {
             let pointer = SchemaPointer {
                 kind: word_kind(wanted),
-                row,
+                row: row.row,
                 index,
             };
-            check_object(table, pointer, from, position, lim)
+            check_object(row.table, pointer, from, position, walk)
         }
     }
 }
@@ -451,15 +497,24 @@ fn check_object<A: ReaderArena>(
     pointer: SchemaPointer,
     from: &Pointer<'_, A>,
     at: u32,
-    lim: &mut ReadLimiter,
-) -> Result<(), Misfit> {
+    walk: &mut SchemaWalk,
+) -> Result<(), Stopped> {
     let place = Place { at, ..from.place };
-    let object = match from.source.read_object(place, from.nesting_limit, lim) {
+    let object = match from
+        .source
+        .read_object(place, from.nesting_limit, &mut walk.lim)
+    {
         Ok(object) => object,
-        Err(error) => return Err(misfit_of(pointer, from, at, error)),
+        Err(error) => {
+            walk.misfit = misfit_of(pointer, from, at, error);
+            return Err(Stopped);
+        }
     };
     match misfit_error(pointer.kind, object) {
-        Some(error) => return Err(misfit_of(pointer, from, at, error)),
+        Some(error) => {
+            walk.misfit = misfit_of(pointer, from, at, error);
+            return Err(Stopped);
+        }
         None => {}
     }
     let Some(elements) = elements_of(object) else {
@@ -472,13 +527,12 @@ fn check_object<A: ReaderArena>(
     };
     let below = row_below(table, pointer.kind);
     check_elements(
-        below.table,
-        below.row,
+        below,
         &first,
         elements.data_words,
         elements.pointers,
         elements.count,
-        lim,
+        walk,
     )
 }
 
@@ -491,23 +545,22 @@ fn check_object<A: ReaderArena>(
 // Tests the pointers of `count` elements, of `data_words` and `pointers` words, from `from` on.
 #[inline]
 fn check_elements<A: ReaderArena>(
-    table: &[u32],
-    row: u32,
+    row: TableRow<'_>,
     from: &Pointer<'_, A>,
     data_words: u32,
     pointers: u32,
     count: u32,
-    lim: &mut ReadLimiter,
-) -> Result<(), Misfit> {
+    walk: &mut SchemaWalk,
+) -> Result<(), Stopped> {
     if pointers == 0 {
         return Ok(());
     }
     let width = u64::from(data_words) + u64::from(pointers);
     for i in 0..count {
         let at = u64::from(from.place.at) + u64::from(i) * width;
-        match check_pointers(table, row, from, at as u32, data_words, pointers, lim) {
+        match check_pointers(row, from, at as u32, data_words, pointers, walk) {
             Ok(()) => {}
-            Err(misfit) => return Err(misfit),
+            Err(stopped) => return Err(stopped),
         }
     }
     Ok(())
@@ -522,18 +575,17 @@ fn check_elements<A: ReaderArena>(
 // Tests the pointers of the element at `at`.
 #[inline]
 fn check_pointers<A: ReaderArena>(
-    table: &[u32],
-    row: u32,
+    row: TableRow<'_>,
     from: &Pointer<'_, A>,
     at: u32,
     data_words: u32,
     pointers: u32,
-    lim: &mut ReadLimiter,
-) -> Result<(), Misfit> {
+    walk: &mut SchemaWalk,
+) -> Result<(), Stopped> {
     for i in 0..pointers {
-        match check_pointer(table, row, from, at, data_words, i, lim) {
+        match check_pointer(row, from, at, data_words, i, walk) {
             Ok(()) => {}
-            Err(misfit) => return Err(misfit),
+            Err(stopped) => return Err(stopped),
         }
     }
     Ok(())
@@ -563,5 +615,15 @@ pub fn conforms<A: ReaderArena>(
         row: 0,
         index: 0,
     };
-    check_object(table, first, pointer, pointer.place.at, lim)
+    let mut walk = SchemaWalk::begin(lim);
+    match check_object(table, first, pointer, pointer.place.at, &mut walk) {
+        Ok(()) => {
+            *lim = walk.lim;
+            Ok(())
+        }
+        Err(Stopped) => {
+            *lim = walk.lim;
+            Err(walk.misfit)
+        }
+    }
 }

@@ -100,14 +100,25 @@ fn tested_word(table: &[u32], word: u32, section: Place, count: u32) -> u32 {
     word
 }
 
-// The kind word of pointer `index` of the row at `row`; 0 if the row doesn't have it.
-#[inline(always)]
-fn kind_word(table: &[u32], row: u32, index: u32) -> u32 {
+// A row of a table, by its position.
+#[derive(Clone, Copy)]
+pub(in crate::proved::typed_conforming) struct TableRow<'s> {
+    pub(in crate::proved::typed_conforming) table: &'s [u32],
+    pub(in crate::proved::typed_conforming) row: u32,
+    // The kind words of the row that are in the table. They are found once for all elements of a
+    // list.
+    kinds: &'s [u32],
+}
+
+// The kind words of the row at `row` that are in the table.
+#[inline]
+fn kinds_of(table: &[u32], row: u32) -> &[u32] {
     let row = row as usize;
-    if index >= table_word(table, row) {
-        return 0;
+    if row >= table.len() {
+        return &[];
     }
-    table_word(table, row + 1 + index as usize)
+    let rest = &table[row + 1..];
+    &rest[..rest.len().min(table[row] as usize)]
 }
 
 /// # Preconditions
@@ -115,28 +126,20 @@ fn kind_word(table: &[u32], row: u32, index: u32) -> u32 {
 /// ```text
 /// requires inside { section.at + count ≤ length (words_of section.bytes.now) }
 /// ```
-// The kind word that says what pointer `index` of the row at `row` may lead to, in a struct with
-// `count` data words at `section`. It names no test, or counts as 0.
+// The kind word that says what pointer `index` of a row may lead to, in a struct with `count` data
+// words at `section`. It names no test, or counts as 0.
 #[inline(always)]
 pub(in crate::proved::typed_conforming) fn wanted_word(
-    table: &[u32],
-    row: u32,
+    row: TableRow<'_>,
     section: Place,
     count: u32,
     index: u32,
 ) -> u32 {
-    let word = kind_word(table, row, index);
+    let word = table_word(row.kinds, index as usize);
     if word % 16 == TEST {
-        return tested_word(table, word, section, count);
+        return tested_word(row.table, word, section, count);
     }
     word
-}
-
-// A row of a table, by its position.
-#[derive(Clone, Copy)]
-pub(in crate::proved::typed_conforming) struct TableRow<'s> {
-    pub(in crate::proved::typed_conforming) table: &'s [u32],
-    pub(in crate::proved::typed_conforming) row: u32,
 }
 
 // The row of the structs that a pointer of this kind leads to; one of an empty table, in which every
@@ -144,7 +147,15 @@ pub(in crate::proved::typed_conforming) struct TableRow<'s> {
 #[inline(always)]
 pub(in crate::proved::typed_conforming) fn row_below(table: &[u32], kind: Kind) -> TableRow<'_> {
     match kind {
-        Kind::Struct(row) | Kind::List(_, row) => TableRow { table, row },
-        _ => TableRow { table: &[], row: 0 },
+        Kind::Struct(row) | Kind::List(_, row) => TableRow {
+            table,
+            row,
+            kinds: kinds_of(table, row),
+        },
+        _ => TableRow {
+            table: &[],
+            row: 0,
+            kinds: &[],
+        },
     }
 }
