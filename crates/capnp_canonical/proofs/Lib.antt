@@ -5,3 +5,4 @@ pub mod PartSizeLemmas
 pub mod PartLemmas
 pub mod ExtentLemmas
 pub mod PackedLemmas
+pub mod StoringLemmas

@@ -1,12 +1,12 @@
 -- What words are packed to, group by group: it stands for these words, and isn't much longer.
-use Rattle.std.proofs.Common.{◌≡◌, ◌≢◌, ◌⊎◌, inl, inr, ℕ, zero, suc, ◌+◌, ◌-◌, ◌*◌, ◌/◌, ◌%◌, ◌<◌, ◌≤◌, List, [], ◌∷◌, ◌++◌, replicate, length, take, drop, take-add, take-append-drop, take_all, drop-drop, append_assoc, ap₂, Bool, true, false, refl, sym, ap, ◌∙◌, subst, arith, append-nil, length-append, length-take, length-drop}
-use Rattle.std.specs.Prelude.{if◌then◌else◌, ◌&&◌, nat_eq, nat_le, slice_index}
+use Rattle.std.proofs.Common.{◌≡◌, ◌≢◌, ◌⊎◌, inl, inr, ℕ, zero, suc, ◌+◌, ◌-◌, ◌*◌, ◌/◌, ◌%◌, ◌<◌, ◌≤◌, List, [], ◌∷◌, ◌++◌, replicate, length, take, drop, take-add, take-append-drop, take_all, drop-drop, append_assoc, ap₂, Bool, true, false, refl, sym, ap, ◌∙◌, subst, arith, append-nil, length-append, length-drop}
+use Rattle.std.specs.Prelude.{if◌then◌else◌, nat_eq, slice_index}
 use Rattle.std.specs.Int.RustNames.{count_ones}
 use Rattle.std.proofs.Math.Dec.{eqb-suc-zero}
 use Rattle.std.proofs.lemmas.Bool.{ne_eqb}
 use Rattle.std.proofs.lemmas.Bool.Decides.{nat_tests}
 use Rattle.std.proofs.lemmas.List.{nil_from_length, replicate-append-replicate}
-use Rattle.capnp_packing.specs.Packing.{IsWhole, Packs, expanded, nonzero_bytes, ones, place_at_end, tag_of_word, unpacked_bytes}
+use Rattle.capnp_packing.specs.Packing.{Packs, expanded, nonzero_bytes, ones, place_at_end, tag_of_word, unpacked_bytes}
 use Rattle.capnp_packing.specs.declared.packing.place.Place.TheVariants.{Tag}
 use Rattle.capnp_packing.proofs.PackingLemmas.{packs_append, packs_none}
 use Rattle.capnp_packing.proofs.UnitLemmas.{length_front}

@@ -1,22 +1,18 @@
 -- The copy of a part isn't refused if there is one, but for lack of room or memory.
-use Rattle.std.proofs.Common.{◌≡◌, ◌≢◌, inl, inr, ℕ, ◌+◌, ◌*◌, ◌<◌, ◌≤◌, List, length, ap, ◌∙◌, subst, arith, Result, IsOk}
+use Rattle.std.proofs.Common.{◌≡◌, ◌≢◌, inl, inr, ℕ, ◌+◌, ◌*◌, ◌≤◌, List, length, ap, ◌∙◌, subst, arith, Result, IsOk}
 use Rattle.std.proofs.lemmas.Bool.{false≢true}
 use Rattle.capnp_format.specs.Canonical.{encoding, trim}
 use Rattle.capnp_format.specs.Segments.{AreWords, Segments}
-use Rattle.capnp_format.specs.Tree.{Tree}
-use Rattle.capnp_arena_traits.specs.Allocations.{max_segment_words}
 use Rattle.capnp_arena.specs.declared.arena.reader_arena_impl.ReaderOptions.{ReaderOptions}
-use Rattle.capnp_framing.specs.Frames.{bytes_of_words}
 use Rattle.capnp_framing.proofs.ReadingLemmas.{bytes-length}
 use Rattle.capnp_words.specs.declared.error.ErrorKind.{ErrorKind}
 use Rattle.capnp_objects.specs.declared.pointers.sizes.MessageSize.{MessageSize}
-use Rattle.capnp_messages.specs.MessageParts.{IsPartOf}
 use Rattle.capnp_messages.proofs.MessagePartLemmas.{part_granted}
 use Rattle.capnp_canonical.specs.Calls.{IsGranted}
 use Rattle.capnp_canonical.specs.Numbers.{answer_number}
 use Rattle.capnp_canonical.specs.Parts.{HasPart, HasPartSize, HasPartSizeWithin, RefusesPartOf, RefusesPartRoom, RefusesPartSize}
 use Rattle.capnp_canonical.specs.declared.refusal.Refusal.{Refusal}
-use Rattle.capnp_canonical.specs.declared.refusal.Refusal.TheVariants.{Layout, NoRoom}
+use Rattle.capnp_canonical.specs.declared.refusal.Refusal.TheVariants.{Layout}
 use Rattle.capnp_canonical.proofs.NumberLemmas.{error_number_above}
 use Rattle.capnp_canonical.proofs.PartSizeLemmas.{part_words}
 

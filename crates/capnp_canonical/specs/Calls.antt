@@ -53,7 +53,8 @@ AreWholeWords segments = All (λ s. length s.now % 8 ≡ 0) segments
 
 -- The segments that were passed are those of a message that satisfies P.
 abbrev pub InSegments : List (Bor (List ℕ)) → (Segments → Type 0) → Type 0
-InSegments segments P = AreWholeWords segments × AreSmall segments × P (message (lent_bytes segments))
+InSegments segments P =
+    AreWholeWords segments × AreSmall segments × P (message (lent_bytes segments))
 
 -- The bytes don't begin with a frame: there are none, or for the first reason that applies.
 abbrev pub RefusesBytes : List ℕ → ℕ → Refusal → Type 0
@@ -97,14 +98,16 @@ RefusesPacked packed room r =
     ⊎ ((r ≡ NoRoom size) × IsWhole Tag packed × (room < size))
     ⊎ ((r ≡ NoRoom (2 ^ 64 - 1)) × (2 ^ 64 ≤ size))
 
--- Bytes aren't packed: they aren't whole words; or they are packed to more bytes than there is room for.
+-- Bytes aren't packed: they aren't whole words; or they are packed to more bytes than there is room
+-- for.
 abbrev pub RefusesPacking : List ℕ → ℕ → Refusal → Type 0
 RefusesPacking bytes room r =
     let size = length (packed_words bytes) in
     ((r ≡ SegmentIsNotWholeWords) × (length bytes % 8 ≢ 0))
     ⊎ ((r ≡ NoRoom (capped size)) × (length bytes % 8 ≡ 0) × (room < size))
 
--- The canonical bytes of a message, in this form: of at most as many words as a segment of a copy can have.
+-- The canonical bytes of a message, in this form: of at most as many words as a segment of a copy
+-- can have.
 abbrev pub IsCopyOf : Form → ReaderOptions → Segments → List ℕ → Type 0
 IsCopyOf form limits S bytes =
     (t : Tree) × IsValueOf S limits t × (length (encoding (trim t)) ≤ max_segment_words)
@@ -112,7 +115,8 @@ IsCopyOf form limits S bytes =
 
 -- A command is refused for what the message means.
 abbrev pub RefusesMeaning : Command → ReaderOptions → Segments → Refusal → Type 0
-RefusesMeaning command limits S r = (k : ErrorKind) × (r ≡ Layout k) × RefusesAnswer command limits S k
+RefusesMeaning command limits S r =
+    (k : ErrorKind) × (r ≡ Layout k) × RefusesAnswer command limits S k
 
 -- A copy is refused for what the message means; or there is a copy, of more bytes than there is
 -- room for.
@@ -132,7 +136,8 @@ pub record Fills (result : Result ℕ Refusal) (old new : List ℕ) (P : List �
 
 -- A call from C writes such bytes if its answer is 0; otherwise the answer is the number of a
 -- refusal, and the buffer stays.
-pub record FillsByNumber (answer written : ℕ) (old new : List ℕ) (P : List ℕ → Type 0) : Type 0 where
+pub record FillsByNumber (answer written : ℕ) (old new : List ℕ) (P : List ℕ → Type 0)
+    : Type 0 where
   pub front : answer ≡ 0 → P (take written new)
   pub within : answer ≡ 0 → written ≤ length new
   pub behind : answer ≡ 0 → drop written new ≡ drop written old
@@ -162,12 +167,14 @@ no_fault = record { reason = 0; word = 0; segment = 0 }
 abbrev pub c_fault : CanonicalFault → Fault
 c_fault f = record { reason = reason_number f.reason; word = f.word; segment = f.segment }
 
--- The test of a message finds a fault, or none if the message is the canonical one of a value within the limits.
+-- The test of a message finds a fault, or none if the message is the canonical one of a value
+-- within the limits.
 abbrev pub TestFinds : ReaderOptions → Option CanonicalFault → Segments → Type 0
 TestFinds limits None S = IsCanonicalWithin S limits
 TestFinds limits (Some f) S = (IsCanonicalMessage S → ⊥) × IsFaultOf S limits f
 
--- Whether a message is canonical, and if not, why and where. If it is, its value is within the limits.
+-- Whether a message is canonical, and if not, why and where. If it is, its value is within the
+-- limits.
 abbrev pub TestIs : ReaderOptions → Bool → Fault → Segments → Type 0
 TestIs limits true fault S = IsCanonicalWithin S limits × (fault ≡ no_fault)
 TestIs limits false fault S =

@@ -8,3 +8,4 @@ pub mod Validation
 pub mod Pieces
 pub mod Locating
 pub mod Walking
+pub mod Storing

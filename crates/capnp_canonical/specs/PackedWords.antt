@@ -1,5 +1,5 @@
--- The packed form of words that C++ and Rust write (the encoding specification's "Packing"): a run is as long as it can be.
--- Other packed bytes can stand for the same words.
+-- The packed form of words that C++ and Rust write (the encoding specification's "Packing"): a run
+-- is as long as it can be. Other packed bytes can stand for the same words.
 use Rattle.std.specs.Prelude.{ℕ, zero, suc, ◌+◌, ◌*◌, Bool, if◌then◌else◌, ◌&&◌, nat_eq, nat_le}
 use Rattle.std.specs.Prelude.{List, [], ◌∷◌, ◌++◌, length, take, drop}
 use Rattle.std.specs.Int.RustNames.{count_ones}
@@ -21,8 +21,8 @@ run least most zero bytes = 0
 run least most (suc n) bytes =
     if has_word least most bytes then suc (run least most n (drop 8 bytes)) else 0
 
--- The number of words that are packed together with the first one: zero words after a zero word; after a word without a
--- zero byte, words that have at most one.
+-- The number of words that are packed together with the first one: zero words after a zero word;
+-- after a word without a zero byte, words that have at most one.
 unfoldable pub words_behind : ℕ → List ℕ → ℕ
 words_behind tag bytes =
     if nat_eq tag 0 then run 0 0 255 bytes else if nat_eq tag 255 then run 7 8 255 bytes else 0

@@ -15,8 +15,8 @@ next_place u =
     else if nat_eq u.place 4 then Count
     else Raw u.left
 
--- The state at a place, with these zero bytes to come. A number that the place doesn't have is 0: so
--- between two words, with no zero bytes to come, all numbers are 0.
+-- The state at a place, with these zero bytes to come. A number that the place doesn't have is 0:
+-- so between two words, with no zero bytes to come, all numbers are 0.
 abbrev pub unpacking_at : ℕ → Place → Unpacking
 unpacking_at zeros Tag = record { zeros = zeros; left = 0; place = 0; bits = 0 }
 unpacking_at zeros (Kept bits left) = record { zeros = zeros; left = left; place = 1; bits = bits }

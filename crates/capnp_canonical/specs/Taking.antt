@@ -36,8 +36,8 @@ abbrev pub IsPartDigestAfter : List ℕ → ReaderOptions → List ℕ → List 
 IsPartDigestAfter prefix limits path digest S =
     WordsOfPart limits path S (λ words. digest ≡ sha256 (prefix ++ words))
 
--- The bytes that were passed are those of a message that satisfies a fact, or are refused: for a frame `InFrame` and
--- `RefusesBytes`, and so on.
+-- The bytes that were passed are those of a message that satisfies a fact, or are refused: for a
+-- frame `InFrame` and `RefusesBytes`, and so on.
 abbrev pub Within : Type 1
 Within = (Segments → Type 0) → Type 0
 
@@ -49,7 +49,8 @@ abbrev pub IsBeside : ReaderOptions → List ℕ → Bool → Segments → Type 
 IsBeside limits words same T =
     WordsOf limits T (λ others. IsTrue same ↔ (words ≡ others))
 
--- A message has no canonical words within the limits, or memory ran out; or the bytes that were passed aren't a message.
+-- A message has no canonical words within the limits, or memory ran out; or the bytes that were
+-- passed aren't a message.
 abbrev pub HasNoWords : Within → Without → ReaderOptions → Refusal → Type 0
 HasNoWords In No limits r = No r ⊎ In (λ S. RefusesMeaning (Canon Flat) limits S r)
 
@@ -64,8 +65,10 @@ abbrev pub AreTheSame : (one other : Within) → ReaderOptions → Bool → Type
 AreTheSame One Other limits same =
     (words : List ℕ) × One (λ S. IsCopyOf Flat limits S words) × Other (IsBeside limits words same)
 
--- The first of two messages that were passed is refused; or it has canonical words, and the other is refused.
+-- The first of two messages that were passed is refused; or it has canonical words, and the other
+-- is refused.
 abbrev pub RefusesOne : Within → Without → Within → Without → ReaderOptions → Refusal → Type 0
 RefusesOne One NotOne Other NotOther limits r =
     HasNoWords One NotOne limits r
-    ⊎ ((words : List ℕ) × One (λ S. IsCopyOf Flat limits S words) × HasNoWords Other NotOther limits r)
+    ⊎ ((words : List ℕ) × One (λ S. IsCopyOf Flat limits S words)
+    × HasNoWords Other NotOther limits r)

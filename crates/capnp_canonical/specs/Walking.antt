@@ -20,7 +20,7 @@ c_walk w old =
     let n = capped (length w.0) in
     (written_over w.0 old, n, walk_answer w.1 n (length old))
 
--- There is no message, for a reason that satisfies P and that the answer has: no objects are written
--- or counted.
+-- There is no message, for a reason that satisfies P and that the answer has: no objects are
+-- written or counted.
 abbrev pub NotWalked : (Refusal → Type 0) → (old new : List WalkedObject) → (n answer : ℕ) → Type 0
 NotWalked P old new n answer = IsNumberWhere answer P × (new ≡ old) × (n ≡ 0)

@@ -16,8 +16,8 @@ use crate::taking::{Prefix, lend_part_words, lend_words};
 use crate::words::message_of;
 use std::alloc::Global;
 
-/// Returns the SHA-256 of `prefix` and then the canonical words of the message whose frame is at the
-/// front of `frame`.
+/// Returns the SHA-256 of `prefix` and then the canonical words of the message whose frame is at
+/// the front of `frame`.
 pub fn digest_frame_after(
     alloc: Global,
     prefix: &[u8],

@@ -10,6 +10,7 @@ use crate::calls::Limits;
 use crate::frames::message_in;
 use crate::refusal::Refusal;
 use crate::segments::lent_message;
+use crate::storing::store;
 use crate::taking::{Beside, WordTaker, lend_words};
 use crate::words::message_of;
 use std::alloc::Global;
@@ -26,7 +27,8 @@ impl WordTaker for OtherFrame<'_> {
     type Output = Result<bool, Refusal>;
 
     ghost takes = { λ other words _ made. IsComparison (InFrame other.bytes.now other.limits.words)
-        (RefusesBytes other.bytes.now other.limits.words) (limits_of other.limits.nesting other.limits.words) words made };
+        (RefusesBytes other.bytes.now other.limits.words)
+        (limits_of other.limits.nesting other.limits.words) words made };
 
     fn take(&mut self, words: &[u8]) -> Result<bool, Refusal> {
         match message_in(self.bytes, self.limits.words) {
@@ -48,7 +50,8 @@ impl WordTaker for OtherSegments<'_> {
     type Output = Result<bool, Refusal>;
 
     ghost takes = { λ other words _ made. IsComparison (InSegments other.bytes.now)
-        (RefusesSegments other.bytes.now) (limits_of other.limits.nesting other.limits.words) words made };
+        (RefusesSegments other.bytes.now)
+        (limits_of other.limits.nesting other.limits.words) words made };
 
     fn take(&mut self, words: &[u8]) -> Result<bool, Refusal> {
         match lent_message(self.bytes) {
@@ -70,7 +73,8 @@ impl WordTaker for OtherWords<'_> {
     type Output = Result<bool, Refusal>;
 
     ghost takes = { λ other words _ made. IsComparison (InWords other.bytes.now)
-        (RefusesSegment other.bytes.now) (limits_of other.limits.nesting other.limits.words) words made };
+        (RefusesSegment other.bytes.now)
+        (limits_of other.limits.nesting other.limits.words) words made };
 
     fn take(&mut self, words: &[u8]) -> Result<bool, Refusal> {
         match message_of(self.bytes) {
@@ -80,12 +84,15 @@ impl WordTaker for OtherWords<'_> {
     }
 }
 
-/// Whether the messages whose frames are at the fronts of `one` and `other` have the same canonical words.
+/// Whether the messages whose frames are at the fronts of `one` and `other` have the same canonical
+/// words.
 fn equal_frame(alloc: Global, one: &[u8], other: &[u8], limits: Limits) -> Result<bool, Refusal>
-    ensures same { IfOk result (AreTheSame (InFrame one.now limits.words) (InFrame other.now limits.words)
+    ensures same { IfOk result (AreTheSame (InFrame one.now limits.words)
+        (InFrame other.now limits.words) (limits_of limits.nesting limits.words)) }
+    ensures refused { IfErr result (RefusesOne
+        (InFrame one.now limits.words) (RefusesBytes one.now limits.words)
+        (InFrame other.now limits.words) (RefusesBytes other.now limits.words)
         (limits_of limits.nesting limits.words)) }
-    ensures refused { IfErr result (RefusesOne (InFrame one.now limits.words) (RefusesBytes one.now limits.words)
-        (InFrame other.now limits.words) (RefusesBytes other.now limits.words) (limits_of limits.nesting limits.words)) }
 {
     let first = message_in(one, limits.words)?;
     let mut other = OtherFrame {
@@ -106,7 +113,8 @@ fn equal_segments(
     ensures same { IfOk result (AreTheSame (InSegments one.now) (InSegments other.now)
         (limits_of limits.nesting limits.words)) }
     ensures refused { IfErr result (RefusesOne (InSegments one.now) (RefusesSegments one.now)
-        (InSegments other.now) (RefusesSegments other.now) (limits_of limits.nesting limits.words)) }
+        (InSegments other.now) (RefusesSegments other.now)
+        (limits_of limits.nesting limits.words)) }
 {
     let first = lent_message(one)?;
     let mut other = OtherSegments {
@@ -153,20 +161,14 @@ pub extern "C" fn capnp_canonical_equal(
         (RefusesBytes one.now words) (InFrame other.now words) (RefusesBytes other.now words)
         (limits_of nesting words)) }
     ensures none { result ≢ 0 → is_equal.new ≡ false }
-    ensures granted { InFrame one.now words (HasAnswerWithin (Command.Canon Form.Flat) (limits_of nesting words))
-        → InFrame other.now words (HasAnswerWithin (Command.Canon Form.Flat) (limits_of nesting words))
+    ensures granted { InFrame one.now words
+        (HasAnswerWithin (Command.Canon Form.Flat) (limits_of nesting words))
+        → InFrame other.now words
+        (HasAnswerWithin (Command.Canon Form.Flat) (limits_of nesting words))
         → (result ≡ 0) ⊎ (result ≡ 32) }
 {
-    match equal_frame(alloc, one, other, Limits { nesting, words }) {
-        Ok(same) => {
-            *is_equal = same;
-            0
-        }
-        Err(refusal) => {
-            *is_equal = false;
-            refusal.number()
-        }
-    }
+    let same = equal_frame(alloc, one, other, Limits { nesting, words });
+    store(same, false, is_equal)
 }
 
 /// Like `capnp_canonical_equal`, for the messages in the segments `one` and `other`.
@@ -185,20 +187,14 @@ pub extern "C" fn capnp_canonical_segments_equal(
         (RefusesSegments one.now) (InSegments other.now) (RefusesSegments other.now)
         (limits_of nesting words)) }
     ensures none { result ≢ 0 → is_equal.new ≡ false }
-    ensures granted { InSegments one.now (HasAnswerWithin (Command.Canon Form.Flat) (limits_of nesting words))
-        → InSegments other.now (HasAnswerWithin (Command.Canon Form.Flat) (limits_of nesting words))
+    ensures granted { InSegments one.now
+        (HasAnswerWithin (Command.Canon Form.Flat) (limits_of nesting words))
+        → InSegments other.now
+        (HasAnswerWithin (Command.Canon Form.Flat) (limits_of nesting words))
         → (result ≡ 0) ⊎ (result ≡ 32) }
 {
-    match equal_segments(alloc, one, other, Limits { nesting, words }) {
-        Ok(same) => {
-            *is_equal = same;
-            0
-        }
-        Err(refusal) => {
-            *is_equal = false;
-            refusal.number()
-        }
-    }
+    let same = equal_segments(alloc, one, other, Limits { nesting, words });
+    store(same, false, is_equal)
 }
 
 /// Like `capnp_canonical_equal`, for two messages with one segment each, whose words the caller
@@ -218,18 +214,12 @@ pub extern "C" fn capnp_canonical_words_equal(
         (RefusesSegment one.now) (InWords other.now) (RefusesSegment other.now)
         (limits_of nesting words)) }
     ensures none { result ≢ 0 → is_equal.new ≡ false }
-    ensures granted { InWords one.now (HasAnswerWithin (Command.Canon Form.Flat) (limits_of nesting words))
-        → InWords other.now (HasAnswerWithin (Command.Canon Form.Flat) (limits_of nesting words))
+    ensures granted { InWords one.now
+        (HasAnswerWithin (Command.Canon Form.Flat) (limits_of nesting words))
+        → InWords other.now
+        (HasAnswerWithin (Command.Canon Form.Flat) (limits_of nesting words))
         → (result ≡ 0) ⊎ (result ≡ 32) }
 {
-    match equal_words(alloc, one, other, Limits { nesting, words }) {
-        Ok(same) => {
-            *is_equal = same;
-            0
-        }
-        Err(refusal) => {
-            *is_equal = false;
-            refusal.number()
-        }
-    }
+    let same = equal_words(alloc, one, other, Limits { nesting, words });
+    store(same, false, is_equal)
 }

@@ -45,6 +45,7 @@ mod prefix_exports;
 mod refusal;
 mod segment_exports;
 mod segments;
+mod storing;
 mod taking;
 mod texts;
 mod validation;
@@ -63,6 +64,7 @@ use names::{name_of_number, put_text, text_of_reason};
 use packed::{Unpacking, unpack, unpack_further};
 use packing::pack;
 use std::alloc::Global;
+use storing::{store, store_size, store_written};
 use texts::text_of_answer;
 use validation::{NOT_SOUND, SoundMessage, validate_frame};
 
@@ -96,16 +98,8 @@ pub extern "C" fn capnp_canonical_copy(
     ensures lent { InFrame frame.now words (NeedsNoHeap (limits_of nesting words))
         → (result ≡ 0) ⊎ (result ≡ 1) }
 {
-    match copy_frame(alloc, Form::Framed, frame, Limits { nesting, words }, to) {
-        Ok(size) => {
-            *written = size;
-            0
-        }
-        Err(refusal) => {
-            *written = refusal.wanted_room();
-            refusal.number()
-        }
-    }
+    let copied = copy_frame(alloc, Form::Framed, frame, Limits { nesting, words }, to);
+    store_written(copied, written)
 }
 
 /// Like `capnp_canonical_copy`, but writes the canonical words without a frame.
@@ -132,16 +126,8 @@ pub extern "C" fn capnp_canonical_copy_flat(
     ensures lent { InFrame frame.now words (NeedsNoHeap (limits_of nesting words))
         → (result ≡ 0) ⊎ (result ≡ 1) }
 {
-    match copy_frame(alloc, Form::Flat, frame, Limits { nesting, words }, to) {
-        Ok(size) => {
-            *written = size;
-            0
-        }
-        Err(refusal) => {
-            *written = refusal.wanted_room();
-            refusal.number()
-        }
-    }
+    let copied = copy_frame(alloc, Form::Flat, frame, Limits { nesting, words }, to);
+    store_written(copied, written)
 }
 
 /// Tests whether the message whose frame is at the front of `frame` is canonical: whether it has
@@ -202,18 +188,8 @@ pub extern "C" fn capnp_canonical_size(
     ensures granted { InFrame frame.now words
         (HasAnswerWithin Command.Size (limits_of nesting words)) → result ≡ 0 }
 {
-    match size_frame(frame, Limits { nesting, words }) {
-        Ok(size) => {
-            *word_count = size.word_count;
-            *cap_count = size.cap_count;
-            0
-        }
-        Err(refusal) => {
-            *word_count = 0;
-            *cap_count = 0;
-            refusal.number()
-        }
-    }
+    let size = size_frame(frame, Limits { nesting, words });
+    store_size(size, word_count, cap_count)
 }
 
 /// Tests whether the message whose frame is at the front of `frame` is sound: whether its root
@@ -236,16 +212,8 @@ pub extern "C" fn capnp_canonical_validate(
     ensures granted { InFrame frame.now words (λ S. IsReadable S (limits_of nesting words))
         → result ≡ 0 }
 {
-    match validate_frame(frame, Limits { nesting, words }) {
-        Ok(found) => {
-            *extent = found;
-            0
-        }
-        Err(refusal) => {
-            *extent = NOT_SOUND;
-            refusal.number()
-        }
-    }
+    let found = validate_frame(frame, Limits { nesting, words });
+    store(found, NOT_SOUND, extent)
 }
 
 /// Finds the pointer at which reading the message whose frame is at the front of `frame` stops, and
@@ -270,16 +238,8 @@ pub extern "C" fn capnp_canonical_locate(
     ensures none { result ≢ 0 → pointer.new ≡ no_pointer }
     ensures granted { InFrame frame.now words (λ _. ⊤) → result ≡ 0 }
 {
-    match locate_in_frame(frame, Limits { nesting, words }, reading) {
-        Ok(found) => {
-            *pointer = found;
-            0
-        }
-        Err(refusal) => {
-            *pointer = NO_POINTER;
-            refusal.number()
-        }
-    }
+    let found = locate_in_frame(frame, Limits { nesting, words }, reading);
+    store(found, NO_POINTER, pointer)
 }
 
 /// Stores in `digest` the SHA-256 of the canonical words of the message whose frame is at the front
@@ -306,16 +266,8 @@ pub extern "C" fn capnp_canonical_digest(
     ensures lent { InFrame frame.now words (NeedsNoHeap (limits_of nesting words))
         → result ≡ 0 }
 {
-    match digest_frame_after(alloc, &[], frame, Limits { nesting, words }) {
-        Ok(made) => {
-            *digest = made;
-            0
-        }
-        Err(refusal) => {
-            *digest = [0; 32];
-            refusal.number()
-        }
-    }
+    let made = digest_frame_after(alloc, &[], frame, Limits { nesting, words });
+    store(made, [0; 32], digest)
 }
 
 /// Stores in `bytes` the size in bytes of the frame at the front of `frame`; after a refusal
@@ -329,16 +281,8 @@ pub extern "C" fn capnp_canonical_frame_size(frame: &[u8], words: u64, bytes: &m
         × IsNumberWhere result (RefusesBytes frame.now words) }
     ensures granted { InFrame frame.now words (λ _. ⊤) → result ≡ 0 }
 {
-    match frame_size(frame, words) {
-        Ok(size) => {
-            *bytes = size;
-            0
-        }
-        Err(refusal) => {
-            *bytes = 0;
-            refusal.number()
-        }
-    }
+    let size = frame_size(frame, words);
+    store(size, 0, bytes)
 }
 
 /// Stores in `bytes` how many bytes of a stream to have, from the start of a frame on, before
@@ -359,16 +303,8 @@ pub extern "C" fn capnp_canonical_frame_size_from_prefix(
     ensures refused { result ≢ 0 → (bytes.new ≡ 0)
         × IsNumberWhere result (RefusesPrefix prefix.now words) }
 {
-    match frame_size_from_prefix(prefix, words) {
-        Ok(size) => {
-            *bytes = size;
-            0
-        }
-        Err(refusal) => {
-            *bytes = 0;
-            refusal.number()
-        }
-    }
+    let size = frame_size_from_prefix(prefix, words);
+    store(size, 0, bytes)
 }
 
 /// Unpacks `packed` (encoding specification, "Packing") to the front of `to`, and stores the number
@@ -385,16 +321,8 @@ pub extern "C" fn capnp_canonical_unpack(packed: &[u8], to: &mut [u8], written: 
     ensures granted { IsWhole Place.Tag packed.now
         → length (unpacked_bytes Place.Tag packed.now) ≤ length to.old → result ≡ 0 }
 {
-    match unpack(packed, to) {
-        Ok(size) => {
-            *written = size;
-            0
-        }
-        Err(refusal) => {
-            *written = refusal.wanted_room();
-            refusal.number()
-        }
-    }
+    let unpacked = unpack(packed, to);
+    store_written(unpacked, written)
 }
 
 /// Packs `words` (encoding specification, "Packing") to the front of `to`, and stores the number of
@@ -415,16 +343,8 @@ pub extern "C" fn capnp_canonical_pack(words: &[u8], to: &mut [u8], written: &mu
         → (length (packed_words words.now) ≤ length to.old)
         ⊎ (10 * length words.now ≤ 8 * length to.old) → result ≡ 0 }
 {
-    match pack(words, to) {
-        Ok(size) => {
-            *written = size;
-            0
-        }
-        Err(refusal) => {
-            *written = refusal.wanted_room();
-            refusal.number()
-        }
-    }
+    let packed = pack(words, to);
+    store_written(packed, written)
 }
 
 /// Unpacks the next bytes of a packed stream to the front of `to`, and goes on from where the last

@@ -90,8 +90,8 @@ fn first_words(words: &[u8]) -> Group
     Group { tag, more }
 }
 
-/// The number of bytes that `words`, which are whole words, are packed to; `None` if that is 2^64 or
-/// more.
+/// The number of bytes that `words`, which are whole words, are packed to; `None` if that is 2^64
+/// or more.
 fn packed_size(words: &[u8]) -> Option<usize>
     requires { length words.now % 8 ≡ 0 }
     ensures size { IfSome result (λ n. n ≡ length (packed_words words.now)) }
@@ -110,7 +110,8 @@ fn packed_size(words: &[u8]) -> Option<usize>
     Some(size)
 }
 
-/// Writes `byte` after the first `at` bytes of `to`, and returns the number of bytes written so far.
+/// Writes `byte` after the first `at` bytes of `to`, and returns the number of bytes written so
+/// far.
 #[inline(always)]
 fn put_byte(byte: u8, to: &mut [u8], at: usize) -> usize
     requires { at < length to.old }
@@ -174,8 +175,8 @@ fn put_group(group: Group, words: &[u8], to: &mut [u8], at: usize) -> usize
     put_nonzero_bytes(&words[..8], to, tagged)
 }
 
-/// Packs `words`, which are whole words, to `to`, which has exactly as many bytes as they are packed
-/// to.
+/// Packs `words`, which are whole words, to `to`, which has exactly as many bytes as they are
+/// packed to.
 fn pack_to_slice(words: &[u8], to: &mut [u8])
     requires whole { length words.now % 8 ≡ 0 }
     requires room { length (packed_words words.now) ≡ length to.old }
@@ -191,8 +192,8 @@ fn pack_to_slice(words: &[u8], to: &mut [u8])
     }
 }
 
-/// Packs `words` to the front of `to`, and returns the number of packed bytes. Counts them first, so
-/// it writes nothing if `to` is too small, or `words` isn't whole words.
+/// Packs `words` to the front of `to`, and returns the number of packed bytes. Counts them first,
+/// so it writes nothing if `to` is too small, or `words` isn't whole words.
 pub fn pack(words: &[u8], to: &mut [u8]) -> Result<usize, Refusal>
     ensures packed { Fills result to.old to.new (λ bytes. bytes ≡ packed_words words.now) }
     ensures whole { OnOk result (length words.now % 8 ≡ 0) }

@@ -14,6 +14,7 @@ use crate::parts::{
     copy_frame_part, copy_segments_part, copy_words_part, size_frame_part, size_segments_part,
     size_words_part,
 };
+use crate::storing::{store, store_size, store_written};
 use std::alloc::Global;
 
 /// Makes the canonical copy of a part of the message whose frame is at the front of `frame`: of the
@@ -51,16 +52,8 @@ pub extern "C" fn capnp_canonical_copy_flat_at(
     ensures lent { InFrame frame.now words (PartNeedsNoHeap (limits_of nesting words) path.now)
         → (result ≡ 0) ⊎ (result ≡ 1) }
 {
-    match copy_frame_part(alloc, frame, path, Limits { nesting, words }, to) {
-        Ok(size) => {
-            *written = size;
-            0
-        }
-        Err(refusal) => {
-            *written = refusal.wanted_room();
-            refusal.number()
-        }
-    }
+    let copied = copy_frame_part(alloc, frame, path, Limits { nesting, words }, to);
+    store_written(copied, written)
 }
 
 /// Stores in `digest` the SHA-256 of the bytes that `capnp_canonical_copy_flat_at` writes. After a
@@ -85,16 +78,8 @@ pub extern "C" fn capnp_canonical_digest_at(
     ensures lent { InFrame frame.now words (PartNeedsNoHeap (limits_of nesting words) path.now)
         → result ≡ 0 }
 {
-    match digest_frame_part_after(alloc, &[], frame, path, Limits { nesting, words }) {
-        Ok(made) => {
-            *digest = made;
-            0
-        }
-        Err(refusal) => {
-            *digest = [0; 32];
-            refusal.number()
-        }
-    }
+    let made = digest_frame_part_after(alloc, &[], frame, path, Limits { nesting, words });
+    store(made, [0; 32], digest)
 }
 
 /// Counts the words and capabilities of the part of the message to which `path` leads, without
@@ -117,18 +102,8 @@ pub extern "C" fn capnp_canonical_size_at(
     ensures granted { InFrame frame.now words (HasPartSizeWithin (limits_of nesting words) path.now)
         → result ≡ 0 }
 {
-    match size_frame_part(frame, path, Limits { nesting, words }) {
-        Ok(size) => {
-            *word_count = size.word_count;
-            *cap_count = size.cap_count;
-            0
-        }
-        Err(refusal) => {
-            *word_count = 0;
-            *cap_count = 0;
-            refusal.number()
-        }
-    }
+    let size = size_frame_part(frame, path, Limits { nesting, words });
+    store_size(size, word_count, cap_count)
 }
 
 /// Like `capnp_canonical_copy_flat_at`, for a message that the caller passes as `segments`, without
@@ -153,16 +128,8 @@ pub extern "C" fn capnp_canonical_segments_copy_flat_at(
     ensures lent { InSegments segments.now (PartNeedsNoHeap (limits_of nesting words) path.now)
         → (result ≡ 0) ⊎ (result ≡ 1) }
 {
-    match copy_segments_part(alloc, segments, path, Limits { nesting, words }, to) {
-        Ok(size) => {
-            *written = size;
-            0
-        }
-        Err(refusal) => {
-            *written = refusal.wanted_room();
-            refusal.number()
-        }
-    }
+    let copied = copy_segments_part(alloc, segments, path, Limits { nesting, words }, to);
+    store_written(copied, written)
 }
 
 /// Like `capnp_canonical_digest_at`, for a message that the caller passes as `segments`, without a
@@ -186,16 +153,8 @@ pub extern "C" fn capnp_canonical_segments_digest_at(
     ensures lent { InSegments segments.now (PartNeedsNoHeap (limits_of nesting words) path.now)
         → result ≡ 0 }
 {
-    match digest_segments_part_after(alloc, &[], segments, path, Limits { nesting, words }) {
-        Ok(made) => {
-            *digest = made;
-            0
-        }
-        Err(refusal) => {
-            *digest = [0; 32];
-            refusal.number()
-        }
-    }
+    let made = digest_segments_part_after(alloc, &[], segments, path, Limits { nesting, words });
+    store(made, [0; 32], digest)
 }
 
 /// Like `capnp_canonical_size_at`, for a message that the caller passes as `segments`, without a
@@ -217,18 +176,8 @@ pub extern "C" fn capnp_canonical_segments_size_at(
     ensures granted { InSegments segments.now (HasPartSizeWithin (limits_of nesting words) path.now)
         → result ≡ 0 }
 {
-    match size_segments_part(segments, path, Limits { nesting, words }) {
-        Ok(size) => {
-            *word_count = size.word_count;
-            *cap_count = size.cap_count;
-            0
-        }
-        Err(refusal) => {
-            *word_count = 0;
-            *cap_count = 0;
-            refusal.number()
-        }
-    }
+    let size = size_segments_part(segments, path, Limits { nesting, words });
+    store_size(size, word_count, cap_count)
 }
 
 /// Like `capnp_canonical_copy_flat_at`, for a message with one segment, whose words the caller
@@ -253,16 +202,8 @@ pub extern "C" fn capnp_canonical_words_copy_at(
     ensures lent { InWords bytes.now (PartNeedsNoHeap (limits_of nesting words) path.now)
         → (result ≡ 0) ⊎ (result ≡ 1) }
 {
-    match copy_words_part(alloc, bytes, path, Limits { nesting, words }, to) {
-        Ok(size) => {
-            *written = size;
-            0
-        }
-        Err(refusal) => {
-            *written = refusal.wanted_room();
-            refusal.number()
-        }
-    }
+    let copied = copy_words_part(alloc, bytes, path, Limits { nesting, words }, to);
+    store_written(copied, written)
 }
 
 /// Like `capnp_canonical_digest_at`, for a message with one segment, whose words the caller passes
@@ -286,16 +227,8 @@ pub extern "C" fn capnp_canonical_words_digest_at(
     ensures lent { InWords bytes.now (PartNeedsNoHeap (limits_of nesting words) path.now)
         → result ≡ 0 }
 {
-    match digest_words_part_after(alloc, &[], bytes, path, Limits { nesting, words }) {
-        Ok(made) => {
-            *digest = made;
-            0
-        }
-        Err(refusal) => {
-            *digest = [0; 32];
-            refusal.number()
-        }
-    }
+    let made = digest_words_part_after(alloc, &[], bytes, path, Limits { nesting, words });
+    store(made, [0; 32], digest)
 }
 
 /// Like `capnp_canonical_size_at`, for a message with one segment, whose words the caller passes as
@@ -317,16 +250,6 @@ pub extern "C" fn capnp_canonical_words_size_at(
     ensures granted { InWords bytes.now (HasPartSizeWithin (limits_of nesting words) path.now)
         → result ≡ 0 }
 {
-    match size_words_part(bytes, path, Limits { nesting, words }) {
-        Ok(size) => {
-            *word_count = size.word_count;
-            *cap_count = size.cap_count;
-            0
-        }
-        Err(refusal) => {
-            *word_count = 0;
-            *cap_count = 0;
-            refusal.number()
-        }
-    }
+    let size = size_words_part(bytes, path, Limits { nesting, words });
+    store_size(size, word_count, cap_count)
 }

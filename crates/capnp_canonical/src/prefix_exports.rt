@@ -14,6 +14,7 @@ use crate::digests::{
     digest_frame_after, digest_frame_part_after, digest_segments_after, digest_segments_part_after,
     digest_words_after, digest_words_part_after,
 };
+use crate::storing::store;
 use std::alloc::Global;
 
 /// Stores in `digest` the SHA-256 of the bytes of `prefix` and then the canonical words of the
@@ -32,23 +33,16 @@ pub extern "C" fn capnp_canonical_digest_with(
     ensures done { result ≡ 0 → InFrame frame.now words
         (IsDigestAfter prefix.now (limits_of nesting words) digest.new) }
     ensures refused { result ≢ 0 → IsNumberWhere result (λ r. RefusesBytes frame.now words r
-        ⊎ InFrame frame.now words (λ S. RefusesMeaning (Command.Canon Form.Flat) (limits_of nesting words) S r)) }
+        ⊎ InFrame frame.now words
+        (λ S. RefusesMeaning (Command.Canon Form.Flat) (limits_of nesting words) S r)) }
     ensures none { result ≢ 0 → digest.new ≡ replicate 32 0 }
     ensures granted { InFrame frame.now words (HasAnswerWithin (Command.Canon Form.Flat)
         (limits_of nesting words))
         → (result ≡ 0) ⊎ (result ≡ 32) }
     ensures lent { InFrame frame.now words (NeedsNoHeap (limits_of nesting words)) → result ≡ 0 }
 {
-    match digest_frame_after(alloc, prefix, frame, Limits { nesting, words }) {
-        Ok(made) => {
-            *digest = made;
-            0
-        }
-        Err(refusal) => {
-            *digest = [0; 32];
-            refusal.number()
-        }
-    }
+    let made = digest_frame_after(alloc, prefix, frame, Limits { nesting, words });
+    store(made, [0; 32], digest)
 }
 
 /// Like `capnp_canonical_digest_with`, for the message in `segments`.
@@ -64,27 +58,20 @@ pub extern "C" fn capnp_canonical_segments_digest_with(
     ensures done { result ≡ 0 → InSegments segments.now
         (IsDigestAfter prefix.now (limits_of nesting words) digest.new) }
     ensures refused { result ≢ 0 → IsNumberWhere result (λ r. RefusesSegments segments.now r
-        ⊎ InSegments segments.now (λ S. RefusesMeaning (Command.Canon Form.Flat) (limits_of nesting words) S r)) }
+        ⊎ InSegments segments.now
+        (λ S. RefusesMeaning (Command.Canon Form.Flat) (limits_of nesting words) S r)) }
     ensures none { result ≢ 0 → digest.new ≡ replicate 32 0 }
     ensures granted { InSegments segments.now (HasAnswerWithin (Command.Canon Form.Flat)
         (limits_of nesting words))
         → (result ≡ 0) ⊎ (result ≡ 32) }
     ensures lent { InSegments segments.now (NeedsNoHeap (limits_of nesting words)) → result ≡ 0 }
 {
-    match digest_segments_after(alloc, prefix, segments, Limits { nesting, words }) {
-        Ok(made) => {
-            *digest = made;
-            0
-        }
-        Err(refusal) => {
-            *digest = [0; 32];
-            refusal.number()
-        }
-    }
+    let made = digest_segments_after(alloc, prefix, segments, Limits { nesting, words });
+    store(made, [0; 32], digest)
 }
 
-/// Like `capnp_canonical_digest_with`, for a message with one segment, whose words the caller passes
-/// as `bytes`, without a frame.
+/// Like `capnp_canonical_digest_with`, for a message with one segment, whose words the caller
+/// passes as `bytes`, without a frame.
 #[unsafe(no_mangle)]
 pub extern "C" fn capnp_canonical_words_digest_with(
     alloc: Global,
@@ -97,23 +84,16 @@ pub extern "C" fn capnp_canonical_words_digest_with(
     ensures done { result ≡ 0 → InWords bytes.now
         (IsDigestAfter prefix.now (limits_of nesting words) digest.new) }
     ensures refused { result ≢ 0 → IsNumberWhere result (λ r. RefusesSegment bytes.now r
-        ⊎ InWords bytes.now (λ S. RefusesMeaning (Command.Canon Form.Flat) (limits_of nesting words) S r)) }
+        ⊎ InWords bytes.now
+        (λ S. RefusesMeaning (Command.Canon Form.Flat) (limits_of nesting words) S r)) }
     ensures none { result ≢ 0 → digest.new ≡ replicate 32 0 }
     ensures granted { InWords bytes.now (HasAnswerWithin (Command.Canon Form.Flat)
         (limits_of nesting words))
         → (result ≡ 0) ⊎ (result ≡ 32) }
     ensures lent { InWords bytes.now (NeedsNoHeap (limits_of nesting words)) → result ≡ 0 }
 {
-    match digest_words_after(alloc, prefix, bytes, Limits { nesting, words }) {
-        Ok(made) => {
-            *digest = made;
-            0
-        }
-        Err(refusal) => {
-            *digest = [0; 32];
-            refusal.number()
-        }
-    }
+    let made = digest_words_after(alloc, prefix, bytes, Limits { nesting, words });
+    store(made, [0; 32], digest)
 }
 
 /// Like `capnp_canonical_digest_with`, for the part of the message to which `path` leads: the
@@ -135,18 +115,11 @@ pub extern "C" fn capnp_canonical_digest_with_at(
     ensures none { result ≢ 0 → digest.new ≡ replicate 32 0 }
     ensures granted { InFrame frame.now words (HasPart (limits_of nesting words) path.now)
         → (result ≡ 0) ⊎ (result ≡ 32) }
-    ensures lent { InFrame frame.now words (PartNeedsNoHeap (limits_of nesting words) path.now) → result ≡ 0 }
+    ensures lent { InFrame frame.now words (PartNeedsNoHeap (limits_of nesting words) path.now)
+        → result ≡ 0 }
 {
-    match digest_frame_part_after(alloc, prefix, frame, path, Limits { nesting, words }) {
-        Ok(made) => {
-            *digest = made;
-            0
-        }
-        Err(refusal) => {
-            *digest = [0; 32];
-            refusal.number()
-        }
-    }
+    let made = digest_frame_part_after(alloc, prefix, frame, path, Limits { nesting, words });
+    store(made, [0; 32], digest)
 }
 
 /// Like `capnp_canonical_digest_with_at`, for the message in `segments`.
@@ -167,18 +140,11 @@ pub extern "C" fn capnp_canonical_segments_digest_with_at(
     ensures none { result ≢ 0 → digest.new ≡ replicate 32 0 }
     ensures granted { InSegments segments.now (HasPart (limits_of nesting words) path.now)
         → (result ≡ 0) ⊎ (result ≡ 32) }
-    ensures lent { InSegments segments.now (PartNeedsNoHeap (limits_of nesting words) path.now) → result ≡ 0 }
+    ensures lent { InSegments segments.now (PartNeedsNoHeap (limits_of nesting words) path.now)
+        → result ≡ 0 }
 {
-    match digest_segments_part_after(alloc, prefix, segments, path, Limits { nesting, words }) {
-        Ok(made) => {
-            *digest = made;
-            0
-        }
-        Err(refusal) => {
-            *digest = [0; 32];
-            refusal.number()
-        }
-    }
+    let made = digest_segments_part_after(alloc, prefix, segments, path, Limits { nesting, words });
+    store(made, [0; 32], digest)
 }
 
 /// Like `capnp_canonical_digest_with_at`, for a message with one segment, whose words the caller
@@ -200,16 +166,9 @@ pub extern "C" fn capnp_canonical_words_digest_with_at(
     ensures none { result ≢ 0 → digest.new ≡ replicate 32 0 }
     ensures granted { InWords bytes.now (HasPart (limits_of nesting words) path.now)
         → (result ≡ 0) ⊎ (result ≡ 32) }
-    ensures lent { InWords bytes.now (PartNeedsNoHeap (limits_of nesting words) path.now) → result ≡ 0 }
+    ensures lent { InWords bytes.now (PartNeedsNoHeap (limits_of nesting words) path.now)
+        → result ≡ 0 }
 {
-    match digest_words_part_after(alloc, prefix, bytes, path, Limits { nesting, words }) {
-        Ok(made) => {
-            *digest = made;
-            0
-        }
-        Err(refusal) => {
-            *digest = [0; 32];
-            refusal.number()
-        }
-    }
+    let made = digest_words_part_after(alloc, prefix, bytes, path, Limits { nesting, words });
+    store(made, [0; 32], digest)
 }

@@ -16,6 +16,7 @@ use crate::digests::digest_segments_after;
 use crate::fault::{Fault, NO_FAULT};
 use crate::locating::{BrokenPointer, NO_POINTER, locate_in_segments};
 use crate::segments::{check_segments, copy_segments, size_segments};
+use crate::storing::{store, store_size, store_written};
 use crate::validation::{NOT_SOUND, SoundMessage, validate_segments};
 use capnp_messages::messages::Form;
 use std::alloc::Global;
@@ -42,16 +43,8 @@ pub extern "C" fn capnp_canonical_segments_copy(
     ensures lent { InSegments segments.now (NeedsNoHeap (limits_of nesting words))
         → (result ≡ 0) ⊎ (result ≡ 1) }
 {
-    match copy_segments(alloc, Form::Framed, segments, Limits { nesting, words }, to) {
-        Ok(size) => {
-            *written = size;
-            0
-        }
-        Err(refusal) => {
-            *written = refusal.wanted_room();
-            refusal.number()
-        }
-    }
+    let copied = copy_segments(alloc, Form::Framed, segments, Limits { nesting, words }, to);
+    store_written(copied, written)
 }
 
 /// Like `capnp_canonical_copy_flat`, for a message that the caller passes as `segments`, without a
@@ -76,16 +69,8 @@ pub extern "C" fn capnp_canonical_segments_copy_flat(
     ensures lent { InSegments segments.now (NeedsNoHeap (limits_of nesting words))
         → (result ≡ 0) ⊎ (result ≡ 1) }
 {
-    match copy_segments(alloc, Form::Flat, segments, Limits { nesting, words }, to) {
-        Ok(size) => {
-            *written = size;
-            0
-        }
-        Err(refusal) => {
-            *written = refusal.wanted_room();
-            refusal.number()
-        }
-    }
+    let copied = copy_segments(alloc, Form::Flat, segments, Limits { nesting, words }, to);
+    store_written(copied, written)
 }
 
 /// Like `capnp_canonical_check`, for a message that the caller passes as `segments`, without a
@@ -140,18 +125,8 @@ pub extern "C" fn capnp_canonical_segments_size(
     ensures granted { InSegments segments.now
         (HasAnswerWithin Command.Size (limits_of nesting words)) → result ≡ 0 }
 {
-    match size_segments(segments, Limits { nesting, words }) {
-        Ok(size) => {
-            *word_count = size.word_count;
-            *cap_count = size.cap_count;
-            0
-        }
-        Err(refusal) => {
-            *word_count = 0;
-            *cap_count = 0;
-            refusal.number()
-        }
-    }
+    let size = size_segments(segments, Limits { nesting, words });
+    store_size(size, word_count, cap_count)
 }
 
 /// Like `capnp_canonical_validate`, for the message of these segments.
@@ -170,16 +145,8 @@ pub extern "C" fn capnp_canonical_segments_validate(
     ensures granted { InSegments segments.now (λ S. IsReadable S (limits_of nesting words))
         → result ≡ 0 }
 {
-    match validate_segments(segments, Limits { nesting, words }) {
-        Ok(found) => {
-            *extent = found;
-            0
-        }
-        Err(refusal) => {
-            *extent = NOT_SOUND;
-            refusal.number()
-        }
-    }
+    let found = validate_segments(segments, Limits { nesting, words });
+    store(found, NOT_SOUND, extent)
 }
 
 /// Like `capnp_canonical_locate`, for the message of these segments.
@@ -197,16 +164,8 @@ pub extern "C" fn capnp_canonical_segments_locate(
     ensures none { result ≢ 0 → pointer.new ≡ no_pointer }
     ensures granted { InSegments segments.now (λ _. ⊤) → result ≡ 0 }
 {
-    match locate_in_segments(segments, Limits { nesting, words }, reading) {
-        Ok(found) => {
-            *pointer = found;
-            0
-        }
-        Err(refusal) => {
-            *pointer = NO_POINTER;
-            refusal.number()
-        }
-    }
+    let found = locate_in_segments(segments, Limits { nesting, words }, reading);
+    store(found, NO_POINTER, pointer)
 }
 
 /// Like `capnp_canonical_digest`, for a message that the caller passes as `segments`, without a
@@ -231,14 +190,6 @@ pub extern "C" fn capnp_canonical_segments_digest(
     ensures lent { InSegments segments.now (NeedsNoHeap (limits_of nesting words))
         → result ≡ 0 }
 {
-    match digest_segments_after(alloc, &[], segments, Limits { nesting, words }) {
-        Ok(made) => {
-            *digest = made;
-            0
-        }
-        Err(refusal) => {
-            *digest = [0; 32];
-            refusal.number()
-        }
-    }
+    let made = digest_segments_after(alloc, &[], segments, Limits { nesting, words });
+    store(made, [0; 32], digest)
 }

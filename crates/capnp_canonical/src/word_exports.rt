@@ -15,6 +15,7 @@ use crate::calls::Limits;
 use crate::digests::digest_words_after;
 use crate::fault::{Fault, NO_FAULT};
 use crate::locating::{BrokenPointer, NO_POINTER, locate_in_words};
+use crate::storing::{store, store_size, store_written};
 use crate::validation::{NOT_SOUND, SoundMessage, validate_words};
 use crate::words::{check_words, copy_words, size_words};
 use std::alloc::Global;
@@ -41,16 +42,8 @@ pub extern "C" fn capnp_canonical_words_copy(
     ensures lent { InWords bytes.now (NeedsNoHeap (limits_of nesting words))
         → (result ≡ 0) ⊎ (result ≡ 1) }
 {
-    match copy_words(alloc, bytes, Limits { nesting, words }, to) {
-        Ok(size) => {
-            *written = size;
-            0
-        }
-        Err(refusal) => {
-            *written = refusal.wanted_room();
-            refusal.number()
-        }
-    }
+    let copied = copy_words(alloc, bytes, Limits { nesting, words }, to);
+    store_written(copied, written)
 }
 
 /// Like `capnp_canonical_check`, for a message with one segment, whose words the caller passes as
@@ -103,18 +96,8 @@ pub extern "C" fn capnp_canonical_words_size(
     ensures granted { InWords bytes.now (HasAnswerWithin Command.Size (limits_of nesting words))
         → result ≡ 0 }
 {
-    match size_words(bytes, Limits { nesting, words }) {
-        Ok(size) => {
-            *word_count = size.word_count;
-            *cap_count = size.cap_count;
-            0
-        }
-        Err(refusal) => {
-            *word_count = 0;
-            *cap_count = 0;
-            refusal.number()
-        }
-    }
+    let size = size_words(bytes, Limits { nesting, words });
+    store_size(size, word_count, cap_count)
 }
 
 /// Like `capnp_canonical_validate`, for the message whose only segment has the words in `bytes`.
@@ -133,16 +116,8 @@ pub extern "C" fn capnp_canonical_words_validate(
     ensures granted { InWords bytes.now (λ S. IsReadable S (limits_of nesting words))
         → result ≡ 0 }
 {
-    match validate_words(bytes, Limits { nesting, words }) {
-        Ok(found) => {
-            *extent = found;
-            0
-        }
-        Err(refusal) => {
-            *extent = NOT_SOUND;
-            refusal.number()
-        }
-    }
+    let found = validate_words(bytes, Limits { nesting, words });
+    store(found, NOT_SOUND, extent)
 }
 
 /// Like `capnp_canonical_locate`, for the message whose only segment has the words in `bytes`.
@@ -160,16 +135,8 @@ pub extern "C" fn capnp_canonical_words_locate(
     ensures none { result ≢ 0 → pointer.new ≡ no_pointer }
     ensures granted { InWords bytes.now (λ _. ⊤) → result ≡ 0 }
 {
-    match locate_in_words(bytes, Limits { nesting, words }, reading) {
-        Ok(found) => {
-            *pointer = found;
-            0
-        }
-        Err(refusal) => {
-            *pointer = NO_POINTER;
-            refusal.number()
-        }
-    }
+    let found = locate_in_words(bytes, Limits { nesting, words }, reading);
+    store(found, NO_POINTER, pointer)
 }
 
 /// Like `capnp_canonical_digest`, for a message with one segment, whose words the caller passes as
@@ -194,14 +161,6 @@ pub extern "C" fn capnp_canonical_words_digest(
     ensures lent { InWords bytes.now (NeedsNoHeap (limits_of nesting words))
         → result ≡ 0 }
 {
-    match digest_words_after(alloc, &[], bytes, Limits { nesting, words }) {
-        Ok(made) => {
-            *digest = made;
-            0
-        }
-        Err(refusal) => {
-            *digest = [0; 32];
-            refusal.number()
-        }
-    }
+    let made = digest_words_after(alloc, &[], bytes, Limits { nesting, words });
+    store(made, [0; 32], digest)
 }

@@ -22,6 +22,7 @@ mod prefix_exports;
 mod refusal;
 mod segment_exports;
 mod segments;
+mod storing;
 mod taking;
 mod texts;
 mod validation;
@@ -40,6 +41,7 @@ use locating::{locate_in_frame, BrokenPointer, NO_POINTER};
 use names::{name_of_number, put_text, text_of_reason};
 use packed::{unpack, unpack_further, Unpacking};
 use packing::pack;
+use storing::{store, store_size, store_written};
 use texts::text_of_answer;
 use validation::{validate_frame, SoundMessage, NOT_SOUND};
 
@@ -58,16 +60,8 @@ pub fn capnp_canonical_copy(
     to: &mut [u8],
     written: &mut usize,
 ) -> u32 {
-    match copy_frame(alloc, Form::Framed, frame, Limits { nesting, words }, to) {
-        Ok(size) => {
-            *written = size;
-            0
-        }
-        Err(refusal) => {
-            *written = refusal.wanted_room();
-            refusal.number()
-        }
-    }
+    let copied = copy_frame(alloc, Form::Framed, frame, Limits { nesting, words }, to);
+    store_written(copied, written)
 }
 
 /// Like `capnp_canonical_copy`, but writes the canonical words without a frame.
@@ -79,16 +73,8 @@ pub fn capnp_canonical_copy_flat(
     to: &mut [u8],
     written: &mut usize,
 ) -> u32 {
-    match copy_frame(alloc, Form::Flat, frame, Limits { nesting, words }, to) {
-        Ok(size) => {
-            *written = size;
-            0
-        }
-        Err(refusal) => {
-            *written = refusal.wanted_room();
-            refusal.number()
-        }
-    }
+    let copied = copy_frame(alloc, Form::Flat, frame, Limits { nesting, words }, to);
+    store_written(copied, written)
 }
 
 /// Tests whether the message whose frame is at the front of `frame` is canonical: whether it has
@@ -129,18 +115,8 @@ pub fn capnp_canonical_size(
     word_count: &mut u64,
     cap_count: &mut u32,
 ) -> u32 {
-    match size_frame(frame, Limits { nesting, words }) {
-        Ok(size) => {
-            *word_count = size.word_count;
-            *cap_count = size.cap_count;
-            0
-        }
-        Err(refusal) => {
-            *word_count = 0;
-            *cap_count = 0;
-            refusal.number()
-        }
-    }
+    let size = size_frame(frame, Limits { nesting, words });
+    store_size(size, word_count, cap_count)
 }
 
 /// Tests whether the message whose frame is at the front of `frame` is sound: whether its root
@@ -154,16 +130,8 @@ pub fn capnp_canonical_validate(
     words: u64,
     extent: &mut SoundMessage,
 ) -> u32 {
-    match validate_frame(frame, Limits { nesting, words }) {
-        Ok(found) => {
-            *extent = found;
-            0
-        }
-        Err(refusal) => {
-            *extent = NOT_SOUND;
-            refusal.number()
-        }
-    }
+    let found = validate_frame(frame, Limits { nesting, words });
+    store(found, NOT_SOUND, extent)
 }
 
 /// Finds the pointer at which reading the message whose frame is at the front of `frame` stops, and
@@ -181,16 +149,8 @@ pub fn capnp_canonical_locate(
     reading: u32,
     pointer: &mut BrokenPointer,
 ) -> u32 {
-    match locate_in_frame(frame, Limits { nesting, words }, reading) {
-        Ok(found) => {
-            *pointer = found;
-            0
-        }
-        Err(refusal) => {
-            *pointer = NO_POINTER;
-            refusal.number()
-        }
-    }
+    let found = locate_in_frame(frame, Limits { nesting, words }, reading);
+    store(found, NO_POINTER, pointer)
 }
 
 /// Stores in `digest` the SHA-256 of the canonical words of the message whose frame is at the front
@@ -204,31 +164,15 @@ pub fn capnp_canonical_digest(
     words: u64,
     digest: &mut [u8; 32],
 ) -> u32 {
-    match digest_frame_after(alloc, &[], frame, Limits { nesting, words }) {
-        Ok(made) => {
-            *digest = made;
-            0
-        }
-        Err(refusal) => {
-            *digest = [0; 32];
-            refusal.number()
-        }
-    }
+    let made = digest_frame_after(alloc, &[], frame, Limits { nesting, words });
+    store(made, [0; 32], digest)
 }
 
 /// Stores in `bytes` the size in bytes of the frame at the front of `frame`; after a refusal
 /// `bytes` is 0. Refuses a message of more than `words` words.
 pub fn capnp_canonical_frame_size(frame: &[u8], words: u64, bytes: &mut usize) -> u32 {
-    match frame_size(frame, words) {
-        Ok(size) => {
-            *bytes = size;
-            0
-        }
-        Err(refusal) => {
-            *bytes = 0;
-            refusal.number()
-        }
-    }
+    let size = frame_size(frame, words);
+    store(size, 0, bytes)
 }
 
 /// Stores in `bytes` how many bytes of a stream to have, from the start of a frame on, before
@@ -240,16 +184,8 @@ pub fn capnp_canonical_frame_size(frame: &[u8], words: u64, bytes: &mut usize) -
 /// Refuses the frame if `prefix` tells that it has too many segments, or more than `words` words.
 /// `bytes` is then 0.
 pub fn capnp_canonical_frame_size_from_prefix(prefix: &[u8], words: u64, bytes: &mut usize) -> u32 {
-    match frame_size_from_prefix(prefix, words) {
-        Ok(size) => {
-            *bytes = size;
-            0
-        }
-        Err(refusal) => {
-            *bytes = 0;
-            refusal.number()
-        }
-    }
+    let size = frame_size_from_prefix(prefix, words);
+    store(size, 0, bytes)
 }
 
 /// Unpacks `packed` (encoding specification, "Packing") to the front of `to`, and stores the number
@@ -259,16 +195,8 @@ pub fn capnp_canonical_frame_size_from_prefix(prefix: &[u8], words: u64, bytes: 
 /// The bytes of `to` after the unpacked bytes are unchanged. If the call is refused, all bytes of
 /// `to` are unchanged.
 pub fn capnp_canonical_unpack(packed: &[u8], to: &mut [u8], written: &mut usize) -> u32 {
-    match unpack(packed, to) {
-        Ok(size) => {
-            *written = size;
-            0
-        }
-        Err(refusal) => {
-            *written = refusal.wanted_room();
-            refusal.number()
-        }
-    }
+    let unpacked = unpack(packed, to);
+    store_written(unpacked, written)
 }
 
 /// Packs `words` (encoding specification, "Packing") to the front of `to`, and stores the number of
@@ -280,16 +208,8 @@ pub fn capnp_canonical_unpack(packed: &[u8], to: &mut [u8], written: &mut usize)
 /// `written`; for any other refusal, 0. The bytes of `to` after the packed bytes are unchanged. If
 /// the call is refused, all bytes of `to` are unchanged.
 pub fn capnp_canonical_pack(words: &[u8], to: &mut [u8], written: &mut usize) -> u32 {
-    match pack(words, to) {
-        Ok(size) => {
-            *written = size;
-            0
-        }
-        Err(refusal) => {
-            *written = refusal.wanted_room();
-            refusal.number()
-        }
-    }
+    let packed = pack(words, to);
+    store_written(packed, written)
 }
 
 /// Unpacks the next bytes of a packed stream to the front of `to`, and goes on from where the last

@@ -1,24 +1,27 @@
-use Rattle.std.proofs.Common.{◌∙◌, inl, inr}
+use Rattle.std.proofs.Common.{◌≡◌, ◌⊎◌, inl, inr, refl}
 use Rattle.std.proofs.lemmas.Int.{to_z-of_z}
 use mir.Syntax.{w32}
 use Rattle.capnp_messages.specs.declared.messages.command.Form.TheVariants.{Flat}
 use Rattle.capnp_canonical.specs.Calls.{limits_of}
 use Rattle.capnp_canonical.proofs.CallLemmas.{meaning_granted, where_lent}
+use Rattle.capnp_canonical.proofs.StoringLemmas.{answer_is, done_of, none_of, refused_of}
 use Rattle.capnp_canonical.proofs.equal_exports.capnp_canonical_segments_equal.Goals as goal
 
-pub returns-in-Ok-clause-done : goal.returns-in-Ok-clause-done
-returns-in-Ok-clause-done c = λ _. rw (to_z-of_z w32 c.args.nesting c.ranges.nesting) at c.in-Ok.ensures.same
+pub returns-clause-done : goal.returns-clause-done
+returns-clause-done c =
+    done_of _ c.store.ensures (rw (to_z-of_z w32 c.args.nesting c.ranges.nesting) at c.equal_segments-same.ensures.same)
 
-pub returns-in-Err-clause-refused : goal.returns-in-Err-clause-refused
-returns-in-Err-clause-refused c = λ some.
-    let refused = rw (to_z-of_z w32 c.args.nesting c.ranges.nesting) at c.in-Err.ensures.refused in
-    (c.in-Err.refusal, c.number.ensures.number, refused)
+pub returns-clause-refused : goal.returns-clause-refused
+returns-clause-refused c =
+    refused_of c.store.ensures (rw (to_z-of_z w32 c.args.nesting c.ranges.nesting) at c.equal_segments-same.ensures.refused)
 
-pub returns-in-Err-clause-granted : goal.returns-in-Err-clause-granted
-returns-in-Err-clause-granted c = λ can could.
+pub returns-clause-none : goal.returns-clause-none
+returns-clause-none c = none_of c.store.ensures
+
+pub returns-clause-granted : goal.returns-clause-granted
+returns-clause-granted c = λ can could.
     let limits = limits_of c.args.nesting c.args.words in
-    let refused = rw (to_z-of_z w32 c.args.nesting c.ranges.nesting) at c.in-Err.ensures.refused in
-    inr (c.number.ensures.number ∙ elim refused [
+    answer_is (λ n. (n ≡ 0) ⊎ (n ≡ 32)) c.store.ensures (rw (to_z-of_z w32 c.args.nesting c.ranges.nesting) at c.equal_segments-same.ensures.refused) (inl refl) (λ r refused. inr (elim refused [
       | inl why ↦ where_lent c.args.one.now (meaning_granted Flat limits _) why can
       | inr (words, copy, why) ↦ where_lent c.args.other.now (meaning_granted Flat limits _) why could
-    ])
+    ]))

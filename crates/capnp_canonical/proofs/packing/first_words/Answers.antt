@@ -1,4 +1,4 @@
-use Rattle.std.proofs.Common.{◌∙◌, ap, arith, drop}
+use Rattle.std.proofs.Common.{◌∙◌, ap, arith}
 use Rattle.std.proofs.lemmas.List.{take_rest}
 use Rattle.capnp_canonical.specs.PackedWords.{run}
 use Rattle.capnp_canonical.proofs.PackedLemmas.{first_within, run_of_full, run_of_others, run_of_zeros}

@@ -1,4 +1,4 @@
-use Rattle.std.proofs.Common.{◌∙◌, ◌+◌, ◌*◌, ◌%◌, ◌≤◌, ap, arith, length, refl, sym}
+use Rattle.std.proofs.Common.{◌∙◌, ◌+◌, ◌*◌, ap, arith, length, refl, sym}
 use Rattle.std.proofs.lemmas.List.{take_rest}
 use Rattle.capnp_canonical.proofs.PackedLemmas.{counted_at, long_at, written_all, written_at}
 use Rattle.capnp_canonical.proofs.packing.pack_to_slice.Goals as goal

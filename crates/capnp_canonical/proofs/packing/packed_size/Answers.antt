@@ -1,4 +1,4 @@
-use Rattle.std.proofs.Common.{◌∙◌, ◌+◌, ◌*◌, ◌%◌, ◌≤◌, ap, arith, length, refl}
+use Rattle.std.proofs.Common.{◌∙◌, ◌+◌, ◌*◌, ap, arith, length, refl}
 use Rattle.std.proofs.lemmas.List.{take_rest}
 use Rattle.capnp_canonical.proofs.PackedLemmas.{counted_all, counted_at, long_at, size_at}
 use Rattle.capnp_canonical.proofs.packing.packed_size.Goals as goal

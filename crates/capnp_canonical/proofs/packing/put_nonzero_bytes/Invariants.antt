@@ -1,4 +1,4 @@
-use Rattle.std.proofs.Common.{◌≡◌, ◌+◌, ◌≤◌, ◌++◌, length, take, drop}
+use Rattle.std.proofs.Common.{◌≡◌, ◌+◌, ◌++◌, length, take, drop}
 use Rattle.capnp_packing.specs.Packing.{nonzero_bytes}
 use Rattle.capnp_canonical.proofs.packing.put_nonzero_bytes.Given as goal
 

@@ -1,24 +1,28 @@
-use Rattle.std.proofs.Common.{◌∙◌, inr}
+use Rattle.std.proofs.Common.{◌≡◌, ◌⊎◌, inl, inr, refl}
 use Rattle.std.proofs.lemmas.Int.{to_z-of_z}
 use mir.Syntax.{w32}
 use Rattle.capnp_messages.specs.declared.messages.command.Form.TheVariants.{Flat}
 use Rattle.capnp_canonical.specs.Calls.{limits_of}
 use Rattle.capnp_canonical.proofs.CallLemmas.{meaning_granted, where_lent}
-use Rattle.std.proofs.lemmas.Bool.{false≢true}
+use Rattle.capnp_canonical.proofs.StoringLemmas.{answer_is, answer_zero, done_of, none_of, refused_of}
 use Rattle.capnp_canonical.proofs.segment_exports.capnp_canonical_segments_digest.Goals as goal
 
-pub returns-in-Err-clause-refused : goal.returns-in-Err-clause-refused
-returns-in-Err-clause-refused c = λ some.
-    let refused = rw (to_z-of_z w32 c.args.nesting c.ranges.nesting) at c.in-Err.ensures.refused in
-    (c.in-Err.refusal, c.number.ensures.number, refused)
+pub returns-clause-done : goal.returns-clause-done
+returns-clause-done c =
+    done_of _ c.store.ensures (rw (to_z-of_z w32 c.args.nesting c.ranges.nesting) at c.digest_segments_after-made.ensures.digest)
 
-pub returns-in-Err-clause-granted : goal.returns-in-Err-clause-granted
-returns-in-Err-clause-granted c = λ can.
+pub returns-clause-refused : goal.returns-clause-refused
+returns-clause-refused c =
+    refused_of c.store.ensures (rw (to_z-of_z w32 c.args.nesting c.ranges.nesting) at c.digest_segments_after-made.ensures.refused)
+
+pub returns-clause-none : goal.returns-clause-none
+returns-clause-none c = none_of c.store.ensures
+
+pub returns-clause-granted : goal.returns-clause-granted
+returns-clause-granted c = λ can.
     let limits = limits_of c.args.nesting c.args.words in
-    let refused = rw (to_z-of_z w32 c.args.nesting c.ranges.nesting) at c.in-Err.ensures.refused in
-    inr (c.number.ensures.number ∙ where_lent c.args.segments.now (meaning_granted Flat limits _) refused can)
+    answer_is (λ n. (n ≡ 0) ⊎ (n ≡ 32)) c.store.ensures (rw (to_z-of_z w32 c.args.nesting c.ranges.nesting) at c.digest_segments_after-made.ensures.refused) (inl refl) (λ r refused. inr (where_lent c.args.segments.now (meaning_granted Flat limits _) refused can))
 
-pub returns-in-Err-clause-lent : goal.returns-in-Err-clause-lent
-returns-in-Err-clause-lent c = λ small.
-    let done = rw (c.in-Err.is, to_z-of_z w32 c.args.nesting c.ranges.nesting) at c.digest_segments_after.ensures.lent in
-    absurd (false≢true (done small))
+pub returns-clause-lent : goal.returns-clause-lent
+returns-clause-lent c = λ small.
+    answer_zero c.store.ensures ((rw (to_z-of_z w32 c.args.nesting c.ranges.nesting) at c.digest_segments_after-made.ensures.lent) small)

@@ -1,18 +1,25 @@
+use Rattle.std.proofs.Common.{◌≡◌, refl}
 use Rattle.std.proofs.lemmas.Int.{to_z-of_z}
 use mir.Syntax.{w32}
 use Rattle.capnp_format.specs.Bytes.{message}
 use Rattle.capnp_canonical.specs.Calls.{lent_bytes, limits_of}
 use Rattle.capnp_canonical.proofs.CallLemmas.{where_lent}
 use Rattle.capnp_canonical.proofs.ExtentLemmas.{extent_granted}
+use Rattle.capnp_canonical.proofs.StoringLemmas.{answer_is, done_of, none_of, refused_of}
 use Rattle.capnp_canonical.proofs.segment_exports.capnp_canonical_segments_validate.Goals as goal
 
-pub returns-in-Err-clause-refused : goal.returns-in-Err-clause-refused
-returns-in-Err-clause-refused c = λ some.
-    let refused = rw (to_z-of_z w32 c.args.nesting c.ranges.nesting) at c.in-Err.ensures.refused in
-    (c.in-Err.refusal, c.number.ensures.number, refused)
+pub returns-clause-done : goal.returns-clause-done
+returns-clause-done c =
+    done_of _ c.store.ensures (rw (to_z-of_z w32 c.args.nesting c.ranges.nesting) at c.validate_segments-found.ensures.extent)
 
-pub returns-in-Err-clause-granted : goal.returns-in-Err-clause-granted
-returns-in-Err-clause-granted c = λ can.
+pub returns-clause-refused : goal.returns-clause-refused
+returns-clause-refused c =
+    refused_of c.store.ensures (rw (to_z-of_z w32 c.args.nesting c.ranges.nesting) at c.validate_segments-found.ensures.refused)
+
+pub returns-clause-none : goal.returns-clause-none
+returns-clause-none c = none_of c.store.ensures
+
+pub returns-clause-granted : goal.returns-clause-granted
+returns-clause-granted c = λ can.
     let limits = limits_of c.args.nesting c.args.words in
-    let refused = rw (to_z-of_z w32 c.args.nesting c.ranges.nesting) at c.in-Err.ensures.refused in
-    absurd (where_lent c.args.segments.now (extent_granted limits (message (lent_bytes c.args.segments.now))) refused can)
+    answer_is (λ n. n ≡ 0) c.store.ensures (rw (to_z-of_z w32 c.args.nesting c.ranges.nesting) at c.validate_segments-found.ensures.refused) refl (λ r refused. absurd (where_lent c.args.segments.now (extent_granted limits (message (lent_bytes c.args.segments.now))) refused can))

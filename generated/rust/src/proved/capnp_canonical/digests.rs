@@ -9,8 +9,8 @@ use crate::proved::capnp_canonical::taking::{lend_part_words, lend_words, Prefix
 use crate::proved::capnp_canonical::words::message_of;
 use crate::proved::support::alloc::Global;
 
-/// Returns the SHA-256 of `prefix` and then the canonical words of the message whose frame is at the
-/// front of `frame`.
+/// Returns the SHA-256 of `prefix` and then the canonical words of the message whose frame is at
+/// the front of `frame`.
 pub fn digest_frame_after(
     alloc: Global,
     prefix: &[u8],

@@ -82,8 +82,8 @@ fn first_words(words: &[u8]) -> Group {
     Group { tag, more }
 }
 
-/// The number of bytes that `words`, which are whole words, are packed to; `None` if that is 2^64 or
-/// more.
+/// The number of bytes that `words`, which are whole words, are packed to; `None` if that is 2^64
+/// or more.
 ///
 /// # Preconditions
 ///
@@ -104,7 +104,8 @@ fn packed_size(words: &[u8]) -> Option<usize> {
     Some(size)
 }
 
-/// Writes `byte` after the first `at` bytes of `to`, and returns the number of bytes written so far.
+/// Writes `byte` after the first `at` bytes of `to`, and returns the number of bytes written so
+/// far.
 ///
 /// # Preconditions
 ///
@@ -176,8 +177,8 @@ fn put_group(group: Group, words: &[u8], to: &mut [u8], at: usize) -> usize {
     put_nonzero_bytes(&words[..8], to, tagged)
 }
 
-/// Packs `words`, which are whole words, to `to`, which has exactly as many bytes as they are packed
-/// to.
+/// Packs `words`, which are whole words, to `to`, which has exactly as many bytes as they are
+/// packed to.
 ///
 /// # Preconditions
 ///
@@ -196,8 +197,8 @@ fn pack_to_slice(words: &[u8], to: &mut [u8]) {
     }
 }
 
-/// Packs `words` to the front of `to`, and returns the number of packed bytes. Counts them first, so
-/// it writes nothing if `to` is too small, or `words` isn't whole words.
+/// Packs `words` to the front of `to`, and returns the number of packed bytes. Counts them first,
+/// so it writes nothing if `to` is too small, or `words` isn't whole words.
 pub fn pack(words: &[u8], to: &mut [u8]) -> Result<usize, Refusal> {
     let room = to.len();
     if words.len() % 8 != 0 {

@@ -8,6 +8,7 @@ use crate::proved::capnp_canonical::parts::{
     copy_frame_part, copy_segments_part, copy_words_part, size_frame_part, size_segments_part,
     size_words_part,
 };
+use crate::proved::capnp_canonical::storing::{store, store_size, store_written};
 use crate::proved::support::alloc::Global;
 
 /// Makes the canonical copy of a part of the message whose frame is at the front of `frame`: of the
@@ -31,16 +32,8 @@ pub fn capnp_canonical_copy_flat_at(
     to: &mut [u8],
     written: &mut usize,
 ) -> u32 {
-    match copy_frame_part(alloc, frame, path, Limits { nesting, words }, to) {
-        Ok(size) => {
-            *written = size;
-            0
-        }
-        Err(refusal) => {
-            *written = refusal.wanted_room();
-            refusal.number()
-        }
-    }
+    let copied = copy_frame_part(alloc, frame, path, Limits { nesting, words }, to);
+    store_written(copied, written)
 }
 
 /// Stores in `digest` the SHA-256 of the bytes that `capnp_canonical_copy_flat_at` writes. After a
@@ -54,16 +47,8 @@ pub fn capnp_canonical_digest_at(
     words: u64,
     digest: &mut [u8; 32],
 ) -> u32 {
-    match digest_frame_part_after(alloc, &[], frame, path, Limits { nesting, words }) {
-        Ok(made) => {
-            *digest = made;
-            0
-        }
-        Err(refusal) => {
-            *digest = [0; 32];
-            refusal.number()
-        }
-    }
+    let made = digest_frame_part_after(alloc, &[], frame, path, Limits { nesting, words });
+    store(made, [0; 32], digest)
 }
 
 /// Counts the words and capabilities of the part of the message to which `path` leads, without
@@ -77,18 +62,8 @@ pub fn capnp_canonical_size_at(
     word_count: &mut u64,
     cap_count: &mut u32,
 ) -> u32 {
-    match size_frame_part(frame, path, Limits { nesting, words }) {
-        Ok(size) => {
-            *word_count = size.word_count;
-            *cap_count = size.cap_count;
-            0
-        }
-        Err(refusal) => {
-            *word_count = 0;
-            *cap_count = 0;
-            refusal.number()
-        }
-    }
+    let size = size_frame_part(frame, path, Limits { nesting, words });
+    store_size(size, word_count, cap_count)
 }
 
 /// Like `capnp_canonical_copy_flat_at`, for a message that the caller passes as `segments`, without
@@ -102,16 +77,8 @@ pub fn capnp_canonical_segments_copy_flat_at(
     to: &mut [u8],
     written: &mut usize,
 ) -> u32 {
-    match copy_segments_part(alloc, segments, path, Limits { nesting, words }, to) {
-        Ok(size) => {
-            *written = size;
-            0
-        }
-        Err(refusal) => {
-            *written = refusal.wanted_room();
-            refusal.number()
-        }
-    }
+    let copied = copy_segments_part(alloc, segments, path, Limits { nesting, words }, to);
+    store_written(copied, written)
 }
 
 /// Like `capnp_canonical_digest_at`, for a message that the caller passes as `segments`, without a
@@ -124,16 +91,8 @@ pub fn capnp_canonical_segments_digest_at(
     words: u64,
     digest: &mut [u8; 32],
 ) -> u32 {
-    match digest_segments_part_after(alloc, &[], segments, path, Limits { nesting, words }) {
-        Ok(made) => {
-            *digest = made;
-            0
-        }
-        Err(refusal) => {
-            *digest = [0; 32];
-            refusal.number()
-        }
-    }
+    let made = digest_segments_part_after(alloc, &[], segments, path, Limits { nesting, words });
+    store(made, [0; 32], digest)
 }
 
 /// Like `capnp_canonical_size_at`, for a message that the caller passes as `segments`, without a
@@ -146,18 +105,8 @@ pub fn capnp_canonical_segments_size_at(
     word_count: &mut u64,
     cap_count: &mut u32,
 ) -> u32 {
-    match size_segments_part(segments, path, Limits { nesting, words }) {
-        Ok(size) => {
-            *word_count = size.word_count;
-            *cap_count = size.cap_count;
-            0
-        }
-        Err(refusal) => {
-            *word_count = 0;
-            *cap_count = 0;
-            refusal.number()
-        }
-    }
+    let size = size_segments_part(segments, path, Limits { nesting, words });
+    store_size(size, word_count, cap_count)
 }
 
 /// Like `capnp_canonical_copy_flat_at`, for a message with one segment, whose words the caller
@@ -171,16 +120,8 @@ pub fn capnp_canonical_words_copy_at(
     to: &mut [u8],
     written: &mut usize,
 ) -> u32 {
-    match copy_words_part(alloc, bytes, path, Limits { nesting, words }, to) {
-        Ok(size) => {
-            *written = size;
-            0
-        }
-        Err(refusal) => {
-            *written = refusal.wanted_room();
-            refusal.number()
-        }
-    }
+    let copied = copy_words_part(alloc, bytes, path, Limits { nesting, words }, to);
+    store_written(copied, written)
 }
 
 /// Like `capnp_canonical_digest_at`, for a message with one segment, whose words the caller passes
@@ -193,16 +134,8 @@ pub fn capnp_canonical_words_digest_at(
     words: u64,
     digest: &mut [u8; 32],
 ) -> u32 {
-    match digest_words_part_after(alloc, &[], bytes, path, Limits { nesting, words }) {
-        Ok(made) => {
-            *digest = made;
-            0
-        }
-        Err(refusal) => {
-            *digest = [0; 32];
-            refusal.number()
-        }
-    }
+    let made = digest_words_part_after(alloc, &[], bytes, path, Limits { nesting, words });
+    store(made, [0; 32], digest)
 }
 
 /// Like `capnp_canonical_size_at`, for a message with one segment, whose words the caller passes as
@@ -215,16 +148,6 @@ pub fn capnp_canonical_words_size_at(
     word_count: &mut u64,
     cap_count: &mut u32,
 ) -> u32 {
-    match size_words_part(bytes, path, Limits { nesting, words }) {
-        Ok(size) => {
-            *word_count = size.word_count;
-            *cap_count = size.cap_count;
-            0
-        }
-        Err(refusal) => {
-            *word_count = 0;
-            *cap_count = 0;
-            refusal.number()
-        }
-    }
+    let size = size_words_part(bytes, path, Limits { nesting, words });
+    store_size(size, word_count, cap_count)
 }

@@ -6,6 +6,7 @@ use crate::proved::capnp_canonical::digests::{
     digest_frame_after, digest_frame_part_after, digest_segments_after, digest_segments_part_after,
     digest_words_after, digest_words_part_after,
 };
+use crate::proved::capnp_canonical::storing::store;
 use crate::proved::support::alloc::Global;
 
 /// Stores in `digest` the SHA-256 of the bytes of `prefix` and then the canonical words of the
@@ -20,16 +21,8 @@ pub fn capnp_canonical_digest_with(
     words: u64,
     digest: &mut [u8; 32],
 ) -> u32 {
-    match digest_frame_after(alloc, prefix, frame, Limits { nesting, words }) {
-        Ok(made) => {
-            *digest = made;
-            0
-        }
-        Err(refusal) => {
-            *digest = [0; 32];
-            refusal.number()
-        }
-    }
+    let made = digest_frame_after(alloc, prefix, frame, Limits { nesting, words });
+    store(made, [0; 32], digest)
 }
 
 /// Like `capnp_canonical_digest_with`, for the message in `segments`.
@@ -41,20 +34,12 @@ pub fn capnp_canonical_segments_digest_with(
     words: u64,
     digest: &mut [u8; 32],
 ) -> u32 {
-    match digest_segments_after(alloc, prefix, segments, Limits { nesting, words }) {
-        Ok(made) => {
-            *digest = made;
-            0
-        }
-        Err(refusal) => {
-            *digest = [0; 32];
-            refusal.number()
-        }
-    }
+    let made = digest_segments_after(alloc, prefix, segments, Limits { nesting, words });
+    store(made, [0; 32], digest)
 }
 
-/// Like `capnp_canonical_digest_with`, for a message with one segment, whose words the caller passes
-/// as `bytes`, without a frame.
+/// Like `capnp_canonical_digest_with`, for a message with one segment, whose words the caller
+/// passes as `bytes`, without a frame.
 pub fn capnp_canonical_words_digest_with(
     alloc: Global,
     prefix: &[u8],
@@ -63,16 +48,8 @@ pub fn capnp_canonical_words_digest_with(
     words: u64,
     digest: &mut [u8; 32],
 ) -> u32 {
-    match digest_words_after(alloc, prefix, bytes, Limits { nesting, words }) {
-        Ok(made) => {
-            *digest = made;
-            0
-        }
-        Err(refusal) => {
-            *digest = [0; 32];
-            refusal.number()
-        }
-    }
+    let made = digest_words_after(alloc, prefix, bytes, Limits { nesting, words });
+    store(made, [0; 32], digest)
 }
 
 /// Like `capnp_canonical_digest_with`, for the part of the message to which `path` leads: the
@@ -86,16 +63,8 @@ pub fn capnp_canonical_digest_with_at(
     words: u64,
     digest: &mut [u8; 32],
 ) -> u32 {
-    match digest_frame_part_after(alloc, prefix, frame, path, Limits { nesting, words }) {
-        Ok(made) => {
-            *digest = made;
-            0
-        }
-        Err(refusal) => {
-            *digest = [0; 32];
-            refusal.number()
-        }
-    }
+    let made = digest_frame_part_after(alloc, prefix, frame, path, Limits { nesting, words });
+    store(made, [0; 32], digest)
 }
 
 /// Like `capnp_canonical_digest_with_at`, for the message in `segments`.
@@ -108,16 +77,8 @@ pub fn capnp_canonical_segments_digest_with_at(
     words: u64,
     digest: &mut [u8; 32],
 ) -> u32 {
-    match digest_segments_part_after(alloc, prefix, segments, path, Limits { nesting, words }) {
-        Ok(made) => {
-            *digest = made;
-            0
-        }
-        Err(refusal) => {
-            *digest = [0; 32];
-            refusal.number()
-        }
-    }
+    let made = digest_segments_part_after(alloc, prefix, segments, path, Limits { nesting, words });
+    store(made, [0; 32], digest)
 }
 
 /// Like `capnp_canonical_digest_with_at`, for a message with one segment, whose words the caller
@@ -131,14 +92,6 @@ pub fn capnp_canonical_words_digest_with_at(
     words: u64,
     digest: &mut [u8; 32],
 ) -> u32 {
-    match digest_words_part_after(alloc, prefix, bytes, path, Limits { nesting, words }) {
-        Ok(made) => {
-            *digest = made;
-            0
-        }
-        Err(refusal) => {
-            *digest = [0; 32];
-            refusal.number()
-        }
-    }
+    let made = digest_words_part_after(alloc, prefix, bytes, path, Limits { nesting, words });
+    store(made, [0; 32], digest)
 }

@@ -5,6 +5,7 @@ use crate::proved::capnp_canonical::digests::digest_segments_after;
 use crate::proved::capnp_canonical::fault::{Fault, NO_FAULT};
 use crate::proved::capnp_canonical::locating::{locate_in_segments, BrokenPointer, NO_POINTER};
 use crate::proved::capnp_canonical::segments::{check_segments, copy_segments, size_segments};
+use crate::proved::capnp_canonical::storing::{store, store_size, store_written};
 use crate::proved::capnp_canonical::validation::{validate_segments, SoundMessage, NOT_SOUND};
 use crate::proved::capnp_messages::messages::Form;
 use crate::proved::support::alloc::Global;
@@ -19,16 +20,8 @@ pub fn capnp_canonical_segments_copy(
     to: &mut [u8],
     written: &mut usize,
 ) -> u32 {
-    match copy_segments(alloc, Form::Framed, segments, Limits { nesting, words }, to) {
-        Ok(size) => {
-            *written = size;
-            0
-        }
-        Err(refusal) => {
-            *written = refusal.wanted_room();
-            refusal.number()
-        }
-    }
+    let copied = copy_segments(alloc, Form::Framed, segments, Limits { nesting, words }, to);
+    store_written(copied, written)
 }
 
 /// Like `capnp_canonical_copy_flat`, for a message that the caller passes as `segments`, without a
@@ -41,16 +34,8 @@ pub fn capnp_canonical_segments_copy_flat(
     to: &mut [u8],
     written: &mut usize,
 ) -> u32 {
-    match copy_segments(alloc, Form::Flat, segments, Limits { nesting, words }, to) {
-        Ok(size) => {
-            *written = size;
-            0
-        }
-        Err(refusal) => {
-            *written = refusal.wanted_room();
-            refusal.number()
-        }
-    }
+    let copied = copy_segments(alloc, Form::Flat, segments, Limits { nesting, words }, to);
+    store_written(copied, written)
 }
 
 /// Like `capnp_canonical_check`, for a message that the caller passes as `segments`, without a
@@ -85,18 +70,8 @@ pub fn capnp_canonical_segments_size(
     word_count: &mut u64,
     cap_count: &mut u32,
 ) -> u32 {
-    match size_segments(segments, Limits { nesting, words }) {
-        Ok(size) => {
-            *word_count = size.word_count;
-            *cap_count = size.cap_count;
-            0
-        }
-        Err(refusal) => {
-            *word_count = 0;
-            *cap_count = 0;
-            refusal.number()
-        }
-    }
+    let size = size_segments(segments, Limits { nesting, words });
+    store_size(size, word_count, cap_count)
 }
 
 /// Like `capnp_canonical_validate`, for the message of these segments.
@@ -106,16 +81,8 @@ pub fn capnp_canonical_segments_validate(
     words: u64,
     extent: &mut SoundMessage,
 ) -> u32 {
-    match validate_segments(segments, Limits { nesting, words }) {
-        Ok(found) => {
-            *extent = found;
-            0
-        }
-        Err(refusal) => {
-            *extent = NOT_SOUND;
-            refusal.number()
-        }
-    }
+    let found = validate_segments(segments, Limits { nesting, words });
+    store(found, NOT_SOUND, extent)
 }
 
 /// Like `capnp_canonical_locate`, for the message of these segments.
@@ -126,16 +93,8 @@ pub fn capnp_canonical_segments_locate(
     reading: u32,
     pointer: &mut BrokenPointer,
 ) -> u32 {
-    match locate_in_segments(segments, Limits { nesting, words }, reading) {
-        Ok(found) => {
-            *pointer = found;
-            0
-        }
-        Err(refusal) => {
-            *pointer = NO_POINTER;
-            refusal.number()
-        }
-    }
+    let found = locate_in_segments(segments, Limits { nesting, words }, reading);
+    store(found, NO_POINTER, pointer)
 }
 
 /// Like `capnp_canonical_digest`, for a message that the caller passes as `segments`, without a
@@ -147,14 +106,6 @@ pub fn capnp_canonical_segments_digest(
     words: u64,
     digest: &mut [u8; 32],
 ) -> u32 {
-    match digest_segments_after(alloc, &[], segments, Limits { nesting, words }) {
-        Ok(made) => {
-            *digest = made;
-            0
-        }
-        Err(refusal) => {
-            *digest = [0; 32];
-            refusal.number()
-        }
-    }
+    let made = digest_segments_after(alloc, &[], segments, Limits { nesting, words });
+    store(made, [0; 32], digest)
 }

@@ -131,8 +131,8 @@ fn lend_unless_canonical<S: ReaderSegments, T: WordTaker>(
     }
 }
 
-/// Lends the canonical words of the message in `segments` to `taker`, and returns what that makes of
-/// them. Precondition: `segments` has fewer than 2^32 segments, each of fewer than 2^32 words.
+/// Lends the canonical words of the message in `segments` to `taker`, and returns what that makes
+/// of them. Precondition: `segments` has fewer than 2^32 segments, each of fewer than 2^32 words.
 ///
 /// Takes heap memory if a message of fewer than 64 words has more than 64 canonical words, or if a
 /// larger one isn't canonical.
@@ -174,7 +174,8 @@ fn lend_part_from_heap<S: ReaderSegments, T: WordTaker>(
     }
 }
 
-/// Like `lend_part_from_heap`, but makes the copy in `SMALL` bytes of stack memory if it fits there.
+/// Like `lend_part_from_heap`, but makes the copy in `SMALL` bytes of stack memory if it fits
+/// there.
 fn lend_small_part<S: ReaderSegments, T: WordTaker>(
     alloc: Global,
     source: &ReaderArenaImpl<S>,

@@ -4,6 +4,7 @@ use crate::proved::capnp_canonical::calls::Limits;
 use crate::proved::capnp_canonical::digests::digest_words_after;
 use crate::proved::capnp_canonical::fault::{Fault, NO_FAULT};
 use crate::proved::capnp_canonical::locating::{locate_in_words, BrokenPointer, NO_POINTER};
+use crate::proved::capnp_canonical::storing::{store, store_size, store_written};
 use crate::proved::capnp_canonical::validation::{validate_words, SoundMessage, NOT_SOUND};
 use crate::proved::capnp_canonical::words::{check_words, copy_words, size_words};
 use crate::proved::support::alloc::Global;
@@ -18,16 +19,8 @@ pub fn capnp_canonical_words_copy(
     to: &mut [u8],
     written: &mut usize,
 ) -> u32 {
-    match copy_words(alloc, bytes, Limits { nesting, words }, to) {
-        Ok(size) => {
-            *written = size;
-            0
-        }
-        Err(refusal) => {
-            *written = refusal.wanted_room();
-            refusal.number()
-        }
-    }
+    let copied = copy_words(alloc, bytes, Limits { nesting, words }, to);
+    store_written(copied, written)
 }
 
 /// Like `capnp_canonical_check`, for a message with one segment, whose words the caller passes as
@@ -62,18 +55,8 @@ pub fn capnp_canonical_words_size(
     word_count: &mut u64,
     cap_count: &mut u32,
 ) -> u32 {
-    match size_words(bytes, Limits { nesting, words }) {
-        Ok(size) => {
-            *word_count = size.word_count;
-            *cap_count = size.cap_count;
-            0
-        }
-        Err(refusal) => {
-            *word_count = 0;
-            *cap_count = 0;
-            refusal.number()
-        }
-    }
+    let size = size_words(bytes, Limits { nesting, words });
+    store_size(size, word_count, cap_count)
 }
 
 /// Like `capnp_canonical_validate`, for the message whose only segment has the words in `bytes`.
@@ -83,16 +66,8 @@ pub fn capnp_canonical_words_validate(
     words: u64,
     extent: &mut SoundMessage,
 ) -> u32 {
-    match validate_words(bytes, Limits { nesting, words }) {
-        Ok(found) => {
-            *extent = found;
-            0
-        }
-        Err(refusal) => {
-            *extent = NOT_SOUND;
-            refusal.number()
-        }
-    }
+    let found = validate_words(bytes, Limits { nesting, words });
+    store(found, NOT_SOUND, extent)
 }
 
 /// Like `capnp_canonical_locate`, for the message whose only segment has the words in `bytes`.
@@ -103,16 +78,8 @@ pub fn capnp_canonical_words_locate(
     reading: u32,
     pointer: &mut BrokenPointer,
 ) -> u32 {
-    match locate_in_words(bytes, Limits { nesting, words }, reading) {
-        Ok(found) => {
-            *pointer = found;
-            0
-        }
-        Err(refusal) => {
-            *pointer = NO_POINTER;
-            refusal.number()
-        }
-    }
+    let found = locate_in_words(bytes, Limits { nesting, words }, reading);
+    store(found, NO_POINTER, pointer)
 }
 
 /// Like `capnp_canonical_digest`, for a message with one segment, whose words the caller passes as
@@ -124,14 +91,6 @@ pub fn capnp_canonical_words_digest(
     words: u64,
     digest: &mut [u8; 32],
 ) -> u32 {
-    match digest_words_after(alloc, &[], bytes, Limits { nesting, words }) {
-        Ok(made) => {
-            *digest = made;
-            0
-        }
-        Err(refusal) => {
-            *digest = [0; 32];
-            refusal.number()
-        }
-    }
+    let made = digest_words_after(alloc, &[], bytes, Limits { nesting, words });
+    store(made, [0; 32], digest)
 }
