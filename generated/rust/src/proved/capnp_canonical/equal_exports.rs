@@ -4,6 +4,7 @@ use crate::proved::capnp_canonical::calls::Limits;
 use crate::proved::capnp_canonical::frames::message_in;
 use crate::proved::capnp_canonical::refusal::Refusal;
 use crate::proved::capnp_canonical::segments::lent_message;
+use crate::proved::capnp_canonical::storing::store;
 use crate::proved::capnp_canonical::taking::{lend_words, Beside, WordTaker};
 use crate::proved::capnp_canonical::words::message_of;
 use crate::proved::support::alloc::Global;
@@ -65,7 +66,8 @@ impl WordTaker for OtherWords<'_> {
     }
 }
 
-/// Whether the messages whose frames are at the fronts of `one` and `other` have the same canonical words.
+/// Whether the messages whose frames are at the fronts of `one` and `other` have the same canonical
+/// words.
 fn equal_frame(alloc: Global, one: &[u8], other: &[u8], limits: Limits) -> Result<bool, Refusal> {
     let first = message_in(one, limits.words)?;
     let mut other = OtherFrame {
@@ -116,16 +118,8 @@ pub fn capnp_canonical_equal(
     words: u64,
     is_equal: &mut bool,
 ) -> u32 {
-    match equal_frame(alloc, one, other, Limits { nesting, words }) {
-        Ok(same) => {
-            *is_equal = same;
-            0
-        }
-        Err(refusal) => {
-            *is_equal = false;
-            refusal.number()
-        }
-    }
+    let same = equal_frame(alloc, one, other, Limits { nesting, words });
+    store(same, false, is_equal)
 }
 
 /// Like `capnp_canonical_equal`, for the messages in the segments `one` and `other`.
@@ -137,16 +131,8 @@ pub fn capnp_canonical_segments_equal(
     words: u64,
     is_equal: &mut bool,
 ) -> u32 {
-    match equal_segments(alloc, one, other, Limits { nesting, words }) {
-        Ok(same) => {
-            *is_equal = same;
-            0
-        }
-        Err(refusal) => {
-            *is_equal = false;
-            refusal.number()
-        }
-    }
+    let same = equal_segments(alloc, one, other, Limits { nesting, words });
+    store(same, false, is_equal)
 }
 
 /// Like `capnp_canonical_equal`, for two messages with one segment each, whose words the caller
@@ -159,14 +145,6 @@ pub fn capnp_canonical_words_equal(
     words: u64,
     is_equal: &mut bool,
 ) -> u32 {
-    match equal_words(alloc, one, other, Limits { nesting, words }) {
-        Ok(same) => {
-            *is_equal = same;
-            0
-        }
-        Err(refusal) => {
-            *is_equal = false;
-            refusal.number()
-        }
-    }
+    let same = equal_words(alloc, one, other, Limits { nesting, words });
+    store(same, false, is_equal)
 }

@@ -10,7 +10,7 @@ use crate::proved::capnp_arena::arena::{
     Allocator, BuilderArena, BuilderArenaImpl, ReaderArena, MAX_SEGMENT_WORDS,
 };
 use crate::proved::capnp_arena_traits::arena::WordPlace;
-use crate::proved::capnp_copies::copy::{copy_struct, copy_value};
+use crate::proved::capnp_copies::copy::{copy_in_form, copy_struct};
 use crate::proved::capnp_copies::form::{CopyForm, Destination};
 use crate::proved::capnp_objects::pointers::Pointer;
 use crate::proved::capnp_objects::source::Source;
@@ -40,39 +40,19 @@ fn canonicalize_to_pointer<A: BuilderArena, B: ReaderArena>(
     from: Reached<'_, B>,
     lim: &mut ReadLimiter,
 ) -> Result<(), ErrorKind> {
+    let form = CopyForm::Canonical;
+    let to = Destination { place: to, form };
     match from {
-        Reached::Pointer(pointer) => copy_value(arena, to, pointer, lim, true),
-        Reached::Element(element) => {
-            let form = CopyForm::Canonical;
-            let to = Destination { place: to, form };
-            copy_struct(arena, to, element.first, element.size, lim)
-        }
+        Reached::Pointer(pointer) => copy_in_form(arena, to, pointer, lim),
+        Reached::Element(element) => copy_struct(arena, to, element.first, element.size, lim),
     }
 }
 
 /// Copies what `from` leads to in canonical form to the root of a message whose only word is the
-/// root, a null pointer. Words that don't fit after the root go into further segments if the
-/// allocator grants any; otherwise the copy is refused. Charges the copy to a new limiter with
-/// `left` words left, and returns this limiter.
-///
-/// # Preconditions
-///
-/// ```text
-/// requires root { (A.view arena.old).words ≡ (0 ∷ []) ∷ [] }
-/// ```
-fn canonicalize_to_root<A: BuilderArena, B: ReaderArena>(
-    arena: &mut A,
-    from: Reached<'_, B>,
-    left: Option<usize>,
-) -> Result<ReadLimiter, ErrorKind> {
-    let mut lim = ReadLimiter::new(left);
-    let root = WordPlace { segment: 0, at: 0 };
-    canonicalize_to_pointer(arena, root, from, &mut lim)?;
-    Ok(lim)
-}
-
-/// Like `canonicalize_to_root`, but the copy has to fit in the message's only segment, which has room
-/// for at least `room` words. Refuses with `MessageTooLarge(room)` if the copy doesn't fit.
+/// root, a null pointer. Charges the copy to a new limiter with `left` words left, and returns this
+/// limiter. The copy has to fit in the message's only segment, which has room for at least `room`
+/// words: refuses with `MessageTooLarge(room)` if it doesn't, or if the allocator grants another
+/// segment for words that don't fit.
 ///
 /// # Preconditions
 ///
@@ -87,10 +67,12 @@ fn canonicalize_to_segment<A: Allocator, B: ReaderArena>(
     room: u32,
 ) -> Result<ReadLimiter, ErrorKind> {
     let too_large = ErrorKind::MessageTooLarge(room as usize);
-    match canonicalize_to_root(arena, from, left) {
-        Ok(after) => {
+    let root = WordPlace { segment: 0, at: 0 };
+    let mut lim = ReadLimiter::new(left);
+    match canonicalize_to_pointer(arena, root, from, &mut lim) {
+        Ok(()) => {
             if arena.len() == 1 {
-                Ok(after)
+                Ok(lim)
             } else {
                 Err(too_large)
             }

@@ -1,7 +1,7 @@
 //! Makes a canonical copy of a whole message, tests it for canonical form, and measures it, for any
 //! type that holds the message's segments.
 
-use super::canonical_copy::{canonicalize_pointer, canonicalize_reached_into};
+use super::canonical_copy::{canonicalize_reached, canonicalize_reached_into};
 use super::message_fault::canonical_fault;
 use super::path::Reached;
 use super::root::read_root;
@@ -29,7 +29,7 @@ pub fn canonicalize<A: Allocator, S: ReaderSegments>(
 ) -> Result<BuilderArenaImpl<A>, (ErrorKind, A)> {
     let mut lim = ReadLimiter::new(traversal_limit_in_words);
     match read_root(source, &mut lim) {
-        Ok(root) => canonicalize_pointer(alloc, allocator, root, &mut lim),
+        Ok(root) => canonicalize_reached(alloc, allocator, Reached::Pointer(root), &mut lim),
         Err(kind) => Err((kind, allocator)),
     }
 }
