@@ -29,7 +29,7 @@ SHARED = {
     'Source': 'what a reader reads from; another message that an edit copies from',
     'Task': 'what to do with each message of a stream; an edit whose numbers are in range',
 }
-IMPORT = re.compile(r'^ *use Rattle\.(\w+)\.(specs|proofs)\.([\w.]+)\.\{([^}]*)\}', re.MULTILINE)
+IMPORT = re.compile(r'^ *(?:(?:unfoldable )?pub )?use Rattle\.(\w+)\.(specs|proofs)\.([\w.]+)\.\{([^}]*)\}', re.MULTILINE)
 
 
 def names_of(path):
