@@ -1,11 +1,7 @@
 -- The place in a message of a path's end in the program.
 use Rattle.std.specs.Prelude.{Result, Ok, Err}
 use Rattle.capnp_words.specs.declared.error.ErrorKind.{ErrorKind}
-use Rattle.capnp_words.specs.Meter.{Meter}
 use Rattle.capnp_arena_traits.specs.declared.arena.reader_arena.ReaderArena.{Ghosts}
-use Rattle.capnp_objects.specs.declared.object.Object.{Object}
-use Rattle.capnp_objects.specs.declared.object.Purpose.TheVariants.{Value}
-use Rattle.capnp_objects.specs.Objects.{IsFew, IsObject}
 use Rattle.capnp_objects.specs.Reading.{Reading}
 use Rattle.capnp_objects.specs.declared.pointers.Pointer.{Pointer}
 use Rattle.capnp_objects.specs.Pointers.{reading}
@@ -13,13 +9,6 @@ use Rattle.capnp_messages.specs.Parts.{PathEnd, to_pointer, to_element}
 use Rattle.capnp_messages.specs.declared.messages.path.Reached.{Reached}
 use Rattle.capnp_messages.specs.declared.messages.path.Reached.TheVariants.{Pointer as AtPointer}
 use Rattle.capnp_messages.specs.declared.messages.path.Reached.TheVariants.{Element as AtElement}
-
--- The object was read at the place r.
-pub record IsObjectRead (r : Reading) (object : Object) : Type 0 where
-  pub before : Meter
-  pub after : Meter
-  pub object_of : IsObject Value r before after object
-  pub few : IsFew object
 
 module _ {A : Type 0} (g : Ghosts A) where
   -- The place of a pointer that a call returned, or the refusal.

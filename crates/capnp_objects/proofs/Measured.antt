@@ -14,7 +14,7 @@ use Rattle.capnp_objects.specs.Enter.{Shape, nothing, capability, struct, flat, 
 use Rattle.capnp_objects.specs.Metered.{Metered, answer, onward}
 use Rattle.capnp_objects.specs.Objects.{near_at}
 use Rattle.capnp_objects.specs.Reading.{Reading, place_past, word_of}
-use Rattle.capnp_objects.specs.declared.pointers.sizes.MeasuredRows.{MeasuredRows}
+use Rattle.capnp_objects.specs.declared.object.ChildRows.{ChildRows}
 use Rattle.capnp_objects.specs.declared.pointers.sizes.MessageSize.{MessageSize}
 use Rattle.capnp_objects.specs.declared.pointers.walk.Walk.{Walk}
 use Rattle.capnp_objects.specs.Measure.{FitSize, add_size, fold_children, fold_elements, fold_pointers, measure, measure_within, only_words, shape_size}
@@ -138,7 +138,7 @@ no_capability (ObjectFlat start size i) h = refl
 no_capability (ObjectPointers start i) h = refl
 no_capability (ObjectStructs start size i) h = refl
 
-pub no_children : {X : Type 0} (f : Reading → X → Metered X) (r : Reading) (x : Object) (z : X) (m : Meter) → ((rows : MeasuredRows) → HasRows x rows → ⊥) → fold_children f r (object_shape x) z m ≡ (Ok z, m)
+pub no_children : {X : Type 0} (f : Reading → X → Metered X) (r : Reading) (x : Object) (z : X) (m : Meter) → ((rows : ChildRows) → HasRows x rows → ⊥) → fold_children f r (object_shape x) z m ≡ (Ok z, m)
 no_children f r ObjectNull z m h = refl
 no_children f r (ObjectCapability i) z m h = refl
 no_children f r (ObjectFlat start size i) z m h = refl
@@ -146,7 +146,7 @@ no_children f r (ObjectStruct start size) z m h = absurd (h (record { start = st
 no_children f r (ObjectPointers start i) z m h = absurd (h (record { start = start; data_words = 0; pointers = i; count = 1 }) (refl, refl, refl, refl))
 no_children f r (ObjectStructs start size i) z m h = absurd (h (record { start = start; data_words = size.data_words; pointers = size.pointers; count = i }) (refl, refl, refl, refl))
 
-pub children_in_rows : {X : Type 0} (f : Reading → X → Metered X) (r : Reading) (x : Object) (rows : MeasuredRows) (z : X) (m : Meter) → HasRows x rows →
+pub children_in_rows : {X : Type 0} (f : Reading → X → Metered X) (r : Reading) (x : Object) (rows : ChildRows) (z : X) (m : Meter) → HasRows x rows →
     fold_children f r (object_shape x) z m ≡ fold_elements f rows.data_words rows.pointers rows.count (record r { segment = rows.start.segment; at = rows.start.at }) z m
 children_in_rows f r (ObjectStruct start size) rows z m (a, d, q, i) = rw (a, d, q, i) (sym (one_row f (record r { segment = start.segment; at = start.at }) size.data_words size.pointers z m))
 children_in_rows f r (ObjectPointers start len) rows z m (a, d, q, i) =

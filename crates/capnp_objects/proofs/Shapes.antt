@@ -16,7 +16,7 @@ use Rattle.capnp_objects.specs.Demands.{claimed_words, tag, element_words, ampli
 use Rattle.capnp_objects.specs.Enter.{is_struct_list, is_in_segment, no_tag_name, Shape, nothing, capability, struct, flat, pointers, structs, shape, has_level, follow, enter_object, enter, read, object_shape, result_shape, near_shape}
 use Rattle.capnp_objects.specs.Entering.{IsObjectHeld, enter_plain}
 use Rattle.capnp_objects.specs.Metered.{Metered, outcome, answer, onward, ◌>>>◌, demand, covers, charge_words}
-use Rattle.capnp_objects.specs.Objects.{IsObject, EntersNear, near_at}
+use Rattle.capnp_objects.specs.Objects.{IsFew, IsObject, IsObjectRead, EntersNear, near_at}
 use Rattle.capnp_objects.specs.Outcomes.{Entered}
 use Rattle.capnp_objects.specs.Reading.{Reading, word_of}
 use Rattle.capnp_objects.specs.Refusals.{CanBeRead, NotRead}
@@ -178,6 +178,10 @@ pub object_read : (purpose : Purpose) (r : Reading) (m m' : Meter) (result : Res
 object_read Value r m m' (Ok x) e held = value_object r m m' x e held
 object_read Size r m m' (Ok x) e held = size_object r m m' x e held
 object_read purpose r m m' (Err k) e held = tt
+
+pub was_read : (purpose : Purpose) (r : Reading) (m m' : Meter) (result : Result Object ErrorKind) → IfOk result (IsObject purpose r m m') → IfOk result IsFew → IfOk result (IsObjectRead purpose r)
+was_read purpose r m m' (Ok x) object few = record { before = m; after = m'; object_of = object; few = few }
+was_read purpose r m m' (Err k) object few = tt
 
 pub read_exactly : (r : Reading) (m m' : Meter) (result : Result Object ErrorKind) → read Value r m ≡ (result_shape result, m') → IsOk result ↔ CanBeRead Value r m
 read_exactly r m m' (Ok x) e = ((λ _. could_be_read_if Value r m (is_answer e)), (λ _. refl))

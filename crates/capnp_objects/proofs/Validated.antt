@@ -17,7 +17,7 @@ use Rattle.capnp_objects.proofs.Computed.{entering_is, null_is, object_is, stopp
 use Rattle.capnp_objects.specs.Measure.{fold_children, fold_elements, fold_pointers}
 use Rattle.capnp_objects.specs.Sizes.{HasRows, IsWordAt}
 use Rattle.capnp_objects.specs.Validation.{tally_shape, tally_words, validate_place, validate_within, validation_result}
-use Rattle.capnp_objects.specs.declared.pointers.sizes.MeasuredRows.{MeasuredRows}
+use Rattle.capnp_objects.specs.declared.object.ChildRows.{ChildRows}
 use Rattle.capnp_objects.specs.declared.pointers.validate.Tally.{Tally}
 use Rattle.capnp_objects.specs.declared.pointers.validate.Validation.{Validation}
 use Rattle.capnp_objects.proofs.Measured.{children_in_rows, near_flat, near_struct, no_children}
@@ -54,11 +54,11 @@ pub null_valid : (r : Reading) (z : Tally) (m : Meter) → word_of r ≡ 0 → v
 null_valid r z m none = leaf r z m m nothing (λ f s y. refl) (null_is Value r m none)
 
 -- The program's objects, by the levels n that are left inside of them, and the tally y after them.
-pub object_ends : (r : Reading) (m m' : Meter) (x : Object) (z y : Tally) (n : ℕ) → n ≡ pred r.levels → y ≡ tally_shape n (object_shape x) z → IsObject Value r m m' x → ((rows : MeasuredRows) → HasRows x rows → ⊥) → validate_place r z m ≡ (Ok y, m')
+pub object_ends : (r : Reading) (m m' : Meter) (x : Object) (z y : Tally) (n : ℕ) → n ≡ pred r.levels → y ≡ tally_shape n (object_shape x) z → IsObject Value r m m' x → ((rows : ChildRows) → HasRows x rows → ⊥) → validate_place r z m ≡ (Ok y, m')
 object_ends r m m' x z y n level is object none =
     leaf r z m m' (object_shape x) (λ f s y. no_children f s x y m' none) (object_is Value r m m' x object) ∙ rw (is, level) refl
 
-pub object_opens : (r : Reading) (m m' : Meter) (x : Object) (z y : Tally) (n : ℕ) (rows : MeasuredRows) → 0 < r.levels → n ≡ pred r.levels → y ≡ tally_shape n (object_shape x) z → IsObject Value r m m' x → HasRows x rows →
+pub object_opens : (r : Reading) (m m' : Meter) (x : Object) (z y : Tally) (n : ℕ) (rows : ChildRows) → 0 < r.levels → n ≡ pred r.levels → y ≡ tally_shape n (object_shape x) z → IsObject Value r m m' x → HasRows x rows →
     validate_place r z m ≡ fold_elements (validate_within n) rows.data_words rows.pointers rows.count (record r { levels = n; segment = rows.start.segment; at = rows.start.at }) y m'
 object_opens r m m' x z y n rows some level is object has =
     opened r z m m' (object_shape x) some (object_is Value r m m' x object)

@@ -19,7 +19,7 @@ use Rattle.capnp_objects.specs.Reading.{Reading, segment_read}
 use Rattle.capnp_objects.specs.Source.{levels}
 use Rattle.capnp_objects.proofs.Walked.{beginning}
 use Rattle.capnp_words.specs.Meter.{Meter}
-use Rattle.capnp_objects.specs.declared.pointers.sizes.MeasuredRows.{MeasuredRows}
+use Rattle.capnp_objects.specs.declared.object.ChildRows.{ChildRows}
 use Rattle.capnp_objects.specs.Sizes.{HasRows}
 
 one_level : (z : ℤ) → SFits w32 z → 0 < levels z → levels (to_z w32 (of_z w32 (z -ℤ pos 1))) ≡ pred (levels z)
@@ -59,12 +59,12 @@ claims_there Value S a lies some = lies
 claims_there Size S a lies some = lies some
 
 -- An object is read that has pointers, those of these rows.
-pub record Opened (purpose : Purpose) (r : Reading) (m m' : Meter) (x : Object) (rows : MeasuredRows) : Type 0 where
+pub record Opened (purpose : Purpose) (r : Reading) (m m' : Meter) (x : Object) (rows : ChildRows) : Type 0 where
   pub is_read : IsObject purpose r m m' x
   pub has : HasRows x rows
 
 -- There is a level for its pointers, and they are inside their segment.
-pub object_level : {purpose : Purpose} {r : Reading} {m m' : Meter} {rows : MeasuredRows} (x : Object) → Opened purpose r m m' x rows → 0 < r.levels
+pub object_level : {purpose : Purpose} {r : Reading} {m m' : Meter} {rows : ChildRows} (x : Object) → Opened purpose r m m' x rows → 0 < r.levels
 object_level (ObjectStruct start size) o = o.is_read.1.meets.levels
 object_level (ObjectPointers start i) o = o.is_read.1.meets.levels
 object_level (ObjectStructs start size i) o = o.is_read.1.meets.levels
@@ -87,7 +87,7 @@ inside_structs purpose {r} start size i (a, o, z, seven, (held, seg, at), len, w
     let room = claims_there purpose r.segments a o.meets.claims (λ v. omega (arith, v.1, seven)) in
     rw (seg, len, wide, many) (omega (arith, room, at, claim_list a.word 7 z seven, (o.meets.tagged (z, seven)).1))
 
-pub object_inside : {purpose : Purpose} {r : Reading} {m m' : Meter} {rows : MeasuredRows} (x : Object) → Opened purpose r m m' x rows → rows.start.at + rows.count * (rows.data_words + rows.pointers) ≤ length (segment_read (beginning r rows.start))
+pub object_inside : {purpose : Purpose} {r : Reading} {m m' : Meter} {rows : ChildRows} (x : Object) → Opened purpose r m m' x rows → rows.start.at + rows.count * (rows.data_words + rows.pointers) ≤ length (segment_read (beginning r rows.start))
 object_inside {purpose} {r} {m} {m'} (ObjectStruct start size) o = rw (o.has.0, o.has.1, o.has.2, o.has.3) (inside_struct purpose {r = r} {m = m} {m' = m'} start size o.is_read)
 object_inside {purpose} {r} {m} {m'} (ObjectPointers start i) o = rw (o.has.0, o.has.1, o.has.2, o.has.3) (inside_pointers purpose {r = r} {m = m} {m' = m'} start i o.is_read)
 object_inside {purpose} {r} {m} {m'} (ObjectStructs start size i) o = rw (o.has.0, o.has.1, o.has.2, o.has.3) (inside_structs purpose {r = r} {m = m} {m' = m'} start size i o.is_read)

@@ -78,3 +78,10 @@ IsFew (ObjectPointers start count) = count < 2 ^ 29
 IsFew (ObjectStructs start size count) =
     (count < 2 ^ 30) × (count * (size.data_words + size.pointers) < 2 ^ 29)
 IsFew x = ⊤
+
+-- The object was read at the place r.
+pub record IsObjectRead (purpose : Purpose) (r : Reading) (object : Object) : Type 0 where
+  pub before : Meter
+  pub after : Meter
+  pub object_of : IsObject purpose r before after object
+  pub few : IsFew object

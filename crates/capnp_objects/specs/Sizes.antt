@@ -6,7 +6,7 @@ use Rattle.capnp_objects.specs.declared.object.Object.TheVariants.{Struct, Point
 use Rattle.capnp_objects.specs.Metered.{Metered}
 use Rattle.capnp_objects.specs.Reading.{Reading, word_of}
 use Rattle.capnp_objects.specs.declared.pointers.sizes.MessageSize.{MessageSize}
-use Rattle.capnp_objects.specs.declared.pointers.sizes.MeasuredRows.{MeasuredRows}
+use Rattle.capnp_objects.specs.declared.object.ChildRows.{ChildRows}
 use Rattle.capnp_objects.specs.declared.pointers.walk.Walk.{Walk}
 
 -- What a call of a walk returns: the sums that it has left, or the name of its refusal.
@@ -26,7 +26,7 @@ pub record IsWordAt (w : ℕ) (r : Reading) : Type 0 where
   pub some : w ≢ 0
 
 -- The pointers of an object are those of these elements.
-abbrev pub HasRows : Object → MeasuredRows → Type 0
+abbrev pub HasRows : Object → ChildRows → Type 0
 HasRows (Struct start size) rows =
     (rows.start ≡ start) × (rows.data_words ≡ size.data_words) × (rows.pointers ≡ size.pointers) ×
     (rows.count ≡ 1)

@@ -1,8 +1,10 @@
 //! What is at a place of a message: the objects of the encoding specification's sections "Structs",
 //! "Lists" and "Capabilities (Interfaces)", one level at a time.
 
-ghost use Rattle.std.specs.Prelude.{◌≡◌, ◌<◌, ◌*◌, ◌^◌, length, slice_index};
+ghost use Rattle.std.specs.Prelude.{◌≡◌, ◌<◌, ◌*◌, ◌^◌, length, slice_index, MatchOption};
 ghost use Rattle.capnp_format.specs.Bytes.{words_of};
+ghost use Rattle.capnp_objects.specs.declared.object.ChildRows.{ChildRows};
+ghost use Rattle.capnp_objects.specs.Sizes.{HasRows};
 
 use capnp_words::wire_pointer::{ElementSize, StructSize, WirePointer};
 use capnp_words::words::word_at;
@@ -118,4 +120,47 @@ pub enum Purpose {
     /// Only the object's size. A list of void may be outside of its segment, and elements without
     /// width aren't charged.
     Size,
+}
+
+/// The pointers of an object, in elements of equal size: a struct and a list of pointers are one
+/// element, so that one loop handles all pointers.
+#[derive(Clone, Copy)]
+pub struct ChildRows<'a> {
+    /// The first word of the first element.
+    pub start: Place<'a>,
+    /// The number of words before the pointers of an element.
+    pub data_words: u32,
+    /// The number of pointers of an element.
+    pub pointers: u32,
+    /// The number of elements.
+    pub count: u32,
+}
+
+/// Returns the pointers of `object`; `None` for a null, a capability, and a list of bits or numbers,
+/// which have none.
+pub fn rows_of_object(object: Object) -> Option<ChildRows>
+    ensures { MatchOption result ((rows : ChildRows) → HasRows object.entry rows → ⊥)
+        (HasRows object.entry) }
+{
+    match object {
+        Object::Null | Object::Capability(_) | Object::Flat { .. } => None,
+        Object::Struct { start, size } => Some(ChildRows {
+            start,
+            data_words: u32::from(size.data_words),
+            pointers: u32::from(size.pointers),
+            count: 1,
+        }),
+        Object::Pointers { start, count } => Some(ChildRows {
+            start,
+            data_words: 0,
+            pointers: count,
+            count: 1,
+        }),
+        Object::Structs { start, size, count } => Some(ChildRows {
+            start,
+            data_words: u32::from(size.data_words),
+            pointers: u32::from(size.pointers),
+            count,
+        }),
+    }
 }

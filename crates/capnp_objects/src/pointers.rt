@@ -16,7 +16,8 @@ mod sizes;
 mod validate;
 mod walk;
 
-use crate::object::Place;
+use crate::nesting::one_level_less;
+use crate::object::{Object, Place, Purpose};
 use crate::source::Source;
 pub use canonical::is_last_word_used;
 pub use canonical_fault::{CanonicalFault, CanonicalFaultReason};
@@ -65,7 +66,13 @@ impl<'a, A: ReaderArena> Clone for Pointer<'a, A> {
 impl<'a, A: ReaderArena> Copy for Pointer<'a, A> {}
 
 impl<'a, A: ReaderArena> Pointer<'a, A> {
+    ghost use Rattle.std.specs.Prelude.{◌+◌, ◌<◌, ◌^◌, pred};
+    ghost use Rattle.capnp_objects.specs.Enter.{read, result_shape};
+    ghost use Rattle.capnp_objects.specs.Entering.{IsObjectHeld};
+    ghost use Rattle.capnp_objects.specs.Objects.{IsObjectRead};
     ghost use Rattle.capnp_objects.specs.Pointers.{reading};
+    ghost use Rattle.capnp_objects.specs.Reading.{place_past};
+    ghost use Rattle.capnp_objects.specs.Source.{levels};
 
     /// Returns a null pointer that isn't in any message: its source is `Source::Nothing`, its place
     /// word 0 of segment 0, and its nesting limit `i32::MAX`.
@@ -131,6 +138,53 @@ impl<'a, A: ReaderArena> Pointer<'a, A> {
                 at: place.word,
             },
             nesting_limit,
+        }
+    }
+
+    /// Reads the object that the pointer leads to, but none of its children: for its value like
+    /// `Source::read_object`, for its size like `Source::measure_object`.
+    #[inline(always)]
+    pub fn read(self, purpose: Purpose, lim: &mut ReadLimiter) -> Result<Object<'a>, ErrorKind>
+        ensures computed { read purpose (reading A.ReaderArena self.entry) lim.old
+            ≡ (result_shape result, lim.new) }
+        ensures object { IfOk result (IsObjectRead purpose (reading A.ReaderArena self.entry)) }
+        ensures held { IfOk result
+            (IsObjectHeld (source_start A.ReaderArena self.entry.source).segments) }
+    {
+        self.source
+            .read_for_purpose(purpose, self.place, self.nesting_limit, lim)
+    }
+
+    /// Returns the pointer `words` words after this one, in the same segment and with the same
+    /// nesting limit. The position wraps around at 2^32, which is after the last word of any
+    /// segment.
+    #[inline(always)]
+    pub fn past(self, words: u32) -> Self
+        ensures { self.entry.place.at + words < 2 ^ 32
+            → reading A.ReaderArena result ≡ place_past (reading A.ReaderArena self.entry) words }
+    {
+        let at = self.place.at.wrapping_add(words);
+        Pointer {
+            source: self.source,
+            place: Place { at, ..self.place },
+            nesting_limit: self.nesting_limit,
+        }
+    }
+
+    /// Returns the pointer at `start`, which is inside the object that this pointer leads to. Its
+    /// nesting limit is one less. Precondition: `start.bytes` has exactly the whole words of segment
+    /// `start.segment` of the source, fewer than 2^32.
+    #[inline(always)]
+    pub fn inside(self, start: Place<'a>) -> Self
+        requires { IsHeld (source_start A.ReaderArena self.source).segments start }
+        ensures source { result.source ≡ self.entry.source }
+        ensures place { result.place ≡ start.entry }
+        ensures levels { levels result.nesting_limit ≡ pred (levels self.entry.nesting_limit) }
+    {
+        Pointer {
+            source: self.source,
+            place: start,
+            nesting_limit: one_level_less(self.nesting_limit),
         }
     }
 

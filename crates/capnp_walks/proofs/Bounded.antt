@@ -16,7 +16,7 @@ use Rattle.capnp_objects.specs.Refusals.{Stopped, Unfollowed, no_target, broken,
 use Rattle.capnp_objects.specs.Spending.{Paid, after_charge}
 use Rattle.capnp_objects.specs.Wanted.{plain}
 use Rattle.capnp_objects.proofs.Budgets.{fewer_than_words}
-use Rattle.capnp_objects.proofs.Computed.{null_is, capability_is, entering_is}
+use Rattle.capnp_objects.proofs.Computed.{null_is, capability_is, entering_is, stopped_is}
 use Rattle.capnp_objects.proofs.Decided.{same_or_not}
 use Rattle.capnp_objects.proofs.Inverted.{Ends, at_capability, at_object, refused, ends}
 use Rattle.capnp_objects.proofs.Objects.{own_pointers, own_struct, own_structs}
@@ -144,7 +144,7 @@ place_within parent r xs m x charges e h = elim (same_or_not (word_of r) 0) [
         rw (opened into_list parent r xs m m' (shape r.segments a) o.meets.levels (entering_is Value r m m' a o)) (object_within parent _ r xs m m' x a charges e o (h o.meets.levels))
     go (refused k m' stopped) =
         let (g, p) = stopped_paid stopped in
-        rw (refusal_stops into_list parent r xs m m' k stopped) (x - g, (paid x charges e p).1, omega arith)
+        rw (refusal_stops into_list parent r xs m m' k (stopped_is Value r m m' k (λ e. absurd (cc e)) stopped)) (x - g, (paid x charges e p).1, omega arith)
 
 pub walk_bounded : (n parent : ℕ) (r : Reading) (xs : List WalkedObject) (m : Meter) (x : ℕ) → r.levels ≡ n → r.charging ≡ true → m.left ≡ Some x → Within (length xs + x + 1) (walk_place into_list parent r xs m)
 walk_bounded zero parent r xs m x level charges e = place_within parent r xs m x charges e (λ some. absurd (omega (arith, some, level)))

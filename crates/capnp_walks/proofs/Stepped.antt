@@ -1,30 +1,27 @@
 -- The walk, a step at a time: what it makes of an object that the program has read, and of one that
 -- is refused.
-use Rattle.std.proofs.Common.{◌≡◌, ℕ, zero, suc, pred, ◌+◌, ◌<◌, Some, None, Ok, Err, refl, sym, ap, ◌∙◌, subst, arith}
+use Rattle.std.proofs.Common.{◌≡◌, ℕ, zero, suc, pred, ◌+◌, ◌<◌, Some, None, Ok, Err, refl, sym, ap, ◌∙◌, arith}
 use Rattle.capnp_words.specs.declared.error.ErrorKind.{ErrorKind}
 use Rattle.capnp_words.specs.Meter.{Meter}
-use Rattle.capnp_words.specs.declared.wire_pointer.StructSize.{StructSize}
 use Rattle.capnp_objects.specs.declared.object.Object.{Object}
-use Rattle.capnp_objects.specs.declared.object.Object.TheVariants.{Struct as ObjectStruct, Pointers as ObjectPointers, Structs as ObjectStructs}
-use Rattle.capnp_objects.specs.declared.object.Place.{Place}
+use Rattle.capnp_objects.specs.declared.object.ChildRows.{ChildRows}
 use Rattle.capnp_objects.specs.declared.object.Purpose.TheVariants.{Value}
 use Rattle.capnp_objects.specs.Enter.{Shape, object_shape, read}
 use Rattle.capnp_objects.specs.Metered.{Metered, answer, onward}
-use Rattle.capnp_objects.specs.Objects.{IsObject}
 use Rattle.capnp_objects.specs.Reading.{Reading, place_past}
-use Rattle.capnp_objects.specs.Refusals.{NotRead}
-use Rattle.capnp_objects.proofs.Computed.{object_is, stopped_is}
 use Rattle.capnp_objects.specs.Measure.{fold_children, fold_elements, fold_pointers}
-use Rattle.capnp_objects.proofs.Measured.{one_row}
+use Rattle.capnp_objects.specs.Sizes.{HasRows}
+use Rattle.capnp_objects.proofs.Measured.{children_in_rows, no_children}
+use Rattle.capnp_objects.proofs.Walked.{beginning}
 use Rattle.capnp_refusals.specs.Search.{refused_at}
 use Rattle.capnp_refusals.specs.declared.refusals.search.RefusedPointer.{RefusedPointer}
 use Rattle.capnp_walks.specs.Listing.{Collector}
 use Rattle.capnp_walks.specs.Walks.{Walking, added, unless_stopped, walk_elements, walk_on, walk_place, walk_within}
 
 -- The object at r is refused: the walk stops there.
-pub refusal_stops : {X : Type 0} (c : Collector X) (parent : ℕ) (r : Reading) (x : X) (m m' : Meter) (k : ErrorKind) → NotRead Value r m m' k → walk_place c parent r x m ≡ (Ok (x, Some (refused_at r k)), m')
+pub refusal_stops : {X : Type 0} (c : Collector X) (parent : ℕ) (r : Reading) (x : X) (m m' : Meter) (k : ErrorKind) → read Value r m ≡ (Err k, m') → walk_place c parent r x m ≡ (Ok (x, Some (refused_at r k)), m')
 unfolding walk_within
-refusal_stops {X} c parent r x m m' k refusal = go r.levels (stopped_is Value r m m' k (λ e. absurd (cc e)) refusal)
+refusal_stops {X} c parent r x m m' k refusal = go r.levels refusal
   where
     go : (n : ℕ) → read Value (record r { levels = n }) m ≡ (Err k, m') → walk_within c n parent r x m ≡ (Ok (x, Some (refused_at r k)), m')
     go zero e = ap (walk_on r (λ o y. answer (added c parent r o y, None)) x) e
@@ -50,36 +47,18 @@ leaf {X} c parent r x m m' o none e = go r.levels e
     go (suc n) e = ap (walk_on r (λ o y. fold_children (unless_stopped (walk_within c n (c.next y))) (record r { levels = n }) o (added c parent r o y, None)) x) e ∙ none (unless_stopped (walk_within c n (c.next x))) (record r { levels = n }) (added c parent r o x, None)
 
 -- The program's object o, with the collection y after its entry was added: it has no pointers, or
--- those of these elements, which are read with one level less.
-pub leaf_object : {X : Type 0} (c : Collector X) (parent : ℕ) (r : Reading) (x y : X) (m m' : Meter) (o w : Object) → o ≡ w → ((f : Reading → Walking X → Metered (Walking X)) (s : Reading) (z : Walking X) → fold_children f s (object_shape w) z m' ≡ (Ok z, m')) →
-    IsObject Value r m m' o → y ≡ added c parent r (object_shape o) x → walk_place c parent r x m ≡ (Ok (y, None), m')
-leaf_object c parent r x y m m' o w is none object sums =
-    leaf c parent r x m m' (object_shape o) (λ f s z. subst (λ v. fold_children f s (object_shape v) z m' ≡ (Ok z, m')) (sym is) (none f s z)) (object_is Value r m m' o object)
-    ∙ ap (λ z. (Ok (z, None), m')) (sym sums)
+-- those of these rows, which are read with one level less.
+pub object_ends : {X : Type 0} (c : Collector X) (parent : ℕ) (r : Reading) (x y : X) (m m' : Meter) (o : Object) → ((rows : ChildRows) → HasRows o rows → ⊥) → read Value r m ≡ (Ok (object_shape o), m') →
+    y ≡ added c parent r (object_shape o) x → walk_place c parent r x m ≡ (Ok (y, None), m')
+object_ends c parent r x y m m' o none read_it sums =
+    leaf c parent r x m m' (object_shape o) (λ f s z. no_children f s o z m' none) read_it ∙ ap (λ z. (Ok (z, None), m')) (sym sums)
 
-pub struct_opens : {X : Type 0} (c : Collector X) (parent : ℕ) (r : Reading) (x y : X) (m m' : Meter) (o : Object) (start : Place) (size : StructSize) (w q : ℕ) → o ≡ ObjectStruct start size → w ≡ size.data_words → q ≡ size.pointers → IsObject Value r m m' o →
-    y ≡ added c parent r (object_shape o) x → walk_place c parent r x m ≡ walk_elements c (c.next x) w q 1 (record r { levels = pred r.levels; segment = start.segment; at = start.at }) y m'
-struct_opens c parent r x y m m' o start size w q is wide many object sums =
-    let here : IsObject Value r m m' (ObjectStruct start size) = subst (IsObject Value r m m') is object in
-    let sum : y ≡ added c parent r (object_shape (ObjectStruct start size)) x = subst (λ v. y ≡ added c parent r (object_shape v) x) is sums in
-    opened c parent r x m m' (object_shape (ObjectStruct start size)) here.1.meets.levels (object_is Value r m m' (ObjectStruct start size) here)
-    ∙ rw (wide, many, sum) (sym (one_row (unless_stopped (walk_within c (pred r.levels) (c.next x))) (record r { levels = pred r.levels; segment = start.segment; at = start.at }) size.data_words size.pointers _ m'))
-
-pub pointers_open : {X : Type 0} (c : Collector X) (parent : ℕ) (r : Reading) (x y : X) (m m' : Meter) (o : Object) (start : Place) (i : ℕ) → o ≡ ObjectPointers start i → IsObject Value r m m' o →
-    y ≡ added c parent r (object_shape o) x → walk_place c parent r x m ≡ walk_elements c (c.next x) 0 i 1 (record r { levels = pred r.levels; segment = start.segment; at = start.at }) y m'
-pointers_open c parent r x y m m' o start i is object sums =
-    let here : IsObject Value r m m' (ObjectPointers start i) = subst (IsObject Value r m m') is object in
-    let sum : y ≡ added c parent r (object_shape (ObjectPointers start i)) x = subst (λ v. y ≡ added c parent r (object_shape v) x) is sums in
-    opened c parent r x m m' (object_shape (ObjectPointers start i)) here.1.meets.levels (object_is Value r m m' (ObjectPointers start i) here)
-    ∙ ap (λ p. fold_pointers (unless_stopped (walk_within c (pred r.levels) (c.next x))) i (record r { levels = pred r.levels; segment = start.segment; at = p }) (added c parent r (object_shape (ObjectPointers start i)) x, None) m') (let same : start.at ≡ start.at + 0 = omega arith in same)
-    ∙ rw sum (sym (one_row (unless_stopped (walk_within c (pred r.levels) (c.next x))) (record r { levels = pred r.levels; segment = start.segment; at = start.at }) 0 i _ m'))
-
-pub structs_open : {X : Type 0} (c : Collector X) (parent : ℕ) (r : Reading) (x y : X) (m m' : Meter) (o : Object) (start : Place) (size : StructSize) (i w q : ℕ) → o ≡ ObjectStructs start size i → w ≡ size.data_words → q ≡ size.pointers → IsObject Value r m m' o →
-    y ≡ added c parent r (object_shape o) x → walk_place c parent r x m ≡ walk_elements c (c.next x) w q i (record r { levels = pred r.levels; segment = start.segment; at = start.at }) y m'
-structs_open c parent r x y m m' o start size i w q is wide many object sums =
-    let here : IsObject Value r m m' (ObjectStructs start size i) = subst (IsObject Value r m m') is object in
-    let sum : y ≡ added c parent r (object_shape (ObjectStructs start size i)) x = subst (λ v. y ≡ added c parent r (object_shape v) x) is sums in
-    opened c parent r x m m' (object_shape (ObjectStructs start size i)) here.1.meets.levels (object_is Value r m m' (ObjectStructs start size i) here) ∙ rw (wide, many, sum) refl
+pub object_opens : {X : Type 0} (c : Collector X) (parent : ℕ) (r : Reading) (x y : X) (m m' : Meter) (o : Object) (rows : ChildRows) → 0 < r.levels → read Value r m ≡ (Ok (object_shape o), m') → HasRows o rows →
+    y ≡ added c parent r (object_shape o) x → walk_place c parent r x m ≡ walk_elements c (c.next x) rows.data_words rows.pointers rows.count (beginning r rows.start) y m'
+object_opens c parent r x y m m' o rows some read_it has sums =
+    let f = unless_stopped (walk_within c (pred r.levels) (c.next x)) in
+    opened c parent r x m m' (object_shape o) some read_it ∙ children_in_rows f (record r { levels = pred r.levels }) o rows (added c parent r (object_shape o) x, None) m' has
+    ∙ ap (λ z. fold_elements f rows.data_words rows.pointers rows.count (beginning r rows.start) (z, None) m') (sym sums)
 
 -- Once the walk is stopped, the pointers after it add nothing.
 pub pointers_stay : {X : Type 0} (f : Reading → X → Metered (Walking X)) (i : ℕ) (r : Reading) (x : X) (p : RefusedPointer) (m : Meter) → fold_pointers (unless_stopped f) i r (x, Some p) m ≡ (Ok (x, Some p), m)

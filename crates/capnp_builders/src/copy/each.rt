@@ -11,7 +11,7 @@ ghost use Rattle.capnp_copies.specs.Originals.{children_original};
 ghost use Rattle.capnp_making.specs.Makes.{call_at};
 
 use capnp_arena_traits::arena::{BuilderArena, ReaderArena, WordPlace};
-use capnp_copies::copy::{copy_value, place_past, pointer_past};
+use capnp_copies::copy::{copy_value, place_past};
 use capnp_objects::pointers::Pointer;
 use capnp_words::error::ErrorKind;
 use capnp_words::read_limiter::ReadLimiter;
@@ -47,7 +47,7 @@ pub fn copy_each<A: BuilderArena, B: ReaderArena>(
         (call_at to.segment to.at (A.view arena.old) (A.view arena.new)) lim.old lim.new) }
 {
     for i in 0..count {
-        let child = pointer_past(from, i);
+        let child = from.past(i);
         let place = place_past(to, i);
         copy_value(arena, place, child, lim, false)?;
     }

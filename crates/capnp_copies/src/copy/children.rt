@@ -10,7 +10,7 @@ ghost use Rattle.capnp_copies.specs.Originals.{value_original};
 ghost use Rattle.capnp_making.specs.Makes.{call_at};
 
 use super::flat::copy_primitive_list;
-use super::places::{place_past, pointer_inside, pointer_past};
+use super::places::place_past;
 use super::structs::copy_struct;
 use crate::form::{CopyForm, Destination};
 use capnp_arena_traits::arena::{BuilderArena, ReaderArena, WordPlace};
@@ -87,7 +87,7 @@ pub(crate) fn copy_children_inline<A: BuilderArena, B: ReaderArena>(
         (copy_call_to to (A.view arena.old) (A.view arena.new) lim.old lim.new) }
 {
     for i in 0..count {
-        let child = pointer_past(from, i);
+        let child = from.past(i);
         let place = place_past(to.place, i);
         let form = to.form;
         copy_child(arena, Destination { place, form }, child, lim)?;
@@ -148,7 +148,7 @@ fn copy_near_struct<A: BuilderArena, B: ReaderArena>(
     };
     let at = from.source.read_near_struct(pointer, lim)?;
     let start = Place { at, ..from.place };
-    let inner = pointer_inside(from, start);
+    let inner = from.inside(start);
     copy_struct(arena, to, inner, word.struct_size(), lim)
 }
 

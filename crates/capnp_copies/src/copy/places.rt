@@ -1,30 +1,7 @@
-//! The next pointers of a copy: those after a pointer, and those inside the object that it leads
-//! to.
-ghost use Rattle.std.specs.Prelude.{◌≡◌, ◌+◌, ◌<◌, ◌^◌, pred};
-ghost use Rattle.capnp_objects.specs.Objects.{IsHeld};
-ghost use Rattle.capnp_objects.specs.Reading.{place_past, source_start};
-ghost use Rattle.capnp_objects.specs.Source.{levels};
-ghost use Rattle.capnp_objects.specs.Pointers.{reading};
+//! The next places of a copy.
+ghost use Rattle.std.specs.Prelude.{◌≡◌, ◌+◌, ◌<◌, ◌^◌};
 
-use capnp_arena_traits::arena::{ReaderArena, WordPlace};
-use capnp_objects::object::Place;
-use capnp_objects::pointers::Pointer;
-
-/// The pointer `words` words after `from`, in the same segment and with the same nesting limit.
-/// Precondition: `from.place.at + words` is below 2^32.
-pub fn pointer_past<B: ReaderArena>(from: Pointer<'_, B>, words: u32) -> Pointer<'_, B>
-    requires { from.place.at + words < 2 ^ 32 }
-    ensures { reading B.ReaderArena result ≡ place_past (reading B.ReaderArena from.entry) words }
-{
-    Pointer {
-        source: from.source,
-        place: Place {
-            at: from.place.at + words,
-            ..from.place
-        },
-        nesting_limit: from.nesting_limit,
-    }
-}
+use capnp_arena_traits::arena::WordPlace;
 
 /// The place `words` words after `place`, in the same segment. Precondition: `place.at + words` is
 /// below 2^32.
@@ -35,24 +12,5 @@ pub fn place_past(place: WordPlace, words: u32) -> WordPlace
     WordPlace {
         at: place.at + words,
         ..place
-    }
-}
-
-/// The pointer at `start`, which is inside the object that `from` leads to. Its nesting limit is
-/// one less than that of `from`.
-pub(super) fn pointer_inside<'a, B: ReaderArena>(
-    from: Pointer<'a, B>,
-    start: Place<'a>,
-) -> Pointer<'a, B>
-    requires held { IsHeld (source_start B.ReaderArena from.source).segments start }
-    requires level { 0 < levels from.nesting_limit }
-    ensures source { result.source ≡ from.entry.source }
-    ensures place { result.place ≡ start.entry }
-    ensures levels { levels result.nesting_limit ≡ pred (levels from.entry.nesting_limit) }
-{
-    Pointer {
-        source: from.source,
-        place: start,
-        nesting_limit: from.nesting_limit - 1,
     }
 }

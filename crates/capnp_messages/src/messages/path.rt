@@ -1,39 +1,27 @@
 //! Follows a path of indexes to a part of a message: to a pointer, or to an element of a list of
 //! structs.
-ghost use Rattle.std.specs.Prelude.{◌≡◌, ◌+◌, ◌*◌, ◌<◌, ◌≤◌, length, IfOk, ⊤};
+ghost use Rattle.std.specs.Prelude.{◌≡◌, ◌+◌, ◌*◌, ◌<◌, ◌≤◌, length, ⊤};
 ghost use Rattle.capnp_format.specs.Bytes.{message};
 ghost use Rattle.capnp_format.specs.Segments.{segment};
 ghost use Rattle.capnp_objects.specs.declared.object.Purpose.TheVariants.{Value};
-ghost use Rattle.capnp_objects.specs.Enter.{object_shape, read, result_shape, structs};
-ghost use Rattle.capnp_objects.specs.Objects.{IsHeld};
+ghost use Rattle.capnp_objects.specs.Enter.{object_shape, structs};
+ghost use Rattle.capnp_objects.specs.Objects.{IsHeld, IsObjectRead};
 ghost use Rattle.capnp_objects.specs.Reading.{source_start};
 ghost use Rattle.capnp_objects.specs.Source.{levels};
 ghost use Rattle.capnp_objects.specs.Pointers.{reading};
 ghost use Rattle.capnp_messages.specs.EndValues.{measure_end};
 ghost use Rattle.capnp_messages.specs.Parts.{end_at, end_in, follow_path, part, pointer_in, step, to_pointer};
-ghost use Rattle.capnp_messages.specs.PathEnds.{IsObjectRead, end_read, end_result};
+ghost use Rattle.capnp_messages.specs.PathEnds.{end_read, end_result};
 
 use super::pointer_run::{ElementPlace, PointerRun, pointer_within};
 use super::root::read_root;
 use capnp_arena::arena::{ReaderArena, ReaderArenaImpl, ReaderSegments};
-use capnp_objects::object::{Object, Place};
+use capnp_objects::object::{Object, Place, Purpose};
 use capnp_objects::pointers::{MessageSize, Pointer};
 use capnp_words::error::ErrorKind;
 use capnp_words::read_limiter::ReadLimiter;
 use capnp_words::wire_pointer::StructSize;
 use std::alloc::AllocError;
-
-/// Reads the object that the pointer `from` leads to, like `Source::read_object`.
-fn read_object<'a, A: ReaderArena>(
-    from: Pointer<'a, A>,
-    lim: &mut ReadLimiter,
-) -> Result<Object<'a>, ErrorKind>
-    ensures computed { read Value (reading A.ReaderArena from.entry) lim.old
-        ≡ (result_shape result, lim.new) }
-    ensures object { IfOk result (IsObjectRead (reading A.ReaderArena from.entry)) }
-{
-    from.source.read_object(from.place, from.nesting_limit, lim)
-}
 
 /// Where a path leads.
 pub enum Reached<'a, A: ReaderArena> {
@@ -77,7 +65,6 @@ impl<'a, A: ReaderArena> Reached<'a, A> {
         index: u32,
     ) -> Result<Self, ErrorKind>
         requires held { IsHeld (source_start A.ReaderArena from.source).segments start }
-        requires level { 0 < levels from.nesting_limit }
         requires inside { start.at + count * (size.data_words + size.pointers)
             ≤ length (segment (source_start A.ReaderArena from.source).segments start.segment) }
         ensures { end_in (reading A.ReaderArena from.entry)
@@ -98,7 +85,7 @@ impl<'a, A: ReaderArena> Reached<'a, A> {
         object: Object<'a>,
         index: u32,
     ) -> Result<Self, ErrorKind>
-        requires { IsObjectRead (reading A.ReaderArena from) object }
+        requires { IsObjectRead Value (reading A.ReaderArena from) object }
         ensures { end_in (reading A.ReaderArena from.entry) (object_shape object.entry) index
             ≡ end_result A.ReaderArena result }
     {
@@ -128,7 +115,7 @@ impl<'a, A: ReaderArena> Reached<'a, A> {
     {
         match self {
             Reached::Pointer(from) => {
-                let object = read_object(from, lim)?;
+                let object = from.read(Purpose::Value, lim)?;
                 Reached::child_of_object(from, object, index)
             }
             Reached::Element(element) => Reached::pointer_in_run(

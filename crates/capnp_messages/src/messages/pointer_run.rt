@@ -1,15 +1,13 @@
 //! Elements of lists of structs, and consecutive pointers of an object.
-ghost use Rattle.std.specs.Prelude.{◌≡◌, ◌+◌, ◌<◌, ◌≤◌, length, ⊤};
+ghost use Rattle.std.specs.Prelude.{◌≡◌, ◌+◌, ◌≤◌, length, ⊤};
 ghost use Rattle.capnp_format.specs.Segments.{segment};
 ghost use Rattle.capnp_objects.specs.Objects.{IsHeld};
 ghost use Rattle.capnp_objects.specs.Reading.{place_past, segment_read, source_start};
-ghost use Rattle.capnp_objects.specs.Source.{levels};
 ghost use Rattle.capnp_objects.specs.Pointers.{reading};
 ghost use Rattle.capnp_messages.specs.EndValues.{IsElementPlace};
 ghost use Rattle.capnp_messages.specs.Parts.{inside, pointer_in};
 
 use capnp_arena::arena::ReaderArena;
-use capnp_copies::copy::pointer_past;
 use capnp_objects::object::Place;
 use capnp_objects::pointers::Pointer;
 use capnp_words::error::ErrorKind;
@@ -47,20 +45,12 @@ pub(super) fn pointer_within<'a, A: ReaderArena>(
     words: u32,
 ) -> Pointer<'a, A>
     requires held { IsHeld (source_start A.ReaderArena from.source).segments start }
-    requires level { 0 < levels from.nesting_limit }
     requires inside { start.at + words
         ≤ length (segment (source_start A.ReaderArena from.source).segments start.segment) }
     ensures { reading A.ReaderArena result
         ≡ inside (reading A.ReaderArena from.entry) start.entry.segment (start.entry.at + words) }
 {
-    Pointer {
-        source: from.source,
-        place: Place {
-            at: start.at + words,
-            ..start
-        },
-        nesting_limit: from.nesting_limit - 1,
-    }
+    from.inside(start).past(words)
 }
 
 /// Consecutive pointers: those of a struct, or of a list.
@@ -80,7 +70,6 @@ impl<'a, A: ReaderArena> PointerRun<'a, A> {
     /// `from` leads to. Their nesting limit is one less than that of `from`.
     pub(super) fn inside(from: Pointer<'a, A>, start: Place<'a>, words: u32, count: u32) -> Self
         requires held { IsHeld (source_start A.ReaderArena from.source).segments start }
-        requires level { 0 < levels from.nesting_limit }
         requires inside { start.at + words + count
             ≤ length (segment (source_start A.ReaderArena from.source).segments start.segment) }
         ensures first { reading A.ReaderArena result.first
@@ -101,7 +90,7 @@ impl<'a, A: ReaderArena> PointerRun<'a, A> {
         ensures count { result.count ≡ element.entry.size.pointers }
     {
         PointerRun {
-            first: pointer_past(element.first, u32::from(element.size.data_words)),
+            first: element.first.past(u32::from(element.size.data_words)),
             count: u32::from(element.size.pointers),
         }
     }
@@ -115,6 +104,6 @@ impl<'a, A: ReaderArena> PointerRun<'a, A> {
         if index >= self.count {
             return Err(ErrorKind::NoSuchPlace);
         }
-        Ok(pointer_past(self.first, index))
+        Ok(self.first.past(index))
     }
 }

@@ -1,15 +1,14 @@
 //! Counts the words and capabilities of a value, without reading its data.
-ghost use Rattle.std.specs.Prelude.{◌≡◌, ◌<◌, ◌≤◌, ◌+◌, ◌*◌, length, MatchOption};
+ghost use Rattle.std.specs.Prelude.{◌≡◌, ◌<◌, ◌≤◌, ◌+◌, ◌*◌, length};
 ghost use Rattle.capnp_format.specs.Word.{kind, element_size};
 ghost use Rattle.capnp_objects.specs.Enter.{object_shape};
 ghost use Rattle.capnp_objects.specs.Objects.{IsFew};
 ghost use Rattle.capnp_objects.specs.Reading.{segment_read};
 ghost use Rattle.capnp_objects.specs.Measure.{measure, measure_elements, measure_pointers, only_words, shape_size};
 ghost use Rattle.capnp_objects.specs.Pointers.{reading, reading_on};
-ghost use Rattle.capnp_objects.specs.declared.pointers.sizes.MeasuredRows.{MeasuredRows};
-ghost use Rattle.capnp_objects.specs.Sizes.{HasRows, IsWordAt, Walks};
+ghost use Rattle.capnp_objects.specs.Sizes.{IsWordAt, Walks};
 
-use crate::object::{Object, Place, PointerWord};
+use crate::object::{Object, Place, PointerWord, rows_of_object};
 use crate::pointers::Pointer;
 use crate::pointers::walk::{Stopped, Walk};
 use capnp_arena_traits::arena::ReaderArena;
@@ -93,20 +92,6 @@ impl<'a, A: ReaderArena> Pointer<'a, A> {
             }
         }
     }
-}
-
-// The pointers of an object, in elements of equal size: a struct and a list of pointers are one
-// element, so that one loop handles all pointers.
-#[derive(Clone, Copy)]
-pub(crate) struct MeasuredRows<'a> {
-    // The first word of the first element.
-    pub(crate) start: Place<'a>,
-    // The number of words before the pointers of an element.
-    pub(crate) data_words: u32,
-    // The number of pointers of an element.
-    pub(crate) pointers: u32,
-    // The number of elements.
-    pub(crate) count: u32,
 }
 
 // Adds the sizes of `count` consecutive pointers from position `at` on. Enters a struct in the same
@@ -318,33 +303,5 @@ fn words_of_object(object: Object) -> u64
         Object::Struct { size, .. } => u64::from(size.total()),
         Object::Pointers { count, .. } => u64::from(count),
         Object::Structs { size, count, .. } => 1 + u64::from(count) * u64::from(size.total()),
-    }
-}
-
-// The pointers of an object; a null, a capability, and a list of bits have none.
-pub(crate) fn rows_of_object(object: Object) -> Option<MeasuredRows>
-    ensures { MatchOption result ((rows : MeasuredRows) → HasRows object.entry rows → ⊥)
-        (HasRows object.entry) }
-{
-    match object {
-        Object::Null | Object::Capability(_) | Object::Flat { .. } => None,
-        Object::Struct { start, size } => Some(MeasuredRows {
-            start,
-            data_words: u32::from(size.data_words),
-            pointers: u32::from(size.pointers),
-            count: 1,
-        }),
-        Object::Pointers { start, count } => Some(MeasuredRows {
-            start,
-            data_words: 0,
-            pointers: count,
-            count: 1,
-        }),
-        Object::Structs { start, size, count } => Some(MeasuredRows {
-            start,
-            data_words: u32::from(size.data_words),
-            pointers: u32::from(size.pointers),
-            count,
-        }),
     }
 }

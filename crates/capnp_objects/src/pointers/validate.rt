@@ -11,9 +11,8 @@ ghost use Rattle.capnp_objects.specs.Sizes.{IsWordAt};
 ghost use Rattle.capnp_objects.specs.Validation.{Validates, tally_shape, tally_words, validate_elements, validate_place, validate_pointers};
 
 use crate::nesting::{levels_left, one_level_less};
-use crate::object::{Object, Place, PointerWord};
+use crate::object::{Object, Place, PointerWord, rows_of_object};
 use crate::pointers::Pointer;
-use crate::pointers::sizes::rows_of_object;
 use crate::pointers::walk::Stopped;
 use capnp_arena_traits::arena::ReaderArena;
 use capnp_words::error::ErrorKind;

@@ -1,16 +1,13 @@
 //! Searches a value for the first pointer whose object is refused.
-ghost use Rattle.std.specs.Prelude.{◌≡◌, ◌≤◌, ◌+◌, ◌*◌, Ok, length, IfOk};
-ghost use Rattle.capnp_objects.specs.Enter.{object_shape, read, result_shape};
-ghost use Rattle.capnp_objects.specs.Objects.{IsFew, IsHeld, IsObject};
-ghost use Rattle.capnp_objects.specs.Reading.{reading_at, segment_read, source_start};
+ghost use Rattle.std.specs.Prelude.{◌≡◌, ◌≤◌, ◌+◌, ◌*◌, Ok, length};
+ghost use Rattle.capnp_objects.specs.Enter.{object_shape};
+ghost use Rattle.capnp_objects.specs.Reading.{segment_read};
 ghost use Rattle.capnp_objects.specs.Pointers.{reading, reading_on};
 ghost use Rattle.capnp_refusals.specs.Search.{demanded, permitted, search_elements, search_place, search_pointers};
 
 use capnp_arena_traits::arena::ReaderArena;
-use capnp_objects::nesting::one_level_less;
-use capnp_objects::object::{Object, Place, Purpose};
+use capnp_objects::object::{Object, Place, Purpose, rows_of_object};
 use capnp_objects::pointers::Pointer;
-use capnp_objects::source::Source;
 use capnp_words::error::ErrorKind;
 use capnp_words::read_limiter::ReadLimiter;
 
@@ -48,29 +45,6 @@ pub fn search_value<A: ReaderArena>(
     ensures { search_place demands (reading A.ReaderArena from.now) lim.old ≡ (Ok result, lim.new) }
 {
     search_object(demands, from, from.place.at, from.nesting_limit, lim)
-}
-
-// Reads the object that the pointer at `place` leads to, for `purpose`.
-#[inline(always)]
-fn read_object<'a, A: ReaderArena>(
-    purpose: Purpose,
-    source: Source<'a, A>,
-    place: Place<'a>,
-    nesting_limit: i32,
-    lim: &mut ReadLimiter,
-) -> Result<Object<'a>, ErrorKind>
-    requires held { IsHeld (source_start A.ReaderArena source).segments place }
-    ensures object { IfOk result (IsObject purpose
-        (reading_at A.ReaderArena source.entry place.entry nesting_limit) lim.old lim.new) }
-    ensures few { IfOk result IsFew }
-    ensures computed { read purpose
-        (reading_at A.ReaderArena source.entry place.entry nesting_limit) lim.old
-        ≡ (result_shape result, lim.new) }
-{
-    match purpose {
-        Purpose::Value => source.read_object(place, nesting_limit, lim),
-        Purpose::Size => source.measure_object(place, nesting_limit, lim),
-    }
 }
 
 // Refuses a capability where none may be.
@@ -121,9 +95,13 @@ fn search_object<A: ReaderArena>(
     ensures { search_place demands (reading_on A.ReaderArena from.now at nesting_limit) lim.old
         ≡ (Ok result, lim.new) }
 {
-    let place = Place { at, ..from.place };
+    let here = Pointer {
+        source: from.source,
+        place: Place { at, ..from.place },
+        nesting_limit,
+    };
     let segment = from.place.segment;
-    let object = match read_object(demands.purpose, from.source, place, nesting_limit, lim) {
+    let object = match here.read(demands.purpose, lim) {
         Ok(object) => object,
         Err(refusal) => {
             return Some(RefusedPointer {
@@ -143,40 +121,18 @@ fn search_object<A: ReaderArena>(
             });
         }
     }
-    let inner = one_level_less(nesting_limit);
-    match object {
-        Object::Null => None,
-        Object::Capability(_) => None,
-        Object::Flat { .. } => None,
-        Object::Struct { start, size } => {
-            let first = Pointer {
-                source: from.source,
-                place: start,
-                nesting_limit: inner,
-            };
-            let words = u32::from(size.data_words);
-            let pointers = u32::from(size.pointers);
-            search_elements(demands, &first, words, pointers, 1, lim)
-        }
-        Object::Pointers { start, count } => {
-            let first = Pointer {
-                source: from.source,
-                place: start,
-                nesting_limit: inner,
-            };
-            search_elements(demands, &first, 0, count, 1, lim)
-        }
-        Object::Structs { start, size, count } => {
-            let first = Pointer {
-                source: from.source,
-                place: start,
-                nesting_limit: inner,
-            };
-            let data = u32::from(size.data_words);
-            let each = u32::from(size.pointers);
-            search_elements(demands, &first, data, each, count, lim)
-        }
-    }
+    let Some(rows) = rows_of_object(object) else {
+        return None;
+    };
+    let first = here.inside(rows.start);
+    search_elements(
+        demands,
+        &first,
+        rows.data_words,
+        rows.pointers,
+        rows.count,
+        lim,
+    )
 }
 
 // Searches the pointers of `count` consecutive elements, each of `data_words` data words and

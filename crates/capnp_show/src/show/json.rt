@@ -1,19 +1,21 @@
 //! A message as one line of JSON.
 ghost use Rattle.std.specs.Prelude.{◌≡◌, ◌+◌, ◌*◌, ◌≤◌, true, false, codes, length, [], Ok, OnOk};
+ghost use Rattle.capnp_objects.specs.declared.object.Purpose.TheVariants.{Value};
 ghost use Rattle.capnp_objects.specs.Enter.{object_shape};
+ghost use Rattle.capnp_objects.specs.Objects.{IsObjectRead};
 ghost use Rattle.capnp_objects.specs.Reading.{segment_read};
 ghost use Rattle.capnp_objects.specs.Pointers.{reading};
-ghost use Rattle.capnp_messages.specs.PathEnds.{IsObjectRead, end_read, end_result};
+ghost use Rattle.capnp_messages.specs.PathEnds.{end_read, end_result};
 ghost use Rattle.capnp_show.specs.Adding.{max_text};
 ghost use Rattle.capnp_show.specs.Shown.{IsPlain, Shows, add, array_within, comma, show_elements, show_end};
 ghost use Rattle.capnp_show.specs.Shown.{show_object, show_path, show_refusal, show_struct, show_structs, show_within, shown_json};
 
-use super::objects::{bytes_are_below_256, bytes_at, pointer_inside, pointer_past, read_object};
+use super::objects::{bytes_are_below_256, bytes_at};
 use super::path::{PathStep, enter};
 use super::text::{CUT_OBJECT, Ended, Text};
 use capnp_arena_traits::arena::ReaderArena;
 use capnp_messages::messages::{ElementPlace, Reached};
-use capnp_objects::object::{Object, Place};
+use capnp_objects::object::{Object, Place, Purpose};
 use capnp_objects::pointers::Pointer;
 use capnp_words::error::ErrorKind;
 use capnp_words::read_limiter::ReadLimiter;
@@ -335,7 +337,7 @@ fn write_null_or_object<A: ReaderArena>(
         return json.text.push(b"null");
     }
     json.write_pointer(from.place)?;
-    match read_object(from, &mut json.lim) {
+    match from.read(Purpose::Value, &mut json.lim) {
         Ok(object) => write_object(from, object, depth, json),
         Err(kind) => json.write_refusal(kind.name()),
     }
@@ -349,7 +351,7 @@ fn write_object<A: ReaderArena>(
     depth: u32,
     json: &mut Json,
 ) -> Result<(), Ended>
-    requires { IsObjectRead (reading A.ReaderArena from) object }
+    requires { IsObjectRead Value (reading A.ReaderArena from) object }
     ensures { IsPlain json.old → Shows result json.new
         (show_object (array_within depth) (reading A.ReaderArena from.entry)
         (object_shape object.entry) (shown_json json.old)) }
@@ -359,14 +361,12 @@ fn write_object<A: ReaderArena>(
         Object::Null => json.text.push(b"}"),
         Object::Capability(index) => json.text.push_capability(index),
         Object::Flat { start, size, count } => json.text.push_primitive_list(start, size, count),
-        Object::Struct { start, size } => {
-            write_sections(pointer_inside(from, start, 0), size, depth, json)
-        }
+        Object::Struct { start, size } => { write_sections(from.inside(start), size, depth, json) }
         Object::Pointers { start, count } => {
-            write_pointer_array(true, pointer_inside(from, start, 0), count, depth, json)
+            write_pointer_array(true, from.inside(start), count, depth, json)
         }
         Object::Structs { start, size, count } => {
-            write_struct_list(pointer_inside(from, start, 0), size, count, depth, json)
+            write_struct_list(from.inside(start), size, count, depth, json)
         }
     }
 }
@@ -389,7 +389,7 @@ fn write_sections<A: ReaderArena>(
     let data = bytes_at(start.place, 8 * words as usize);
     bytes_are_below_256(data);
     json.text.push_data_member(data)?;
-    let first = pointer_past(start, words);
+    let first = start.past(words);
     write_pointer_array(false, first, u32::from(size.pointers), depth, json)
 }
 
@@ -416,7 +416,7 @@ fn write_pointer_array<A: ReaderArena>(
             is_element: are_elements,
             index: i,
         })?;
-        write_pointed_value(pointer_past(first, i), depth - 1, json)?;
+        write_pointed_value(first.past(i), depth - 1, json)?;
         json.leave();
     }
     json.text.push(b"]}")
@@ -463,7 +463,7 @@ fn write_struct_elements<A: ReaderArena>(
 {
     for i in 0..count {
         let start = json.begin_element(i)?;
-        let element = pointer_past(first, i * size.total());
+        let element = first.past(i * size.total());
         write_sections(element, size, depth, json)?;
         json.end_element(start)?;
     }

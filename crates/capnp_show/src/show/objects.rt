@@ -1,37 +1,10 @@
-//! The objects of a message, and the numbers in them.
-ghost use Rattle.std.specs.Prelude.{◌≡◌, ◌+◌, ◌*◌, ◌^◌, ◌<◌, ℕ, take, drop, slice_index, IfOk};
+//! The bytes of an object, and the numbers in them.
+ghost use Rattle.std.specs.Prelude.{◌≡◌, ◌+◌, ◌*◌, ◌^◌, ◌<◌, ℕ, take, drop, slice_index};
 ghost use Rattle.capnp_format.specs.Bytes.{words_of};
-ghost use Rattle.capnp_objects.specs.declared.object.Purpose.TheVariants.{Value};
-ghost use Rattle.capnp_objects.specs.Enter.{read, result_shape};
-ghost use Rattle.capnp_objects.specs.Objects.{IsHeld};
-ghost use Rattle.capnp_objects.specs.Reading.{place_past, source_start};
-ghost use Rattle.capnp_objects.specs.Entering.{IsObjectHeld};
-ghost use Rattle.capnp_messages.specs.Parts.{inside};
-ghost use Rattle.capnp_messages.specs.PathEnds.{IsObjectRead};
-ghost use Rattle.capnp_objects.specs.Pointers.{reading};
 ghost use Rattle.capnp_show.specs.Numbers.{number_in, word_index};
 
-use capnp_arena_traits::arena::ReaderArena;
-use capnp_objects::nesting::one_level_less;
-use capnp_objects::object::{Object, Place};
-use capnp_objects::pointers::Pointer;
-use capnp_words::error::ErrorKind;
-use capnp_words::read_limiter::ReadLimiter;
+use capnp_objects::object::Place;
 use capnp_words::wire_pointer::ElementSize;
-
-/// Reads the object that the pointer `from` leads to, like `Source::read_object`.
-pub(super) fn read_object<'a, A: ReaderArena>(
-    from: Pointer<'a, A>,
-    lim: &mut ReadLimiter,
-) -> Result<Object<'a>, ErrorKind>
-    ensures held { IfOk result
-        (IsObjectHeld (source_start A.ReaderArena from.entry.source).segments) }
-    ensures object { IfOk result (IsObjectRead (reading A.ReaderArena from.entry)) }
-    ensures computed { read Value (reading A.ReaderArena from.entry) lim.old
-        ≡ (result_shape result, lim.new) }
-{
-    from.source.read_object(from.place, from.nesting_limit, lim)
-}
 
 /// The place `words` words after `start`. It saturates nowhere inside of an object.
 pub(super) fn place_past(start: Place, words: u32) -> Place
@@ -41,41 +14,6 @@ pub(super) fn place_past(start: Place, words: u32) -> Place
     Place {
         at: start.at.saturating_add(words),
         ..start
-    }
-}
-
-/// The pointer `words` words after `start`, in the object that `from` leads to.
-pub(super) fn pointer_inside<'a, A: ReaderArena>(
-    from: Pointer<'a, A>,
-    start: Place<'a>,
-    words: u32,
-) -> Pointer<'a, A>
-    requires { IsHeld (source_start A.ReaderArena from.source).segments start }
-    ensures { start.entry.at + words < 2 ^ 32 → reading A.ReaderArena result
-        ≡ inside (reading A.ReaderArena from.entry) start.entry.segment (start.entry.at + words) }
-{
-    Pointer {
-        source: from.source,
-        place: Place {
-            at: start.at.saturating_add(words),
-            ..start
-        },
-        nesting_limit: one_level_less(from.nesting_limit),
-    }
-}
-
-/// The pointer `words` words after the pointer `first` of the same object.
-pub(super) fn pointer_past<'a, A: ReaderArena>(first: Pointer<'a, A>, words: u32) -> Pointer<'a, A>
-    ensures { first.entry.place.at + words < 2 ^ 32
-        → reading A.ReaderArena result ≡ place_past (reading A.ReaderArena first.entry) words }
-{
-    Pointer {
-        source: first.source,
-        place: Place {
-            at: first.place.at.saturating_add(words),
-            ..first.place
-        },
-        nesting_limit: first.nesting_limit,
     }
 }
 

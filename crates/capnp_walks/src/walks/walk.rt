@@ -7,8 +7,7 @@ ghost use Rattle.capnp_walks.specs.Walks.{walk_elements, walk_place, walk_pointe
 
 use crate::walks::listing::{NO_PARENT, WalkedObject, add_object};
 use capnp_arena_traits::arena::ReaderArena;
-use capnp_objects::nesting::one_level_less;
-use capnp_objects::object::{Object, Place};
+use capnp_objects::object::{Place, Purpose, rows_of_object};
 use capnp_objects::pointers::Pointer;
 use capnp_refusals::refusals::RefusedPointer;
 use capnp_words::read_limiter::ReadLimiter;
@@ -70,9 +69,13 @@ fn walk_object<A: ReaderArena>(
     ensures { walk_place into_array parent (reading_on A.ReaderArena from.now at nesting_limit)
         (objects.old, count.old) lim.old ≡ (Ok ((objects.new, count.new), result), lim.new) }
 {
-    let place = Place { at, ..from.place };
+    let here = Pointer {
+        source: from.source,
+        place: Place { at, ..from.place },
+        nesting_limit,
+    };
     let segment = from.place.segment;
-    let object = match from.source.read_object(place, nesting_limit, lim) {
+    let object = match here.read(Purpose::Value, lim) {
         Ok(object) => object,
         Err(refusal) => {
             return Some(RefusedPointer {
@@ -83,48 +86,21 @@ fn walk_object<A: ReaderArena>(
         }
     };
     let index = *count;
-    add_object(parent, place, object, objects, count);
-    let inner = one_level_less(nesting_limit);
-    match object {
-        Object::Null => None,
-        Object::Capability(_) => None,
-        Object::Flat { .. } => None,
-        Object::Struct { start, size } => {
-            let first = Pointer {
-                source: from.source,
-                place: start,
-                nesting_limit: inner,
-            };
-            let words = u32::from(size.data_words);
-            let pointers = u32::from(size.pointers);
-            walk_elements(&first, index, words, pointers, 1, objects, count, lim)
-        }
-        Object::Pointers {
-            start,
-            count: pointers,
-        } => {
-            let first = Pointer {
-                source: from.source,
-                place: start,
-                nesting_limit: inner,
-            };
-            walk_elements(&first, index, 0, pointers, 1, objects, count, lim)
-        }
-        Object::Structs {
-            start,
-            size,
-            count: elements,
-        } => {
-            let first = Pointer {
-                source: from.source,
-                place: start,
-                nesting_limit: inner,
-            };
-            let data = u32::from(size.data_words);
-            let each = u32::from(size.pointers);
-            walk_elements(&first, index, data, each, elements, objects, count, lim)
-        }
-    }
+    add_object(parent, here.place, object, objects, count);
+    let Some(rows) = rows_of_object(object) else {
+        return None;
+    };
+    let first = here.inside(rows.start);
+    walk_elements(
+        &first,
+        index,
+        rows.data_words,
+        rows.pointers,
+        rows.count,
+        objects,
+        count,
+        lim,
+    )
 }
 
 // Lists the objects that the pointers of `elements` consecutive elements lead to, each element of

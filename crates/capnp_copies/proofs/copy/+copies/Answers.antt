@@ -50,10 +50,6 @@ use Rattle.capnp_copies.proofs.copy.+copies.Goals as goal
 
 -- Positions fit 32 bits.
 
-pub children::copy_children_inline-pointer_past-child-requires : goal.children::copy_children_inline-pointer_past-child-requires
-children::copy_children_inline-pointer_past-child-requires g t c =
-    child_fits c.args.from.place.at c.args.count c.loop-i.i c.requires.inside c.loop-i-test.true c.args.from.held.1 c.args.from.held.2
-
 pub children::copy_children_inline-place_past-place-requires : goal.children::copy_children_inline-place_past-place-requires
 children::copy_children_inline-place_past-place-requires g t c =
     let now = c.args.arena.now in
@@ -72,6 +68,7 @@ children::copy_children_inline-loop-i-init g t c =
 
 pub children::copy_children_inline-copy_child-requires : goal.children::copy_children_inline-copy_child-requires
 children::copy_children_inline-copy_child-requires g t c κs within =
+    let child = c.past-child.ensures (child_fits c.args.from.place.at c.args.count c.loop-i.i c.requires.inside c.loop-i-test.true c.args.from.held.1 c.args.from.held.2) in
     let grows = children_grow c.loop-i.invariant.0 in
     let PLACE : IsPlace (g.A.BuilderArena.view c.loop-i.arena).words c.args.to.place.segment (c.args.to.place.at + c.loop-i.i) =
     child_there c.args.to.place.at c.args.count c.loop-i.i c.requires.nulls.room c.loop-i-test.true (grows.words
@@ -80,26 +77,28 @@ children::copy_children_inline-copy_child-requires g t c κs within =
     child_ahead c.loop-i.invariant.0 (child_there c.args.to.place.at c.args.count c.loop-i.i
     c.requires.nulls.room c.loop-i-test.true (le_refl _)) ∙ c.requires.nulls.null c.loop-i.i
     c.loop-i-test.true in
-    (falls_below 1 0 (ap (λ (r : Reading). r.levels) c.pointer_past-child.ensures) c.decreases, (within.0, (within.1, rw c.place_past-place.ensures (record { place = PLACE; null = NULL }))))
+    (falls_below 1 0 (ap (λ (r : Reading). r.levels) child) c.decreases, (within.0, (within.1, rw c.place_past-place.ensures (record { place = PLACE; null = NULL }))))
 
 pub children::copy_children_inline-returns-in_err-copy_child : goal.children::copy_children_inline-returns-in_err-copy_child
 children::copy_children_inline-returns-in_err-copy_child g t c =
+    let child = c.past-child.ensures (child_fits c.args.from.place.at c.args.count c.loop-i.i c.requires.inside c.loop-i-test.true c.args.from.held.1 c.args.from.held.2) in
     let p = err_from_is_err_and c.from_residual.result c.from_residual.ensures.1 in
     rw (p.1, p.2) (record {
       copied = tt;
       refused = child_stops (child_there c.args.to.place.at c.args.count c.loop-i.i c.requires.nulls.room
-          c.loop-i-test.true (le_refl _)) c.loop-i-test.true c.loop-i.invariant.0 c.loop-i.invariant.1 (rw (c.pointer_past-child.ensures, c.place_past-place.ensures) at c.in_err-copy_child.ensures.refused);
-      taken = stop_taken c.loop-i-test.true c.loop-i.invariant.1 (rw (c.pointer_past-child.ensures, c.place_past-place.ensures) at c.in_err-copy_child.ensures.taken);
+          c.loop-i-test.true (le_refl _)) c.loop-i-test.true c.loop-i.invariant.0 c.loop-i.invariant.1 (rw (child, c.place_past-place.ensures) at c.in_err-copy_child.ensures.refused);
+      taken = stop_taken c.loop-i-test.true c.loop-i.invariant.1 (rw (child, c.place_past-place.ensures) at c.in_err-copy_child.ensures.taken);
     })
 
 pub children::copy_children_inline-loop-i-preserved : goal.children::copy_children_inline-loop-i-preserved
 children::copy_children_inline-loop-i-preserved g t c =
+    let child = c.past-child.ensures (child_fits c.args.from.place.at c.args.count c.loop-i.i c.requires.inside c.loop-i-test.true c.args.from.held.1 c.args.from.held.2) in
     let few : length (segment (g.A.BuilderArena.view c.loop-i.arena).words c.args.to.place.segment) < 2 ^ 29 =
     lt_of_le_of_lt (g.met.A.BuilderArena.within c.loop-i.arena c.args.to.place.segment) (g.met.A.BuilderArena.small
     c.loop-i.arena c.args.to.place.segment) in (
       child_copied (child_there c.args.to.place.at c.args.count c.loop-i.i c.requires.nulls.room c.loop-i-test.true
-          (le_refl _)) few c.loop-i.invariant.0 (rw (c.pointer_past-child.ensures, c.place_past-place.ensures) at c.in_ok-copy_child.ensures.copied),
-      one_taken c.loop-i.invariant.1 (rw (c.pointer_past-child.ensures, c.place_past-place.ensures) at c.in_ok-copy_child.ensures.taken),
+          (le_refl _)) few c.loop-i.invariant.0 (rw (child, c.place_past-place.ensures) at c.in_ok-copy_child.ensures.copied),
+      one_taken c.loop-i.invariant.1 (rw (child, c.place_past-place.ensures) at c.in_ok-copy_child.ensures.taken),
     )
 
 pub children::copy_children_inline-returns : goal.children::copy_children_inline-returns
@@ -173,7 +172,7 @@ children::copy_near_struct-returns g t c =
     let wide : c.struct_size.result.data_words ≡ data_words (word_of r) = c.struct_size.ensures.data_of ∙ ap data_words c.requires.word.there in
     let many : c.struct_size.result.pointers ≡ pointer_count (word_of r) = c.struct_size.ensures.pointers_of ∙ ap pointer_count c.requires.word.there in
     let object : IsObject Value r c.args.lim.now c.read_near_struct.new.lim (ObjectStruct start c.struct_size.result) = struct_by_word start c.struct_size.result near c.args.from.held refl (rw nl at c.in_ok-at.ensures.object) wide many in
-    let inner = c.pointer_inside-inner.ensures in
+    let inner = c.inside-inner.ensures in
     let less = λ (_ : 0 < r.levels). inner.levels in
     record {
       copied = ok_so c.copy_struct.result (rw (inner.source, inner.place) at c.copy_struct.ensures.copied) (λ x made. struct_value start less object made);
@@ -191,7 +190,7 @@ children::copy_near_struct-copy_struct-requires g t c κs within =
     let wide : c.struct_size.result.data_words ≡ data_words (word_of r) = c.struct_size.ensures.data_of ∙ ap data_words c.requires.word.there in
     let many : c.struct_size.result.pointers ≡ pointer_count (word_of r) = c.struct_size.ensures.pointers_of ∙ ap pointer_count c.requires.word.there in
     let object : IsObject Value r c.args.lim.now c.read_near_struct.new.lim (ObjectStruct start c.struct_size.result) = struct_by_word start c.struct_size.result near c.args.from.held refl (rw nl at c.in_ok-at.ensures.object) wide many in
-    let inner = c.pointer_inside-inner.ensures in
+    let inner = c.inside-inner.ensures in
     let LESS = inner.levels in
     let SOME = object.1.meets.levels in
     let INSIDE : c.in_ok-at.at + (c.struct_size.result.data_words + c.struct_size.result.pointers) ≤ length (segment r.segments c.args.from.place.segment) = struct_room start c.struct_size.result object in
@@ -215,7 +214,7 @@ copy_object-copy_struct-requires g t c κs within =
     let nl = to_z-of_z w32 c.args.from.nesting_limit fits in
     let object = object_read (reading g.B.ReaderArena c.args.from) c.args.lim.now c.read_object.new.lim c.in-Struct.is (ap levels nl) c.in_ok-object.ensures.object in
     let SOME = object.1.meets.levels in
-    let inner = c.pointer_inside-inner.ensures in
+    let inner = c.inside-inner.ensures in
     let LESS = inner.levels in
     let INSIDE = struct_room c.in-Struct.start c.in-Struct.size object in
     (falls_in LESS SOME c.decreases, (within.0, (within.1, (c.requires, rw (inner.source, inner.place) INSIDE))))
@@ -227,7 +226,7 @@ copy_object-copy_pointer_list-requires g t c κs within =
     let nl = to_z-of_z w32 c.args.from.nesting_limit fits in
     let object = object_read (reading g.B.ReaderArena c.args.from) c.args.lim.now c.read_object.new.lim c.in-Pointers.is (ap levels nl) c.in_ok-object.ensures.object in
     let SOME = object.1.meets.levels in
-    let inner = c.pointer_inside-inner-in-Pointers.ensures in
+    let inner = c.inside-inner-in-Pointers.ensures in
     let LESS = inner.levels in
     (falls_in LESS SOME c.decreases, (within.0, (within.1, (c.requires, (FEW, search rules)))))
 
@@ -240,7 +239,7 @@ copy_object-copy_struct_list-requires g t c κs within =
     let nl = to_z-of_z w32 c.args.from.nesting_limit fits in
     let object = object_read (reading g.B.ReaderArena c.args.from) c.args.lim.now c.read_object.new.lim c.in-Structs.is (ap levels nl) c.in_ok-object.ensures.object in
     let SOME = object.1.meets.levels in
-    let inner = c.pointer_inside-inner-in-Structs.ensures in
+    let inner = c.inside-inner-in-Structs.ensures in
     let LESS = inner.levels in
     (falls_in LESS SOME c.decreases, (within.0, (within.1, (c.requires, (FEW, (WORDS, search rules))))))
 
@@ -267,7 +266,7 @@ copy_object-returns-in-Struct g t c =
     let fits : SFits w32 c.args.from.nesting_limit = search rules in
     let nl = to_z-of_z w32 c.args.from.nesting_limit fits in
     let object = object_read (reading g.B.ReaderArena c.args.from) c.args.lim.now c.read_object.new.lim c.in-Struct.is (ap levels nl) c.in_ok-object.ensures.object in
-    let inner = c.pointer_inside-inner.ensures in
+    let inner = c.inside-inner.ensures in
     let less = λ (_ : 0 < levels c.args.from.nesting_limit). inner.levels in
     record {
       copied = ok_so c.copy_struct.result (rw (inner.source, inner.place) at c.copy_struct.ensures.copied) (λ x made. struct_value c.in-Struct.start less object made);
@@ -302,7 +301,7 @@ copy_object-returns-in-Pointers g t c =
     let fits : SFits w32 c.args.from.nesting_limit = search rules in
     let nl = to_z-of_z w32 c.args.from.nesting_limit fits in
     let object = object_read (reading g.B.ReaderArena c.args.from) c.args.lim.now c.read_object.new.lim c.in-Pointers.is (ap levels nl) c.in_ok-object.ensures.object in
-    let inner = c.pointer_inside-inner-in-Pointers.ensures in
+    let inner = c.inside-inner-in-Pointers.ensures in
     let less = λ (_ : 0 < levels c.args.from.nesting_limit). inner.levels in
     record {
       copied = ok_so c.copy_pointer_list.result (rw (inner.source, inner.place) at c.copy_pointer_list.ensures.copied) (λ x made. pointers_value c.in-Pointers.start less object made);
@@ -315,7 +314,7 @@ copy_object-returns-in-Structs g t c =
     let fits : SFits w32 c.args.from.nesting_limit = search rules in
     let nl = to_z-of_z w32 c.args.from.nesting_limit fits in
     let object = object_read (reading g.B.ReaderArena c.args.from) c.args.lim.now c.read_object.new.lim c.in-Structs.is (ap levels nl) c.in_ok-object.ensures.object in
-    let inner = c.pointer_inside-inner-in-Structs.ensures in
+    let inner = c.inside-inner-in-Structs.ensures in
     let less = λ (_ : 0 < levels c.args.from.nesting_limit). inner.levels in
     record {
       copied = ok_so c.copy_struct_list.result (rw (inner.source, inner.place) at c.copy_struct_list.ensures.copied) (λ x made. structs_value c.in-Structs.start less object made);

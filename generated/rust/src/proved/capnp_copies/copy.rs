@@ -26,8 +26,7 @@ pub use children::copy_children;
 pub use elements::put_words;
 pub use flat::copy_primitive_list;
 pub use lists::{copy_pointer_list, copy_struct_list};
-use places::pointer_inside;
-pub use places::{place_past, pointer_past};
+pub use places::place_past;
 pub use refusals::clear_if_refused;
 pub use structs::copy_struct;
 
@@ -109,7 +108,7 @@ fn copy_object<A: BuilderArena, B: ReaderArena>(
         Object::Null => Ok(()),
         Object::Capability(index) => copy_capability(arena, destination, index),
         Object::Struct { start, size } => {
-            let inner = pointer_inside(from, start);
+            let inner = from.inside(start);
             structs::copy_struct(arena, destination, inner, size, lim)
         }
         Object::Flat { start, size, count } => {
@@ -118,11 +117,11 @@ fn copy_object<A: BuilderArena, B: ReaderArena>(
             flat::copy_primitive_list(arena, to, size, count, elements)
         }
         Object::Pointers { start, count } => {
-            let inner = pointer_inside(from, start);
+            let inner = from.inside(start);
             lists::copy_pointer_list(arena, destination, inner, count, lim)
         }
         Object::Structs { start, size, count } => {
-            let inner = pointer_inside(from, start);
+            let inner = from.inside(start);
             lists::copy_struct_list(arena, destination, inner, StructList { size, count }, lim)
         }
     }

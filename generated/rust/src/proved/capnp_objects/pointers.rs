@@ -9,7 +9,8 @@ mod validate;
 mod walk;
 
 use crate::proved::capnp_arena_traits::arena::ReaderArena;
-use crate::proved::capnp_objects::object::Place;
+use crate::proved::capnp_objects::nesting::one_level_less;
+use crate::proved::capnp_objects::object::{Object, Place, Purpose};
 use crate::proved::capnp_objects::source::Source;
 use crate::proved::capnp_words::error::ErrorKind;
 use crate::proved::capnp_words::read_limiter::ReadLimiter;
@@ -104,6 +105,45 @@ impl<'a, A: ReaderArena> Pointer<'a, A> {
                 at: place.word,
             },
             nesting_limit,
+        }
+    }
+
+    /// Reads the object that the pointer leads to, but none of its children: for its value like
+    /// `Source::read_object`, for its size like `Source::measure_object`.
+    #[inline(always)]
+    pub fn read(self, purpose: Purpose, lim: &mut ReadLimiter) -> Result<Object<'a>, ErrorKind> {
+        self.source
+            .read_for_purpose(purpose, self.place, self.nesting_limit, lim)
+    }
+
+    /// Returns the pointer `words` words after this one, in the same segment and with the same
+    /// nesting limit. The position wraps around at 2^32, which is after the last word of any
+    /// segment.
+    #[inline(always)]
+    pub fn past(self, words: u32) -> Self {
+        let at = self.place.at.wrapping_add(words);
+        Pointer {
+            source: self.source,
+            place: Place { at, ..self.place },
+            nesting_limit: self.nesting_limit,
+        }
+    }
+
+    /// Returns the pointer at `start`, which is inside the object that this pointer leads to. Its
+    /// nesting limit is one less. Precondition: `start.bytes` has exactly the whole words of segment
+    /// `start.segment` of the source, fewer than 2^32.
+    ///
+    /// # Preconditions
+    ///
+    /// ```text
+    /// requires { IsHeld (source_start A.ReaderArena self.source).segments start }
+    /// ```
+    #[inline(always)]
+    pub fn inside(self, start: Place<'a>) -> Self {
+        Pointer {
+            source: self.source,
+            place: start,
+            nesting_limit: one_level_less(self.nesting_limit),
         }
     }
 

@@ -89,7 +89,7 @@ impl<'a, A: ReaderArena> Source<'a, A> {
     /// ```
     // Reads the object that the pointer at a place leads to, for its value or only for its size.
     #[inline(always)]
-    fn read_for_purpose(
+    pub(in crate::proved::capnp_objects) fn read_for_purpose(
         self,
         purpose: Purpose,
         place: Place<'a>,

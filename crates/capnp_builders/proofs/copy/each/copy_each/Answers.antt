@@ -20,25 +20,29 @@ copy_value-requires g c =
 
 pub returns-in_err-copy_value-clause-refused : goal.returns-in_err-copy_value-clause-refused
 returns-in_err-copy_value-clause-refused g c =
+    let child = c.past-child.ensures (omega (arith, c.requires.inside, c.loop-i-test.true, c.args.from.held.1, c.args.from.held.2)) in
     let p = err_from_is_err_and c.from_residual.result c.from_residual.ensures.1 in
-    rw (p.1, p.2) (each_stops (omega (arith, c.requires.nulls.room, c.loop-i-test.true)) c.loop-i-test.true c.loop-i.invariant.0 c.loop-i.invariant.1 (rw (c.pointer_past-child.ensures, c.place_past-place.ensures) at c.in_err-copy_value.ensures.refused))
+    rw (p.1, p.2) (each_stops (omega (arith, c.requires.nulls.room, c.loop-i-test.true)) c.loop-i-test.true c.loop-i.invariant.0 c.loop-i.invariant.1 (rw (child, c.place_past-place.ensures) at c.in_err-copy_value.ensures.refused))
 
 pub loop-i-preserved : goal.loop-i-preserved
 loop-i-preserved g c =
+    let child = c.past-child.ensures (omega (arith, c.requires.inside, c.loop-i-test.true, c.args.from.held.1, c.args.from.held.2)) in
     let few : length (segment (g.A.BuilderArena.view c.loop-i.arena).words c.args.to.segment) < 2 ^ 29 =
     omega (arith, g.met.A.BuilderArena.within c.loop-i.arena c.args.to.segment, g.met.A.BuilderArena.small c.loop-i.arena c.args.to.segment) in (
-      child_copied (omega (arith, c.requires.nulls.room, c.loop-i-test.true)) few c.loop-i.invariant.0 (rw (c.pointer_past-child.ensures, c.place_past-place.ensures) at c.in_ok-copy_value.ensures.copied),
-      one_taken c.loop-i.invariant.1 (rw (c.pointer_past-child.ensures, c.place_past-place.ensures) at c.in_ok-copy_value.ensures.taken),
+      child_copied (omega (arith, c.requires.nulls.room, c.loop-i-test.true)) few c.loop-i.invariant.0 (rw (child, c.place_past-place.ensures) at c.in_ok-copy_value.ensures.copied),
+      one_taken c.loop-i.invariant.1 (rw (child, c.place_past-place.ensures) at c.in_ok-copy_value.ensures.taken),
     )
 
 pub returns-in_err-copy_value-clause-taken : goal.returns-in_err-copy_value-clause-taken
 returns-in_err-copy_value-clause-taken g c =
+    let child = c.past-child.ensures (omega (arith, c.requires.inside, c.loop-i-test.true, c.args.from.held.1, c.args.from.held.2)) in
     let p = err_from_is_err_and c.from_residual.result c.from_residual.ensures.1 in
-    rw p.1 (stop_taken c.loop-i-test.true c.loop-i.invariant.1 (rw (c.pointer_past-child.ensures, c.place_past-place.ensures) at c.in_err-copy_value.ensures.taken))
+    rw p.1 (stop_taken c.loop-i-test.true c.loop-i.invariant.1 (rw (child, c.place_past-place.ensures) at c.in_err-copy_value.ensures.taken))
 
 pub returns-clause-taken : goal.returns-clause-taken
 returns-clause-taken g c = all_taken (omega arith) c.loop-i.invariant.1
 
 pub returns-in_err-copy_value-clause-fits : goal.returns-in_err-copy_value-clause-fits
 returns-in_err-copy_value-clause-fits g c =
-    λ fits. absurd (each_refused_rightly (each_stops (omega (arith, c.requires.nulls.room, c.loop-i-test.true)) c.loop-i-test.true c.loop-i.invariant.0 c.loop-i.invariant.1 (rw (c.pointer_past-child.ensures, c.place_past-place.ensures) at c.in_err-copy_value.ensures.refused)) fits)
+    let child = c.past-child.ensures (omega (arith, c.requires.inside, c.loop-i-test.true, c.args.from.held.1, c.args.from.held.2)) in
+    λ fits. absurd (each_refused_rightly (each_stops (omega (arith, c.requires.nulls.room, c.loop-i-test.true)) c.loop-i-test.true c.loop-i.invariant.0 c.loop-i.invariant.1 (rw (child, c.place_past-place.ensures) at c.in_err-copy_value.ensures.refused)) fits)

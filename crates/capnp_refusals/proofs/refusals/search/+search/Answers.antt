@@ -1,17 +1,18 @@
-use Rattle.std.proofs.Common.{◌≡◌, ℕ, suc, ◌+◌, ◌*◌, ◌-◌, Some, None, Ok, refl, ap, ap₂, sym, ◌∙◌, subst, arith, rules, pred}
+use Rattle.std.proofs.Common.{◌≡◌, ℕ, suc, ◌+◌, ◌*◌, ◌-◌, Some, None, Ok, refl, ap, ap₂, sym, ◌∙◌, arith, rules, pred}
 use Rattle.std.proofs.lemmas.Int.{to_z-of_z}
 use mir.Syntax.{w32}
 use mir.Val.{to_z, of_z}
 use Rattle.capnp_objects.specs.Enter.{object_shape}
-use Rattle.capnp_objects.specs.Objects.{IsObject}
+use Rattle.capnp_objects.specs.Objects.{IsObjectRead}
 use Rattle.capnp_objects.specs.Reading.{Reading, place_past}
 use Rattle.capnp_objects.specs.Measure.{fold_pointers}
 use Rattle.capnp_objects.specs.Pointers.{reading, reading_on}
+use Rattle.capnp_objects.specs.Source.{levels}
 use Rattle.capnp_objects.proofs.Falls.{falls_in}
 use Rattle.capnp_objects.proofs.Measured.{no_pointers, one_more, row_more}
-use Rattle.capnp_objects.proofs.Returned.{inner_levels}
+use Rattle.capnp_objects.proofs.Walking.{Opened, object_inside, object_level}
 use Rattle.capnp_refusals.specs.Search.{search_elements, search_within, unless_found}
-use Rattle.capnp_refusals.proofs.Searched.{ends_here, leaf_object, pointer_found, pointers_open, row_found, struct_opens, structs_inside, structs_level, structs_open, unmet, unread}
+use Rattle.capnp_refusals.proofs.Searched.{ends_here, object_ends, object_opens, pointer_found, row_found, unmet, unread}
 use Rattle.capnp_refusals.proofs.refusals.search.+search.Goals as goal
 
 pub search_pointers-returns-in-Some : goal.search_pointers-returns-in-Some
@@ -71,65 +72,35 @@ pub search_object-returns-in-Err : goal.search_object-returns-in-Err
 search_object-returns-in-Err g t c =
     let r : Reading = reading_on g.A.ReaderArena c.args.from.now c.args.at c.args.nesting_limit in
     let nl = to_z-of_z w32 c.args.nesting_limit c.ranges.nesting_limit in
-    ends_here c.args.demands r c.args.lim.now c.read_object.new.lim c.in-Err.refusal (unread c.args.demands r c.args.lim.now c.read_object.new.lim c.in-Err.refusal (rw nl at c.in-Err.ensures.computed))
+    ends_here c.args.demands r c.args.lim.now c.read.new.lim c.in-Err.refusal (unread c.args.demands r c.args.lim.now c.read.new.lim c.in-Err.refusal (rw nl at c.in-Err.ensures.computed))
 
 pub search_object-returns-in-Err-refuse_capability : goal.search_object-returns-in-Err-refuse_capability
 search_object-returns-in-Err-refuse_capability g t c =
     let r : Reading = reading_on g.A.ReaderArena c.args.from.now c.args.at c.args.nesting_limit in
     let nl = to_z-of_z w32 c.args.nesting_limit c.ranges.nesting_limit in
-    ends_here c.args.demands r c.args.lim.now c.read_object.new.lim c.in-Err-refuse_capability.refusal (unmet c.args.demands r c.args.lim.now c.read_object.new.lim (object_shape c.in-Ok.object) c.in-Err-refuse_capability.refusal (rw nl at c.in-Ok.ensures.computed) (sym c.in-Err-refuse_capability.ensures))
+    ends_here c.args.demands r c.args.lim.now c.read.new.lim c.in-Err-refuse_capability.refusal (unmet c.args.demands r c.args.lim.now c.read.new.lim (object_shape c.in-Ok.object) c.in-Err-refuse_capability.refusal (rw nl at c.in-Ok.ensures.computed) (sym c.in-Err-refuse_capability.ensures))
 
-pub search_object-returns-in-Null : goal.search_object-returns-in-Null
-search_object-returns-in-Null g t c =
+pub search_object-returns-in_default : goal.search_object-returns-in_default
+search_object-returns-in_default g t c =
     let r : Reading = reading_on g.A.ReaderArena c.args.from.now c.args.at c.args.nesting_limit in
     let nl = to_z-of_z w32 c.args.nesting_limit c.ranges.nesting_limit in
-    leaf_object c.args.demands r c.args.lim.now c.read_object.new.lim c.in-Ok.object _ c.in-Null.is (λ f s y. refl) (rw nl at c.in-Ok.ensures.computed) (sym c.in-Ok-refuse_capability.ensures)
+    object_ends c.args.demands r c.args.lim.now c.read.new.lim c.in-Ok.object c.in_default.ensures (rw nl at c.in-Ok.ensures.computed) (sym c.in-Ok-refuse_capability.ensures)
 
-pub search_object-returns-in-Capability : goal.search_object-returns-in-Capability
-search_object-returns-in-Capability g t c =
+pub search_object-search_elements-requires : goal.search_object-search_elements-requires
+search_object-search_elements-requires g t c =
     let r : Reading = reading_on g.A.ReaderArena c.args.from.now c.args.at c.args.nesting_limit in
     let nl = to_z-of_z w32 c.args.nesting_limit c.ranges.nesting_limit in
-    leaf_object c.args.demands r c.args.lim.now c.read_object.new.lim c.in-Ok.object _ c.in-Capability.is (λ f s y. refl) (rw nl at c.in-Ok.ensures.computed) (sym c.in-Ok-refuse_capability.ensures)
+    let object : IsObjectRead c.args.demands.purpose r c.in-Ok.object = rw nl at c.in-Ok.ensures.object in
+    let opened : Opened c.args.demands.purpose r object.before object.after c.in-Ok.object c.in-Some.rows = record { is_read = object.object_of; has = c.in-Some.ensures } in
+    let first = c.inside-first.ensures in
+    λ κs le. (falls_in 2 (search rules) (first.levels ∙ ap (λ n. pred (levels n)) nl) (object_level c.in-Ok.object opened) c.decreases, (le, rw (first.source, first.place) (object_inside c.in-Ok.object opened)))
 
-pub search_object-returns-in-Flat : goal.search_object-returns-in-Flat
-search_object-returns-in-Flat g t c =
+pub search_object-returns : goal.search_object-returns
+search_object-returns g t c =
     let r : Reading = reading_on g.A.ReaderArena c.args.from.now c.args.at c.args.nesting_limit in
     let nl = to_z-of_z w32 c.args.nesting_limit c.ranges.nesting_limit in
-    leaf_object c.args.demands r c.args.lim.now c.read_object.new.lim c.in-Ok.object _ c.in-Flat.is (λ f s y. refl) (rw nl at c.in-Ok.ensures.computed) (sym c.in-Ok-refuse_capability.ensures)
-
-pub search_object-returns-in-Struct : goal.search_object-returns-in-Struct
-search_object-returns-in-Struct g t c =
-    let r : Reading = reading_on g.A.ReaderArena c.args.from.now c.args.at c.args.nesting_limit in
-    let nl = to_z-of_z w32 c.args.nesting_limit c.ranges.nesting_limit in
-    let inner = inner_levels c.args.nesting_limit c.one_level_less-inner.result c.ranges.nesting_limit (record { sfits = c.one_level_less-inner.type_inv }) c.one_level_less-inner.ensures in
-    let object : IsObject c.args.demands.purpose r c.args.lim.now c.read_object.new.lim c.in-Ok.object = rw nl at c.in-Ok.ensures.object in
-    struct_opens c.args.demands r c.args.lim.now c.read_object.new.lim c.in-Ok.object c.in-Struct.start c.in-Struct.size c.from-words.result c.from-pointers.result c.in-Struct.is c.from-words.ensures c.from-pointers.ensures object (rw nl at c.in-Ok.ensures.computed) (sym c.in-Ok-refuse_capability.ensures)
-    ∙ subst (λ n. search_elements c.args.demands c.from-words.result c.from-pointers.result 1 (record r { levels = n; segment = c.in-Struct.start.segment; at = c.in-Struct.start.at }) c.read_object.new.lim ≡ (Ok c.search_elements.result, c.search_elements.new.lim)) inner c.search_elements.ensures
-
-pub search_object-returns-in-Pointers : goal.search_object-returns-in-Pointers
-search_object-returns-in-Pointers g t c =
-    let r : Reading = reading_on g.A.ReaderArena c.args.from.now c.args.at c.args.nesting_limit in
-    let nl = to_z-of_z w32 c.args.nesting_limit c.ranges.nesting_limit in
-    let inner = inner_levels c.args.nesting_limit c.one_level_less-inner.result c.ranges.nesting_limit (record { sfits = c.one_level_less-inner.type_inv }) c.one_level_less-inner.ensures in
-    let object : IsObject c.args.demands.purpose r c.args.lim.now c.read_object.new.lim c.in-Ok.object = rw nl at c.in-Ok.ensures.object in
-    pointers_open c.args.demands r c.args.lim.now c.read_object.new.lim c.in-Ok.object c.in-Pointers.start c.in-Pointers.count c.in-Pointers.is object (rw nl at c.in-Ok.ensures.computed) (sym c.in-Ok-refuse_capability.ensures)
-    ∙ subst (λ n. search_elements c.args.demands 0 c.in-Pointers.count 1 (record r { levels = n; segment = c.in-Pointers.start.segment; at = c.in-Pointers.start.at }) c.read_object.new.lim ≡ (Ok c.search_elements-in-Pointers.result, c.search_elements-in-Pointers.new.lim)) inner c.search_elements-in-Pointers.ensures
-
-pub search_object-returns-in-Structs : goal.search_object-returns-in-Structs
-search_object-returns-in-Structs g t c =
-    let r : Reading = reading_on g.A.ReaderArena c.args.from.now c.args.at c.args.nesting_limit in
-    let nl = to_z-of_z w32 c.args.nesting_limit c.ranges.nesting_limit in
-    let inner = inner_levels c.args.nesting_limit c.one_level_less-inner.result c.ranges.nesting_limit (record { sfits = c.one_level_less-inner.type_inv }) c.one_level_less-inner.ensures in
-    let object : IsObject c.args.demands.purpose r c.args.lim.now c.read_object.new.lim c.in-Ok.object = rw nl at c.in-Ok.ensures.object in
-    structs_open c.args.demands r c.args.lim.now c.read_object.new.lim c.in-Ok.object c.in-Structs.start c.in-Structs.size c.in-Structs.count c.from-data.result c.from-each.result c.in-Structs.is c.from-data.ensures c.from-each.ensures object (rw nl at c.in-Ok.ensures.computed) (sym c.in-Ok-refuse_capability.ensures)
-    ∙ rw inner at c.search_elements-in-Structs.ensures
-
-pub search_object-search_elements-requires-in-Structs : goal.search_object-search_elements-requires-in-Structs
-search_object-search_elements-requires-in-Structs g t c =
-    let r : Reading = reading_on g.A.ReaderArena c.args.from.now c.args.at c.args.nesting_limit in
-    let nl = to_z-of_z w32 c.args.nesting_limit c.ranges.nesting_limit in
-    let inner = inner_levels c.args.nesting_limit c.one_level_less-inner.result c.ranges.nesting_limit (record { sfits = c.one_level_less-inner.type_inv }) c.one_level_less-inner.ensures in
-    let object : IsObject c.args.demands.purpose r c.args.lim.now c.read_object.new.lim c.in-Ok.object = rw nl at c.in-Ok.ensures.object in
-    let inside = structs_inside c.args.demands.purpose r c.args.lim.now c.read_object.new.lim c.in-Ok.object c.in-Structs.start c.in-Structs.size c.in-Structs.count c.from-data.result c.from-each.result c.in-Structs.is c.from-data.ensures c.from-each.ensures object in
-    let level = structs_level c.args.demands.purpose r c.args.lim.now c.read_object.new.lim c.in-Ok.object c.in-Structs.start c.in-Structs.size c.in-Structs.count c.in-Structs.is object in
-    λ κs le. (falls_in 2 (search rules) inner level c.decreases, (le, inside))
+    let object : IsObjectRead c.args.demands.purpose r c.in-Ok.object = rw nl at c.in-Ok.ensures.object in
+    let opened : Opened c.args.demands.purpose r object.before object.after c.in-Ok.object c.in-Some.rows = record { is_read = object.object_of; has = c.in-Some.ensures } in
+    let first = c.inside-first.ensures in
+    object_opens c.args.demands r c.args.lim.now c.read.new.lim c.in-Ok.object c.in-Some.rows (object_level c.in-Ok.object opened) (rw nl at c.in-Ok.ensures.computed) (sym c.in-Ok-refuse_capability.ensures) c.in-Some.ensures
+    ∙ rw (first.source, first.place, first.levels, nl) at c.search_elements.ensures

@@ -1,18 +1,19 @@
-use Rattle.std.proofs.Common.{◌≢◌, ℕ, suc, ◌+◌, ◌*◌, ◌-◌, ◌≤◌, ◌++◌, true, false, length, refl, ap, sym, ◌∙◌, subst, arith, Ok, Err, add-zero}
+use Rattle.std.proofs.Common.{◌≢◌, ℕ, suc, ◌+◌, ◌*◌, ◌-◌, ◌≤◌, ◌++◌, true, false, length, refl, ap, sym, ◌∙◌, subst, arith, Ok, Err}
 use Rattle.std.specs.Prelude.{codes}
 use Rattle.hex.specs.Hex.{encode_lower}
+use Rattle.capnp_objects.specs.declared.object.Purpose.TheVariants.{Value}
 use Rattle.capnp_objects.specs.Enter.{object_shape}
+use Rattle.capnp_objects.specs.Objects.{IsObjectRead}
 use Rattle.capnp_objects.specs.Reading.{Reading, place_past, segment_read, word_of, words_from}
 use Rattle.capnp_objects.specs.Pointers.{reading}
 use Rattle.capnp_messages.specs.Parts.{inside}
-use Rattle.capnp_messages.specs.PathEnds.{IsObjectRead}
-use Rattle.capnp_messages.proofs.PathLemmas.{pointers_room, row_inside, struct_room, structs_room}
+use Rattle.capnp_messages.proofs.PathLemmas.{inside_at, row_inside}
 use Rattle.capnp_show.specs.Line.{data_member, in_quotes, member}
 use Rattle.capnp_show.specs.Shown.{add, array_begin, array_within, show_elements, show_struct, show_structs, show_within, shown_json}
 use Rattle.capnp_show.proofs.Adds.{adds_as}
 use Rattle.capnp_show.proofs.Elements.{struct_data}
 use Rattle.capnp_show.proofs.Grows.{elements_opened, elements_rest, structs_longer, within_longer}
-use Rattle.capnp_show.proofs.ObjectLemmas.{flat_room, flat_same, small_place}
+use Rattle.capnp_show.proofs.ObjectLemmas.{flat_room, flat_same}
 use Rattle.capnp_show.proofs.Steps.{array_begun, array_cut, array_opens, each_after, each_first, each_next, each_rest, each_whole, elements_first, elements_next, elements_whole, lim_plain, place_begun, place_null, place_written, push_after, push_shows, push_stops, push_then, rows_begun, rows_blank, rows_longer, rows_opened, shows_after, shows_as, shows_stops, shows_then}
 use Rattle.capnp_show.proofs.show.json.+json.Goals as goal
 
@@ -45,7 +46,7 @@ write_null_or_object-returns-in-Ok g t c =
     let some : word_of r ≢ 0 = λ e. absurd (cc (c.if-is_null.ensures.1 e)) in
     λ plain.
     let begun = c.in_ok-write_pointer.ensures plain in
-    place_written c.args.depth r (shown_json c.args.json.now) (Ok (object_shape c.in-Ok.object)) c.read_object.new.lim some begun c.in-Ok.ensures.computed (c.write_object.ensures (lim_plain c.read_object.new.lim begun.plain))
+    place_written c.args.depth r (shown_json c.args.json.now) (Ok (object_shape c.in-Ok.object)) c.read.new.lim some begun c.in-Ok.ensures.computed (c.write_object.ensures (lim_plain c.read.new.lim begun.plain))
 
 pub write_null_or_object-returns-in-Err : goal.write_null_or_object-returns-in-Err
 write_null_or_object-returns-in-Err g t c =
@@ -53,8 +54,8 @@ write_null_or_object-returns-in-Err g t c =
     let some : word_of r ≢ 0 = λ e. absurd (cc (c.if-is_null.ensures.1 e)) in
     λ plain.
     let begun = c.in_ok-write_pointer.ensures plain in
-    place_written c.args.depth r (shown_json c.args.json.now) (Err c.in-Err.kind) c.read_object.new.lim some begun c.in-Err.ensures.computed
-    (rw c.name.ensures at (c.write_refusal.ensures (lim_plain c.read_object.new.lim begun.plain)))
+    place_written c.args.depth r (shown_json c.args.json.now) (Err c.in-Err.kind) c.read.new.lim some begun c.in-Err.ensures.computed
+    (rw c.name.ensures at (c.write_refusal.ensures (lim_plain c.read.new.lim begun.plain)))
 
 -- ---- an object
 
@@ -72,28 +73,25 @@ write_object-returns-in-Capability g t c =
 pub write_object-returns-in-Flat : goal.write_object-returns-in-Flat
 write_object-returns-in-Flat g t c =
     let r : Reading = reading g.A.ReaderArena c.args.from in
-    let room = flat_room r c.in-Flat.start c.in-Flat.size c.in-Flat.count (subst (IsObjectRead r) c.in-Flat.is c.requires) in
+    let room = flat_room r c.in-Flat.start c.in-Flat.size c.in-Flat.count (subst (IsObjectRead Value r) c.in-Flat.is c.requires) in
     λ plain. rw c.in-Flat.is (push_after c.args.json.now c.write_start_of.new.self c.push_primitive_list.new.self ((c.in_ok-write_start_of.ensures plain).1) plain (rw (flat_same r c.in-Flat.start c.in-Flat.size c.in-Flat.count room.held) at c.push_primitive_list.ensures))
 
 pub write_object-returns-in-Struct : goal.write_object-returns-in-Struct
 write_object-returns-in-Struct g t c =
     let r : Reading = reading g.A.ReaderArena c.args.from in
-    let room = struct_room r c.in-Struct.start c.in-Struct.size (subst (IsObjectRead r) c.in-Struct.is c.requires) in
-    let at = c.pointer_inside.ensures (small_place r.segments c.in-Struct.start 0 room.held (omega (arith, room.inside))) ∙ ap (inside r c.in-Struct.start.segment) (add-zero c.in-Struct.start.at) in
+    let at = inside_at g.A.ReaderArena c.args.from c.inside.result c.in-Struct.start c.inside.ensures.source c.inside.ensures.place c.inside.ensures.levels in
     λ plain. rw c.in-Struct.is (shows_after (show_struct (array_within c.args.depth) c.in-Struct.size.data_words c.in-Struct.size.pointers) (inside r c.in-Struct.start.segment c.in-Struct.start.at) _ c.args.json.now c.write_start_of.new.self at ((c.in_ok-write_start_of.ensures plain).1) plain c.write_sections.ensures)
 
 pub write_object-returns-in-Pointers : goal.write_object-returns-in-Pointers
 write_object-returns-in-Pointers g t c =
     let r : Reading = reading g.A.ReaderArena c.args.from in
-    let room = pointers_room r c.in-Pointers.start c.in-Pointers.count (subst (IsObjectRead r) c.in-Pointers.is c.requires) in
-    let at = c.pointer_inside-in-Pointers.ensures (small_place r.segments c.in-Pointers.start 0 room.held (omega (arith, room.inside))) ∙ ap (inside r c.in-Pointers.start.segment) (add-zero c.in-Pointers.start.at) in
+    let at = inside_at g.A.ReaderArena c.args.from c.inside-in-Pointers.result c.in-Pointers.start c.inside-in-Pointers.ensures.source c.inside-in-Pointers.ensures.place c.inside-in-Pointers.ensures.levels in
     λ plain. rw c.in-Pointers.is (shows_after (array_within c.args.depth true c.in-Pointers.count) (inside r c.in-Pointers.start.segment c.in-Pointers.start.at) _ c.args.json.now c.write_start_of.new.self at ((c.in_ok-write_start_of.ensures plain).1) plain c.write_pointer_array.ensures)
 
 pub write_object-returns-in-Structs : goal.write_object-returns-in-Structs
 write_object-returns-in-Structs g t c =
     let r : Reading = reading g.A.ReaderArena c.args.from in
-    let room = structs_room r c.in-Structs.start c.in-Structs.size c.in-Structs.count (subst (IsObjectRead r) c.in-Structs.is c.requires) in
-    let at = c.pointer_inside-in-Structs.ensures (small_place r.segments c.in-Structs.start 0 room.held (omega (arith, room.inside))) ∙ ap (inside r c.in-Structs.start.segment) (add-zero c.in-Structs.start.at) in
+    let at = inside_at g.A.ReaderArena c.args.from c.inside-in-Structs.result c.in-Structs.start c.inside-in-Structs.ensures.source c.inside-in-Structs.ensures.place c.inside-in-Structs.ensures.levels in
     λ plain. rw c.in-Structs.is (shows_after (show_structs (array_within c.args.depth) c.in-Structs.size.data_words c.in-Structs.size.pointers c.in-Structs.count) (inside r c.in-Structs.start.segment c.in-Structs.start.at) _ c.args.json.now c.write_start_of.new.self at ((c.in_ok-write_start_of.ensures plain).1) plain c.write_struct_list.ensures)
 
 -- ---- a struct
@@ -112,7 +110,7 @@ write_sections-returns g t c =
     let r : Reading = reading g.A.ReaderArena c.args.start in
     let d : ℕ = c.args.size.data_words in
     let bytes = struct_data r c.args.start.place d c.from-words.result c.bytes_at-data.result.now c.args.start.held (omega (arith, c.requires.inside)) c.from-words.ensures c.bytes_at-data.ensures c.bytes_are_below_256.ensures in
-    let at = c.pointer_past-first.ensures (omega (arith, c.from-words.ensures, c.requires.inside, c.args.start.held.1, c.args.start.held.2)) ∙ ap (place_past r) c.from-words.ensures in
+    let at = c.past-first.ensures (omega (arith, c.from-words.ensures, c.requires.inside, c.args.start.held.1, c.args.start.held.2)) ∙ ap (place_past r) c.from-words.ensures in
     λ plain.
     let begun = push_shows c.args.json.now c.push_data_member.new.self plain (adds_as (ap (λ bs. member (codes "data") (in_quotes (encode_lower bs)) ++ codes ",") bytes) c.in_ok-push_data_member.ensures) in
     shows_then (array_within c.args.depth false c.args.size.pointers) (place_past r d) _ _ at begun (rw c.from.ensures at c.write_pointer_array.ensures)
@@ -149,7 +147,7 @@ pub write_pointer_array-returns-in_err-write_pointed_value : goal.write_pointer_
 write_pointer_array-returns-in_err-write_pointed_value g t c =
     let r : Reading = reading g.A.ReaderArena c.args.first in
     let i : ℕ = c.loop-i.i in
-    let at = c.pointer_past.ensures (omega (arith, c.loop-i-test.true, c.requires.inside, c.args.first.held.1, c.args.first.held.2)) in
+    let at = c.past.ensures (omega (arith, c.loop-i-test.true, c.requires.inside, c.args.first.held.1, c.args.first.held.2)) in
     λ plain.
     let (kept, so_far) = c.loop-i.invariant plain in
     let whole = each_whole c.args.depth c.args.count i c.args.are_elements r (shown_json c.args.json.now) (shown_json c.loop-i.json) (omega (arith, c.if-depth-eq0.false)) c.loop-i-test.true so_far in
@@ -160,7 +158,7 @@ pub write_pointer_array-loop-i-preserved : goal.write_pointer_array-loop-i-prese
 write_pointer_array-loop-i-preserved g t c =
     let r : Reading = reading g.A.ReaderArena c.args.first in
     let i : ℕ = c.loop-i.i in
-    let at = c.pointer_past.ensures (omega (arith, c.loop-i-test.true, c.requires.inside, c.args.first.held.1, c.args.first.held.2)) in
+    let at = c.past.ensures (omega (arith, c.loop-i-test.true, c.requires.inside, c.args.first.held.1, c.args.first.held.2)) in
     λ plain.
     let (kept, so_far) = c.loop-i.invariant plain in
     let one = shows_then (show_within (c.args.depth - 1)) (place_past r i) _ _ at (c.in_ok-begin_piece.ensures kept) c.in_ok-write_pointed_value.ensures in
@@ -249,7 +247,7 @@ write_struct_elements-returns-in_err-write_sections g t c =
     let i : ℕ = c.loop-i.i in
     let below = array_within c.args.depth in
     let room = row_inside c.args.first.place.at c.args.count i c.total.result d q _ c.requires.inside c.loop-i-test.true c.total.ensures in
-    let at = c.pointer_past-element.ensures (omega (arith, room, c.args.first.held.1, c.args.first.held.2)) ∙ ap (λ w. place_past r (i * w)) c.total.ensures in
+    let at = c.past-element.ensures (omega (arith, room, c.args.first.held.1, c.args.first.held.2)) ∙ ap (λ w. place_past r (i * w)) c.total.ensures in
     λ plain.
     let (kept, so_far) = c.loop-i.invariant plain in
     let whole = elements_whole below d q c.args.count i r (shown_json c.args.json.now) (shown_json c.loop-i.json) c.loop-i-test.true so_far in
@@ -264,7 +262,7 @@ write_struct_elements-returns-in_err-end_element g t c =
     let i : ℕ = c.loop-i.i in
     let below = array_within c.args.depth in
     let room = row_inside c.args.first.place.at c.args.count i c.total.result d q _ c.requires.inside c.loop-i-test.true c.total.ensures in
-    let at = c.pointer_past-element.ensures (omega (arith, room, c.args.first.held.1, c.args.first.held.2)) ∙ ap (λ w. place_past r (i * w)) c.total.ensures in
+    let at = c.past-element.ensures (omega (arith, room, c.args.first.held.1, c.args.first.held.2)) ∙ ap (λ w. place_past r (i * w)) c.total.ensures in
     λ plain.
     let (kept, so_far) = c.loop-i.invariant plain in
     let whole = elements_whole below d q c.args.count i r (shown_json c.args.json.now) (shown_json c.loop-i.json) c.loop-i-test.true so_far in
@@ -279,7 +277,7 @@ write_struct_elements-loop-i-preserved g t c =
     let i : ℕ = c.loop-i.i in
     let below = array_within c.args.depth in
     let room = row_inside c.args.first.place.at c.args.count i c.total.result d q _ c.requires.inside c.loop-i-test.true c.total.ensures in
-    let at = c.pointer_past-element.ensures (omega (arith, room, c.args.first.held.1, c.args.first.held.2)) ∙ ap (λ w. place_past r (i * w)) c.total.ensures in
+    let at = c.past-element.ensures (omega (arith, room, c.args.first.held.1, c.args.first.held.2)) ∙ ap (λ w. place_past r (i * w)) c.total.ensures in
     λ plain.
     let (kept, so_far) = c.loop-i.invariant plain in
     let one = shows_then (show_struct below d q) (place_past r (i * (d + q))) _ _ at (c.in_ok-start.ensures kept) c.in_ok-write_sections.ensures in
@@ -293,7 +291,7 @@ write_struct_elements-write_sections-requires g t c κs within =
     let q : ℕ = c.args.size.pointers in
     let i : ℕ = c.loop-i.i in
     let room = row_inside c.args.first.place.at c.args.count i c.total.result d q _ c.requires.inside c.loop-i-test.true c.total.ensures in
-    let at = c.pointer_past-element.ensures (omega (arith, room, c.args.first.held.1, c.args.first.held.2)) ∙ ap (λ w. place_past r (i * w)) c.total.ensures in
+    let at = c.past-element.ensures (omega (arith, room, c.args.first.held.1, c.args.first.held.2)) ∙ ap (λ w. place_past r (i * w)) c.total.ensures in
     let there = row_inside c.args.first.place.at c.args.count i (d + q) d q _ c.requires.inside c.loop-i-test.true refl in
     (omega (arith, c.decreases), (within, subst (λ (z : Reading). z.at + (d + q) ≤ length (segment_read z)) (sym at) there))
 

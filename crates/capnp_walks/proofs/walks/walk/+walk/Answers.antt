@@ -1,18 +1,18 @@
-use Rattle.std.proofs.Common.{◌≡◌, ℕ, suc, ◌+◌, ◌*◌, ◌-◌, None, Ok, refl, ap, ap₂, ◌∙◌, subst, arith, rules}
+use Rattle.std.proofs.Common.{◌≡◌, ℕ, suc, ◌+◌, ◌*◌, ◌-◌, None, Ok, refl, ap, ap₂, ◌∙◌, arith, rules, pred}
 use Rattle.std.proofs.lemmas.Int.{to_z-of_z}
 use mir.Syntax.{w32}
 use Rattle.capnp_objects.specs.declared.object.Purpose.TheVariants.{Value}
-use Rattle.capnp_objects.specs.Objects.{IsObject}
+use Rattle.capnp_objects.specs.Objects.{IsObjectRead}
 use Rattle.capnp_objects.specs.Reading.{Reading, place_past}
 use Rattle.capnp_objects.specs.Measure.{fold_pointers}
 use Rattle.capnp_objects.specs.Pointers.{reading, reading_on}
+use Rattle.capnp_objects.specs.Source.{levels}
 use Rattle.capnp_objects.proofs.Falls.{falls_in}
 use Rattle.capnp_objects.proofs.Measured.{no_pointers, one_more, row_more}
-use Rattle.capnp_objects.proofs.Returned.{inner_levels}
-use Rattle.capnp_refusals.proofs.Searched.{structs_inside, structs_level}
+use Rattle.capnp_objects.proofs.Walking.{Opened, object_inside, object_level}
 use Rattle.capnp_walks.specs.Listing.{into_array}
 use Rattle.capnp_walks.specs.Walks.{unless_stopped, walk_elements, walk_within}
-use Rattle.capnp_walks.proofs.Stepped.{leaf_object, pointer_stops, pointers_open, refusal_stops, row_stops, struct_opens, structs_open}
+use Rattle.capnp_walks.proofs.Stepped.{object_ends, object_opens, pointer_stops, refusal_stops, row_stops}
 use Rattle.capnp_walks.proofs.walks.walk.+walk.Goals as goal
 
 pub walk_pointers-returns-in-Some : goal.walk_pointers-returns-in-Some
@@ -68,59 +68,29 @@ pub walk_object-returns-in-Err : goal.walk_object-returns-in-Err
 walk_object-returns-in-Err g t c =
     let r : Reading = reading_on g.A.ReaderArena c.args.from.now c.args.at c.args.nesting_limit in
     let nl = to_z-of_z w32 c.args.nesting_limit c.ranges.nesting_limit in
-    refusal_stops into_array c.args.parent r (c.args.objects.now, c.args.count.now) c.args.lim.now c.read_object.new.lim c.in-Err.refusal (rw nl at c.in-Err.ensures.refused)
+    refusal_stops into_array c.args.parent r (c.args.objects.now, c.args.count.now) c.args.lim.now c.read.new.lim c.in-Err.refusal (rw nl at c.in-Err.ensures.computed)
 
-pub walk_object-returns-in-Null : goal.walk_object-returns-in-Null
-walk_object-returns-in-Null g t c =
+pub walk_object-returns-in_default : goal.walk_object-returns-in_default
+walk_object-returns-in_default g t c =
     let r : Reading = reading_on g.A.ReaderArena c.args.from.now c.args.at c.args.nesting_limit in
     let nl = to_z-of_z w32 c.args.nesting_limit c.ranges.nesting_limit in
-    leaf_object into_array c.args.parent r (c.args.objects.now, c.args.count.now) _ c.args.lim.now c.read_object.new.lim c.in-Ok.object _ c.in-Null.is (λ f s y. refl) (rw nl at c.in-Ok.ensures.object) c.add_object.ensures
+    object_ends into_array c.args.parent r (c.args.objects.now, c.args.count.now) _ c.args.lim.now c.read.new.lim c.in-Ok.object c.in_default.ensures (rw nl at c.in-Ok.ensures.computed) c.add_object.ensures
 
-pub walk_object-returns-in-Capability : goal.walk_object-returns-in-Capability
-walk_object-returns-in-Capability g t c =
+pub walk_object-walk_elements-requires : goal.walk_object-walk_elements-requires
+walk_object-walk_elements-requires g t c =
     let r : Reading = reading_on g.A.ReaderArena c.args.from.now c.args.at c.args.nesting_limit in
     let nl = to_z-of_z w32 c.args.nesting_limit c.ranges.nesting_limit in
-    leaf_object into_array c.args.parent r (c.args.objects.now, c.args.count.now) _ c.args.lim.now c.read_object.new.lim c.in-Ok.object _ c.in-Capability.is (λ f s y. refl) (rw nl at c.in-Ok.ensures.object) c.add_object.ensures
+    let object : IsObjectRead Value r c.in-Ok.object = rw nl at c.in-Ok.ensures.object in
+    let opened : Opened Value r object.before object.after c.in-Ok.object c.in-Some.rows = record { is_read = object.object_of; has = c.in-Some.ensures } in
+    let first = c.inside-first.ensures in
+    λ κs le. (falls_in 2 (search rules) (first.levels ∙ ap (λ n. pred (levels n)) nl) (object_level c.in-Ok.object opened) c.decreases, (le, rw (first.source, first.place) (object_inside c.in-Ok.object opened)))
 
-pub walk_object-returns-in-Flat : goal.walk_object-returns-in-Flat
-walk_object-returns-in-Flat g t c =
+pub walk_object-returns : goal.walk_object-returns
+walk_object-returns g t c =
     let r : Reading = reading_on g.A.ReaderArena c.args.from.now c.args.at c.args.nesting_limit in
     let nl = to_z-of_z w32 c.args.nesting_limit c.ranges.nesting_limit in
-    leaf_object into_array c.args.parent r (c.args.objects.now, c.args.count.now) _ c.args.lim.now c.read_object.new.lim c.in-Ok.object _ c.in-Flat.is (λ f s y. refl) (rw nl at c.in-Ok.ensures.object) c.add_object.ensures
-
-pub walk_object-returns-in-Struct : goal.walk_object-returns-in-Struct
-walk_object-returns-in-Struct g t c =
-    let r : Reading = reading_on g.A.ReaderArena c.args.from.now c.args.at c.args.nesting_limit in
-    let nl = to_z-of_z w32 c.args.nesting_limit c.ranges.nesting_limit in
-    let inner = inner_levels c.args.nesting_limit c.one_level_less-inner.result c.ranges.nesting_limit (record { sfits = c.one_level_less-inner.type_inv }) c.one_level_less-inner.ensures in
-    let object : IsObject Value r c.args.lim.now c.read_object.new.lim c.in-Ok.object = rw nl at c.in-Ok.ensures.object in
-    struct_opens into_array c.args.parent r (c.args.objects.now, c.args.count.now) (c.add_object.new.objects, c.add_object.new.count) c.args.lim.now c.read_object.new.lim c.in-Ok.object c.in-Struct.start c.in-Struct.size c.from-words.result c.from-pointers.result c.in-Struct.is c.from-words.ensures c.from-pointers.ensures object c.add_object.ensures
-    ∙ subst (λ n. walk_elements into_array c.args.count.now c.from-words.result c.from-pointers.result 1 (record r { levels = n; segment = c.in-Struct.start.segment; at = c.in-Struct.start.at }) (c.add_object.new.objects, c.add_object.new.count) c.read_object.new.lim ≡ (Ok ((c.walk_elements.new.objects, c.walk_elements.new.count), c.walk_elements.result), c.walk_elements.new.lim)) inner c.walk_elements.ensures
-
-pub walk_object-returns-in-Pointers : goal.walk_object-returns-in-Pointers
-walk_object-returns-in-Pointers g t c =
-    let r : Reading = reading_on g.A.ReaderArena c.args.from.now c.args.at c.args.nesting_limit in
-    let nl = to_z-of_z w32 c.args.nesting_limit c.ranges.nesting_limit in
-    let inner = inner_levels c.args.nesting_limit c.one_level_less-inner.result c.ranges.nesting_limit (record { sfits = c.one_level_less-inner.type_inv }) c.one_level_less-inner.ensures in
-    let object : IsObject Value r c.args.lim.now c.read_object.new.lim c.in-Ok.object = rw nl at c.in-Ok.ensures.object in
-    pointers_open into_array c.args.parent r (c.args.objects.now, c.args.count.now) (c.add_object.new.objects, c.add_object.new.count) c.args.lim.now c.read_object.new.lim c.in-Ok.object c.in-Pointers.start c.in-Pointers.pointers c.in-Pointers.is object c.add_object.ensures
-    ∙ subst (λ n. walk_elements into_array c.args.count.now 0 c.in-Pointers.pointers 1 (record r { levels = n; segment = c.in-Pointers.start.segment; at = c.in-Pointers.start.at }) (c.add_object.new.objects, c.add_object.new.count) c.read_object.new.lim ≡ (Ok ((c.walk_elements-in-Pointers.new.objects, c.walk_elements-in-Pointers.new.count), c.walk_elements-in-Pointers.result), c.walk_elements-in-Pointers.new.lim)) inner c.walk_elements-in-Pointers.ensures
-
-pub walk_object-returns-in-Structs : goal.walk_object-returns-in-Structs
-walk_object-returns-in-Structs g t c =
-    let r : Reading = reading_on g.A.ReaderArena c.args.from.now c.args.at c.args.nesting_limit in
-    let nl = to_z-of_z w32 c.args.nesting_limit c.ranges.nesting_limit in
-    let inner = inner_levels c.args.nesting_limit c.one_level_less-inner.result c.ranges.nesting_limit (record { sfits = c.one_level_less-inner.type_inv }) c.one_level_less-inner.ensures in
-    let object : IsObject Value r c.args.lim.now c.read_object.new.lim c.in-Ok.object = rw nl at c.in-Ok.ensures.object in
-    structs_open into_array c.args.parent r (c.args.objects.now, c.args.count.now) (c.add_object.new.objects, c.add_object.new.count) c.args.lim.now c.read_object.new.lim c.in-Ok.object c.in-Structs.start c.in-Structs.size c.in-Structs.elements c.from-data.result c.from-each.result c.in-Structs.is c.from-data.ensures c.from-each.ensures object c.add_object.ensures
-    ∙ rw inner at c.walk_elements-in-Structs.ensures
-
-pub walk_object-walk_elements-requires-in-Structs : goal.walk_object-walk_elements-requires-in-Structs
-walk_object-walk_elements-requires-in-Structs g t c =
-    let r : Reading = reading_on g.A.ReaderArena c.args.from.now c.args.at c.args.nesting_limit in
-    let nl = to_z-of_z w32 c.args.nesting_limit c.ranges.nesting_limit in
-    let inner = inner_levels c.args.nesting_limit c.one_level_less-inner.result c.ranges.nesting_limit (record { sfits = c.one_level_less-inner.type_inv }) c.one_level_less-inner.ensures in
-    let object : IsObject Value r c.args.lim.now c.read_object.new.lim c.in-Ok.object = rw nl at c.in-Ok.ensures.object in
-    let inside = structs_inside Value r c.args.lim.now c.read_object.new.lim c.in-Ok.object c.in-Structs.start c.in-Structs.size c.in-Structs.elements c.from-data.result c.from-each.result c.in-Structs.is c.from-data.ensures c.from-each.ensures object in
-    let level = structs_level Value r c.args.lim.now c.read_object.new.lim c.in-Ok.object c.in-Structs.start c.in-Structs.size c.in-Structs.elements c.in-Structs.is object in
-    λ κs le. (falls_in 2 (search rules) inner level c.decreases, (le, inside))
+    let object : IsObjectRead Value r c.in-Ok.object = rw nl at c.in-Ok.ensures.object in
+    let opened : Opened Value r object.before object.after c.in-Ok.object c.in-Some.rows = record { is_read = object.object_of; has = c.in-Some.ensures } in
+    let first = c.inside-first.ensures in
+    object_opens into_array c.args.parent r (c.args.objects.now, c.args.count.now) (c.add_object.new.objects, c.add_object.new.count) c.args.lim.now c.read.new.lim c.in-Ok.object c.in-Some.rows (object_level c.in-Ok.object opened) (rw nl at c.in-Ok.ensures.computed) c.in-Some.ensures c.add_object.ensures
+    ∙ rw (first.source, first.place, first.levels, nl) at c.walk_elements.ensures

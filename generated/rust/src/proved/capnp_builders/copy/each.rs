@@ -1,7 +1,7 @@
 //! Copies consecutive pointers, up to the first one that is refused.
 
 use crate::proved::capnp_arena_traits::arena::{BuilderArena, ReaderArena, WordPlace};
-use crate::proved::capnp_copies::copy::{copy_value, place_past, pointer_past};
+use crate::proved::capnp_copies::copy::{copy_value, place_past};
 use crate::proved::capnp_objects::pointers::Pointer;
 use crate::proved::capnp_words::error::ErrorKind;
 use crate::proved::capnp_words::read_limiter::ReadLimiter;
@@ -30,7 +30,7 @@ pub fn copy_each<A: BuilderArena, B: ReaderArena>(
     lim: &mut ReadLimiter,
 ) -> Result<(), ErrorKind> {
     for i in 0..count {
-        let child = pointer_past(from, i);
+        let child = from.past(i);
         let place = place_past(to, i);
         copy_value(arena, place, child, lim, false)?;
     }

@@ -1,7 +1,7 @@
 //! Copies consecutive pointers.
 
 use super::flat::copy_primitive_list;
-use super::places::{place_past, pointer_inside, pointer_past};
+use super::places::place_past;
 use super::structs::copy_struct;
 use crate::proved::capnp_arena_traits::arena::{BuilderArena, ReaderArena, WordPlace};
 use crate::proved::capnp_copies::form::{CopyForm, Destination};
@@ -80,7 +80,7 @@ pub(in crate::proved::capnp_copies) fn copy_children_inline<A: BuilderArena, B: 
     lim: &mut ReadLimiter,
 ) -> Result<(), ErrorKind> {
     for i in 0..count {
-        let child = pointer_past(from, i);
+        let child = from.past(i);
         let place = place_past(to.place, i);
         let form = to.form;
         copy_child(arena, Destination { place, form }, child, lim)?;
@@ -143,7 +143,7 @@ fn copy_near_struct<A: BuilderArena, B: ReaderArena>(
     };
     let at = from.source.read_near_struct(pointer, lim)?;
     let start = Place { at, ..from.place };
-    let inner = pointer_inside(from, start);
+    let inner = from.inside(start);
     copy_struct(arena, to, inner, word.struct_size(), lim)
 }
 

@@ -4,19 +4,11 @@
 use super::pointer_run::{pointer_within, ElementPlace, PointerRun};
 use super::root::read_root;
 use crate::proved::capnp_arena::arena::{ReaderArena, ReaderArenaImpl, ReaderSegments};
-use crate::proved::capnp_objects::object::{Object, Place};
+use crate::proved::capnp_objects::object::{Object, Place, Purpose};
 use crate::proved::capnp_objects::pointers::{MessageSize, Pointer};
 use crate::proved::capnp_words::error::ErrorKind;
 use crate::proved::capnp_words::read_limiter::ReadLimiter;
 use crate::proved::capnp_words::wire_pointer::StructSize;
-
-/// Reads the object that the pointer `from` leads to, like `Source::read_object`.
-fn read_object<'a, A: ReaderArena>(
-    from: Pointer<'a, A>,
-    lim: &mut ReadLimiter,
-) -> Result<Object<'a>, ErrorKind> {
-    from.source.read_object(from.place, from.nesting_limit, lim)
-}
 
 /// Where a path leads.
 pub enum Reached<'a, A: ReaderArena> {
@@ -50,7 +42,6 @@ impl<'a, A: ReaderArena> Reached<'a, A> {
     ///
     /// ```text
     /// requires held { IsHeld (source_start A.ReaderArena from.source).segments start }
-    /// requires level { 0 < levels from.nesting_limit }
     /// requires inside { start.at + count * (size.data_words + size.pointers)
     ///     ≤ length (segment (source_start A.ReaderArena from.source).segments start.segment) }
     /// ```
@@ -74,7 +65,7 @@ impl<'a, A: ReaderArena> Reached<'a, A> {
     /// # Preconditions
     ///
     /// ```text
-    /// requires { IsObjectRead (reading A.ReaderArena from) object }
+    /// requires { IsObjectRead Value (reading A.ReaderArena from) object }
     /// ```
     fn child_of_object(
         from: Pointer<'a, A>,
@@ -104,7 +95,7 @@ impl<'a, A: ReaderArena> Reached<'a, A> {
     fn step(self, index: u32, lim: &mut ReadLimiter) -> Result<Self, ErrorKind> {
         match self {
             Reached::Pointer(from) => {
-                let object = read_object(from, lim)?;
+                let object = from.read(Purpose::Value, lim)?;
                 Reached::child_of_object(from, object, index)
             }
             Reached::Element(element) => {

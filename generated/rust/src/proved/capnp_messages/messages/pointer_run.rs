@@ -1,7 +1,6 @@
 //! Elements of lists of structs, and consecutive pointers of an object.
 
 use crate::proved::capnp_arena::arena::ReaderArena;
-use crate::proved::capnp_copies::copy::pointer_past;
 use crate::proved::capnp_objects::object::Place;
 use crate::proved::capnp_objects::pointers::Pointer;
 use crate::proved::capnp_words::error::ErrorKind;
@@ -32,7 +31,6 @@ impl<'a, A: ReaderArena> Copy for ElementPlace<'a, A> {}
 ///
 /// ```text
 /// requires held { IsHeld (source_start A.ReaderArena from.source).segments start }
-/// requires level { 0 < levels from.nesting_limit }
 /// requires inside { start.at + words
 ///     ≤ length (segment (source_start A.ReaderArena from.source).segments start.segment) }
 /// ```
@@ -41,14 +39,7 @@ pub(super) fn pointer_within<'a, A: ReaderArena>(
     start: Place<'a>,
     words: u32,
 ) -> Pointer<'a, A> {
-    Pointer {
-        source: from.source,
-        place: Place {
-            at: start.at + words,
-            ..start
-        },
-        nesting_limit: from.nesting_limit - 1,
-    }
+    from.inside(start).past(words)
 }
 
 /// Consecutive pointers: those of a struct, or of a list.
@@ -67,7 +58,6 @@ impl<'a, A: ReaderArena> PointerRun<'a, A> {
     ///
     /// ```text
     /// requires held { IsHeld (source_start A.ReaderArena from.source).segments start }
-    /// requires level { 0 < levels from.nesting_limit }
     /// requires inside { start.at + words + count
     ///     ≤ length (segment (source_start A.ReaderArena from.source).segments start.segment) }
     /// ```
@@ -81,7 +71,7 @@ impl<'a, A: ReaderArena> PointerRun<'a, A> {
     /// The pointers of an element.
     pub(super) fn from_element(element: ElementPlace<'a, A>) -> Self {
         PointerRun {
-            first: pointer_past(element.first, u32::from(element.size.data_words)),
+            first: element.first.past(u32::from(element.size.data_words)),
             count: u32::from(element.size.pointers),
         }
     }
@@ -92,6 +82,6 @@ impl<'a, A: ReaderArena> PointerRun<'a, A> {
         if index >= self.count {
             return Err(ErrorKind::NoSuchPlace);
         }
-        Ok(pointer_past(self.first, index))
+        Ok(self.first.past(index))
     }
 }

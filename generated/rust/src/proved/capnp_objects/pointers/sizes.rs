@@ -1,7 +1,7 @@
 //! Counts the words and capabilities of a value, without reading its data.
 
 use crate::proved::capnp_arena_traits::arena::ReaderArena;
-use crate::proved::capnp_objects::object::{Object, Place, PointerWord};
+use crate::proved::capnp_objects::object::{rows_of_object, Object, Place, PointerWord};
 use crate::proved::capnp_objects::pointers::walk::{Stopped, Walk};
 use crate::proved::capnp_objects::pointers::Pointer;
 use crate::proved::capnp_words::error::ErrorKind;
@@ -85,20 +85,6 @@ impl<'a, A: ReaderArena> Pointer<'a, A> {
             }
         }
     }
-}
-
-// The pointers of an object, in elements of equal size: a struct and a list of pointers are one
-// element, so that one loop handles all pointers.
-#[derive(Clone, Copy)]
-pub(in crate::proved::capnp_objects) struct MeasuredRows<'a> {
-    // The first word of the first element.
-    pub(in crate::proved::capnp_objects) start: Place<'a>,
-    // The number of words before the pointers of an element.
-    pub(in crate::proved::capnp_objects) data_words: u32,
-    // The number of pointers of an element.
-    pub(in crate::proved::capnp_objects) pointers: u32,
-    // The number of elements.
-    pub(in crate::proved::capnp_objects) count: u32,
 }
 
 /// # Preconditions
@@ -307,31 +293,5 @@ fn words_of_object(object: Object) -> u64 {
         Object::Struct { size, .. } => u64::from(size.total()),
         Object::Pointers { count, .. } => u64::from(count),
         Object::Structs { size, count, .. } => 1 + u64::from(count) * u64::from(size.total()),
-    }
-}
-
-// The pointers of an object; a null, a capability, and a list of bits have none.
-#[inline]
-pub(in crate::proved::capnp_objects) fn rows_of_object(object: Object) -> Option<MeasuredRows> {
-    match object {
-        Object::Null | Object::Capability(_) | Object::Flat { .. } => None,
-        Object::Struct { start, size } => Some(MeasuredRows {
-            start,
-            data_words: u32::from(size.data_words),
-            pointers: u32::from(size.pointers),
-            count: 1,
-        }),
-        Object::Pointers { start, count } => Some(MeasuredRows {
-            start,
-            data_words: 0,
-            pointers: count,
-            count: 1,
-        }),
-        Object::Structs { start, size, count } => Some(MeasuredRows {
-            start,
-            data_words: u32::from(size.data_words),
-            pointers: u32::from(size.pointers),
-            count,
-        }),
     }
 }

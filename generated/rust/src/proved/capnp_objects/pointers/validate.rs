@@ -2,8 +2,7 @@
 
 use crate::proved::capnp_arena_traits::arena::ReaderArena;
 use crate::proved::capnp_objects::nesting::{levels_left, one_level_less};
-use crate::proved::capnp_objects::object::{Object, Place, PointerWord};
-use crate::proved::capnp_objects::pointers::sizes::rows_of_object;
+use crate::proved::capnp_objects::object::{rows_of_object, Object, Place, PointerWord};
 use crate::proved::capnp_objects::pointers::walk::Stopped;
 use crate::proved::capnp_objects::pointers::Pointer;
 use crate::proved::capnp_words::error::ErrorKind;

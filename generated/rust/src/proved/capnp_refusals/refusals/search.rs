@@ -1,10 +1,8 @@
 //! Searches a value for the first pointer whose object is refused.
 
 use crate::proved::capnp_arena_traits::arena::ReaderArena;
-use crate::proved::capnp_objects::nesting::one_level_less;
-use crate::proved::capnp_objects::object::{Object, Place, Purpose};
+use crate::proved::capnp_objects::object::{rows_of_object, Object, Place, Purpose};
 use crate::proved::capnp_objects::pointers::Pointer;
-use crate::proved::capnp_objects::source::Source;
 use crate::proved::capnp_words::error::ErrorKind;
 use crate::proved::capnp_words::read_limiter::ReadLimiter;
 
@@ -40,26 +38,6 @@ pub fn search_value<A: ReaderArena>(
     lim: &mut ReadLimiter,
 ) -> Option<RefusedPointer> {
     search_object(demands, from, from.place.at, from.nesting_limit, lim)
-}
-
-/// # Preconditions
-///
-/// ```text
-/// requires held { IsHeld (source_start A.ReaderArena source).segments place }
-/// ```
-// Reads the object that the pointer at `place` leads to, for `purpose`.
-#[inline(always)]
-fn read_object<'a, A: ReaderArena>(
-    purpose: Purpose,
-    source: Source<'a, A>,
-    place: Place<'a>,
-    nesting_limit: i32,
-    lim: &mut ReadLimiter,
-) -> Result<Object<'a>, ErrorKind> {
-    match purpose {
-        Purpose::Value => source.read_object(place, nesting_limit, lim),
-        Purpose::Size => source.measure_object(place, nesting_limit, lim),
-    }
 }
 
 // Refuses a capability where none may be.
@@ -104,9 +82,13 @@ fn search_object<A: ReaderArena>(
     nesting_limit: i32,
     lim: &mut ReadLimiter,
 ) -> Option<RefusedPointer> {
-    let place = Place { at, ..from.place };
+    let here = Pointer {
+        source: from.source,
+        place: Place { at, ..from.place },
+        nesting_limit,
+    };
     let segment = from.place.segment;
-    let object = match read_object(demands.purpose, from.source, place, nesting_limit, lim) {
+    let object = match here.read(demands.purpose, lim) {
         Ok(object) => object,
         Err(refusal) => {
             return Some(RefusedPointer {
@@ -126,40 +108,18 @@ fn search_object<A: ReaderArena>(
             });
         }
     }
-    let inner = one_level_less(nesting_limit);
-    match object {
-        Object::Null => None,
-        Object::Capability(_) => None,
-        Object::Flat { .. } => None,
-        Object::Struct { start, size } => {
-            let first = Pointer {
-                source: from.source,
-                place: start,
-                nesting_limit: inner,
-            };
-            let words = u32::from(size.data_words);
-            let pointers = u32::from(size.pointers);
-            search_elements(demands, &first, words, pointers, 1, lim)
-        }
-        Object::Pointers { start, count } => {
-            let first = Pointer {
-                source: from.source,
-                place: start,
-                nesting_limit: inner,
-            };
-            search_elements(demands, &first, 0, count, 1, lim)
-        }
-        Object::Structs { start, size, count } => {
-            let first = Pointer {
-                source: from.source,
-                place: start,
-                nesting_limit: inner,
-            };
-            let data = u32::from(size.data_words);
-            let each = u32::from(size.pointers);
-            search_elements(demands, &first, data, each, count, lim)
-        }
-    }
+    let Some(rows) = rows_of_object(object) else {
+        return None;
+    };
+    let first = here.inside(rows.start);
+    search_elements(
+        demands,
+        &first,
+        rows.data_words,
+        rows.pointers,
+        rows.count,
+        lim,
+    )
 }
 
 /// # Preconditions

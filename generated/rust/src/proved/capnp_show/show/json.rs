@@ -1,11 +1,11 @@
 //! A message as one line of JSON.
 
-use super::objects::{bytes_are_below_256, bytes_at, pointer_inside, pointer_past, read_object};
+use super::objects::{bytes_are_below_256, bytes_at};
 use super::path::{enter, PathStep};
 use super::text::{Ended, Text, CUT_OBJECT};
 use crate::proved::capnp_arena_traits::arena::ReaderArena;
 use crate::proved::capnp_messages::messages::{ElementPlace, Reached};
-use crate::proved::capnp_objects::object::{Object, Place};
+use crate::proved::capnp_objects::object::{Object, Place, Purpose};
 use crate::proved::capnp_objects::pointers::Pointer;
 use crate::proved::capnp_words::error::ErrorKind;
 use crate::proved::capnp_words::read_limiter::ReadLimiter;
@@ -276,7 +276,7 @@ fn write_null_or_object<A: ReaderArena>(
         return json.text.push(b"null");
     }
     json.write_pointer(from.place)?;
-    match read_object(from, &mut json.lim) {
+    match from.read(Purpose::Value, &mut json.lim) {
         Ok(object) => write_object(from, object, depth, json),
         Err(kind) => json.write_refusal(kind.name()),
     }
@@ -287,7 +287,7 @@ fn write_null_or_object<A: ReaderArena>(
 /// # Preconditions
 ///
 /// ```text
-/// requires { IsObjectRead (reading A.ReaderArena from) object }
+/// requires { IsObjectRead Value (reading A.ReaderArena from) object }
 /// ```
 fn write_object<A: ReaderArena>(
     from: Pointer<'_, A>,
@@ -300,14 +300,12 @@ fn write_object<A: ReaderArena>(
         Object::Null => json.text.push(b"}"),
         Object::Capability(index) => json.text.push_capability(index),
         Object::Flat { start, size, count } => json.text.push_primitive_list(start, size, count),
-        Object::Struct { start, size } => {
-            write_sections(pointer_inside(from, start, 0), size, depth, json)
-        }
+        Object::Struct { start, size } => write_sections(from.inside(start), size, depth, json),
         Object::Pointers { start, count } => {
-            write_pointer_array(true, pointer_inside(from, start, 0), count, depth, json)
+            write_pointer_array(true, from.inside(start), count, depth, json)
         }
         Object::Structs { start, size, count } => {
-            write_struct_list(pointer_inside(from, start, 0), size, count, depth, json)
+            write_struct_list(from.inside(start), size, count, depth, json)
         }
     }
 }
@@ -330,7 +328,7 @@ fn write_sections<A: ReaderArena>(
     let data = bytes_at(start.place, 8 * words as usize);
     bytes_are_below_256(data);
     json.text.push_data_member(data)?;
-    let first = pointer_past(start, words);
+    let first = start.past(words);
     write_pointer_array(false, first, u32::from(size.pointers), depth, json)
 }
 
@@ -358,7 +356,7 @@ fn write_pointer_array<A: ReaderArena>(
             is_element: are_elements,
             index: i,
         })?;
-        write_pointed_value(pointer_past(first, i), depth - 1, json)?;
+        write_pointed_value(first.past(i), depth - 1, json)?;
         json.leave();
     }
     json.text.push(b"]}")
@@ -405,7 +403,7 @@ fn write_struct_elements<A: ReaderArena>(
 ) -> Result<(), Ended> {
     for i in 0..count {
         let start = json.begin_element(i)?;
-        let element = pointer_past(first, i * size.total());
+        let element = first.past(i * size.total());
         write_sections(element, size, depth, json)?;
         json.end_element(start)?;
     }

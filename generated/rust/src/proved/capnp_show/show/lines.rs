@@ -1,12 +1,12 @@
 //! A message as lines of text, one for each object.
 
 use super::message::Showing;
-use super::objects::{bytes_at, number_at, place_past, pointer_inside, pointer_past, read_object};
+use super::objects::{bytes_at, number_at, place_past};
 use super::path::{enter, push_path, PathStep};
 use super::text::{as_text, text_prefix, Ended, Text, CUT_COLORED_LINE, CUT_LINE};
 use crate::proved::capnp_arena_traits::arena::ReaderArena;
 use crate::proved::capnp_messages::messages::ElementPlace;
-use crate::proved::capnp_objects::object::{Object, Place};
+use crate::proved::capnp_objects::object::{Object, Place, Purpose};
 use crate::proved::capnp_objects::pointers::Pointer;
 use crate::proved::capnp_words::read_limiter::ReadLimiter;
 use crate::proved::capnp_words::wire_pointer::{ElementSize, StructSize, WirePointerKind};
@@ -404,7 +404,7 @@ pub(super) fn show_element<A: ReaderArena>(
     lines.write_path();
     lines.write_struct(element.first.place, size);
     lines.push(b"\n");
-    let first = pointer_past(element.first, u32::from(size.data_words));
+    let first = element.first.past(u32::from(size.data_words));
     show_pointers(first, u32::from(size.pointers), false, depth, lines);
 }
 
@@ -415,7 +415,7 @@ pub(super) fn show_pointer<A: ReaderArena>(from: Pointer<'_, A>, depth: u32, lin
     if lines.ended.is_err() {
         return;
     }
-    match read_object(from, &mut lines.lim) {
+    match from.read(Purpose::Value, &mut lines.lim) {
         Ok(object) => {
             lines.write_object(object);
             show_below(from, object, depth, lines);
@@ -439,14 +439,14 @@ fn show_below<A: ReaderArena>(
 ) {
     match object {
         Object::Struct { start, size } => {
-            let first = pointer_inside(from, start, u32::from(size.data_words));
+            let first = from.inside(start).past(u32::from(size.data_words));
             show_pointers(first, u32::from(size.pointers), false, depth, lines);
         }
         Object::Pointers { start, count } => {
-            show_pointers(pointer_inside(from, start, 0), count, true, depth, lines);
+            show_pointers(from.inside(start), count, true, depth, lines);
         }
         Object::Structs { start, size, count } => {
-            show_elements(pointer_inside(from, start, 0), size, count, depth, lines);
+            show_elements(from.inside(start), size, count, depth, lines);
         }
         _ => {}
     }
@@ -472,7 +472,7 @@ fn show_pointers<A: ReaderArena>(
             is_element: are_elements,
             index: i,
         };
-        show_step(pointer_past(first, i), step, depth - 1, lines);
+        show_step(first.past(i), step, depth - 1, lines);
     }
     lines.write_list_cut(is_cut);
 }
@@ -510,9 +510,9 @@ fn show_elements<A: ReaderArena>(
         return;
     }
     for i in 0..count.min(MOST_ELEMENTS) {
-        let element = pointer_past(first, i.saturating_mul(words));
+        let element = first.past(i.saturating_mul(words));
         lines.write_element(i, element.place, size);
-        let pointers = pointer_past(element, u32::from(size.data_words));
+        let pointers = element.past(u32::from(size.data_words));
         show_pointers(pointers, u32::from(size.pointers), false, depth, lines);
         lines.leave();
     }

@@ -1,63 +1,13 @@
-//! The objects of a message, and the numbers in them.
+//! The bytes of an object, and the numbers in them.
 
-use crate::proved::capnp_arena_traits::arena::ReaderArena;
-use crate::proved::capnp_objects::nesting::one_level_less;
-use crate::proved::capnp_objects::object::{Object, Place};
-use crate::proved::capnp_objects::pointers::Pointer;
-use crate::proved::capnp_words::error::ErrorKind;
-use crate::proved::capnp_words::read_limiter::ReadLimiter;
+use crate::proved::capnp_objects::object::Place;
 use crate::proved::capnp_words::wire_pointer::ElementSize;
-
-/// Reads the object that the pointer `from` leads to, like `Source::read_object`.
-pub(super) fn read_object<'a, A: ReaderArena>(
-    from: Pointer<'a, A>,
-    lim: &mut ReadLimiter,
-) -> Result<Object<'a>, ErrorKind> {
-    from.source.read_object(from.place, from.nesting_limit, lim)
-}
 
 /// The place `words` words after `start`. It saturates nowhere inside of an object.
 pub(super) fn place_past(start: Place, words: u32) -> Place {
     Place {
         at: start.at.saturating_add(words),
         ..start
-    }
-}
-
-/// The pointer `words` words after `start`, in the object that `from` leads to.
-///
-/// # Preconditions
-///
-/// ```text
-/// requires { IsHeld (source_start A.ReaderArena from.source).segments start }
-/// ```
-pub(super) fn pointer_inside<'a, A: ReaderArena>(
-    from: Pointer<'a, A>,
-    start: Place<'a>,
-    words: u32,
-) -> Pointer<'a, A> {
-    Pointer {
-        source: from.source,
-        place: Place {
-            at: start.at.saturating_add(words),
-            ..start
-        },
-        nesting_limit: one_level_less(from.nesting_limit),
-    }
-}
-
-/// The pointer `words` words after the pointer `first` of the same object.
-pub(super) fn pointer_past<'a, A: ReaderArena>(
-    first: Pointer<'a, A>,
-    words: u32,
-) -> Pointer<'a, A> {
-    Pointer {
-        source: first.source,
-        place: Place {
-            at: first.place.at.saturating_add(words),
-            ..first.place
-        },
-        nesting_limit: first.nesting_limit,
     }
 }
 

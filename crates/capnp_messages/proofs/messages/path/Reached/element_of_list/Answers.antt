@@ -12,7 +12,7 @@ pub pointer_within-first-requires : goal.pointer_within-first-requires
 pointer_within-first-requires g c =
     let size = c.args.size in
     let inside = row_inside c.args.start.at c.args.count c.args.index c.total.result size.data_words size.pointers _ c.requires.inside c.if-index-count.false c.total.ensures in
-    record { held = c.requires.held; level = c.requires.level; inside = omega (arith, inside) }
+    record { held = c.requires.held; inside = omega (arith, inside) }
 
 pub invariant_of-result : goal.invariant_of-result
 invariant_of-result g c =
