@@ -98,12 +98,12 @@ abbrev pub check_place : List ℕ → PointerTest
 check_place T p r m = check_within T r.levels p r m
 
 -- What a call of the program's walk returns: nothing, or the refusal that it has left.
-abbrev pub walk_result : {A E : Type 0} → Result A E → SchemaWalk → Result (Unit {0}) Misfit
-walk_result (Ok x) new = Ok tt
-walk_result (Err k) new = Err new.misfit
+abbrev pub walk_outcome : {A E : Type 0} → Result A E → SchemaWalk → Result (Unit {0}) Misfit
+walk_outcome (Ok x) new = Ok tt
+walk_outcome (Err k) new = Err new.misfit
 
 -- A call of the program's walk does what the test f does: from its limiter to what it returns and
 -- leaves.
 abbrev pub Performs :
     {A E : Type 0} → (Meter → TestOutcome) → SchemaWalk → SchemaWalk → Result A E → Type 0
-Performs f old new result = f old.lim ≡ (walk_result result new, new.lim)
+Performs f old new result = f old.lim ≡ (walk_outcome result new, new.lim)
