@@ -15,7 +15,7 @@ use Rattle.capnp_objects.specs.Reading.{Reading}
 use Rattle.capnp_objects.specs.Spending.{Paid, pointers_in}
 use Rattle.capnp_objects.specs.Values.{value}
 use Rattle.capnp_objects.specs.Wanted.{canonical}
-use Rattle.capnp_objects.proofs.OneName.{reads_if}
+use Rattle.capnp_objects.proofs.WholeValue.ValueAsStated.{reads_if}
 use Rattle.capnp_messages.specs.Copies.{LacksMemoryOr, RefusesCopy}
 use Rattle.capnp_messages.specs.Parts.{PathEnd, to_pointer}
 use Rattle.capnp_messages.specs.Tries.{IsFirstTry, IsRoomFor, words_read}

@@ -9,7 +9,7 @@ use Rattle.capnp_format.proofs.WordsOf.{words}
 use Rattle.capnp_format.specs.Bytes.{words_of, message}
 use Rattle.capnp_format.specs.Segments.{Segments, segment}
 use Rattle.capnp_making.specs.Fields.{with_field}
-use Rattle.capnp_contents.proofs.FieldBit.{set_is_put}
+use Rattle.capnp_contents.proofs.Fields.BitWritten.{set_is_put}
 use Rattle.capnp_making.proofs.FieldBytes.{message_written}
 use Rattle.capnp_format.proofs.FieldBytes.{words_of-put_field}
 use Rattle.capnp_copies.proofs.ElementsLaid.{get_or-zeros}

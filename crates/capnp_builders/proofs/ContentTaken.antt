@@ -17,8 +17,8 @@ use Rattle.capnp_making.specs.Made.{nulls}
 use Rattle.capnp_format.specs.Path.{Step, Child, tree_at, put_tree}
 use Rattle.capnp_making.specs.Stored.{IsStored, IsReplaced}
 use Rattle.capnp_making.proofs.Extents.{word_within}
-use Rattle.capnp_contents.proofs.FieldRead.{read_back, other_stays}
-use Rattle.capnp_contents.proofs.FieldsWritten.{data_field_written}
+use Rattle.capnp_contents.proofs.Fields.BitsRead.{read_back, other_stays}
+use Rattle.capnp_contents.proofs.Fields.FieldWritten.{data_field_written}
 use Rattle.capnp_making.proofs.Filling.{IsHolder, Holds, unchanged, still_leads, struct_holder, holder_put, holder_filled, put_from, null_at}
 use Rattle.capnp_making.proofs.MadeWords.{IsPut, word_put}
 use Rattle.capnp_making.proofs.Placed.{count-nulls}

@@ -10,7 +10,7 @@ use Rattle.capnp_arena_traits.specs.View.{View, KeepsLimits}
 use Rattle.capnp_making.specs.Memory.{RefusesWords}
 use Rattle.capnp_making.specs.Stored.{IsReplaced, Puts}
 use Rattle.capnp_making.specs.Zeroed.{IsPruned}
-use Rattle.capnp_contents.proofs.Growing.{replaced_grows}
+use Rattle.capnp_contents.proofs.Room.PlacesStay.{replaced_grows}
 use Rattle.capnp_making.proofs.FillingMade.{null_stored}
 use Rattle.capnp_making.proofs.Memory.{keeps_both, keeps_written, keeps_then_spends}
 use Rattle.capnp_making.proofs.Replaced.{replaced_again}

@@ -6,8 +6,8 @@ use Rattle.capnp_words.specs.Meter.{Meter, unused}
 use Rattle.capnp_format.specs.Tree.{Tree, Null}
 use Rattle.capnp_arena_traits.specs.View.{View}
 use Rattle.capnp_objects.specs.Wanted.{of_default}
-use Rattle.capnp_objects.proofs.Refusals.{breaks_off_spends, unreadable}
-use Rattle.capnp_objects.proofs.Truths.{unlimited_refusal}
+use Rattle.capnp_objects.proofs.WholeValue.UnreadableIfRefused.{breaks_off_spends, unreadable}
+use Rattle.capnp_objects.proofs.WholeValue.OutcomesAreTrue.{unlimited_refusal}
 use Rattle.capnp_copies.specs.Changes.{CopyCall, copy_call, MakesCopy, StopsCopy}
 use Rattle.capnp_copies.specs.Growth.{TakesAtMost}
 use Rattle.capnp_copies.specs.Originals.{value_original}

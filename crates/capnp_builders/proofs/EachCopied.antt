@@ -11,8 +11,8 @@ use Rattle.capnp_making.proofs.Memory.{keeps_then_spends, words_refused_after}
 use Rattle.capnp_objects.specs.Refusals.{Refused, StopsWithin}
 use Rattle.capnp_objects.specs.Reading.{Reading, place_past}
 use Rattle.capnp_objects.specs.Wanted.{plain}
-use Rattle.capnp_objects.proofs.Copies.{read_stop}
-use Rattle.capnp_objects.proofs.Refusals.{unreadable}
+use Rattle.capnp_objects.proofs.WholeValue.ChildrenRead.{read_stop}
+use Rattle.capnp_objects.proofs.WholeValue.UnreadableIfRefused.{unreadable}
 use Rattle.capnp_copies.specs.Changes.{copy_call, CopiesChildren, StopsCopy, CopiesFirst}
 use Rattle.capnp_copies.proofs.NoRoom.{WantsWords}
 use Rattle.capnp_copies.specs.Rooms.{CanBeCopied}

@@ -11,7 +11,7 @@ use Rattle.capnp_making.specs.Filled.{AreFilled}
 use Rattle.capnp_format.specs.Path.{Child, Element, struct_at, put_struct}
 use Rattle.capnp_making.specs.Stored.{IsStored, IsReplaced}
 use Rattle.capnp_making.proofs.Extents.{word_within}
-use Rattle.capnp_contents.proofs.FieldsWritten.{element_field_written}
+use Rattle.capnp_contents.proofs.Fields.FieldWritten.{element_field_written}
 use Rattle.capnp_making.proofs.Filling.{Holds, still_leads}
 use Rattle.capnp_making.proofs.FillingElements.{put_struct-count, put_struct-here, put_struct-again, row_high, element_holder, structs_claim}
 use Rattle.capnp_making.proofs.MadeWords.{IsPut, word_put}

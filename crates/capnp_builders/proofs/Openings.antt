@@ -17,7 +17,7 @@ use Rattle.capnp_readers.specs.declared.readers.struct_reader.StructPlace.{Struc
 use Rattle.capnp_making.specs.Makes.{CallAt, call_at}
 use Rattle.capnp_contents.specs.Opening.{Opens, struct_opened, LeadsToOne, LeadsToAll, OpensStruct, OpensExistingList as OpensAll}
 use Rattle.capnp_contents.specs.Widened.{list_widened}
-use Rattle.capnp_contents.proofs.StructSteps.{no_struct, same_struct, the_struct}
+use Rattle.capnp_contents.proofs.WiderObjects.StructBySteps.{no_struct, same_struct, the_struct}
 use Rattle.capnp_builders.specs.Found.{list_given, void_list}
 use Rattle.capnp_builders.specs.Opening.{IsStructGiven, IsListGiven, OpensList}
 use Rattle.capnp_builders.specs.Places.{struct_place}

@@ -21,7 +21,7 @@ use Rattle.capnp_objects.specs.Source.{levels}
 use Rattle.capnp_objects.specs.declared.pointers.sizes.MessageSize.{MessageSize}
 use Rattle.capnp_objects.specs.Measure.{FitSize, measure, measure_pointers, only_words}
 use Rattle.capnp_objects.specs.ValueSize.{value_size}
-use Rattle.capnp_objects.proofs.Counted.{Counts, of_tree, size_is, value_counts}
+use Rattle.capnp_objects.proofs.Sizes.CountsTheValue.{Counts, of_tree, size_is, value_counts}
 use Rattle.capnp_messages.specs.EndValues.{EndMeans, IsEndThere, end_place, measure_end}
 use Rattle.capnp_messages.specs.MessageParts.{IsPartOf, part_size, part_within}
 use Rattle.capnp_messages.specs.Parts.{PathEnd, to_pointer, to_element, pointer_in, end_at, end_in, inside, follow_path, step}

@@ -13,7 +13,7 @@ use Rattle.capnp_making.proofs.Memory.{spends_then_limits, words_refused_before}
 use Rattle.capnp_making.proofs.Replaced.{replaced_again}
 use Rattle.capnp_objects.specs.Reading.{Reading}
 use Rattle.capnp_objects.specs.Refusals.{Stopped}
-use Rattle.capnp_objects.proofs.Refusals.{unreadable}
+use Rattle.capnp_objects.proofs.WholeValue.UnreadableIfRefused.{unreadable}
 use Rattle.capnp_objects.specs.Wanted.{Form}
 use Rattle.capnp_objects.specs.declared.object.Purpose.TheVariants.{Value}
 use Rattle.capnp_copies.specs.Changes.{CopyCall, copy_call, MakesCopy, StopsCopy, StopsAtChildren}

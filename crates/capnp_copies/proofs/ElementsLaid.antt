@@ -13,7 +13,7 @@ use Rattle.capnp_format.proofs.Levels.{one_value}
 use Rattle.capnp_copies.specs.Forms.{kept_each}
 use Rattle.capnp_copies.proofs.KeptChildren.{cut_kept, kept_no_elements, words_of_first}
 use Rattle.capnp_copies.proofs.Shapes.{rows_laid, AreShapedElements, length-rows, length-element_bodies}
-use Rattle.capnp_objects.proofs.Shorthands.{MeanThere, ElementsMean}
+use Rattle.capnp_objects.proofs.WholeValue.Shorthands.{MeanThere, ElementsMean}
 
 -- The beginning.
 

@@ -16,7 +16,7 @@ use Rattle.capnp_objects.specs.Outcomes.{Reads}
 use Rattle.capnp_objects.specs.Refusals.{Refused}
 use Rattle.capnp_objects.specs.Reading.{Reading, place_past}
 use Rattle.capnp_objects.specs.Wanted.{Form}
-use Rattle.capnp_objects.proofs.Copies.{read_none, read_more}
+use Rattle.capnp_objects.proofs.WholeValue.ChildrenRead.{read_none, read_more}
 use Rattle.capnp_copies.specs.Copied.{with_children}
 use Rattle.capnp_copies.specs.Changes.{copy_call, MakesCopy, CopiesChildren, StopsAtChildren}
 use Rattle.capnp_copies.specs.Originals.{value_original, children_original}

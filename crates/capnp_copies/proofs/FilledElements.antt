@@ -17,8 +17,8 @@ use Rattle.capnp_making.proofs.WordsPut.{words_put}
 use Rattle.capnp_objects.specs.Outcomes.{ReadsAll}
 use Rattle.capnp_objects.specs.Reading.{Reading, place_past, segment_read, words_from, pointers_of}
 use Rattle.capnp_objects.specs.Wanted.{Form, canonical}
-use Rattle.capnp_objects.proofs.Copies.{read_no_element, with_last_element}
-use Rattle.capnp_objects.proofs.Walked.{row_within}
+use Rattle.capnp_objects.proofs.WholeValue.ChildrenRead.{read_no_element, with_last_element}
+use Rattle.capnp_objects.proofs.WholeValue.WordsAdded.{row_within}
 use Rattle.capnp_copies.specs.Changes.{CopyCall, copy_call, HasNulls, CopiesChildren, StopsAtChildren, CopiesRows, StopsAtElements, RefusesToCopy}
 use Rattle.capnp_copies.specs.Forms.{kept_each, kept_elements}
 use Rattle.capnp_copies.specs.declared.widths.ElementSizes.{ElementSizes}
@@ -33,7 +33,7 @@ use Rattle.capnp_copies.proofs.TooLarge.{row_too_large}
 use Rattle.capnp_copies.proofs.Shapes.{rows_laid}
 use Rattle.capnp_copies.proofs.KeptChildren.{kept_each-count, kept_no_elements, cut_kept-count}
 use Rattle.capnp_copies.proofs.KeptForms.{SourceKept, one_more, stops_sooner, blank_elements, nothing_filled}
-use Rattle.capnp_objects.proofs.Shorthands.{RefusedAll}
+use Rattle.capnp_objects.proofs.WholeValue.Shorthands.{RefusedAll}
 use Rattle.capnp_making.specs.Makes.{call_at}
 
 -- One element.

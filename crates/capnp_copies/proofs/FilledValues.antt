@@ -28,9 +28,9 @@ use Rattle.capnp_objects.specs.Wanted.{Form, plain, canonical, of_default}
 use Rattle.capnp_objects.specs.declared.object.Place.{Place}
 use Rattle.capnp_objects.specs.declared.object.Object.TheVariants.{Null as ObjectNull, Capability as ObjectCapability, Struct as ObjectStruct, Flat as ObjectFlat, Pointers as ObjectPointers, Structs as ObjectStructs}
 use Rattle.capnp_objects.specs.declared.object.Purpose.TheVariants.{Value}
-use Rattle.capnp_objects.proofs.Limits.{not_for_memory}
-use Rattle.capnp_objects.proofs.Objects.{read_null, read_flat, read_struct, read_pointers, read_structs}
-use Rattle.capnp_objects.proofs.Refusals.{stops_struct, stops_pointers, stops_structs}
+use Rattle.capnp_objects.proofs.WholeValue.RefusalsNamed.{not_for_memory}
+use Rattle.capnp_objects.proofs.WholeValue.ObjectsRead.{read_null, read_flat, read_struct, read_pointers, read_structs}
+use Rattle.capnp_objects.proofs.WholeValue.UnreadableIfRefused.{stops_struct, stops_pointers, stops_structs}
 use Rattle.capnp_copies.specs.Changes.{as_numbers, copy_call, IsCopiedInRoom, StayInSegment, MakesCopy}
 use Rattle.capnp_copies.proofs.Copying.{StopsHalfway}
 use Rattle.capnp_copies.specs.Forms.{kept}
@@ -44,8 +44,8 @@ use Rattle.capnp_copies.proofs.TooLarge.{struct_value_too_large, pointers_value_
 use Rattle.capnp_copies.proofs.Originals.{halfway, sections_beyond, pointers_beyond, structs_beyond}
 use Rattle.capnp_copies.proofs.StructsCopied.{null_written}
 use Rattle.capnp_copies.proofs.ObjectsRead.{inside, capability_stopped, default_stopped, flat_held}
-use Rattle.capnp_objects.proofs.Valued.{stopped_form}
-use Rattle.capnp_objects.proofs.Followed.{leads_there}
+use Rattle.capnp_objects.proofs.WholeValue.ValueAgrees.{stopped_form}
+use Rattle.capnp_objects.proofs.Following.LeadsWhereFollowed.{leads_there}
 use Rattle.capnp_making.specs.Makes.{call_at}
 
 pub object_stops : {r : Reading} {b : Form} {s p : ℕ} {v : View} {m m' : Meter} {k : ErrorKind} → IsPlace v.words s p → word_at v.words s p ≡ 0 → Stopped Value b r m m' k → StopsHalfway (value_original r) (copy_call b (call_at s p v v) m m') k

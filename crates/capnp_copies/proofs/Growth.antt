@@ -35,11 +35,11 @@ use Rattle.capnp_objects.specs.Wanted.{Form, plain, canonical, of_default}
 use Rattle.capnp_objects.specs.declared.object.Place.{Place}
 use Rattle.capnp_objects.specs.declared.object.Object.TheVariants.{Null as ObjectNull, Capability as ObjectCapability, Struct as ObjectStruct, Flat as ObjectFlat, Pointers as ObjectPointers, Structs as ObjectStructs}
 use Rattle.capnp_objects.specs.declared.object.Purpose.TheVariants.{Value}
-use Rattle.capnp_objects.proofs.Budgets.{affords_none, affords_both, fewer_than_words, one_element_more, paid_own, paid_all, paid_elements, pointers_within, pointers_within_all, pointers_within_elements}
-use Rattle.capnp_objects.proofs.Copies.{read_none, read_more, read_no_element, pointers_in-with_last}
-use Rattle.capnp_objects.proofs.Objects.{own_struct, own_flat, own_pointers, own_structs, read_null, read_flat, read_struct, read_pointers, read_structs}
-use Rattle.capnp_objects.proofs.Refusals.{breaks_off_spends, stops_struct, stops_pointers, stops_structs}
-use Rattle.capnp_objects.proofs.Truths.{few_followed, reading_spends}
+use Rattle.capnp_objects.proofs.Budget.PaidAndLeft.{affords_none, affords_both, fewer_than_words, one_element_more, paid_own, paid_all, paid_elements, pointers_within, pointers_within_all, pointers_within_elements}
+use Rattle.capnp_objects.proofs.WholeValue.ChildrenRead.{read_none, read_more, read_no_element, pointers_in-with_last}
+use Rattle.capnp_objects.proofs.WholeValue.ObjectsRead.{own_struct, own_flat, own_pointers, own_structs, read_null, read_flat, read_struct, read_pointers, read_structs}
+use Rattle.capnp_objects.proofs.WholeValue.UnreadableIfRefused.{breaks_off_spends, stops_struct, stops_pointers, stops_structs}
+use Rattle.capnp_objects.proofs.WholeValue.OutcomesAreTrue.{few_followed, reading_spends}
 use Rattle.capnp_copies.specs.Changes.{CopyCall, copy_call, StayInSegment}
 use Rattle.capnp_copies.specs.Costs.{spent_before, spent_until, spent_among, spent_among_elements}
 use Rattle.capnp_copies.specs.Originals.{value_original, children_original, elements_original, sections_original, numbers_original, pointers_original, structs_original, list_original, kept_count}
@@ -51,10 +51,10 @@ use Rattle.capnp_copies.proofs.FilledValues.{capability_read, CapabilityCopied}
 use Rattle.capnp_copies.proofs.KeptForms.{SourceKept, one_more as one_row_more, stops_sooner, blank_elements}
 use Rattle.capnp_copies.proofs.ObjectsMade.{TakesForCopy, TakesUntilStop, Begins, no_pad}
 use Rattle.capnp_copies.proofs.ObjectsRead.{inside, capability_stopped, default_stopped}
-use Rattle.capnp_objects.proofs.Valued.{stopped_form}
+use Rattle.capnp_objects.proofs.WholeValue.ValueAgrees.{stopped_form}
 use Rattle.capnp_copies.proofs.StayingNear.{stay_fewer}
-use Rattle.capnp_objects.proofs.Unreadable.{Spends}
-use Rattle.capnp_objects.proofs.Shorthands.{ReadsBefore}
+use Rattle.capnp_objects.proofs.WholeValue.Unreadable.{Spends}
+use Rattle.capnp_objects.proofs.WholeValue.Shorthands.{ReadsBefore}
 use Rattle.capnp_making.specs.Makes.{call_at}
 
 -- The words of all segments.

@@ -16,8 +16,8 @@ use Rattle.capnp_objects.specs.Refusals.{StopsAmong}
 use Rattle.capnp_objects.specs.Reading.{Reading, segment_read, words_from, pointers_of}
 use Rattle.capnp_objects.specs.Spending.{pointers_in_all, pointers_in_elements}
 use Rattle.capnp_objects.specs.Wanted.{Form, canonical}
-use Rattle.capnp_objects.proofs.Copies.{with_last_element, count-with_last_element, pointers_in-with_last_element, read_element, read_none, read_no_element}
-use Rattle.capnp_objects.proofs.Walked.{row_within}
+use Rattle.capnp_objects.proofs.WholeValue.ChildrenRead.{with_last_element, count-with_last_element, pointers_in-with_last_element, read_element, read_none, read_no_element}
+use Rattle.capnp_objects.proofs.WholeValue.WordsAdded.{row_within}
 use Rattle.capnp_copies.specs.Widths.{most_used, widths_kept}
 use Rattle.capnp_copies.specs.Forms.{kept, kept_each, kept_elements}
 use Rattle.capnp_copies.specs.Originals.{kept_count}
@@ -27,7 +27,7 @@ use Rattle.capnp_copies.proofs.ElementsLaid.{words_taken}
 use Rattle.capnp_copies.proofs.KeptChildren.{cut_kept-count}
 use Rattle.capnp_copies.proofs.ListSteps.{AreLeast, trimmed_list}
 use Rattle.capnp_copies.proofs.UsedChildren.{used_children, means_taken, trim-struct}
-use Rattle.capnp_objects.proofs.Shorthands.{MeanThere, ElementsMean}
+use Rattle.capnp_objects.proofs.WholeValue.Shorthands.{MeanThere, ElementsMean}
 
 -- Words.
 

@@ -23,7 +23,7 @@ use Rattle.capnp_copies.proofs.KeptChildren.{cut_kept-count}
 use Rattle.capnp_copies.proofs.LeastWidths.{data_where_meant, pointers_where_meant}
 use Rattle.capnp_copies.proofs.SegmentsWritten.{then_written}
 use Rattle.capnp_copies.proofs.UsedChildren.{trim-structs}
-use Rattle.capnp_objects.proofs.Shorthands.{ElementsMean}
+use Rattle.capnp_objects.proofs.WholeValue.Shorthands.{ElementsMean}
 
 -- The sections are the least that lose nothing of i elements.
 pub record AreLeast (r : Reading) (size least : StructSize) (i : ℕ) : Type 0 where

@@ -18,8 +18,8 @@ use Rattle.capnp_objects.specs.Wanted.{Form}
 use Rattle.capnp_objects.specs.declared.object.Place.{Place}
 use Rattle.capnp_objects.specs.declared.object.Object.TheVariants.{Struct as ObjectStruct, Pointers as ObjectPointers, Structs as ObjectStructs}
 use Rattle.capnp_objects.specs.declared.object.Purpose.TheVariants.{Value}
-use Rattle.capnp_objects.proofs.Objects.{own_struct, own_pointers, own_structs}
-use Rattle.capnp_objects.proofs.Refusals.{stops_struct, stops_pointers, stops_structs}
+use Rattle.capnp_objects.proofs.WholeValue.ObjectsRead.{own_struct, own_pointers, own_structs}
+use Rattle.capnp_objects.proofs.WholeValue.UnreadableIfRefused.{stops_struct, stops_pointers, stops_structs}
 use Rattle.capnp_copies.specs.Changes.{CopyCall, copy_call, IsMadeOf, as_struct, as_pointers, as_structs, ComesToObject, FindsNoRoom, LacksRoom}
 use Rattle.capnp_copies.specs.Costs.{spent_until, spent_among, spent_among_elements}
 use Rattle.capnp_copies.specs.Originals.{value_original, children_original, elements_original, sections_original, pointers_original, structs_original}

@@ -12,7 +12,7 @@ use Rattle.capnp_objects.specs.declared.object.Place.{Place}
 use Rattle.capnp_objects.specs.declared.object.Object.TheVariants.{Capability as ObjectCapability, Flat as ObjectFlat}
 use Rattle.capnp_objects.specs.declared.object.Object.{Object}
 use Rattle.capnp_objects.specs.Objects.{IsObject, IsFew}
-use Rattle.capnp_objects.proofs.Faultless.{same_target}
+use Rattle.capnp_objects.proofs.Following.FaultlessWhereMeant.{same_target}
 use Rattle.capnp_objects.specs.Demands.{tag}
 use Rattle.capnp_objects.specs.Faults.{LeadsTo}
 use Rattle.capnp_objects.specs.Outcomes.{MeansThere}
@@ -21,7 +21,7 @@ use Rattle.capnp_objects.specs.Reading.{Reading}
 use Rattle.capnp_objects.specs.Spending.{after_charge, Paid}
 use Rattle.capnp_objects.specs.Wanted.{canonical, of_default}
 use Rattle.capnp_objects.specs.declared.object.Purpose.TheVariants.{Value}
-use Rattle.capnp_objects.proofs.Stops.{same_word}
+use Rattle.capnp_objects.proofs.WholeValue.ObjectsRefused.{same_word}
 
 -- An object by its form, and by another name for the levels of its place: for plain readings, since
 -- an object without a known form takes long to write out.

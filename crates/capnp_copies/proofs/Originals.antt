@@ -25,7 +25,7 @@ use Rattle.capnp_copies.specs.Forms.{kept, kept_each, kept_elements}
 use Rattle.capnp_copies.specs.Originals.{Original, value_original, children_original, elements_original, sections_original, numbers_original, pointers_original, structs_original, list_original, FitsListPointer}
 use Rattle.capnp_copies.specs.Rooms.{CanBeCopied}
 use Rattle.capnp_copies.specs.declared.widths.ElementSizes.{ElementSizes}
-use Rattle.capnp_objects.proofs.Shorthands.{MeanThere, ElementsMean, RefusedAll}
+use Rattle.capnp_objects.proofs.WholeValue.Shorthands.{MeanThere, ElementsMean, RefusedAll}
 
 -- A limiter without a budget allows all reading.
 

@@ -9,7 +9,7 @@ use Rattle.capnp_objects.specs.Reading.{Reading, place_past}
 use Rattle.capnp_objects.specs.Wanted.{Form}
 use Rattle.capnp_copies.specs.Forms.{kept, kept_each}
 use Rattle.capnp_copies.proofs.KeptChildren.{kept_none, kept_first}
-use Rattle.capnp_objects.proofs.Shorthands.{MeanThere}
+use Rattle.capnp_objects.proofs.WholeValue.Shorthands.{MeanThere}
 
 -- Equally many pointers from the same place on have the same cost.
 pub same_cost : (r : Reading) (ts us : Trees) (c e : ℕ) → count ts ≡ count us → MeanThere r ts c → MeanThere r us e → c ≡ e

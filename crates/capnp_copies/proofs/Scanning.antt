@@ -2,7 +2,7 @@
 use Rattle.std.proofs.Common.{◌≡◌, ℕ, zero, suc, ◌+◌, ◌-◌, ◌*◌, ◌<◌, ◌≤◌, max, Bool, true, false, nat_eq, List, [], ◌∷◌, length, take, drop, refl, ap, subst, ◌∙◌, arith, length-take, length-drop, drop-drop}
 use Rattle.std.proofs.lemmas.List.{drop-take}
 use Rattle.capnp_format.specs.Canonical.{used_from, used_words}
-use Rattle.capnp_objects.proofs.Walked.{row_within}
+use Rattle.capnp_objects.proofs.WholeValue.WordsAdded.{row_within}
 use Rattle.capnp_copies.specs.Widths.{most_used}
 use Rattle.capnp_making.proofs.BelowElements.{next_place}
 

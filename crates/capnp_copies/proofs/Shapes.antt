@@ -12,7 +12,7 @@ use Rattle.capnp_format.specs.Canonical.{used_trees, take_trees, data_width, poi
 use Rattle.capnp_format.proofs.Digits.{length-digits}
 use Rattle.capnp_format.proofs.Lengths.{length-pointers}
 use Rattle.capnp_format.proofs.Trimming.{used_words-le, used_trees-le, take_trees-count, trim_each-count}
-use Rattle.capnp_objects.proofs.Shorthands.{MeanThere, ElementsMean}
+use Rattle.capnp_objects.proofs.WholeValue.Shorthands.{MeanThere, ElementsMean}
 
 -- The words while elements are copied, after the words `front`: the rows of es are there, and n
 -- rows are still to come.

@@ -11,7 +11,7 @@ use Rattle.capnp_arena_traits.specs.View.{View}
 use Rattle.capnp_arena_traits.specs.Written.{with_segment, with_word}
 use Rattle.capnp_objects.specs.Reading.{Reading}
 use Rattle.capnp_objects.specs.Wanted.{Form}
-use Rattle.capnp_objects.proofs.Accepts.{struct_pointer}
+use Rattle.capnp_objects.proofs.CanonicalForm.CanonicalIfAccepted.{struct_pointer}
 use Rattle.capnp_copies.specs.Forms.{kept_each}
 use Rattle.capnp_copies.specs.Copied.{with_children}
 use Rattle.capnp_copies.proofs.Copied.{copied}

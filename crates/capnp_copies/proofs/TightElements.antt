@@ -13,8 +13,8 @@ use Rattle.capnp_making.specs.Memory.{KeepsMemory}
 use Rattle.capnp_objects.specs.Outcomes.{ReadsAll}
 use Rattle.capnp_objects.specs.Reading.{Reading, place_past, words_from}
 use Rattle.capnp_objects.specs.Wanted.{Form}
-use Rattle.capnp_objects.proofs.Copies.{with_last_element}
-use Rattle.capnp_objects.proofs.Walked.{words-with_last_element}
+use Rattle.capnp_objects.proofs.WholeValue.ChildrenRead.{with_last_element}
+use Rattle.capnp_objects.proofs.WholeValue.WordsAdded.{words-with_last_element}
 use Rattle.capnp_copies.specs.Changes.{CopyCall, copy_call, StayInSegment, EndsInZeros, CopiesChildren, CopiesRows}
 use Rattle.capnp_copies.specs.Forms.{kept_each, kept_elements}
 use Rattle.capnp_copies.specs.Copied.{with_children}

@@ -38,8 +38,8 @@ use Rattle.capnp_copies.proofs.KeptForms.{KeepsWidths, SourceKept, SectionsCut, 
 use Rattle.capnp_copies.proofs.ObjectsRead.{inside, means_struct, means_pointers, means_structs}
 use Rattle.capnp_copies.proofs.RoomLemmas.{next_words}
 use Rattle.capnp_copies.proofs.TightChildren.{room_kept}
-use Rattle.capnp_objects.proofs.Followed.{entered_leads}
-use Rattle.capnp_objects.proofs.Shorthands.{MeanThere}
+use Rattle.capnp_objects.proofs.Following.LeadsWhereFollowed.{entered_leads}
+use Rattle.capnp_objects.proofs.WholeValue.Shorthands.{MeanThere}
 use Rattle.capnp_making.specs.Makes.{call_at}
 
 -- A child.

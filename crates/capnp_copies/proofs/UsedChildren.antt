@@ -14,7 +14,7 @@ use Rattle.capnp_objects.specs.Spending.{after_charge, pointers_in_all}
 use Rattle.capnp_objects.specs.Outcomes.{MeansThere, ReadsAll}
 use Rattle.capnp_objects.specs.Reading.{Reading, place_past, segment_read, words_from}
 use Rattle.capnp_objects.specs.Wanted.{canonical}
-use Rattle.capnp_objects.proofs.Shorthands.{MeanThere}
+use Rattle.capnp_objects.proofs.WholeValue.Shorthands.{MeanThere}
 use Rattle.capnp_format.proofs.Slices.{word_in_part}
 
 -- Nothing is used after the used words.

@@ -12,8 +12,8 @@ use Rattle.capnp_objects.specs.Reading.{Reading, segment_read, tag_size}
 use Rattle.capnp_objects.specs.Refusals.{StopsWithin, here, below}
 use Rattle.capnp_objects.specs.Wanted.{Form, canonical}
 use Rattle.capnp_objects.specs.declared.object.Purpose.TheVariants.{Value}
-use Rattle.capnp_objects.proofs.Objects.{own_struct, own_flat, own_pointers, own_structs}
-use Rattle.capnp_objects.proofs.Refusals.{affords_less}
+use Rattle.capnp_objects.proofs.WholeValue.ObjectsRead.{own_struct, own_flat, own_pointers, own_structs}
+use Rattle.capnp_objects.proofs.WholeValue.UnreadableIfRefused.{affords_less}
 use Rattle.capnp_copies.specs.Changes.{IsMadeOf, as_struct, as_numbers, as_pointers, as_structs}
 use Rattle.capnp_copies.proofs.NoRoom.{WantsWords}
 use Rattle.capnp_copies.specs.Costs.{spent_before, spent_until}

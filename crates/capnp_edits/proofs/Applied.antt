@@ -25,7 +25,7 @@ use Rattle.capnp_making.specs.Near.{LeadsToEnd}
 use Rattle.capnp_format.specs.Path.{Element, struct_at, put_struct, update, node, PathLeads, word_interval}
 use Rattle.capnp_making.specs.Stored.{IsStored, IsReplaced, Puts}
 use Rattle.capnp_making.proofs.Extents.{once_held, times-first}
-use Rattle.capnp_contents.proofs.FieldsWritten.{data_field_written, element_has_words, element_field_written}
+use Rattle.capnp_contents.proofs.Fields.FieldWritten.{data_field_written, element_has_words, element_field_written}
 use Rattle.capnp_making.proofs.Placed.{count-nulls}
 use Rattle.capnp_making.proofs.PlacedStructs.{count-zero_elements}
 use Rattle.capnp_making.proofs.Replaced.{forest_stored, forest_updated, stored_within}

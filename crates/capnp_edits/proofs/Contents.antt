@@ -18,7 +18,7 @@ use Rattle.capnp_contents.specs.Existing.{size_of, plain_misfit, structs_misfit,
 use Rattle.capnp_making.specs.Fields.{with_field}
 use Rattle.capnp_format.specs.Path.{put_struct}
 use Rattle.capnp_making.specs.Stored.{IsStored, IsReplaced}
-use Rattle.capnp_contents.proofs.FieldsWritten.{flat_part_written, element_field_written}
+use Rattle.capnp_contents.proofs.Fields.FieldWritten.{flat_part_written, element_field_written}
 use Rattle.capnp_making.proofs.Zeros.{there}
 use Rattle.capnp_readers.specs.Sections.{step_bits, data_bits}
 use Rattle.capnp_objects.specs.declared.pointers.PointerPlace.{PointerPlace}

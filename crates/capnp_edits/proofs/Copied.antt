@@ -21,10 +21,10 @@ use Rattle.capnp_objects.specs.Outcomes.{Reads}
 use Rattle.capnp_objects.specs.Reading.{Reading}
 use Rattle.capnp_objects.specs.Refusals.{Refused, here as stops_here, Unfollowed, no_target}
 use Rattle.capnp_objects.specs.Wanted.{plain}
-use Rattle.capnp_objects.proofs.ExpectedComputed.{not_withheld}
-use Rattle.capnp_objects.proofs.Expecting.{one_level}
-use Rattle.capnp_objects.proofs.Limits.{not_for_memory, not_for_place}
-use Rattle.capnp_objects.proofs.Refusals.{unreadable}
+use Rattle.capnp_objects.proofs.OneObject.ExpectedAsStated.{not_withheld}
+use Rattle.capnp_objects.proofs.OneObject.ExpectedBySteps.{one_level}
+use Rattle.capnp_objects.proofs.WholeValue.RefusalsNamed.{not_for_memory, not_for_place}
+use Rattle.capnp_objects.proofs.WholeValue.UnreadableIfRefused.{unreadable}
 use Rattle.capnp_readers.specs.Calls.{IsRead, of_pointer, of_default, short_default, of_null_default, WhereRead, IsRefused, IsStructRead, IsListRead}
 use Rattle.capnp_readers.specs.Readers.{read_by}
 use Rattle.capnp_readers.specs.Sections.{bytes_for}

@@ -28,11 +28,11 @@ use Rattle.capnp_objects.specs.Source.{levels}
 use Rattle.capnp_objects.specs.Spending.{after_charge, pointers_in_all, pointers_in_elements}
 use Rattle.capnp_objects.specs.Wanted.{Form, AllowsCapabilities}
 use Rattle.capnp_objects.specs.declared.object.Purpose.TheVariants.{Value}
-use Rattle.capnp_objects.proofs.Budgets.{affords_rest, paid_own}
-use Rattle.capnp_objects.proofs.Faultless.{same_target}
-use Rattle.capnp_objects.proofs.Objects.{read_null, read_flat, read_pointers, read_structs, own_flat, own_pointers, own_structs}
-use Rattle.capnp_objects.proofs.Parts.{claim_list, claim_flat}
-use Rattle.capnp_objects.proofs.Refusals.{stops_pointers, stops_structs, unreadable, affords_less}
+use Rattle.capnp_objects.proofs.Budget.PaidAndLeft.{affords_rest, paid_own}
+use Rattle.capnp_objects.proofs.Following.FaultlessWhereMeant.{same_target}
+use Rattle.capnp_objects.proofs.WholeValue.ObjectsRead.{read_null, read_flat, read_pointers, read_structs, own_flat, own_pointers, own_structs}
+use Rattle.capnp_objects.proofs.OneObject.PartsMeant.{claim_list, claim_flat}
+use Rattle.capnp_objects.proofs.WholeValue.UnreadableIfRefused.{stops_pointers, stops_structs, unreadable, affords_less}
 use Rattle.capnp_readers.specs.Calls.{IsListRead}
 use Rattle.capnp_objects.specs.Rows.{rows_sized}
 use Rattle.capnp_readers.specs.Readers.{read_by, IsTargetList, ShowsList}
@@ -49,11 +49,11 @@ use Rattle.capnp_words.specs.Names.{is_allocation_name}
 use Rattle.capnp_edits.specs.Sources.{any_list, as_wanted}
 use Rattle.capnp_edits.proofs.Applied.{of_allocation}
 use Rattle.capnp_edits.proofs.CopiedStruct.{CanBeCopiedAs}
-use Rattle.capnp_objects.proofs.Levels.{level_less}
+use Rattle.capnp_objects.proofs.Budget.LevelsLeft.{level_less}
 use Rattle.capnp_edits.proofs.ListReads.{ListElements, LeadsToList, no_list, a_plain_list, a_struct_list, ReadsList, RefusedList, as_list_read, list_refused_as}
 use Rattle.capnp_edits.proofs.Steps.{same_some}
-use Rattle.capnp_objects.proofs.Followed.{leads_to, entered_leads}
-use Rattle.capnp_objects.proofs.Shorthands.{RefusedAll, RefusedElements}
+use Rattle.capnp_objects.proofs.Following.LeadsWhereFollowed.{leads_to, entered_leads}
+use Rattle.capnp_objects.proofs.WholeValue.Shorthands.{RefusedAll, RefusedElements}
 use Rattle.capnp_making.specs.Makes.{call_at}
 
 -- the elements of a list that is read

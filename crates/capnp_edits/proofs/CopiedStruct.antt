@@ -20,12 +20,12 @@ use Rattle.capnp_objects.specs.Refusals.{Refused}
 use Rattle.capnp_objects.specs.Source.{levels}
 use Rattle.capnp_objects.specs.Spending.{after_charge, pointers_in_all}
 use Rattle.capnp_objects.specs.Wanted.{Form, AllowsCapabilities}
-use Rattle.capnp_objects.proofs.Budgets.{after_none, affords_rest, paid_own}
-use Rattle.capnp_objects.proofs.Copies.{read_none}
-use Rattle.capnp_objects.proofs.Faultless.{same_target}
-use Rattle.capnp_objects.proofs.Objects.{read_null, read_struct, own_struct}
-use Rattle.capnp_objects.proofs.Parts.{claim_struct}
-use Rattle.capnp_objects.proofs.Refusals.{stops_struct, unreadable, affords_less}
+use Rattle.capnp_objects.proofs.Budget.PaidAndLeft.{after_none, affords_rest, paid_own}
+use Rattle.capnp_objects.proofs.WholeValue.ChildrenRead.{read_none}
+use Rattle.capnp_objects.proofs.Following.FaultlessWhereMeant.{same_target}
+use Rattle.capnp_objects.proofs.WholeValue.ObjectsRead.{read_null, read_struct, own_struct}
+use Rattle.capnp_objects.proofs.OneObject.PartsMeant.{claim_struct}
+use Rattle.capnp_objects.proofs.WholeValue.UnreadableIfRefused.{stops_struct, unreadable, affords_less}
 use Rattle.capnp_readers.specs.Calls.{IsStructRead}
 use Rattle.capnp_readers.specs.Readers.{read_by}
 use Rattle.capnp_readers.specs.Sections.{bytes_for}
@@ -48,11 +48,11 @@ use Rattle.capnp_words.specs.Names.{is_allocation_name}
 use Rattle.capnp_edits.specs.Sources.{as_wanted, Sections, LeadsToStruct, no_struct, a_struct}
 use Rattle.capnp_edits.proofs.Applied.{of_allocation}
 use Rattle.capnp_edits.proofs.Steps.{same_some}
-use Rattle.capnp_objects.proofs.Followed.{leads_to, entered_leads}
-use Rattle.capnp_objects.proofs.Shorthands.{RefusedAll}
+use Rattle.capnp_objects.proofs.Following.LeadsWhereFollowed.{leads_to, entered_leads}
+use Rattle.capnp_objects.proofs.WholeValue.Shorthands.{RefusedAll}
 use Rattle.capnp_making.specs.Makes.{call_at}
 use Rattle.capnp_copies.proofs.TightObjects.{no_trees_left}
-use Rattle.capnp_objects.proofs.Levels.{level_less}
+use Rattle.capnp_objects.proofs.Budget.LevelsLeft.{level_less}
 
 -- The place r means a value that is as wanted, and without capabilities if the copy is canonical,
 -- at a cost within the limiter m. The words that the copy keeps of it fit after `used` words of a

@@ -21,17 +21,17 @@ use Rattle.capnp_making.proofs.Replaced.{forest_stored, forest_updated, stored_w
 use Rattle.capnp_objects.specs.Outcomes.{ReadsAll}
 use Rattle.capnp_objects.specs.Reading.{Reading, place_past}
 use Rattle.capnp_objects.specs.Refusals.{Refused}
-use Rattle.capnp_objects.proofs.Limits.{not_for_place}
+use Rattle.capnp_objects.proofs.WholeValue.RefusalsNamed.{not_for_place}
 use Rattle.capnp_objects.specs.Demands.{own_charge}
 use Rattle.capnp_objects.specs.Expected.{struct_expected}
 use Rattle.capnp_objects.specs.Faults.{child_at}
 use Rattle.capnp_objects.specs.Spending.{after_charge}
 use Rattle.capnp_objects.specs.Wanted.{plain}
 use Rattle.capnp_objects.specs.declared.object.Purpose.TheVariants.{Value}
-use Rattle.capnp_objects.proofs.Copies.{read_none, read_stop}
-use Rattle.capnp_objects.proofs.ExpectedComputed.{not_withheld}
-use Rattle.capnp_objects.proofs.Faultless.{same_target}
-use Rattle.capnp_objects.proofs.Refusals.{unreadable}
+use Rattle.capnp_objects.proofs.WholeValue.ChildrenRead.{read_none, read_stop}
+use Rattle.capnp_objects.proofs.OneObject.ExpectedAsStated.{not_withheld}
+use Rattle.capnp_objects.proofs.Following.FaultlessWhereMeant.{same_target}
+use Rattle.capnp_objects.proofs.WholeValue.UnreadableIfRefused.{unreadable}
 use Rattle.capnp_readers.specs.Calls.{WhereRead, IsStructRead}
 use Rattle.capnp_readers.specs.Readers.{read_by}
 use Rattle.capnp_readers.specs.Sections.{bytes_for}
@@ -73,7 +73,7 @@ use Rattle.capnp_edits.proofs.CopiedStruct.{struct_at as source_at, struct_there
 use Rattle.capnp_edits.proofs.Steps.{same_some, first, struct_of}
 use Rattle.capnp_edits.proofs.Walks.{list_end, update-append}
 use Rattle.capnp_edits.proofs.Ways.{DoesAt, yielded, is_filled, is_half_filled, is_not_filled, leads_to, takes}
-use Rattle.capnp_objects.proofs.Followed.{entered_leads}
+use Rattle.capnp_objects.proofs.Following.LeadsWhereFollowed.{entered_leads}
 
 -- The pointers that the source's struct and a struct of q pointers in segment id both have can be
 -- read, and the words of what they mean fit after those of that segment.

@@ -22,7 +22,7 @@ use Rattle.capnp_format.specs.Word.{kind, offset_bits, element_size, list_count}
 use Rattle.capnp_objects.specs.Demands.{IsStructList, tag}
 use Rattle.capnp_objects.specs.Faults.{child_at}
 use Rattle.capnp_words.specs.declared.wire_pointer.StructSize.{StructSize}
-use Rattle.capnp_objects.proofs.Shorthands.{RefusedAll, RefusedElements}
+use Rattle.capnp_objects.proofs.WholeValue.Shorthands.{RefusedAll, RefusedElements}
 
 -- The elements of a list: their size, the sections of each if they are structs, their number, and
 -- the place of the first one.

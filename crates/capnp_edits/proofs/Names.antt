@@ -15,7 +15,7 @@ use Rattle.capnp_objects.specs.Faults.{here, below, HasFault}
 use Rattle.capnp_objects.specs.Follow.{◌>=>◌}
 use Rattle.capnp_objects.specs.Reading.{Reading}
 use Rattle.capnp_objects.specs.Wanted.{Form}
-use Rattle.capnp_objects.proofs.Followed.{or_named, far_named, follow, is_named, followed_at, existing, far_steps}
+use Rattle.capnp_objects.proofs.Following.LeadsWhereFollowed.{or_named, far_named, follow, is_named, followed_at, existing, far_steps}
 use Rattle.capnp_contents.specs.Opening.{struct_opened}
 use Rattle.capnp_contents.specs.Widened.{limited, list_widened}
 use Rattle.capnp_edits.specs.Edits.{is_of_path}

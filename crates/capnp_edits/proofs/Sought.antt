@@ -30,7 +30,7 @@ use Rattle.capnp_making.proofs.Replaced.{replaced_again}
 use Rattle.capnp_objects.specs.Faults.{HasFault}
 use Rattle.capnp_objects.specs.Follow.{◌>=>◌}
 use Rattle.capnp_objects.specs.Wanted.{of_default}
-use Rattle.capnp_objects.proofs.Faultless.{no_fault}
+use Rattle.capnp_objects.proofs.Following.FaultlessWhereMeant.{no_fault}
 use Rattle.capnp_copies.specs.Rooms.{CanBeCopied}
 use Rattle.capnp_copies.specs.Originals.{value_original}
 use Rattle.capnp_copies.proofs.Originals.{refused_words}
@@ -43,7 +43,7 @@ use Rattle.capnp_contents.specs.Rooms.{HasRoomFor, OpeningFits, direct_pointers,
 use Rattle.capnp_words.specs.Names.{is_allocation_name}
 use Rattle.capnp_contents.specs.RowsRemade.{RefusesWider}
 use Rattle.capnp_contents.specs.Widened.{list_widened, widened}
-use Rattle.capnp_contents.proofs.Refusing.{growth_named}
+use Rattle.capnp_contents.proofs.Room.GrowthRefused.{growth_named}
 use Rattle.capnp_builders.specs.Defaults.{IsIgnoredDefault, IsShortDefault, DefaultUse, ignored, denied as is_denied_by, copied as is_copied_from, default_use, default_root, RefusesDefault, WithDefault, DefaultFits, FitsWithDefault, object_default, blob_default}
 use Rattle.capnp_builders.proofs.DefaultRooms.{use_of_words}
 use Rattle.capnp_builders.proofs.DefaultCopies.{default_copy}
@@ -64,7 +64,7 @@ use Rattle.capnp_edits.proofs.Contents.{list_refusal_of, data_refusal_of, text_r
 use Rattle.capnp_edits.proofs.Names.{is_nowhere, unfound_of_path, elsewhere, struct_elsewhere, structs_elsewhere, list_elsewhere, data_elsewhere, text_elsewhere, fault_elsewhere, unfound_name, list_unfound, data_unfound, text_unfound}
 use Rattle.capnp_edits.proofs.Steps.{same_some}
 use Rattle.capnp_edits.proofs.Ways.{DoesAt, Way, becomes, yielded, default_denied, default_dropped, default_ignored, default_put, is_denied, is_done, is_not_allocated}
-use Rattle.capnp_contents.proofs.Listed.{same_tree}
+use Rattle.capnp_contents.proofs.WiderObjects.WhichList.{same_tree}
 use Rattle.capnp_builders.proofs.Openings.{same_error}
 
 -- a small default has few words

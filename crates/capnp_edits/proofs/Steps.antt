@@ -22,7 +22,7 @@ use Rattle.capnp_edits.specs.declared.edit.path.PathEnd.{PathEnd}
 use Rattle.capnp_edits.specs.declared.edit.path.PathEnd.TheVariants.{Pointer as AtPointer, Element as AtElement}
 use Rattle.capnp_edits.specs.Paths.{step_of, found, IsElementFound, IsPathFound, IsEndInside, child_in, element_in, Steps}
 use Rattle.capnp_edits.proofs.Walks.{leads_further, leads_value, list_end, found-append}
-use Rattle.capnp_contents.proofs.Listed.{same_list}
+use Rattle.capnp_contents.proofs.WiderObjects.WhichList.{same_list}
 
 -- the place of a value is inside the message
 pub place_inside : (S : Segments) (s p : ℕ) (t : Tree) (path : List Step) (u q : ℕ) (x : Tree) → PathLeads S (node s p t) path (node u q x) → IsStored S s p t → IsPlace S u q

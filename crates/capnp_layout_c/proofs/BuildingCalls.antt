@@ -24,7 +24,7 @@ use Rattle.capnp_readers.specs.declared.readers.list_reader.ListPlace.{ListPlace
 use Rattle.capnp_readers.specs.Readers.{IsStructPlace, IsListPlace}
 use Rattle.capnp_readers.specs.declared.readers.struct_reader.StructPlace.{StructPlace}
 use Rattle.capnp_making.specs.Makes.{Allocates, CallAt, MakesObject, call_at}
-use Rattle.capnp_contents.proofs.Growing.{object_grows}
+use Rattle.capnp_contents.proofs.Room.PlacesStay.{object_grows}
 use Rattle.capnp_builders.proofs.HeldMade.{child_made}
 use Rattle.capnp_contents.specs.Anew.{OnlyWrites}
 use Rattle.capnp_contents.specs.Rooms.{OpeningFits, UsesMemory}

@@ -21,7 +21,7 @@ use Rattle.capnp_making.specs.Makes.{MakesObject, ObjectStartsAt, call_at}
 use Rattle.capnp_making.specs.Stored.{IsStored}
 use Rattle.capnp_contents.specs.Existing.{struct_list}
 use Rattle.capnp_contents.specs.Initialized.{GivesObject}
-use Rattle.capnp_contents.proofs.ObjectsMade.{made_as}
+use Rattle.capnp_contents.proofs.Room.MadeAfterZeroing.{made_as}
 use Rattle.capnp_readers.specs.declared.readers.list_reader.ListPlace.{ListPlace}
 use Rattle.capnp_builders.specs.Held.{HasStruct, Holder, element_of}
 use Rattle.capnp_builders.specs.Places.{IsListOf, element_place}

@@ -15,8 +15,8 @@ use Rattle.capnp_objects.specs.declared.object.Purpose.TheVariants.{Value}
 use Rattle.capnp_objects.specs.Demands.{amplified_charge, own_charge, tag}
 use Rattle.capnp_objects.specs.Expected.{HasExpected, expectation, fitting, null_pointer}
 use Rattle.capnp_objects.specs.Outcomes.{Entered}
-use Rattle.capnp_objects.proofs.Followed.{entered_leads}
-use Rattle.capnp_objects.proofs.Stops.{leads_pads}
+use Rattle.capnp_objects.proofs.Following.LeadsWhereFollowed.{entered_leads}
+use Rattle.capnp_objects.proofs.WholeValue.ObjectsRefused.{leads_pads}
 use Rattle.capnp_layout_c.specs.Lent.{lent, lent_pointer, no_limit}
 use Rattle.capnp_layout_c.proofs.LentWords.{lent_length}
 

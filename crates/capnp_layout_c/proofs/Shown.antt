@@ -13,7 +13,7 @@ use Rattle.capnp_format.specs.Tree.{Tree, Null, Capability, Struct, Flat, Pointe
 use Rattle.capnp_objects.specs.Outcomes.{MeansThere}
 use Rattle.capnp_objects.specs.Reading.{Reading, source_start}
 use Rattle.capnp_objects.specs.Spending.{Paid}
-use Rattle.capnp_objects.proofs.Followed.{entered_leads}
+use Rattle.capnp_objects.proofs.Following.LeadsWhereFollowed.{entered_leads}
 use Rattle.capnp_objects.specs.Expected.{struct_expected, list_expected, Expectation}
 use Rattle.capnp_readers.specs.Calls.{IsStructRead, IsListRead, AreBytesRead, WhereRead}
 use Rattle.capnp_readers.specs.Readers.{read_by}

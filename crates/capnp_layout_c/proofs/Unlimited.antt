@@ -9,8 +9,8 @@ use Rattle.capnp_objects.specs.Expected.{expectation}
 use Rattle.capnp_objects.specs.Outcomes.{MeansThere}
 use Rattle.capnp_objects.specs.Reading.{Reading}
 use Rattle.capnp_objects.specs.Unexpected.{LeadsToOther}
-use Rattle.capnp_objects.proofs.ExpectedComputed.{withheld_is}
-use Rattle.capnp_objects.proofs.Traversed.{leads_to_other}
+use Rattle.capnp_objects.proofs.OneObject.ExpectedAsStated.{withheld_is}
+use Rattle.capnp_objects.proofs.Budget.TraversalAffordable.{leads_to_other}
 use Rattle.capnp_numbers.specs.Numbers.{error_number}
 use Rattle.capnp_layout_c.specs.Found.{RefusesNumber}
 use Rattle.capnp_layout_c.specs.Lent.{Leaves, LeavesIf, left_over, no_limit, root_left, words_left}

@@ -17,7 +17,7 @@ use Rattle.capnp_objects.specs.Spending.{after_charge, pointers_in}
 use Rattle.capnp_objects.specs.Values.{value}
 use Rattle.capnp_objects.specs.Wanted.{plain}
 use Rattle.capnp_objects.specs.declared.pointers.validate.Extent.{Extent}
-use Rattle.capnp_objects.proofs.OneName.{reads_is}
+use Rattle.capnp_objects.proofs.WholeValue.ValueAsStated.{reads_is}
 use Rattle.capnp_messages.specs.Extents.{root_extent}
 use Rattle.capnp_messages.specs.Messages.{IsReadable, left_of, root_within}
 use Rattle.capnp_messages.proofs.CanonLemmas.{covers_rest}

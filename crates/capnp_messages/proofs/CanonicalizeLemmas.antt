@@ -15,7 +15,7 @@ use Rattle.capnp_objects.specs.Reading.{Reading}
 use Rattle.capnp_objects.specs.Source.{levels}
 use Rattle.capnp_objects.specs.Values.{value}
 use Rattle.capnp_objects.specs.Wanted.{canonical}
-use Rattle.capnp_objects.proofs.OneName.{reads_if}
+use Rattle.capnp_objects.proofs.WholeValue.ValueAsStated.{reads_if}
 use Rattle.capnp_messages.specs.Canonicalize.{canonical_value, canonical_words, canonicalize, end_value, root_end}
 use Rattle.capnp_messages.specs.Copies.{LacksMemoryOr, NeedsMoreRoom, OutgrowsRoom, RefusesCopy}
 use Rattle.capnp_messages.specs.Messages.{IsValueOf, RefusesCanon, left_of, root_within}

@@ -17,13 +17,13 @@ use Rattle.capnp_objects.specs.Source.{levels}
 use Rattle.capnp_objects.specs.Metered.{answer, fits, onward}
 use Rattle.capnp_objects.specs.Spending.{Paid, pointers_in}
 use Rattle.capnp_objects.proofs.Decided.{same_or_not}
-use Rattle.capnp_objects.proofs.Inverted.{no_answer, not_both, same_refusal}
+use Rattle.capnp_objects.proofs.OneObject.ReadInOneWay.{no_answer, not_both, same_refusal}
 use Rattle.capnp_objects.specs.declared.pointers.canonical_fault.CanonicalFault.{CanonicalFault}
 use Rattle.capnp_objects.specs.declared.pointers.canonical_fault.CanonicalFaultReason.TheVariants.{SegmentCount, WordsBehind}
 use Rattle.capnp_objects.specs.Testing.{Verdict, fault_verdict, test_value}
-use Rattle.capnp_objects.proofs.Answered.{can_answers, refused_no_value}
-use Rattle.capnp_objects.proofs.ObjectVerdicts.{test_says}
-use Rattle.capnp_objects.proofs.Verdicts.{Says}
+use Rattle.capnp_objects.proofs.CanonicalTest.AnswersWithinLimits.{can_answers, refused_no_value}
+use Rattle.capnp_objects.proofs.CanonicalTest.VerdictOfObject.{test_says}
+use Rattle.capnp_objects.proofs.CanonicalTest.VerdictsOfParts.{Says}
 use Rattle.capnp_objects.specs.Checking.{HasSmallSegment}
 use Rattle.capnp_messages.specs.CanonicalMessages.{CanBeTested, IsCanonicalMessage, IsCanonicalOf, IsPaid, IsWithinLevels}
 use Rattle.capnp_messages.specs.Check.{check, is_whole, message_tested, whole_fault, whole_result}

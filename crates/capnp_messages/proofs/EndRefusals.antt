@@ -13,7 +13,7 @@ use Rattle.capnp_objects.specs.Reading.{Reading, place_past, segment_read, words
 use Rattle.capnp_objects.specs.Refusals.{Refused}
 use Rattle.capnp_objects.specs.Spending.{after_charge, pointers_in, pointers_in_all}
 use Rattle.capnp_objects.specs.Wanted.{AllowsCapabilities, Form, canonical, plain}
-use Rattle.capnp_objects.proofs.Limits.{not_for_memory, not_for_size}
+use Rattle.capnp_objects.proofs.WholeValue.RefusalsNamed.{not_for_memory, not_for_size}
 use Rattle.capnp_copies.specs.Changes.{ComesToObject}
 use Rattle.capnp_copies.specs.Costs.{spent_until}
 use Rattle.capnp_messages.specs.Canonicalize.{canonical_words, end_value}

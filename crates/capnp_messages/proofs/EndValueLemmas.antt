@@ -12,12 +12,12 @@ use Rattle.capnp_objects.specs.Refusals.{Refused, Stopped}
 use Rattle.capnp_objects.specs.Spending.{after_charge, pointers_in, pointers_in_all}
 use Rattle.capnp_objects.specs.Values.{read_values, value}
 use Rattle.capnp_objects.specs.Wanted.{Form}
-use Rattle.capnp_objects.proofs.Budgets.{after_after, after_none, affords_rest, paid_all, paid_both, paid_one}
-use Rattle.capnp_objects.proofs.Copies.{read_none}
-use Rattle.capnp_objects.proofs.OneName.{reads_is, refused_is}
-use Rattle.capnp_objects.proofs.Refusals.{affords_less}
-use Rattle.capnp_objects.proofs.Shorthands.{RefusedAll}
-use Rattle.capnp_objects.proofs.Valued.{Agree, value_agrees}
+use Rattle.capnp_objects.proofs.Budget.PaidAndLeft.{after_after, after_none, affords_rest, paid_all, paid_both, paid_one}
+use Rattle.capnp_objects.proofs.WholeValue.ChildrenRead.{read_none}
+use Rattle.capnp_objects.proofs.WholeValue.ValueAsStated.{reads_is, refused_is}
+use Rattle.capnp_objects.proofs.WholeValue.UnreadableIfRefused.{affords_less}
+use Rattle.capnp_objects.proofs.WholeValue.Shorthands.{RefusedAll}
+use Rattle.capnp_objects.proofs.WholeValue.ValueAgrees.{Agree, value_agrees}
 use Rattle.capnp_copies.proofs.Shapes.{IsShaped, all_shaped, length-body, means_shaped, trim-shaped}
 use Rattle.capnp_messages.specs.Canonicalize.{end_value}
 use Rattle.capnp_messages.specs.EndValues.{end_original}

@@ -15,8 +15,8 @@ use Rattle.capnp_objects.specs.Source.{levels}
 use Rattle.capnp_objects.specs.Spending.{after_charge, pointers_in}
 use Rattle.capnp_objects.specs.Values.{value}
 use Rattle.capnp_objects.specs.Wanted.{plain}
-use Rattle.capnp_objects.proofs.OneName.{reads_is}
-use Rattle.capnp_objects.proofs.Valued.{Agree, value_agrees}
+use Rattle.capnp_objects.proofs.WholeValue.ValueAsStated.{reads_is}
+use Rattle.capnp_objects.proofs.WholeValue.ValueAgrees.{Agree, value_agrees}
 use Rattle.capnp_objects.specs.Extents.{value_extent, read_extent}
 use Rattle.capnp_objects.specs.declared.pointers.validate.Extent.{Extent}
 use Rattle.capnp_messages.specs.Extents.{HasExtent, root_extent, validate, with_cost, words_taken}

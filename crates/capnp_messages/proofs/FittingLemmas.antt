@@ -24,15 +24,15 @@ use Rattle.capnp_objects.specs.Refusals.{Stopped, broken, StopsWithin, here}
 use Rattle.capnp_objects.specs.Spending.{after_charge}
 use Rattle.capnp_objects.specs.Values.{permit}
 use Rattle.capnp_objects.specs.Wanted.{canonical, FollowsTo}
-use Rattle.capnp_objects.proofs.Budgets.{paid_both, paid_all, paid_elements, affords_none, after_none}
-use Rattle.capnp_objects.proofs.Computed.{capability_is, entering_is, stopped_is}
-use Rattle.capnp_objects.proofs.Copies.{read_none}
+use Rattle.capnp_objects.proofs.Budget.PaidAndLeft.{paid_both, paid_all, paid_elements, affords_none, after_none}
+use Rattle.capnp_objects.proofs.OneObject.ReadAsStated.{capability_is, entering_is, stopped_is}
+use Rattle.capnp_objects.proofs.WholeValue.ChildrenRead.{read_none}
 use Rattle.capnp_objects.proofs.Decided.{same_or_not, within_or_not}
-use Rattle.capnp_objects.proofs.Inverted.{Ends, at_capability, at_object, refused, ends}
-use Rattle.capnp_objects.proofs.Objects.{read_null, read_struct, read_flat, read_pointers, read_structs}
-use Rattle.capnp_objects.proofs.Parts.{claim_list}
-use Rattle.capnp_objects.proofs.Refusals.{stops_struct, stops_pointers, stops_structs}
-use Rattle.capnp_objects.proofs.Valued.{permits, stopped_form}
+use Rattle.capnp_objects.proofs.OneObject.ReadInOneWay.{Ends, at_capability, at_object, refused, ends}
+use Rattle.capnp_objects.proofs.WholeValue.ObjectsRead.{read_null, read_struct, read_flat, read_pointers, read_structs}
+use Rattle.capnp_objects.proofs.OneObject.PartsMeant.{claim_list}
+use Rattle.capnp_objects.proofs.WholeValue.UnreadableIfRefused.{stops_struct, stops_pointers, stops_structs}
+use Rattle.capnp_objects.proofs.WholeValue.ValueAgrees.{permits, stopped_form}
 use Rattle.capnp_copies.specs.Changes.{IsMadeOf, as_struct, as_numbers, as_pointers, as_structs}
 use Rattle.capnp_copies.specs.Costs.{spent_until}
 use Rattle.capnp_messages.proofs.EndValueLemmas.{read_first}

@@ -21,13 +21,13 @@ use Rattle.capnp_objects.specs.Reading.{Reading, word_of, words_from, segment_re
 use Rattle.capnp_objects.specs.Spending.{after_charge}
 use Rattle.capnp_objects.specs.Values.{read_values, read_element_values, object_value, value_within, value}
 use Rattle.capnp_objects.specs.Wanted.{canonical}
-use Rattle.capnp_objects.proofs.Computed.{null_is, capability_is, entering_is, stopped_is}
+use Rattle.capnp_objects.proofs.OneObject.ReadAsStated.{null_is, capability_is, entering_is, stopped_is}
 use Rattle.capnp_objects.proofs.Decided.{same_or_not}
-use Rattle.capnp_objects.proofs.Inverted.{Ends, at_capability, at_object, refused, ends}
-use Rattle.capnp_objects.proofs.OneName.{reads_if}
-use Rattle.capnp_objects.proofs.Parts.{claim_struct, claim_list}
-use Rattle.capnp_objects.proofs.Used.{words_at-more}
-use Rattle.capnp_objects.proofs.Valued.{leaf_is, permits, refusal_is, value_is}
+use Rattle.capnp_objects.proofs.OneObject.ReadInOneWay.{Ends, at_capability, at_object, refused, ends}
+use Rattle.capnp_objects.proofs.WholeValue.ValueAsStated.{reads_if}
+use Rattle.capnp_objects.proofs.OneObject.PartsMeant.{claim_struct, claim_list}
+use Rattle.capnp_objects.proofs.CanonicalForm.UsedWords.{words_at-more}
+use Rattle.capnp_objects.proofs.WholeValue.ValueAgrees.{leaf_is, permits, refusal_is, value_is}
 use Rattle.capnp_copies.specs.Widths.{most_used}
 use Rattle.capnp_copies.proofs.FlatRead.{word_count-flat}
 use Rattle.capnp_copies.proofs.LeastWidths.{means_is_null}

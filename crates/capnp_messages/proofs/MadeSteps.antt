@@ -19,9 +19,9 @@ use Rattle.capnp_objects.specs.Objects.{IsFew, IsHeld, IsObject}
 use Rattle.capnp_objects.specs.Reading.{Reading}
 use Rattle.capnp_objects.specs.Values.{permit}
 use Rattle.capnp_objects.specs.Wanted.{canonical}
-use Rattle.capnp_objects.proofs.Computed.{object_is}
-use Rattle.capnp_objects.proofs.Measured.{one_row}
-use Rattle.capnp_objects.proofs.Walking.{object_inside}
+use Rattle.capnp_objects.proofs.OneObject.ReadAsStated.{object_is}
+use Rattle.capnp_objects.proofs.Sizes.MeasuredBySteps.{one_row}
+use Rattle.capnp_objects.proofs.Budget.OneLevelLess.{object_inside}
 use Rattle.capnp_copies.specs.Widths.{most_used}
 use Rattle.capnp_messages.specs.Fitting.{made_words}
 use Rattle.capnp_messages.specs.MadeWords.{IsInBytes, IsObjectInBytes, has_copy, made_place, made_within, words_of_copy, sum_within}

@@ -12,7 +12,7 @@ use Rattle.capnp_objects.specs.Reading.{Reading, place_past, segment_read, words
 use Rattle.capnp_objects.specs.Refusals.{Refused}
 use Rattle.capnp_objects.specs.Spending.{after_charge, pointers_in_all}
 use Rattle.capnp_objects.specs.Wanted.{canonical}
-use Rattle.capnp_objects.proofs.Limits.{not_for_size}
+use Rattle.capnp_objects.proofs.WholeValue.RefusalsNamed.{not_for_size}
 use Rattle.capnp_copies.proofs.Growth.{covered_by}
 use Rattle.capnp_copies.proofs.WithinBudget.{covered_wanted}
 use Rattle.capnp_messages.specs.Canonicalize.{canonical_words}

@@ -20,9 +20,9 @@ use Rattle.capnp_objects.specs.Reading.{Reading, place_past, tag_size}
 use Rattle.capnp_objects.specs.Refusals.{GoesBefore, in_struct, in_pointers, in_element, StopsWithin, here, below}
 use Rattle.capnp_objects.specs.Spending.{after_charge, pointers_in, pointers_in_all, pointers_in_elements}
 use Rattle.capnp_objects.specs.Wanted.{canonical}
-use Rattle.capnp_objects.proofs.Budgets.{after_after, after_none, affords_rest, paid_all}
-use Rattle.capnp_objects.proofs.Limits.{not_for_size}
-use Rattle.capnp_objects.proofs.Refusals.{unreadable, affords_less}
+use Rattle.capnp_objects.proofs.Budget.PaidAndLeft.{after_after, after_none, affords_rest, paid_all}
+use Rattle.capnp_objects.proofs.WholeValue.RefusalsNamed.{not_for_size}
+use Rattle.capnp_objects.proofs.WholeValue.UnreadableIfRefused.{unreadable, affords_less}
 use Rattle.capnp_copies.specs.Costs.{spent_before, spent_until}
 use Rattle.capnp_messages.specs.Fitting.{fit_within, made_words}
 use Rattle.capnp_messages.proofs.EndValueLemmas.{nothing_read, split}

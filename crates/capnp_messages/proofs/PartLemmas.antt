@@ -20,13 +20,13 @@ use Rattle.capnp_objects.specs.Refusals.{Stopped, claim_exceeds, count_exceeds, 
 use Rattle.capnp_objects.specs.Spending.{Paid, after_charge}
 use Rattle.capnp_objects.specs.Wanted.{FollowsTo, plain}
 use Rattle.capnp_objects.specs.declared.object.Purpose.TheVariants.{Value}
-use Rattle.capnp_objects.proofs.Budgets.{affords_none, affords_rest}
-use Rattle.capnp_objects.proofs.Computed.{capability_is, entering_is, null_is, pads_are, stopped_is}
-use Rattle.capnp_objects.proofs.Faultless.{one_target}
-use Rattle.capnp_objects.proofs.Followed.{leads_to}
-use Rattle.capnp_objects.proofs.Inverted.{affords_or_not}
-use Rattle.capnp_objects.proofs.Parts.{claim_flat, claim_list, claim_struct, extra_flat, extra_list, extra_struct, is_capability, is_inner, is_null, means_parts}
-use Rattle.capnp_objects.proofs.Refusals.{affords_less}
+use Rattle.capnp_objects.proofs.Budget.PaidAndLeft.{affords_none, affords_rest}
+use Rattle.capnp_objects.proofs.OneObject.ReadAsStated.{capability_is, entering_is, null_is, pads_are, stopped_is}
+use Rattle.capnp_objects.proofs.Following.FaultlessWhereMeant.{one_target}
+use Rattle.capnp_objects.proofs.Following.LeadsWhereFollowed.{leads_to}
+use Rattle.capnp_objects.proofs.OneObject.ReadInOneWay.{affords_or_not}
+use Rattle.capnp_objects.proofs.OneObject.PartsMeant.{claim_flat, claim_list, claim_struct, extra_flat, extra_list, extra_struct, is_capability, is_inner, is_null, means_parts}
+use Rattle.capnp_objects.proofs.WholeValue.UnreadableIfRefused.{affords_less}
 use Rattle.capnp_messages.specs.EndValues.{EndMeans, end_place}
 use Rattle.capnp_messages.specs.Parts.{PathEnd, part_of, to_pointer, to_element, pointer_in, end_at, end_in, inside, follow_path, part}
 use Rattle.capnp_messages.specs.Roots.{CoversRoot, message_root, read_message_root}

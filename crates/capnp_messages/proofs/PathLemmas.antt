@@ -15,8 +15,8 @@ use Rattle.capnp_objects.specs.Reading.{Reading}
 use Rattle.capnp_objects.specs.Source.{levels}
 use Rattle.capnp_objects.specs.declared.pointers.Pointer.{Pointer}
 use Rattle.capnp_objects.specs.Pointers.{reading}
-use Rattle.capnp_objects.proofs.Parts.{claim_list, claim_struct}
-use Rattle.capnp_objects.proofs.Walked.{row_within}
+use Rattle.capnp_objects.proofs.OneObject.PartsMeant.{claim_list, claim_struct}
+use Rattle.capnp_objects.proofs.WholeValue.WordsAdded.{row_within}
 use Rattle.capnp_messages.specs.Parts.{end_in, inside, step, to_pointer}
 
 -- Element i of n elements of this width is inside the words of all.

@@ -12,7 +12,7 @@ use Rattle.capnp_objects.specs.Reading.{Reading}
 use Rattle.capnp_objects.specs.Source.{levels}
 use Rattle.capnp_objects.specs.declared.pointers.sizes.MessageSize.{MessageSize}
 use Rattle.capnp_objects.specs.Measure.{measure, only_words}
-use Rattle.capnp_objects.proofs.Counted.{size_is}
+use Rattle.capnp_objects.proofs.Sizes.CountsTheValue.{size_is}
 use Rattle.capnp_messages.specs.Roots.{CoversRoot, RefusesRoot, message_root, read_message_root}
 use Rattle.capnp_messages.specs.Roots.RefusesRoot.{no_root, no_budget}
 use Rattle.capnp_messages.specs.Messages.{HasSizeOf, HasSizeWithin, RefusesSize, message_size, root_within}

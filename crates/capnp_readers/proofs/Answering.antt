@@ -26,10 +26,10 @@ use Rattle.capnp_readers.specs.declared.readers.list_reader.ListReader.{ListRead
 use Rattle.capnp_readers.specs.declared.readers.struct_reader.StructReader.{StructReader}
 use Rattle.capnp_readers.specs.declared.readers.target.Target.{Target as ReadTarget}
 use Rattle.capnp_readers.specs.declared.readers.target.Target.TheVariants.{Null as NullTarget, Cap as CapTarget, Struct as StructTarget, List as ListTarget}
-use Rattle.capnp_objects.proofs.ExpectedComputed.{not_withheld}
-use Rattle.capnp_objects.proofs.Expecting.{IsReadAt, struct_or_null, list_or_null, given_fits}
-use Rattle.capnp_objects.proofs.Faultless.{same_target}
-use Rattle.capnp_objects.proofs.Followed.{entered_leads, leads_there}
+use Rattle.capnp_objects.proofs.OneObject.ExpectedAsStated.{not_withheld}
+use Rattle.capnp_objects.proofs.OneObject.ExpectedBySteps.{IsReadAt, struct_or_null, list_or_null, given_fits}
+use Rattle.capnp_objects.proofs.Following.FaultlessWhereMeant.{same_target}
+use Rattle.capnp_objects.proofs.Following.LeadsWhereFollowed.{entered_leads, leads_there}
 
 -- Elements of the size `found`, with these sections if they are structs, are at least as wide as
 -- those of the expected size.

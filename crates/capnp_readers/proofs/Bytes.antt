@@ -21,10 +21,10 @@ use Rattle.capnp_objects.specs.declared.object.Place.{Place}
 use Rattle.capnp_objects.specs.Outcomes.{Entered, MeansThere}
 use Rattle.capnp_objects.specs.Reading.{Reading}
 use Rattle.capnp_objects.specs.declared.object.Purpose.TheVariants.{Value}
-use Rattle.capnp_objects.proofs.Expecting.{one_level, IsReadAt}
-use Rattle.capnp_objects.proofs.Faultless.{same_target}
-use Rattle.capnp_objects.proofs.Followed.{entered_leads}
-use Rattle.capnp_objects.proofs.Parts.{claim_list, claim_flat}
+use Rattle.capnp_objects.proofs.OneObject.ExpectedBySteps.{one_level, IsReadAt}
+use Rattle.capnp_objects.proofs.Following.FaultlessWhereMeant.{same_target}
+use Rattle.capnp_objects.proofs.Following.LeadsWhereFollowed.{entered_leads}
+use Rattle.capnp_objects.proofs.OneObject.PartsMeant.{claim_list, claim_flat}
 use Rattle.capnp_readers.specs.Calls.{Call, WhereRead, AreBytesRead}
 use Rattle.capnp_readers.specs.Readers.{read_by}
 use Rattle.capnp_readers.specs.Values.{HasValue, list_numbers, place_read}

@@ -12,10 +12,10 @@ use Rattle.capnp_objects.specs.Refusals.{exceeding, leading_nowhere, Stopped, no
 use Rattle.capnp_objects.specs.Wanted.{plain}
 use Rattle.capnp_objects.specs.declared.object.Purpose.TheVariants.{Value}
 use Rattle.capnp_objects.specs.Spending.{Paid}
-use Rattle.capnp_objects.proofs.Budgets.{affords_none, after_none, paid_both, paid_own}
-use Rattle.capnp_objects.proofs.Computed.{capability_is, entering_is, null_is, stopped_is}
+use Rattle.capnp_objects.proofs.Budget.PaidAndLeft.{affords_none, after_none, paid_both, paid_own}
+use Rattle.capnp_objects.proofs.OneObject.ReadAsStated.{capability_is, entering_is, null_is, stopped_is}
 use Rattle.capnp_objects.proofs.Decided.{same_or_not}
-use Rattle.capnp_objects.proofs.Inverted.{Ends, at_capability, at_object, refused, ends}
+use Rattle.capnp_objects.proofs.OneObject.ReadInOneWay.{Ends, at_capability, at_object, refused, ends}
 use Rattle.capnp_objects.specs.CanonicalFaults.{other_reason}
 use Rattle.capnp_objects.specs.Testing.{TestStep, Verdict, elements_tested, fault_unless, flat_tested, is_padded, is_used, near_tested, object_tested, pointers_tested, renamed, rows_tested, some_used, struct_tested, structs_tested, test_values, test_within, unless_fault}
 use Rattle.capnp_objects.specs.Measure.{fold_elements, fold_pointers}

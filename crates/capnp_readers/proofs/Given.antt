@@ -15,11 +15,11 @@ use Rattle.capnp_objects.specs.Reading.{Reading, word_of, tag_size}
 use Rattle.capnp_words.specs.Sizes.{sized}
 use Rattle.capnp_objects.specs.Spending.{after_charge}
 use Rattle.capnp_objects.specs.declared.object.Purpose.TheVariants.{Value}
-use Rattle.capnp_objects.proofs.Expecting.{one_level}
-use Rattle.capnp_objects.proofs.Faultless.{same_target}
-use Rattle.capnp_objects.proofs.Followed.{leads_to}
-use Rattle.capnp_objects.proofs.Parts.{Inner, Parts, is_null, is_capability, is_inner, means_parts}
-use Rattle.capnp_objects.proofs.Refusals.{affords_less}
+use Rattle.capnp_objects.proofs.OneObject.ExpectedBySteps.{one_level}
+use Rattle.capnp_objects.proofs.Following.FaultlessWhereMeant.{same_target}
+use Rattle.capnp_objects.proofs.Following.LeadsWhereFollowed.{leads_to}
+use Rattle.capnp_objects.proofs.OneObject.PartsMeant.{Inner, Parts, is_null, is_capability, is_inner, means_parts}
+use Rattle.capnp_objects.proofs.WholeValue.UnreadableIfRefused.{affords_less}
 use Rattle.capnp_readers.specs.Values.{IsStructOrNull, FitsSize}
 
 -- a call isn't refused for the level or the kind if there is what it expects

@@ -18,7 +18,7 @@ use Rattle.capnp_readers.specs.Sections.{IsInside, IsPart, bytes_for, HoldsPoint
 use Rattle.capnp_objects.specs.Source.{default_segments}
 use Rattle.capnp_arena_traits.specs.declared.arena.reader_arena.ReaderArena.{Ghosts}
 use Rattle.capnp_readers.specs.declared.readers.list_reader.ListReader.{ListReader}
-use Rattle.capnp_objects.proofs.Defaults.{default_at}
+use Rattle.capnp_objects.proofs.Following.DefaultSegments.{default_at}
 
 -- all bytes of a default's whole words
 pub default_whole : (bytes : List ℕ) → words_of (take (8 * (length bytes / 8)) bytes) ≡ segment (default_segments bytes) (2 ^ 32)

@@ -15,12 +15,12 @@ use Rattle.capnp_objects.specs.Outcomes.{MeansThere, Entered}
 use Rattle.capnp_objects.specs.Reading.{Reading, place_past}
 use Rattle.capnp_objects.specs.Spending.{Paid}
 use Rattle.capnp_objects.specs.declared.object.Purpose.TheVariants.{Value}
-use Rattle.capnp_objects.proofs.Budgets.{paid_own}
-use Rattle.capnp_objects.proofs.Expecting.{one_level}
-use Rattle.capnp_objects.proofs.Faultless.{same_target}
-use Rattle.capnp_objects.proofs.Followed.{entered_leads}
-use Rattle.capnp_objects.proofs.Objects.{own_struct, own_flat, own_pointers, own_structs}
-use Rattle.capnp_objects.proofs.Shorthands.{MeanThere}
+use Rattle.capnp_objects.proofs.Budget.PaidAndLeft.{paid_own}
+use Rattle.capnp_objects.proofs.OneObject.ExpectedBySteps.{one_level}
+use Rattle.capnp_objects.proofs.Following.FaultlessWhereMeant.{same_target}
+use Rattle.capnp_objects.proofs.Following.LeadsWhereFollowed.{entered_leads}
+use Rattle.capnp_objects.proofs.WholeValue.ObjectsRead.{own_struct, own_flat, own_pointers, own_structs}
+use Rattle.capnp_objects.proofs.WholeValue.Shorthands.{MeanThere}
 use Rattle.capnp_readers.specs.Calls.{Call, WhereRead, IsStructRead, IsListRead, AreBytesRead}
 use Rattle.capnp_readers.specs.Readers.{read_by}
 use Rattle.capnp_readers.specs.Sizes.{pointers_read}

@@ -17,7 +17,7 @@ use Rattle.capnp_objects.specs.Testing.{IsTestName, Verdict, test_value}
 use Rattle.capnp_objects.specs.declared.pointers.canonical_fault.CanonicalFault.{CanonicalFault}
 use Rattle.capnp_objects.specs.declared.pointers.canonical_fault.CanonicalFaultReason.TheVariants.{SegmentCount}
 use Rattle.capnp_objects.specs.declared.pointers.sizes.MessageSize.{MessageSize}
-use Rattle.capnp_objects.proofs.ReadsAlong.{Along, refused_along, value_along}
+use Rattle.capnp_objects.proofs.CanonicalTest.ReadsAsReading.{Along, refused_along, value_along}
 use Rattle.capnp_messages.specs.Check.{check, whole_fault}
 use Rattle.capnp_messages.specs.Commands.{RefusesAnswer}
 use Rattle.capnp_messages.specs.Extents.{validate, with_cost}

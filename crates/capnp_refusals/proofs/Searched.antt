@@ -10,8 +10,8 @@ use Rattle.capnp_objects.specs.Metered.{Metered, answer, onward, outcome, ◌>>>
 use Rattle.capnp_objects.specs.Reading.{Reading, place_past}
 use Rattle.capnp_objects.specs.Measure.{fold_children, fold_elements, fold_pointers}
 use Rattle.capnp_objects.specs.Sizes.{HasRows}
-use Rattle.capnp_objects.proofs.Measured.{children_in_rows, no_children}
-use Rattle.capnp_objects.proofs.Walked.{beginning}
+use Rattle.capnp_objects.proofs.Sizes.MeasuredBySteps.{children_in_rows, no_children}
+use Rattle.capnp_objects.proofs.WholeValue.WordsAdded.{beginning}
 use Rattle.capnp_refusals.specs.Search.{Finding, demanded, permitted, refused_at, search_elements, search_on, search_place, search_within, unless_found}
 use Rattle.capnp_refusals.specs.declared.refusals.search.Demands.{Demands}
 use Rattle.capnp_refusals.specs.declared.refusals.search.RefusedPointer.{RefusedPointer}

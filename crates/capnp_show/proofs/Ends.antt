@@ -14,9 +14,9 @@ use Rattle.capnp_objects.specs.Source.{levels}
 use Rattle.capnp_objects.specs.Spending.{after_charge, pointers_in}
 use Rattle.capnp_objects.specs.Values.{read_values, value_within, value}
 use Rattle.capnp_objects.specs.Wanted.{plain}
-use Rattle.capnp_objects.proofs.Budgets.{affords_rest, paid_one}
-use Rattle.capnp_objects.proofs.OneName.{reads_is}
-use Rattle.capnp_objects.proofs.Refusals.{affords_less}
+use Rattle.capnp_objects.proofs.Budget.PaidAndLeft.{affords_rest, paid_one}
+use Rattle.capnp_objects.proofs.WholeValue.ValueAsStated.{reads_is}
+use Rattle.capnp_objects.proofs.WholeValue.UnreadableIfRefused.{affords_less}
 use Rattle.capnp_messages.specs.EndValues.{EndMeans, end_place}
 use Rattle.capnp_messages.specs.Parts.{PathEnd, part, to_element, to_pointer}
 use Rattle.capnp_show.specs.Line.{value_line}

@@ -11,7 +11,7 @@ use Rattle.capnp_objects.specs.declared.object.Purpose.TheVariants.{Value}
 use Rattle.capnp_objects.specs.Demands.{claimed_words}
 use Rattle.capnp_objects.specs.Objects.{IsHeld, IsObjectRead}
 use Rattle.capnp_objects.specs.Reading.{Reading, words_from}
-use Rattle.capnp_objects.proofs.Parts.{claim_flat, claim_list}
+use Rattle.capnp_objects.proofs.OneObject.PartsMeant.{claim_flat, claim_list}
 use Rattle.capnp_messages.specs.Parts.{inside}
 use Rattle.capnp_show.specs.Numbers.{flat_numbers}
 

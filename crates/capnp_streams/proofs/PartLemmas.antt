@@ -14,8 +14,8 @@ use Rattle.capnp_objects.specs.Reading.{Reading, place_past}
 use Rattle.capnp_objects.specs.Refusals.{here}
 use Rattle.capnp_objects.specs.Source.{levels}
 use Rattle.capnp_objects.specs.Wanted.{plain}
-use Rattle.capnp_objects.proofs.Inverted.{not_read_if}
-use Rattle.capnp_objects.proofs.Limits.{not_for_memory}
+use Rattle.capnp_objects.proofs.OneObject.ReadInOneWay.{not_read_if}
+use Rattle.capnp_objects.proofs.WholeValue.RefusalsNamed.{not_for_memory}
 use Rattle.capnp_messages.specs.Copies.{RefusesCopy}
 use Rattle.capnp_messages.specs.MessageParts.{RefusesPart, part_within}
 use Rattle.capnp_messages.specs.Parts.{PathEnd, end_at, end_in, follow_path, inside, pointer_in, step, to_element, to_pointer}

@@ -8,7 +8,7 @@ use Rattle.capnp_objects.specs.Reading.{Reading}
 use Rattle.capnp_objects.specs.Source.{levels}
 use Rattle.capnp_objects.specs.Spending.{after_charge, pointers_in}
 use Rattle.capnp_objects.specs.Wanted.{plain}
-use Rattle.capnp_objects.proofs.OneName.{reads_is}
+use Rattle.capnp_objects.proofs.WholeValue.ValueAsStated.{reads_is}
 use Rattle.capnp_objects.specs.Extents.{capped}
 use Rattle.capnp_messages.specs.Messages.{IsReadable, left_of, root_within}
 use Rattle.capnp_messages.specs.Roots.{CoversRoot, RefusesRoot}

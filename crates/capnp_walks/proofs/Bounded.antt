@@ -15,11 +15,11 @@ use Rattle.capnp_objects.specs.Reading.{Reading, word_of}
 use Rattle.capnp_objects.specs.Refusals.{Stopped, Unfollowed, no_target, broken, claim_exceeds, count_exceeds, exceeding, leading_nowhere}
 use Rattle.capnp_objects.specs.Spending.{Paid, after_charge}
 use Rattle.capnp_objects.specs.Wanted.{plain}
-use Rattle.capnp_objects.proofs.Budgets.{fewer_than_words}
-use Rattle.capnp_objects.proofs.Computed.{null_is, capability_is, entering_is, stopped_is}
+use Rattle.capnp_objects.proofs.Budget.PaidAndLeft.{fewer_than_words}
+use Rattle.capnp_objects.proofs.OneObject.ReadAsStated.{null_is, capability_is, entering_is, stopped_is}
 use Rattle.capnp_objects.proofs.Decided.{same_or_not}
-use Rattle.capnp_objects.proofs.Inverted.{Ends, at_capability, at_object, refused, ends}
-use Rattle.capnp_objects.proofs.Objects.{own_pointers, own_struct, own_structs}
+use Rattle.capnp_objects.proofs.OneObject.ReadInOneWay.{Ends, at_capability, at_object, refused, ends}
+use Rattle.capnp_objects.proofs.WholeValue.ObjectsRead.{own_pointers, own_struct, own_structs}
 use Rattle.capnp_objects.specs.Measure.{fold_children, fold_elements, fold_pointers}
 use Rattle.capnp_walks.specs.Listing.{into_list}
 use Rattle.capnp_walks.specs.Walks.{Walking, added, unless_stopped, walk_place, walk_within}

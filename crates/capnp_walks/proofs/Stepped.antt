@@ -11,8 +11,8 @@ use Rattle.capnp_objects.specs.Metered.{Metered, answer, onward}
 use Rattle.capnp_objects.specs.Reading.{Reading, place_past}
 use Rattle.capnp_objects.specs.Measure.{fold_children, fold_elements, fold_pointers}
 use Rattle.capnp_objects.specs.Sizes.{HasRows}
-use Rattle.capnp_objects.proofs.Measured.{children_in_rows, no_children}
-use Rattle.capnp_objects.proofs.Walked.{beginning}
+use Rattle.capnp_objects.proofs.Sizes.MeasuredBySteps.{children_in_rows, no_children}
+use Rattle.capnp_objects.proofs.WholeValue.WordsAdded.{beginning}
 use Rattle.capnp_refusals.specs.Search.{refused_at}
 use Rattle.capnp_refusals.specs.declared.refusals.search.RefusedPointer.{RefusedPointer}
 use Rattle.capnp_walks.specs.Listing.{Collector}

@@ -17,7 +17,7 @@ use Rattle.capnp_format.specs.Segments.{segment}
 use Rattle.capnp_making.specs.Stored.{Puts}
 use Rattle.capnp_making.proofs.Memory.{keeps_both, keeps_then_spends}
 use Rattle.capnp_contents.specs.Anew.{OnlyWrites}
-use Rattle.capnp_contents.proofs.WrittenAnew.{keeps_writes}
+use Rattle.capnp_contents.proofs.MovedPointers.RewrittenInTurn.{keeps_writes}
 use Rattle.capnp_objects.specs.Reading.{Reading, words_from}
 use Rattle.capnp_objects.specs.Wanted.{plain}
 use Rattle.capnp_readers.specs.Readers.{read_by}

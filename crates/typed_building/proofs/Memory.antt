@@ -9,7 +9,7 @@ use Rattle.capnp_making.specs.Memory.{HasRoom, IsRefusedFor, KeepsMemory, TakesW
 use Rattle.capnp_making.proofs.Memory.{keeps_both}
 use Rattle.capnp_making.proofs.Outcomes.{if_err_so, on_made_so}
 use Rattle.capnp_contents.specs.Anew.{OnlyWrites}
-use Rattle.capnp_contents.proofs.WrittenAnew.{keeps_writes, taken_before}
+use Rattle.capnp_contents.proofs.MovedPointers.RewrittenInTurn.{keeps_writes, taken_before}
 
 room_written : (a b : View) (id n : ℕ) → OnlyWrites a b → HasRoom a id n → HasRoom b id n
 room_written a b id n w (inl fits) = inl (omega (arith, fits, w.words id, ap (λ (v : View). v.room id) w.limits))

@@ -21,7 +21,7 @@ use Rattle.capnp_making.proofs.FillingMade.{null_stored}
 use Rattle.capnp_contents.specs.Opening.{Opens, OpensStruct, struct_opened}
 use Rattle.capnp_contents.specs.Rooms.{OpeningFits, WiderListFits}
 use Rattle.capnp_contents.specs.Widened.{fill_elements, limited, list_widened, struct_for_each, struct_for_each_tree}
-use Rattle.capnp_contents.proofs.Listed.{structs_stay, structs_widen}
+use Rattle.capnp_contents.proofs.WiderObjects.WhichList.{structs_stay, structs_widen}
 use Rattle.capnp_readers.specs.Readers.{IsListPlace}
 use Rattle.capnp_readers.specs.Values.{struct_children, struct_data}
 use Rattle.capnp_readers.specs.declared.readers.list_reader.ListPlace.{ListPlace}

@@ -9,7 +9,7 @@ use Rattle.capnp_objects.specs.Reading.{Reading}
 use Rattle.capnp_objects.specs.Spending.{Paid, after_charge, pointers_in}
 use Rattle.capnp_objects.specs.Values.{value}
 use Rattle.capnp_objects.specs.Wanted.{plain}
-use Rattle.capnp_objects.proofs.OneName.{reads_if, reads_is}
+use Rattle.capnp_objects.proofs.WholeValue.ValueAsStated.{reads_if, reads_is}
 use Rattle.typed_conforming.specs.declared.conforms.SchemaPointer.{SchemaPointer}
 use Rattle.typed_conforming.specs.declared.schema.Misfit.{Misfit}
 use Rattle.typed_conforming.specs.Conforms.{Conforms}

@@ -17,11 +17,11 @@ use Rattle.capnp_objects.specs.Objects.{EntersNear, IsObject, near_at}
 use Rattle.capnp_objects.specs.Sizes.{IsWordAt}
 use Rattle.capnp_objects.specs.Reading.{Reading, place_past, segment_read, word_of, words_from}
 use Rattle.capnp_objects.specs.Refusals.{NotRead}
-use Rattle.capnp_objects.proofs.Checks.{pointers_room, struct_room}
-use Rattle.capnp_objects.proofs.Measured.{near_flat}
-use Rattle.capnp_objects.proofs.Parts.{claim_flat, claim_list}
-use Rattle.capnp_objects.proofs.Computed.{entering_is, null_is, object_is, stopped_is}
-use Rattle.capnp_objects.proofs.Walked.{beginning}
+use Rattle.capnp_objects.proofs.CanonicalTest.FoundBySteps.{pointers_room, struct_room}
+use Rattle.capnp_objects.proofs.Sizes.MeasuredBySteps.{near_flat}
+use Rattle.capnp_objects.proofs.OneObject.PartsMeant.{claim_flat, claim_list}
+use Rattle.capnp_objects.proofs.OneObject.ReadAsStated.{entering_is, null_is, object_is, stopped_is}
+use Rattle.capnp_objects.proofs.WholeValue.WordsAdded.{beginning}
 use Rattle.typed_conforming.specs.declared.conforms.ObjectElements.{ObjectElements}
 use Rattle.typed_conforming.specs.declared.schema.Kind.{Kind}
 use Rattle.typed_conforming.specs.declared.schema.Kind.TheVariants.{Any, AnyList, Capability, Data, List as ListKind, Struct, Text, Utf8}

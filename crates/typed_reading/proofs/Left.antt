@@ -10,9 +10,9 @@ use Rattle.capnp_arena_traits.specs.declared.arena.reader_arena.ReaderArena.{Gho
 use Rattle.capnp_objects.specs.Expected.{list_expected, struct_expected}
 use Rattle.capnp_objects.specs.Outcomes.{MeansThere}
 use Rattle.capnp_objects.specs.Reading.{Reading, place_past, source_start}
-use Rattle.capnp_objects.proofs.Budgets.{affords_rest, affords_none}
-use Rattle.capnp_objects.proofs.Refusals.{affords_less}
-use Rattle.capnp_objects.proofs.Shorthands.{MeanThere}
+use Rattle.capnp_objects.proofs.Budget.PaidAndLeft.{affords_rest, affords_none}
+use Rattle.capnp_objects.proofs.WholeValue.UnreadableIfRefused.{affords_less}
+use Rattle.capnp_objects.proofs.WholeValue.Shorthands.{MeanThere}
 use Rattle.capnp_readers.specs.Calls.{WhereRead, IsListRead, IsStructRead}
 use Rattle.capnp_readers.specs.Readers.{read_by}
 use Rattle.capnp_readers.specs.Sizes.{pointers_read}

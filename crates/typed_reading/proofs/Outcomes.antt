@@ -23,10 +23,10 @@ use Rattle.capnp_objects.specs.Wanted.{FollowsTo, plain}
 use Rattle.capnp_objects.specs.declared.object.Expected.{Expected}
 use Rattle.capnp_objects.specs.declared.object.Purpose.TheVariants.{Value}
 use Rattle.capnp_objects.specs.declared.source.Source.TheVariants.{Arena}
-use Rattle.capnp_objects.proofs.Charges.{covers_true, covers_false}
+use Rattle.capnp_objects.proofs.Budget.ChargedAsStated.{covers_true, covers_false}
 use Rattle.capnp_objects.proofs.Decided.{same_or_not, within_or_not}
-use Rattle.capnp_objects.proofs.ExpectedComputed.{fitting_is, given_if, withheld_if, withheld_is}
-use Rattle.capnp_objects.proofs.Expecting.{kind_below_two}
+use Rattle.capnp_objects.proofs.OneObject.ExpectedAsStated.{fitting_is, given_if, withheld_if, withheld_is}
+use Rattle.capnp_objects.proofs.OneObject.ExpectedBySteps.{kind_below_two}
 use Rattle.capnp_readers.specs.Calls.{Call, WhereRead, IsRefused, of_pointer, of_default, short_default, of_null_default, IsStructRead, IsListRead, AreBytesRead}
 use Rattle.capnp_readers.specs.Readers.{read_by}
 use Rattle.capnp_readers.specs.declared.readers.PointerReader.{PointerReader}

@@ -11,8 +11,8 @@ use Rattle.capnp_words.specs.Meter.{Meter}
 use Rattle.capnp_arena_traits.specs.declared.arena.reader_arena.ReaderArena.{Ghosts}
 use Rattle.capnp_objects.specs.declared.source.Source.TheVariants.{Nothing}
 use Rattle.capnp_objects.proofs.Decided.{within_or_not}
-use Rattle.capnp_objects.proofs.Faultless.{same_target}
-use Rattle.capnp_objects.proofs.Followed.{entered_leads}
+use Rattle.capnp_objects.proofs.Following.FaultlessWhereMeant.{same_target}
+use Rattle.capnp_objects.proofs.Following.LeadsWhereFollowed.{entered_leads}
 use Rattle.capnp_objects.specs.Outcomes.{MeansThere}
 use Rattle.capnp_objects.specs.Reading.{Reading, source_start, word_of}
 use Rattle.capnp_objects.specs.Expected.{struct_expected}

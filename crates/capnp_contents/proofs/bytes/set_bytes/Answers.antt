@@ -4,8 +4,8 @@ use Rattle.capnp_format.specs.Segments.{Segments}
 use Rattle.capnp_format.specs.Tree.{Null}
 use Rattle.capnp_arena_traits.specs.View.{View}
 use Rattle.capnp_making.specs.Made.{LeadsToStart}
-use Rattle.capnp_contents.proofs.BytesWritten.{WritesBytes, bytes_target, bytes_written, written_lengths}
-use Rattle.capnp_contents.proofs.OldWords.{old_beside}
+use Rattle.capnp_contents.proofs.ByteLists.BytesWritten.{WritesBytes, bytes_target, bytes_written, written_lengths}
+use Rattle.capnp_contents.proofs.Room.OldWordsStayZero.{old_beside}
 use Rattle.capnp_making.proofs.Taken.{leads_behind, leads_to_end, takes_written}
 use Rattle.capnp_contents.proofs.bytes.set_bytes.Goals as goal
 

@@ -6,7 +6,7 @@ use Rattle.capnp_format.specs.Tree.{Flat}
 use Rattle.capnp_making.specs.Made.{words_of_zero}
 use Rattle.capnp_making.specs.Makes.{MakesObject, call_at}
 use Rattle.capnp_making.specs.Stored.{PutsOnceZeroed}
-use Rattle.capnp_contents.proofs.Growing.{object_grows}
+use Rattle.capnp_contents.proofs.Room.PlacesStay.{object_grows}
 use Rattle.capnp_contents.proofs.bytes.set_text.Goals as goal
 
 -- One byte more: a zero byte after the others.

@@ -1,6 +1,6 @@
 use Rattle.std.proofs.Common.{◌≡◌, ℕ, ◌+◌, ◌-◌, ◌*◌, List, length, slice_set, sym, ap, ◌∙◌, arith}
 use Rattle.capnp_arena_traits.specs.Written.{overwritten}
-use Rattle.capnp_contents.proofs.BytesWritten.{bytes_room, found, put_over}
+use Rattle.capnp_contents.proofs.ByteLists.BytesWritten.{bytes_room, found, put_over}
 use Rattle.capnp_making.proofs.Zeros.{length-over}
 use Rattle.capnp_contents.proofs.bytes.write_bytes.Goals as goal
 

@@ -1,6 +1,6 @@
 use Rattle.std.proofs.Common.{arith}
 use Rattle.capnp_format.proofs.WordsOf.{words}
-use Rattle.capnp_contents.proofs.LastByte.{last_byte}
+use Rattle.capnp_contents.proofs.ByteLists.LastByte.{last_byte}
 use Rattle.capnp_contents.proofs.existing.last_is_zero.Goals as goal
 
 pub returns-then-last-segment-clause-ends : goal.returns-then-last-segment-clause-ends

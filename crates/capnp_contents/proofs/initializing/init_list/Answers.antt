@@ -1,8 +1,8 @@
 use Rattle.capnp_words.specs.Sizes.{size_number}
 use Rattle.capnp_arena_traits.specs.View.{View}
 use Rattle.capnp_making.specs.Made.{zero_list, list_words}
-use Rattle.capnp_contents.proofs.Growing.{object_grows}
-use Rattle.capnp_contents.proofs.ObjectsMade.{gives_after_zeros}
+use Rattle.capnp_contents.proofs.Room.PlacesStay.{object_grows}
+use Rattle.capnp_contents.proofs.Room.MadeAfterZeroing.{gives_after_zeros}
 use Rattle.capnp_making.proofs.Outcomes.{if_ok_so}
 use Rattle.capnp_making.proofs.Taken.{ends_after, starts_after}
 use Rattle.capnp_contents.proofs.initializing.init_list.Goals as goal

@@ -3,8 +3,8 @@ use Rattle.capnp_format.specs.Segments.{Segments}
 use Rattle.capnp_arena_traits.specs.View.{View}
 use Rattle.capnp_making.specs.Made.{zero_struct}
 use Rattle.capnp_making.proofs.MadeWords.{word_put}
-use Rattle.capnp_contents.proofs.Growing.{object_grows}
-use Rattle.capnp_contents.proofs.ObjectsMade.{gives_after_zeros}
+use Rattle.capnp_contents.proofs.Room.PlacesStay.{object_grows}
+use Rattle.capnp_contents.proofs.Room.MadeAfterZeroing.{gives_after_zeros}
 use Rattle.capnp_making.proofs.Outcomes.{on_made_so}
 use Rattle.capnp_contents.proofs.initializing.init_struct.Goals as goal
 

@@ -1,8 +1,8 @@
 use Rattle.std.proofs.Common.{◌+◌, ◌*◌}
 use Rattle.capnp_arena_traits.specs.View.{View}
 use Rattle.capnp_making.specs.Made.{zero_structs}
-use Rattle.capnp_contents.proofs.Growing.{object_grows}
-use Rattle.capnp_contents.proofs.ObjectsMade.{gives_after_zeros}
+use Rattle.capnp_contents.proofs.Room.PlacesStay.{object_grows}
+use Rattle.capnp_contents.proofs.Room.MadeAfterZeroing.{gives_after_zeros}
 use Rattle.capnp_contents.proofs.initializing.init_struct_list.Goals as goal
 
 -- The old object is zeroed, and then the new one is made.

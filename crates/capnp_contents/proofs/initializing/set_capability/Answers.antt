@@ -7,7 +7,7 @@ use Rattle.capnp_making.proofs.Memory.{words_in}
 use Rattle.capnp_making.proofs.Replaced.{replaced_again}
 use Rattle.capnp_making.proofs.Placed.{zeroed_replaced}
 use Rattle.capnp_making.proofs.PlacedStructs.{capability_made}
-use Rattle.capnp_contents.proofs.Growing.{pruned_but_grows}
+use Rattle.capnp_contents.proofs.Room.PlacesStay.{pruned_but_grows}
 use Rattle.capnp_contents.proofs.initializing.set_capability.Goals as goal
 
 -- The old object is zeroed, and then the pointer is set.

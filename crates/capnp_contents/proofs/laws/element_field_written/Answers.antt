@@ -1,4 +1,4 @@
-use Rattle.capnp_contents.proofs.FieldsWritten.{element_field_written}
+use Rattle.capnp_contents.proofs.Fields.FieldWritten.{element_field_written}
 use Rattle.capnp_contents.proofs.laws.element_field_written.Goals as goal
 
 pub returns : goal.returns

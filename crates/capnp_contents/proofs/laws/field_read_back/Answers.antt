@@ -1,4 +1,4 @@
-use Rattle.capnp_contents.proofs.FieldRead.{read_back}
+use Rattle.capnp_contents.proofs.Fields.BitsRead.{read_back}
 use Rattle.capnp_contents.proofs.laws.field_read_back.Goals as goal
 
 pub returns : goal.returns

@@ -1,4 +1,4 @@
-use Rattle.capnp_contents.proofs.FieldRead.{other_stays}
+use Rattle.capnp_contents.proofs.Fields.BitsRead.{other_stays}
 use Rattle.capnp_contents.proofs.laws.other_fields_stay.Goals as goal
 
 pub returns : goal.returns

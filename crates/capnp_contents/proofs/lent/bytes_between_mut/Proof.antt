@@ -41,8 +41,8 @@ use Rattle.capnp_arena_traits.specs.contracts.arena.builder_arena.BuilderArena.s
 use Rattle.capnp_contents.specs.contracts.lent.bytes_between_mut as f
 use Rattle.capnp_contents.proofs.lent.bytes_between_mut.Statement.{statement}
 use Rattle.capnp_contents.proofs.lent.bytes_between_mut.Code as code
-use Rattle.capnp_contents.proofs.BytesWritten.{found}
-use Rattle.capnp_contents.proofs.LentBytes.{lends_part, long}
+use Rattle.capnp_contents.proofs.ByteLists.BytesWritten.{found}
+use Rattle.capnp_contents.proofs.ByteLists.LentBytes.{lends_part, long}
 
 module _ (A : RattleType) (b : Ghosts A.Denot) (bd : Dict) (r : Reads A.Denot) (rd : Dict) (cl : Closes A.Denot) (cd : Dict) where
   abbrev args : Args

@@ -2,8 +2,8 @@ use Rattle.std.proofs.Common.{◌≡◌, ℕ, ◌+◌, ◌-◌, ◌*◌, List, [
 use Rattle.capnp_format.specs.Segments.{Segments}
 use Rattle.capnp_arena_traits.specs.Written.{overwritten}
 use Rattle.capnp_contents.specs.InPlace.{bytes_there, rewritten, segments_with}
-use Rattle.capnp_contents.proofs.InPlaceBytes.{there_got, inside_bytes, count_bytes}
-use Rattle.capnp_contents.proofs.BytesOver.{overwrites}
+use Rattle.capnp_contents.proofs.ByteLists.WrittenInPlace.{there_got, inside_bytes, count_bytes}
+use Rattle.capnp_contents.proofs.ByteLists.FirstBytesWritten.{overwrites}
 use Rattle.capnp_making.proofs.Zeros.{length-over}
 use Rattle.capnp_contents.proofs.lent.bytes_mut.Goals as goal
 

@@ -6,8 +6,8 @@ use Rattle.capnp_making.specs.Made.{words_of_zero, zero_list}
 use Rattle.capnp_contents.specs.InPlace.{bytes_there}
 use Rattle.capnp_making.specs.Makes.{CallAt, call_at}
 use Rattle.capnp_contents.specs.declared.existing.ExistingBytes.{ExistingBytes}
-use Rattle.capnp_contents.proofs.InPlaceBytes.{made_zero}
-use Rattle.capnp_contents.proofs.ObjectsMade.{made_as, refused_as}
+use Rattle.capnp_contents.proofs.ByteLists.WrittenInPlace.{made_zero}
+use Rattle.capnp_contents.proofs.Room.MadeAfterZeroing.{made_as, refused_as}
 use Rattle.capnp_contents.proofs.lent.init_bytes.Goals as goal
 
 pub returns-clause-zero : goal.returns-clause-zero

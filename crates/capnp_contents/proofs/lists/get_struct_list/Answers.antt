@@ -9,16 +9,16 @@ use Rattle.capnp_format.specs.Forest.{target}
 use Rattle.capnp_arena_traits.specs.View.{View}
 use Rattle.capnp_making.specs.Stored.{IsStored}
 use Rattle.capnp_making.proofs.Memory.{keeps_itself}
-use Rattle.capnp_contents.proofs.AnyList.{list_leads, list_widens, none_is_null, null_leads, null_stays, structs_kept, structs_not_anew, unfound_refused}
-use Rattle.capnp_contents.proofs.Listed.{same_list, not_a_list, never_refused, same_refusal}
-use Rattle.capnp_contents.proofs.ListRooms.{not_refused, null_found, found_none}
-use Rattle.capnp_contents.proofs.StructSteps.{nothing_grown}
-use Rattle.capnp_contents.proofs.Refusing.{unfound_spent}
+use Rattle.capnp_contents.proofs.WiderObjects.AnyValue.{list_leads, list_widens, none_is_null, null_leads, null_stays, structs_kept, structs_not_anew, unfound_refused}
+use Rattle.capnp_contents.proofs.WiderObjects.WhichList.{same_list, not_a_list, never_refused, same_refusal}
+use Rattle.capnp_contents.proofs.WiderObjects.WordsOfList.{not_refused, null_found, found_none}
+use Rattle.capnp_contents.proofs.WiderObjects.StructBySteps.{nothing_grown}
+use Rattle.capnp_contents.proofs.Room.GrowthRefused.{unfound_spent}
 use Rattle.capnp_contents.specs.Widened.{list_widened}
 use Rattle.capnp_words.specs.declared.wire_pointer.StructSize.{StructSize}
 use Rattle.capnp_words.specs.declared.wire_pointer.ElementSize.{ElementSize}
 use Rattle.capnp_words.specs.declared.wire_pointer.ElementSize.TheVariants.{Void, Bit, Byte, TwoBytes, FourBytes, EightBytes, Pointer, InlineComposite}
-use Rattle.capnp_contents.proofs.StructsOpened.{no_truth}
+use Rattle.capnp_contents.proofs.OpenedForWriting.StructsOpened.{no_truth}
 use Rattle.capnp_contents.proofs.lists.get_struct_list.Goals as goal
 
 is_composite : (size : ElementSize) → size_number size ≡ 7 → size ≡ InlineComposite

@@ -9,10 +9,10 @@ use Rattle.capnp_contents.specs.declared.existing.ExistingList.{ExistingList}
 use Rattle.capnp_making.specs.Makes.{call_at}
 use Rattle.capnp_contents.specs.RowsRemade.{IsList, StoresRows, as_structs, struct_for}
 use Rattle.capnp_contents.specs.Widened.{limited}
-use Rattle.capnp_contents.proofs.AnyList.{bits_refused}
-use Rattle.capnp_contents.proofs.Listed.{few_enough, too_many}
-use Rattle.capnp_contents.proofs.ListsBecome.{Widens, becomes, in_rows, unwidened, widens}
-use Rattle.capnp_contents.proofs.Refusing.{bits_spent, too_large_spent}
+use Rattle.capnp_contents.proofs.WiderObjects.AnyValue.{bits_refused}
+use Rattle.capnp_contents.proofs.WiderObjects.WhichList.{few_enough, too_many}
+use Rattle.capnp_contents.proofs.WiderObjects.WhatListBecomes.{Widens, becomes, in_rows, unwidened, widens}
+use Rattle.capnp_contents.proofs.Room.GrowthRefused.{bits_spent, too_large_spent}
 use Rattle.capnp_contents.proofs.lists.widen_list.Goals as goal
 
 is_bit : (size : ElementSize) → size_number size ≡ 1 → size ≡ Bit

@@ -8,18 +8,18 @@ use Rattle.capnp_making.specs.Made.{IsGrown, IsShape}
 use Rattle.capnp_making.proofs.MadeWords.{extended_grown, taken_grown, word_put}
 use Rattle.capnp_arena_traits.specs.View.{View}
 use Rattle.capnp_arena_traits.specs.Written.{extended, with_word}
-use Rattle.capnp_contents.proofs.Refusing.{anywhere_refused}
-use Rattle.capnp_contents.proofs.PadRooms.{one_pad}
-use Rattle.capnp_contents.proofs.Rooms.{all_words, none_refused, not_true, not_within, room_still, words_extended, words_taken}
+use Rattle.capnp_contents.proofs.Room.GrowthRefused.{anywhere_refused}
+use Rattle.capnp_contents.proofs.MovedPointers.RoomForPads.{one_pad}
+use Rattle.capnp_contents.proofs.Room.RoomLeft.{all_words, none_refused, not_true, not_within, room_still, words_extended, words_taken}
 use Rattle.capnp_making.specs.Memory.{KeepsMemory}
 use Rattle.capnp_making.proofs.Memory.{keeps_both, keeps_written, words_in}
 use Rattle.capnp_making.proofs.Shapes.{shape_near}
-use Rattle.capnp_contents.proofs.Pointed.{far_written, near_written, no_two_pads, pads_stand, pointed_double, pointed_near, pointed_single, two_pads}
-use Rattle.capnp_contents.proofs.Single.{same_shape}
-use Rattle.capnp_contents.proofs.TakingWords.{put_writes, took_far, took_near}
-use Rattle.capnp_contents.proofs.WrittenAnew.{keeps_writes, writes_both, writes_few, writes_grow}
-use Rattle.capnp_contents.proofs.Statements.{points_to}
-use Rattle.capnp_contents.proofs.Growing.{grows_again}
+use Rattle.capnp_contents.proofs.MovedPointers.PointerWritten.{far_written, near_written, no_two_pads, pads_stand, pointed_double, pointed_near, pointed_single, two_pads}
+use Rattle.capnp_contents.proofs.MovedPointers.OneMoved.{same_shape}
+use Rattle.capnp_contents.proofs.Room.WordsTaken.{put_writes, took_far, took_near}
+use Rattle.capnp_contents.proofs.MovedPointers.RewrittenInTurn.{keeps_writes, writes_both, writes_few, writes_grow}
+use Rattle.capnp_contents.proofs.WiderObjects.Statements.{points_to}
+use Rattle.capnp_contents.proofs.Room.PlacesStay.{grows_again}
 use Rattle.capnp_contents.proofs.moving.set_pointer_to.Goals as goal
 
 -- A near pointer.

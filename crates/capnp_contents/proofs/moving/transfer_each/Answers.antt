@@ -3,14 +3,14 @@ use Rattle.std.proofs.Common.{List, ap, arith, le_antisymm, refl, rules, subst, 
 use Rattle.capnp_making.proofs.Memory.{keeps_both, keeps_itself, keeps_then_spends, words_refused_after}
 use Rattle.capnp_contents.specs.Anew.{WritesAnew}
 use Rattle.capnp_contents.specs.Moved.{Move, Moves}
-use Rattle.capnp_contents.proofs.Movings.{moves_next, moves_some, none_moved}
-use Rattle.capnp_contents.proofs.PadRooms.{Apart, apart_next, apart_none, apart_of, made_apart, pads_at, refused_apart}
-use Rattle.capnp_contents.proofs.Rooms.{all_words}
-use Rattle.capnp_contents.proofs.WrittenAnew.{writes_next, writes_none}
-use Rattle.capnp_contents.proofs.Statements.{row_moves}
+use Rattle.capnp_contents.proofs.MovedPointers.MovedInTurn.{moves_next, moves_some, none_moved}
+use Rattle.capnp_contents.proofs.MovedPointers.RoomForPads.{Apart, apart_next, apart_none, apart_of, made_apart, pads_at, refused_apart}
+use Rattle.capnp_contents.proofs.Room.RoomLeft.{all_words}
+use Rattle.capnp_contents.proofs.MovedPointers.RewrittenInTurn.{writes_next, writes_none}
+use Rattle.capnp_contents.proofs.WiderObjects.Statements.{row_moves}
 use Rattle.capnp_arena_traits.specs.View.{View}
-use Rattle.capnp_contents.proofs.Growing.{grows_again}
-use Rattle.capnp_contents.proofs.Kept.{no_growth}
+use Rattle.capnp_contents.proofs.Room.PlacesStay.{grows_again}
+use Rattle.capnp_contents.proofs.Room.KeptByCalls.{no_growth}
 use Rattle.capnp_contents.proofs.moving.transfer_each.Goals as goal
 
 pub loop-i-init : goal.loop-i-init

@@ -4,8 +4,8 @@ use Rattle.capnp_making.specs.Memory.{KeepsMemory}
 use Rattle.capnp_contents.specs.Anew.{WritesAnew}
 use Rattle.capnp_contents.specs.Moved.{Moves}
 use Rattle.capnp_contents.specs.Rooms.{GrowsByAtMost}
-use Rattle.capnp_contents.proofs.PadRooms.{Apart}
-use Rattle.capnp_contents.proofs.Statements.{row_moves}
+use Rattle.capnp_contents.proofs.MovedPointers.RoomForPads.{Apart}
+use Rattle.capnp_contents.proofs.WiderObjects.Statements.{row_moves}
 use Rattle.capnp_contents.proofs.moving.transfer_each.Given as goal
 
 abbrev pub invariant-loop-i : goal.invariant-loop-i

@@ -13,13 +13,13 @@ use Rattle.capnp_making.proofs.Zeros.{there}
 use Rattle.capnp_making.specs.Memory.{TakesWords}
 use Rattle.capnp_contents.specs.Moved.{CanMove, near_pointers}
 use Rattle.capnp_contents.specs.Rooms.{HasPadRoom}
-use Rattle.capnp_contents.proofs.Basics.{on_both_so}
-use Rattle.capnp_contents.proofs.PadRooms.{fewer_pads, granted_so, made_apart, near_far, none_elsewhere, pad_taken, pads_written}
-use Rattle.capnp_contents.proofs.Pointed.{copied_written, null_written, pad_far}
-use Rattle.capnp_contents.proofs.TakingWords.{put_writes}
-use Rattle.capnp_contents.proofs.WrittenAnew.{keeps_writes, writes_few, writes_grow, writes_one}
-use Rattle.capnp_contents.proofs.Single.{copied_moves, means_nothing, near_moves}
-use Rattle.capnp_contents.proofs.Statements.{WritesPointer, a_move}
+use Rattle.capnp_contents.proofs.MovedPointers.SingleIntervals.{on_both_so}
+use Rattle.capnp_contents.proofs.MovedPointers.RoomForPads.{fewer_pads, granted_so, made_apart, near_far, none_elsewhere, pad_taken, pads_written}
+use Rattle.capnp_contents.proofs.MovedPointers.PointerWritten.{copied_written, null_written, pad_far}
+use Rattle.capnp_contents.proofs.Room.WordsTaken.{put_writes}
+use Rattle.capnp_contents.proofs.MovedPointers.RewrittenInTurn.{keeps_writes, writes_few, writes_grow, writes_one}
+use Rattle.capnp_contents.proofs.MovedPointers.OneMoved.{copied_moves, means_nothing, near_moves}
+use Rattle.capnp_contents.proofs.WiderObjects.Statements.{WritesPointer, a_move}
 use Rattle.capnp_contents.proofs.moving.transfer_pointer.Goals as goal
 
 -- A far pointer or a capability is copied unchanged.

@@ -5,15 +5,15 @@ use Rattle.capnp_making.proofs.Memory.{keeps_both, keeps_itself, keeps_then_spen
 use Rattle.capnp_contents.specs.Anew.{WritesAnew}
 use Rattle.capnp_contents.specs.Moved.{Move, Moves}
 use Rattle.capnp_contents.specs.Rooms.{GrowsByAtMost}
-use Rattle.capnp_contents.proofs.Kept.{lt_next, no_growth, rows_few, some_in_rows}
-use Rattle.capnp_contents.proofs.Movings.{none_moved}
-use Rattle.capnp_contents.proofs.PadRooms.{Apart, apart_none, apart_of, apart_rows, made_apart, refused_apart, row_pads_at}
-use Rattle.capnp_contents.proofs.RowPlaces.{next_row, row_behind_fits, row_inside, row_there}
+use Rattle.capnp_contents.proofs.Room.KeptByCalls.{lt_next, no_growth, rows_few, some_in_rows}
+use Rattle.capnp_contents.proofs.MovedPointers.MovedInTurn.{none_moved}
+use Rattle.capnp_contents.proofs.MovedPointers.RoomForPads.{Apart, apart_none, apart_of, apart_rows, made_apart, refused_apart, row_pads_at}
+use Rattle.capnp_contents.proofs.WiderObjects.RowsInside.{next_row, row_behind_fits, row_inside, row_there}
 use Rattle.capnp_making.proofs.WordsInside.{first_place}
-use Rattle.capnp_contents.proofs.Rows.{rows_moves_next, rows_some}
-use Rattle.capnp_contents.proofs.WrittenAnew.{rows_writes_next, writes_none}
-use Rattle.capnp_contents.proofs.Statements.{rows_moves}
-use Rattle.capnp_contents.proofs.Growing.{grows_again}
+use Rattle.capnp_contents.proofs.MovedPointers.MovedByRows.{rows_moves_next, rows_some}
+use Rattle.capnp_contents.proofs.MovedPointers.RewrittenInTurn.{rows_writes_next, writes_none}
+use Rattle.capnp_contents.proofs.WiderObjects.Statements.{rows_moves}
+use Rattle.capnp_contents.proofs.Room.PlacesStay.{grows_again}
 use Rattle.capnp_contents.proofs.moving.transfer_rows.Goals as goal
 
 -- A row starts within the words of its segment, and the next one a step after it.

@@ -1,7 +1,7 @@
 use Rattle.std.proofs.Common.{◌≢◌, rules}
 use Rattle.capnp_format.specs.Segments.{Segments, word_at}
 use Rattle.capnp_format.specs.Word.{kind}
-use Rattle.capnp_contents.proofs.Unmoving.{near_unmoved}
+use Rattle.capnp_contents.proofs.MovedPointers.PadsZeroed.{near_unmoved}
 use Rattle.capnp_contents.proofs.moving.zero_pads_of_pointer.Goals as goal
 
 pub returns-then-ne : goal.returns-then-ne

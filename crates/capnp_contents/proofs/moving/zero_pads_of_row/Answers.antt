@@ -1,7 +1,7 @@
 use Rattle.capnp_format.specs.Segments.{Segments}
 use Rattle.capnp_making.proofs.Zeros.{pruned_again}
 use Rattle.capnp_making.proofs.Memory.{limits_again}
-use Rattle.capnp_contents.proofs.Unmoving.{unmoves_next}
+use Rattle.capnp_contents.proofs.MovedPointers.PadsZeroed.{unmoves_next}
 use Rattle.capnp_contents.proofs.moving.zero_pads_of_row.Goals as goal
 
 pub loop-i-preserved : goal.loop-i-preserved

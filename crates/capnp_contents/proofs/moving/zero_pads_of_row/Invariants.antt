@@ -1,7 +1,7 @@
 use Rattle.capnp_arena_traits.specs.View.{KeepsLimits}
 use Rattle.capnp_making.specs.Zeroed.{IsPruned}
 use Rattle.capnp_contents.specs.Moved.{Unmoves}
-use Rattle.capnp_contents.proofs.Statements.{row_moves}
+use Rattle.capnp_contents.proofs.WiderObjects.Statements.{row_moves}
 use Rattle.capnp_contents.proofs.moving.zero_pads_of_row.Given as goal
 
 abbrev pub invariant-loop-i : goal.invariant-loop-i

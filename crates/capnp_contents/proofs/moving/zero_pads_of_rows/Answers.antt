@@ -3,10 +3,10 @@ use Rattle.capnp_format.specs.Segments.{Segments}
 use Rattle.capnp_making.proofs.Zeros.{nothing_zeroed, pruned_again, pruned_itself}
 use Rattle.capnp_contents.specs.Moved.{Unmoves}
 use Rattle.capnp_making.proofs.Memory.{limits_again}
-use Rattle.capnp_contents.proofs.RowPlaces.{next_row, row_inside, row_behind_fits}
+use Rattle.capnp_contents.proofs.WiderObjects.RowsInside.{next_row, row_inside, row_behind_fits}
 use Rattle.capnp_making.proofs.WordsInside.{first_place}
-use Rattle.capnp_contents.proofs.Rows.{rows_unmoves_next}
-use Rattle.capnp_contents.proofs.Statements.{rows_moves}
+use Rattle.capnp_contents.proofs.MovedPointers.MovedByRows.{rows_unmoves_next}
+use Rattle.capnp_contents.proofs.WiderObjects.Statements.{rows_moves}
 use Rattle.capnp_contents.proofs.moving.zero_pads_of_rows.Goals as goal
 
 -- A row starts within the words of its segment, and the next one a step after it.

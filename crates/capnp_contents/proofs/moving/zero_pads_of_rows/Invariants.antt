@@ -2,7 +2,7 @@ use Rattle.std.proofs.Common.{◌≡◌, ◌+◌, ◌*◌}
 use Rattle.capnp_arena_traits.specs.View.{KeepsLimits}
 use Rattle.capnp_making.specs.Zeroed.{IsPruned}
 use Rattle.capnp_contents.specs.Moved.{Unmoves}
-use Rattle.capnp_contents.proofs.Statements.{rows_moves}
+use Rattle.capnp_contents.proofs.WiderObjects.Statements.{rows_moves}
 use Rattle.capnp_contents.proofs.moving.zero_pads_of_rows.Given as goal
 
 abbrev pub invariant-loop-i : goal.invariant-loop-i

@@ -2,8 +2,8 @@ use Rattle.std.proofs.Common.{ap, arith, le_antisymm, length, refl, subst, ℕ, 
 use Rattle.capnp_format.specs.Segments.{Segments, segment}
 use Rattle.capnp_words.specs.Sizes.{size_number}
 use Rattle.capnp_making.proofs.Memory.{limits_again, limits_written, words_in}
-use Rattle.capnp_contents.proofs.NumberSteps.{first_numbers_of, in_words, no_numbers_copied, numbers_copied_next}
-use Rattle.capnp_contents.proofs.RowPlaces.{next_row, start_inside, step_fits}
+use Rattle.capnp_contents.proofs.WiderObjects.NumberListBySteps.{first_numbers_of, in_words, no_numbers_copied, numbers_copied_next}
+use Rattle.capnp_contents.proofs.WiderObjects.RowsInside.{next_row, start_inside, step_fits}
 use Rattle.capnp_making.proofs.WordsInside.{first_place}
 use Rattle.capnp_contents.specs.RowsRemade.{AreNumbersCopied}
 use Rattle.capnp_contents.proofs.number_lists.copy_numbers.Goals as goal

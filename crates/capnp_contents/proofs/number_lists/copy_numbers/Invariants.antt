@@ -1,7 +1,7 @@
 use Rattle.std.proofs.Common.{◌≡◌, ◌+◌, ◌*◌}
 use Rattle.capnp_arena_traits.specs.View.{KeepsLimits}
 use Rattle.capnp_contents.specs.RowsRemade.{AreNumbersCopied}
-use Rattle.capnp_contents.proofs.NumberSteps.{first_numbers_of}
+use Rattle.capnp_contents.proofs.WiderObjects.NumberListBySteps.{first_numbers_of}
 use Rattle.capnp_contents.proofs.number_lists.copy_numbers.Given as goal
 
 abbrev pub invariant-loop-i : goal.invariant-loop-i

@@ -1,8 +1,8 @@
 use Rattle.std.proofs.Common.{rules}
 use Rattle.capnp_arena_traits.specs.View.{View}
-use Rattle.capnp_contents.proofs.ListRooms.{none_made, numbers_make}
-use Rattle.capnp_contents.proofs.NumberSteps.{numbers_inside}
-use Rattle.capnp_contents.proofs.Refusing.{outside_spent}
+use Rattle.capnp_contents.proofs.WiderObjects.WordsOfList.{none_made, numbers_make}
+use Rattle.capnp_contents.proofs.WiderObjects.NumberListBySteps.{numbers_inside}
+use Rattle.capnp_contents.proofs.Room.GrowthRefused.{outside_spent}
 use Rattle.capnp_contents.specs.RowsRemade.{IsList}
 use Rattle.capnp_contents.proofs.number_lists.widen_numbers.Goals as goal
 

@@ -3,21 +3,21 @@ use Rattle.std.proofs.Common.{ap, arith, le_of_eq, le_trans, length, lt_of_lt_of
 use Rattle.capnp_format.specs.Segments.{Grows, Segments, segment}
 use Rattle.capnp_format.proofs.Slices.{there}
 use Rattle.capnp_making.proofs.Memory.{keeps_both}
-use Rattle.capnp_contents.proofs.Kept.{few_after}
-use Rattle.capnp_contents.proofs.RowPlaces.{first_fits, near_or_behind, product_fits, rows_fit, some_total, some_words, stands_before, tag_fits, tag_inside}
+use Rattle.capnp_contents.proofs.Room.KeptByCalls.{few_after}
+use Rattle.capnp_contents.proofs.WiderObjects.RowsInside.{first_fits, near_or_behind, product_fits, rows_fit, some_total, some_words, stands_before, tag_fits, tag_inside}
 use Rattle.capnp_contents.specs.Anew.{OnlyWrites, WritesAnew}
-use Rattle.capnp_contents.proofs.StructSteps.{nothing_grown}
-use Rattle.capnp_contents.proofs.TakingWords.{pruned_writes}
-use Rattle.capnp_contents.proofs.WrittenAnew.{ended, keeps_writes, writes_both, writes_few, writes_grow, writes_none}
-use Rattle.capnp_contents.proofs.Growing.{grows_again}
+use Rattle.capnp_contents.proofs.WiderObjects.StructBySteps.{nothing_grown}
+use Rattle.capnp_contents.proofs.Room.WordsTaken.{pruned_writes}
+use Rattle.capnp_contents.proofs.MovedPointers.RewrittenInTurn.{ended, keeps_writes, writes_both, writes_few, writes_grow, writes_none}
+use Rattle.capnp_contents.proofs.Room.PlacesStay.{grows_again}
 use Rattle.capnp_making.proofs.Written.{same_grows}
-use Rattle.capnp_contents.proofs.ListSteps.{ListSteps}
-use Rattle.capnp_contents.proofs.Movings.{none_moved}
-use Rattle.capnp_contents.proofs.NumberSteps.{NumbersCopied, number_moves, number_rows, number_words, numbers_are, numbers_become, numbers_filled, numbers_tag}
-use Rattle.capnp_contents.proofs.RowSteps.{RowsTaken, rows_anew}
+use Rattle.capnp_contents.proofs.WiderObjects.RowListBySteps.{ListSteps}
+use Rattle.capnp_contents.proofs.MovedPointers.MovedInTurn.{none_moved}
+use Rattle.capnp_contents.proofs.WiderObjects.NumberListBySteps.{NumbersCopied, number_moves, number_rows, number_words, numbers_are, numbers_become, numbers_filled, numbers_tag}
+use Rattle.capnp_contents.proofs.WiderObjects.RowsWidened.{RowsTaken, rows_anew}
 use Rattle.capnp_contents.specs.Moved.{Moves}
 use Rattle.capnp_arena_traits.specs.View.{View}
-use Rattle.capnp_contents.proofs.PadRooms.{no_pads}
+use Rattle.capnp_contents.proofs.MovedPointers.RoomForPads.{no_pads}
 use Rattle.capnp_contents.proofs.number_lists.widen_numbers_inside.Goals as goal
 
 -- The room is inside its segment, which has fewer than 2^29 words.

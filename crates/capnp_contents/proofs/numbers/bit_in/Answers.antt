@@ -3,7 +3,7 @@ use Rattle.std.proofs.lemmas.Grind.{common_steps}
 use Rattle.capnp_format.specs.Bytes.{words_of}
 use Rattle.capnp_format.proofs.WordsOf.{words}
 use Rattle.capnp_format.specs.Fields.{field_in}
-use Rattle.capnp_contents.proofs.FieldRead.{bit_read}
+use Rattle.capnp_contents.proofs.Fields.BitsRead.{bit_read}
 use Rattle.capnp_contents.proofs.numbers.bit_in.Goals as goal
 
 pub bounds-bytes-bit : goal.bounds-bytes-bit

@@ -3,10 +3,10 @@ use Rattle.std.proofs.lemmas.List.{length-set}
 use Rattle.capnp_format.specs.Bytes.{message}
 use Rattle.capnp_format.specs.Segments.{Segments}
 use Rattle.capnp_making.specs.Fields.{with_field}
-use Rattle.capnp_contents.proofs.FieldBit.{bit_written}
+use Rattle.capnp_contents.proofs.Fields.BitWritten.{bit_written}
 use Rattle.capnp_arena_traits.proofs.WordsLent.{words_lent}
-use Rattle.capnp_contents.proofs.WithBits.{bit_set, bit_cleared}
-use Rattle.capnp_contents.proofs.Growing.{field_grows}
+use Rattle.capnp_contents.proofs.Fields.BitsReplaced.{bit_set, bit_cleared}
+use Rattle.capnp_contents.proofs.Room.PlacesStay.{field_grows}
 use Rattle.capnp_contents.proofs.numbers.set_bit.Goals as goal
 
 pub bounds-bytes-bit : goal.bounds-bytes-bit

@@ -8,7 +8,7 @@ use Rattle.capnp_format.specs.Fields.{put_field}
 use Rattle.capnp_arena_traits.proofs.WordsLent.{words_lent}
 use Rattle.capnp_making.proofs.FieldBytes.{message_written}
 use Rattle.capnp_format.proofs.FieldBytes.{in_one_word, length-put, words_of-put_field}
-use Rattle.capnp_contents.proofs.Growing.{field_grows}
+use Rattle.capnp_contents.proofs.Room.PlacesStay.{field_grows}
 use Rattle.capnp_contents.proofs.numbers.set_number.Goals as goal
 
 pub slice_bounds-store-end : goal.slice_bounds-store-end

@@ -3,8 +3,8 @@ use Rattle.std.proofs.Common.{◌+◌, false, refl}
 use Rattle.capnp_arena_traits.specs.View.{View}
 use Rattle.capnp_making.proofs.MadeWords.{word_put}
 use Rattle.capnp_making.proofs.Taken.{leads_behind}
-use Rattle.capnp_contents.proofs.StructsOpened.{struct_made, struct_unmade, no_truth}
-use Rattle.capnp_contents.proofs.Growing.{replaced_grows}
+use Rattle.capnp_contents.proofs.OpenedForWriting.StructsOpened.{struct_made, struct_unmade, no_truth}
+use Rattle.capnp_contents.proofs.Room.PlacesStay.{replaced_grows}
 use Rattle.capnp_contents.proofs.opening.new_struct.Goals as goal
 
 pub returns-clause-behind : goal.returns-clause-behind

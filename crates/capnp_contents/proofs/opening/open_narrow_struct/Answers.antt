@@ -2,8 +2,8 @@ use Rattle.std.proofs.Common.{arith}
 use Rattle.capnp_arena_traits.specs.View.{View}
 use Rattle.capnp_making.proofs.Outcomes.{if_ok_so}
 use Rattle.capnp_contents.specs.Opening.{existing_struct}
-use Rattle.capnp_contents.proofs.Listed.{if_err_both}
-use Rattle.capnp_contents.proofs.StructsOpened.{known_opened, struct_unwidened}
+use Rattle.capnp_contents.proofs.WiderObjects.WhichList.{if_err_both}
+use Rattle.capnp_contents.proofs.OpenedForWriting.StructsOpened.{known_opened, struct_unwidened}
 use Rattle.capnp_contents.proofs.opening.open_narrow_struct.Goals as goal
 
 pub returns-clause-opened : goal.returns-clause-opened

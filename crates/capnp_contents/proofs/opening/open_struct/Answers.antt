@@ -1,8 +1,8 @@
 use Rattle.std.proofs.Common.{◌≤◌, inl, inr, sym, ◌∙◌, rules}
 use Rattle.capnp_format.specs.Tree.{Null, Struct}
 use Rattle.capnp_making.proofs.FillingMade.{null_stored}
-use Rattle.capnp_contents.proofs.StructSteps.{no_struct}
-use Rattle.capnp_contents.proofs.StructsOpened.{struct_wide, some_struct, no_truth}
+use Rattle.capnp_contents.proofs.WiderObjects.StructBySteps.{no_struct}
+use Rattle.capnp_contents.proofs.OpenedForWriting.StructsOpened.{struct_wide, some_struct, no_truth}
 use Rattle.capnp_contents.proofs.opening.open_struct.Goals as goal
 
 -- The struct that is there is large enough.

@@ -1,4 +1,4 @@
-use Rattle.capnp_contents.proofs.ListsOpened.{list_opened}
+use Rattle.capnp_contents.proofs.OpenedForWriting.ListsOpened.{list_opened}
 use Rattle.capnp_contents.proofs.opening.open_struct_list.Goals as goal
 
 pub returns-clause-opened : goal.returns-clause-opened

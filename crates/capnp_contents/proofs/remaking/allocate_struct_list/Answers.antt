@@ -6,10 +6,10 @@ use Rattle.capnp_format.specs.Means.{IsTag}
 use Rattle.capnp_making.proofs.MadeWords.{word_put}
 use Rattle.capnp_making.proofs.Memory.{keeps_both, words_in}
 use Rattle.capnp_contents.specs.Rooms.{HasRoomAndPads}
-use Rattle.capnp_contents.proofs.PadRooms.{pads_written}
-use Rattle.capnp_contents.proofs.Rooms.{not_true}
-use Rattle.capnp_contents.proofs.TakingWords.{put_writes}
-use Rattle.capnp_contents.proofs.WrittenAnew.{keeps_writes, taken_after, writes_few}
+use Rattle.capnp_contents.proofs.MovedPointers.RoomForPads.{pads_written}
+use Rattle.capnp_contents.proofs.Room.RoomLeft.{not_true}
+use Rattle.capnp_contents.proofs.Room.WordsTaken.{put_writes}
+use Rattle.capnp_contents.proofs.MovedPointers.RewrittenInTurn.{keeps_writes, taken_after, writes_few}
 use Rattle.capnp_contents.proofs.remaking.allocate_struct_list.Goals as goal
 
 -- The words of the list are allocated, and at most one pad; then the tag is written.

@@ -1,10 +1,10 @@
 use Rattle.std.proofs.Common.{◌≡◌, refl, sym, subst, le_antisymm, le_of_eq}
 use Rattle.capnp_format.specs.Segments.{Segments}
 use Rattle.capnp_making.proofs.Memory.{limits_again}
-use Rattle.capnp_contents.proofs.RowPlaces.{next_row, step_inside, step_fits, steps_apart}
+use Rattle.capnp_contents.proofs.WiderObjects.RowsInside.{next_row, step_inside, step_fits, steps_apart}
 use Rattle.capnp_making.proofs.WordsInside.{first_place}
-use Rattle.capnp_contents.proofs.RowsCopied.{no_words_copied, no_rows_copied, rows_copied_next}
-use Rattle.capnp_contents.proofs.Statements.{CopiedRows}
+use Rattle.capnp_contents.proofs.WiderObjects.RowsCopied.{no_words_copied, no_rows_copied, rows_copied_next}
+use Rattle.capnp_contents.proofs.WiderObjects.Statements.{CopiedRows}
 use Rattle.capnp_contents.proofs.remaking.copy_rows.Goals as goal
 
 pub returns-then-words-eq0-clause-copied : goal.returns-then-words-eq0-clause-copied

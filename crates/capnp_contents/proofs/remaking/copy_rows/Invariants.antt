@@ -1,6 +1,6 @@
 use Rattle.std.proofs.Common.{◌≡◌, ◌+◌, ◌*◌}
 use Rattle.capnp_arena_traits.specs.View.{KeepsLimits}
-use Rattle.capnp_contents.proofs.Statements.{CopiedRows}
+use Rattle.capnp_contents.proofs.WiderObjects.Statements.{CopiedRows}
 use Rattle.capnp_contents.proofs.remaking.copy_rows.Given as goal
 
 abbrev pub invariant-loop-i : goal.invariant-loop-i

@@ -2,15 +2,15 @@ use Rattle.std.proofs.Common.{◌≡◌, ◌+◌, ◌*◌, ◌∙◌, ℕ, sym, 
 use Rattle.capnp_arena_traits.specs.View.{View}
 use Rattle.capnp_format.specs.Segments.{Segments}
 use Rattle.capnp_making.proofs.Memory.{keeps_written, words_refused_after, words_refused_before}
-use Rattle.capnp_contents.proofs.Kept.{few_after, few_before, few_none, grown_between}
-use Rattle.capnp_contents.proofs.Movings.{none_moved}
+use Rattle.capnp_contents.proofs.Room.KeptByCalls.{few_after, few_before, few_none, grown_between}
+use Rattle.capnp_contents.proofs.MovedPointers.MovedInTurn.{none_moved}
 use Rattle.capnp_contents.specs.Moved.{near_pointers}
 use Rattle.capnp_contents.specs.Rooms.{HasPadRoom}
 use Rattle.capnp_contents.specs.RowsRemade.{element_moves}
-use Rattle.capnp_contents.proofs.PadRooms.{near_same_rows, none_elsewhere, pads_written}
-use Rattle.capnp_contents.proofs.Rooms.{same_words}
-use Rattle.capnp_contents.proofs.Rows.{no_moves}
-use Rattle.capnp_contents.proofs.WrittenAnew.{writes_none}
+use Rattle.capnp_contents.proofs.MovedPointers.RoomForPads.{near_same_rows, none_elsewhere, pads_written}
+use Rattle.capnp_contents.proofs.Room.RoomLeft.{same_words}
+use Rattle.capnp_contents.proofs.MovedPointers.MovedByRows.{no_moves}
+use Rattle.capnp_contents.proofs.MovedPointers.RewrittenInTurn.{writes_none}
 use Rattle.capnp_contents.proofs.remaking.move_elements.Goals as goal
 
 -- There are no pointers.

@@ -1,8 +1,8 @@
 use Rattle.std.proofs.Common.{rules}
 use Rattle.capnp_arena_traits.specs.View.{View}
-use Rattle.capnp_contents.proofs.AnyRows.{rows_inside}
-use Rattle.capnp_contents.proofs.ListRooms.{none_made, rows_make}
-use Rattle.capnp_contents.proofs.Refusing.{outside_spent}
+use Rattle.capnp_contents.proofs.WiderObjects.AnyRows.{rows_inside}
+use Rattle.capnp_contents.proofs.WiderObjects.WordsOfList.{none_made, rows_make}
+use Rattle.capnp_contents.proofs.Room.GrowthRefused.{outside_spent}
 use Rattle.capnp_contents.specs.RowsRemade.{StoresRows}
 use Rattle.capnp_contents.proofs.remaking.widen_rows.Goals as goal
 

@@ -6,22 +6,22 @@ use Rattle.capnp_format.specs.Segments.{Grows, Segments, segment}
 use Rattle.capnp_format.proofs.Slices.{there}
 use Rattle.capnp_making.specs.Made.{structs_words}
 use Rattle.capnp_making.proofs.Memory.{keeps_both, keeps_then_spends, spends_then_limits, words_refused_after, words_refused_before}
-use Rattle.capnp_contents.proofs.AnyRows.{are_rows, rows_become}
-use Rattle.capnp_contents.proofs.ListSteps.{ListSteps, old_words}
-use Rattle.capnp_contents.proofs.Kept.{few_after, few_again, few_at_most}
+use Rattle.capnp_contents.proofs.WiderObjects.AnyRows.{are_rows, rows_become}
+use Rattle.capnp_contents.proofs.WiderObjects.RowListBySteps.{ListSteps, old_words}
+use Rattle.capnp_contents.proofs.Room.KeptByCalls.{few_after, few_again, few_at_most}
 use Rattle.capnp_contents.specs.Moved.{near_pointers}
 use Rattle.capnp_contents.specs.Rooms.{HasPadRoom}
 use Rattle.capnp_contents.specs.RowsRemade.{element_moves}
-use Rattle.capnp_contents.proofs.PadRooms.{near_rows_few, near_same_rows, none_elsewhere}
-use Rattle.capnp_contents.proofs.RowPlaces.{first_fits, near_or_behind, product_fits, product_small, rows_fit, rows_small, stands_before, sum_fits, sum_small, tag_fits, tag_inside}
-use Rattle.capnp_contents.proofs.StructSteps.{nothing_grown}
+use Rattle.capnp_contents.proofs.MovedPointers.RoomForPads.{near_rows_few, near_same_rows, none_elsewhere}
+use Rattle.capnp_contents.proofs.WiderObjects.RowsInside.{first_fits, near_or_behind, product_fits, product_small, rows_fit, rows_small, stands_before, sum_fits, sum_small, tag_fits, tag_inside}
+use Rattle.capnp_contents.proofs.WiderObjects.StructBySteps.{nothing_grown}
 use Rattle.capnp_contents.specs.Anew.{OnlyWrites}
-use Rattle.capnp_contents.proofs.TakingWords.{pruned_writes}
-use Rattle.capnp_contents.proofs.WrittenAnew.{ended, keeps_writes, writes_few, writes_grow}
-use Rattle.capnp_contents.proofs.Growing.{grows_again}
+use Rattle.capnp_contents.proofs.Room.WordsTaken.{pruned_writes}
+use Rattle.capnp_contents.proofs.MovedPointers.RewrittenInTurn.{ended, keeps_writes, writes_few, writes_grow}
+use Rattle.capnp_contents.proofs.Room.PlacesStay.{grows_again}
 use Rattle.capnp_making.proofs.Written.{same_grows}
-use Rattle.capnp_contents.proofs.RowSteps.{RowsTaken, RowsUndone, rows_anew, rows_left}
-use Rattle.capnp_contents.proofs.RowsCopied.{rows_copied, rows_filled, tag_copied, tag_head}
+use Rattle.capnp_contents.proofs.WiderObjects.RowsWidened.{RowsTaken, RowsUndone, rows_anew, rows_left}
+use Rattle.capnp_contents.proofs.WiderObjects.RowsCopied.{rows_copied, rows_filled, tag_copied, tag_head}
 use Rattle.capnp_arena_traits.specs.View.{View}
 use Rattle.capnp_contents.proofs.remaking.widen_rows_inside.Goals as goal
 

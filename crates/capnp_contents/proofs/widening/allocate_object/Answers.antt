@@ -7,11 +7,11 @@ use Rattle.std.proofs.lemmas.List.{length-replicate}
 use Rattle.capnp_arena_traits.specs.View.{View}
 use Rattle.capnp_making.specs.Memory.{ComesAfter, Lengthens, TakesWords}
 use Rattle.capnp_making.proofs.Taken.{anywhere_lengthens}
-use Rattle.capnp_contents.proofs.Refusing.{anywhere_refused}
-use Rattle.capnp_contents.proofs.PadRooms.{pads_left}
-use Rattle.capnp_contents.proofs.Rooms.{all_words, less_room, none_refused, not_true, not_within, room_elsewhere, room_still, words_extended, words_taken}
+use Rattle.capnp_contents.proofs.Room.GrowthRefused.{anywhere_refused}
+use Rattle.capnp_contents.proofs.MovedPointers.RoomForPads.{pads_left}
+use Rattle.capnp_contents.proofs.Room.RoomLeft.{all_words, less_room, none_refused, not_true, not_within, room_elsewhere, room_still, words_extended, words_taken}
 use Rattle.capnp_making.proofs.Memory.{words_in}
-use Rattle.capnp_contents.proofs.TakingWords.{stands_near, took_far, took_near}
+use Rattle.capnp_contents.proofs.Room.WordsTaken.{stands_near, took_far, took_near}
 use Rattle.capnp_contents.proofs.widening.allocate_object.Goals as goal
 
 -- Words are allocated in the segment of the pointer.

@@ -1,7 +1,7 @@
 use Rattle.std.proofs.Common.{ap, rules}
 use Rattle.capnp_format.specs.Segments.{Segments}
 use Rattle.capnp_making.proofs.Memory.{words_in}
-use Rattle.capnp_contents.proofs.Copying.{word_copied}
+use Rattle.capnp_contents.proofs.Room.CopiedAtOnce.{word_copied}
 use Rattle.capnp_contents.proofs.widening.copy_words.Goals as goal
 
 pub returns-then-count-eq1 : goal.returns-then-count-eq1

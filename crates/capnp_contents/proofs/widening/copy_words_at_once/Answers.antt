@@ -1,7 +1,7 @@
 use Rattle.std.proofs.Common.{ap, rules}
 use Rattle.capnp_format.specs.Segments.{Segments}
 use Rattle.capnp_making.proofs.Memory.{words_in}
-use Rattle.capnp_contents.proofs.Copying.{copied_at_once}
+use Rattle.capnp_contents.proofs.Room.CopiedAtOnce.{copied_at_once}
 use Rattle.capnp_contents.proofs.widening.copy_words_at_once.Goals as goal
 
 pub returns : goal.returns

@@ -6,7 +6,7 @@ use Rattle.capnp_format.proofs.Lies.{near_leads, reaches_offset}
 use Rattle.capnp_format.proofs.Following.{IsOffsetTo}
 use Rattle.capnp_making.proofs.Memory.{words_in}
 use Rattle.capnp_making.proofs.Shapes.{shape_near, shape_some}
-use Rattle.capnp_contents.proofs.Statements.{IsSettled, settles}
+use Rattle.capnp_contents.proofs.WiderObjects.Statements.{IsSettled, settles}
 use Rattle.std.proofs.lemmas.Bool.Decides.{nat_tests}
 use Rattle.capnp_format.specs.Means.{Leads}
 use Rattle.capnp_format.specs.Forest.{pads_of, times}

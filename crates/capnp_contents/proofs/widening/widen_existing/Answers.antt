@@ -8,11 +8,11 @@ use Rattle.capnp_arena_traits.specs.declared.arena.WordPlace.{WordPlace}
 use Rattle.capnp_making.proofs.Outcomes.{on_err_so, on_made_so, if_ok_so}
 use Rattle.capnp_contents.specs.Moved.{near_pointers}
 use Rattle.capnp_contents.specs.Rooms.{HasRoomAndPads}
-use Rattle.capnp_contents.proofs.Filled.{greater_size, same_wide}
-use Rattle.capnp_contents.proofs.StructSteps.{same_struct, the_struct, wider_words}
+use Rattle.capnp_contents.proofs.WiderObjects.FilledToSize.{greater_size, same_wide}
+use Rattle.capnp_contents.proofs.WiderObjects.StructBySteps.{same_struct, the_struct, wider_words}
 use Rattle.capnp_making.specs.Makes.{call_at}
 use Rattle.capnp_contents.specs.Anew.{BecomesAnew}
-use Rattle.capnp_contents.proofs.Statements.{row_moves}
+use Rattle.capnp_contents.proofs.WiderObjects.Statements.{row_moves}
 use Rattle.capnp_words.specs.declared.wire_pointer.StructSize.{StructSize}
 use Rattle.capnp_contents.proofs.widening.widen_existing.Goals as goal
 use Rattle.capnp_contents.specs.Widened.{fill_words}

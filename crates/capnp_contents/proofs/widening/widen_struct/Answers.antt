@@ -7,16 +7,16 @@ use Rattle.capnp_arena_traits.specs.declared.arena.WordPlace.{WordPlace}
 use Rattle.capnp_making.proofs.Memory.{keeps_both, keeps_then_spends, spends_then_limits, words_refused_after, words_refused_before}
 use Rattle.capnp_contents.specs.Moved.{Moves, MovesSome, Unmoves, near_pointers}
 use Rattle.capnp_contents.specs.Rooms.{HasPadRoom, HasRoomAndPads}
-use Rattle.capnp_contents.proofs.Kept.{few_after, few_again, few_at_most, few_before}
-use Rattle.capnp_contents.proofs.RowPlaces.{near_or_behind}
-use Rattle.capnp_contents.proofs.PadRooms.{near_row_few, near_same_row, none_elsewhere, pads_written}
-use Rattle.capnp_contents.proofs.StructSteps.{by_struct, nothing_grown, row_words, struct_becomes, struct_copied, struct_filled, struct_is, struct_moves, struct_row}
+use Rattle.capnp_contents.proofs.Room.KeptByCalls.{few_after, few_again, few_at_most, few_before}
+use Rattle.capnp_contents.proofs.WiderObjects.RowsInside.{near_or_behind}
+use Rattle.capnp_contents.proofs.MovedPointers.RoomForPads.{near_row_few, near_same_row, none_elsewhere, pads_written}
+use Rattle.capnp_contents.proofs.WiderObjects.StructBySteps.{by_struct, nothing_grown, row_words, struct_becomes, struct_copied, struct_filled, struct_is, struct_moves, struct_row}
 use Rattle.capnp_contents.specs.Anew.{OnlyWrites, WritesAnew}
-use Rattle.capnp_contents.proofs.TakingWords.{pruned_writes}
-use Rattle.capnp_contents.proofs.WrittenAnew.{ended, keeps_writes, writes_both, writes_few, writes_grow}
-use Rattle.capnp_contents.proofs.Statements.{row_moves}
-use Rattle.capnp_contents.proofs.Growing.{grows_again}
-use Rattle.capnp_contents.proofs.RowSteps.{RowSteps, RowsTaken, RowsUndone, rows_anew, rows_left}
+use Rattle.capnp_contents.proofs.Room.WordsTaken.{pruned_writes}
+use Rattle.capnp_contents.proofs.MovedPointers.RewrittenInTurn.{ended, keeps_writes, writes_both, writes_few, writes_grow}
+use Rattle.capnp_contents.proofs.WiderObjects.Statements.{row_moves}
+use Rattle.capnp_contents.proofs.Room.PlacesStay.{grows_again}
+use Rattle.capnp_contents.proofs.WiderObjects.RowsWidened.{RowSteps, RowsTaken, RowsUndone, rows_anew, rows_left}
 use Rattle.capnp_contents.specs.Housed.{object_start}
 use Rattle.capnp_contents.specs.Widened.{GrowsByZeros}
 use Rattle.capnp_making.specs.Memory.{ComesAfter, TakesWords}

@@ -21,9 +21,9 @@ use Rattle.capnp_objects.specs.Source.{levels}
 use Rattle.capnp_objects.specs.Reading.{Reading, place_past, segment_read, word_of, words_from}
 use Rattle.capnp_objects.specs.declared.object.Purpose.TheVariants.{Value}
 use Rattle.capnp_objects.specs.Pointers.{reading}
-use Rattle.capnp_objects.proofs.Checks.{struct_room}
-use Rattle.capnp_objects.proofs.NearRead.{struct_by_word}
-use Rattle.capnp_objects.proofs.Walking.{ok_so, err_so}
+use Rattle.capnp_objects.proofs.CanonicalTest.FoundBySteps.{struct_room}
+use Rattle.capnp_objects.proofs.Following.NearByWord.{struct_by_word}
+use Rattle.capnp_objects.proofs.Budget.OneLevelLess.{ok_so, err_so}
 use Rattle.std.proofs.lemmas.Result.{err_from_is_err_and}
 use Rattle.capnp_arena_traits.specs.View.{View}
 use Rattle.capnp_copies.specs.Changes.{HasNulls}
@@ -45,7 +45,7 @@ use Rattle.capnp_copies.proofs.Originals.{halfway, sections_large, pointers_larg
 use Rattle.capnp_copies.proofs.TightElements.{all_rows}
 use Rattle.capnp_copies.proofs.TooLarge.{no_pointers_room, no_structs_room, no_sections_room}
 use Rattle.capnp_copies.proofs.WordsInside.{child_there, part_inside, behind_inside, rows_inside, one_more, some_more, kept_inside, fewer_words, first_fits, row_fits, product_fits, kept_fits, child_fits, null_fits, children_fit, kept_starts}
-use Rattle.capnp_objects.proofs.Returned.{some_words}
+use Rattle.capnp_objects.proofs.CanonicalTest.ResultFromParts.{some_words}
 use Rattle.capnp_copies.proofs.copy.+copies.Goals as goal
 
 -- Positions fit 32 bits.

@@ -1,6 +1,6 @@
 use Rattle.capnp_objects.specs.Expected.{expectation}
-use Rattle.capnp_objects.proofs.Expecting.{kind_below_two}
-use Rattle.capnp_objects.proofs.ExpectedComputed.{given_is, given_answers, given_if, withheld_is, withheld_if}
+use Rattle.capnp_objects.proofs.OneObject.ExpectedBySteps.{kind_below_two}
+use Rattle.capnp_objects.proofs.OneObject.ExpectedAsStated.{given_is, given_answers, given_if, withheld_is, withheld_if}
 use Rattle.capnp_objects.proofs.laws.expected_computed.Goals as goal
 
 pub returns : goal.returns

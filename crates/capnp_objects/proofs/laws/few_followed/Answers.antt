@@ -1,8 +1,8 @@
 use Rattle.std.proofs.Common.{inl, inr, subst}
-use Rattle.capnp_objects.proofs.Truths.{few_followed, reading_spends}
-use Rattle.capnp_objects.proofs.Refusals.{unreadable, breaks_off_spends}
+use Rattle.capnp_objects.proofs.WholeValue.OutcomesAreTrue.{few_followed, reading_spends}
+use Rattle.capnp_objects.proofs.WholeValue.UnreadableIfRefused.{unreadable, breaks_off_spends}
 use Rattle.capnp_objects.proofs.laws.few_followed.Goals as goal
-use Rattle.capnp_objects.proofs.Unreadable.{Spends}
+use Rattle.capnp_objects.proofs.WholeValue.Unreadable.{Spends}
 
 pub returns : goal.returns
 returns c = λ form r m m' x charging budget outcome.

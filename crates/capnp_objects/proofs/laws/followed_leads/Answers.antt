@@ -1,4 +1,4 @@
-use Rattle.capnp_objects.proofs.Followed.{leads_there}
+use Rattle.capnp_objects.proofs.Following.LeadsWhereFollowed.{leads_there}
 use Rattle.capnp_objects.proofs.laws.followed_leads.Goals as goal
 
 pub returns : goal.returns

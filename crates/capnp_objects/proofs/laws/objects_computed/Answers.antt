@@ -1,6 +1,6 @@
 use Rattle.capnp_objects.specs.declared.object.Purpose.TheVariants.{Value}
-use Rattle.capnp_objects.proofs.Computed.{object_is, entering_is, stopped_is, measured_is}
-use Rattle.capnp_objects.proofs.Inverted.{can_be_read_is, could_be_read_if, not_read_if, not_measured_if}
+use Rattle.capnp_objects.proofs.OneObject.ReadAsStated.{object_is, entering_is, stopped_is, measured_is}
+use Rattle.capnp_objects.proofs.OneObject.ReadInOneWay.{can_be_read_is, could_be_read_if, not_read_if, not_measured_if}
 use Rattle.capnp_objects.proofs.laws.objects_computed.Goals as goal
 
 pub returns : goal.returns

@@ -1,9 +1,9 @@
 use Rattle.capnp_objects.specs.declared.object.Purpose.TheVariants.{Value}
-use Rattle.capnp_objects.proofs.Computed.{stopped_is, measured_is}
-use Rattle.capnp_objects.proofs.ExpectedComputed.{withheld_is}
-use Rattle.capnp_objects.proofs.Inverted.{same_refusal}
-use Rattle.capnp_objects.proofs.OneName.{refused_is}
-use Rattle.capnp_objects.proofs.TypesComputed.{untyped_is}
+use Rattle.capnp_objects.proofs.OneObject.ReadAsStated.{stopped_is, measured_is}
+use Rattle.capnp_objects.proofs.OneObject.ExpectedAsStated.{withheld_is}
+use Rattle.capnp_objects.proofs.OneObject.ReadInOneWay.{same_refusal}
+use Rattle.capnp_objects.proofs.WholeValue.ValueAsStated.{refused_is}
+use Rattle.capnp_objects.proofs.OneObject.TypeAsStated.{untyped_is}
 use Rattle.capnp_objects.proofs.laws.one_name.Goals as goal
 
 pub returns : goal.returns

@@ -1,4 +1,4 @@
-use Rattle.capnp_objects.proofs.Refusals.{unreadable}
+use Rattle.capnp_objects.proofs.WholeValue.UnreadableIfRefused.{unreadable}
 use Rattle.capnp_objects.proofs.laws.refused_rightly.Goals as goal
 
 pub returns : goal.returns

@@ -1,6 +1,6 @@
-use Rattle.capnp_objects.proofs.Truths.{named_truly}
-use Rattle.capnp_objects.proofs.Limits.{limit_named}
-use Rattle.capnp_objects.proofs.Refusals.{unreadable}
+use Rattle.capnp_objects.proofs.WholeValue.OutcomesAreTrue.{named_truly}
+use Rattle.capnp_objects.proofs.WholeValue.RefusalsNamed.{limit_named}
+use Rattle.capnp_objects.proofs.WholeValue.UnreadableIfRefused.{unreadable}
 use Rattle.capnp_objects.proofs.laws.refused_truly.Goals as goal
 
 pub returns-clause-named : goal.returns-clause-named

@@ -1,5 +1,5 @@
-use Rattle.capnp_objects.proofs.Truths.{unlimited_refusal}
-use Rattle.capnp_objects.proofs.Refusals.{unreadable}
+use Rattle.capnp_objects.proofs.WholeValue.OutcomesAreTrue.{unlimited_refusal}
+use Rattle.capnp_objects.proofs.WholeValue.UnreadableIfRefused.{unreadable}
 use Rattle.capnp_objects.proofs.laws.refused_unlimited.Goals as goal
 
 pub returns : goal.returns

@@ -1,4 +1,4 @@
-use Rattle.capnp_objects.proofs.TypesComputed.{typed_is, typed_if, untyped_is, untyped_if}
+use Rattle.capnp_objects.proofs.OneObject.TypeAsStated.{typed_is, typed_if, untyped_is, untyped_if}
 use Rattle.capnp_objects.proofs.laws.types_computed.Goals as goal
 
 pub returns : goal.returns

@@ -8,9 +8,9 @@ use Rattle.capnp_objects.specs.Outcomes.{MeansThere}
 use Rattle.capnp_objects.specs.Reading.{Reading}
 use Rattle.capnp_objects.specs.Values.{value}
 use Rattle.capnp_objects.specs.Wanted.{Form, AllowsCapabilities}
-use Rattle.capnp_objects.proofs.Refusals.{unreadable}
-use Rattle.capnp_objects.proofs.Truths.{unlimited_refusal}
-use Rattle.capnp_objects.proofs.Valued.{Agree, value_agrees}
+use Rattle.capnp_objects.proofs.WholeValue.UnreadableIfRefused.{unreadable}
+use Rattle.capnp_objects.proofs.WholeValue.OutcomesAreTrue.{unlimited_refusal}
+use Rattle.capnp_objects.proofs.WholeValue.ValueAgrees.{Agree, value_agrees}
 use Rattle.capnp_objects.proofs.laws.value_or_fault.Goals as goal
 
 affords_any : (charging : Bool) (x : ℕ) → Affords charging (unused None) x

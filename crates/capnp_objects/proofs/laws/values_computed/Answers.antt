@@ -1,4 +1,4 @@
-use Rattle.capnp_objects.proofs.OneName.{reads_is, refused_is, reads_if, refused_if}
+use Rattle.capnp_objects.proofs.WholeValue.ValueAsStated.{reads_is, refused_is, reads_if, refused_if}
 use Rattle.capnp_objects.proofs.laws.values_computed.Goals as goal
 
 pub returns : goal.returns

@@ -4,7 +4,7 @@ use Rattle.std.proofs.lemmas.Result.{err_from_is_err_and}
 use Rattle.capnp_format.specs.Bytes.{message}
 use Rattle.capnp_format.specs.Word.{is_double, upper_half}
 use Rattle.capnp_arena_traits.proofs.MessageLemmas.{length-message}
-use Rattle.capnp_objects.proofs.Landings.{absent, beyond, known, single, double}
+use Rattle.capnp_objects.proofs.Following.FollowedBySteps.{absent, beyond, known, single, double}
 use Rattle.capnp_objects.proofs.source.follow_far.Goals as goal
 
 pub returns-in_ok-bytes-clause-computed : goal.returns-in_ok-bytes-clause-computed

@@ -4,8 +4,8 @@ use Rattle.capnp_format.specs.Bytes.{message}
 use Rattle.capnp_format.specs.Word.{is_double, far_position, upper_half}
 use Rattle.capnp_format.specs.Segments.{Segments, segment}
 use Rattle.capnp_arena_traits.proofs.MessageLemmas.{length-message}
-use Rattle.capnp_objects.proofs.Charges.{charges}
-use Rattle.capnp_objects.proofs.Landings.{beyond, known, pad_absent, pad_beyond, pad_charged}
+use Rattle.capnp_objects.proofs.Budget.ChargedAsStated.{charges}
+use Rattle.capnp_objects.proofs.Following.FollowedBySteps.{beyond, known, pad_absent, pad_beyond, pad_charged}
 use Rattle.capnp_objects.proofs.source.landing_pad.Goals as goal
 
 pub returns-in_err-bytes-clause-computed : goal.returns-in_err-bytes-clause-computed

@@ -10,7 +10,7 @@ use Rattle.capnp_copies.specs.Forms.{form_of}
 use Rattle.capnp_copies.specs.Originals.{value_original}
 use Rattle.capnp_making.proofs.Outcomes.{if_ok_so, if_err_so}
 use Rattle.capnp_copies.proofs.Growth.{none_itself, none_pruned, taken_so, value_within, until_within}
-use Rattle.capnp_contents.proofs.Growing.{grows_again, pruned_grows}
+use Rattle.capnp_contents.proofs.Room.PlacesStay.{grows_again, pruned_grows}
 use Rattle.capnp_builders.proofs.CopiesHeld.{null_replaced, fresh_copied, alone_copied, put_copied, put_stopped, can_later, copy_grows}
 use Rattle.capnp_making.proofs.Zeros.{pruned_itself}
 use Rattle.capnp_builders.proofs.builders.PointerBuilder.copy_from.Goals as goal

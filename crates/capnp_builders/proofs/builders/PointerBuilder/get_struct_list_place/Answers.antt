@@ -7,7 +7,7 @@ use Rattle.capnp_contents.specs.Rooms.{WiderListFits}
 use Rattle.capnp_contents.specs.RowsRemade.{RefusesWider}
 use Rattle.capnp_builders.specs.Defaults.{object_default}
 use Rattle.capnp_builders.specs.Opening.{OpensList}
-use Rattle.capnp_contents.proofs.Growing.{grows_again}
+use Rattle.capnp_contents.proofs.Room.PlacesStay.{grows_again}
 use Rattle.capnp_builders.proofs.DefaultRooms.{then_fits, refused_default}
 use Rattle.capnp_builders.proofs.DefaultUses.{then_does}
 use Rattle.capnp_builders.proofs.Openings.{list_opens, list_refused, still_there}

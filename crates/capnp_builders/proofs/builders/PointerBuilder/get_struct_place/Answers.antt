@@ -13,7 +13,7 @@ use Rattle.capnp_contents.specs.Opening.{IsNoWider, OpensStruct}
 use Rattle.capnp_contents.specs.Rooms.{OpeningFits}
 use Rattle.capnp_builders.specs.Defaults.{object_default}
 use Rattle.capnp_builders.specs.Opening.{IsStructGiven}
-use Rattle.capnp_contents.proofs.Growing.{grows_again}
+use Rattle.capnp_contents.proofs.Room.PlacesStay.{grows_again}
 use Rattle.capnp_builders.proofs.DefaultRooms.{null_left, then_fits, refused_default}
 use Rattle.capnp_builders.proofs.DefaultUses.{then_does}
 use Rattle.capnp_builders.proofs.Openings.{struct_opens, struct_refused, still_there}

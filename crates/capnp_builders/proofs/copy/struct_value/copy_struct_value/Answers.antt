@@ -7,7 +7,7 @@ use Rattle.capnp_format.proofs.Slices.{length_words}
 use Rattle.capnp_arena_traits.specs.View.{View}
 use Rattle.capnp_objects.specs.Reading.{Reading, words_from}
 use Rattle.capnp_readers.specs.Sizes.{pointers_read}
-use Rattle.capnp_objects.proofs.Walking.{ok_so, err_so}
+use Rattle.capnp_objects.proofs.Budget.OneLevelLess.{ok_so, err_so}
 use Rattle.std.proofs.lemmas.Result.{err_from_is_err_and}
 use Rattle.capnp_making.specs.Makes.{call_at}
 use Rattle.capnp_copies.specs.Changes.{copy_call}

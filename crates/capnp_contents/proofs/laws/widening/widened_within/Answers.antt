@@ -2,7 +2,7 @@ use Rattle.capnp_format.specs.Tree.{Struct, Structs}
 use Rattle.capnp_format.specs.Path.{update}
 use Rattle.capnp_making.proofs.Replaced.{replaced_within}
 use Rattle.capnp_contents.specs.Widened.{widened}
-use Rattle.capnp_contents.proofs.CanonicalWords.{struct_within, list_within}
+use Rattle.capnp_contents.proofs.WiderObjects.SameCanonicalWords.{struct_within, list_within}
 use Rattle.capnp_contents.proofs.laws.widening.widened_within.Goals as goal
 
 pub returns-clause-structs : goal.returns-clause-structs

@@ -17,7 +17,7 @@ use Rattle.std.proofs.lemmas.Result.{err_from_is_err_and}
 use Rattle.capnp_copies.proofs.FlatRead.{word_count-flat}
 use Rattle.capnp_copies.proofs.FilledValues.{read_stops, FlatOutcome, flat_value, flat_stops}
 use Rattle.capnp_copies.proofs.Growth.{taken_so, read_stop_taken, flat_takes, flat_stop_takes}
-use Rattle.capnp_objects.proofs.NearRead.{flat_by_word}
+use Rattle.capnp_objects.proofs.Following.NearByWord.{flat_by_word}
 use Rattle.capnp_copies.proofs.copy.children.copy_near_primitive_list.Goals as goal
 
 pub returns-in_err-start : goal.returns-in_err-start

@@ -19,7 +19,7 @@ use Rattle.capnp_making.proofs.PlacedStructs.{IsListMade, structs_lead, structs_
 use Rattle.capnp_making.proofs.Shapes.{shape_near, shape_some}
 use Rattle.capnp_making.proofs.Taken.{extended_lengthens, lengthens_written}
 use Rattle.capnp_making.proofs.Zeros.{pruned_itself, there}
-use Rattle.capnp_contents.proofs.ObjectsMade.{gives_after_zeros}
+use Rattle.capnp_contents.proofs.Room.MadeAfterZeroing.{gives_after_zeros}
 use Rattle.capnp_layout_c.proofs.building.near.put_structs.Goals as goal
 
 -- The words of the list are allocated after those of the segment, and then its pointer and its tag

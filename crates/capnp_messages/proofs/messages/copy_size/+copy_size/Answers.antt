@@ -9,10 +9,10 @@ use Rattle.capnp_objects.specs.Objects.{IsObject}
 use Rattle.capnp_objects.specs.declared.object.Purpose.TheVariants.{Value}
 use Rattle.capnp_objects.specs.Reading.{Reading, place_past}
 use Rattle.capnp_objects.specs.Pointers.{reading, reading_on}
-use Rattle.capnp_objects.proofs.Falls.{falls_in}
-use Rattle.capnp_objects.proofs.Measured.{no_pointers, one_more, one_stops, row_more, row_stops}
-use Rattle.capnp_objects.proofs.Returned.{inner_levels}
-use Rattle.capnp_objects.proofs.Computed.{object_is, stopped_is}
+use Rattle.capnp_objects.proofs.Budget.MeasuresFall.{falls_in}
+use Rattle.capnp_objects.proofs.Sizes.MeasuredBySteps.{no_pointers, one_more, one_stops, row_more, row_stops}
+use Rattle.capnp_objects.proofs.CanonicalTest.ResultFromParts.{inner_levels}
+use Rattle.capnp_objects.proofs.OneObject.ReadAsStated.{object_is, stopped_is}
 use Rattle.capnp_messages.specs.MadeWords.{made_within}
 use Rattle.capnp_messages.proofs.MadeSteps.{Counted, leaf_counted, no_copy, pointers_counted, struct_counted, structs_counted, structs_inside, structs_level, sum_over, unread}
 use Rattle.capnp_messages.proofs.messages.copy_size.+copy_size.Goals as goal

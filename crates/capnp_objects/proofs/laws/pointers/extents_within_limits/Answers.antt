@@ -1,4 +1,4 @@
-use Rattle.capnp_objects.proofs.ExtentBounds.{within_limits}
+use Rattle.capnp_objects.proofs.Validation.ExtentWithinLimits.{within_limits}
 use Rattle.capnp_objects.proofs.laws.pointers.extents_within_limits.Goals as goal
 
 pub returns : goal.returns

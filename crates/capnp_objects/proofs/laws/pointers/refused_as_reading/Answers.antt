@@ -1,5 +1,5 @@
 use Rattle.std.proofs.Common.{subst}
-use Rattle.capnp_objects.proofs.ReadsAlong.{Along, refused_along, value_along, values_along}
+use Rattle.capnp_objects.proofs.CanonicalTest.ReadsAsReading.{Along, refused_along, value_along, values_along}
 use Rattle.capnp_objects.proofs.laws.pointers.refused_as_reading.Goals as goal
 
 pub returns : goal.returns

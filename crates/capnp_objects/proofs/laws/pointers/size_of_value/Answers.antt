@@ -1,7 +1,7 @@
 use Rattle.std.proofs.Common.{ap, arith}
 use Rattle.capnp_format.proofs.Bounds.{means_value}
 use Rattle.capnp_format.proofs.Trimming.{trim-words}
-use Rattle.capnp_objects.proofs.Counted.{size_is}
+use Rattle.capnp_objects.proofs.Sizes.CountsTheValue.{size_is}
 use Rattle.capnp_objects.proofs.laws.pointers.size_of_value.Goals as goal
 
 pub returns-clause-size : goal.returns-clause-size

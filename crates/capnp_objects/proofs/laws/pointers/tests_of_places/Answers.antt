@@ -1,7 +1,7 @@
 use Rattle.std.proofs.Common.{subst}
-use Rattle.capnp_objects.proofs.Answered.{found_if, found_is}
-use Rattle.capnp_objects.proofs.ObjectVerdicts.{test_says}
-use Rattle.capnp_objects.proofs.Verdicts.{Says}
+use Rattle.capnp_objects.proofs.CanonicalTest.AnswersWithinLimits.{found_if, found_is}
+use Rattle.capnp_objects.proofs.CanonicalTest.VerdictOfObject.{test_says}
+use Rattle.capnp_objects.proofs.CanonicalTest.VerdictsOfParts.{Says}
 use Rattle.capnp_objects.proofs.laws.pointers.tests_of_places.Goals as goal
 
 pub returns : goal.returns

@@ -1,6 +1,6 @@
 use Rattle.std.proofs.Common.{subst}
-use Rattle.capnp_objects.proofs.ObjectVerdicts.{test_values_say}
-use Rattle.capnp_objects.proofs.Verdicts.{AllSay}
+use Rattle.capnp_objects.proofs.CanonicalTest.VerdictOfObject.{test_values_say}
+use Rattle.capnp_objects.proofs.CanonicalTest.VerdictsOfParts.{AllSay}
 use Rattle.capnp_objects.proofs.laws.pointers.tests_of_pointers.Goals as goal
 
 pub returns : goal.returns

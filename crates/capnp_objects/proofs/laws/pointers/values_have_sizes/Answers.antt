@@ -1,4 +1,4 @@
-use Rattle.capnp_objects.proofs.Counted.{has_size}
+use Rattle.capnp_objects.proofs.Sizes.CountsTheValue.{has_size}
 use Rattle.capnp_objects.proofs.laws.pointers.values_have_sizes.Goals as goal
 
 pub returns : goal.returns

@@ -1,5 +1,5 @@
 use Rattle.std.proofs.Common.{rules}
-use Rattle.capnp_objects.proofs.Returned.{inner_levels}
+use Rattle.capnp_objects.proofs.CanonicalTest.ResultFromParts.{inner_levels}
 use Rattle.capnp_objects.proofs.pointers.Pointer.inside.Goals as goal
 
 pub returns-clause-levels : goal.returns-clause-levels

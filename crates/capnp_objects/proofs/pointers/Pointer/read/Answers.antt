@@ -3,7 +3,7 @@ use Rattle.std.proofs.lemmas.Int.{to_z-of_z}
 use mir.Syntax.{w32}
 use Rattle.capnp_objects.specs.Reading.{Reading}
 use Rattle.capnp_objects.specs.Pointers.{reading}
-use Rattle.capnp_objects.proofs.Shapes.{object_read, was_read}
+use Rattle.capnp_objects.proofs.OneObject.ShapeOfWord.{object_read, was_read}
 use Rattle.capnp_objects.proofs.pointers.Pointer.read.Goals as goal
 
 pub returns : goal.returns

@@ -5,7 +5,7 @@ use Rattle.capnp_objects.specs.Reading.{Reading}
 use Rattle.capnp_objects.specs.Source.{levels}
 use Rattle.capnp_objects.specs.Pointers.{reading}
 use Rattle.capnp_objects.specs.Validation.{validate_place}
-use Rattle.capnp_objects.proofs.Extents.{Found, found, start, stopped}
+use Rattle.capnp_objects.proofs.Validation.ExtentOfTheReading.{Found, found, start, stopped}
 use Rattle.capnp_objects.proofs.pointers.Pointer.validate.Goals as goal
 
 pub overflow_sub-result : goal.overflow_sub-result

@@ -12,14 +12,14 @@ use Rattle.capnp_objects.specs.Reading.{Reading, word_of, place_past}
 use Rattle.capnp_objects.specs.declared.object.Purpose.TheVariants.{Value}
 use Rattle.capnp_objects.specs.Pointers.{reading_on}
 use Rattle.capnp_objects.specs.Checking.{IsTested, StartsRight}
-use Rattle.capnp_objects.proofs.Checks.{tested, pointers_room, struct_room, pointers_here, structs_here}
-use Rattle.capnp_objects.proofs.Falls.{falls_below, falls_in}
-use Rattle.capnp_objects.proofs.Rooms.{flat_room, flat_short, flat_size, last_of, pointers_fit, row_end, row_fits, some_section}
-use Rattle.capnp_objects.proofs.Returned.{structs_room_at, inner_levels, object_is, struct_read}
+use Rattle.capnp_objects.proofs.CanonicalTest.FoundBySteps.{tested, pointers_room, struct_room, pointers_here, structs_here}
+use Rattle.capnp_objects.proofs.Budget.MeasuresFall.{falls_below, falls_in}
+use Rattle.capnp_objects.proofs.CanonicalTest.EndsWithin.{flat_room, flat_short, flat_size, last_of, pointers_fit, row_end, row_fits, some_section}
+use Rattle.capnp_objects.proofs.CanonicalTest.ResultFromParts.{structs_room_at, inner_levels, object_is, struct_read}
 use Rattle.capnp_objects.proofs.pointers.canonical.+tests.Goals.{test_elements-then-is_data_used, test_elements-else-is_data_used, test_elements-then-are_pointers_used, test_elements-else-are_pointers_used}
 use Rattle.capnp_objects.specs.Testing.{elements_tested, is_used, pointers_tested, some_used, test_within, unless_fault, test_values, struct_tested, structs_tested, step_result}
-use Rattle.capnp_objects.proofs.Measured.{one_more, row_more}
-use Rattle.capnp_objects.proofs.Tested.{decides, empty_elsewhere, empty_there, flat_ends, flat_there, list_elsewhere, list_is, list_level, none_wide, not_near_is, not_there_is, null_tested, pointers_stop, pointers_there, refused_here, rows_halt, rows_pass, rows_stop, rows_wide, rows_wide_in_pointers, step_stopped, stopped, struct_elsewhere, struct_is, struct_there, structs_there, used_more}
+use Rattle.capnp_objects.proofs.Sizes.MeasuredBySteps.{one_more, row_more}
+use Rattle.capnp_objects.proofs.CanonicalTest.TestedBySteps.{decides, empty_elsewhere, empty_there, flat_ends, flat_there, list_elsewhere, list_is, list_level, none_wide, not_near_is, not_there_is, null_tested, pointers_stop, pointers_there, refused_here, rows_halt, rows_pass, rows_stop, rows_wide, rows_wide_in_pointers, step_stopped, stopped, struct_elsewhere, struct_is, struct_there, structs_there, used_more}
 use Rattle.capnp_objects.proofs.pointers.canonical.+tests.Goals as goal
 
 -- The elements of a list start after its tag.

@@ -3,7 +3,7 @@ use Rattle.std.proofs.lemmas.Int.{to_z-of_z}
 use mir.Syntax.{w32}
 use Rattle.capnp_objects.specs.Reading.{Reading}
 use Rattle.capnp_objects.specs.Pointers.{reading_on}
-use Rattle.capnp_objects.proofs.Tested.{flat_elsewhere, flat_ends, flat_is, flat_there, refused_here, stopped}
+use Rattle.capnp_objects.proofs.CanonicalTest.TestedBySteps.{flat_elsewhere, flat_ends, flat_is, flat_there, refused_here, stopped}
 use Rattle.capnp_objects.proofs.pointers.canonical.test_near_primitive_list.Goals as goal
 
 pub returns-in-Err : goal.returns-in-Err

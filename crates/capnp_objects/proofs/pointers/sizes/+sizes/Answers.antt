@@ -11,8 +11,8 @@ use Rattle.capnp_objects.specs.Outcomes.{Entered}
 use Rattle.capnp_objects.specs.Reading.{Reading, place_past, word_of}
 use Rattle.capnp_objects.specs.Measure.{fold_pointers, measure_within, shape_size}
 use Rattle.capnp_objects.specs.Pointers.{reading, reading_on}
-use Rattle.capnp_objects.proofs.Measured.{measure_err, object_added, object_over, capability_ends, null_added, one_more, one_stops, row_more, row_stops, no_pointers, no_capability, no_children, children_in_rows, ended_err, near_struct}
-use Rattle.capnp_objects.proofs.Walking.{one_level_in, Opened, object_level, object_inside}
+use Rattle.capnp_objects.proofs.Sizes.MeasuredBySteps.{measure_err, object_added, object_over, capability_ends, null_added, one_more, one_stops, row_more, row_stops, no_pointers, no_capability, no_children, children_in_rows, ended_err, near_struct}
+use Rattle.capnp_objects.proofs.Budget.OneLevelLess.{one_level_in, Opened, object_level, object_inside}
 use Rattle.capnp_objects.proofs.pointers.sizes.+sizes.Goals as goal
 
 pub add_object-returns-in-Err : goal.add_object-returns-in-Err

@@ -5,7 +5,7 @@ use Rattle.capnp_format.specs.Word.{kind, element_size, list_count}
 use Rattle.capnp_format.specs.Numbers.{words_for}
 use Rattle.capnp_objects.specs.Reading.{Reading, word_of}
 use Rattle.capnp_objects.specs.Pointers.{reading_on}
-use Rattle.capnp_objects.proofs.Measured.{measure_err, near_flat, words_end}
+use Rattle.capnp_objects.proofs.Sizes.MeasuredBySteps.{measure_err, near_flat, words_end}
 use Rattle.capnp_objects.proofs.pointers.sizes.add_primitive_list.Goals as goal
 
 pub returns-in-Err : goal.returns-in-Err

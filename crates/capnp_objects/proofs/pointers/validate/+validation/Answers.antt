@@ -9,11 +9,11 @@ use Rattle.capnp_objects.specs.Reading.{Reading, place_past, word_of}
 use Rattle.capnp_objects.specs.Measure.{fold_pointers}
 use Rattle.capnp_objects.specs.Pointers.{reading, reading_on}
 use Rattle.capnp_objects.specs.Validation.{tally_shape, tally_words, validate_within}
-use Rattle.capnp_objects.proofs.Falls.{falls_in}
-use Rattle.capnp_objects.proofs.Measured.{no_pointers, one_more, one_stops, row_more, row_stops}
-use Rattle.capnp_objects.proofs.Returned.{inner_levels}
-use Rattle.capnp_objects.proofs.Validated.{null_valid, object_ends, object_opens, stopped_result, struct_opens, unread}
-use Rattle.capnp_objects.proofs.Walking.{Opened, object_inside, object_level}
+use Rattle.capnp_objects.proofs.Budget.MeasuresFall.{falls_in}
+use Rattle.capnp_objects.proofs.Sizes.MeasuredBySteps.{no_pointers, one_more, one_stops, row_more, row_stops}
+use Rattle.capnp_objects.proofs.CanonicalTest.ResultFromParts.{inner_levels}
+use Rattle.capnp_objects.proofs.Validation.ValidatedBySteps.{null_valid, object_ends, object_opens, stopped_result, struct_opens, unread}
+use Rattle.capnp_objects.proofs.Budget.OneLevelLess.{Opened, object_inside, object_level}
 use Rattle.capnp_objects.proofs.pointers.validate.+validation.Goals as goal
 
 pub validate_pointer-returns-then-is_null : goal.validate_pointer-returns-then-is_null

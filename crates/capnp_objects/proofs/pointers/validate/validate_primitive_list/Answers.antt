@@ -7,8 +7,8 @@ use Rattle.capnp_objects.specs.declared.object.Purpose.TheVariants.{Value}
 use Rattle.capnp_objects.specs.Objects.{EntersNear}
 use Rattle.capnp_objects.specs.Reading.{Reading}
 use Rattle.capnp_objects.specs.Pointers.{reading_on}
-use Rattle.capnp_objects.proofs.Returned.{inner_levels}
-use Rattle.capnp_objects.proofs.Validated.{flat_ends, unread}
+use Rattle.capnp_objects.proofs.CanonicalTest.ResultFromParts.{inner_levels}
+use Rattle.capnp_objects.proofs.Validation.ValidatedBySteps.{flat_ends, unread}
 use Rattle.capnp_objects.proofs.pointers.validate.validate_primitive_list.Goals as goal
 
 pub returns-in-Err : goal.returns-in-Err

@@ -8,7 +8,7 @@ use Rattle.capnp_objects.specs.Entering.{found_target, enter_plain}
 use Rattle.capnp_objects.specs.Metered.{onward, answer}
 use Rattle.capnp_objects.specs.Reading.{Reading, pointer_at, word_of}
 use Rattle.capnp_objects.specs.Source.{levels}
-use Rattle.capnp_objects.proofs.Landings.{near_found}
+use Rattle.capnp_objects.proofs.Following.FollowedBySteps.{near_found}
 use Rattle.capnp_objects.proofs.source.Source.enter_near.Goals as goal
 
 pub charge_claim-requires : goal.charge_claim-requires

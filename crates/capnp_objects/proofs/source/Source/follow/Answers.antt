@@ -2,7 +2,7 @@ use Rattle.std.proofs.Common.{◌≡◌, ◌≢◌, Err, length, ap, ◌∙◌, 
 use Rattle.capnp_format.specs.Word.{kind}
 use Rattle.capnp_format.specs.Segments.{segment}
 use Rattle.capnp_objects.specs.Reading.{Reading, pointer_at}
-use Rattle.capnp_objects.proofs.Landings.{near_followed, far_followed, segments_of_word, default_refused}
+use Rattle.capnp_objects.proofs.Following.FollowedBySteps.{near_followed, far_followed, segments_of_word, default_refused}
 use Rattle.capnp_objects.proofs.source.Source.follow.Goals as goal
 
 pub follow_far-requires-clause-some : goal.follow_far-requires-clause-some

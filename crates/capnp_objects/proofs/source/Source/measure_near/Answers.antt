@@ -5,7 +5,7 @@ use Rattle.capnp_objects.specs.Demands.{IsVoidList, IsStructList}
 use Rattle.capnp_objects.specs.declared.object.Purpose.TheVariants.{Size}
 use Rattle.capnp_objects.specs.Reading.{Reading, pointer_at, word_of}
 use Rattle.capnp_objects.specs.Source.{levels}
-use Rattle.capnp_objects.proofs.Shapes.{near_read, near_entered}
+use Rattle.capnp_objects.proofs.OneObject.ShapeOfWord.{near_read, near_entered}
 use Rattle.capnp_objects.proofs.source.Source.measure_near.Goals as goal
 
 pub returns : goal.returns

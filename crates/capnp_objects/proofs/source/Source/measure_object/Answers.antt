@@ -2,7 +2,7 @@ use Rattle.std.proofs.Common.{w32}
 use Rattle.std.proofs.lemmas.Int.{to_z-of_z}
 use Rattle.capnp_objects.specs.declared.object.Purpose.TheVariants.{Size}
 use Rattle.capnp_objects.specs.Reading.{Reading, reading_at}
-use Rattle.capnp_objects.proofs.Shapes.{object_read}
+use Rattle.capnp_objects.proofs.OneObject.ShapeOfWord.{object_read}
 use Rattle.capnp_objects.proofs.source.Source.measure_object.Goals as goal
 
 pub returns : goal.returns

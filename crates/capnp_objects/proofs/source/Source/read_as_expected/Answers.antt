@@ -6,7 +6,7 @@ use Rattle.capnp_objects.specs.Metered.{onward}
 use Rattle.capnp_objects.specs.Reading.{Reading, reading_at, word_of}
 use Rattle.capnp_objects.specs.Source.{levels}
 use Rattle.capnp_objects.specs.Values.{enter_expected}
-use Rattle.capnp_objects.proofs.Expecting.{one_level}
+use Rattle.capnp_objects.proofs.OneObject.ExpectedBySteps.{one_level}
 use Rattle.capnp_objects.proofs.source.Source.read_as_expected.Goals as goal
 
 pub returns : goal.returns

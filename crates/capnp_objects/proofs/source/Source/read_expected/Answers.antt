@@ -1,8 +1,8 @@
 use Rattle.std.proofs.Common.{w32}
 use Rattle.std.proofs.lemmas.Int.{to_z-of_z}
 use Rattle.capnp_objects.specs.Reading.{Reading, reading_at}
-use Rattle.capnp_objects.proofs.Expecting.{expect_read, expect_given}
-use Rattle.capnp_objects.proofs.ExpectedComputed.{given_exactly, expect_refused}
+use Rattle.capnp_objects.proofs.OneObject.ExpectedBySteps.{expect_read, expect_given}
+use Rattle.capnp_objects.proofs.OneObject.ExpectedAsStated.{given_exactly, expect_refused}
 use Rattle.capnp_objects.proofs.source.Source.read_expected.Goals as goal
 
 pub returns : goal.returns

@@ -3,7 +3,7 @@ use Rattle.capnp_format.specs.Word.{kind}
 use Rattle.capnp_objects.specs.Demands.{IsStructList}
 use Rattle.capnp_objects.specs.declared.object.Purpose.TheVariants.{Value}
 use Rattle.capnp_objects.specs.Reading.{Reading, pointer_at, word_of}
-use Rattle.capnp_objects.proofs.Shapes.{near_read, near_entered, near_refused}
+use Rattle.capnp_objects.proofs.OneObject.ShapeOfWord.{near_read, near_entered, near_refused}
 use Rattle.capnp_objects.proofs.source.Source.read_near_struct.Goals as goal
 
 pub enter_near-requires-clause-claimed : goal.enter_near-requires-clause-claimed

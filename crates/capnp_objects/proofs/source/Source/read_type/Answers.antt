@@ -1,5 +1,5 @@
 use Rattle.capnp_objects.specs.Reading.{Reading, reading_at}
-use Rattle.capnp_objects.proofs.TypesComputed.{typed_ok, typed_exactly, untyped_refused}
+use Rattle.capnp_objects.proofs.OneObject.TypeAsStated.{typed_ok, typed_exactly, untyped_refused}
 use Rattle.capnp_objects.proofs.source.Source.read_type.Goals as goal
 
 pub returns : goal.returns

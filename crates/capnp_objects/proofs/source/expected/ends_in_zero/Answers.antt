@@ -2,7 +2,7 @@ use Rattle.std.proofs.Common.{◌≡◌, ◌+◌, ◌-◌, ◌*◌, ◌/◌, ◌
 use Rattle.std.proofs.lemmas.Nat.{and_mask}
 use Rattle.capnp_format.specs.Bytes.{words_of}
 use Rattle.capnp_objects.specs.Reading.{list_byte}
-use Rattle.capnp_objects.proofs.TextEnds.{last_of_bytes}
+use Rattle.capnp_objects.proofs.OneObject.LastByteOfText.{last_of_bytes}
 use Rattle.capnp_objects.proofs.source.expected.ends_in_zero.Goals as goal
 
 pub returns : goal.returns

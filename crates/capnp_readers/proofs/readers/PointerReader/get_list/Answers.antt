@@ -1,5 +1,5 @@
 use Rattle.std.proofs.Common.{inl, inr, refl}
-use Rattle.capnp_objects.proofs.Expecting.{IsReadAt, list_given}
+use Rattle.capnp_objects.proofs.OneObject.ExpectedBySteps.{IsReadAt, list_given}
 use Rattle.capnp_readers.specs.Readers.{read_by}
 use Rattle.capnp_readers.specs.declared.readers.target.Target.TheVariants.{List}
 use Rattle.capnp_objects.specs.Expected.{list_expected}

@@ -1,5 +1,5 @@
 use Rattle.std.proofs.Common.{inl, inr, refl}
-use Rattle.capnp_objects.proofs.Expecting.{IsReadAt, struct_given}
+use Rattle.capnp_objects.proofs.OneObject.ExpectedBySteps.{IsReadAt, struct_given}
 use Rattle.capnp_readers.specs.Readers.{read_by}
 use Rattle.capnp_objects.specs.Expected.{struct_expected}
 use Rattle.capnp_readers.specs.Values.{place_read}

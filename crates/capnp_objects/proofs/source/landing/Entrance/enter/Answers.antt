@@ -3,7 +3,7 @@ use Rattle.capnp_format.specs.Word.{kind}
 use Rattle.capnp_format.specs.Segments.{Target}
 use Rattle.capnp_objects.specs.Entering.{found_target, entered_from}
 use Rattle.capnp_objects.specs.Reading.{Reading}
-use Rattle.capnp_objects.proofs.Entries.{object_enters, plain_is, reads_as}
+use Rattle.capnp_objects.proofs.OneObject.EnteredBySteps.{object_enters, plain_is, reads_as}
 use Rattle.capnp_objects.proofs.source.landing.Entrance.enter.Goals as goal
 
 pub returns-in-Struct : goal.returns-in-Struct

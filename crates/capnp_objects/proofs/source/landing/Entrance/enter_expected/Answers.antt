@@ -2,7 +2,7 @@ use Rattle.std.proofs.Common.{◌∙◌, sym, ap}
 use Rattle.capnp_objects.specs.Enter.{object_shape}
 use Rattle.capnp_objects.specs.Entering.{found_target, entered_from}
 use Rattle.capnp_objects.specs.Metered.{answer, onward, refuse_if}
-use Rattle.capnp_objects.proofs.Expecting.{entered_expected}
+use Rattle.capnp_objects.proofs.OneObject.ExpectedBySteps.{entered_expected}
 use Rattle.capnp_objects.proofs.source.landing.Entrance.enter_expected.Goals as goal
 
 pub returns-in-Some-mismatch_error : goal.returns-in-Some-mismatch_error

@@ -2,7 +2,7 @@ use Rattle.std.proofs.Common.{◌≡◌, ◌∙◌, arith}
 use Rattle.capnp_format.specs.Segments.{Target}
 use Rattle.capnp_format.specs.Word.{element_size}
 use Rattle.capnp_objects.specs.Entering.{found_target, entered_from}
-use Rattle.capnp_objects.proofs.Entries.{plain_is, is_void, is_composite, void_is, structs_is, reads_as}
+use Rattle.capnp_objects.proofs.OneObject.EnteredBySteps.{plain_is, is_void, is_composite, void_is, structs_is, reads_as}
 use Rattle.capnp_objects.proofs.source.landing.Entrance.enter_list.Goals as goal
 
 pub returns-in-InlineComposite : goal.returns-in-InlineComposite

@@ -1,0 +1,22 @@
+-- Structs and lists that are made wider.
+pub mod AnyRows
+pub mod AnyValue
+pub mod FilledToSize
+pub mod FillingKeepsForm
+pub mod ListsWidened
+pub mod NewRowsBySteps
+pub mod NumberListBySteps
+pub mod RemadeBySteps
+pub mod RemadeElsewhere
+pub mod RemadeKeeps
+pub mod RowListBySteps
+pub mod RowsCopied
+pub mod RowsInside
+pub mod RowsWidened
+pub mod SameCanonicalWords
+pub mod Statements
+pub mod StructBySteps
+pub mod WhatListBecomes
+pub mod WhichList
+pub mod WidenedIsFilledUp
+pub mod WordsOfList

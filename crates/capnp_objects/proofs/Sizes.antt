@@ -1,0 +1,4 @@
+-- The walk for the size of a value.
+pub mod CountsTheValue
+pub mod MeasuredBySteps
+pub mod WordsPaid

@@ -1,0 +1,4 @@
+-- The walk that validates a value.
+pub mod ExtentOfTheReading
+pub mod ExtentWithinLimits
+pub mod ValidatedBySteps
