@@ -26,7 +26,7 @@ PARTS = {
     'capnp_canon': (
         'inputs=capnp_canon::inputs', 'diffs=capnp_canon::diffs', '=capnp_canon', '=main', 'streams=capnp_streams', 'show=capnp_show',
         'io=std_io', 'io=std_fs', 'io=core::fmt', 'layer=', 'typed=typed_streams', 'typed=typed_conforming', 'schema=capnp_canon::schema',
-        'schema=capnpc_schema', 'schema=schema_reading', 'schema=typed_reading', 'schema=capnp_readers', 'schema=capnp_builders', 'schema=capnp_contents',
+        'schema=capnpc_schema', 'schema=schema_reading', 'schema=typed_reading', 'schema=capnp_readers', 'schema=capnp_builders', 'schema=capnp_in_place',
     ),
 }
 CLANG = '''#!/bin/sh

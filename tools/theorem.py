@@ -38,14 +38,14 @@ PARTS = {'1': ('1', '2', '3'), '2': ('4', '5'), '3': ('6',)}
 # The first file of definitions of each part, and the order of files. Files that aren't named come last.
 BEGIN = {'1': 'capnp_messages/Messages', '2': 'capnp_format/Forest', '3': 'capnp_messages/Messages'}
 ORDER = (
-    'capnp_messages/Messages', 'capnp_messages/CanonicalMessages', 'capnp_messages/Roots', 'capnp_words/Meter', 'capnp_objects/Source',
+    'capnp_messages/Messages', 'capnp_messages/CanonicalMessages', 'capnp_messages/Roots', 'capnp_words/Meter', 'capnp_pointers/Source',
     'capnp_arena_traits/Limits', 'capnp_arena_traits/Allocations', 'capnp_format/Tree', 'capnp_format/Value', 'capnp_format/Bytes', 'capnp_format/Means',
     'capnp_format/Segments', 'capnp_format/Word', 'capnp_format/Numbers', 'capnp_format/Canonical',
     'capnp_format/Forest', 'capnp_edits/Paths', 'capnp_format/Path', 'capnp_edits/Tasks', 'capnp_edits/Edits', 'callers/Truly', 'capnp_edits/Sources',
-    'capnp_making/Made', 'capnp_format/Fields', 'capnp_making/Fields', 'capnp_contents/Existing', 'capnp_contents/Opening', 'capnp_contents/Widened', 'capnp_builders/Defaults',
+    'capnp_allocation/Made', 'capnp_format/Fields', 'capnp_allocation/Fields', 'capnp_in_place/Existing', 'capnp_in_place/Opening', 'capnp_in_place/Widened', 'capnp_builders/Defaults',
     'capnp_builders/Content', 'capnp_copies/Forms',
-    'capnp_objects/Reading', 'capnp_objects/Outcomes', 'capnp_objects/Spending', 'capnp_objects/Wanted', 'capnp_objects/Faults', 'capnp_objects/Demands',
-    'capnp_objects/Refusals', 'capnp_objects/Expected', 'capnp_objects/Follow', 'capnp_words/Sizes', 'capnp_arena_traits/View', 'capnp_arena_traits/Checks',
+    'capnp_pointers/Reading', 'capnp_pointers/Outcomes', 'capnp_pointers/Spending', 'capnp_pointers/Wanted', 'capnp_pointers/Faults', 'capnp_pointers/Demands',
+    'capnp_pointers/Refusals', 'capnp_pointers/Expected', 'capnp_pointers/Follow', 'capnp_words/Sizes', 'capnp_arena_traits/View', 'capnp_arena_traits/Checks',
 )
 # The notation of the definitions: the words of the standard library that a line explains, how they are written, what that means.
 WORDS = (

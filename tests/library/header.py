@@ -16,7 +16,7 @@ HEADER = (TOP / 'bindings/c/capnp_canonical.h').read_text(encoding='utf-8')
 NUMBERS = ''.join((TOP / f'crates/{it}/specs/Numbers.antt').read_text(encoding='utf-8') for it in ('capnp_numbers', 'capnp_canonical'))
 # The header for reading, whose refusals have the same numbers.
 LAYOUT = (TOP / 'bindings/c/capnp_layout.h').read_text(encoding='utf-8')
-REASONS = (TOP / 'crates/capnp_objects/specs/CanonicalFaults.antt').read_text(encoding='utf-8')
+REASONS = (TOP / 'crates/capnp_pointers/specs/CanonicalFaults.antt').read_text(encoding='utf-8')
 EXPORTS = ''.join(it.read_text(encoding='utf-8') for it in sorted((TOP / 'crates/capnp_canonical/src').glob('*.rt')))
 PREFIX = 'CAPNP_CANONICAL_'
 # The other files that have the header's version.

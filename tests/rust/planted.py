@@ -27,7 +27,7 @@ IN_CRATE = (
     ('a bound is moved', f'{MODULES}/capnp_words/read_limiter.rs', 'left < amount', 'left <= amount'),
     ('operands are swapped', f'{MODULES}/capnp_words/words.rs', 'words - lanes', 'lanes - words'),
     ('another word is read', f'{MODULES}/capnp_words/words.rs', 'let word = &bytes[i..i + 8];', 'let word = &bytes[i + 1..i + 9];'),
-    ('a check is left out', f'{MODULES}/capnp_objects/nesting.rs', 'nesting_limit.max(0) as u32', 'nesting_limit as u32'),
+    ('a check is left out', f'{MODULES}/capnp_pointers/nesting.rs', 'nesting_limit.max(0) as u32', 'nesting_limit as u32'),
     ('another refusal', f'{MODULES}/capnp_arena/arena/null_allocator.rs', 'Err(ErrorKind::AllocationFailed)', 'Err(ErrorKind::UnknownPointerType)'),
     ('a departure is changed', f'{MODULES}/capnp_arena/arena/builder_arena_impl.rs', 'if let Some((mut allocator, listed, apart)) = self.take_apart()', 'if let Some((mut allocator, apart, listed)) = self.take_apart()'),
     ('unsafe code is allowed', f'{MODULES}/mod.rs', '#![forbid(unsafe_code)]\n', ''),

@@ -54,10 +54,10 @@ sys.path.insert(0, str(TOP / 'tools'))
 from libraries import Crates
 
 # What the crates of a schema depend on, and the programs over them.
-READERS = 'capnp_format capnp_words capnp_arena_traits capnp_objects capnp_readers typed_reading'
-PROGRAM = 'capnp_format capnp_words capnp_arena_traits capnp_arena capnp_framing capnp_objects capnp_readers typed_reading'
+READERS = 'capnp_format capnp_words capnp_arena_traits capnp_pointers capnp_readers typed_reading'
+PROGRAM = 'capnp_format capnp_words capnp_arena_traits capnp_arena capnp_framing capnp_pointers capnp_readers typed_reading'
 CHECKING = 'typed_conforming typed_checking'
-BUILT_ON = 'capnp_making capnp_contents capnp_copies capnp_builders typed_building'
+BUILT_ON = 'capnp_allocation capnp_in_place capnp_copies capnp_builders typed_building'
 PARTS = 'ours', 'fields', 'bugs', 'random', 'versions', 'odd', 'page'
 # Faults that `capnp decode` finds and upstream doesn't, in landing pads of two words; that the programs don't look at, since they don't
 # read what any pointer leads to. And `capnp decode` prints no capabilities.

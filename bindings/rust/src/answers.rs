@@ -1,7 +1,7 @@
 //! What the calls return.
 use crate::texts;
 use capnp_layout::proved::capnp_messages::messages::{Command, Form, MessageExtent};
-use capnp_layout::proved::capnp_objects::pointers::{
+use capnp_layout::proved::capnp_pointers::pointers::{
     CanonicalFault, CanonicalFaultReason, MessageSize,
 };
 use core::fmt;

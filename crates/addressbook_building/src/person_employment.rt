@@ -3,8 +3,8 @@ ghost use Rattle.std.specs.Prelude.{◌≡◌, ◌≢◌, ◌<◌, ◌≤◌, �
 ghost use Rattle.capnp_format.specs.Numbers.{words_for};
 ghost use Rattle.capnp_format.specs.Segments.{Grows};
 ghost use Rattle.capnp_format.specs.Tree.{Flat, Null, Struct, Trees};
-ghost use Rattle.capnp_making.specs.Makes.{Allocates};
-ghost use Rattle.capnp_contents.specs.Anew.{OnlyWrites};
+ghost use Rattle.capnp_allocation.specs.Makes.{Allocates};
+ghost use Rattle.capnp_in_place.specs.Anew.{OnlyWrites};
 ghost use Rattle.capnp_builders.specs.Held.{HasStruct, Holder, ReplacesField, SetsField, call_in};
 ghost use Rattle.capnp_builders.specs.Places.{field};
 ghost use Rattle.typed_building.specs.Members.{MakesMember, tagged};

@@ -3,10 +3,10 @@ ghost use Rattle.std.specs.Prelude.{◌≡◌, ◌≢◌, ◌<◌, ◌≤◌, �
 ghost use Rattle.capnp_format.specs.Numbers.{words_for};
 ghost use Rattle.capnp_format.specs.Segments.{Grows, IsPlace};
 ghost use Rattle.capnp_format.specs.Tree.{Flat, Null, Struct, Tree, Trees};
-ghost use Rattle.capnp_making.specs.Made.{nulls, words_of_zero, zero_struct};
-ghost use Rattle.capnp_making.specs.Makes.{MakesObject, call_at};
-ghost use Rattle.capnp_making.specs.Stored.{IsStored};
-ghost use Rattle.capnp_contents.specs.Anew.{OnlyWrites};
+ghost use Rattle.capnp_allocation.specs.Made.{nulls, words_of_zero, zero_struct};
+ghost use Rattle.capnp_allocation.specs.Makes.{MakesObject, call_at};
+ghost use Rattle.capnp_allocation.specs.Stored.{IsStored};
+ghost use Rattle.capnp_in_place.specs.Anew.{OnlyWrites};
 ghost use Rattle.capnp_builders.specs.Held.{HasStruct, Holder, MakesChild, ReplacesField, SetsField, call_in, pointer_to};
 ghost use Rattle.capnp_builders.specs.Places.{element_place, field};
 ghost use Rattle.typed_building.specs.There.{HasStructPlace, HasStructsPlace, call_on};

@@ -1,7 +1,7 @@
 //! Person.employment
 ghost use Rattle.std.specs.Prelude.{◌≡◌, ◌≢◌, ◌≤◌, ◌↔◌, IsTrue, IfOk, IfErr, IfSome, IsSome, ⊤};
 ghost use Rattle.capnp_format.specs.Tree.{Tree, Null};
-ghost use Rattle.capnp_objects.specs.Reading.{word_of};
+ghost use Rattle.capnp_pointers.specs.Reading.{word_of};
 ghost use Rattle.capnp_readers.specs.Values.{ShowsStructOf};
 ghost use Rattle.typed_reading.specs.Sections.{ShowsSectionsOf, pointer_field};
 ghost use Rattle.typed_reading.specs.Values.{child};

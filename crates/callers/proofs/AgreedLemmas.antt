@@ -20,7 +20,7 @@ use Rattle.capnp_format.proofs.Trimmed.{small_fits, trim-capabilities, trim-dept
 use Rattle.capnp_format.proofs.Trimming.{trim-trim}
 use Rattle.capnp_arena_traits.specs.Allocations.{max_segment_words}
 use Rattle.capnp_arena.specs.declared.arena.reader_arena_impl.ReaderOptions.{ReaderOptions}
-use Rattle.capnp_objects.specs.Source.{levels}
+use Rattle.capnp_pointers.specs.Source.{levels}
 use Rattle.capnp_messages.specs.CanonicalMessages.{CanBeTested, IsCanonicalMessage, IsCanonicalOf}
 use Rattle.capnp_messages.proofs.CanonicalMessageLemmas.{canonical_length, means_its_value}
 use Rattle.capnp_messages.specs.Messages.{IsValueOf}

@@ -11,11 +11,11 @@ use Rattle.capnp_format.proofs.Levels.{one_value}
 use Rattle.capnp_arena_traits.specs.Allocations.{max_segment_words, one_more}
 use Rattle.capnp_arena_traits.specs.View.{View}
 use Rattle.capnp_framing.specs.Reading.{total}
-use Rattle.capnp_objects.specs.Reading.{Reading}
-use Rattle.capnp_objects.specs.Spending.{Paid, pointers_in}
-use Rattle.capnp_objects.specs.Values.{value}
-use Rattle.capnp_objects.specs.Wanted.{canonical}
-use Rattle.capnp_objects.proofs.WholeValue.ValueAsStated.{reads_if}
+use Rattle.capnp_pointers.specs.Reading.{Reading}
+use Rattle.capnp_pointers.specs.Spending.{Paid, pointers_in}
+use Rattle.capnp_pointers.specs.Values.{value}
+use Rattle.capnp_pointers.specs.Wanted.{canonical}
+use Rattle.capnp_pointers.proofs.WholeValue.ValueAsStated.{reads_if}
 use Rattle.capnp_messages.specs.Copies.{LacksMemoryOr, RefusesCopy}
 use Rattle.capnp_messages.specs.Parts.{PathEnd, to_pointer}
 use Rattle.capnp_messages.specs.Tries.{IsFirstTry, IsRoomFor, words_read}

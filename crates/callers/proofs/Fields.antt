@@ -6,15 +6,15 @@ use Rattle.capnp_format.specs.Tree.{Tree, Null, Struct}
 use Rattle.capnp_format.specs.Forest.{IsForest, target}
 use Rattle.capnp_words.specs.declared.wire_pointer.StructSize.{StructSize}
 use Rattle.capnp_readers.specs.declared.readers.struct_reader.StructPlace.{StructPlace}
-use Rattle.capnp_making.specs.Made.{words_of_zero, nulls, zero_struct}
-use Rattle.capnp_making.specs.Memory.{start_of}
+use Rattle.capnp_allocation.specs.Made.{words_of_zero, nulls, zero_struct}
+use Rattle.capnp_allocation.specs.Memory.{start_of}
 use Rattle.capnp_format.specs.Path.{Child, node, PathLeads, Step, put_tree, tree_at, update}
-use Rattle.capnp_making.specs.Stored.{Puts}
-use Rattle.capnp_making.proofs.Placed.{count-nulls}
-use Rattle.capnp_making.proofs.Paths.{node_of_parts}
-use Rattle.capnp_making.proofs.Replaced.{forest_stored, forest_updated, stored_within}
-use Rattle.capnp_contents.specs.Opening.{existing_struct}
-use Rattle.capnp_making.specs.Makes.{CallAt}
+use Rattle.capnp_allocation.specs.Stored.{Puts}
+use Rattle.capnp_allocation.proofs.Placed.{count-nulls}
+use Rattle.capnp_allocation.proofs.Paths.{node_of_parts}
+use Rattle.capnp_allocation.proofs.Replaced.{forest_stored, forest_updated, stored_within}
+use Rattle.capnp_in_place.specs.Opening.{existing_struct}
+use Rattle.capnp_allocation.specs.Makes.{CallAt}
 use Rattle.capnp_builders.specs.Places.{IsStructOf, struct_place}
 
 pub root_put : (S R : Segments) (t y : Tree) → IsForest S t → Puts S R 0 0 y → IsForest R y

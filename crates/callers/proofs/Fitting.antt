@@ -5,8 +5,8 @@ use Rattle.capnp_words.specs.declared.error.ErrorKind.{ErrorKind}
 use Rattle.capnp_format.specs.Forest.{IsForest}
 use Rattle.capnp_format.specs.Segments.{Segments, word_at}
 use Rattle.capnp_format.specs.Tree.{Tree, Null}
-use Rattle.capnp_making.proofs.FillingMade.{null_stored}
-use Rattle.capnp_making.proofs.Replaced.{forest_of}
+use Rattle.capnp_allocation.proofs.FillingMade.{null_stored}
+use Rattle.capnp_allocation.proofs.Replaced.{forest_of}
 use Rattle.capnp_edits.specs.Fitting.{AreInFirst, AsksNoMore, IsNoneOfMemory}
 use Rattle.capnp_edits.specs.Tasks.{task_of}
 use Rattle.capnp_edits.specs.declared.edit.Edit.{Edit}

@@ -10,12 +10,12 @@ use Rattle.capnp_format.specs.Canonical.{encoding, trim, word_count}
 use Rattle.capnp_format.specs.Tree.{Tree, Null}
 use Rattle.capnp_arena_traits.specs.View.{View}
 use Rattle.capnp_arena.specs.declared.arena.reader_arena_impl.ReaderOptions.{ReaderOptions}
-use Rattle.capnp_making.specs.Stored.{Puts}
-use Rattle.capnp_making.proofs.FillingMade.{null_stored}
-use Rattle.capnp_objects.specs.Outcomes.{Reads}
-use Rattle.capnp_objects.specs.Reading.{Reading}
-use Rattle.capnp_objects.specs.Spending.{pointers_in, after_charge as left_after}
-use Rattle.capnp_objects.specs.Wanted.{canonical}
+use Rattle.capnp_allocation.specs.Stored.{Puts}
+use Rattle.capnp_allocation.proofs.FillingMade.{null_stored}
+use Rattle.capnp_pointers.specs.Outcomes.{Reads}
+use Rattle.capnp_pointers.specs.Reading.{Reading}
+use Rattle.capnp_pointers.specs.Spending.{pointers_in, after_charge as left_after}
+use Rattle.capnp_pointers.specs.Wanted.{canonical}
 use Rattle.capnp_copies.specs.Changes.{MakesCopy, copy_call}
 use Rattle.capnp_copies.specs.Originals.{value_original}
 use Rattle.capnp_copies.specs.Rooms.{CanBeCopied}
@@ -26,7 +26,7 @@ use Rattle.capnp_messages.specs.Messages.{IsValueOf, RefusesAt, left_of, root_wi
 use Rattle.capnp_messages.specs.Parts.{to_pointer}
 use Rattle.capnp_messages.specs.Roots.{CoversRoot}
 use Rattle.capnp_messages.proofs.MessageLemmas.{AtRoot, value_of}
-use Rattle.capnp_making.specs.Makes.{call_at}
+use Rattle.capnp_allocation.specs.Makes.{call_at}
 use Rattle.callers.proofs.AgreedLemmas.{fresh_forest}
 use Rattle.callers.proofs.Evenness.{canonical_long}
 use Rattle.callers.proofs.Fields.{root_put}

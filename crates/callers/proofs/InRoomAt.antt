@@ -8,12 +8,12 @@ use Rattle.capnp_format.specs.Canonical.{HasNoCapabilities, encoding, trim, word
 use Rattle.capnp_format.specs.Means.{Means}
 use Rattle.capnp_format.specs.Tree.{Tree, Null}
 use Rattle.capnp_arena_traits.specs.View.{View}
-use Rattle.capnp_making.specs.Makes.{call_at}
-use Rattle.capnp_making.proofs.Replaced.{forest_updated}
-use Rattle.capnp_objects.specs.Outcomes.{Reads}
-use Rattle.capnp_objects.specs.Reading.{Reading}
-use Rattle.capnp_objects.specs.Spending.{Paid, pointers_in, after_charge as left_after}
-use Rattle.capnp_objects.specs.Wanted.{canonical}
+use Rattle.capnp_allocation.specs.Makes.{call_at}
+use Rattle.capnp_allocation.proofs.Replaced.{forest_updated}
+use Rattle.capnp_pointers.specs.Outcomes.{Reads}
+use Rattle.capnp_pointers.specs.Reading.{Reading}
+use Rattle.capnp_pointers.specs.Spending.{Paid, pointers_in, after_charge as left_after}
+use Rattle.capnp_pointers.specs.Wanted.{canonical}
 use Rattle.capnp_copies.specs.Changes.{MakesCopy, RefusesToCopy, copy_call}
 use Rattle.capnp_copies.specs.Originals.{value_original}
 use Rattle.capnp_copies.specs.Rooms.{CanBeCopied}

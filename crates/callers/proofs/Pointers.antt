@@ -6,9 +6,9 @@ use Rattle.capnp_format.specs.Canonical.{HasCanonicalAt, charge, word_count}
 use Rattle.capnp_format.specs.Means.{Means}
 use Rattle.capnp_format.specs.Segments.{Segments}
 use Rattle.capnp_format.specs.Tree.{Tree}
-use Rattle.capnp_objects.specs.Reading.{Reading}
-use Rattle.capnp_objects.specs.Spending.{Paid, pointers_in}
-use Rattle.capnp_objects.specs.Checking.{CanBeFound, HasSmallSegment, IsFound, Progress, progress}
+use Rattle.capnp_pointers.specs.Reading.{Reading}
+use Rattle.capnp_pointers.specs.Spending.{Paid, pointers_in}
+use Rattle.capnp_pointers.specs.Checking.{CanBeFound, HasSmallSegment, IsFound, Progress, progress}
 use Rattle.capnp_readers.proofs.Same.{found_is_meant}
 use Rattle.capnp_readers.proofs.TestResults.{IsTestOf, result_answered, result_exactly, result_found}
 use Rattle.callers.specs.Truly.{read_at}

@@ -7,11 +7,11 @@ use Rattle.capnp_format.specs.Forest.{IsForest}
 use Rattle.capnp_format.specs.Segments.{segment}
 use Rattle.capnp_format.specs.Tree.{Tree, Flat}
 use Rattle.capnp_words.specs.Sizes.{size_number}
-use Rattle.capnp_making.specs.Made.{zero_list, zero_struct, zero_structs}
+use Rattle.capnp_allocation.specs.Made.{zero_list, zero_struct, zero_structs}
 use Rattle.capnp_arena_traits.specs.Allocations.{max_segment_words}
 use Rattle.capnp_arena_traits.specs.Taking.{IsAllocationRefusal}
 use Rattle.capnp_arena_traits.specs.View.{View}
-use Rattle.capnp_making.specs.Memory.{HasRoom, IsRefusedFor}
+use Rattle.capnp_allocation.specs.Memory.{HasRoom, IsRefusedFor}
 use Rattle.capnp_format.specs.Path.{node, PathLeads}
 use Rattle.capnp_words.specs.Names.{is_allocation_name}
 use Rattle.capnp_edits.specs.declared.edit.Edit.{Edit}

@@ -10,9 +10,9 @@ use Rattle.capnp_format.specs.Segments.{Segments, segment}
 use Rattle.capnp_format.specs.Tree.{Tree, Flat}
 use Rattle.capnp_arena_traits.specs.Allocations.{max_segment_words, one_more}
 use Rattle.capnp_arena_traits.specs.View.{View}
-use Rattle.capnp_making.specs.Made.{zero_list, zero_struct, zero_structs}
+use Rattle.capnp_allocation.specs.Made.{zero_list, zero_struct, zero_structs}
 use Rattle.capnp_format.specs.Path.{node, PathLeads}
-use Rattle.capnp_objects.specs.Reading.{Reading}
+use Rattle.capnp_pointers.specs.Reading.{Reading}
 use Rattle.capnp_words.specs.Names.{is_allocation_name}
 use Rattle.capnp_edits.specs.declared.edit.Edit.{Edit}
 use Rattle.capnp_edits.specs.declared.edit.Op.{Op}

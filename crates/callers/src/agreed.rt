@@ -11,7 +11,7 @@ ghost use Rattle.capnp_format.specs.Tree.{Null, Tree, depth};
 ghost use Rattle.capnp_format.specs.Value.{IsValue};
 ghost use Rattle.capnp_arena_traits.specs.Allocations.{max_segment_words};
 ghost use Rattle.capnp_arena.specs.declared.arena.reader_arena_impl.ReaderOptions.{ReaderOptions};
-ghost use Rattle.capnp_objects.specs.Source.{levels};
+ghost use Rattle.capnp_pointers.specs.Source.{levels};
 ghost use Rattle.capnp_messages.specs.CanonicalMessages.{IsCanonicalMessage, IsCanonicalOf};
 ghost use Rattle.capnp_messages.specs.Messages.{IsValueOf};
 

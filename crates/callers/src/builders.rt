@@ -3,9 +3,9 @@
 //! the call succeeds or is refused.
 ghost use Rattle.std.specs.Prelude.{ℕ, ◌≡◌, ◌<◌, ◌≤◌, ◌+◌, ◌^◌, ◌∷◌, [], length, IsOk, IsOkAnd, IfErr, IfOk, OnOk, OnErr};
 ghost use Rattle.capnp_words.specs.declared.error.ErrorKind.TheVariants.{AllocationFailed};
-ghost use Rattle.capnp_making.specs.Makes.{call_at};
+ghost use Rattle.capnp_allocation.specs.Makes.{call_at};
 ghost use Rattle.capnp_builders.specs.Places.{IsStructOf};
-ghost use Rattle.capnp_making.specs.Stored.{Puts};
+ghost use Rattle.capnp_allocation.specs.Stored.{Puts};
 ghost use Rattle.capnp_readers.specs.Readers.{IsStructPlace};
 ghost use Rattle.capnp_format.specs.Bytes.{message};
 ghost use Rattle.capnp_edits.specs.Edits.{EditTakes, InTurn};
@@ -14,7 +14,7 @@ ghost use Rattle.capnp_format.specs.Means.{Means};
 ghost use Rattle.capnp_format.specs.Numbers.{words_for};
 ghost use Rattle.capnp_format.specs.Segments.{segment, IsPlace};
 ghost use Rattle.capnp_format.specs.Tree.{Tree, Null, Struct};
-ghost use Rattle.capnp_making.specs.Made.{words_of_zero, nulls, zero_struct};
+ghost use Rattle.capnp_allocation.specs.Made.{words_of_zero, nulls, zero_struct};
 ghost use Rattle.capnp_format.specs.Path.{put_tree};
 ghost use Rattle.callers.specs.Meaning.{MeansTheSame};
 

@@ -4,7 +4,7 @@ ghost use Rattle.std.specs.Prelude.{◌≡◌, ◌≤◌, ◌<◌, ◌+◌, ◌*
 ghost use Rattle.capnp_format.specs.Segments.{Grows};
 ghost use Rattle.capnp_format.specs.Tree.{Flat, Trees};
 ghost use Rattle.capnp_format.specs.Fields.{put_field};
-ghost use Rattle.capnp_making.specs.Made.{words_of_zero};
+ghost use Rattle.capnp_allocation.specs.Made.{words_of_zero};
 ghost use Rattle.capnp_format.specs.Path.{put_tree};
 ghost use Rattle.capnp_readers.specs.Readers.{IsStructPlace};
 ghost use Rattle.capnp_builders.specs.Held.{HasStruct, Holder};

@@ -15,15 +15,15 @@ ghost use Rattle.capnp_copies.specs.Changes.{RefusesToCopy, copy_call};
 ghost use Rattle.capnp_copies.specs.Originals.{value_original};
 ghost use Rattle.capnp_framing.specs.Writing.{Prints};
 ghost use Rattle.capnp_framing.specs.declared.framing.frame_error.FrameError.TheVariants.{WriteFailed};
-ghost use Rattle.capnp_making.specs.Made.{zero_struct};
-ghost use Rattle.capnp_making.specs.Makes.{call_at};
-ghost use Rattle.capnp_making.specs.Memory.{IsRefusedFor};
-ghost use Rattle.capnp_objects.specs.Metered.{◌>>>◌, answer};
-ghost use Rattle.capnp_objects.specs.Source.{levels};
-ghost use Rattle.capnp_objects.specs.Spending.{Paid, pointers_in};
-ghost use Rattle.capnp_objects.specs.Wanted.{canonical};
-ghost use Rattle.capnp_objects.specs.Testing.{head_found, head_moved, test_value};
-ghost use Rattle.capnp_objects.specs.Pointers.{reading};
+ghost use Rattle.capnp_allocation.specs.Made.{zero_struct};
+ghost use Rattle.capnp_allocation.specs.Makes.{call_at};
+ghost use Rattle.capnp_allocation.specs.Memory.{IsRefusedFor};
+ghost use Rattle.capnp_pointers.specs.Metered.{◌>>>◌, answer};
+ghost use Rattle.capnp_pointers.specs.Source.{levels};
+ghost use Rattle.capnp_pointers.specs.Spending.{Paid, pointers_in};
+ghost use Rattle.capnp_pointers.specs.Wanted.{canonical};
+ghost use Rattle.capnp_pointers.specs.Testing.{head_found, head_moved, test_value};
+ghost use Rattle.capnp_pointers.specs.Pointers.{reading};
 ghost use Rattle.capnp_edits.specs.Edits.{EditTakes, InTurn, IsApplied};
 ghost use Rattle.capnp_edits.specs.Steps.{IsStep};
 ghost use Rattle.capnp_messages.specs.CanonicalMessages.{IsCanonicalMessage, IsCanonicalOf};
@@ -48,7 +48,7 @@ use capnp_messages::messages::{
     CanonicalError, Form, canonical_bytes, canonicalize, canonicalize_pointer, check, read_root,
     write_copy,
 };
-use capnp_objects::pointers::Pointer;
+use capnp_pointers::pointers::Pointer;
 use capnp_readers::readers::{PointerPlace, PointerReader, StructPlace};
 use capnp_words::error::ErrorKind;
 use capnp_words::read_limiter::ReadLimiter;

@@ -1,9 +1,9 @@
 -- With a budget for which the place's segment has room, a copy comes to no object without room.
 use Rattle.std.proofs.Common.{◌≡◌, inl, inr, true, Some, ℕ, ◌+◌, arith}
 use Rattle.capnp_words.specs.declared.error.ErrorKind.{ErrorKind}
-use Rattle.capnp_making.specs.Near.{HasOwnRoom}
-use Rattle.capnp_objects.specs.Reading.{Reading}
-use Rattle.capnp_objects.specs.Refusals.{Refused}
+use Rattle.capnp_allocation.specs.Near.{HasOwnRoom}
+use Rattle.capnp_pointers.specs.Reading.{Reading}
+use Rattle.capnp_pointers.specs.Refusals.{Refused}
 use Rattle.capnp_copies.specs.Changes.{CopyCall, RefusesToCopy}
 use Rattle.capnp_copies.specs.Originals.{value_original}
 use Rattle.capnp_copies.specs.Costs.{spent_until}

@@ -8,9 +8,9 @@ use Rattle.capnp_arena_traits.specs.Written.{overwritten}
 use Rattle.capnp_format.proofs.WordsOf.{words}
 use Rattle.capnp_format.specs.Bytes.{words_of, message}
 use Rattle.capnp_format.specs.Segments.{Segments, segment}
-use Rattle.capnp_making.specs.Fields.{with_field}
-use Rattle.capnp_contents.proofs.Fields.BitWritten.{set_is_put}
-use Rattle.capnp_making.proofs.FieldBytes.{message_written}
+use Rattle.capnp_allocation.specs.Fields.{with_field}
+use Rattle.capnp_in_place.proofs.Fields.BitWritten.{set_is_put}
+use Rattle.capnp_allocation.proofs.FieldBytes.{message_written}
 use Rattle.capnp_format.proofs.FieldBytes.{words_of-put_field}
 use Rattle.capnp_copies.proofs.ElementsLaid.{get_or-zeros}
 use Rattle.capnp_builders.specs.Content.{content_byte, with_fields, fields_from}

@@ -10,26 +10,26 @@ use Rattle.capnp_format.specs.Forest.{target, target_in}
 use Rattle.capnp_format.specs.Means.{Means, Leads}
 use Rattle.capnp_format.specs.Segments.{Segments, segment, Target}
 use Rattle.capnp_format.specs.Tree.{Tree, Null, Struct, Trees, no_trees, tree, count}
-use Rattle.capnp_making.specs.Fields.{with_field}
+use Rattle.capnp_allocation.specs.Fields.{with_field}
 use Rattle.capnp_format.specs.Fields.{with_bits, put_field, field_in}
-use Rattle.capnp_making.specs.Filled.{AreFilled}
-use Rattle.capnp_making.specs.Made.{nulls}
+use Rattle.capnp_allocation.specs.Filled.{AreFilled}
+use Rattle.capnp_allocation.specs.Made.{nulls}
 use Rattle.capnp_format.specs.Path.{Step, Child, tree_at, put_tree}
-use Rattle.capnp_making.specs.Stored.{IsStored, IsReplaced}
-use Rattle.capnp_making.proofs.Extents.{word_within}
-use Rattle.capnp_contents.proofs.Fields.BitsRead.{read_back, other_stays}
-use Rattle.capnp_contents.proofs.Fields.FieldWritten.{data_field_written}
-use Rattle.capnp_making.proofs.Filling.{IsHolder, Holds, unchanged, still_leads, struct_holder, holder_put, holder_filled, put_from, null_at}
-use Rattle.capnp_making.proofs.MadeWords.{IsPut, word_put}
-use Rattle.capnp_making.proofs.Placed.{count-nulls}
-use Rattle.capnp_making.proofs.Replace.{put_tree-count}
-use Rattle.capnp_making.proofs.Replaced.{replaced_again}
+use Rattle.capnp_allocation.specs.Stored.{IsStored, IsReplaced}
+use Rattle.capnp_allocation.proofs.Extents.{word_within}
+use Rattle.capnp_in_place.proofs.Fields.BitsRead.{read_back, other_stays}
+use Rattle.capnp_in_place.proofs.Fields.FieldWritten.{data_field_written}
+use Rattle.capnp_allocation.proofs.Filling.{IsHolder, Holds, unchanged, still_leads, struct_holder, holder_put, holder_filled, put_from, null_at}
+use Rattle.capnp_allocation.proofs.MadeWords.{IsPut, word_put}
+use Rattle.capnp_allocation.proofs.Placed.{count-nulls}
+use Rattle.capnp_allocation.proofs.Replace.{put_tree-count}
+use Rattle.capnp_allocation.proofs.Replaced.{replaced_again}
 use Rattle.capnp_readers.specs.declared.readers.struct_reader.StructPlace.{StructPlace}
 use Rattle.capnp_builders.specs.Content.{content_byte, with_fields, fields_from, with_content, AreCleared, HoldContent, up_to, TakesBytes}
-use Rattle.capnp_contents.specs.Opening.{existing_struct}
+use Rattle.capnp_in_place.specs.Opening.{existing_struct}
 use Rattle.capnp_builders.specs.Places.{struct_place}
 use Rattle.capnp_builders.proofs.StructPlaces.{StructStartsAt, struct_starts}
-use Rattle.capnp_making.specs.Memory.{start_of}
+use Rattle.capnp_allocation.specs.Memory.{start_of}
 
 -- From S to R the value at a place that leads to a is replaced by another struct, and the place
 -- still leads to a.

@@ -7,10 +7,10 @@ use Rattle.std.proofs.lemmas.List.{length-set}
 use Rattle.capnp_words.specs.declared.error.ErrorKind.{ErrorKind}
 use Rattle.capnp_format.specs.Segments.{Segments, Grows, segment}
 use Rattle.capnp_format.specs.Fields.{with_bits, put_field}
-use Rattle.capnp_making.specs.Zeroed.{IsPruned}
-use Rattle.capnp_making.proofs.FillingChains.{filled_grows}
-use Rattle.capnp_making.proofs.Zeros.{lengths_kept}
-use Rattle.capnp_objects.specs.Reading.{Reading}
+use Rattle.capnp_allocation.specs.Zeroed.{IsPruned}
+use Rattle.capnp_allocation.proofs.FillingChains.{filled_grows}
+use Rattle.capnp_allocation.proofs.Zeros.{lengths_kept}
+use Rattle.capnp_pointers.specs.Reading.{Reading}
 use Rattle.capnp_copies.specs.Changes.{CopyCall, CopiesChildren, CopiesFirst}
 use Rattle.capnp_copies.specs.Forms.{kept_each}
 use Rattle.capnp_readers.specs.declared.readers.struct_reader.StructPlace.{StructPlace}

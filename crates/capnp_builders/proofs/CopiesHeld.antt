@@ -7,16 +7,16 @@ use Rattle.capnp_format.specs.Segments.{Segments, segment, word_at, Grows, IsPla
 use Rattle.capnp_format.specs.Tree.{Tree, Null}
 use Rattle.capnp_format.proofs.Levels.{one_value}
 use Rattle.capnp_arena_traits.specs.View.{View, KeepsLimits}
-use Rattle.capnp_making.specs.Memory.{RefusesWords}
-use Rattle.capnp_making.specs.Stored.{IsReplaced, Puts}
-use Rattle.capnp_making.specs.Zeroed.{IsPruned}
-use Rattle.capnp_contents.proofs.Room.PlacesStay.{replaced_grows}
-use Rattle.capnp_making.proofs.FillingMade.{null_stored}
-use Rattle.capnp_making.proofs.Memory.{keeps_both, keeps_written, keeps_then_spends}
-use Rattle.capnp_making.proofs.Replaced.{replaced_again}
-use Rattle.capnp_making.proofs.Taken.{ends_after}
-use Rattle.capnp_objects.specs.Reading.{Reading}
-use Rattle.capnp_objects.specs.Wanted.{Form}
+use Rattle.capnp_allocation.specs.Memory.{RefusesWords}
+use Rattle.capnp_allocation.specs.Stored.{IsReplaced, Puts}
+use Rattle.capnp_allocation.specs.Zeroed.{IsPruned}
+use Rattle.capnp_in_place.proofs.Room.PlacesStay.{replaced_grows}
+use Rattle.capnp_allocation.proofs.FillingMade.{null_stored}
+use Rattle.capnp_allocation.proofs.Memory.{keeps_both, keeps_written, keeps_then_spends}
+use Rattle.capnp_allocation.proofs.Replaced.{replaced_again}
+use Rattle.capnp_allocation.proofs.Taken.{ends_after}
+use Rattle.capnp_pointers.specs.Reading.{Reading}
+use Rattle.capnp_pointers.specs.Wanted.{Form}
 use Rattle.capnp_copies.specs.Changes.{CopyCall, MakesCopy, StopsCopy}
 use Rattle.capnp_copies.specs.Rooms.{CanBeCopied}
 use Rattle.capnp_copies.specs.Forms.{kept}

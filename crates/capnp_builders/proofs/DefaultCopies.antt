@@ -5,13 +5,13 @@ use Rattle.capnp_words.specs.declared.error.ErrorKind.{ErrorKind}
 use Rattle.capnp_words.specs.Meter.{Meter, unused}
 use Rattle.capnp_format.specs.Tree.{Tree, Null}
 use Rattle.capnp_arena_traits.specs.View.{View}
-use Rattle.capnp_objects.specs.Wanted.{of_default}
-use Rattle.capnp_objects.proofs.WholeValue.UnreadableIfRefused.{breaks_off_spends, unreadable}
-use Rattle.capnp_objects.proofs.WholeValue.OutcomesAreTrue.{unlimited_refusal}
+use Rattle.capnp_pointers.specs.Wanted.{of_default}
+use Rattle.capnp_pointers.proofs.WholeValue.UnreadableIfRefused.{breaks_off_spends, unreadable}
+use Rattle.capnp_pointers.proofs.WholeValue.OutcomesAreTrue.{unlimited_refusal}
 use Rattle.capnp_copies.specs.Changes.{CopyCall, copy_call, MakesCopy, StopsCopy}
 use Rattle.capnp_copies.specs.Growth.{TakesAtMost}
 use Rattle.capnp_copies.specs.Originals.{value_original}
-use Rattle.capnp_making.specs.Makes.{call_at}
+use Rattle.capnp_allocation.specs.Makes.{call_at}
 use Rattle.capnp_builders.specs.Defaults.{default_root, DropsDefault, PutsDefault, RefusesDefault}
 
 -- The copy of a default to position at of segment id.

@@ -10,7 +10,7 @@ use Rattle.capnp_format.specs.Bytes.{words_of}
 use Rattle.capnp_format.specs.Tree.{Tree, Null, Capability, Struct, Flat, Pointers, Structs}
 use Rattle.capnp_format.proofs.WordsOf.{length-words_of}
 use Rattle.capnp_arena_traits.specs.View.{View}
-use Rattle.capnp_making.specs.Makes.{call_at}
+use Rattle.capnp_allocation.specs.Makes.{call_at}
 use Rattle.capnp_builders.specs.Defaults.{DefaultUse, ignored, denied, copied, object_default, DefaultCopyFits, DefaultFits, FitsWithDefault, PutsDefaultOver}
 
 -- if the default leaves null, nothing is put

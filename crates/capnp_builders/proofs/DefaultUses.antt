@@ -4,8 +4,8 @@ use Rattle.std.proofs.Common.{◌≡◌, inl, inr, ℕ, Result, Ok, Err, sym, su
 use Rattle.capnp_words.specs.declared.error.ErrorKind.{ErrorKind}
 use Rattle.capnp_format.specs.Tree.{Tree}
 use Rattle.capnp_arena_traits.specs.View.{View}
-use Rattle.capnp_making.specs.Stored.{IsStored}
-use Rattle.capnp_making.specs.Makes.{CallAt, call_at}
+use Rattle.capnp_allocation.specs.Stored.{IsStored}
+use Rattle.capnp_allocation.specs.Makes.{CallAt, call_at}
 use Rattle.capnp_builders.specs.Defaults.{DefaultUse, ignored, denied, copied, WithDefault, PutsDefaultOver}
 
 -- a result isn't both a success and a refusal

@@ -6,13 +6,13 @@ use Rattle.capnp_words.specs.Meter.{Meter}
 use Rattle.capnp_format.specs.Segments.{segment, IsPlace}
 use Rattle.capnp_format.specs.Tree.{Null, count}
 use Rattle.capnp_arena_traits.specs.View.{View}
-use Rattle.capnp_making.specs.Stored.{IsReplaced}
-use Rattle.capnp_making.proofs.Memory.{keeps_then_spends, words_refused_after}
-use Rattle.capnp_objects.specs.Refusals.{Refused, StopsWithin}
-use Rattle.capnp_objects.specs.Reading.{Reading, place_past}
-use Rattle.capnp_objects.specs.Wanted.{plain}
-use Rattle.capnp_objects.proofs.WholeValue.ChildrenRead.{read_stop}
-use Rattle.capnp_objects.proofs.WholeValue.UnreadableIfRefused.{unreadable}
+use Rattle.capnp_allocation.specs.Stored.{IsReplaced}
+use Rattle.capnp_allocation.proofs.Memory.{keeps_then_spends, words_refused_after}
+use Rattle.capnp_pointers.specs.Refusals.{Refused, StopsWithin}
+use Rattle.capnp_pointers.specs.Reading.{Reading, place_past}
+use Rattle.capnp_pointers.specs.Wanted.{plain}
+use Rattle.capnp_pointers.proofs.WholeValue.ChildrenRead.{read_stop}
+use Rattle.capnp_pointers.proofs.WholeValue.UnreadableIfRefused.{unreadable}
 use Rattle.capnp_copies.specs.Changes.{copy_call, CopiesChildren, StopsCopy, CopiesFirst}
 use Rattle.capnp_copies.proofs.NoRoom.{WantsWords}
 use Rattle.capnp_copies.specs.Rooms.{CanBeCopied}
@@ -24,7 +24,7 @@ use Rattle.capnp_copies.proofs.Copying.{there}
 use Rattle.capnp_copies.proofs.ObjectsMade.{TakesForCopy, full_before}
 use Rattle.capnp_copies.proofs.RoomLemmas.{same_cost}
 use Rattle.capnp_copies.proofs.TooLarge.{child_too_large}
-use Rattle.capnp_making.specs.Makes.{call_at}
+use Rattle.capnp_allocation.specs.Makes.{call_at}
 
 pub each_stops : {r : Reading} {s p i n : ℕ} {old mid new : View} {m m' m'' : Meter} {k : ErrorKind} → IsPlace old.words s (p + i) → i < n → CopiesChildren r i (copy_call plain (call_at s p old mid) m m') → TakesForCopy (children_original r i) (copy_call plain (call_at s p old mid) m m') → StopsCopy (value_original (place_past r i)) (copy_call plain (call_at s (p + i) mid new) m' m'') Null k →
     CopiesFirst r n (copy_call plain (call_at s p old new) m m'') k

@@ -5,22 +5,22 @@ use Rattle.capnp_format.specs.Forest.{target, target_in}
 use Rattle.capnp_format.specs.Means.{Means, MeansElements}
 use Rattle.capnp_format.specs.Segments.{Segments, segment, Target}
 use Rattle.capnp_format.specs.Tree.{Tree, Null, Struct, Structs, Trees, Elements, no_elements, element, count, element_count}
-use Rattle.capnp_making.specs.Fields.{with_field}
+use Rattle.capnp_allocation.specs.Fields.{with_field}
 use Rattle.capnp_format.specs.Fields.{put_field}
-use Rattle.capnp_making.specs.Filled.{AreFilled}
+use Rattle.capnp_allocation.specs.Filled.{AreFilled}
 use Rattle.capnp_format.specs.Path.{Child, Element, struct_at, put_struct}
-use Rattle.capnp_making.specs.Stored.{IsStored, IsReplaced}
-use Rattle.capnp_making.proofs.Extents.{word_within}
-use Rattle.capnp_contents.proofs.Fields.FieldWritten.{element_field_written}
-use Rattle.capnp_making.proofs.Filling.{Holds, still_leads}
-use Rattle.capnp_making.proofs.FillingElements.{put_struct-count, put_struct-here, put_struct-again, row_high, element_holder, structs_claim}
-use Rattle.capnp_making.proofs.MadeWords.{IsPut, word_put}
+use Rattle.capnp_allocation.specs.Stored.{IsStored, IsReplaced}
+use Rattle.capnp_allocation.proofs.Extents.{word_within}
+use Rattle.capnp_in_place.proofs.Fields.FieldWritten.{element_field_written}
+use Rattle.capnp_allocation.proofs.Filling.{Holds, still_leads}
+use Rattle.capnp_allocation.proofs.FillingElements.{put_struct-count, put_struct-here, put_struct-again, row_high, element_holder, structs_claim}
+use Rattle.capnp_allocation.proofs.MadeWords.{IsPut, word_put}
 use Rattle.capnp_builders.specs.Content.{up_to, HoldContent, TakesBytes}
 use Rattle.capnp_builders.proofs.ContentTaken.{Turns, IsContent, filled, stopped}
 use Rattle.capnp_builders.specs.Places.{struct_place}
 use Rattle.capnp_readers.specs.declared.readers.struct_reader.StructPlace.{StructPlace}
 use Rattle.capnp_builders.proofs.StructPlaces.{struct_starts}
-use Rattle.capnp_making.proofs.FillingMade.{structs_lead}
+use Rattle.capnp_allocation.proofs.FillingMade.{structs_lead}
 
 pub put_struct-same : (X : Elements) (i : ℕ) (ws : List ℕ) (ts : Trees) → struct_at X i ≡ Struct ws ts → put_struct X i (Struct ws ts) ≡ X
 put_struct-same no_elements i ws ts e = refl

@@ -8,11 +8,11 @@ use Rattle.capnp_format.specs.Segments.{Segments, segment, Target}
 use Rattle.capnp_format.specs.Tree.{Tree, Null, Capability, Struct, Flat, Pointers, Structs}
 use Rattle.capnp_format.specs.Means.{Means}
 use Rattle.capnp_format.specs.Forest.{target, target_in}
-use Rattle.capnp_contents.specs.declared.existing.ExistingBytes.{ExistingBytes}
-use Rattle.capnp_contents.specs.Existing.{AreBytesInside, bytes_at, data_in, text_in, ends_in_zero}
-use Rattle.capnp_making.specs.Makes.{CallAt}
-use Rattle.capnp_making.specs.Stored.{IsStored}
-use Rattle.capnp_making.proofs.Leading.{leads_segment}
+use Rattle.capnp_in_place.specs.declared.existing.ExistingBytes.{ExistingBytes}
+use Rattle.capnp_in_place.specs.Existing.{AreBytesInside, bytes_at, data_in, text_in, ends_in_zero}
+use Rattle.capnp_allocation.specs.Makes.{CallAt}
+use Rattle.capnp_allocation.specs.Stored.{IsStored}
+use Rattle.capnp_allocation.proofs.Leading.{leads_segment}
 use Rattle.capnp_builders.specs.Found.{bytes_given}
 
 -- The call returns the bytes that are found where t is, and nothing is changed.

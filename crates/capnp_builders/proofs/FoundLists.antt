@@ -8,12 +8,12 @@ use Rattle.capnp_format.specs.Means.{Means}
 use Rattle.capnp_format.specs.Forest.{target, target_in}
 use Rattle.capnp_words.specs.declared.wire_pointer.ElementSize.{ElementSize}
 use Rattle.capnp_words.specs.declared.wire_pointer.ElementSize.TheVariants.{Pointer}
-use Rattle.capnp_contents.specs.declared.existing.ExistingList.{ExistingList}
-use Rattle.capnp_contents.specs.Existing.{size_of, plain_misfit, structs_misfit, plain_list, struct_list, unless, list_in}
-use Rattle.capnp_making.specs.Makes.{CallAt}
-use Rattle.capnp_making.specs.Stored.{IsStored}
-use Rattle.capnp_making.proofs.Leading.{leads_segment}
-use Rattle.capnp_making.proofs.Zeros.{there}
+use Rattle.capnp_in_place.specs.declared.existing.ExistingList.{ExistingList}
+use Rattle.capnp_in_place.specs.Existing.{size_of, plain_misfit, structs_misfit, plain_list, struct_list, unless, list_in}
+use Rattle.capnp_allocation.specs.Makes.{CallAt}
+use Rattle.capnp_allocation.specs.Stored.{IsStored}
+use Rattle.capnp_allocation.proofs.Leading.{leads_segment}
+use Rattle.capnp_allocation.proofs.Zeros.{there}
 use Rattle.capnp_readers.specs.Readers.{IsListPlace}
 use Rattle.capnp_readers.specs.Sections.{elements_words}
 use Rattle.capnp_readers.specs.declared.readers.list_reader.ListPlace.{ListPlace}

@@ -10,18 +10,18 @@ use Rattle.capnp_format.specs.Forest.{target}
 use Rattle.capnp_format.specs.Numbers.{element_bits}
 use Rattle.capnp_format.specs.Segments.{Segments, Target}
 use Rattle.capnp_format.specs.Tree.{Tree, Flat, Trees, no_trees, tree, count}
-use Rattle.capnp_making.specs.Fields.{with_field}
+use Rattle.capnp_allocation.specs.Fields.{with_field}
 use Rattle.capnp_format.specs.Path.{put_tree, tree_at}
-use Rattle.capnp_making.specs.Stored.{IsReplaced}
-use Rattle.capnp_making.proofs.Replace.{put_tree-count}
-use Rattle.capnp_contents.proofs.Fields.FieldWritten.{flat_element_stays, flat_element_written}
+use Rattle.capnp_allocation.specs.Stored.{IsReplaced}
+use Rattle.capnp_allocation.proofs.Replace.{put_tree-count}
+use Rattle.capnp_in_place.proofs.Fields.FieldWritten.{flat_element_stays, flat_element_written}
 use Rattle.capnp_readers.specs.Sections.{data_bits, step_bits}
 use Rattle.capnp_readers.specs.declared.readers.list_reader.ListPlace.{ListPlace}
 use Rattle.capnp_readers.specs.declared.readers.struct_reader.StructPlace.{StructPlace}
 use Rattle.capnp_builders.specs.Held.{HasList, HasStruct, Holder, struct_held}
 use Rattle.capnp_builders.proofs.HeldStructs.{child_set}
 use Rattle.capnp_builders.proofs.StructPlaces.{struct_starts}
-use Rattle.capnp_contents.proofs.WiderObjects.WhichList.{flat_width}
+use Rattle.capnp_in_place.proofs.WiderObjects.WhichList.{flat_width}
 
 step_of : (size : ElementSize) (sizes : StructSize) → size_number size ≤ 5 → step_bits size sizes ≡ element_bits (size_number size)
 step_of Void sizes l = refl

@@ -12,28 +12,28 @@ use Rattle.capnp_format.specs.Fields.{put_field, with_bits}
 use Rattle.capnp_format.specs.Segments.{Target, segment}
 use Rattle.capnp_format.specs.Tree.{Tree, Null, Struct, Flat, Pointers, Structs, Trees, Elements, count}
 use Rattle.capnp_arena_traits.specs.View.{View}
-use Rattle.capnp_contents.specs.Existing.{plain_list, struct_list}
-use Rattle.capnp_making.specs.Fields.{with_field}
-use Rattle.capnp_making.specs.Made.{words_of_zero, nulls, zero_elements, zero_list, zero_struct, zero_structs}
-use Rattle.capnp_making.specs.Makes.{MakesObject, call_at}
-use Rattle.capnp_making.specs.Memory.{start_of}
+use Rattle.capnp_in_place.specs.Existing.{plain_list, struct_list}
+use Rattle.capnp_allocation.specs.Fields.{with_field}
+use Rattle.capnp_allocation.specs.Made.{words_of_zero, nulls, zero_elements, zero_list, zero_struct, zero_structs}
+use Rattle.capnp_allocation.specs.Makes.{MakesObject, call_at}
+use Rattle.capnp_allocation.specs.Memory.{start_of}
 use Rattle.capnp_format.specs.Path.{put_struct, tree_at}
-use Rattle.capnp_making.specs.Stored.{IsStored}
-use Rattle.capnp_making.proofs.Memory.{limits_written}
-use Rattle.capnp_making.proofs.Placed.{count-nulls}
-use Rattle.capnp_making.proofs.PlacedStructs.{count-zero_elements}
-use Rattle.capnp_making.proofs.Zeros.{lengths_kept}
+use Rattle.capnp_allocation.specs.Stored.{IsStored}
+use Rattle.capnp_allocation.proofs.Memory.{limits_written}
+use Rattle.capnp_allocation.proofs.Placed.{count-nulls}
+use Rattle.capnp_allocation.proofs.PlacedStructs.{count-zero_elements}
+use Rattle.capnp_allocation.proofs.Zeros.{lengths_kept}
 use Rattle.capnp_readers.specs.Sections.{IsInside}
 use Rattle.capnp_readers.specs.declared.readers.list_reader.ListPlace.{ListPlace}
 use Rattle.capnp_readers.specs.declared.readers.struct_reader.StructPlace.{StructPlace}
-use Rattle.capnp_contents.specs.Anew.{OnlyWrites}
-use Rattle.capnp_contents.specs.Opening.{existing_struct}
+use Rattle.capnp_in_place.specs.Anew.{OnlyWrites}
+use Rattle.capnp_in_place.specs.Opening.{existing_struct}
 use Rattle.capnp_builders.specs.Held.{HasList, HasStruct, Holder, IsPlainList, MakesChild, ReplacesField, SetsField, call_in, element_of, pointer_to}
 use Rattle.capnp_builders.specs.Places.{Field, IsListOf, IsStructOf, WritesField, element_place, list_place, struct_place}
 use Rattle.capnp_builders.proofs.ElementContent.{put_struct-same}
 use Rattle.capnp_builders.proofs.FieldPlaces.{in_bits}
 use Rattle.capnp_builders.proofs.HeldStructs.{child_replaced, child_set, child_stored, field_replaced, field_set}
-use Rattle.capnp_making.proofs.FillingElements.{blank_at}
+use Rattle.capnp_allocation.proofs.FillingElements.{blank_at}
 
 -- a field
 

@@ -5,18 +5,18 @@ use Rattle.std.proofs.lemmas.List.{length-set}
 use Rattle.capnp_format.specs.Forest.{target, target_in}
 use Rattle.capnp_format.specs.Segments.{Segments, Target}
 use Rattle.capnp_format.specs.Tree.{Tree, Struct, Trees, count, element_count}
-use Rattle.capnp_making.specs.Fields.{with_field}
+use Rattle.capnp_allocation.specs.Fields.{with_field}
 use Rattle.capnp_format.specs.Fields.{with_bits, put_field}
 use Rattle.capnp_format.specs.Path.{Step, Child, Element, put_struct, put_tree, tree_at}
-use Rattle.capnp_making.specs.Stored.{IsStored, IsReplaced}
-use Rattle.capnp_making.proofs.Filling.{Holds, holder_put}
-use Rattle.capnp_making.proofs.Replace.{put_tree-count}
-use Rattle.capnp_making.proofs.Replaced.{stored_within}
+use Rattle.capnp_allocation.specs.Stored.{IsStored, IsReplaced}
+use Rattle.capnp_allocation.proofs.Filling.{Holds, holder_put}
+use Rattle.capnp_allocation.proofs.Replace.{put_tree-count}
+use Rattle.capnp_allocation.proofs.Replaced.{stored_within}
 use Rattle.capnp_readers.specs.declared.readers.struct_reader.StructPlace.{StructPlace}
 use Rattle.capnp_builders.specs.Held.{Lead, directly, as_element, Holder, held_tree, held_start, LeadsToSections, HasStruct, struct_held}
 use Rattle.capnp_builders.proofs.ContentTaken.{IsContent, Turns, leads_of, struct_content}
 use Rattle.capnp_builders.proofs.ElementContent.{element_content}
-use Rattle.capnp_making.proofs.FillingMade.{structs_lead}
+use Rattle.capnp_allocation.proofs.FillingMade.{structs_lead}
 use Rattle.capnp_builders.proofs.StructPlaces.{struct_starts}
 
 -- the struct is part of the value that its pointer has

@@ -14,13 +14,13 @@ use Rattle.capnp_format.specs.Canonical.{word_count}
 use Rattle.capnp_format.specs.Tree.{Tree, Null, Flat}
 use Rattle.capnp_format.proofs.WordsOf.{words, words_of-take, words_of-drop}
 use Rattle.capnp_arena_traits.specs.View.{View}
-use Rattle.capnp_making.specs.Near.{HasOwnRoom}
-use Rattle.capnp_making.specs.Stored.{IsReplaced}
-use Rattle.capnp_making.proofs.Memory.{keeps_itself, spends_nothing}
-use Rattle.capnp_objects.specs.Objects.{IsHeld}
-use Rattle.capnp_objects.specs.Reading.{Reading, words_from, reading_at}
-use Rattle.capnp_objects.specs.declared.object.Place.{Place}
-use Rattle.capnp_objects.specs.Wanted.{Form}
+use Rattle.capnp_allocation.specs.Near.{HasOwnRoom}
+use Rattle.capnp_allocation.specs.Stored.{IsReplaced}
+use Rattle.capnp_allocation.proofs.Memory.{keeps_itself, spends_nothing}
+use Rattle.capnp_pointers.specs.Objects.{IsHeld}
+use Rattle.capnp_pointers.specs.Reading.{Reading, words_from, reading_at}
+use Rattle.capnp_pointers.specs.declared.object.Place.{Place}
+use Rattle.capnp_pointers.specs.Wanted.{Form}
 use Rattle.capnp_readers.specs.Sections.{IsPart, HasWordsFrom, elements_words}
 use Rattle.capnp_readers.proofs.Sections.{flat_words}
 use Rattle.capnp_copies.specs.Changes.{CopyCall, copy_call, StayInSegment, MakesCopy, StopsCopy}
@@ -33,7 +33,7 @@ use Rattle.capnp_copies.proofs.FlatRead.{word_count-flat}
 use Rattle.capnp_copies.proofs.Originals.{ExceedsRoom, list_exceeds}
 use Rattle.capnp_arena_traits.specs.declared.arena.reader_arena.ReaderArena.{Ghosts}
 use Rattle.capnp_readers.specs.declared.readers.list_reader.ListReader.{ListReader}
-use Rattle.capnp_making.specs.Makes.{call_at}
+use Rattle.capnp_allocation.specs.Makes.{call_at}
 
 -- the place of the first element of a list that is read
 abbrev pub first_read : {A : Type 0} (g : Ghosts A) → ListReader A g → Reading

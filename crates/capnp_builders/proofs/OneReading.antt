@@ -4,10 +4,10 @@ use Rattle.capnp_words.specs.Meter.{Meter}
 use Rattle.capnp_words.specs.declared.wire_pointer.StructSize.{StructSize}
 use Rattle.capnp_words.specs.declared.wire_pointer.ElementSize.{ElementSize}
 use Rattle.capnp_words.specs.declared.wire_pointer.ElementSize.TheVariants.{Void, Bit, Byte, TwoBytes, FourBytes, EightBytes, Pointer, InlineComposite}
-use Rattle.capnp_objects.specs.Reading.{Reading}
-use Rattle.capnp_objects.specs.Wanted.{Form}
-use Rattle.capnp_objects.proofs.WholeValue.ChildrenRead.{read_stop, read_element_stop}
-use Rattle.capnp_objects.proofs.WholeValue.UnreadableIfRefused.{unreadable}
+use Rattle.capnp_pointers.specs.Reading.{Reading}
+use Rattle.capnp_pointers.specs.Wanted.{Form}
+use Rattle.capnp_pointers.proofs.WholeValue.ChildrenRead.{read_stop, read_element_stop}
+use Rattle.capnp_pointers.proofs.WholeValue.UnreadableIfRefused.{unreadable}
 use Rattle.capnp_copies.specs.Originals.{sections_original, list_original}
 use Rattle.capnp_copies.proofs.Cleared.{StopsOrReads}
 

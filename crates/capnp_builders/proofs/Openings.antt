@@ -8,16 +8,16 @@ use Rattle.capnp_format.specs.Forest.{target, target_in}
 use Rattle.capnp_words.specs.declared.wire_pointer.ElementSize.TheVariants.{Void}
 use Rattle.capnp_words.specs.declared.wire_pointer.StructSize.{StructSize}
 use Rattle.capnp_arena_traits.specs.View.{View}
-use Rattle.capnp_contents.specs.declared.existing.ExistingList.{ExistingList}
-use Rattle.capnp_contents.specs.declared.existing.ExistingStruct.{ExistingStruct}
-use Rattle.capnp_making.specs.Stored.{IsStored}
-use Rattle.capnp_making.proofs.Leading.{leads_segment}
+use Rattle.capnp_in_place.specs.declared.existing.ExistingList.{ExistingList}
+use Rattle.capnp_in_place.specs.declared.existing.ExistingStruct.{ExistingStruct}
+use Rattle.capnp_allocation.specs.Stored.{IsStored}
+use Rattle.capnp_allocation.proofs.Leading.{leads_segment}
 use Rattle.capnp_readers.specs.declared.readers.list_reader.ListPlace.{ListPlace}
 use Rattle.capnp_readers.specs.declared.readers.struct_reader.StructPlace.{StructPlace}
-use Rattle.capnp_making.specs.Makes.{CallAt, call_at}
-use Rattle.capnp_contents.specs.Opening.{Opens, struct_opened, LeadsToOne, LeadsToAll, OpensStruct, OpensExistingList as OpensAll}
-use Rattle.capnp_contents.specs.Widened.{list_widened}
-use Rattle.capnp_contents.proofs.WiderObjects.StructBySteps.{no_struct, same_struct, the_struct}
+use Rattle.capnp_allocation.specs.Makes.{CallAt, call_at}
+use Rattle.capnp_in_place.specs.Opening.{Opens, struct_opened, LeadsToOne, LeadsToAll, OpensStruct, OpensExistingList as OpensAll}
+use Rattle.capnp_in_place.specs.Widened.{list_widened}
+use Rattle.capnp_in_place.proofs.WiderObjects.StructBySteps.{no_struct, same_struct, the_struct}
 use Rattle.capnp_builders.specs.Found.{list_given, void_list}
 use Rattle.capnp_builders.specs.Opening.{IsStructGiven, IsListGiven, OpensList}
 use Rattle.capnp_builders.specs.Places.{struct_place}

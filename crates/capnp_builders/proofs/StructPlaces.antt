@@ -1,6 +1,6 @@
 -- The parts of the place of a struct.
 use Rattle.std.proofs.Common.{◌≡◌, ℕ, ◌+◌, ◌*◌, ap}
-use Rattle.capnp_contents.specs.declared.existing.ExistingStruct.{ExistingStruct}
+use Rattle.capnp_in_place.specs.declared.existing.ExistingStruct.{ExistingStruct}
 use Rattle.capnp_readers.specs.declared.readers.struct_reader.StructPlace.{StructPlace}
 use Rattle.capnp_builders.specs.Places.{struct_place}
 

@@ -5,15 +5,15 @@ use Rattle.capnp_words.specs.declared.error.ErrorKind.{ErrorKind}
 use Rattle.capnp_format.specs.Segments.{Segments, word_at, IsPlace}
 use Rattle.capnp_format.specs.Tree.{Tree}
 use Rattle.capnp_arena_traits.specs.View.{View}
-use Rattle.capnp_contents.specs.Existing.{is_unfound}
-use Rattle.capnp_making.specs.Memory.{KeepsMemory}
-use Rattle.capnp_making.specs.Stored.{IsStored}
-use Rattle.capnp_making.specs.Makes.{CallAt, call_at}
+use Rattle.capnp_in_place.specs.Existing.{is_unfound}
+use Rattle.capnp_allocation.specs.Memory.{KeepsMemory}
+use Rattle.capnp_allocation.specs.Stored.{IsStored}
+use Rattle.capnp_allocation.specs.Makes.{CallAt, call_at}
 use Rattle.capnp_readers.specs.Readers.{IsStructPlace, IsListPlace}
 use Rattle.capnp_readers.specs.Sections.{IsInside, data_bits}
 use Rattle.capnp_readers.specs.declared.readers.list_reader.ListPlace.{ListPlace}
 use Rattle.capnp_readers.specs.declared.readers.struct_reader.StructPlace.{StructPlace}
-use Rattle.capnp_contents.specs.Rooms.{UsesMemory}
+use Rattle.capnp_in_place.specs.Rooms.{UsesMemory}
 use Rattle.capnp_builders.specs.declared.builders.PointerBuilder.{PointerBuilder}
 use Rattle.capnp_builders.specs.declared.builders.struct_builder.StructBuilder.{StructBuilder}
 use Rattle.capnp_builders.specs.declared.builders.list_builder.ListBuilder.{ListBuilder}

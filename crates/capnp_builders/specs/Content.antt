@@ -6,19 +6,19 @@ use Rattle.capnp_format.specs.Segments.{Segments, word_at}
 use Rattle.capnp_format.specs.Tree.{Null, Trees, no_trees, tree}
 use Rattle.capnp_arena_traits.specs.declared.arena.reader_arena.ReaderArena.{Ghosts}
 use Rattle.capnp_arena_traits.specs.View.{View, KeepsLimits}
-use Rattle.capnp_making.specs.Fields.{with_field}
+use Rattle.capnp_allocation.specs.Fields.{with_field}
 use Rattle.capnp_format.specs.Fields.{field_in}
-use Rattle.capnp_making.specs.Made.{nulls}
-use Rattle.capnp_making.specs.Stored.{Puts}
+use Rattle.capnp_allocation.specs.Made.{nulls}
+use Rattle.capnp_allocation.specs.Stored.{Puts}
 use Rattle.capnp_readers.specs.declared.readers.struct_reader.StructPlace.{StructPlace}
 use Rattle.capnp_readers.specs.declared.readers.struct_reader.StructReader.{StructReader}
 use Rattle.capnp_words.specs.declared.error.ErrorKind.{ErrorKind}
-use Rattle.capnp_objects.specs.Wanted.{plain}
+use Rattle.capnp_pointers.specs.Wanted.{plain}
 use Rattle.capnp_readers.specs.Sizes.{pointers_read}
 use Rattle.capnp_copies.specs.Changes.{CopyCall, CopiesChildren, copy_call, CopiesFirst}
 use Rattle.capnp_copies.specs.Rooms.{CanBeCopied}
 use Rattle.capnp_copies.specs.Originals.{children_original}
-use Rattle.capnp_making.specs.Makes.{call_at}
+use Rattle.capnp_allocation.specs.Makes.{call_at}
 use Rattle.capnp_builders.specs.Places.{Field}
 
 -- Byte i of content that is `bits` bits long, with zeros for the bits after its end.

@@ -12,19 +12,19 @@ use Rattle.capnp_format.specs.Bytes.{words_of}
 use Rattle.capnp_format.specs.Segments.{word_at, Grows}
 use Rattle.capnp_format.specs.Tree.{Tree, Null, capabilities}
 use Rattle.capnp_arena_traits.specs.View.{View}
-use Rattle.capnp_making.specs.Memory.{KeepsMemory, SpendsMemory}
-use Rattle.capnp_making.specs.Stored.{IsReplaced, IsStored}
-use Rattle.capnp_objects.specs.Faults.{HasFault}
-use Rattle.capnp_objects.specs.Outcomes.{MeansThere}
-use Rattle.capnp_objects.specs.Reading.{Reading}
-use Rattle.capnp_objects.specs.Source.{default_segment, default_segments}
-use Rattle.capnp_objects.specs.Wanted.{of_default}
+use Rattle.capnp_allocation.specs.Memory.{KeepsMemory, SpendsMemory}
+use Rattle.capnp_allocation.specs.Stored.{IsReplaced, IsStored}
+use Rattle.capnp_pointers.specs.Faults.{HasFault}
+use Rattle.capnp_pointers.specs.Outcomes.{MeansThere}
+use Rattle.capnp_pointers.specs.Reading.{Reading}
+use Rattle.capnp_pointers.specs.Source.{default_segment, default_segments}
+use Rattle.capnp_pointers.specs.Wanted.{of_default}
 use Rattle.capnp_copies.specs.Changes.{IsCopiedInRoom, IsTooLarge, LacksRoom, copy_call}
 use Rattle.capnp_copies.specs.Growth.{MakesAtMost}
 use Rattle.capnp_copies.specs.Originals.{value_original}
 use Rattle.capnp_copies.specs.Rooms.{CanBeCopied}
-use Rattle.capnp_making.specs.Makes.{CallAt, call_at}
-use Rattle.capnp_contents.specs.Rooms.{UsesMemory}
+use Rattle.capnp_allocation.specs.Makes.{CallAt, call_at}
+use Rattle.capnp_in_place.specs.Rooms.{UsesMemory}
 use Rattle.capnp_builders.specs.Building.{Building, IsThere}
 
 -- The first word of a default, whose bytes are one segment. Reading it isn't charged, and may enter

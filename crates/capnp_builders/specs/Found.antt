@@ -7,11 +7,11 @@ use Rattle.capnp_format.specs.Tree.{Tree}
 use Rattle.capnp_words.specs.declared.wire_pointer.ElementSize.{ElementSize}
 use Rattle.capnp_words.specs.declared.wire_pointer.ElementSize.TheVariants.{Void}
 use Rattle.capnp_words.specs.declared.error.ErrorKind.{ErrorKind}
-use Rattle.capnp_contents.specs.Existing.{list_in}
-use Rattle.capnp_contents.specs.declared.existing.ExistingBytes.{ExistingBytes}
-use Rattle.capnp_contents.specs.declared.existing.ExistingList.{ExistingList}
+use Rattle.capnp_in_place.specs.Existing.{list_in}
+use Rattle.capnp_in_place.specs.declared.existing.ExistingBytes.{ExistingBytes}
+use Rattle.capnp_in_place.specs.declared.existing.ExistingList.{ExistingList}
 use Rattle.capnp_readers.specs.declared.readers.list_reader.ListPlace.{ListPlace}
-use Rattle.capnp_making.specs.Makes.{CallAt}
+use Rattle.capnp_allocation.specs.Makes.{CallAt}
 use Rattle.capnp_builders.specs.Defaults.{object_default, blob_default, WithDefault}
 use Rattle.capnp_builders.specs.Places.{list_place}
 

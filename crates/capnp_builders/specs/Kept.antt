@@ -5,11 +5,11 @@ use Rattle.capnp_format.specs.Segments.{segment}
 use Rattle.capnp_format.specs.Tree.{Tree, Null}
 use Rattle.capnp_format.specs.Canonical.{encoding, word_count}
 use Rattle.capnp_arena_traits.specs.View.{View, KeepsLimits}
-use Rattle.capnp_making.specs.Memory.{KeepsMemory, SpendsMemory}
-use Rattle.capnp_making.specs.Stored.{Puts}
-use Rattle.capnp_making.specs.Zeroed.{IsPruned}
-use Rattle.capnp_objects.specs.Outcomes.{Reads}
-use Rattle.capnp_objects.specs.Reading.{Reading}
+use Rattle.capnp_allocation.specs.Memory.{KeepsMemory, SpendsMemory}
+use Rattle.capnp_allocation.specs.Stored.{Puts}
+use Rattle.capnp_allocation.specs.Zeroed.{IsPruned}
+use Rattle.capnp_pointers.specs.Outcomes.{Reads}
+use Rattle.capnp_pointers.specs.Reading.{Reading}
 use Rattle.capnp_copies.specs.Changes.{CopyCall, StayInSegment, IsCopiedInRoom, RefusesToCopy}
 use Rattle.capnp_copies.specs.Forms.{kept}
 use Rattle.capnp_copies.specs.Originals.{Original}

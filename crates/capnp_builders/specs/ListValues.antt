@@ -2,7 +2,7 @@
 -- is read at its place.
 use Rattle.capnp_arena_traits.specs.declared.arena.reader_arena.ReaderArena.{Ghosts}
 use Rattle.capnp_format.specs.Tree.{Tree}
-use Rattle.capnp_objects.specs.Reading.{reading_at}
+use Rattle.capnp_pointers.specs.Reading.{reading_at}
 use Rattle.capnp_readers.specs.declared.readers.list_reader.ListReader.{ListReader}
 use Rattle.capnp_copies.specs.Originals.{Original, list_original}
 

@@ -7,16 +7,16 @@ use Rattle.capnp_format.specs.Segments.{Segments}
 use Rattle.capnp_format.specs.Tree.{Tree, Null}
 use Rattle.capnp_words.specs.declared.wire_pointer.ElementSize.TheVariants.{Void}
 use Rattle.capnp_words.specs.declared.wire_pointer.StructSize.{StructSize}
-use Rattle.capnp_contents.specs.Existing.{list_in, struct_in}
-use Rattle.capnp_making.specs.Stored.{IsStored}
+use Rattle.capnp_in_place.specs.Existing.{list_in, struct_in}
+use Rattle.capnp_allocation.specs.Stored.{IsStored}
 use Rattle.capnp_arena_traits.specs.View.{View}
 use Rattle.capnp_readers.specs.Readers.{IsListPlace, IsStructPlace}
 use Rattle.capnp_readers.specs.declared.readers.list_reader.ListPlace.{ListPlace}
 use Rattle.capnp_readers.specs.declared.readers.struct_reader.StructPlace.{StructPlace}
-use Rattle.capnp_making.specs.Makes.{CallAt}
-use Rattle.capnp_contents.specs.Opening.{Opens, OpensStruct}
-use Rattle.capnp_contents.specs.Rooms.{WiderListFits, OpeningFits}
-use Rattle.capnp_contents.specs.Widened.{list_widened}
+use Rattle.capnp_allocation.specs.Makes.{CallAt}
+use Rattle.capnp_in_place.specs.Opening.{Opens, OpensStruct}
+use Rattle.capnp_in_place.specs.Rooms.{WiderListFits, OpeningFits}
+use Rattle.capnp_in_place.specs.Widened.{list_widened}
 use Rattle.capnp_builders.specs.Defaults.{object_default, FitsWithDefault, WithDefault}
 use Rattle.capnp_builders.specs.Found.{list_given, void_list}
 use Rattle.capnp_builders.specs.Places.{struct_place}

@@ -1,16 +1,16 @@
 -- Where structs and lists of a message being built are ("Structs", "Lists").
 use Rattle.std.specs.Prelude.{◌≡◌, ℕ, ◌+◌, ◌*◌, ◌/◌, ◌%◌, ◌<◌, min}
 use Rattle.capnp_arena_traits.specs.View.{View}
-use Rattle.capnp_making.specs.Fields.{with_field}
+use Rattle.capnp_allocation.specs.Fields.{with_field}
 use Rattle.capnp_format.specs.Fields.{field_in}
 use Rattle.capnp_format.specs.Numbers.{element_bits}
 use Rattle.capnp_format.specs.Forest.{target}
 use Rattle.capnp_format.specs.Segments.{Target, segment}
-use Rattle.capnp_making.specs.Makes.{CallAt}
-use Rattle.capnp_making.specs.Memory.{start_of}
-use Rattle.capnp_contents.specs.declared.existing.ExistingList.{ExistingList}
-use Rattle.capnp_contents.specs.declared.existing.ExistingStruct.{ExistingStruct}
-use Rattle.capnp_contents.specs.Opening.{existing_struct}
+use Rattle.capnp_allocation.specs.Makes.{CallAt}
+use Rattle.capnp_allocation.specs.Memory.{start_of}
+use Rattle.capnp_in_place.specs.declared.existing.ExistingList.{ExistingList}
+use Rattle.capnp_in_place.specs.declared.existing.ExistingStruct.{ExistingStruct}
+use Rattle.capnp_in_place.specs.Opening.{existing_struct}
 use Rattle.capnp_words.specs.Sizes.{size_number}
 use Rattle.capnp_words.specs.declared.wire_pointer.ElementSize.{ElementSize}
 use Rattle.capnp_words.specs.declared.wire_pointer.ElementSize.TheVariants.{Pointer, InlineComposite}

@@ -2,8 +2,8 @@
 use Rattle.std.specs.Prelude.{◌≡◌, ◌-◌, ◌*◌, ◌^◌, pos}
 use Rattle.capnp_words.specs.declared.wire_pointer.ElementSize.TheVariants.{InlineComposite}
 use Rattle.capnp_arena_traits.specs.declared.arena.reader_arena.ReaderArena.{Ghosts}
-use Rattle.capnp_objects.specs.declared.source.Source.{Source}
-use Rattle.capnp_objects.specs.declared.source.Source.TheVariants.{Arena, Default, Nothing}
+use Rattle.capnp_pointers.specs.declared.source.Source.{Source}
+use Rattle.capnp_pointers.specs.declared.source.Source.TheVariants.{Arena, Default, Nothing}
 use Rattle.capnp_readers.specs.declared.readers.PointerReader.{PointerReader}
 use Rattle.capnp_readers.specs.declared.readers.struct_reader.StructPlace.{StructPlace}
 use Rattle.capnp_readers.specs.declared.readers.struct_reader.StructReader.{StructReader}

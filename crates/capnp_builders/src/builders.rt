@@ -7,18 +7,18 @@ ghost use Rattle.capnp_format.specs.Tree.{Null, Capability, Flat, count};
 ghost use Rattle.capnp_format.specs.Word.{capability_word, struct_word};
 ghost use Rattle.capnp_format.specs.Numbers.{words_for};
 ghost use Rattle.capnp_format.specs.Value.{AreBelow};
-ghost use Rattle.capnp_contents.specs.Existing.{AreInside, capability_of, plain_list, struct_list};
-ghost use Rattle.capnp_contents.specs.InPlace.{bytes_there, rewritten, AreZeroOnce, LendsBytes, MakesBytes, Overwrites};
+ghost use Rattle.capnp_in_place.specs.Existing.{AreInside, capability_of, plain_list, struct_list};
+ghost use Rattle.capnp_in_place.specs.InPlace.{bytes_there, rewritten, AreZeroOnce, LendsBytes, MakesBytes, Overwrites};
 ghost use Rattle.capnp_words.specs.Sizes.{size_number};
-ghost use Rattle.capnp_making.specs.Made.{zero_struct, zero_structs, zero_list, list_words};
-ghost use Rattle.capnp_making.specs.Makes.{MakesObject, ReachesArena};
-ghost use Rattle.capnp_making.specs.Near.{LeadsToEnd};
-ghost use Rattle.capnp_making.specs.Stored.{Puts};
-ghost use Rattle.capnp_making.specs.Zeroed.{IsPruned, IsPrunedBut};
+ghost use Rattle.capnp_allocation.specs.Made.{zero_struct, zero_structs, zero_list, list_words};
+ghost use Rattle.capnp_allocation.specs.Makes.{MakesObject, ReachesArena};
+ghost use Rattle.capnp_allocation.specs.Near.{LeadsToEnd};
+ghost use Rattle.capnp_allocation.specs.Stored.{Puts};
+ghost use Rattle.capnp_allocation.specs.Zeroed.{IsPruned, IsPrunedBut};
 ghost use Rattle.capnp_builders.specs.Places.{IsAligned, IsStructOf, IsListOf};
 ghost use Rattle.capnp_words.specs.declared.error.ErrorKind.{ErrorKind};
 ghost use Rattle.capnp_builders.specs.Reads.{IsArenaOf, IsPointerReader};
-ghost use Rattle.capnp_objects.specs.Wanted.{canonical, plain};
+ghost use Rattle.capnp_pointers.specs.Wanted.{canonical, plain};
 ghost use Rattle.capnp_copies.specs.Changes.{MakesCopy, copy_call};
 ghost use Rattle.capnp_copies.specs.Rooms.{CanBeCopied};
 ghost use Rattle.capnp_copies.specs.Forms.{form_of};
@@ -38,12 +38,12 @@ mod primitive_element;
 mod struct_builder;
 
 use crate::{copy, fields};
+use capnp_allocation::making;
 use capnp_arena_traits::arena::{BuilderArena, ReaderArena, WordPlace};
-use capnp_contents::existing::ExistingBytes;
-use capnp_contents::{bytes, existing, initializing, lent};
-use capnp_making::making;
-use capnp_objects::object::Place;
-use capnp_objects::source::Source;
+use capnp_in_place::existing::ExistingBytes;
+use capnp_in_place::{bytes, existing, initializing, lent};
+use capnp_pointers::object::Place;
+use capnp_pointers::source::Source;
 use capnp_readers::readers::{ListPlace, ListReader, PointerReader, StructPlace, StructReader};
 use capnp_words::error::ErrorKind;
 use capnp_words::read_limiter::ReadLimiter;
@@ -134,7 +134,7 @@ impl<'a, A: BuilderArena> PointerBuilder<'a, A> {
         reader_at(arena, segment, at)
     }
 
-    #[tactic(auto, using(capnp_contents::proofs::Growing::pruned_grows))]
+    #[tactic(auto, using(capnp_in_place::proofs::Growing::pruned_grows))]
     /// Makes the pointer null, and zeroes what it held: its object, all objects below it, and their
     /// landing pads. These words stay allocated. Precondition: the pointer's word is allocated.
     pub fn clear(&mut self)

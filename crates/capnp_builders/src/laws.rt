@@ -8,12 +8,12 @@ ghost use Rattle.std.specs.Prelude.{◌≡◌, ℕ, ◌+◌, ◌*◌, ◌<◌, �
 ghost use Rattle.capnp_format.specs.Forest.{target};
 ghost use Rattle.capnp_format.specs.Segments.{Segments};
 ghost use Rattle.capnp_format.specs.Tree.{Tree, Null, Struct, Structs, Trees, Elements, count, element_count};
-ghost use Rattle.capnp_making.specs.Filled.{AreFilled};
-ghost use Rattle.capnp_making.specs.Memory.{start_of};
+ghost use Rattle.capnp_allocation.specs.Filled.{AreFilled};
+ghost use Rattle.capnp_allocation.specs.Memory.{start_of};
 ghost use Rattle.capnp_format.specs.Path.{put_struct, put_tree, struct_at, tree_at};
-ghost use Rattle.capnp_making.specs.Stored.{IsStored, IsReplaced};
+ghost use Rattle.capnp_allocation.specs.Stored.{IsStored, IsReplaced};
 ghost use Rattle.capnp_readers.specs.declared.readers.struct_reader.StructPlace.{StructPlace};
-ghost use Rattle.capnp_contents.specs.Opening.{existing_struct};
+ghost use Rattle.capnp_in_place.specs.Opening.{existing_struct};
 ghost use Rattle.capnp_builders.specs.Content.{TakesBytes, HoldContent, up_to};
 ghost use Rattle.capnp_builders.specs.Held.{HasStruct, Holder};
 ghost use Rattle.capnp_builders.specs.Places.{struct_place};

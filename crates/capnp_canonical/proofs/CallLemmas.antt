@@ -21,7 +21,7 @@ use Rattle.capnp_framing.specs.Reading.{NoFrame}
 use Rattle.capnp_framing.proofs.FrameLemmas.{one_frame_begins}
 use Rattle.capnp_framing.proofs.ReadingLemmas.{frame_is_read, bytes-length}
 use Rattle.capnp_messages.specs.CanonicalMessages.{IsCanonicalMessage}
-use Rattle.capnp_objects.specs.declared.pointers.canonical_fault.CanonicalFault.{CanonicalFault}
+use Rattle.capnp_pointers.specs.declared.pointers.canonical_fault.CanonicalFault.{CanonicalFault}
 use Rattle.capnp_messages.specs.Messages.{HasSizeOf, IsCanonicalWithin, IsFaultOf}
 use Rattle.capnp_messages.specs.Commands.{HasAnswerWithin, form_bytes}
 use Rattle.capnp_messages.specs.declared.messages.command.Command.TheVariants.{Canon, Check, Size}

@@ -2,7 +2,7 @@
 use Rattle.std.proofs.Common.{◌≡◌, ℕ, zero, suc, ◌+◌, ◌-◌, ◌<◌, ◌≤◌, List, [], ◌∷◌, length, slice_index_or}
 use Rattle.std.proofs.Common.{refl, subst, arith}
 use Rattle.capnp_words.specs.Names.{name_of}
-use Rattle.capnp_objects.specs.CanonicalFaults.{fault_reason_text}
+use Rattle.capnp_pointers.specs.CanonicalFaults.{fault_reason_text}
 use Rattle.capnp_canonical.specs.Numbers.{answer_name, answer_number, reason_number}
 use Rattle.capnp_numbers.specs.Numbers.{error_number, frame_error_number}
 use Rattle.capnp_canonical.specs.Texts.{IsTextOf}
@@ -10,8 +10,8 @@ use Rattle.capnp_words.specs.declared.error.ErrorKind.{ErrorKind}
 use Rattle.capnp_words.specs.declared.error.ErrorKind.TheVariants.{AllocationFailed, CannotCreateACanonicalMessageWithACapability, CantHandleNonStructInlineComposite, ExistingListPointerIsNotByteSized, ExistingListValueIsIncompatibleWithExpectedType, ExistingPointerIsNotAList, ExpectedAPointerListButGotAListOfDataOnlyStructs, ExpectedAPrimitiveListButGotAListOfPointerOnlyStructs, FoundBitListWhereStructListWasExpected, FoundStructListWhereBitListWasExpected, InlineCompositeListsElementsOverrunItsWordCount, InlineCompositeListsOfNonStructTypeAreNotSupported, InvalidSegmentId, MalformedDoubleFarPointer, MessageContainsListPointerOfNonBytesWhereDataWasExpected, MessageContainsListPointerOfNonBytesWhereTextWasExpected, MessageContainsListWithIncompatibleElementType, MessageContainsNonCapabilityPointerWhereCapabilityPointerWasExpected, MessageContainsNonListPointerWhereDataWasExpected, MessageContainsNonListPointerWhereListPointerWasExpected, MessageContainsNonListPointerWhereTextWasExpected, MessageContainsNonStructPointerWhereStructPointerWasExpected, MessageContainsNullCapabilityPointer, MessageContainsOutOfBoundsPointer, MessageContainsTextThatIsNotNULTerminated, MessageIsTooDeeplyNested, MessageIsTooDeeplyNestedOrContainsCycles, MessageTooLarge, NestingLimitExceeded, NoSuchPlace, ReadLimitExceeded, TextBlobMissingNULTerminator, TriedToReadFromNullArena, UnexpectedFarPointer, UnknownPointerType}
 use Rattle.capnp_framing.specs.declared.framing.frame_error.FrameError.{FrameError}
 use Rattle.capnp_framing.specs.declared.framing.frame_error.FrameError.TheVariants.{NoSegments, TooManySegments, MessageTooLong, Truncated, ReadFailed, WriteFailed, AllocationFailed as NoMemory}
-use Rattle.capnp_objects.specs.declared.pointers.canonical_fault.CanonicalFaultReason.{CanonicalFaultReason}
-use Rattle.capnp_objects.specs.declared.pointers.canonical_fault.CanonicalFaultReason.TheVariants.{SegmentCount, NoPointer, FarPointer, Capability, UnknownPointer, EmptyStructPlace, ObjectPlace, Padding, DataSection, PointerSection, ElementWords, ElementData, ElementPointers, WordsBehind}
+use Rattle.capnp_pointers.specs.declared.pointers.canonical_fault.CanonicalFaultReason.{CanonicalFaultReason}
+use Rattle.capnp_pointers.specs.declared.pointers.canonical_fault.CanonicalFaultReason.TheVariants.{SegmentCount, NoPointer, FarPointer, Capability, UnknownPointer, EmptyStructPlace, ObjectPlace, Padding, DataSection, PointerSection, ElementWords, ElementData, ElementPointers, WordsBehind}
 use Rattle.capnp_canonical.specs.declared.refusal.Refusal.{Refusal}
 use Rattle.capnp_canonical.specs.declared.refusal.Refusal.TheVariants.{NoRoom, NoMessage, SegmentIsNotWholeWords, Frame, Layout}
 

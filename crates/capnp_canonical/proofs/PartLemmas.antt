@@ -6,7 +6,7 @@ use Rattle.capnp_format.specs.Segments.{AreWords, Segments}
 use Rattle.capnp_arena.specs.declared.arena.reader_arena_impl.ReaderOptions.{ReaderOptions}
 use Rattle.capnp_framing.proofs.ReadingLemmas.{bytes-length}
 use Rattle.capnp_words.specs.declared.error.ErrorKind.{ErrorKind}
-use Rattle.capnp_objects.specs.declared.pointers.sizes.MessageSize.{MessageSize}
+use Rattle.capnp_pointers.specs.declared.pointers.sizes.MessageSize.{MessageSize}
 use Rattle.capnp_messages.proofs.MessagePartLemmas.{part_granted}
 use Rattle.capnp_canonical.specs.Calls.{IsGranted}
 use Rattle.capnp_canonical.specs.Numbers.{answer_number}

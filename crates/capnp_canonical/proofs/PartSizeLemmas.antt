@@ -13,15 +13,15 @@ use Rattle.capnp_format.proofs.Lengths.{length-body}
 use Rattle.capnp_format.proofs.Trimmed.{trim-value}
 use Rattle.capnp_format.proofs.Trimming.{trim-words}
 use Rattle.capnp_arena.specs.declared.arena.reader_arena_impl.ReaderOptions.{ReaderOptions}
-use Rattle.capnp_objects.specs.declared.object.Purpose.TheVariants.{Value}
-use Rattle.capnp_objects.specs.Enter.{Shape, capability, flat, nothing, pointers, read, struct, structs}
-use Rattle.capnp_objects.specs.Metered.{onward, outcome}
-use Rattle.capnp_objects.specs.Reading.{Reading, place_past}
-use Rattle.capnp_objects.specs.Source.{levels}
-use Rattle.capnp_objects.specs.declared.pointers.sizes.MessageSize.{MessageSize}
-use Rattle.capnp_objects.specs.Measure.{FitSize, measure, measure_pointers, only_words}
-use Rattle.capnp_objects.specs.ValueSize.{value_size}
-use Rattle.capnp_objects.proofs.Sizes.CountsTheValue.{Counts, of_tree, size_is, value_counts}
+use Rattle.capnp_pointers.specs.declared.object.Purpose.TheVariants.{Value}
+use Rattle.capnp_pointers.specs.Enter.{Shape, capability, flat, nothing, pointers, read, struct, structs}
+use Rattle.capnp_pointers.specs.Metered.{onward, outcome}
+use Rattle.capnp_pointers.specs.Reading.{Reading, place_past}
+use Rattle.capnp_pointers.specs.Source.{levels}
+use Rattle.capnp_pointers.specs.declared.pointers.sizes.MessageSize.{MessageSize}
+use Rattle.capnp_pointers.specs.Measure.{FitSize, measure, measure_pointers, only_words}
+use Rattle.capnp_pointers.specs.ValueSize.{value_size}
+use Rattle.capnp_pointers.proofs.Sizes.CountsTheValue.{Counts, of_tree, size_is, value_counts}
 use Rattle.capnp_messages.specs.EndValues.{EndMeans, IsEndThere, end_place, measure_end}
 use Rattle.capnp_messages.specs.MessageParts.{IsPartOf, part_size, part_within}
 use Rattle.capnp_messages.specs.Parts.{PathEnd, to_pointer, to_element, pointer_in, end_at, end_in, inside, follow_path, step}

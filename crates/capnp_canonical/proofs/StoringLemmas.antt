@@ -1,6 +1,6 @@
 -- What follows from what a function for C stores and answers, and from what the call says that made it.
 use Rattle.std.proofs.Common.{◌≡◌, ◌≢◌, ◌≤◌, ℕ, List, Result, Ok, Err, IfErr, IfOk, IsOk, OnOk, ap, sym, subst, arith, take, length, drop}
-use Rattle.capnp_objects.specs.declared.pointers.sizes.MessageSize.{MessageSize}
+use Rattle.capnp_pointers.specs.declared.pointers.sizes.MessageSize.{MessageSize}
 use Rattle.capnp_canonical.specs.Calls.{Fills, FillsByNumber, IsNumberWhere}
 use Rattle.capnp_canonical.specs.Numbers.{answer_number, wanted_room}
 use Rattle.capnp_canonical.specs.Storing.{Stores, no_size}

@@ -17,7 +17,7 @@ use Rattle.capnp_framing.specs.Reading.{NoFrame}
 use Rattle.capnp_framing.specs.declared.framing.frame_error.FrameError.{FrameError}
 use Rattle.capnp_framing.specs.declared.framing.frame_error.FrameError.TheVariants.{Truncated}
 use Rattle.capnp_messages.specs.CanonicalMessages.{IsCanonicalMessage}
-use Rattle.capnp_objects.specs.declared.pointers.canonical_fault.CanonicalFault.{CanonicalFault}
+use Rattle.capnp_pointers.specs.declared.pointers.canonical_fault.CanonicalFault.{CanonicalFault}
 use Rattle.capnp_messages.specs.Messages.{IsCanonicalWithin, IsFaultOf, IsValueOf}
 use Rattle.capnp_messages.specs.Commands.{RefusesAnswer, form_bytes}
 use Rattle.capnp_messages.specs.declared.messages.command.Command.{Command}
@@ -26,7 +26,7 @@ use Rattle.capnp_messages.specs.declared.messages.command.Form.{Form}
 use Rattle.capnp_messages.specs.declared.messages.command.Form.TheVariants.{Framed, Flat}
 use Rattle.capnp_packing.specs.Packing.{IsWhole, unpacked_bytes}
 use Rattle.capnp_packing.specs.declared.packing.place.Place.TheVariants.{Tag}
-use Rattle.capnp_objects.specs.Extents.{capped}
+use Rattle.capnp_pointers.specs.Extents.{capped}
 use Rattle.capnp_canonical.specs.Numbers.{reason_number, answer_number}
 use Rattle.capnp_canonical.specs.PackedWords.{packed_words}
 use Rattle.capnp_canonical.specs.declared.fault.Fault.{Fault}

@@ -1,6 +1,6 @@
 -- What C is told of the objects of a message.
 use Rattle.std.specs.Prelude.{◌≡◌, ℕ, List, Some, None, length, if◌then◌else◌, nat_lt}
-use Rattle.capnp_objects.specs.Extents.{capped}
+use Rattle.capnp_pointers.specs.Extents.{capped}
 use Rattle.capnp_refusals.specs.Search.{Finding}
 use Rattle.capnp_walks.specs.Walks.{Walking, written_over}
 use Rattle.capnp_walks.specs.declared.walks.listing.WalkedObject.{WalkedObject}

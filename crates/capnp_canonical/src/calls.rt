@@ -17,7 +17,7 @@ use crate::taking::{Room, lend_words};
 use capnp_arena::arena::{ReaderArenaImpl, ReaderOptions, ReaderSegments};
 use capnp_messages::messages;
 use capnp_messages::messages::Form;
-use capnp_objects::pointers::{CanonicalFault, MessageSize};
+use capnp_pointers::pointers::{CanonicalFault, MessageSize};
 use std::alloc::Global;
 
 /// The limits for reading a message.

@@ -3,7 +3,7 @@ ghost use Rattle.std.specs.Prelude.{◌≡◌, IfSome, IsNone};
 ghost use Rattle.capnp_canonical.specs.Calls.{no_fault, c_fault};
 ghost use Rattle.capnp_canonical.specs.Numbers.{reason_number};
 
-use capnp_objects::pointers::{CanonicalFault, CanonicalFaultReason};
+use capnp_pointers::pointers::{CanonicalFault, CanonicalFaultReason};
 
 /// Why and where a message isn't canonical.
 #[repr(C)]

@@ -17,7 +17,7 @@ use crate::refusal::Refusal;
 use capnp_arena::arena::ReaderSegments;
 use capnp_framing::framing::{FrameSegments, read_from_flat_slice, size_from_prefix};
 use capnp_messages::messages::Form;
-use capnp_objects::pointers::{CanonicalFault, MessageSize};
+use capnp_pointers::pointers::{CanonicalFault, MessageSize};
 use std::alloc::Global;
 
 /// Returns the message whose frame is at the front of `bytes`. Refuses a message of more than

@@ -25,7 +25,7 @@ ghost use Rattle.capnp_canonical.specs.Calls.{FillsByNumber, InFrame, IsCopyOf, 
 ghost use Rattle.capnp_canonical.specs.Validation.{ExtentIs, RefusesExtent, no_extent};
 ghost use Rattle.capnp_canonical.specs.Pieces.{next_place, unpacking_at, written_piece};
 ghost use Rattle.capnp_canonical.specs.Locating.{PointerIs, no_pointer};
-ghost use Rattle.capnp_objects.specs.CanonicalFaults.{fault_reason_text};
+ghost use Rattle.capnp_pointers.specs.CanonicalFaults.{fault_reason_text};
 ghost use Rattle.capnp_canonical.specs.PackedWords.{packed_words};
 ghost use Rattle.capnp_canonical.specs.Numbers.{answer_name, answer_number, reason_number, wanted_room};
 ghost use Rattle.capnp_canonical.specs.Texts.{PutsText, IsTextOf, is_c_string};

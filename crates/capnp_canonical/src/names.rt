@@ -1,13 +1,13 @@
 //! The names of refusals and the texts of reasons, by their numbers in C.
 ghost use Rattle.std.specs.Prelude.{◌≡◌, IfSome, IsNone, length};
-ghost use Rattle.capnp_objects.specs.CanonicalFaults.{fault_reason_text};
+ghost use Rattle.capnp_pointers.specs.CanonicalFaults.{fault_reason_text};
 ghost use Rattle.capnp_canonical.specs.Numbers.{answer_name, answer_number, reason_number};
 ghost use Rattle.capnp_canonical.specs.Texts.{PutsText, IsTextOf};
 ghost use Rattle.capnp_canonical.specs.declared.refusal.Refusal.{Refusal};
 
 use crate::refusal::Refusal;
 use capnp_framing::framing::FrameError;
-use capnp_objects::pointers::CanonicalFaultReason;
+use capnp_pointers::pointers::CanonicalFaultReason;
 use capnp_words::error::ErrorKind;
 
 /// The refusals of reading and writing a frame, in the order of their numbers, from 16 on.

@@ -16,7 +16,7 @@ use crate::words::message_of;
 use capnp_arena::arena::{ReaderArenaImpl, ReaderSegments};
 use capnp_messages::messages;
 use capnp_messages::messages::Form;
-use capnp_objects::pointers::MessageSize;
+use capnp_pointers::pointers::MessageSize;
 use std::alloc::Global;
 
 /// Makes the canonical copy of the part of the message in `segments` to which `path` leads, and

@@ -3,7 +3,7 @@ ghost use Rattle.capnp_canonical.specs.Numbers.{wanted_room};
 ghost use Rattle.capnp_canonical.specs.Storing.{Stores, no_size};
 
 use crate::refusal::Refusal;
-use capnp_objects::pointers::MessageSize;
+use capnp_pointers::pointers::MessageSize;
 
 /// Stores in `to` what a call made, or `otherwise` if it is refused. Returns 0, or the number of
 /// the refusal.

@@ -13,7 +13,7 @@ use crate::calls::{Limits, check, copy, size};
 use crate::refusal::Refusal;
 use capnp_arena::arena::OutputSegments;
 use capnp_messages::messages::Form;
-use capnp_objects::pointers::{CanonicalFault, MessageSize};
+use capnp_pointers::pointers::{CanonicalFault, MessageSize};
 use capnp_words::error::ErrorKind;
 use std::alloc::Global;
 

@@ -7,8 +7,8 @@ use Rattle.capnp_format.specs.Canonical.{word_count_all}
 use Rattle.capnp_format.proofs.Children.{with_last}
 use Rattle.capnp_arena_traits.specs.View.{View}
 use Rattle.capnp_arena_traits.specs.Written.{with_segment}
-use Rattle.capnp_objects.specs.Reading.{Reading, place_past}
-use Rattle.capnp_objects.specs.Wanted.{Form}
+use Rattle.capnp_pointers.specs.Reading.{Reading, place_past}
+use Rattle.capnp_pointers.specs.Wanted.{Form}
 use Rattle.capnp_copies.specs.Copied.{with_children}
 use Rattle.capnp_copies.proofs.Copied.{copied}
 use Rattle.capnp_copies.proofs.InPlace.{AreCopied}

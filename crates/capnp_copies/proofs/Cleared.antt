@@ -6,16 +6,16 @@ use Rattle.std.specs.Prelude.{⊤}
 use Rattle.capnp_format.specs.Segments.{IsPlace}
 use Rattle.capnp_format.specs.Tree.{Tree, Null}
 use Rattle.capnp_arena_traits.specs.View.{View, KeepsLimits}
-use Rattle.capnp_making.specs.Stored.{Puts}
-use Rattle.capnp_making.specs.Zeroed.{IsPruned}
-use Rattle.capnp_making.proofs.FillingChains.{filled_grows}
-use Rattle.capnp_making.proofs.Memory.{spends_then_limits, words_refused_before}
-use Rattle.capnp_making.proofs.Replaced.{replaced_again}
-use Rattle.capnp_objects.specs.Reading.{Reading}
-use Rattle.capnp_objects.specs.Refusals.{Stopped}
-use Rattle.capnp_objects.proofs.WholeValue.UnreadableIfRefused.{unreadable}
-use Rattle.capnp_objects.specs.Wanted.{Form}
-use Rattle.capnp_objects.specs.declared.object.Purpose.TheVariants.{Value}
+use Rattle.capnp_allocation.specs.Stored.{Puts}
+use Rattle.capnp_allocation.specs.Zeroed.{IsPruned}
+use Rattle.capnp_allocation.proofs.FillingChains.{filled_grows}
+use Rattle.capnp_allocation.proofs.Memory.{spends_then_limits, words_refused_before}
+use Rattle.capnp_allocation.proofs.Replaced.{replaced_again}
+use Rattle.capnp_pointers.specs.Reading.{Reading}
+use Rattle.capnp_pointers.specs.Refusals.{Stopped}
+use Rattle.capnp_pointers.proofs.WholeValue.UnreadableIfRefused.{unreadable}
+use Rattle.capnp_pointers.specs.Wanted.{Form}
+use Rattle.capnp_pointers.specs.declared.object.Purpose.TheVariants.{Value}
 use Rattle.capnp_copies.specs.Changes.{CopyCall, copy_call, MakesCopy, StopsCopy, StopsAtChildren}
 use Rattle.capnp_copies.specs.Growth.{CopiesOrLeaves, MakesAtMost, TakesAtMost}
 use Rattle.capnp_copies.specs.Rooms.{CopiesOrClears, ClearsRefused}
@@ -23,7 +23,7 @@ use Rattle.capnp_copies.proofs.Copying.{StopsHalfway}
 use Rattle.capnp_copies.specs.Originals.{Original, value_original}
 use Rattle.capnp_copies.proofs.Growth.{none_itself, none_pruned, made_within}
 use Rattle.capnp_copies.proofs.Originals.{lacks_after, refused_rightly}
-use Rattle.capnp_making.specs.Makes.{call_at}
+use Rattle.capnp_allocation.specs.Makes.{call_at}
 
 pub cleared : {o : Original Tree} {b : Form} {s p : ℕ} {old mid new : View} {m m' : Meter} {k : ErrorKind} → StopsHalfway o (copy_call b (call_at s p old mid) m m') k → KeepsLimits mid new → IsPruned mid.words new.words → Puts mid.words new.words s p Null →
     StopsCopy o (copy_call b (call_at s p old new) m m') Null k

@@ -8,10 +8,10 @@ use Rattle.capnp_format.specs.Canonical.{cut_to, word_count_elements}
 use Rattle.capnp_format.proofs.Slices.{length_words}
 use Rattle.capnp_arena_traits.specs.View.{View}
 use Rattle.capnp_arena_traits.specs.Written.{with_segment, with_words, overwritten}
-use Rattle.capnp_objects.specs.Outcomes.{ReadsElements}
-use Rattle.capnp_objects.specs.Reading.{Reading, place_past, segment_read, words_from}
-use Rattle.capnp_objects.specs.Wanted.{Form}
-use Rattle.capnp_objects.proofs.WholeValue.ChildrenRead.{with_last_element}
+use Rattle.capnp_pointers.specs.Outcomes.{ReadsElements}
+use Rattle.capnp_pointers.specs.Reading.{Reading, place_past, segment_read, words_from}
+use Rattle.capnp_pointers.specs.Wanted.{Form}
+use Rattle.capnp_pointers.proofs.WholeValue.ChildrenRead.{with_last_element}
 use Rattle.capnp_copies.specs.Forms.{kept_each, kept_elements}
 use Rattle.capnp_copies.specs.Copied.{with_children}
 use Rattle.capnp_copies.proofs.CopiesNear.{Call, call_of, CopiesChildren, CopiesElement}

@@ -7,17 +7,17 @@ use Rattle.capnp_format.specs.Tree.{Trees, Elements, no_elements, element, count
 use Rattle.capnp_format.specs.Canonical.{used_words, take_trees, cut_to, trim_each, trim_elements, word_count_all, word_count_elements, pointers, rows, bodies, element_bodies}
 use Rattle.capnp_words.specs.Meter.{Meter}
 use Rattle.capnp_arena_traits.specs.Written.{overwritten}
-use Rattle.capnp_objects.proofs.WholeValue.WordsAdded.{row_within}
+use Rattle.capnp_pointers.proofs.WholeValue.WordsAdded.{row_within}
 use Rattle.capnp_copies.specs.Copied.{with_children}
 use Rattle.capnp_copies.proofs.Scanning.{pointers_used, next_used}
 use Rattle.capnp_copies.proofs.Shapes.{rows_laid, AreShapedElements, length-rows, length-element_bodies}
 use Rattle.capnp_copies.proofs.ElementsLaid.{Laid, rows_end}
 use Rattle.capnp_copies.proofs.UsedChildren.{take_trees-trim, fill_nulls, null_behind}
-use Rattle.capnp_objects.specs.Outcomes.{ReadsAll, ReadsElements}
-use Rattle.capnp_objects.specs.Reading.{Reading, pointers_of, segment_read}
-use Rattle.capnp_objects.specs.Spending.{pointers_in_all, pointers_in_elements}
-use Rattle.capnp_objects.specs.Wanted.{canonical}
-use Rattle.capnp_objects.proofs.WholeValue.ChildrenRead.{with_last_element, count-with_last_element, read_element, pointers_in-with_last_element}
+use Rattle.capnp_pointers.specs.Outcomes.{ReadsAll, ReadsElements}
+use Rattle.capnp_pointers.specs.Reading.{Reading, pointers_of, segment_read}
+use Rattle.capnp_pointers.specs.Spending.{pointers_in_all, pointers_in_elements}
+use Rattle.capnp_pointers.specs.Wanted.{canonical}
+use Rattle.capnp_pointers.proofs.WholeValue.ChildrenRead.{with_last_element, count-with_last_element, read_element, pointers_in-with_last_element}
 use Rattle.capnp_words.specs.declared.wire_pointer.StructSize.{StructSize}
 
 -- Widths.

@@ -5,15 +5,15 @@ use Rattle.std.proofs.lemmas.List.{take-take}
 use Rattle.capnp_format.specs.Segments.{Segments, segment, words_at}
 use Rattle.capnp_format.specs.Tree.{Trees, no_trees, tree, Elements, no_elements, element, count, element_count}
 use Rattle.capnp_words.specs.declared.wire_pointer.StructSize.{StructSize}
-use Rattle.capnp_objects.specs.Reading.{Reading, place_past, pointers_of}
-use Rattle.capnp_objects.specs.Wanted.{Form}
+use Rattle.capnp_pointers.specs.Reading.{Reading, place_past, pointers_of}
+use Rattle.capnp_pointers.specs.Wanted.{Form}
 use Rattle.capnp_copies.specs.declared.widths.ElementSizes.{ElementSizes}
 use Rattle.capnp_format.specs.Canonical.{take_trees, cut_to, word_count_all, word_count_elements, rows, element_bodies}
 use Rattle.capnp_format.proofs.Levels.{one_value}
 use Rattle.capnp_copies.specs.Forms.{kept_each}
 use Rattle.capnp_copies.proofs.KeptChildren.{cut_kept, kept_no_elements, words_of_first}
 use Rattle.capnp_copies.proofs.Shapes.{rows_laid, AreShapedElements, length-rows, length-element_bodies}
-use Rattle.capnp_objects.proofs.WholeValue.Shorthands.{MeanThere, ElementsMean}
+use Rattle.capnp_pointers.proofs.WholeValue.Shorthands.{MeanThere, ElementsMean}
 
 -- The beginning.
 

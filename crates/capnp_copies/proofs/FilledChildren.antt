@@ -8,15 +8,15 @@ use Rattle.capnp_format.specs.Tree.{Tree, Null, Trees, no_trees, count}
 use Rattle.capnp_format.proofs.Children.{with_last, count-with_last}
 use Rattle.capnp_arena_traits.specs.View.{View}
 use Rattle.capnp_arena_traits.specs.Written.{with_segment}
-use Rattle.capnp_making.specs.Filled.{AreFilled}
-use Rattle.capnp_making.specs.Stored.{IsReplaced}
-use Rattle.capnp_making.proofs.FillingChains.{filled_grows, filled_ahead, filled_more}
-use Rattle.capnp_making.proofs.Memory.{keeps_itself, keeps_both, keeps_then_spends}
-use Rattle.capnp_objects.specs.Outcomes.{Reads}
-use Rattle.capnp_objects.specs.Refusals.{Refused}
-use Rattle.capnp_objects.specs.Reading.{Reading, place_past}
-use Rattle.capnp_objects.specs.Wanted.{Form}
-use Rattle.capnp_objects.proofs.WholeValue.ChildrenRead.{read_none, read_more}
+use Rattle.capnp_allocation.specs.Filled.{AreFilled}
+use Rattle.capnp_allocation.specs.Stored.{IsReplaced}
+use Rattle.capnp_allocation.proofs.FillingChains.{filled_grows, filled_ahead, filled_more}
+use Rattle.capnp_allocation.proofs.Memory.{keeps_itself, keeps_both, keeps_then_spends}
+use Rattle.capnp_pointers.specs.Outcomes.{Reads}
+use Rattle.capnp_pointers.specs.Refusals.{Refused}
+use Rattle.capnp_pointers.specs.Reading.{Reading, place_past}
+use Rattle.capnp_pointers.specs.Wanted.{Form}
+use Rattle.capnp_pointers.proofs.WholeValue.ChildrenRead.{read_none, read_more}
 use Rattle.capnp_copies.specs.Copied.{with_children}
 use Rattle.capnp_copies.specs.Changes.{copy_call, MakesCopy, CopiesChildren, StopsAtChildren}
 use Rattle.capnp_copies.specs.Originals.{value_original, children_original}
@@ -30,7 +30,7 @@ use Rattle.capnp_copies.proofs.NoRoom.{child_comes}
 use Rattle.capnp_copies.proofs.ObjectsMade.{TakesForCopy}
 use Rattle.capnp_copies.proofs.TooLarge.{child_too_large}
 use Rattle.capnp_copies.proofs.KeptChildren.{kept_none, kept_each-count, kept_each-with_last}
-use Rattle.capnp_making.specs.Makes.{call_at}
+use Rattle.capnp_allocation.specs.Makes.{call_at}
 
 pub no_child : (r : Reading) (b : Form) (s p : ℕ) (v : View) (m : Meter) → CopiesChildren r 0 (copy_call b (call_at s p v v) m m)
 no_child r b s p v m = record {

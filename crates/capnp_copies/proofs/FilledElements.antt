@@ -9,16 +9,16 @@ use Rattle.capnp_format.specs.Canonical.{cut_to}
 use Rattle.capnp_format.proofs.Slices.{length_words}
 use Rattle.capnp_arena_traits.specs.View.{View}
 use Rattle.capnp_arena_traits.specs.Written.{with_segment, with_words}
-use Rattle.capnp_making.specs.Filled.{AreFilled, IsElementFilled, AreElementsFilled}
-use Rattle.capnp_making.specs.Memory.{SpendsMemory}
-use Rattle.capnp_making.proofs.FillingChains.{element_grows, elements_grow, elements_ahead}
-use Rattle.capnp_making.proofs.Memory.{keeps_itself, keeps_both, keeps_written, keeps_then_spends, words_refused_after}
-use Rattle.capnp_making.proofs.WordsPut.{words_put}
-use Rattle.capnp_objects.specs.Outcomes.{ReadsAll}
-use Rattle.capnp_objects.specs.Reading.{Reading, place_past, segment_read, words_from, pointers_of}
-use Rattle.capnp_objects.specs.Wanted.{Form, canonical}
-use Rattle.capnp_objects.proofs.WholeValue.ChildrenRead.{read_no_element, with_last_element}
-use Rattle.capnp_objects.proofs.WholeValue.WordsAdded.{row_within}
+use Rattle.capnp_allocation.specs.Filled.{AreFilled, IsElementFilled, AreElementsFilled}
+use Rattle.capnp_allocation.specs.Memory.{SpendsMemory}
+use Rattle.capnp_allocation.proofs.FillingChains.{element_grows, elements_grow, elements_ahead}
+use Rattle.capnp_allocation.proofs.Memory.{keeps_itself, keeps_both, keeps_written, keeps_then_spends, words_refused_after}
+use Rattle.capnp_allocation.proofs.WordsPut.{words_put}
+use Rattle.capnp_pointers.specs.Outcomes.{ReadsAll}
+use Rattle.capnp_pointers.specs.Reading.{Reading, place_past, segment_read, words_from, pointers_of}
+use Rattle.capnp_pointers.specs.Wanted.{Form, canonical}
+use Rattle.capnp_pointers.proofs.WholeValue.ChildrenRead.{read_no_element, with_last_element}
+use Rattle.capnp_pointers.proofs.WholeValue.WordsAdded.{row_within}
 use Rattle.capnp_copies.specs.Changes.{CopyCall, copy_call, HasNulls, CopiesChildren, StopsAtChildren, CopiesRows, StopsAtElements, RefusesToCopy}
 use Rattle.capnp_copies.specs.Forms.{kept_each, kept_elements}
 use Rattle.capnp_copies.specs.declared.widths.ElementSizes.{ElementSizes}
@@ -33,8 +33,8 @@ use Rattle.capnp_copies.proofs.TooLarge.{row_too_large}
 use Rattle.capnp_copies.proofs.Shapes.{rows_laid}
 use Rattle.capnp_copies.proofs.KeptChildren.{kept_each-count, kept_no_elements, cut_kept-count}
 use Rattle.capnp_copies.proofs.KeptForms.{SourceKept, one_more, stops_sooner, blank_elements, nothing_filled}
-use Rattle.capnp_objects.proofs.WholeValue.Shorthands.{RefusedAll}
-use Rattle.capnp_making.specs.Makes.{call_at}
+use Rattle.capnp_pointers.proofs.WholeValue.Shorthands.{RefusedAll}
+use Rattle.capnp_allocation.specs.Makes.{call_at}
 
 -- One element.
 

@@ -6,17 +6,17 @@ use Rattle.capnp_format.specs.Segments.{Segments, segment, word_at, IsPlace}
 use Rattle.capnp_format.specs.Tree.{Tree, Null, Pointers, Structs, Trees}
 use Rattle.capnp_format.specs.Canonical.{cut_to}
 use Rattle.capnp_arena_traits.specs.View.{View}
-use Rattle.capnp_making.specs.Made.{zero_structs, nulls, structs_words}
-use Rattle.capnp_making.specs.Memory.{HasRoom, KeepsMemory, IsRefusedFor, RefusesWords}
-use Rattle.capnp_making.specs.Near.{HasOwnRoom, StartsAtEnd}
-use Rattle.capnp_making.specs.Stored.{IsReplaced}
+use Rattle.capnp_allocation.specs.Made.{zero_structs, nulls, structs_words}
+use Rattle.capnp_allocation.specs.Memory.{HasRoom, KeepsMemory, IsRefusedFor, RefusesWords}
+use Rattle.capnp_allocation.specs.Near.{HasOwnRoom, StartsAtEnd}
+use Rattle.capnp_allocation.specs.Stored.{IsReplaced}
 use Rattle.capnp_arena_traits.specs.declared.arena.WordPlace.{WordPlace}
-use Rattle.capnp_making.proofs.Filling.{unchanged}
-use Rattle.capnp_making.proofs.FillingChains.{elements_grow}
-use Rattle.capnp_making.proofs.FillingMade.{IsBegun, null_stored, pointers_done, pointers_whole, structs_done, structs_whole}
-use Rattle.capnp_making.proofs.Memory.{keeps_both, keeps_then_spends, made_refused}
-use Rattle.capnp_objects.specs.Reading.{Reading, segment_read}
-use Rattle.capnp_objects.specs.Wanted.{Form, canonical}
+use Rattle.capnp_allocation.proofs.Filling.{unchanged}
+use Rattle.capnp_allocation.proofs.FillingChains.{elements_grow}
+use Rattle.capnp_allocation.proofs.FillingMade.{IsBegun, null_stored, pointers_done, pointers_whole, structs_done, structs_whole}
+use Rattle.capnp_allocation.proofs.Memory.{keeps_both, keeps_then_spends, made_refused}
+use Rattle.capnp_pointers.specs.Reading.{Reading, segment_read}
+use Rattle.capnp_pointers.specs.Wanted.{Form, canonical}
 use Rattle.capnp_copies.specs.Changes.{copy_call, MakesCopy, CopiesChildren, StopsAtChildren, CopiesRows, StopsAtElements}
 use Rattle.capnp_copies.specs.Forms.{kept_each, kept_elements}
 use Rattle.capnp_copies.specs.Originals.{pointers_original, structs_original}
@@ -30,7 +30,7 @@ use Rattle.capnp_copies.proofs.TooLarge.{ObjectMade, pointers_too_large, structs
 use Rattle.capnp_copies.proofs.TightObjects.{PointersMade, pointers_tight, StructsMade, ends_in_zeros, structs_tight}
 use Rattle.capnp_copies.proofs.KeptChildren.{kept_each-count, cut_kept-count, kept_pointers}
 use Rattle.capnp_copies.proofs.KeptForms.{KeepsPointers, KeepsWidths, list_kept}
-use Rattle.capnp_making.specs.Makes.{call_at}
+use Rattle.capnp_allocation.specs.Makes.{call_at}
 
 -- An object that the arena refuses leaves the pointer null.
 

@@ -11,18 +11,18 @@ use Rattle.capnp_format.specs.Word.{struct_word}
 use Rattle.capnp_format.proofs.Slices.{length_words}
 use Rattle.capnp_arena_traits.specs.View.{View}
 use Rattle.capnp_arena_traits.specs.Written.{with_word, with_words}
-use Rattle.capnp_making.specs.Made.{zero_struct, words_of_zero, nulls}
-use Rattle.capnp_making.specs.Memory.{KeepsMemory, ComesAfter, TakesWords}
-use Rattle.capnp_making.proofs.NearMade.{HasStructRoom, with_struct}
-use Rattle.capnp_making.specs.Stored.{IsReplaced}
+use Rattle.capnp_allocation.specs.Made.{zero_struct, words_of_zero, nulls}
+use Rattle.capnp_allocation.specs.Memory.{KeepsMemory, ComesAfter, TakesWords}
+use Rattle.capnp_allocation.proofs.NearMade.{HasStructRoom, with_struct}
+use Rattle.capnp_allocation.specs.Stored.{IsReplaced}
 use Rattle.capnp_arena_traits.specs.declared.arena.WordPlace.{WordPlace}
-use Rattle.capnp_making.proofs.FillingMade.{IsBegun, struct_ready, struct_done, struct_whole}
-use Rattle.capnp_making.proofs.Memory.{keeps_both, keeps_written, keeps_then_spends, words_refused_after}
-use Rattle.capnp_making.proofs.WordsPut.{words_put}
-use Rattle.capnp_objects.specs.Outcomes.{ReadsAll}
-use Rattle.capnp_objects.specs.Reading.{Reading, place_past, segment_read, words_from}
-use Rattle.capnp_objects.specs.Spending.{pointers_in_all}
-use Rattle.capnp_objects.specs.Wanted.{Form, canonical}
+use Rattle.capnp_allocation.proofs.FillingMade.{IsBegun, struct_ready, struct_done, struct_whole}
+use Rattle.capnp_allocation.proofs.Memory.{keeps_both, keeps_written, keeps_then_spends, words_refused_after}
+use Rattle.capnp_allocation.proofs.WordsPut.{words_put}
+use Rattle.capnp_pointers.specs.Outcomes.{ReadsAll}
+use Rattle.capnp_pointers.specs.Reading.{Reading, place_past, segment_read, words_from}
+use Rattle.capnp_pointers.specs.Spending.{pointers_in_all}
+use Rattle.capnp_pointers.specs.Wanted.{Form, canonical}
 use Rattle.capnp_copies.specs.Changes.{copy_call, ComesToObject, FindsNoRoom, MakesCopy, CopiesChildren, StopsAtChildren}
 use Rattle.capnp_copies.proofs.Copying.{StopsHalfway}
 use Rattle.capnp_copies.specs.Forms.{kept, kept_each}
@@ -38,7 +38,7 @@ use Rattle.capnp_copies.proofs.SegmentsWritten.{length-with_words}
 use Rattle.capnp_copies.proofs.TooLarge.{ObjectMade, sections_too_large}
 use Rattle.capnp_copies.proofs.TightObjects.{StructMade, struct_tight}
 use Rattle.capnp_copies.proofs.UsedChildren.{used_children, trim-struct, fill_nulls, null_behind}
-use Rattle.capnp_making.specs.Makes.{call_at}
+use Rattle.capnp_allocation.specs.Makes.{call_at}
 
 -- The kept children ts of a struct were read, and so were all its children, at a cost of n words
 -- and k pointers. A struct of all of them is kept as its kept data words with ts.

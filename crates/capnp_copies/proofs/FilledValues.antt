@@ -15,22 +15,22 @@ use Rattle.capnp_format.specs.Word.{capability_word}
 use Rattle.capnp_format.specs.Canonical.{word_count}
 use Rattle.capnp_arena_traits.specs.View.{View}
 use Rattle.capnp_arena_traits.specs.Written.{with_word, with_segment}
-use Rattle.capnp_making.specs.Memory.{KeepsMemory, SpendsMemory, RefusesWords}
-use Rattle.capnp_making.specs.Near.{HasOwnRoom}
-use Rattle.capnp_making.specs.Stored.{IsReplaced}
-use Rattle.capnp_making.proofs.Memory.{not_the_allocator, keeps_itself, keeps_written, spends_nothing}
-use Rattle.capnp_making.proofs.PlacedStructs.{capability_made}
-use Rattle.capnp_objects.specs.Objects.{IsObject}
-use Rattle.capnp_objects.specs.Outcomes.{Reads}
-use Rattle.capnp_objects.specs.Refusals.{Stopped, here}
-use Rattle.capnp_objects.specs.Reading.{Reading, place_past, words_from}
-use Rattle.capnp_objects.specs.Wanted.{Form, plain, canonical, of_default}
-use Rattle.capnp_objects.specs.declared.object.Place.{Place}
-use Rattle.capnp_objects.specs.declared.object.Object.TheVariants.{Null as ObjectNull, Capability as ObjectCapability, Struct as ObjectStruct, Flat as ObjectFlat, Pointers as ObjectPointers, Structs as ObjectStructs}
-use Rattle.capnp_objects.specs.declared.object.Purpose.TheVariants.{Value}
-use Rattle.capnp_objects.proofs.WholeValue.RefusalsNamed.{not_for_memory}
-use Rattle.capnp_objects.proofs.WholeValue.ObjectsRead.{read_null, read_flat, read_struct, read_pointers, read_structs}
-use Rattle.capnp_objects.proofs.WholeValue.UnreadableIfRefused.{stops_struct, stops_pointers, stops_structs}
+use Rattle.capnp_allocation.specs.Memory.{KeepsMemory, SpendsMemory, RefusesWords}
+use Rattle.capnp_allocation.specs.Near.{HasOwnRoom}
+use Rattle.capnp_allocation.specs.Stored.{IsReplaced}
+use Rattle.capnp_allocation.proofs.Memory.{not_the_allocator, keeps_itself, keeps_written, spends_nothing}
+use Rattle.capnp_allocation.proofs.PlacedStructs.{capability_made}
+use Rattle.capnp_pointers.specs.Objects.{IsObject}
+use Rattle.capnp_pointers.specs.Outcomes.{Reads}
+use Rattle.capnp_pointers.specs.Refusals.{Stopped, here}
+use Rattle.capnp_pointers.specs.Reading.{Reading, place_past, words_from}
+use Rattle.capnp_pointers.specs.Wanted.{Form, plain, canonical, of_default}
+use Rattle.capnp_pointers.specs.declared.object.Place.{Place}
+use Rattle.capnp_pointers.specs.declared.object.Object.TheVariants.{Null as ObjectNull, Capability as ObjectCapability, Struct as ObjectStruct, Flat as ObjectFlat, Pointers as ObjectPointers, Structs as ObjectStructs}
+use Rattle.capnp_pointers.specs.declared.object.Purpose.TheVariants.{Value}
+use Rattle.capnp_pointers.proofs.WholeValue.RefusalsNamed.{not_for_memory}
+use Rattle.capnp_pointers.proofs.WholeValue.ObjectsRead.{read_null, read_flat, read_struct, read_pointers, read_structs}
+use Rattle.capnp_pointers.proofs.WholeValue.UnreadableIfRefused.{stops_struct, stops_pointers, stops_structs}
 use Rattle.capnp_copies.specs.Changes.{as_numbers, copy_call, IsCopiedInRoom, StayInSegment, MakesCopy}
 use Rattle.capnp_copies.proofs.Copying.{StopsHalfway}
 use Rattle.capnp_copies.specs.Forms.{kept}
@@ -44,9 +44,9 @@ use Rattle.capnp_copies.proofs.TooLarge.{struct_value_too_large, pointers_value_
 use Rattle.capnp_copies.proofs.Originals.{halfway, sections_beyond, pointers_beyond, structs_beyond}
 use Rattle.capnp_copies.proofs.StructsCopied.{null_written}
 use Rattle.capnp_copies.proofs.ObjectsRead.{inside, capability_stopped, default_stopped, flat_held}
-use Rattle.capnp_objects.proofs.WholeValue.ValueAgrees.{stopped_form}
-use Rattle.capnp_objects.proofs.Following.LeadsWhereFollowed.{leads_there}
-use Rattle.capnp_making.specs.Makes.{call_at}
+use Rattle.capnp_pointers.proofs.WholeValue.ValueAgrees.{stopped_form}
+use Rattle.capnp_pointers.proofs.Following.LeadsWhereFollowed.{leads_there}
+use Rattle.capnp_allocation.specs.Makes.{call_at}
 
 pub object_stops : {r : Reading} {b : Form} {s p : ℕ} {v : View} {m m' : Meter} {k : ErrorKind} → IsPlace v.words s p → word_at v.words s p ≡ 0 → Stopped Value b r m m' k → StopsHalfway (value_original r) (copy_call b (call_at s p v v) m m') k
 object_stops {r} {b} {s} {p} {v} {m} {m'} {k} place null h =

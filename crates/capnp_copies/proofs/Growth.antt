@@ -19,27 +19,27 @@ use Rattle.capnp_words.specs.declared.wire_pointer.ElementSize.{ElementSize}
 use Rattle.capnp_words.specs.declared.wire_pointer.ElementSize.TheVariants.{Void, Bit, Byte, TwoBytes, FourBytes, EightBytes, Pointer, InlineComposite}
 use Rattle.capnp_words.specs.Sizes.{size_number}
 use Rattle.capnp_format.specs.Numbers.{words_for, unpacked}
-use Rattle.capnp_making.specs.Made.{structs_words}
-use Rattle.capnp_making.specs.Memory.{Lengthens, IsNextRoom, IsRefusedFor}
-use Rattle.capnp_making.specs.Near.{HasOwnRoom}
-use Rattle.capnp_making.specs.Zeroed.{IsPruned}
-use Rattle.capnp_making.proofs.WordsPut.{words_put}
-use Rattle.capnp_objects.specs.Demands.{own_charge, tag}
-use Rattle.capnp_objects.specs.Faults.{child_at}
-use Rattle.capnp_objects.specs.Objects.{IsObject}
-use Rattle.capnp_objects.specs.Outcomes.{Reads, ReadsAll, ReadsElements, Entered}
-use Rattle.capnp_objects.specs.Reading.{Reading, place_past, segment_read, words_from, pointers_of, tag_size}
-use Rattle.capnp_objects.specs.Refusals.{Stopped, in_struct, in_pointers, in_element, StopsWithin, StopsAmong, StopsAmongElements, here, below, IsTried}
-use Rattle.capnp_objects.specs.Spending.{pointers_in, pointers_in_all, pointers_in_elements}
-use Rattle.capnp_objects.specs.Wanted.{Form, plain, canonical, of_default}
-use Rattle.capnp_objects.specs.declared.object.Place.{Place}
-use Rattle.capnp_objects.specs.declared.object.Object.TheVariants.{Null as ObjectNull, Capability as ObjectCapability, Struct as ObjectStruct, Flat as ObjectFlat, Pointers as ObjectPointers, Structs as ObjectStructs}
-use Rattle.capnp_objects.specs.declared.object.Purpose.TheVariants.{Value}
-use Rattle.capnp_objects.proofs.Budget.PaidAndLeft.{affords_none, affords_both, fewer_than_words, one_element_more, paid_own, paid_all, paid_elements, pointers_within, pointers_within_all, pointers_within_elements}
-use Rattle.capnp_objects.proofs.WholeValue.ChildrenRead.{read_none, read_more, read_no_element, pointers_in-with_last}
-use Rattle.capnp_objects.proofs.WholeValue.ObjectsRead.{own_struct, own_flat, own_pointers, own_structs, read_null, read_flat, read_struct, read_pointers, read_structs}
-use Rattle.capnp_objects.proofs.WholeValue.UnreadableIfRefused.{breaks_off_spends, stops_struct, stops_pointers, stops_structs}
-use Rattle.capnp_objects.proofs.WholeValue.OutcomesAreTrue.{few_followed, reading_spends}
+use Rattle.capnp_allocation.specs.Made.{structs_words}
+use Rattle.capnp_allocation.specs.Memory.{Lengthens, IsNextRoom, IsRefusedFor}
+use Rattle.capnp_allocation.specs.Near.{HasOwnRoom}
+use Rattle.capnp_allocation.specs.Zeroed.{IsPruned}
+use Rattle.capnp_allocation.proofs.WordsPut.{words_put}
+use Rattle.capnp_pointers.specs.Demands.{own_charge, tag}
+use Rattle.capnp_pointers.specs.Faults.{child_at}
+use Rattle.capnp_pointers.specs.Objects.{IsObject}
+use Rattle.capnp_pointers.specs.Outcomes.{Reads, ReadsAll, ReadsElements, Entered}
+use Rattle.capnp_pointers.specs.Reading.{Reading, place_past, segment_read, words_from, pointers_of, tag_size}
+use Rattle.capnp_pointers.specs.Refusals.{Stopped, in_struct, in_pointers, in_element, StopsWithin, StopsAmong, StopsAmongElements, here, below, IsTried}
+use Rattle.capnp_pointers.specs.Spending.{pointers_in, pointers_in_all, pointers_in_elements}
+use Rattle.capnp_pointers.specs.Wanted.{Form, plain, canonical, of_default}
+use Rattle.capnp_pointers.specs.declared.object.Place.{Place}
+use Rattle.capnp_pointers.specs.declared.object.Object.TheVariants.{Null as ObjectNull, Capability as ObjectCapability, Struct as ObjectStruct, Flat as ObjectFlat, Pointers as ObjectPointers, Structs as ObjectStructs}
+use Rattle.capnp_pointers.specs.declared.object.Purpose.TheVariants.{Value}
+use Rattle.capnp_pointers.proofs.Budget.PaidAndLeft.{affords_none, affords_both, fewer_than_words, one_element_more, paid_own, paid_all, paid_elements, pointers_within, pointers_within_all, pointers_within_elements}
+use Rattle.capnp_pointers.proofs.WholeValue.ChildrenRead.{read_none, read_more, read_no_element, pointers_in-with_last}
+use Rattle.capnp_pointers.proofs.WholeValue.ObjectsRead.{own_struct, own_flat, own_pointers, own_structs, read_null, read_flat, read_struct, read_pointers, read_structs}
+use Rattle.capnp_pointers.proofs.WholeValue.UnreadableIfRefused.{breaks_off_spends, stops_struct, stops_pointers, stops_structs}
+use Rattle.capnp_pointers.proofs.WholeValue.OutcomesAreTrue.{few_followed, reading_spends}
 use Rattle.capnp_copies.specs.Changes.{CopyCall, copy_call, StayInSegment}
 use Rattle.capnp_copies.specs.Costs.{spent_before, spent_until, spent_among, spent_among_elements}
 use Rattle.capnp_copies.specs.Originals.{value_original, children_original, elements_original, sections_original, numbers_original, pointers_original, structs_original, list_original, kept_count}
@@ -51,11 +51,11 @@ use Rattle.capnp_copies.proofs.FilledValues.{capability_read, CapabilityCopied}
 use Rattle.capnp_copies.proofs.KeptForms.{SourceKept, one_more as one_row_more, stops_sooner, blank_elements}
 use Rattle.capnp_copies.proofs.ObjectsMade.{TakesForCopy, TakesUntilStop, Begins, no_pad}
 use Rattle.capnp_copies.proofs.ObjectsRead.{inside, capability_stopped, default_stopped}
-use Rattle.capnp_objects.proofs.WholeValue.ValueAgrees.{stopped_form}
+use Rattle.capnp_pointers.proofs.WholeValue.ValueAgrees.{stopped_form}
 use Rattle.capnp_copies.proofs.StayingNear.{stay_fewer}
-use Rattle.capnp_objects.proofs.WholeValue.Unreadable.{Spends}
-use Rattle.capnp_objects.proofs.WholeValue.Shorthands.{ReadsBefore}
-use Rattle.capnp_making.specs.Makes.{call_at}
+use Rattle.capnp_pointers.proofs.WholeValue.Unreadable.{Spends}
+use Rattle.capnp_pointers.proofs.WholeValue.Shorthands.{ReadsBefore}
+use Rattle.capnp_allocation.specs.Makes.{call_at}
 
 -- The words of all segments.
 

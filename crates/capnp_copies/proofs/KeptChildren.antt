@@ -4,8 +4,8 @@ use Rattle.capnp_format.specs.Tree.{Tree, Pointers, Trees, no_trees, tree, Eleme
 use Rattle.capnp_format.specs.Canonical.{take_trees, cut_to, word_count, word_count_all, word_count_elements}
 use Rattle.capnp_format.proofs.Children.{with_last}
 use Rattle.capnp_format.proofs.Trimming.{trim_each-count, trim_elements-count, cut_to-count}
-use Rattle.capnp_objects.specs.Wanted.{Form, canonical}
-use Rattle.capnp_objects.proofs.WholeValue.WordsAdded.{words-with_last}
+use Rattle.capnp_pointers.specs.Wanted.{Form, canonical}
+use Rattle.capnp_pointers.proofs.WholeValue.WordsAdded.{words-with_last}
 use Rattle.capnp_copies.specs.Forms.{kept, kept_each, kept_elements}
 use Rattle.capnp_copies.specs.declared.widths.ElementSizes.{ElementSizes}
 use Rattle.capnp_copies.proofs.ChildrenCopied.{trim_each-with_last}

@@ -9,15 +9,15 @@ use Rattle.capnp_format.specs.Canonical.{used_words, used_trees, take_trees, cut
 use Rattle.capnp_format.proofs.Slices.{length_words}
 use Rattle.capnp_format.proofs.Trimming.{trim_each-count, used_words-le, take_trees-count}
 use Rattle.capnp_format.specs.Means.{MeansElements}
-use Rattle.capnp_making.specs.Filled.{AreElementsFilled}
-use Rattle.capnp_making.proofs.WordsPut.{none_over}
-use Rattle.capnp_objects.specs.Outcomes.{ReadsAll, ReadsElements}
-use Rattle.capnp_objects.specs.Refusals.{StopsAmong}
-use Rattle.capnp_objects.specs.Reading.{Reading, segment_read, words_from, pointers_of}
-use Rattle.capnp_objects.specs.Spending.{pointers_in_all, pointers_in_elements}
-use Rattle.capnp_objects.specs.Wanted.{Form, canonical}
-use Rattle.capnp_objects.proofs.WholeValue.ChildrenRead.{with_last_element, count-with_last_element, pointers_in-with_last_element, read_element, read_none, read_no_element}
-use Rattle.capnp_objects.proofs.WholeValue.WordsAdded.{row_within}
+use Rattle.capnp_allocation.specs.Filled.{AreElementsFilled}
+use Rattle.capnp_allocation.proofs.WordsPut.{none_over}
+use Rattle.capnp_pointers.specs.Outcomes.{ReadsAll, ReadsElements}
+use Rattle.capnp_pointers.specs.Refusals.{StopsAmong}
+use Rattle.capnp_pointers.specs.Reading.{Reading, segment_read, words_from, pointers_of}
+use Rattle.capnp_pointers.specs.Spending.{pointers_in_all, pointers_in_elements}
+use Rattle.capnp_pointers.specs.Wanted.{Form, canonical}
+use Rattle.capnp_pointers.proofs.WholeValue.ChildrenRead.{with_last_element, count-with_last_element, pointers_in-with_last_element, read_element, read_none, read_no_element}
+use Rattle.capnp_pointers.proofs.WholeValue.WordsAdded.{row_within}
 use Rattle.capnp_copies.specs.Widths.{most_used, widths_kept}
 use Rattle.capnp_copies.specs.Forms.{kept, kept_each, kept_elements}
 use Rattle.capnp_copies.specs.Originals.{kept_count}
@@ -27,7 +27,7 @@ use Rattle.capnp_copies.proofs.ElementsLaid.{words_taken}
 use Rattle.capnp_copies.proofs.KeptChildren.{cut_kept-count}
 use Rattle.capnp_copies.proofs.ListSteps.{AreLeast, trimmed_list}
 use Rattle.capnp_copies.proofs.UsedChildren.{used_children, means_taken, trim-struct}
-use Rattle.capnp_objects.proofs.WholeValue.Shorthands.{MeanThere, ElementsMean}
+use Rattle.capnp_pointers.proofs.WholeValue.Shorthands.{MeanThere, ElementsMean}
 
 -- Words.
 

@@ -2,13 +2,13 @@
 use Rattle.std.proofs.Common.{◌≡◌, ℕ, ◌+◌, ◌*◌, ◌≤◌, max, nat_eq, length, refl, sym, ap, ap₂, ◌∙◌, arith, eq-eqb, ne_eqb}
 use Rattle.capnp_format.specs.Tree.{Tree, Null, Capability, Struct, Flat, Pointers, Structs, Trees, no_trees, tree, Elements, no_elements, element, count, element_count}
 use Rattle.capnp_words.specs.declared.wire_pointer.StructSize.{StructSize}
-use Rattle.capnp_objects.specs.Outcomes.{MeansThere}
-use Rattle.capnp_objects.specs.Reading.{Reading, place_past, segment_read, word_of, words_from}
+use Rattle.capnp_pointers.specs.Outcomes.{MeansThere}
+use Rattle.capnp_pointers.specs.Reading.{Reading, place_past, segment_read, word_of, words_from}
 use Rattle.capnp_format.specs.Canonical.{used_from, used_words, is_null, used_trees, data_width, pointer_width}
-use Rattle.capnp_objects.proofs.CanonicalForm.UsedWords.{words_at-more}
+use Rattle.capnp_pointers.proofs.CanonicalForm.UsedWords.{words_at-more}
 use Rattle.capnp_copies.specs.Widths.{most_used}
 use Rattle.capnp_copies.proofs.Scanning.{data_used, pointers_used}
-use Rattle.capnp_objects.proofs.WholeValue.Shorthands.{MeanThere, ElementsMean}
+use Rattle.capnp_pointers.proofs.WholeValue.Shorthands.{MeanThere, ElementsMean}
 
 -- A child is Null exactly if its pointer is zero.
 pub means_is_null : (r : Reading) (t : Tree) (c : ℕ) → MeansThere r t c → nat_eq (word_of r) 0 ≡ is_null t

@@ -10,8 +10,8 @@ use Rattle.capnp_format.specs.Tree.{Structs, Elements, element_count}
 use Rattle.capnp_format.specs.Canonical.{trim, trim_elements, cut_to, pointer, rows, element_bodies, offset_to}
 use Rattle.capnp_arena_traits.specs.View.{View}
 use Rattle.capnp_arena_traits.specs.Written.{with_segment, with_word}
-use Rattle.capnp_objects.specs.Reading.{Reading, segment_read}
-use Rattle.capnp_objects.specs.Wanted.{Form}
+use Rattle.capnp_pointers.specs.Reading.{Reading, segment_read}
+use Rattle.capnp_pointers.specs.Wanted.{Form}
 use Rattle.capnp_copies.specs.Forms.{kept_elements}
 use Rattle.capnp_copies.proofs.Shapes.{rows_laid}
 use Rattle.capnp_copies.proofs.InPlace.{IsCopied}
@@ -23,7 +23,7 @@ use Rattle.capnp_copies.proofs.KeptChildren.{cut_kept-count}
 use Rattle.capnp_copies.proofs.LeastWidths.{data_where_meant, pointers_where_meant}
 use Rattle.capnp_copies.proofs.SegmentsWritten.{then_written}
 use Rattle.capnp_copies.proofs.UsedChildren.{trim-structs}
-use Rattle.capnp_objects.proofs.WholeValue.Shorthands.{ElementsMean}
+use Rattle.capnp_pointers.proofs.WholeValue.Shorthands.{ElementsMean}
 
 -- The sections are the least that lose nothing of i elements.
 pub record AreLeast (r : Reading) (size least : StructSize) (i : ℕ) : Type 0 where

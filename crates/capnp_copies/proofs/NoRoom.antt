@@ -7,19 +7,19 @@ use Rattle.capnp_words.specs.Meter.{Meter}
 use Rattle.capnp_format.specs.Segments.{Target, segment}
 use Rattle.capnp_format.specs.Tree.{count, element_count}
 use Rattle.capnp_arena_traits.specs.View.{View}
-use Rattle.capnp_making.specs.Made.{structs_words}
-use Rattle.capnp_making.specs.Memory.{KeepsMemory}
-use Rattle.capnp_making.proofs.Memory.{words_refused_after}
-use Rattle.capnp_objects.specs.Objects.{IsObject}
-use Rattle.capnp_objects.specs.Outcomes.{Entered}
-use Rattle.capnp_objects.specs.Reading.{Reading, place_past, words_from, pointers_of}
-use Rattle.capnp_objects.specs.Refusals.{StopsWithin, StopsAmong, StopsAmongElements, here}
-use Rattle.capnp_objects.specs.Wanted.{Form}
-use Rattle.capnp_objects.specs.declared.object.Place.{Place}
-use Rattle.capnp_objects.specs.declared.object.Object.TheVariants.{Struct as ObjectStruct, Pointers as ObjectPointers, Structs as ObjectStructs}
-use Rattle.capnp_objects.specs.declared.object.Purpose.TheVariants.{Value}
-use Rattle.capnp_objects.proofs.WholeValue.ObjectsRead.{own_struct, own_pointers, own_structs}
-use Rattle.capnp_objects.proofs.WholeValue.UnreadableIfRefused.{stops_struct, stops_pointers, stops_structs}
+use Rattle.capnp_allocation.specs.Made.{structs_words}
+use Rattle.capnp_allocation.specs.Memory.{KeepsMemory}
+use Rattle.capnp_allocation.proofs.Memory.{words_refused_after}
+use Rattle.capnp_pointers.specs.Objects.{IsObject}
+use Rattle.capnp_pointers.specs.Outcomes.{Entered}
+use Rattle.capnp_pointers.specs.Reading.{Reading, place_past, words_from, pointers_of}
+use Rattle.capnp_pointers.specs.Refusals.{StopsWithin, StopsAmong, StopsAmongElements, here}
+use Rattle.capnp_pointers.specs.Wanted.{Form}
+use Rattle.capnp_pointers.specs.declared.object.Place.{Place}
+use Rattle.capnp_pointers.specs.declared.object.Object.TheVariants.{Struct as ObjectStruct, Pointers as ObjectPointers, Structs as ObjectStructs}
+use Rattle.capnp_pointers.specs.declared.object.Purpose.TheVariants.{Value}
+use Rattle.capnp_pointers.proofs.WholeValue.ObjectsRead.{own_struct, own_pointers, own_structs}
+use Rattle.capnp_pointers.proofs.WholeValue.UnreadableIfRefused.{stops_struct, stops_pointers, stops_structs}
 use Rattle.capnp_copies.specs.Changes.{CopyCall, copy_call, IsMadeOf, as_struct, as_pointers, as_structs, ComesToObject, FindsNoRoom, LacksRoom}
 use Rattle.capnp_copies.specs.Costs.{spent_until, spent_among, spent_among_elements}
 use Rattle.capnp_copies.specs.Originals.{value_original, children_original, elements_original, sections_original, pointers_original, structs_original}
@@ -27,7 +27,7 @@ use Rattle.capnp_copies.specs.declared.widths.ElementSizes.{ElementSizes}
 use Rattle.capnp_copies.proofs.KeptForms.{SourceKept, stops_sooner}
 use Rattle.capnp_copies.proofs.ObjectsMade.{TakesForCopy, Begins, full_before, full_behind}
 use Rattle.capnp_copies.proofs.ObjectsRead.{inside}
-use Rattle.capnp_making.specs.Makes.{call_at}
+use Rattle.capnp_allocation.specs.Makes.{call_at}
 
 -- An object was read, and n words have to be made of it.
 abbrev pub WantsWords : Form → ℕ → Reading → Meter → Meter → Type 0

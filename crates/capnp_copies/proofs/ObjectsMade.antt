@@ -8,12 +8,12 @@ use Rattle.capnp_format.specs.Segments.{Segments, segment, IsPlace}
 use Rattle.capnp_format.specs.Word.{struct_word}
 use Rattle.capnp_arena_traits.specs.View.{View}
 use Rattle.capnp_arena_traits.specs.Written.{with_word}
-use Rattle.capnp_making.specs.Made.{LeadsToStart}
-use Rattle.capnp_making.specs.Memory.{HasRoom, IsNextRoom, TakesWords, ComesAfter, KeepsMemory}
-use Rattle.capnp_making.specs.Near.{HasOwnRoom}
+use Rattle.capnp_allocation.specs.Made.{LeadsToStart}
+use Rattle.capnp_allocation.specs.Memory.{HasRoom, IsNextRoom, TakesWords, ComesAfter, KeepsMemory}
+use Rattle.capnp_allocation.specs.Near.{HasOwnRoom}
 use Rattle.capnp_arena_traits.specs.declared.arena.WordPlace.{WordPlace}
-use Rattle.capnp_making.proofs.MadeWords.{word_put}
-use Rattle.capnp_making.proofs.Placed.{empty_made}
+use Rattle.capnp_allocation.proofs.MadeWords.{word_put}
+use Rattle.capnp_allocation.proofs.Placed.{empty_made}
 use Rattle.capnp_copies.specs.Changes.{CopyCall, StayInSegment}
 use Rattle.capnp_copies.specs.Growth.{Makes, no_object, near, far, both, MakesAtMost}
 use Rattle.capnp_copies.specs.Originals.{Original}

@@ -8,20 +8,20 @@ use Rattle.capnp_format.specs.Segments.{Segments, segment, words_at, Target}
 use Rattle.capnp_format.specs.Tree.{Tree, Null, Capability, Struct, Flat, Structs, Pointers, Trees, Elements, count, element_count}
 use Rattle.capnp_format.specs.Means.{MeansAll, MeansElements}
 use Rattle.capnp_words.specs.Meter.{Meter, Affords}
-use Rattle.capnp_objects.specs.declared.object.Place.{Place}
-use Rattle.capnp_objects.specs.declared.object.Object.TheVariants.{Capability as ObjectCapability, Flat as ObjectFlat}
-use Rattle.capnp_objects.specs.declared.object.Object.{Object}
-use Rattle.capnp_objects.specs.Objects.{IsObject, IsFew}
-use Rattle.capnp_objects.proofs.Following.FaultlessWhereMeant.{same_target}
-use Rattle.capnp_objects.specs.Demands.{tag}
-use Rattle.capnp_objects.specs.Faults.{LeadsTo}
-use Rattle.capnp_objects.specs.Outcomes.{MeansThere}
-use Rattle.capnp_objects.specs.Refusals.{Stopped, broken}
-use Rattle.capnp_objects.specs.Reading.{Reading}
-use Rattle.capnp_objects.specs.Spending.{after_charge, Paid}
-use Rattle.capnp_objects.specs.Wanted.{canonical, of_default}
-use Rattle.capnp_objects.specs.declared.object.Purpose.TheVariants.{Value}
-use Rattle.capnp_objects.proofs.WholeValue.ObjectsRefused.{same_word}
+use Rattle.capnp_pointers.specs.declared.object.Place.{Place}
+use Rattle.capnp_pointers.specs.declared.object.Object.TheVariants.{Capability as ObjectCapability, Flat as ObjectFlat}
+use Rattle.capnp_pointers.specs.declared.object.Object.{Object}
+use Rattle.capnp_pointers.specs.Objects.{IsObject, IsFew}
+use Rattle.capnp_pointers.proofs.Following.FaultlessWhereMeant.{same_target}
+use Rattle.capnp_pointers.specs.Demands.{tag}
+use Rattle.capnp_pointers.specs.Faults.{LeadsTo}
+use Rattle.capnp_pointers.specs.Outcomes.{MeansThere}
+use Rattle.capnp_pointers.specs.Refusals.{Stopped, broken}
+use Rattle.capnp_pointers.specs.Reading.{Reading}
+use Rattle.capnp_pointers.specs.Spending.{after_charge, Paid}
+use Rattle.capnp_pointers.specs.Wanted.{canonical, of_default}
+use Rattle.capnp_pointers.specs.declared.object.Purpose.TheVariants.{Value}
+use Rattle.capnp_pointers.proofs.WholeValue.ObjectsRefused.{same_word}
 
 -- An object by its form, and by another name for the levels of its place: for plain readings, since
 -- an object without a known form takes long to write out.

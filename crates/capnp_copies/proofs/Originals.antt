@@ -11,21 +11,21 @@ use Rattle.capnp_format.specs.Tree.{Tree, Null, Struct, Pointers, Structs, Trees
 use Rattle.capnp_format.specs.Canonical.{cut_to, word_count, word_count_all, word_count_elements}
 use Rattle.capnp_format.specs.Segments.{segment}
 use Rattle.capnp_arena_traits.specs.View.{View}
-use Rattle.capnp_making.specs.Memory.{SpendsMemory, RefusesWords}
-use Rattle.capnp_making.specs.Stored.{IsReplaced}
-use Rattle.capnp_objects.specs.Outcomes.{MeansThere, Reads, ReadsAll, ReadsElements}
-use Rattle.capnp_objects.specs.Reading.{Reading, place_past, words_from}
-use Rattle.capnp_objects.specs.Refusals.{Stopped}
-use Rattle.capnp_objects.specs.Spending.{after_charge, pointers_in, pointers_in_all, pointers_in_elements}
-use Rattle.capnp_objects.specs.Wanted.{Form, plain}
-use Rattle.capnp_objects.specs.declared.object.Purpose.TheVariants.{Value}
+use Rattle.capnp_allocation.specs.Memory.{SpendsMemory, RefusesWords}
+use Rattle.capnp_allocation.specs.Stored.{IsReplaced}
+use Rattle.capnp_pointers.specs.Outcomes.{MeansThere, Reads, ReadsAll, ReadsElements}
+use Rattle.capnp_pointers.specs.Reading.{Reading, place_past, words_from}
+use Rattle.capnp_pointers.specs.Refusals.{Stopped}
+use Rattle.capnp_pointers.specs.Spending.{after_charge, pointers_in, pointers_in_all, pointers_in_elements}
+use Rattle.capnp_pointers.specs.Wanted.{Form, plain}
+use Rattle.capnp_pointers.specs.declared.object.Purpose.TheVariants.{Value}
 use Rattle.capnp_copies.specs.Changes.{CopyCall, ComesToObject, FindsNoRoom, LacksRoom, RefusesToCopy, StopsCopy}
 use Rattle.capnp_copies.proofs.Copying.{StopsHalfway}
 use Rattle.capnp_copies.specs.Forms.{kept, kept_each, kept_elements}
 use Rattle.capnp_copies.specs.Originals.{Original, value_original, children_original, elements_original, sections_original, numbers_original, pointers_original, structs_original, list_original, FitsListPointer}
 use Rattle.capnp_copies.specs.Rooms.{CanBeCopied}
 use Rattle.capnp_copies.specs.declared.widths.ElementSizes.{ElementSizes}
-use Rattle.capnp_objects.proofs.WholeValue.Shorthands.{MeanThere, ElementsMean, RefusedAll}
+use Rattle.capnp_pointers.proofs.WholeValue.Shorthands.{MeanThere, ElementsMean, RefusedAll}
 
 -- A limiter without a budget allows all reading.
 

@@ -7,7 +7,7 @@ use Rattle.capnp_format.specs.Tree.{Tree}
 use Rattle.capnp_format.specs.Canonical.{body, pointer, offset_to}
 use Rattle.capnp_arena_traits.specs.Written.{with_segment, with_word, extended}
 use Rattle.capnp_arena_traits.proofs.WordsOver.{segment_here}
-use Rattle.capnp_making.proofs.NearMade.{long_as}
+use Rattle.capnp_allocation.proofs.NearMade.{long_as}
 use Rattle.capnp_copies.proofs.Copied.{copied}
 use Rattle.capnp_copies.proofs.Copying.{there}
 use Rattle.capnp_copies.proofs.SegmentsWritten.{not_written, then_written}

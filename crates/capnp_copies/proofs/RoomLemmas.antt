@@ -4,12 +4,12 @@ use Rattle.std.proofs.Common.{◌≡◌, ℕ, suc, ◌+◌, ◌<◌, ◌≤◌, 
 use Rattle.capnp_format.specs.Tree.{Tree, Trees, no_trees, tree, count}
 use Rattle.capnp_format.specs.Canonical.{word_count, word_count_all}
 use Rattle.capnp_format.proofs.Levels.{one_value}
-use Rattle.capnp_objects.specs.Outcomes.{MeansThere}
-use Rattle.capnp_objects.specs.Reading.{Reading, place_past}
-use Rattle.capnp_objects.specs.Wanted.{Form}
+use Rattle.capnp_pointers.specs.Outcomes.{MeansThere}
+use Rattle.capnp_pointers.specs.Reading.{Reading, place_past}
+use Rattle.capnp_pointers.specs.Wanted.{Form}
 use Rattle.capnp_copies.specs.Forms.{kept, kept_each}
 use Rattle.capnp_copies.proofs.KeptChildren.{kept_none, kept_first}
-use Rattle.capnp_objects.proofs.WholeValue.Shorthands.{MeanThere}
+use Rattle.capnp_pointers.proofs.WholeValue.Shorthands.{MeanThere}
 
 -- Equally many pointers from the same place on have the same cost.
 pub same_cost : (r : Reading) (ts us : Trees) (c e : ℕ) → count ts ≡ count us → MeanThere r ts c → MeanThere r us e → c ≡ e

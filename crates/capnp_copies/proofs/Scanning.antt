@@ -2,9 +2,9 @@
 use Rattle.std.proofs.Common.{◌≡◌, ℕ, zero, suc, ◌+◌, ◌-◌, ◌*◌, ◌<◌, ◌≤◌, max, Bool, true, false, nat_eq, List, [], ◌∷◌, length, take, drop, refl, ap, subst, ◌∙◌, arith, length-take, length-drop, drop-drop}
 use Rattle.std.proofs.lemmas.List.{drop-take}
 use Rattle.capnp_format.specs.Canonical.{used_from, used_words}
-use Rattle.capnp_objects.proofs.WholeValue.WordsAdded.{row_within}
+use Rattle.capnp_pointers.proofs.WholeValue.WordsAdded.{row_within}
 use Rattle.capnp_copies.specs.Widths.{most_used}
-use Rattle.capnp_making.proofs.BelowElements.{next_place}
+use Rattle.capnp_allocation.proofs.BelowElements.{next_place}
 
 -- The words that are used, but at least n.
 used_beyond : (n : ℕ) (xs : List ℕ) → n ≤ length xs → max n (used_words xs) ≡ n + used_words (drop n xs)

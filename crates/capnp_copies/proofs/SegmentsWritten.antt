@@ -4,7 +4,7 @@ use Rattle.std.proofs.lemmas.List.{length-replicate, drop-replicate, set-get_or,
 use Rattle.capnp_format.specs.Segments.{Segments, segment, word_at}
 use Rattle.capnp_arena_traits.specs.Written.{with_segment, overwritten, with_words, extended}
 use Rattle.capnp_arena_traits.proofs.WordsOver.{segment_here, length-over}
-use Rattle.capnp_making.proofs.NearMade.{long_as}
+use Rattle.capnp_allocation.proofs.NearMade.{long_as}
 use Rattle.capnp_copies.proofs.Copying.{there}
 
 -- Segment s of M exists, and K has the words ws in it.

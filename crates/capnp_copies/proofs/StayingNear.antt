@@ -3,8 +3,8 @@
 use Rattle.std.proofs.Common.{◌≡◌, inl, inr, ℕ, ◌+◌, ◌<◌, ◌≤◌, max, length, subst, arith}
 use Rattle.capnp_format.specs.Segments.{segment, IsPlace}
 use Rattle.capnp_arena_traits.specs.View.{View}
-use Rattle.capnp_making.specs.Memory.{TakesWords}
-use Rattle.capnp_making.specs.Near.{HasOwnRoom}
+use Rattle.capnp_allocation.specs.Memory.{TakesWords}
+use Rattle.capnp_allocation.specs.Near.{HasOwnRoom}
 use Rattle.capnp_copies.specs.Changes.{StayInSegment}
 use Rattle.capnp_copies.proofs.Copying.{there}
 

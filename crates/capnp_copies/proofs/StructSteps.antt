@@ -9,9 +9,9 @@ use Rattle.capnp_format.specs.Tree.{Struct, Pointers, Trees, count}
 use Rattle.capnp_format.specs.Canonical.{pointer, pointers, bodies, offset_to}
 use Rattle.capnp_arena_traits.specs.View.{View}
 use Rattle.capnp_arena_traits.specs.Written.{with_segment, with_word}
-use Rattle.capnp_objects.specs.Reading.{Reading}
-use Rattle.capnp_objects.specs.Wanted.{Form}
-use Rattle.capnp_objects.proofs.CanonicalForm.CanonicalIfAccepted.{struct_pointer}
+use Rattle.capnp_pointers.specs.Reading.{Reading}
+use Rattle.capnp_pointers.specs.Wanted.{Form}
+use Rattle.capnp_pointers.proofs.CanonicalForm.CanonicalIfAccepted.{struct_pointer}
 use Rattle.capnp_copies.specs.Forms.{kept_each}
 use Rattle.capnp_copies.specs.Copied.{with_children}
 use Rattle.capnp_copies.proofs.Copied.{copied}

@@ -6,9 +6,9 @@ use Rattle.capnp_format.specs.Tree.{Tree, Trees}
 use Rattle.capnp_format.specs.Canonical.{word_count, word_count_all}
 use Rattle.capnp_format.proofs.Children.{with_last}
 use Rattle.capnp_arena_traits.specs.View.{View}
-use Rattle.capnp_making.specs.Memory.{KeepsMemory}
-use Rattle.capnp_objects.specs.Reading.{Reading, place_past}
-use Rattle.capnp_objects.specs.Wanted.{Form}
+use Rattle.capnp_allocation.specs.Memory.{KeepsMemory}
+use Rattle.capnp_pointers.specs.Reading.{Reading, place_past}
+use Rattle.capnp_pointers.specs.Wanted.{Form}
 use Rattle.capnp_copies.specs.Changes.{copy_call, StayInSegment, MakesCopy, CopiesChildren}
 use Rattle.capnp_copies.specs.Originals.{value_original}
 use Rattle.capnp_copies.specs.Forms.{kept, kept_each}
@@ -18,7 +18,7 @@ use Rattle.capnp_copies.proofs.ChildrenSteps.{child_put, now, now_long}
 use Rattle.capnp_copies.proofs.Copying.{there}
 use Rattle.capnp_copies.proofs.KeptChildren.{kept_words-with_last}
 use Rattle.capnp_copies.proofs.StayingNear.{stay_first, stay_later}
-use Rattle.capnp_making.specs.Makes.{call_at}
+use Rattle.capnp_allocation.specs.Makes.{call_at}
 
 -- A segment that existed keeps its room.
 pub room_kept : (old new : View) (s p : ℕ) → IsPlace old.words s p → KeepsMemory old new → new.room s ≡ old.room s

@@ -8,13 +8,13 @@ use Rattle.capnp_format.specs.Tree.{Trees, Elements, no_elements, count}
 use Rattle.capnp_format.specs.Canonical.{cut_to, word_count_all, word_count_elements}
 use Rattle.capnp_arena_traits.specs.View.{View}
 use Rattle.capnp_arena_traits.specs.Written.{with_segment, with_words, overwritten}
-use Rattle.capnp_making.specs.Filled.{IsElementFilled}
-use Rattle.capnp_making.specs.Memory.{KeepsMemory}
-use Rattle.capnp_objects.specs.Outcomes.{ReadsAll}
-use Rattle.capnp_objects.specs.Reading.{Reading, place_past, words_from}
-use Rattle.capnp_objects.specs.Wanted.{Form}
-use Rattle.capnp_objects.proofs.WholeValue.ChildrenRead.{with_last_element}
-use Rattle.capnp_objects.proofs.WholeValue.WordsAdded.{words-with_last_element}
+use Rattle.capnp_allocation.specs.Filled.{IsElementFilled}
+use Rattle.capnp_allocation.specs.Memory.{KeepsMemory}
+use Rattle.capnp_pointers.specs.Outcomes.{ReadsAll}
+use Rattle.capnp_pointers.specs.Reading.{Reading, place_past, words_from}
+use Rattle.capnp_pointers.specs.Wanted.{Form}
+use Rattle.capnp_pointers.proofs.WholeValue.ChildrenRead.{with_last_element}
+use Rattle.capnp_pointers.proofs.WholeValue.WordsAdded.{words-with_last_element}
 use Rattle.capnp_copies.specs.Changes.{CopyCall, copy_call, StayInSegment, EndsInZeros, CopiesChildren, CopiesRows}
 use Rattle.capnp_copies.specs.Forms.{kept_each, kept_elements}
 use Rattle.capnp_copies.specs.Copied.{with_children}
@@ -27,7 +27,7 @@ use Rattle.capnp_copies.proofs.KeptChildren.{cut_kept}
 use Rattle.capnp_copies.proofs.KeptForms.{SourceKept}
 use Rattle.capnp_copies.proofs.SegmentsWritten.{not_written, length-with_words}
 use Rattle.capnp_copies.proofs.StayingNear.{stay_first, stay_later}
-use Rattle.capnp_making.specs.Makes.{call_at}
+use Rattle.capnp_allocation.specs.Makes.{call_at}
 
 -- One element.
 

@@ -6,8 +6,8 @@ use Rattle.capnp_format.specs.Segments.{Segments, segment, IsPlace}
 use Rattle.capnp_format.specs.Tree.{Flat}
 use Rattle.capnp_format.specs.Word.{list_word}
 use Rattle.capnp_arena_traits.specs.Written.{with_segment, with_word, with_words, extended}
-use Rattle.capnp_making.specs.Near.{offset_to_end, with_object}
-use Rattle.capnp_making.proofs.NearMade.{long_as}
+use Rattle.capnp_allocation.specs.Near.{offset_to_end, with_object}
+use Rattle.capnp_allocation.proofs.NearMade.{long_as}
 use Rattle.capnp_copies.proofs.Copied.{copied}
 use Rattle.capnp_copies.proofs.Copying.{there}
 use Rattle.capnp_copies.proofs.Padding.{all_written}

@@ -10,15 +10,15 @@ use Rattle.capnp_format.specs.Tree.{Tree, Struct, Pointers, Structs, Trees, no_t
 use Rattle.capnp_format.specs.Canonical.{word_count, word_count_all, word_count_elements, pointers, bodies, rows, element_bodies, offset_to}
 use Rattle.capnp_arena_traits.specs.View.{View}
 use Rattle.capnp_arena_traits.specs.Written.{with_segment, with_word, with_words, extended}
-use Rattle.capnp_making.specs.Memory.{KeepsMemory, ComesAfter, TakesWords as TakesRoom}
-use Rattle.capnp_making.specs.Near.{HasOwnRoom, StartsAtEnd, offset_to_end}
-use Rattle.capnp_making.proofs.NearMade.{HasStructRoom, HasStructsRoom, with_struct, with_list, with_struct_list}
+use Rattle.capnp_allocation.specs.Memory.{KeepsMemory, ComesAfter, TakesWords as TakesRoom}
+use Rattle.capnp_allocation.specs.Near.{HasOwnRoom, StartsAtEnd, offset_to_end}
+use Rattle.capnp_allocation.proofs.NearMade.{HasStructRoom, HasStructsRoom, with_struct, with_list, with_struct_list}
 use Rattle.capnp_arena_traits.specs.declared.arena.WordPlace.{WordPlace}
-use Rattle.capnp_objects.specs.Reading.{Reading, segment_read}
-use Rattle.capnp_objects.specs.Wanted.{Form}
+use Rattle.capnp_pointers.specs.Reading.{Reading, segment_read}
+use Rattle.capnp_pointers.specs.Wanted.{Form}
 use Rattle.capnp_arena_traits.proofs.WordsOver.{segment_here}
-use Rattle.capnp_making.proofs.NearMade.{long_as}
-use Rattle.capnp_making.proofs.WordsPut.{none_over}
+use Rattle.capnp_allocation.proofs.NearMade.{long_as}
+use Rattle.capnp_allocation.proofs.WordsPut.{none_over}
 use Rattle.capnp_copies.specs.Changes.{copy_call, StayInSegment, IsCopiedInRoom, EndsInZeros, CopiesChildren, CopiesRows}
 use Rattle.capnp_copies.specs.Forms.{kept, kept_each}
 use Rattle.capnp_copies.specs.Copied.{with_children}
@@ -39,7 +39,7 @@ use Rattle.capnp_copies.proofs.SegmentsWritten.{begun, not_written, words_writte
 use Rattle.capnp_copies.proofs.StructSteps.{StructBegun, struct_put, pointers_put}
 use Rattle.capnp_copies.proofs.StayingNear.{stay_fewer, stay_later, own_room}
 use Rattle.capnp_copies.proofs.TightChildren.{room_kept}
-use Rattle.capnp_making.specs.Makes.{call_at}
+use Rattle.capnp_allocation.specs.Makes.{call_at}
 
 -- The pointer stays the same if children were written after it.
 pub stays : {N : Segments} (S : Segments) (s p x h : ℕ) (ws B C D : List ℕ) → IsPlace S s p → p < h → h ≤ length (segment (extended (with_word S s p x) s ws) s) →

@@ -10,19 +10,19 @@ use Rattle.capnp_format.specs.Word.{offset_bits, data_words, pointer_count, list
 use Rattle.capnp_format.proofs.Trimming.{take_trees-count}
 use Rattle.capnp_format.proofs.Levels.{one_value}
 use Rattle.capnp_arena_traits.specs.View.{View}
-use Rattle.capnp_making.specs.Memory.{HasRoom, KeepsMemory, ComesAfter, TakesWords}
-use Rattle.capnp_making.specs.Near.{HasOwnRoom, StartsAtEnd}
+use Rattle.capnp_allocation.specs.Memory.{HasRoom, KeepsMemory, ComesAfter, TakesWords}
+use Rattle.capnp_allocation.specs.Near.{HasOwnRoom, StartsAtEnd}
 use Rattle.capnp_arena_traits.specs.declared.arena.WordPlace.{WordPlace}
-use Rattle.capnp_objects.specs.Objects.{IsObject}
-use Rattle.capnp_objects.specs.Outcomes.{Reads, MeansThere}
-use Rattle.capnp_objects.specs.Reading.{Reading, place_past, segment_read, pointers_of, tag_size}
+use Rattle.capnp_pointers.specs.Objects.{IsObject}
+use Rattle.capnp_pointers.specs.Outcomes.{Reads, MeansThere}
+use Rattle.capnp_pointers.specs.Reading.{Reading, place_past, segment_read, pointers_of, tag_size}
 use Rattle.capnp_words.specs.Sizes.{sized}
-use Rattle.capnp_objects.specs.Demands.{tag}
-use Rattle.capnp_objects.specs.Faults.{child_at}
-use Rattle.capnp_objects.specs.Wanted.{Form}
-use Rattle.capnp_objects.specs.declared.object.Place.{Place}
-use Rattle.capnp_objects.specs.declared.object.Object.TheVariants.{Struct as ObjectStruct, Pointers as ObjectPointers, Structs as ObjectStructs}
-use Rattle.capnp_objects.specs.declared.object.Purpose.TheVariants.{Value}
+use Rattle.capnp_pointers.specs.Demands.{tag}
+use Rattle.capnp_pointers.specs.Faults.{child_at}
+use Rattle.capnp_pointers.specs.Wanted.{Form}
+use Rattle.capnp_pointers.specs.declared.object.Place.{Place}
+use Rattle.capnp_pointers.specs.declared.object.Object.TheVariants.{Struct as ObjectStruct, Pointers as ObjectPointers, Structs as ObjectStructs}
+use Rattle.capnp_pointers.specs.declared.object.Purpose.TheVariants.{Value}
 use Rattle.capnp_copies.specs.Changes.{copy_call, EndsInZeros, CopiesChildren, CopiesRows}
 use Rattle.capnp_copies.proofs.InPlace.{AreCopied}
 use Rattle.capnp_copies.proofs.CopiesNear.{call_of, CopiesChildren as ChildrenCopied}
@@ -38,9 +38,9 @@ use Rattle.capnp_copies.proofs.KeptForms.{KeepsWidths, SourceKept, SectionsCut, 
 use Rattle.capnp_copies.proofs.ObjectsRead.{inside, means_struct, means_pointers, means_structs}
 use Rattle.capnp_copies.proofs.RoomLemmas.{next_words}
 use Rattle.capnp_copies.proofs.TightChildren.{room_kept}
-use Rattle.capnp_objects.proofs.Following.LeadsWhereFollowed.{entered_leads}
-use Rattle.capnp_objects.proofs.WholeValue.Shorthands.{MeanThere}
-use Rattle.capnp_making.specs.Makes.{call_at}
+use Rattle.capnp_pointers.proofs.Following.LeadsWhereFollowed.{entered_leads}
+use Rattle.capnp_pointers.proofs.WholeValue.Shorthands.{MeanThere}
+use Rattle.capnp_allocation.specs.Makes.{call_at}
 
 -- A child.
 pub child_too_large : {r : Reading} {s p i n : ℕ} {old mid : View} {m m' : Meter} (b : Form) → IsPlace old.words s (p + i) → i < n → (first : CopiesChildren r i (copy_call b (call_at s p old mid) m m')) →

@@ -7,14 +7,14 @@ use Rattle.capnp_format.specs.Canonical.{used_from, used_words, is_null, used_tr
 use Rattle.capnp_words.specs.Meter.{Meter}
 use Rattle.capnp_format.proofs.Trimming.{used_from-rest, used_from-past, trim_each-take}
 use Rattle.capnp_format.proofs.Appending.{append_trees, count-append, means_joined}
-use Rattle.capnp_making.specs.Made.{nulls}
-use Rattle.capnp_making.proofs.Placed.{count-nulls, nulls_mean}
+use Rattle.capnp_allocation.specs.Made.{nulls}
+use Rattle.capnp_allocation.proofs.Placed.{count-nulls, nulls_mean}
 use Rattle.capnp_copies.proofs.LeastWidths.{used_where_meant}
-use Rattle.capnp_objects.specs.Spending.{after_charge, pointers_in_all}
-use Rattle.capnp_objects.specs.Outcomes.{MeansThere, ReadsAll}
-use Rattle.capnp_objects.specs.Reading.{Reading, place_past, segment_read, words_from}
-use Rattle.capnp_objects.specs.Wanted.{canonical}
-use Rattle.capnp_objects.proofs.WholeValue.Shorthands.{MeanThere}
+use Rattle.capnp_pointers.specs.Spending.{after_charge, pointers_in_all}
+use Rattle.capnp_pointers.specs.Outcomes.{MeansThere, ReadsAll}
+use Rattle.capnp_pointers.specs.Reading.{Reading, place_past, segment_read, words_from}
+use Rattle.capnp_pointers.specs.Wanted.{canonical}
+use Rattle.capnp_pointers.proofs.WholeValue.Shorthands.{MeanThere}
 use Rattle.capnp_format.proofs.Slices.{word_in_part}
 
 -- Nothing is used after the used words.

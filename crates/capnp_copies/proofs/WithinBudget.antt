@@ -5,15 +5,15 @@ use Rattle.capnp_words.specs.Meter.{Affords, Meter}
 use Rattle.capnp_format.specs.Segments.{Target, segment, words_at}
 use Rattle.capnp_format.specs.Word.{offset_bits, data_words, pointer_count}
 use Rattle.capnp_format.proofs.Trimming.{used_words-le}
-use Rattle.capnp_objects.specs.Demands.{own_charge, tag}
-use Rattle.capnp_objects.specs.Faults.{child_at}
-use Rattle.capnp_objects.specs.Outcomes.{Entered}
-use Rattle.capnp_objects.specs.Reading.{Reading, segment_read, tag_size}
-use Rattle.capnp_objects.specs.Refusals.{StopsWithin, here, below}
-use Rattle.capnp_objects.specs.Wanted.{Form, canonical}
-use Rattle.capnp_objects.specs.declared.object.Purpose.TheVariants.{Value}
-use Rattle.capnp_objects.proofs.WholeValue.ObjectsRead.{own_struct, own_flat, own_pointers, own_structs}
-use Rattle.capnp_objects.proofs.WholeValue.UnreadableIfRefused.{affords_less}
+use Rattle.capnp_pointers.specs.Demands.{own_charge, tag}
+use Rattle.capnp_pointers.specs.Faults.{child_at}
+use Rattle.capnp_pointers.specs.Outcomes.{Entered}
+use Rattle.capnp_pointers.specs.Reading.{Reading, segment_read, tag_size}
+use Rattle.capnp_pointers.specs.Refusals.{StopsWithin, here, below}
+use Rattle.capnp_pointers.specs.Wanted.{Form, canonical}
+use Rattle.capnp_pointers.specs.declared.object.Purpose.TheVariants.{Value}
+use Rattle.capnp_pointers.proofs.WholeValue.ObjectsRead.{own_struct, own_flat, own_pointers, own_structs}
+use Rattle.capnp_pointers.proofs.WholeValue.UnreadableIfRefused.{affords_less}
 use Rattle.capnp_copies.specs.Changes.{IsMadeOf, as_struct, as_numbers, as_pointers, as_structs}
 use Rattle.capnp_copies.proofs.NoRoom.{WantsWords}
 use Rattle.capnp_copies.specs.Costs.{spent_before, spent_until}

@@ -1,7 +1,7 @@
 -- What is inside a row of words is inside the segment, and its positions fit 32 bits: about plain
 -- numbers.
 use Rattle.std.proofs.Common.{◌≡◌, ℕ, ◌+◌, ◌*◌, ◌<◌, ◌≤◌, ◌^◌, ap, arith}
-use Rattle.capnp_objects.proofs.WholeValue.WordsAdded.{row_within}
+use Rattle.capnp_pointers.proofs.WholeValue.WordsAdded.{row_within}
 
 pub child_there : (p n i : ℕ) {l m : ℕ} → p + n ≤ l → i < n → l ≤ m → p + i < m
 child_there p n i room less more = omega arith

@@ -10,18 +10,18 @@ use Rattle.capnp_format.specs.Canonical.{body, pointer, offset_to, cut_to, rows,
 use Rattle.capnp_format.specs.Canonical.{word_count, word_count_all, word_count_elements}
 use Rattle.capnp_arena_traits.specs.View.{View}
 use Rattle.capnp_arena_traits.specs.Written.{with_segment}
-use Rattle.capnp_making.specs.Filled.{AreFilled, AreElementsFilled, ArePartlyFilled}
-use Rattle.capnp_making.specs.Made.{structs_words}
-use Rattle.capnp_making.specs.Memory.{KeepsMemory, SpendsMemory, RefusesWords}
-use Rattle.capnp_making.specs.Near.{HasOwnRoom}
-use Rattle.capnp_making.specs.Stored.{IsReplaced}
-use Rattle.capnp_objects.specs.Demands.{IsStructList, tag}
-use Rattle.capnp_objects.specs.Faults.{child_at}
-use Rattle.capnp_objects.specs.Outcomes.{Entered, ReadsAll, ReadsElements}
-use Rattle.capnp_objects.specs.Refusals.{Stopped, Refused, StopsAmongElements}
-use Rattle.capnp_objects.specs.Reading.{Reading, place_past, segment_read, tag_size, word_of}
-use Rattle.capnp_objects.specs.Wanted.{Form}
-use Rattle.capnp_objects.specs.declared.object.Purpose.TheVariants.{Value}
+use Rattle.capnp_allocation.specs.Filled.{AreFilled, AreElementsFilled, ArePartlyFilled}
+use Rattle.capnp_allocation.specs.Made.{structs_words}
+use Rattle.capnp_allocation.specs.Memory.{KeepsMemory, SpendsMemory, RefusesWords}
+use Rattle.capnp_allocation.specs.Near.{HasOwnRoom}
+use Rattle.capnp_allocation.specs.Stored.{IsReplaced}
+use Rattle.capnp_pointers.specs.Demands.{IsStructList, tag}
+use Rattle.capnp_pointers.specs.Faults.{child_at}
+use Rattle.capnp_pointers.specs.Outcomes.{Entered, ReadsAll, ReadsElements}
+use Rattle.capnp_pointers.specs.Refusals.{Stopped, Refused, StopsAmongElements}
+use Rattle.capnp_pointers.specs.Reading.{Reading, place_past, segment_read, tag_size, word_of}
+use Rattle.capnp_pointers.specs.Wanted.{Form}
+use Rattle.capnp_pointers.specs.declared.object.Purpose.TheVariants.{Value}
 use Rattle.capnp_copies.specs.Forms.{form_in, kept, kept_each, kept_elements}
 use Rattle.capnp_copies.specs.Copied.{with_children}
 use Rattle.capnp_copies.specs.Originals.{Original, value_original, children_original}
@@ -29,7 +29,7 @@ use Rattle.capnp_copies.specs.Originals.{elements_original, kept_count}
 use Rattle.capnp_copies.specs.Widths.{widths_kept}
 use Rattle.capnp_copies.specs.declared.form.Destination.{Destination}
 use Rattle.capnp_copies.specs.declared.widths.ElementSizes.{ElementSizes}
-use Rattle.capnp_making.specs.Makes.{CallAt, call_at}
+use Rattle.capnp_allocation.specs.Makes.{CallAt, call_at}
 
 -- A call that copies to a place, or from a place of a segment on: the arena and the read limiter,
 -- before and after it.

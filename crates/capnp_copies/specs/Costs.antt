@@ -5,14 +5,14 @@ use Rattle.std.specs.Prelude.{ℕ, ◌+◌}
 use Rattle.capnp_words.specs.declared.wire_pointer.StructSize.{StructSize}
 use Rattle.capnp_words.specs.Meter.{Meter}
 use Rattle.capnp_format.specs.Segments.{Target}
-use Rattle.capnp_objects.specs.Demands.{own_charge}
-use Rattle.capnp_objects.specs.Reading.{Reading}
-use Rattle.capnp_objects.specs.Outcomes.{ReadsAll, ReadsElements}
-use Rattle.capnp_objects.specs.Refusals.{GoesBefore, in_struct, in_pointers, in_element}
-use Rattle.capnp_objects.specs.Refusals.{StopsWithin, here, below, StopsAmong, StopsAmongElements}
-use Rattle.capnp_objects.specs.Spending.{pointers_in_all, pointers_in_elements}
-use Rattle.capnp_objects.specs.Wanted.{Form}
-use Rattle.capnp_objects.specs.declared.object.Purpose.TheVariants.{Value}
+use Rattle.capnp_pointers.specs.Demands.{own_charge}
+use Rattle.capnp_pointers.specs.Reading.{Reading}
+use Rattle.capnp_pointers.specs.Outcomes.{ReadsAll, ReadsElements}
+use Rattle.capnp_pointers.specs.Refusals.{GoesBefore, in_struct, in_pointers, in_element}
+use Rattle.capnp_pointers.specs.Refusals.{StopsWithin, here, below, StopsAmong, StopsAmongElements}
+use Rattle.capnp_pointers.specs.Spending.{pointers_in_all, pointers_in_elements}
+use Rattle.capnp_pointers.specs.Wanted.{Form}
+use Rattle.capnp_pointers.specs.declared.object.Purpose.TheVariants.{Value}
 
 -- What is spent: words that are granted, and pointers that are followed.
 pub record Spent : Type 0 where

@@ -2,7 +2,7 @@
 use Rattle.std.specs.Prelude.{Bool, true, false}
 use Rattle.capnp_format.specs.Tree.{Tree, Trees, Elements}
 use Rattle.capnp_format.specs.Canonical.{trim, trim_each, trim_elements}
-use Rattle.capnp_objects.specs.Wanted.{Form, plain, canonical, of_default}
+use Rattle.capnp_pointers.specs.Wanted.{Form, plain, canonical, of_default}
 use Rattle.capnp_copies.specs.declared.form.CopyForm.{CopyForm}
 use Rattle.capnp_copies.specs.declared.form.CopyForm.TheVariants.{Plain, Canonical, OfDefault}
 

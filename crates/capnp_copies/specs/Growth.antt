@@ -7,9 +7,9 @@ use Rattle.capnp_format.specs.Segments.{segment}
 use Rattle.capnp_format.specs.Tree.{Tree}
 use Rattle.capnp_arena_traits.specs.Taking.{SameRoomBelow}
 use Rattle.capnp_arena_traits.specs.View.{View}
-use Rattle.capnp_making.specs.Memory.{Lengthens, IsNextRoom}
-use Rattle.capnp_making.specs.Near.{HasOwnRoom}
-use Rattle.capnp_objects.specs.Reading.{Reading}
+use Rattle.capnp_allocation.specs.Memory.{Lengthens, IsNextRoom}
+use Rattle.capnp_allocation.specs.Near.{HasOwnRoom}
+use Rattle.capnp_pointers.specs.Reading.{Reading}
 use Rattle.capnp_copies.specs.Changes.{CopyCall, MakesCopy, StopsCopy, CopiesChildren, StopsAtChildren}
 use Rattle.capnp_copies.specs.Originals.{Original, children_original}
 

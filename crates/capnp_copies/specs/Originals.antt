@@ -12,12 +12,12 @@ use Rattle.capnp_format.specs.Canonical.{cut_to, used_words, word_count, word_co
 use Rattle.capnp_format.specs.Numbers.{words_for, unpacked}
 use Rattle.capnp_format.specs.Tree.{Tree, Struct, Flat, Pointers, Structs, Trees, Elements, count}
 use Rattle.capnp_format.specs.Tree.{element_count}
-use Rattle.capnp_making.specs.Made.{structs_words}
-use Rattle.capnp_objects.specs.Outcomes.{Reads, ReadsAll, ReadsElements}
-use Rattle.capnp_objects.specs.Reading.{Reading, words_from}
-use Rattle.capnp_objects.specs.Refusals.{StopsWithin, StopsAmong, StopsAmongElements, IsTried}
-use Rattle.capnp_objects.specs.Spending.{pointers_in, pointers_in_all, pointers_in_elements}
-use Rattle.capnp_objects.specs.Wanted.{Form, canonical}
+use Rattle.capnp_allocation.specs.Made.{structs_words}
+use Rattle.capnp_pointers.specs.Outcomes.{Reads, ReadsAll, ReadsElements}
+use Rattle.capnp_pointers.specs.Reading.{Reading, words_from}
+use Rattle.capnp_pointers.specs.Refusals.{StopsWithin, StopsAmong, StopsAmongElements, IsTried}
+use Rattle.capnp_pointers.specs.Spending.{pointers_in, pointers_in_all, pointers_in_elements}
+use Rattle.capnp_pointers.specs.Wanted.{Form, canonical}
 use Rattle.capnp_copies.specs.Costs.{Spent, spent_until, spent_among, spent_among_elements, spent_past}
 use Rattle.capnp_copies.specs.Forms.{kept, kept_each, kept_elements}
 use Rattle.capnp_copies.specs.Widths.{widths_kept}

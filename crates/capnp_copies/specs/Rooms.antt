@@ -3,12 +3,12 @@ use Rattle.std.specs.Prelude.{◌≡◌, ℕ, Result, ⊤, Err, IsOk, IfOk, IfEr
 use Rattle.capnp_words.specs.declared.error.ErrorKind.{ErrorKind}
 use Rattle.capnp_words.specs.Meter.{Meter}
 use Rattle.capnp_arena_traits.specs.View.{View, KeepsLimits}
-use Rattle.capnp_making.specs.Makes.{CallAt}
-use Rattle.capnp_making.specs.Near.{HasOwnRoom}
-use Rattle.capnp_making.specs.Stored.{Puts}
-use Rattle.capnp_making.specs.Zeroed.{IsPruned}
+use Rattle.capnp_allocation.specs.Makes.{CallAt}
+use Rattle.capnp_allocation.specs.Near.{HasOwnRoom}
+use Rattle.capnp_allocation.specs.Stored.{Puts}
+use Rattle.capnp_allocation.specs.Zeroed.{IsPruned}
 use Rattle.capnp_format.specs.Tree.{Tree, Null}
-use Rattle.capnp_objects.specs.Wanted.{Form}
+use Rattle.capnp_pointers.specs.Wanted.{Form}
 use Rattle.capnp_copies.specs.Changes.{CopyCall, MakesCopy, StopsCopy}
 use Rattle.capnp_copies.specs.Growth.{TakesAtMost}
 use Rattle.capnp_copies.specs.Originals.{Original}

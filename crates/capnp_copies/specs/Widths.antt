@@ -3,9 +3,9 @@
 use Rattle.std.specs.Prelude.{ℕ, zero, suc, ◌+◌, ◌≤◌, List, take, drop, max}
 use Rattle.capnp_words.specs.declared.wire_pointer.StructSize.{StructSize}
 use Rattle.capnp_format.specs.Canonical.{used_words}
-use Rattle.capnp_objects.specs.Reading.{Reading, segment_read}
+use Rattle.capnp_pointers.specs.Reading.{Reading, segment_read}
 use Rattle.capnp_words.specs.Sizes.{sized}
-use Rattle.capnp_objects.specs.Wanted.{Form, canonical}
+use Rattle.capnp_pointers.specs.Wanted.{Form, canonical}
 
 -- The most words, up to the last that isn't zero, that any of n sections uses. Each section has
 -- `words` words; the first is at position p, and each next one `stride` words after it.

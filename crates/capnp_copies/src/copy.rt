@@ -9,14 +9,14 @@ ghost use Rattle.capnp_words.specs.declared.error.ErrorKind.TheVariants.{CannotC
 ghost use Rattle.capnp_format.specs.Segments.{IsPlace};
 ghost use Rattle.capnp_format.specs.Word.{capability_word};
 ghost use Rattle.capnp_arena_traits.specs.Written.{with_word};
-ghost use Rattle.capnp_objects.specs.Wanted.{plain, canonical, of_default};
-ghost use Rattle.capnp_objects.specs.Pointers.{reading};
+ghost use Rattle.capnp_pointers.specs.Wanted.{plain, canonical, of_default};
+ghost use Rattle.capnp_pointers.specs.Pointers.{reading};
 ghost use Rattle.capnp_copies.specs.Growth.{CopiesOrLeaves};
 ghost use Rattle.capnp_copies.specs.Changes.{copy_call, copy_call_to, IsNullPlace};
 ghost use Rattle.capnp_copies.specs.Forms.{form_of, form_in};
 ghost use Rattle.capnp_copies.specs.Rooms.{CopiesOrClears};
 ghost use Rattle.capnp_copies.specs.Originals.{value_original};
-ghost use Rattle.capnp_making.specs.Makes.{call_at};
+ghost use Rattle.capnp_allocation.specs.Makes.{call_at};
 
 mod children;
 mod elements;
@@ -29,8 +29,8 @@ mod structs;
 use crate::form::{CopyForm, Destination};
 use crate::widths::StructList;
 use capnp_arena_traits::arena::{BuilderArena, ReaderArena, WordPlace, set_word};
-use capnp_objects::object::Object;
-use capnp_objects::pointers::Pointer;
+use capnp_pointers::object::Object;
+use capnp_pointers::pointers::Pointer;
 use capnp_words::error::ErrorKind;
 use capnp_words::read_limiter::ReadLimiter;
 use capnp_words::wire_pointer::{WirePointer, words_for_elements};

@@ -15,21 +15,21 @@ use Rattle.capnp_format.specs.Means.{Means}
 use Rattle.capnp_format.specs.Canonical.{word_count, word_count_all, word_count_elements}
 use Rattle.capnp_format.specs.Numbers.{words_for}
 use Rattle.capnp_format.specs.Forest.{IsForest, target, cover}
-use Rattle.capnp_contents.specs.declared.existing.ExistingStruct.{ExistingStruct}
-use Rattle.capnp_contents.specs.Existing.{struct_in}
+use Rattle.capnp_in_place.specs.declared.existing.ExistingStruct.{ExistingStruct}
+use Rattle.capnp_in_place.specs.Existing.{struct_in}
 use Rattle.capnp_format.specs.Fields.{put_field}
-use Rattle.capnp_making.specs.Made.{words_of_zero, nulls, zero_elements, zero_struct, zero_structs, zero_list, list_words}
-use Rattle.capnp_making.specs.Makes.{CallAt, MakesObject, call_at}
-use Rattle.capnp_making.specs.Memory.{IsRefusedFor, ComesAfter, start_of}
-use Rattle.capnp_making.specs.Near.{LeadsToEnd}
+use Rattle.capnp_allocation.specs.Made.{words_of_zero, nulls, zero_elements, zero_struct, zero_structs, zero_list, list_words}
+use Rattle.capnp_allocation.specs.Makes.{CallAt, MakesObject, call_at}
+use Rattle.capnp_allocation.specs.Memory.{IsRefusedFor, ComesAfter, start_of}
+use Rattle.capnp_allocation.specs.Near.{LeadsToEnd}
 use Rattle.capnp_format.specs.Path.{Element, struct_at, put_struct, update, node, PathLeads, word_interval}
-use Rattle.capnp_making.specs.Stored.{IsStored, IsReplaced, Puts}
-use Rattle.capnp_making.proofs.Extents.{once_held, times-first}
-use Rattle.capnp_contents.proofs.Fields.FieldWritten.{data_field_written, element_has_words, element_field_written}
-use Rattle.capnp_making.proofs.Placed.{count-nulls}
-use Rattle.capnp_making.proofs.PlacedStructs.{count-zero_elements}
-use Rattle.capnp_making.proofs.Replaced.{forest_stored, forest_updated, stored_within}
-use Rattle.capnp_objects.specs.declared.pointers.PointerPlace.{PointerPlace}
+use Rattle.capnp_allocation.specs.Stored.{IsStored, IsReplaced, Puts}
+use Rattle.capnp_allocation.proofs.Extents.{once_held, times-first}
+use Rattle.capnp_in_place.proofs.Fields.FieldWritten.{data_field_written, element_has_words, element_field_written}
+use Rattle.capnp_allocation.proofs.Placed.{count-nulls}
+use Rattle.capnp_allocation.proofs.PlacedStructs.{count-zero_elements}
+use Rattle.capnp_allocation.proofs.Replaced.{forest_stored, forest_updated, stored_within}
+use Rattle.capnp_pointers.specs.declared.pointers.PointerPlace.{PointerPlace}
 use Rattle.capnp_words.specs.Names.{is_allocation_name}
 use Rattle.capnp_words.specs.declared.wire_pointer.StructSize.{StructSize}
 use Rattle.capnp_edits.specs.declared.edit.Edit.{Edit}

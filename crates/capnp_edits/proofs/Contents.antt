@@ -12,16 +12,16 @@ use Rattle.capnp_format.specs.Numbers.{element_bits}
 use Rattle.capnp_format.specs.Segments.{Segments, IsPlace, Target}
 use Rattle.capnp_format.specs.Tree.{Tree, Null, Capability, Struct, Flat, Pointers, Structs, count, element_count}
 use Rattle.capnp_format.specs.Forest.{target}
-use Rattle.capnp_contents.specs.declared.existing.ExistingBytes.{ExistingBytes}
-use Rattle.capnp_contents.specs.declared.existing.ExistingList.{ExistingList}
-use Rattle.capnp_contents.specs.Existing.{size_of, plain_misfit, structs_misfit, plain_list, struct_list, unless, list_in, bytes_at, ends_in_zero, text_in, data_in, AreBytesInside}
-use Rattle.capnp_making.specs.Fields.{with_field}
+use Rattle.capnp_in_place.specs.declared.existing.ExistingBytes.{ExistingBytes}
+use Rattle.capnp_in_place.specs.declared.existing.ExistingList.{ExistingList}
+use Rattle.capnp_in_place.specs.Existing.{size_of, plain_misfit, structs_misfit, plain_list, struct_list, unless, list_in, bytes_at, ends_in_zero, text_in, data_in, AreBytesInside}
+use Rattle.capnp_allocation.specs.Fields.{with_field}
 use Rattle.capnp_format.specs.Path.{put_struct}
-use Rattle.capnp_making.specs.Stored.{IsStored, IsReplaced}
-use Rattle.capnp_contents.proofs.Fields.FieldWritten.{flat_part_written, element_field_written}
-use Rattle.capnp_making.proofs.Zeros.{there}
+use Rattle.capnp_allocation.specs.Stored.{IsStored, IsReplaced}
+use Rattle.capnp_in_place.proofs.Fields.FieldWritten.{flat_part_written, element_field_written}
+use Rattle.capnp_allocation.proofs.Zeros.{there}
 use Rattle.capnp_readers.specs.Sections.{step_bits, data_bits}
-use Rattle.capnp_objects.specs.declared.pointers.PointerPlace.{PointerPlace}
+use Rattle.capnp_pointers.specs.declared.pointers.PointerPlace.{PointerPlace}
 use Rattle.capnp_builders.specs.Places.{field}
 use Rattle.capnp_builders.proofs.FoundBytes.{data_inside, text_inside}
 use Rattle.capnp_builders.proofs.FoundLists.{found_inside}

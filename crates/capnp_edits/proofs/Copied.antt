@@ -13,18 +13,18 @@ use Rattle.capnp_format.specs.Canonical.{word_count}
 use Rattle.capnp_format.specs.Segments.{Segments, Target, segment, AreWords}
 use Rattle.capnp_format.specs.Word.{kind, element_size}
 use Rattle.capnp_format.specs.Tree.{Tree, Null}
-use Rattle.capnp_making.specs.Memory.{KeepsMemory, SpendsMemory}
-use Rattle.capnp_making.proofs.Memory.{not_the_allocator}
-use Rattle.capnp_making.specs.Stored.{Puts}
-use Rattle.capnp_objects.specs.Expected.{Expectation, struct_expected, list_expected, HasExpected, RefusesExpected, no_level, unfollowed, of_another_kind, stopped, misfits}
-use Rattle.capnp_objects.specs.Outcomes.{Reads}
-use Rattle.capnp_objects.specs.Reading.{Reading}
-use Rattle.capnp_objects.specs.Refusals.{Refused, here as stops_here, Unfollowed, no_target}
-use Rattle.capnp_objects.specs.Wanted.{plain}
-use Rattle.capnp_objects.proofs.OneObject.ExpectedAsStated.{not_withheld}
-use Rattle.capnp_objects.proofs.OneObject.ExpectedBySteps.{one_level}
-use Rattle.capnp_objects.proofs.WholeValue.RefusalsNamed.{not_for_memory, not_for_place}
-use Rattle.capnp_objects.proofs.WholeValue.UnreadableIfRefused.{unreadable}
+use Rattle.capnp_allocation.specs.Memory.{KeepsMemory, SpendsMemory}
+use Rattle.capnp_allocation.proofs.Memory.{not_the_allocator}
+use Rattle.capnp_allocation.specs.Stored.{Puts}
+use Rattle.capnp_pointers.specs.Expected.{Expectation, struct_expected, list_expected, HasExpected, RefusesExpected, no_level, unfollowed, of_another_kind, stopped, misfits}
+use Rattle.capnp_pointers.specs.Outcomes.{Reads}
+use Rattle.capnp_pointers.specs.Reading.{Reading}
+use Rattle.capnp_pointers.specs.Refusals.{Refused, here as stops_here, Unfollowed, no_target}
+use Rattle.capnp_pointers.specs.Wanted.{plain}
+use Rattle.capnp_pointers.proofs.OneObject.ExpectedAsStated.{not_withheld}
+use Rattle.capnp_pointers.proofs.OneObject.ExpectedBySteps.{one_level}
+use Rattle.capnp_pointers.proofs.WholeValue.RefusalsNamed.{not_for_memory, not_for_place}
+use Rattle.capnp_pointers.proofs.WholeValue.UnreadableIfRefused.{unreadable}
 use Rattle.capnp_readers.specs.Calls.{IsRead, of_pointer, of_default, short_default, of_null_default, WhereRead, IsRefused, IsStructRead, IsListRead}
 use Rattle.capnp_readers.specs.Readers.{read_by}
 use Rattle.capnp_readers.specs.Sections.{bytes_for}
@@ -32,13 +32,13 @@ use Rattle.capnp_readers.specs.Sizes.{pointers_read}
 use Rattle.capnp_readers.specs.declared.readers.PointerReader.{PointerReader}
 use Rattle.capnp_readers.specs.declared.readers.struct_reader.StructReader.{StructReader}
 use Rattle.capnp_readers.specs.declared.readers.list_reader.ListReader.{ListReader}
-use Rattle.capnp_objects.specs.declared.pointers.PointerPlace.{PointerPlace}
+use Rattle.capnp_pointers.specs.declared.pointers.PointerPlace.{PointerPlace}
 use Rattle.capnp_copies.specs.Changes.{CopyCall, RefusesToCopy, copy_call}
 use Rattle.capnp_copies.specs.Forms.{form_of, kept}
 use Rattle.capnp_copies.specs.Growth.{TakesAtMost}
 use Rattle.capnp_copies.specs.Originals.{Original, value_original, sections_original, list_original}
 use Rattle.capnp_copies.proofs.Originals.{value_beyond, refused_words}
-use Rattle.capnp_making.specs.Makes.{CallAt, call_at}
+use Rattle.capnp_allocation.specs.Makes.{CallAt, call_at}
 use Rattle.capnp_builders.specs.ListValues.{list_read}
 use Rattle.capnp_builders.specs.StructValues.{data_of, struct_read}
 use Rattle.capnp_builders.specs.Kept.{PutsCopy, LeavesCleared}
@@ -57,7 +57,7 @@ use Rattle.capnp_edits.proofs.CopiedList.{as_any, as_list, elements_read, list_t
 use Rattle.capnp_edits.proofs.ListReads.{ListElements, LeadsToList, OfElements, of_elements, to_elements, list_read_as}
 use Rattle.capnp_edits.proofs.Steps.{same_some}
 use Rattle.capnp_edits.proofs.Ways.{yielded, is_copied, is_not_copied, is_unread}
-use Rattle.capnp_making.specs.Near.{HasOwnRoom}
+use Rattle.capnp_allocation.specs.Near.{HasOwnRoom}
 use Rattle.capnp_words.specs.Names.{is_allocation_name}
 
 -- The reader is at the source's root, and the root's word is charged.

@@ -18,23 +18,23 @@ use Rattle.capnp_format.specs.Tree.{Tree, Null, Capability, Struct, Flat, Pointe
 use Rattle.capnp_format.specs.Word.{kind, offset_bits, data_words, pointer_count, element_size, list_count}
 use Rattle.capnp_format.proofs.Bounds.{leads_word}
 use Rattle.capnp_format.proofs.Sound.{at_some}
-use Rattle.capnp_objects.specs.Demands.{tag, own_charge, Meets}
-use Rattle.capnp_objects.specs.Expected.{list_expected, HasExpected, null_pointer, fitting, narrow_elements, RefusesExpected, no_level, unfollowed, of_another_kind, stopped, misfits}
-use Rattle.capnp_objects.specs.Faults.{LeadsTo, child_at}
-use Rattle.capnp_objects.specs.Outcomes.{Reads, ReadsAll, ReadsElements, Entered, MeansThere}
-use Rattle.capnp_objects.specs.Reading.{Reading, word_of, words_from, tag_size}
-use Rattle.capnp_objects.specs.Refusals.{Refused}
-use Rattle.capnp_objects.specs.Source.{levels}
-use Rattle.capnp_objects.specs.Spending.{after_charge, pointers_in_all, pointers_in_elements}
-use Rattle.capnp_objects.specs.Wanted.{Form, AllowsCapabilities}
-use Rattle.capnp_objects.specs.declared.object.Purpose.TheVariants.{Value}
-use Rattle.capnp_objects.proofs.Budget.PaidAndLeft.{affords_rest, paid_own}
-use Rattle.capnp_objects.proofs.Following.FaultlessWhereMeant.{same_target}
-use Rattle.capnp_objects.proofs.WholeValue.ObjectsRead.{read_null, read_flat, read_pointers, read_structs, own_flat, own_pointers, own_structs}
-use Rattle.capnp_objects.proofs.OneObject.PartsMeant.{claim_list, claim_flat}
-use Rattle.capnp_objects.proofs.WholeValue.UnreadableIfRefused.{stops_pointers, stops_structs, unreadable, affords_less}
+use Rattle.capnp_pointers.specs.Demands.{tag, own_charge, Meets}
+use Rattle.capnp_pointers.specs.Expected.{list_expected, HasExpected, null_pointer, fitting, narrow_elements, RefusesExpected, no_level, unfollowed, of_another_kind, stopped, misfits}
+use Rattle.capnp_pointers.specs.Faults.{LeadsTo, child_at}
+use Rattle.capnp_pointers.specs.Outcomes.{Reads, ReadsAll, ReadsElements, Entered, MeansThere}
+use Rattle.capnp_pointers.specs.Reading.{Reading, word_of, words_from, tag_size}
+use Rattle.capnp_pointers.specs.Refusals.{Refused}
+use Rattle.capnp_pointers.specs.Source.{levels}
+use Rattle.capnp_pointers.specs.Spending.{after_charge, pointers_in_all, pointers_in_elements}
+use Rattle.capnp_pointers.specs.Wanted.{Form, AllowsCapabilities}
+use Rattle.capnp_pointers.specs.declared.object.Purpose.TheVariants.{Value}
+use Rattle.capnp_pointers.proofs.Budget.PaidAndLeft.{affords_rest, paid_own}
+use Rattle.capnp_pointers.proofs.Following.FaultlessWhereMeant.{same_target}
+use Rattle.capnp_pointers.proofs.WholeValue.ObjectsRead.{read_null, read_flat, read_pointers, read_structs, own_flat, own_pointers, own_structs}
+use Rattle.capnp_pointers.proofs.OneObject.PartsMeant.{claim_list, claim_flat}
+use Rattle.capnp_pointers.proofs.WholeValue.UnreadableIfRefused.{stops_pointers, stops_structs, unreadable, affords_less}
 use Rattle.capnp_readers.specs.Calls.{IsListRead}
-use Rattle.capnp_objects.specs.Rows.{rows_sized}
+use Rattle.capnp_pointers.specs.Rows.{rows_sized}
 use Rattle.capnp_readers.specs.Readers.{read_by, IsTargetList, ShowsList}
 use Rattle.capnp_readers.specs.declared.readers.PointerReader.{PointerReader}
 use Rattle.capnp_readers.specs.declared.readers.list_reader.ListReader.{ListReader}
@@ -49,12 +49,12 @@ use Rattle.capnp_words.specs.Names.{is_allocation_name}
 use Rattle.capnp_edits.specs.Sources.{any_list, as_wanted}
 use Rattle.capnp_edits.proofs.Applied.{of_allocation}
 use Rattle.capnp_edits.proofs.CopiedStruct.{CanBeCopiedAs}
-use Rattle.capnp_objects.proofs.Budget.LevelsLeft.{level_less}
+use Rattle.capnp_pointers.proofs.Budget.LevelsLeft.{level_less}
 use Rattle.capnp_edits.proofs.ListReads.{ListElements, LeadsToList, no_list, a_plain_list, a_struct_list, ReadsList, RefusedList, as_list_read, list_refused_as}
 use Rattle.capnp_edits.proofs.Steps.{same_some}
-use Rattle.capnp_objects.proofs.Following.LeadsWhereFollowed.{leads_to, entered_leads}
-use Rattle.capnp_objects.proofs.WholeValue.Shorthands.{RefusedAll, RefusedElements}
-use Rattle.capnp_making.specs.Makes.{call_at}
+use Rattle.capnp_pointers.proofs.Following.LeadsWhereFollowed.{leads_to, entered_leads}
+use Rattle.capnp_pointers.proofs.WholeValue.Shorthands.{RefusedAll, RefusedElements}
+use Rattle.capnp_allocation.specs.Makes.{call_at}
 
 -- the elements of a list that is read
 abbrev pub elements_read : {A : Type 0} (g : Ghosts A) → ListReader A g → ListElements

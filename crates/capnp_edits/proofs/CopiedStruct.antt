@@ -11,21 +11,21 @@ use Rattle.capnp_format.specs.Means.{Leads, Means, Claims}
 use Rattle.capnp_format.specs.Segments.{Segments, Target, segment, words_at}
 use Rattle.capnp_format.specs.Tree.{Tree, Null, Capability, Struct, Flat, Pointers, Structs, Trees, no_trees, tree, count, capabilities}
 use Rattle.capnp_format.specs.Word.{kind, data_words, pointer_count}
-use Rattle.capnp_objects.specs.Demands.{claimed_words, own_charge}
-use Rattle.capnp_objects.specs.Expected.{struct_expected, HasExpected, null_pointer, fitting}
-use Rattle.capnp_objects.specs.Faults.{child_at, LeadsTo}
-use Rattle.capnp_objects.specs.Outcomes.{Reads, ReadsAll, MeansThere}
-use Rattle.capnp_objects.specs.Reading.{Reading}
-use Rattle.capnp_objects.specs.Refusals.{Refused}
-use Rattle.capnp_objects.specs.Source.{levels}
-use Rattle.capnp_objects.specs.Spending.{after_charge, pointers_in_all}
-use Rattle.capnp_objects.specs.Wanted.{Form, AllowsCapabilities}
-use Rattle.capnp_objects.proofs.Budget.PaidAndLeft.{after_none, affords_rest, paid_own}
-use Rattle.capnp_objects.proofs.WholeValue.ChildrenRead.{read_none}
-use Rattle.capnp_objects.proofs.Following.FaultlessWhereMeant.{same_target}
-use Rattle.capnp_objects.proofs.WholeValue.ObjectsRead.{read_null, read_struct, own_struct}
-use Rattle.capnp_objects.proofs.OneObject.PartsMeant.{claim_struct}
-use Rattle.capnp_objects.proofs.WholeValue.UnreadableIfRefused.{stops_struct, unreadable, affords_less}
+use Rattle.capnp_pointers.specs.Demands.{claimed_words, own_charge}
+use Rattle.capnp_pointers.specs.Expected.{struct_expected, HasExpected, null_pointer, fitting}
+use Rattle.capnp_pointers.specs.Faults.{child_at, LeadsTo}
+use Rattle.capnp_pointers.specs.Outcomes.{Reads, ReadsAll, MeansThere}
+use Rattle.capnp_pointers.specs.Reading.{Reading}
+use Rattle.capnp_pointers.specs.Refusals.{Refused}
+use Rattle.capnp_pointers.specs.Source.{levels}
+use Rattle.capnp_pointers.specs.Spending.{after_charge, pointers_in_all}
+use Rattle.capnp_pointers.specs.Wanted.{Form, AllowsCapabilities}
+use Rattle.capnp_pointers.proofs.Budget.PaidAndLeft.{after_none, affords_rest, paid_own}
+use Rattle.capnp_pointers.proofs.WholeValue.ChildrenRead.{read_none}
+use Rattle.capnp_pointers.proofs.Following.FaultlessWhereMeant.{same_target}
+use Rattle.capnp_pointers.proofs.WholeValue.ObjectsRead.{read_null, read_struct, own_struct}
+use Rattle.capnp_pointers.proofs.OneObject.PartsMeant.{claim_struct}
+use Rattle.capnp_pointers.proofs.WholeValue.UnreadableIfRefused.{stops_struct, unreadable, affords_less}
 use Rattle.capnp_readers.specs.Calls.{IsStructRead}
 use Rattle.capnp_readers.specs.Readers.{read_by}
 use Rattle.capnp_readers.specs.Sections.{bytes_for}
@@ -37,7 +37,7 @@ use Rattle.capnp_copies.specs.Changes.{RefusesToCopy, copy_call}
 use Rattle.capnp_copies.specs.Originals.{sections_original}
 use Rattle.capnp_builders.specs.StructValues.{section_words, data_of}
 use Rattle.capnp_format.specs.Bytes.{words_of}
-use Rattle.capnp_objects.specs.declared.object.Purpose.TheVariants.{Value}
+use Rattle.capnp_pointers.specs.declared.object.Purpose.TheVariants.{Value}
 use Rattle.capnp_format.proofs.WordsOf.{words}
 use Rattle.capnp_copies.proofs.Originals.{refused_words}
 use Rattle.capnp_builders.proofs.DataSections.{whole_section}
@@ -48,11 +48,11 @@ use Rattle.capnp_words.specs.Names.{is_allocation_name}
 use Rattle.capnp_edits.specs.Sources.{as_wanted, Sections, LeadsToStruct, no_struct, a_struct}
 use Rattle.capnp_edits.proofs.Applied.{of_allocation}
 use Rattle.capnp_edits.proofs.Steps.{same_some}
-use Rattle.capnp_objects.proofs.Following.LeadsWhereFollowed.{leads_to, entered_leads}
-use Rattle.capnp_objects.proofs.WholeValue.Shorthands.{RefusedAll}
-use Rattle.capnp_making.specs.Makes.{call_at}
+use Rattle.capnp_pointers.proofs.Following.LeadsWhereFollowed.{leads_to, entered_leads}
+use Rattle.capnp_pointers.proofs.WholeValue.Shorthands.{RefusedAll}
+use Rattle.capnp_allocation.specs.Makes.{call_at}
 use Rattle.capnp_copies.proofs.TightObjects.{no_trees_left}
-use Rattle.capnp_objects.proofs.Budget.LevelsLeft.{level_less}
+use Rattle.capnp_pointers.proofs.Budget.LevelsLeft.{level_less}
 
 -- The place r means a value that is as wanted, and without capabilities if the copy is canonical,
 -- at a cost within the limiter m. The words that the copy keeps of it fit after `used` words of a

@@ -8,8 +8,8 @@ use Rattle.capnp_words.specs.declared.wire_pointer.ElementSize.TheVariants.{Void
 use Rattle.capnp_words.specs.Sizes.{size_number}
 use Rattle.capnp_format.specs.Numbers.{element_bits}
 use Rattle.capnp_format.specs.Segments.{Segments}
-use Rattle.capnp_contents.specs.declared.existing.ExistingStruct.{ExistingStruct}
-use Rattle.capnp_making.specs.Fields.{with_field}
+use Rattle.capnp_in_place.specs.declared.existing.ExistingStruct.{ExistingStruct}
+use Rattle.capnp_allocation.specs.Fields.{with_field}
 use Rattle.capnp_builders.specs.Places.{field, number_field}
 use Rattle.capnp_builders.proofs.FieldPlaces.{widths}
 use Rattle.capnp_edits.specs.declared.edit.tasks.Number.{Number}

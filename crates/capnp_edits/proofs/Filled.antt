@@ -12,31 +12,31 @@ use Rattle.capnp_format.specs.Forest.{IsForest, target}
 use Rattle.capnp_format.specs.Segments.{Segments, Target}
 use Rattle.capnp_format.specs.Tree.{Tree, Null, Capability, Struct, Flat, Pointers, Structs, Trees, no_trees, count}
 use Rattle.capnp_format.specs.Word.{data_words, pointer_count}
-use Rattle.capnp_making.specs.Memory.{refusals_for}
-use Rattle.capnp_contents.specs.declared.existing.ExistingStruct.{ExistingStruct}
-use Rattle.capnp_contents.specs.Existing.{struct_in}
+use Rattle.capnp_allocation.specs.Memory.{refusals_for}
+use Rattle.capnp_in_place.specs.declared.existing.ExistingStruct.{ExistingStruct}
+use Rattle.capnp_in_place.specs.Existing.{struct_in}
 use Rattle.capnp_format.specs.Path.{Element, update, put_struct, struct_at}
-use Rattle.capnp_making.specs.Stored.{IsStored}
-use Rattle.capnp_making.proofs.Replaced.{forest_stored, forest_updated, stored_within}
-use Rattle.capnp_objects.specs.Outcomes.{ReadsAll}
-use Rattle.capnp_objects.specs.Reading.{Reading, place_past}
-use Rattle.capnp_objects.specs.Refusals.{Refused}
-use Rattle.capnp_objects.proofs.WholeValue.RefusalsNamed.{not_for_place}
-use Rattle.capnp_objects.specs.Demands.{own_charge}
-use Rattle.capnp_objects.specs.Expected.{struct_expected}
-use Rattle.capnp_objects.specs.Faults.{child_at}
-use Rattle.capnp_objects.specs.Spending.{after_charge}
-use Rattle.capnp_objects.specs.Wanted.{plain}
-use Rattle.capnp_objects.specs.declared.object.Purpose.TheVariants.{Value}
-use Rattle.capnp_objects.proofs.WholeValue.ChildrenRead.{read_none, read_stop}
-use Rattle.capnp_objects.proofs.OneObject.ExpectedAsStated.{not_withheld}
-use Rattle.capnp_objects.proofs.Following.FaultlessWhereMeant.{same_target}
-use Rattle.capnp_objects.proofs.WholeValue.UnreadableIfRefused.{unreadable}
+use Rattle.capnp_allocation.specs.Stored.{IsStored}
+use Rattle.capnp_allocation.proofs.Replaced.{forest_stored, forest_updated, stored_within}
+use Rattle.capnp_pointers.specs.Outcomes.{ReadsAll}
+use Rattle.capnp_pointers.specs.Reading.{Reading, place_past}
+use Rattle.capnp_pointers.specs.Refusals.{Refused}
+use Rattle.capnp_pointers.proofs.WholeValue.RefusalsNamed.{not_for_place}
+use Rattle.capnp_pointers.specs.Demands.{own_charge}
+use Rattle.capnp_pointers.specs.Expected.{struct_expected}
+use Rattle.capnp_pointers.specs.Faults.{child_at}
+use Rattle.capnp_pointers.specs.Spending.{after_charge}
+use Rattle.capnp_pointers.specs.Wanted.{plain}
+use Rattle.capnp_pointers.specs.declared.object.Purpose.TheVariants.{Value}
+use Rattle.capnp_pointers.proofs.WholeValue.ChildrenRead.{read_none, read_stop}
+use Rattle.capnp_pointers.proofs.OneObject.ExpectedAsStated.{not_withheld}
+use Rattle.capnp_pointers.proofs.Following.FaultlessWhereMeant.{same_target}
+use Rattle.capnp_pointers.proofs.WholeValue.UnreadableIfRefused.{unreadable}
 use Rattle.capnp_readers.specs.Calls.{WhereRead, IsStructRead}
 use Rattle.capnp_readers.specs.Readers.{read_by}
 use Rattle.capnp_readers.specs.Sections.{bytes_for}
 use Rattle.capnp_readers.specs.Sizes.{pointers_read}
-use Rattle.capnp_objects.specs.declared.pointers.PointerPlace.{PointerPlace}
+use Rattle.capnp_pointers.specs.declared.pointers.PointerPlace.{PointerPlace}
 use Rattle.capnp_readers.specs.declared.readers.PointerReader.{PointerReader}
 use Rattle.capnp_readers.specs.declared.readers.struct_reader.StructPlace.{StructPlace}
 use Rattle.capnp_readers.specs.declared.readers.struct_reader.StructReader.{StructReader}
@@ -52,7 +52,7 @@ use Rattle.capnp_builders.specs.Places.{struct_place}
 use Rattle.capnp_builders.proofs.ContentTaken.{content_taken, content_stopped}
 use Rattle.capnp_builders.proofs.ElementContent.{element_content_taken, element_content_stopped, element_long}
 use Rattle.capnp_format.specs.Canonical.{word_count_all}
-use Rattle.capnp_making.specs.Near.{HasOwnRoom}
+use Rattle.capnp_allocation.specs.Near.{HasOwnRoom}
 use Rattle.capnp_edits.specs.declared.edit.Edit.{Edit}
 use Rattle.capnp_edits.specs.declared.edit.Source.{Source}
 use Rattle.capnp_edits.specs.declared.edit.copying.Wanted.TheVariants.{Struct as AStruct}
@@ -73,7 +73,7 @@ use Rattle.capnp_edits.proofs.CopiedStruct.{struct_at as source_at, struct_there
 use Rattle.capnp_edits.proofs.Steps.{same_some, first, struct_of}
 use Rattle.capnp_edits.proofs.Walks.{list_end, update-append}
 use Rattle.capnp_edits.proofs.Ways.{DoesAt, yielded, is_filled, is_half_filled, is_not_filled, leads_to, takes}
-use Rattle.capnp_objects.proofs.Following.LeadsWhereFollowed.{entered_leads}
+use Rattle.capnp_pointers.proofs.Following.LeadsWhereFollowed.{entered_leads}
 
 -- The pointers that the source's struct and a struct of q pointers in segment id both have can be
 -- read, and the words of what they mean fit after those of that segment.

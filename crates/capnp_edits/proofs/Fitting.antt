@@ -11,14 +11,14 @@ use Rattle.capnp_format.specs.Canonical.{word_count}
 use Rattle.capnp_format.specs.Forest.{IsForest, cover}
 use Rattle.capnp_format.specs.Segments.{Segments, segment}
 use Rattle.capnp_format.specs.Tree.{Tree}
-use Rattle.capnp_making.specs.Memory.{KeepsMemory, TakesWords}
+use Rattle.capnp_allocation.specs.Memory.{KeepsMemory, TakesWords}
 use Rattle.capnp_format.specs.Path.{word_interval}
-use Rattle.capnp_making.specs.Stored.{IsStored}
-use Rattle.capnp_making.proofs.Extents.{once_held, times-first}
-use Rattle.capnp_making.proofs.Replaced.{forest_stored, stored_within}
-use Rattle.capnp_contents.specs.Anew.{OnlyWrites}
+use Rattle.capnp_allocation.specs.Stored.{IsStored}
+use Rattle.capnp_allocation.proofs.Extents.{once_held, times-first}
+use Rattle.capnp_allocation.proofs.Replaced.{forest_stored, stored_within}
+use Rattle.capnp_in_place.specs.Anew.{OnlyWrites}
 use Rattle.capnp_words.specs.Names.{is_allocation_name}
-use Rattle.capnp_objects.specs.declared.pointers.PointerPlace.{PointerPlace}
+use Rattle.capnp_pointers.specs.declared.pointers.PointerPlace.{PointerPlace}
 use Rattle.capnp_edits.specs.declared.edit.Edit.{Edit}
 use Rattle.capnp_edits.specs.declared.edit.path.PathEnd.{PathEnd}
 use Rattle.capnp_edits.specs.declared.edit.path.PathEnd.TheVariants.{Pointer as AtPointer, Element as AtElement}
@@ -31,7 +31,7 @@ use Rattle.capnp_edits.specs.Fitting.{words_asked, AsksNoMore, AreInFirst, IsNon
 use Rattle.capnp_edits.specs.Paths.{IsPathFound, step_of}
 use Rattle.capnp_edits.specs.Steps.{FitsAt, IsStep, EndsAt}
 use Rattle.capnp_edits.specs.Tasks.{task_of}
-use Rattle.capnp_contents.specs.declared.existing.ExistingStruct.{ExistingStruct}
+use Rattle.capnp_in_place.specs.declared.existing.ExistingStruct.{ExistingStruct}
 use Rattle.capnp_edits.specs.declared.edit.tasks.Part.{Part}
 use Rattle.capnp_edits.proofs.Applied.{of_memory}
 use Rattle.capnp_edits.proofs.Steps.{same_some}

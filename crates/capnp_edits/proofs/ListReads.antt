@@ -7,22 +7,22 @@ use Rattle.capnp_words.specs.Meter.{Meter}
 use Rattle.capnp_words.specs.Sizes.{size_number}
 use Rattle.capnp_format.specs.Numbers.{words_for, unpacked}
 use Rattle.capnp_format.specs.Tree.{Tree, Null, Capability, Struct, Flat, Pointers, Structs, count, element_count}
-use Rattle.capnp_objects.specs.Outcomes.{Entered, ReadsAll, ReadsElements}
-use Rattle.capnp_objects.specs.Reading.{Reading, word_of, tag_size, words_from}
-use Rattle.capnp_objects.specs.Refusals.{Stopped}
-use Rattle.capnp_objects.specs.Wanted.{Form}
-use Rattle.capnp_objects.specs.declared.object.Purpose.TheVariants.{Value}
+use Rattle.capnp_pointers.specs.Outcomes.{Entered, ReadsAll, ReadsElements}
+use Rattle.capnp_pointers.specs.Reading.{Reading, word_of, tag_size, words_from}
+use Rattle.capnp_pointers.specs.Refusals.{Stopped}
+use Rattle.capnp_pointers.specs.Wanted.{Form}
+use Rattle.capnp_pointers.specs.declared.object.Purpose.TheVariants.{Value}
 use Rattle.capnp_copies.specs.Originals.{Original, numbers_original, structs_original, list_original}
-use Rattle.capnp_contents.specs.Existing.{size_of}
+use Rattle.capnp_in_place.specs.Existing.{size_of}
 use Rattle.capnp_copies.specs.Changes.{CopyCall}
 use Rattle.capnp_edits.specs.declared.edit.copying.Wanted.TheVariants.{List as AList}
 use Rattle.capnp_edits.specs.Sources.{OfWanted}
 use Rattle.capnp_format.specs.Segments.{Target}
 use Rattle.capnp_format.specs.Word.{kind, offset_bits, element_size, list_count}
-use Rattle.capnp_objects.specs.Demands.{IsStructList, tag}
-use Rattle.capnp_objects.specs.Faults.{child_at}
+use Rattle.capnp_pointers.specs.Demands.{IsStructList, tag}
+use Rattle.capnp_pointers.specs.Faults.{child_at}
 use Rattle.capnp_words.specs.declared.wire_pointer.StructSize.{StructSize}
-use Rattle.capnp_objects.proofs.WholeValue.Shorthands.{RefusedAll, RefusedElements}
+use Rattle.capnp_pointers.proofs.WholeValue.Shorthands.{RefusedAll, RefusedElements}
 
 -- The elements of a list: their size, the sections of each if they are structs, their number, and
 -- the place of the first one.

@@ -8,16 +8,16 @@ use Rattle.capnp_words.specs.declared.wire_pointer.ElementSize.TheVariants.{Void
 use Rattle.capnp_words.specs.declared.wire_pointer.StructSize.{StructSize}
 use Rattle.capnp_format.specs.Segments.{Segments, word_at, Target, near, pad}
 use Rattle.capnp_format.specs.Tree.{Tree, Null, Capability, Struct, Flat, Pointers, Structs, count, element_count}
-use Rattle.capnp_contents.specs.declared.existing.ExistingList.{ExistingList}
-use Rattle.capnp_contents.specs.Existing.{is_unfound, size_of, plain_misfit, structs_misfit, plain_list, struct_list, unless, list_in, bytes_at, ends_in_zero, text_in, data_in}
+use Rattle.capnp_in_place.specs.declared.existing.ExistingList.{ExistingList}
+use Rattle.capnp_in_place.specs.Existing.{is_unfound, size_of, plain_misfit, structs_misfit, plain_list, struct_list, unless, list_in, bytes_at, ends_in_zero, text_in, data_in}
 use Rattle.capnp_format.specs.Word.{kind, upper_half, far_position, is_double}
-use Rattle.capnp_objects.specs.Faults.{here, below, HasFault}
-use Rattle.capnp_objects.specs.Follow.{◌>=>◌}
-use Rattle.capnp_objects.specs.Reading.{Reading}
-use Rattle.capnp_objects.specs.Wanted.{Form}
-use Rattle.capnp_objects.proofs.Following.LeadsWhereFollowed.{or_named, far_named, follow, is_named, followed_at, existing, far_steps}
-use Rattle.capnp_contents.specs.Opening.{struct_opened}
-use Rattle.capnp_contents.specs.Widened.{limited, list_widened}
+use Rattle.capnp_pointers.specs.Faults.{here, below, HasFault}
+use Rattle.capnp_pointers.specs.Follow.{◌>=>◌}
+use Rattle.capnp_pointers.specs.Reading.{Reading}
+use Rattle.capnp_pointers.specs.Wanted.{Form}
+use Rattle.capnp_pointers.proofs.Following.LeadsWhereFollowed.{or_named, far_named, follow, is_named, followed_at, existing, far_steps}
+use Rattle.capnp_in_place.specs.Opening.{struct_opened}
+use Rattle.capnp_in_place.specs.Widened.{limited, list_widened}
 use Rattle.capnp_edits.specs.Edits.{is_of_path}
 
 -- Whether a result is the refusal NoSuchPlace.

@@ -17,33 +17,33 @@ use Rattle.capnp_format.specs.Segments.{Segments, Target, segment, word_at, IsPl
 use Rattle.capnp_format.specs.Word.{struct_word}
 use Rattle.capnp_format.specs.Tree.{Tree, Null, Capability, Struct, Flat, Pointers, Structs, capabilities, count}
 use Rattle.capnp_arena_traits.specs.View.{View}
-use Rattle.capnp_contents.specs.declared.existing.ExistingBytes.{ExistingBytes}
-use Rattle.capnp_contents.specs.declared.existing.ExistingList.{ExistingList}
-use Rattle.capnp_contents.specs.Existing.{is_unfound, list_in, data_in, text_in}
-use Rattle.capnp_making.specs.Made.{nulls, words_of_zero, zero_struct}
-use Rattle.capnp_making.specs.Memory.{HasRoom, KeepsMemory, SpendsMemory}
-use Rattle.capnp_making.proofs.Placed.{count-nulls}
-use Rattle.capnp_making.specs.Stored.{IsStored, IsReplaced}
-use Rattle.capnp_making.proofs.Filling.{unchanged as stays}
-use Rattle.capnp_making.proofs.FillingMade.{null_stored}
-use Rattle.capnp_making.proofs.Replaced.{replaced_again}
-use Rattle.capnp_objects.specs.Faults.{HasFault}
-use Rattle.capnp_objects.specs.Follow.{◌>=>◌}
-use Rattle.capnp_objects.specs.Wanted.{of_default}
-use Rattle.capnp_objects.proofs.Following.FaultlessWhereMeant.{no_fault}
+use Rattle.capnp_in_place.specs.declared.existing.ExistingBytes.{ExistingBytes}
+use Rattle.capnp_in_place.specs.declared.existing.ExistingList.{ExistingList}
+use Rattle.capnp_in_place.specs.Existing.{is_unfound, list_in, data_in, text_in}
+use Rattle.capnp_allocation.specs.Made.{nulls, words_of_zero, zero_struct}
+use Rattle.capnp_allocation.specs.Memory.{HasRoom, KeepsMemory, SpendsMemory}
+use Rattle.capnp_allocation.proofs.Placed.{count-nulls}
+use Rattle.capnp_allocation.specs.Stored.{IsStored, IsReplaced}
+use Rattle.capnp_allocation.proofs.Filling.{unchanged as stays}
+use Rattle.capnp_allocation.proofs.FillingMade.{null_stored}
+use Rattle.capnp_allocation.proofs.Replaced.{replaced_again}
+use Rattle.capnp_pointers.specs.Faults.{HasFault}
+use Rattle.capnp_pointers.specs.Follow.{◌>=>◌}
+use Rattle.capnp_pointers.specs.Wanted.{of_default}
+use Rattle.capnp_pointers.proofs.Following.FaultlessWhereMeant.{no_fault}
 use Rattle.capnp_copies.specs.Rooms.{CanBeCopied}
 use Rattle.capnp_copies.specs.Originals.{value_original}
 use Rattle.capnp_copies.proofs.Originals.{refused_words}
-use Rattle.capnp_objects.specs.declared.pointers.PointerPlace.{PointerPlace}
+use Rattle.capnp_pointers.specs.declared.pointers.PointerPlace.{PointerPlace}
 use Rattle.capnp_readers.specs.declared.readers.list_reader.ListPlace.{ListPlace}
 use Rattle.capnp_readers.specs.declared.readers.struct_reader.StructPlace.{StructPlace}
-use Rattle.capnp_making.specs.Makes.{CallAt, call_at}
-use Rattle.capnp_contents.specs.Opening.{IsNoWider, Opens, OpensStruct, struct_opened}
-use Rattle.capnp_contents.specs.Rooms.{HasRoomFor, OpeningFits, direct_pointers, widened_words}
+use Rattle.capnp_allocation.specs.Makes.{CallAt, call_at}
+use Rattle.capnp_in_place.specs.Opening.{IsNoWider, Opens, OpensStruct, struct_opened}
+use Rattle.capnp_in_place.specs.Rooms.{HasRoomFor, OpeningFits, direct_pointers, widened_words}
 use Rattle.capnp_words.specs.Names.{is_allocation_name}
-use Rattle.capnp_contents.specs.RowsRemade.{RefusesWider}
-use Rattle.capnp_contents.specs.Widened.{list_widened, widened}
-use Rattle.capnp_contents.proofs.Room.GrowthRefused.{growth_named}
+use Rattle.capnp_in_place.specs.RowsRemade.{RefusesWider}
+use Rattle.capnp_in_place.specs.Widened.{list_widened, widened}
+use Rattle.capnp_in_place.proofs.Room.GrowthRefused.{growth_named}
 use Rattle.capnp_builders.specs.Defaults.{IsIgnoredDefault, IsShortDefault, DefaultUse, ignored, denied as is_denied_by, copied as is_copied_from, default_use, default_root, RefusesDefault, WithDefault, DefaultFits, FitsWithDefault, object_default, blob_default}
 use Rattle.capnp_builders.proofs.DefaultRooms.{use_of_words}
 use Rattle.capnp_builders.proofs.DefaultCopies.{default_copy}
@@ -64,7 +64,7 @@ use Rattle.capnp_edits.proofs.Contents.{list_refusal_of, data_refusal_of, text_r
 use Rattle.capnp_edits.proofs.Names.{is_nowhere, unfound_of_path, elsewhere, struct_elsewhere, structs_elsewhere, list_elsewhere, data_elsewhere, text_elsewhere, fault_elsewhere, unfound_name, list_unfound, data_unfound, text_unfound}
 use Rattle.capnp_edits.proofs.Steps.{same_some}
 use Rattle.capnp_edits.proofs.Ways.{DoesAt, Way, becomes, yielded, default_denied, default_dropped, default_ignored, default_put, is_denied, is_done, is_not_allocated}
-use Rattle.capnp_contents.proofs.WiderObjects.WhichList.{same_tree}
+use Rattle.capnp_in_place.proofs.WiderObjects.WhichList.{same_tree}
 use Rattle.capnp_builders.proofs.Openings.{same_error}
 
 -- a small default has few words

@@ -7,11 +7,11 @@ use Rattle.capnp_arena_traits.specs.View.{View}
 use Rattle.capnp_format.specs.Forest.{IsForest, target, cover}
 use Rattle.capnp_format.specs.Segments.{Segments, segment}
 use Rattle.capnp_format.specs.Tree.{Tree, Struct, Pointers, Structs, element_count}
-use Rattle.capnp_making.proofs.Extents.{once_held, times-first}
-use Rattle.capnp_making.proofs.Paths.{same_node}
-use Rattle.capnp_making.proofs.Replaced.{forest_stored}
+use Rattle.capnp_allocation.proofs.Extents.{once_held, times-first}
+use Rattle.capnp_allocation.proofs.Paths.{same_node}
+use Rattle.capnp_allocation.proofs.Replaced.{forest_stored}
 use Rattle.capnp_format.specs.Path.{Step, Child, Element, tree_at, struct_at, next, node, PathLeads, word_interval}
-use Rattle.capnp_making.specs.Stored.{IsStored}
+use Rattle.capnp_allocation.specs.Stored.{IsStored}
 use Rattle.capnp_edits.specs.declared.edit.Edit.{Edit}
 use Rattle.capnp_edits.specs.declared.edit.tasks.Task.{Task}
 use Rattle.capnp_edits.specs.declared.edit.path.PathEnd.{PathEnd}

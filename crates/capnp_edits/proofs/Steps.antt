@@ -9,20 +9,20 @@ use Rattle.capnp_format.specs.Segments.{Segments, segment, IsPlace}
 use Rattle.capnp_format.specs.Tree.{Tree, Null, Capability, Struct, Flat, Pointers, Structs, Elements, count, element_count}
 use Rattle.capnp_format.specs.Forest.{target, target_in, cover}
 use Rattle.capnp_words.specs.declared.wire_pointer.ElementSize.TheVariants.{Void, Pointer}
-use Rattle.capnp_contents.specs.declared.existing.ExistingList.{ExistingList}
-use Rattle.capnp_contents.specs.declared.existing.ExistingStruct.{ExistingStruct}
-use Rattle.capnp_contents.specs.Existing.{struct_in, list_in, size_of, plain_list, struct_list, plain_misfit, unless}
+use Rattle.capnp_in_place.specs.declared.existing.ExistingList.{ExistingList}
+use Rattle.capnp_in_place.specs.declared.existing.ExistingStruct.{ExistingStruct}
+use Rattle.capnp_in_place.specs.Existing.{struct_in, list_in, size_of, plain_list, struct_list, plain_misfit, unless}
 use Rattle.capnp_format.specs.Path.{Step, Child, Element, tree_at, struct_at, next, node, PathLeads, word_interval}
-use Rattle.capnp_making.specs.Stored.{IsStored}
-use Rattle.capnp_making.proofs.Extents.{once_held, times-first}
-use Rattle.capnp_making.proofs.Paths.{node_of_parts}
-use Rattle.capnp_making.proofs.Replaced.{stored_within}
+use Rattle.capnp_allocation.specs.Stored.{IsStored}
+use Rattle.capnp_allocation.proofs.Extents.{once_held, times-first}
+use Rattle.capnp_allocation.proofs.Paths.{node_of_parts}
+use Rattle.capnp_allocation.proofs.Replaced.{stored_within}
 use Rattle.capnp_edits.specs.declared.edit.Step.{Step as EditStep}
 use Rattle.capnp_edits.specs.declared.edit.path.PathEnd.{PathEnd}
 use Rattle.capnp_edits.specs.declared.edit.path.PathEnd.TheVariants.{Pointer as AtPointer, Element as AtElement}
 use Rattle.capnp_edits.specs.Paths.{step_of, found, IsElementFound, IsPathFound, IsEndInside, child_in, element_in, Steps}
 use Rattle.capnp_edits.proofs.Walks.{leads_further, leads_value, list_end, found-append}
-use Rattle.capnp_contents.proofs.WiderObjects.WhichList.{same_list}
+use Rattle.capnp_in_place.proofs.WiderObjects.WhichList.{same_list}
 
 -- the place of a value is inside the message
 pub place_inside : (S : Segments) (s p : ℕ) (t : Tree) (path : List Step) (u q : ℕ) (x : Tree) → PathLeads S (node s p t) path (node u q x) → IsStored S s p t → IsPlace S u q

@@ -4,11 +4,11 @@ use Rattle.std.proofs.lemmas.List.{length-set}
 use Rattle.capnp_words.specs.declared.error.ErrorKind.{ErrorKind}
 use Rattle.capnp_arena_traits.proofs.WordsOver.{lengths_kept}
 use Rattle.capnp_format.specs.Segments.{Segments, segment}
-use Rattle.capnp_making.specs.Fields.{with_field}
+use Rattle.capnp_allocation.specs.Fields.{with_field}
 use Rattle.capnp_format.specs.Fields.{put_field}
-use Rattle.capnp_contents.specs.declared.existing.ExistingBytes.{ExistingBytes}
-use Rattle.capnp_contents.specs.declared.existing.ExistingList.{ExistingList}
-use Rattle.capnp_contents.specs.declared.existing.ExistingStruct.{ExistingStruct}
+use Rattle.capnp_in_place.specs.declared.existing.ExistingBytes.{ExistingBytes}
+use Rattle.capnp_in_place.specs.declared.existing.ExistingList.{ExistingList}
+use Rattle.capnp_in_place.specs.declared.existing.ExistingStruct.{ExistingStruct}
 use Rattle.capnp_copies.specs.Changes.{CopyCall}
 use Rattle.capnp_copies.specs.Growth.{TakesAtMost}
 use Rattle.capnp_copies.specs.Originals.{Original}
@@ -21,7 +21,7 @@ use Rattle.capnp_edits.specs.declared.edit.tasks.StructChange.TheVariants.{Bits}
 use Rattle.capnp_edits.specs.declared.edit.tasks.Task.TheVariants.{InStruct, Write}
 use Rattle.capnp_edits.specs.Steps.{EndsAt, result_of}
 use Rattle.capnp_arena_traits.specs.View.{View, KeepsLimits}
-use Rattle.capnp_contents.specs.Anew.{OnlyWrites}
+use Rattle.capnp_in_place.specs.Anew.{OnlyWrites}
 use Rattle.capnp_words.specs.declared.wire_pointer.ElementSize.TheVariants.{Byte}
 
 -- Every segment has as many words as before.

@@ -3,9 +3,9 @@ use Rattle.std.proofs.Common.{◌≡◌, ℕ, ◌+◌, ◌*◌, Bool, true, fals
 use Rattle.capnp_format.specs.Segments.{Segments}
 use Rattle.capnp_format.specs.Tree.{Tree, Null, Capability, Struct, Flat, Pointers, Structs, count, element_count}
 use Rattle.capnp_format.specs.Forest.{target}
-use Rattle.capnp_making.proofs.Paths.{same_node}
+use Rattle.capnp_allocation.proofs.Paths.{same_node}
 use Rattle.capnp_format.specs.Path.{Step, Child, Element, tree_at, struct_at, next, put, update, node, PathLeads}
-use Rattle.capnp_contents.specs.declared.existing.ExistingStruct.{ExistingStruct}
+use Rattle.capnp_in_place.specs.declared.existing.ExistingStruct.{ExistingStruct}
 use Rattle.capnp_edits.specs.Paths.{EndValue, PointerTo, ElementOf, IsElementFound, found}
 
 pub leads_further : (S : Segments) (s p : ℕ) (t : Tree) (path more : List Step) (u q : ℕ) (x : Tree) (v r : ℕ) (y : Tree) → PathLeads S (node s p t) path (node u q x) → PathLeads S (node u q x) more (node v r y) → PathLeads S (node s p t) (path ++ more) (node v r y)

@@ -8,11 +8,11 @@ use Rattle.capnp_format.specs.Canonical.{HasNoCapabilities}
 use Rattle.capnp_format.specs.Tree.{Tree, Null, Struct, count}
 use Rattle.capnp_format.specs.Path.{update}
 use Rattle.capnp_format.specs.Segments.{Segments}
-use Rattle.capnp_making.specs.Stored.{IsReplaced}
-use Rattle.capnp_objects.specs.declared.pointers.PointerPlace.{PointerPlace}
-use Rattle.capnp_objects.specs.Faults.{HasFault}
-use Rattle.capnp_objects.specs.Outcomes.{MeansThere}
-use Rattle.capnp_objects.specs.Wanted.{of_default}
+use Rattle.capnp_allocation.specs.Stored.{IsReplaced}
+use Rattle.capnp_pointers.specs.declared.pointers.PointerPlace.{PointerPlace}
+use Rattle.capnp_pointers.specs.Faults.{HasFault}
+use Rattle.capnp_pointers.specs.Outcomes.{MeansThere}
+use Rattle.capnp_pointers.specs.Wanted.{of_default}
 use Rattle.capnp_words.specs.Names.{is_allocation_name}
 use Rattle.capnp_builders.specs.Content.{HoldContent, up_to}
 use Rattle.capnp_builders.specs.Defaults.{default_root, ignored, denied as is_denied_by, copied as is_copied_from}

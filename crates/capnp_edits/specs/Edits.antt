@@ -24,31 +24,31 @@ use Rattle.capnp_format.specs.Segments.{Segments}
 use Rattle.capnp_format.specs.Tree.{Tree, Null, Capability, Struct, Flat, Pointers, Structs, count}
 use Rattle.capnp_format.specs.Tree.{element_count, capabilities}
 use Rattle.capnp_format.specs.Forest.{IsForest}
-use Rattle.capnp_contents.specs.Existing.{size_of, plain_misfit, structs_misfit, ends_in_zero}
-use Rattle.capnp_contents.specs.Existing.{AreBytesInside}
-use Rattle.capnp_making.specs.Fields.{with_field}
+use Rattle.capnp_in_place.specs.Existing.{size_of, plain_misfit, structs_misfit, ends_in_zero}
+use Rattle.capnp_in_place.specs.Existing.{AreBytesInside}
+use Rattle.capnp_allocation.specs.Fields.{with_field}
 use Rattle.capnp_format.specs.Fields.{with_bits, put_field}
-use Rattle.capnp_making.specs.Memory.{refusals_for}
-use Rattle.capnp_making.specs.Made.{zero_struct, zero_structs, zero_list}
+use Rattle.capnp_allocation.specs.Memory.{refusals_for}
+use Rattle.capnp_allocation.specs.Made.{zero_struct, zero_structs, zero_list}
 use Rattle.capnp_format.specs.Path.{struct_at, put_struct, update}
-use Rattle.capnp_contents.specs.declared.existing.ExistingBytes.{ExistingBytes}
-use Rattle.capnp_contents.specs.declared.existing.ExistingList.{ExistingList}
-use Rattle.capnp_contents.specs.declared.existing.ExistingStruct.{ExistingStruct}
-use Rattle.capnp_objects.specs.Faults.{HasFault}
-use Rattle.capnp_objects.specs.Follow.{◌>=>◌}
-use Rattle.capnp_objects.specs.Outcomes.{MeansThere}
-use Rattle.capnp_objects.specs.Wanted.{of_default}
+use Rattle.capnp_in_place.specs.declared.existing.ExistingBytes.{ExistingBytes}
+use Rattle.capnp_in_place.specs.declared.existing.ExistingList.{ExistingList}
+use Rattle.capnp_in_place.specs.declared.existing.ExistingStruct.{ExistingStruct}
+use Rattle.capnp_pointers.specs.Faults.{HasFault}
+use Rattle.capnp_pointers.specs.Follow.{◌>=>◌}
+use Rattle.capnp_pointers.specs.Outcomes.{MeansThere}
+use Rattle.capnp_pointers.specs.Wanted.{of_default}
 use Rattle.capnp_readers.specs.Readers.{IsListPlace}
 use Rattle.capnp_words.specs.Names.{is_allocation_name}
-use Rattle.capnp_contents.specs.Widened.{list_widened}
+use Rattle.capnp_in_place.specs.Widened.{list_widened}
 use Rattle.capnp_builders.specs.Defaults.{DefaultUse, ignored, denied as is_denied_by}
 use Rattle.capnp_builders.specs.Defaults.{copied as is_copied_from, default_use}
 use Rattle.capnp_builders.specs.Defaults.{default_root}
-use Rattle.capnp_contents.specs.Opening.{struct_opened}
+use Rattle.capnp_in_place.specs.Opening.{struct_opened}
 use Rattle.capnp_builders.specs.Content.{HoldContent, up_to}
 use Rattle.capnp_edits.specs.declared.edit.Source.{Source}
 use Rattle.capnp_readers.specs.Sections.{step_bits, data_bits}
-use Rattle.capnp_objects.specs.declared.pointers.PointerPlace.{PointerPlace}
+use Rattle.capnp_pointers.specs.declared.pointers.PointerPlace.{PointerPlace}
 use Rattle.capnp_builders.specs.declared.builders.PointerBuilder.{PointerBuilder}
 use Rattle.capnp_builders.specs.Places.{Field, field, list_place}
 use Rattle.capnp_edits.specs.declared.edit.Edit.{Edit}

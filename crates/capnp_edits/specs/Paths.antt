@@ -5,11 +5,11 @@ use Rattle.capnp_format.specs.Segments.{Segments, IsPlace}
 use Rattle.capnp_words.specs.Sizes.{size_number}
 use Rattle.capnp_format.specs.Tree.{Tree, Struct, Pointers, Structs, Elements, count, element_count}
 use Rattle.capnp_format.specs.Forest.{target}
-use Rattle.capnp_contents.specs.Existing.{IsStructInside}
-use Rattle.capnp_making.specs.Stored.{IsStored}
+use Rattle.capnp_in_place.specs.Existing.{IsStructInside}
+use Rattle.capnp_allocation.specs.Stored.{IsStored}
 use Rattle.capnp_format.specs.Path.{Step, Child, Element, tree_at, struct_at, next, node, PathLeads}
-use Rattle.capnp_contents.specs.declared.existing.ExistingList.{ExistingList}
-use Rattle.capnp_contents.specs.declared.existing.ExistingStruct.{ExistingStruct}
+use Rattle.capnp_in_place.specs.declared.existing.ExistingList.{ExistingList}
+use Rattle.capnp_in_place.specs.declared.existing.ExistingStruct.{ExistingStruct}
 use Rattle.capnp_edits.specs.declared.edit.Step.{Step as EditStep}
 use Rattle.capnp_edits.specs.declared.edit.Step.TheVariants.{Child as ToChild, Element as ToElement}
 use Rattle.capnp_edits.specs.declared.edit.path.PathEnd.{PathEnd}

@@ -15,15 +15,15 @@ use Rattle.capnp_format.specs.Tree.{count}
 use Rattle.capnp_format.specs.Word.{kind, offset_bits, data_words, pointer_count, element_size, list_count}
 use Rattle.capnp_arena_traits.specs.Checks.{Holds, misplaced}
 use Rattle.capnp_arena_traits.specs.Limits.{whole}
-use Rattle.capnp_objects.specs.Demands.{tag}
-use Rattle.capnp_objects.specs.Expected.{Expectation, struct_expected, RefusesExpected}
-use Rattle.capnp_objects.specs.Faults.{child_at}
-use Rattle.capnp_objects.specs.Outcomes.{Reads, ReadsAll, Entered}
-use Rattle.capnp_objects.specs.Reading.{Reading, word_of, place_past, tag_size}
-use Rattle.capnp_objects.specs.Refusals.{Refused}
-use Rattle.capnp_objects.specs.Source.{levels}
-use Rattle.capnp_objects.specs.Wanted.{plain}
-use Rattle.capnp_contents.specs.Existing.{size_of}
+use Rattle.capnp_pointers.specs.Demands.{tag}
+use Rattle.capnp_pointers.specs.Expected.{Expectation, struct_expected, RefusesExpected}
+use Rattle.capnp_pointers.specs.Faults.{child_at}
+use Rattle.capnp_pointers.specs.Outcomes.{Reads, ReadsAll, Entered}
+use Rattle.capnp_pointers.specs.Reading.{Reading, word_of, place_past, tag_size}
+use Rattle.capnp_pointers.specs.Refusals.{Refused}
+use Rattle.capnp_pointers.specs.Source.{levels}
+use Rattle.capnp_pointers.specs.Wanted.{plain}
+use Rattle.capnp_in_place.specs.Existing.{size_of}
 use Rattle.capnp_copies.specs.Changes.{CopyCall}
 use Rattle.capnp_copies.specs.Forms.{form_of, kept}
 use Rattle.capnp_copies.specs.Originals.{Original, value_original, sections_original}
@@ -33,7 +33,7 @@ use Rattle.capnp_edits.specs.declared.edit.copying.Copying.{Copying}
 use Rattle.capnp_edits.specs.declared.edit.copying.Wanted.{Wanted}
 use Rattle.capnp_edits.specs.declared.edit.copying.Wanted.TheVariants.{Value, Struct as AStruct}
 use Rattle.capnp_edits.specs.declared.edit.copying.Wanted.TheVariants.{List as AList}
-use Rattle.capnp_objects.specs.declared.object.Purpose.TheVariants.{Value as ForValue}
+use Rattle.capnp_pointers.specs.declared.object.Purpose.TheVariants.{Value as ForValue}
 
 -- The root of a source, read within its nesting limit.
 abbrev pub root_of : Source → Reading

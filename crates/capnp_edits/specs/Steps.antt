@@ -15,23 +15,23 @@ use Rattle.capnp_format.specs.Word.{struct_word}
 use Rattle.capnp_format.specs.Tree.{Tree, Null, Struct, Trees, count}
 use Rattle.capnp_words.specs.declared.wire_pointer.StructSize.{StructSize}
 use Rattle.capnp_words.specs.Sizes.{sized}
-use Rattle.capnp_making.specs.Fields.{with_field}
-use Rattle.capnp_making.specs.Makes.{CallAt, call_at}
-use Rattle.capnp_making.specs.Memory.{HasRoom, SpendsMemory, refusals_for}
-use Rattle.capnp_making.specs.Near.{HasOwnRoom}
-use Rattle.capnp_making.specs.Stored.{IsReplaced, IsStored}
-use Rattle.capnp_making.specs.Zeroed.{IsPruned}
-use Rattle.capnp_contents.specs.declared.existing.ExistingStruct.{ExistingStruct}
-use Rattle.capnp_objects.specs.Wanted.{plain}
+use Rattle.capnp_allocation.specs.Fields.{with_field}
+use Rattle.capnp_allocation.specs.Makes.{CallAt, call_at}
+use Rattle.capnp_allocation.specs.Memory.{HasRoom, SpendsMemory, refusals_for}
+use Rattle.capnp_allocation.specs.Near.{HasOwnRoom}
+use Rattle.capnp_allocation.specs.Stored.{IsReplaced, IsStored}
+use Rattle.capnp_allocation.specs.Zeroed.{IsPruned}
+use Rattle.capnp_in_place.specs.declared.existing.ExistingStruct.{ExistingStruct}
+use Rattle.capnp_pointers.specs.Wanted.{plain}
 use Rattle.capnp_copies.specs.Changes.{CopiesChildren, CopiesFirst, RefusesToCopy, copy_call}
 use Rattle.capnp_copies.specs.Forms.{form_of}
 use Rattle.capnp_copies.specs.Growth.{TakesAtMost}
 use Rattle.capnp_copies.specs.Originals.{children_original}
-use Rattle.capnp_contents.specs.Anew.{OnlyWrites, StandsAnew}
-use Rattle.capnp_contents.specs.Opening.{Opens, struct_opened}
-use Rattle.capnp_contents.specs.Rooms.{HasRoomFor}
+use Rattle.capnp_in_place.specs.Anew.{OnlyWrites, StandsAnew}
+use Rattle.capnp_in_place.specs.Opening.{Opens, struct_opened}
+use Rattle.capnp_in_place.specs.Rooms.{HasRoomFor}
 use Rattle.capnp_words.specs.Names.{is_allocation_name}
-use Rattle.capnp_contents.specs.Widened.{list_widened}
+use Rattle.capnp_in_place.specs.Widened.{list_widened}
 use Rattle.capnp_builders.specs.Defaults.{DefaultCopyFits, FitsWithDefault, WithDefault}
 use Rattle.capnp_builders.specs.Defaults.{default_use, ignored}
 use Rattle.capnp_builders.specs.Kept.{PutsCopy}

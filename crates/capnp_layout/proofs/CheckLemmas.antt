@@ -6,9 +6,9 @@ use Rattle.capnp_format.specs.Segments.{Segments, segment}
 use Rattle.capnp_format.specs.Canonical.{charge}
 use Rattle.capnp_format.proofs.Unique.{for_offset}
 use Rattle.capnp_arena.specs.declared.arena.reader_arena_impl.ReaderOptions.{ReaderOptions}
-use Rattle.capnp_objects.specs.Reading.{Reading}
-use Rattle.capnp_objects.specs.Checking.{HasSmallSegment, IsCanonicalAt, IsFound, Progress, progress}
-use Rattle.capnp_objects.specs.Testing.{test_value}
+use Rattle.capnp_pointers.specs.Reading.{Reading}
+use Rattle.capnp_pointers.specs.Checking.{HasSmallSegment, IsCanonicalAt, IsFound, Progress, progress}
+use Rattle.capnp_pointers.specs.Testing.{test_value}
 use Rattle.capnp_readers.proofs.TestResults.{IsTestOf, refusal_tested, result_answered, result_exactly, result_found}
 use Rattle.capnp_layout.specs.declared.tool.args.Args.TheVariants.{Check}
 use Rattle.capnp_layout.specs.Answers.{CheckOf, RefusesCommand}

@@ -14,8 +14,8 @@ use Rattle.capnp_arena_traits.specs.Limits.{IsSmall}
 use Rattle.capnp_arena.specs.declared.arena.reader_arena_impl.ReaderOptions.{ReaderOptions}
 use Rattle.capnp_layout.specs.declared.tool.args.Args.{Args}
 use Rattle.capnp_layout.specs.declared.tool.args.Args.TheVariants.{Canon, Check, Size, FramedCanon}
-use Rattle.capnp_objects.specs.Source.{levels}
-use Rattle.capnp_objects.specs.Testing.{test_value}
+use Rattle.capnp_pointers.specs.Source.{levels}
+use Rattle.capnp_pointers.specs.Testing.{test_value}
 use Rattle.capnp_messages.specs.Roots.{CoversRoot}
 use Rattle.capnp_messages.specs.Messages.{RefusesAt, RefusesCanon, RefusesSize, left_of, root_within}
 

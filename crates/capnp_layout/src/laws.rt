@@ -4,8 +4,6 @@
 
 pub use capnp_builders::laws as builders;
 pub use capnp_builders::laws::copies;
-pub use capnp_contents::laws as contents;
-pub use capnp_contents::laws::widening;
 pub use capnp_edits::laws as edits;
 pub use capnp_format::laws::{
     body_length, canonical_again, canonical_words_are_cheap, canonical_words_mean,
@@ -15,6 +13,8 @@ pub use capnp_format::laws::{
     trimming, worked_examples,
 };
 pub use capnp_framing::laws as frames;
+pub use capnp_in_place::laws as contents;
+pub use capnp_in_place::laws::widening;
 pub use capnp_messages::messages::laws as messages;
-pub use capnp_objects::laws as objects;
+pub use capnp_pointers::laws as objects;
 pub use capnp_readers::laws as readers;

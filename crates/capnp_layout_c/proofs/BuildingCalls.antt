@@ -14,21 +14,21 @@ use Rattle.capnp_format.specs.Tree.{Flat, Tree, Trees, count}
 use Rattle.capnp_words.specs.declared.wire_pointer.ElementSize.{ElementSize}
 use Rattle.capnp_words.specs.declared.wire_pointer.ElementSize.TheVariants.{InlineComposite}
 use Rattle.capnp_words.specs.declared.wire_pointer.StructSize.{StructSize}
-use Rattle.capnp_making.specs.Stored.{IsStored}
-use Rattle.capnp_contents.specs.Opening.{LeadsToOne, OpensStruct}
-use Rattle.capnp_contents.specs.declared.existing.ExistingStruct.{ExistingStruct}
-use Rattle.capnp_making.specs.Made.{nulls, words_of_zero}
+use Rattle.capnp_allocation.specs.Stored.{IsStored}
+use Rattle.capnp_in_place.specs.Opening.{LeadsToOne, OpensStruct}
+use Rattle.capnp_in_place.specs.declared.existing.ExistingStruct.{ExistingStruct}
+use Rattle.capnp_allocation.specs.Made.{nulls, words_of_zero}
 use Rattle.capnp_builders.specs.Held.{HasList, HasStruct, Holder, MakesChild, ReplacesChild, ReplacesField, SetsChild, SetsField, call_in, struct_held}
 use Rattle.capnp_builders.specs.Places.{Field, element_place}
 use Rattle.capnp_readers.specs.declared.readers.list_reader.ListPlace.{ListPlace}
 use Rattle.capnp_readers.specs.Readers.{IsStructPlace, IsListPlace}
 use Rattle.capnp_readers.specs.declared.readers.struct_reader.StructPlace.{StructPlace}
-use Rattle.capnp_making.specs.Makes.{Allocates, CallAt, MakesObject, call_at}
-use Rattle.capnp_contents.proofs.Room.PlacesStay.{object_grows}
+use Rattle.capnp_allocation.specs.Makes.{Allocates, CallAt, MakesObject, call_at}
+use Rattle.capnp_in_place.proofs.Room.PlacesStay.{object_grows}
 use Rattle.capnp_builders.proofs.HeldMade.{child_made}
-use Rattle.capnp_contents.specs.Anew.{OnlyWrites}
-use Rattle.capnp_contents.specs.Rooms.{OpeningFits, UsesMemory}
-use Rattle.capnp_contents.specs.Widened.{IsAtLeast}
+use Rattle.capnp_in_place.specs.Anew.{OnlyWrites}
+use Rattle.capnp_in_place.specs.Rooms.{OpeningFits, UsesMemory}
+use Rattle.capnp_in_place.specs.Widened.{IsAtLeast}
 use Rattle.capnp_format.specs.Path.{put_tree}
 use Rattle.capnp_readers.specs.Sections.{elements_words}
 use Rattle.capnp_layout_c.specs.Buffers.{Buffer, Gives, buffer, placed_list, pointer_of, sized_at, placed_struct, view_in, words_in}

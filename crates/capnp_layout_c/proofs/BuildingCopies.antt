@@ -9,9 +9,9 @@ use Rattle.capnp_format.specs.Segments.{Grows, Segments}
 use Rattle.capnp_format.specs.Tree.{Tree, Null}
 use Rattle.capnp_format.proofs.Levels.{one_value}
 use Rattle.capnp_arena_traits.specs.View.{View}
-use Rattle.capnp_objects.specs.Reading.{Reading}
-use Rattle.capnp_making.specs.Stored.{Puts}
-use Rattle.capnp_objects.specs.Wanted.{Form, canonical}
+use Rattle.capnp_pointers.specs.Reading.{Reading}
+use Rattle.capnp_allocation.specs.Stored.{Puts}
+use Rattle.capnp_pointers.specs.Wanted.{Form, canonical}
 use Rattle.capnp_readers.specs.Values.{HasValue}
 use Rattle.capnp_readers.specs.declared.readers.struct_reader.StructPlace.{StructPlace}
 use Rattle.capnp_copies.specs.Changes.{CopyCall, copy_call}

@@ -9,12 +9,12 @@ use Rattle.capnp_format.specs.Forest.{target}
 use Rattle.capnp_format.specs.Segments.{Grows, Segments}
 use Rattle.capnp_format.specs.Tree.{Flat, Tree}
 use Rattle.capnp_arena_traits.specs.View.{View}
-use Rattle.capnp_making.specs.Makes.{call_at}
-use Rattle.capnp_making.specs.Stored.{IsStored}
-use Rattle.capnp_contents.specs.Existing.{FindsListAt, plain_list, plain_misfit, size_of, unless}
-use Rattle.capnp_contents.specs.Opening.{OpensExistingList}
-use Rattle.capnp_contents.specs.Rooms.{UsesMemory, WiderListFits}
-use Rattle.capnp_contents.specs.declared.existing.ExistingList.{ExistingList}
+use Rattle.capnp_allocation.specs.Makes.{call_at}
+use Rattle.capnp_allocation.specs.Stored.{IsStored}
+use Rattle.capnp_in_place.specs.Existing.{FindsListAt, plain_list, plain_misfit, size_of, unless}
+use Rattle.capnp_in_place.specs.Opening.{OpensExistingList}
+use Rattle.capnp_in_place.specs.Rooms.{UsesMemory, WiderListFits}
+use Rattle.capnp_in_place.specs.declared.existing.ExistingList.{ExistingList}
 use Rattle.capnp_readers.specs.Readers.{IsListPlace}
 use Rattle.capnp_readers.specs.declared.readers.list_reader.ListPlace.{ListPlace}
 use Rattle.capnp_builders.specs.Held.{HasList}

@@ -9,11 +9,11 @@ use Rattle.capnp_format.specs.Segments.{AreWords}
 use Rattle.capnp_format.specs.Tree.{Tree, Null, Capability, Struct, Flat, Pointers, Structs}
 use Rattle.capnp_format.specs.Word.{kind, lower_half}
 use Rattle.capnp_arena_traits.specs.Limits.{AreSmall}
-use Rattle.capnp_objects.specs.declared.object.Expected.{Expected}
-use Rattle.capnp_objects.specs.declared.object.Expected.TheVariants.{Struct as ExpectsStruct, List as ExpectsList, Text as ExpectsText, Data as ExpectsData}
-use Rattle.capnp_objects.specs.Expected.{HasExpected, expectation}
-use Rattle.capnp_objects.specs.Outcomes.{MeansThere}
-use Rattle.capnp_objects.specs.Reading.{Reading, word_of}
+use Rattle.capnp_pointers.specs.declared.object.Expected.{Expected}
+use Rattle.capnp_pointers.specs.declared.object.Expected.TheVariants.{Struct as ExpectsStruct, List as ExpectsList, Text as ExpectsText, Data as ExpectsData}
+use Rattle.capnp_pointers.specs.Expected.{HasExpected, expectation}
+use Rattle.capnp_pointers.specs.Outcomes.{MeansThere}
+use Rattle.capnp_pointers.specs.Reading.{Reading, word_of}
 use Rattle.capnp_readers.specs.Values.{HasStructs, struct_children, struct_data, struct_element}
 use Rattle.capnp_readers.proofs.Given.{list_suits, struct_suits}
 use Rattle.capnp_readers.proofs.Texts.{data_suits, text_suits}

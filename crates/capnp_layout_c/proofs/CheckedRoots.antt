@@ -7,10 +7,10 @@ use Rattle.capnp_format.specs.Means.{Means}
 use Rattle.capnp_format.specs.Segments.{Segments}
 use Rattle.capnp_format.specs.Tree.{Tree}
 use Rattle.capnp_format.proofs.Levels.{one_value}
-use Rattle.capnp_objects.specs.Outcomes.{MeansThere}
-use Rattle.capnp_objects.specs.Source.{levels}
-use Rattle.capnp_objects.specs.Reading.{Reading}
-use Rattle.capnp_objects.specs.Spending.{Paid, pointers_in}
+use Rattle.capnp_pointers.specs.Outcomes.{MeansThere}
+use Rattle.capnp_pointers.specs.Source.{levels}
+use Rattle.capnp_pointers.specs.Reading.{Reading}
+use Rattle.capnp_pointers.specs.Spending.{Paid, pointers_in}
 use Rattle.capnp_messages.specs.Messages.{arena_limits}
 use Rattle.capnp_messages.specs.Roots.{CoversRoot, RefusesRoot, no_root, no_budget, message_root}
 use Rattle.capnp_messages.proofs.CanonLemmas.{covers_rest}

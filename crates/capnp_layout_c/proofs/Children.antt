@@ -3,7 +3,7 @@ use Rattle.std.proofs.Common.{ℕ, ◌+◌, ◌<◌, List, arith}
 use Rattle.std.specs.Borrow.{Bor}
 use Rattle.capnp_format.specs.Path.{Child, next}
 use Rattle.capnp_format.specs.Tree.{Tree, Null, Capability, Struct, Flat, Pointers, Structs, count}
-use Rattle.capnp_objects.specs.Outcomes.{MeansThere}
+use Rattle.capnp_pointers.specs.Outcomes.{MeansThere}
 use Rattle.capnp_readers.specs.Values.{tree_cost}
 use Rattle.capnp_readers.proofs.Values.{tree_means}
 use Rattle.capnp_layout_c.specs.Found.{IsFoundStruct}

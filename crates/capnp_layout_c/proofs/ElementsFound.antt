@@ -11,7 +11,7 @@ use Rattle.capnp_format.proofs.BytesLemmas.{words_are_bytes}
 use Rattle.capnp_format.proofs.FieldBytes.{part_of_digits}
 use Rattle.capnp_format.proofs.LawLemmas.{element_is_bits}
 use Rattle.capnp_format.proofs.WordsOf.{words_of-part}
-use Rattle.capnp_objects.specs.Reading.{Reading}
+use Rattle.capnp_pointers.specs.Reading.{Reading}
 use Rattle.capnp_readers.specs.Values.{HasStructs, struct_element, tree_cost}
 use Rattle.capnp_readers.proofs.ListValues.{ElementThere, element_there}
 use Rattle.capnp_readers.proofs.NumberValues.{bit_in}

@@ -7,8 +7,8 @@ use Rattle.capnp_words.specs.declared.wire_pointer.ElementSize.TheVariants.{Void
 use Rattle.capnp_words.specs.declared.wire_pointer.StructSize.{StructSize}
 use Rattle.capnp_arena_traits.specs.declared.arena.reader_arena.ReaderArena.{Ghosts}
 use Rattle.capnp_format.specs.Segments.{Segments, segment}
-use Rattle.capnp_objects.specs.Expected.{struct_expected, list_expected}
-use Rattle.capnp_objects.specs.Reading.{source_start}
+use Rattle.capnp_pointers.specs.Expected.{struct_expected, list_expected}
+use Rattle.capnp_pointers.specs.Reading.{source_start}
 use Rattle.capnp_readers.specs.Calls.{IsStructRead, IsListRead, WhereRead}
 use Rattle.capnp_readers.specs.Readers.{read_by}
 use Rattle.capnp_readers.specs.Sections.{data_bits, elements_words}

@@ -14,14 +14,14 @@ use Rattle.capnp_arena.specs.contracts.arena.scratch_allocator.RefMutSliceU8Segm
 use Rattle.capnp_arena_traits.specs.Allocations.{max_segment_words}
 use Rattle.capnp_arena_traits.specs.View.{View}
 use Rattle.capnp_lent_arena.specs.LentArenaLemmas.{allocated_words}
-use Rattle.capnp_making.specs.Near.{HasOwnRoom}
+use Rattle.capnp_allocation.specs.Near.{HasOwnRoom}
 use Rattle.capnp_arena_traits.specs.declared.arena.WordPlace.{WordPlace}
-use Rattle.capnp_making.specs.Made.{nulls, words_of_zero, zero_elements, zero_structs}
-use Rattle.capnp_making.specs.Makes.{MakesObject, ObjectStartsAt, call_at}
-use Rattle.capnp_making.specs.Stored.{IsStored}
-use Rattle.capnp_contents.specs.Existing.{struct_list}
-use Rattle.capnp_contents.specs.Initialized.{GivesObject}
-use Rattle.capnp_contents.proofs.Room.MadeAfterZeroing.{made_as}
+use Rattle.capnp_allocation.specs.Made.{nulls, words_of_zero, zero_elements, zero_structs}
+use Rattle.capnp_allocation.specs.Makes.{MakesObject, ObjectStartsAt, call_at}
+use Rattle.capnp_allocation.specs.Stored.{IsStored}
+use Rattle.capnp_in_place.specs.Existing.{struct_list}
+use Rattle.capnp_in_place.specs.Initialized.{GivesObject}
+use Rattle.capnp_in_place.proofs.Room.MadeAfterZeroing.{made_as}
 use Rattle.capnp_readers.specs.declared.readers.list_reader.ListPlace.{ListPlace}
 use Rattle.capnp_builders.specs.Held.{HasStruct, Holder, element_of}
 use Rattle.capnp_builders.specs.Places.{IsListOf, element_place}

@@ -10,13 +10,13 @@ use Rattle.capnp_format.proofs.Bounds.{leads_word}
 use Rattle.capnp_format.proofs.Sound.{at_some}
 use Rattle.capnp_arena_traits.specs.Limits.{AreSmall}
 use Rattle.capnp_arena_traits.proofs.MessageLemmas.{length-whole}
-use Rattle.capnp_objects.specs.declared.object.Expected.{Expected}
-use Rattle.capnp_objects.specs.declared.object.Purpose.TheVariants.{Value}
-use Rattle.capnp_objects.specs.Demands.{amplified_charge, own_charge, tag}
-use Rattle.capnp_objects.specs.Expected.{HasExpected, expectation, fitting, null_pointer}
-use Rattle.capnp_objects.specs.Outcomes.{Entered}
-use Rattle.capnp_objects.proofs.Following.LeadsWhereFollowed.{entered_leads}
-use Rattle.capnp_objects.proofs.WholeValue.ObjectsRefused.{leads_pads}
+use Rattle.capnp_pointers.specs.declared.object.Expected.{Expected}
+use Rattle.capnp_pointers.specs.declared.object.Purpose.TheVariants.{Value}
+use Rattle.capnp_pointers.specs.Demands.{amplified_charge, own_charge, tag}
+use Rattle.capnp_pointers.specs.Expected.{HasExpected, expectation, fitting, null_pointer}
+use Rattle.capnp_pointers.specs.Outcomes.{Entered}
+use Rattle.capnp_pointers.proofs.Following.LeadsWhereFollowed.{entered_leads}
+use Rattle.capnp_pointers.proofs.WholeValue.ObjectsRefused.{leads_pads}
 use Rattle.capnp_layout_c.specs.Lent.{lent, lent_pointer, no_limit}
 use Rattle.capnp_layout_c.proofs.LentWords.{lent_length}
 

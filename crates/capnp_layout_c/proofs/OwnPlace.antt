@@ -4,9 +4,9 @@ use Rattle.std.specs.Prelude.{◌+◌, ⊤}
 use Rattle.capnp_words.specs.declared.error.ErrorKind.{ErrorKind}
 use Rattle.capnp_words.specs.Meter.{Meter, unused}
 use Rattle.capnp_arena_traits.specs.declared.arena.reader_arena.ReaderArena.{Ghosts}
-use Rattle.capnp_objects.specs.Expected.{Expectation, HasExpected, RefusesExpected}
-use Rattle.capnp_objects.specs.Reading.{Reading}
-use Rattle.capnp_objects.specs.Spending.{Paid}
+use Rattle.capnp_pointers.specs.Expected.{Expectation, HasExpected, RefusesExpected}
+use Rattle.capnp_pointers.specs.Reading.{Reading}
+use Rattle.capnp_pointers.specs.Spending.{Paid}
 use Rattle.capnp_readers.specs.Calls.{Call, IsRead, of_pointer, of_default, short_default, of_null_default, WhereRead, IsRefused}
 use Rattle.capnp_readers.specs.Readers.{read_by}
 use Rattle.capnp_readers.specs.declared.readers.PointerReader.{PointerReader}

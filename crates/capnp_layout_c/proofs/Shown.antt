@@ -10,11 +10,11 @@ use Rattle.capnp_format.specs.Bytes.{words_of}
 use Rattle.capnp_format.specs.Numbers.{element_bits, unpacked, words_for}
 use Rattle.capnp_format.specs.Segments.{Segments, words_at}
 use Rattle.capnp_format.specs.Tree.{Tree, Null, Capability, Struct, Flat, Pointers, Structs, element_count}
-use Rattle.capnp_objects.specs.Outcomes.{MeansThere}
-use Rattle.capnp_objects.specs.Reading.{Reading, source_start}
-use Rattle.capnp_objects.specs.Spending.{Paid}
-use Rattle.capnp_objects.proofs.Following.LeadsWhereFollowed.{entered_leads}
-use Rattle.capnp_objects.specs.Expected.{struct_expected, list_expected, Expectation}
+use Rattle.capnp_pointers.specs.Outcomes.{MeansThere}
+use Rattle.capnp_pointers.specs.Reading.{Reading, source_start}
+use Rattle.capnp_pointers.specs.Spending.{Paid}
+use Rattle.capnp_pointers.proofs.Following.LeadsWhereFollowed.{entered_leads}
+use Rattle.capnp_pointers.specs.Expected.{struct_expected, list_expected, Expectation}
 use Rattle.capnp_readers.specs.Calls.{IsStructRead, IsListRead, AreBytesRead, WhereRead}
 use Rattle.capnp_readers.specs.Readers.{read_by}
 use Rattle.capnp_readers.specs.Sections.{IsPart, HasWordsFrom, bytes_for, data_bits, elements_words}
@@ -23,8 +23,8 @@ use Rattle.capnp_readers.specs.declared.readers.PointerReader.{PointerReader}
 use Rattle.capnp_readers.specs.declared.readers.struct_reader.StructReader.{StructReader}
 use Rattle.capnp_readers.specs.declared.readers.list_reader.ListReader.{ListReader}
 use Rattle.capnp_format.proofs.WordsOf.{words_of-part}
-use Rattle.capnp_objects.specs.Objects.{IsHeld}
-use Rattle.capnp_objects.specs.declared.object.Place.{Place}
+use Rattle.capnp_pointers.specs.Objects.{IsHeld}
+use Rattle.capnp_pointers.specs.declared.object.Place.{Place}
 use Rattle.capnp_readers.proofs.Given.{not_null}
 use Rattle.capnp_readers.proofs.Sections.{flat_words}
 use Rattle.capnp_layout_c.specs.Found.{IsFoundStruct, IsFoundList}

@@ -4,13 +4,13 @@ use Rattle.std.proofs.lemmas.Bool.{ltb-false, ltb-true}
 use Rattle.capnp_words.specs.declared.error.ErrorKind.{ErrorKind}
 use Rattle.capnp_words.specs.Meter.{Affords, FitsIn, less, unused}
 use Rattle.capnp_format.specs.Tree.{Tree}
-use Rattle.capnp_objects.specs.declared.object.Expected.{Expected}
-use Rattle.capnp_objects.specs.Expected.{expectation}
-use Rattle.capnp_objects.specs.Outcomes.{MeansThere}
-use Rattle.capnp_objects.specs.Reading.{Reading}
-use Rattle.capnp_objects.specs.Unexpected.{LeadsToOther}
-use Rattle.capnp_objects.proofs.OneObject.ExpectedAsStated.{withheld_is}
-use Rattle.capnp_objects.proofs.Budget.TraversalAffordable.{leads_to_other}
+use Rattle.capnp_pointers.specs.declared.object.Expected.{Expected}
+use Rattle.capnp_pointers.specs.Expected.{expectation}
+use Rattle.capnp_pointers.specs.Outcomes.{MeansThere}
+use Rattle.capnp_pointers.specs.Reading.{Reading}
+use Rattle.capnp_pointers.specs.Unexpected.{LeadsToOther}
+use Rattle.capnp_pointers.proofs.OneObject.ExpectedAsStated.{withheld_is}
+use Rattle.capnp_pointers.proofs.Budget.TraversalAffordable.{leads_to_other}
 use Rattle.capnp_numbers.specs.Numbers.{error_number}
 use Rattle.capnp_layout_c.specs.Found.{RefusesNumber}
 use Rattle.capnp_layout_c.specs.Lent.{Leaves, LeavesIf, left_over, no_limit, root_left, words_left}

@@ -8,16 +8,16 @@ use Rattle.capnp_format.specs.Segments.{Segments}
 use Rattle.capnp_format.specs.Tree.{Tree}
 use Rattle.capnp_format.proofs.Levels.{one_value}
 use Rattle.capnp_arena.specs.declared.arena.reader_arena_impl.ReaderOptions.{ReaderOptions}
-use Rattle.capnp_objects.specs.Extents.{read_extent, value_extent}
-use Rattle.capnp_objects.specs.Metered.{answer, onward}
-use Rattle.capnp_objects.specs.Outcomes.{Reads}
-use Rattle.capnp_objects.specs.Reading.{Reading}
-use Rattle.capnp_objects.specs.Source.{levels}
-use Rattle.capnp_objects.specs.Spending.{after_charge, pointers_in}
-use Rattle.capnp_objects.specs.Values.{value}
-use Rattle.capnp_objects.specs.Wanted.{plain}
-use Rattle.capnp_objects.specs.declared.pointers.validate.Extent.{Extent}
-use Rattle.capnp_objects.proofs.WholeValue.ValueAsStated.{reads_is}
+use Rattle.capnp_pointers.specs.Extents.{read_extent, value_extent}
+use Rattle.capnp_pointers.specs.Metered.{answer, onward}
+use Rattle.capnp_pointers.specs.Outcomes.{Reads}
+use Rattle.capnp_pointers.specs.Reading.{Reading}
+use Rattle.capnp_pointers.specs.Source.{levels}
+use Rattle.capnp_pointers.specs.Spending.{after_charge, pointers_in}
+use Rattle.capnp_pointers.specs.Values.{value}
+use Rattle.capnp_pointers.specs.Wanted.{plain}
+use Rattle.capnp_pointers.specs.declared.pointers.validate.Extent.{Extent}
+use Rattle.capnp_pointers.proofs.WholeValue.ValueAsStated.{reads_is}
 use Rattle.capnp_messages.specs.Extents.{root_extent}
 use Rattle.capnp_messages.specs.Messages.{IsReadable, left_of, root_within}
 use Rattle.capnp_messages.proofs.CanonLemmas.{covers_rest}

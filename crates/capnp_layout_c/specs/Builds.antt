@@ -7,12 +7,12 @@ use Rattle.capnp_format.specs.Path.{put_tree}
 use Rattle.capnp_format.specs.Tree.{Tree, Trees, Flat}
 use Rattle.capnp_words.specs.declared.wire_pointer.ElementSize.{ElementSize}
 use Rattle.capnp_arena_traits.specs.View.{View}
-use Rattle.capnp_making.specs.Makes.{MakesObject, call_at}
-use Rattle.capnp_making.specs.Stored.{IsStored}
-use Rattle.capnp_contents.specs.Opening.{LeadsToOne, OpensStruct}
-use Rattle.capnp_contents.specs.Rooms.{OpeningFits}
-use Rattle.capnp_contents.specs.Widened.{IsAtLeast}
-use Rattle.capnp_contents.specs.declared.existing.ExistingStruct.{ExistingStruct}
+use Rattle.capnp_allocation.specs.Makes.{MakesObject, call_at}
+use Rattle.capnp_allocation.specs.Stored.{IsStored}
+use Rattle.capnp_in_place.specs.Opening.{LeadsToOne, OpensStruct}
+use Rattle.capnp_in_place.specs.Rooms.{OpeningFits}
+use Rattle.capnp_in_place.specs.Widened.{IsAtLeast}
+use Rattle.capnp_in_place.specs.declared.existing.ExistingStruct.{ExistingStruct}
 use Rattle.capnp_builders.specs.Held.{CallIn, MakesChild, ReplacesChild, ReplacesField, SetsChild}
 use Rattle.capnp_builders.specs.Held.{HasList, HasStruct, Holder, SetsField, call_in}
 use Rattle.capnp_builders.specs.Places.{Field}

@@ -7,11 +7,11 @@ use Rattle.capnp_format.specs.Means.{Means}
 use Rattle.capnp_format.specs.Segments.{Segments}
 use Rattle.capnp_format.specs.Tree.{Tree}
 use Rattle.capnp_arena.specs.declared.arena.reader_arena_impl.ReaderOptions.{ReaderOptions}
-use Rattle.capnp_objects.specs.declared.object.Expected.{Expected}
-use Rattle.capnp_objects.specs.declared.object.Expected.TheVariants.{Struct as ExpectsStruct, List as ExpectsList}
-use Rattle.capnp_objects.specs.declared.object.Expected.TheVariants.{Text as ExpectsText, Data as ExpectsData}
-use Rattle.capnp_objects.specs.Reading.{Reading}
-use Rattle.capnp_objects.specs.Source.{levels}
+use Rattle.capnp_pointers.specs.declared.object.Expected.{Expected}
+use Rattle.capnp_pointers.specs.declared.object.Expected.TheVariants.{Struct as ExpectsStruct, List as ExpectsList}
+use Rattle.capnp_pointers.specs.declared.object.Expected.TheVariants.{Text as ExpectsText, Data as ExpectsData}
+use Rattle.capnp_pointers.specs.Reading.{Reading}
+use Rattle.capnp_pointers.specs.Source.{levels}
 use Rattle.capnp_messages.specs.Roots.{CoversRoot, read_message_root}
 use Rattle.capnp_numbers.specs.Numbers.{error_number}
 use Rattle.typed_conforming.specs.Conforms.{Conforms}

@@ -5,9 +5,9 @@ use Rattle.capnp_words.specs.declared.error.ErrorKind.{ErrorKind}
 use Rattle.capnp_format.specs.Segments.{Grows}
 use Rattle.capnp_format.specs.Tree.{Tree}
 use Rattle.capnp_arena_traits.specs.View.{View}
-use Rattle.capnp_making.specs.Makes.{call_at}
-use Rattle.capnp_objects.specs.Reading.{Reading}
-use Rattle.capnp_objects.specs.Wanted.{Form}
+use Rattle.capnp_allocation.specs.Makes.{call_at}
+use Rattle.capnp_pointers.specs.Reading.{Reading}
+use Rattle.capnp_pointers.specs.Wanted.{Form}
 use Rattle.capnp_readers.specs.Values.{HasValue}
 use Rattle.capnp_copies.specs.Changes.{CopyCall, copy_call}
 use Rattle.capnp_copies.specs.Forms.{kept}

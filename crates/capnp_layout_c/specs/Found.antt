@@ -13,10 +13,10 @@ use Rattle.capnp_format.specs.Means.{MeansAll, MeansElements}
 use Rattle.capnp_format.specs.Numbers.{element_bits, unpacked, words_for}
 use Rattle.capnp_format.specs.Segments.{Segments, segment, words_at}
 use Rattle.capnp_format.specs.Tree.{Tree, Null, Flat, Pointers, Structs, count, element_count}
-use Rattle.capnp_objects.specs.Expected.{Expectation, RefusesExpected, struct_expected}
-use Rattle.capnp_objects.specs.Types.{HasNoType, IsOfType}
-use Rattle.capnp_objects.specs.Reading.{Reading}
-use Rattle.capnp_objects.specs.Source.{levels}
+use Rattle.capnp_pointers.specs.Expected.{Expectation, RefusesExpected, struct_expected}
+use Rattle.capnp_pointers.specs.Types.{HasNoType, IsOfType}
+use Rattle.capnp_pointers.specs.Reading.{Reading}
+use Rattle.capnp_pointers.specs.Source.{levels}
 use Rattle.capnp_readers.specs.Values.{IsStructOrNull, struct_data, struct_children}
 use Rattle.capnp_layout_c.specs.Lent.{left_over, lent, lent_pointer, root_left}
 use Rattle.capnp_numbers.specs.Numbers.{error_number}

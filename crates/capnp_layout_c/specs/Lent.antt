@@ -4,8 +4,8 @@ use Rattle.std.specs.Borrow.{Bor}
 use Rattle.capnp_format.specs.Bytes.{message}
 use Rattle.capnp_format.specs.Segments.{Segments}
 use Rattle.capnp_arena_traits.specs.Limits.{whole}
-use Rattle.capnp_objects.specs.Reading.{Reading}
-use Rattle.capnp_objects.specs.Source.{levels}
+use Rattle.capnp_pointers.specs.Reading.{Reading}
+use Rattle.capnp_pointers.specs.Source.{levels}
 
 -- The message of the whole words of these segments.
 abbrev pub lent : List (Bor (List ℕ)) → Segments

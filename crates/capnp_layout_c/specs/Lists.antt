@@ -6,12 +6,12 @@ use Rattle.capnp_words.specs.declared.wire_pointer.StructSize.{StructSize}
 use Rattle.capnp_format.specs.Segments.{Grows, Segments}
 use Rattle.capnp_format.specs.Tree.{Tree}
 use Rattle.capnp_arena_traits.specs.View.{View}
-use Rattle.capnp_making.specs.Makes.{call_at}
-use Rattle.capnp_making.specs.Stored.{IsStored}
-use Rattle.capnp_contents.specs.Existing.{FindsListAt, size_of}
-use Rattle.capnp_contents.specs.Opening.{OpensExistingList}
-use Rattle.capnp_contents.specs.Rooms.{WiderListFits}
-use Rattle.capnp_contents.specs.declared.existing.ExistingList.{ExistingList}
+use Rattle.capnp_allocation.specs.Makes.{call_at}
+use Rattle.capnp_allocation.specs.Stored.{IsStored}
+use Rattle.capnp_in_place.specs.Existing.{FindsListAt, size_of}
+use Rattle.capnp_in_place.specs.Opening.{OpensExistingList}
+use Rattle.capnp_in_place.specs.Rooms.{WiderListFits}
+use Rattle.capnp_in_place.specs.declared.existing.ExistingList.{ExistingList}
 use Rattle.capnp_layout_c.specs.BuildingNumbers.{number_of_result}
 use Rattle.capnp_layout_c.specs.declared.building.places.ElementsAt.{ElementsAt}
 use Rattle.capnp_layout_c.specs.declared.building.places.ListAt.{ListAt}

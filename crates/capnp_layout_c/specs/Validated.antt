@@ -3,7 +3,7 @@ use Rattle.std.specs.Prelude.{◌≡◌, ℕ, ℤ, true, List, Some, Ok, Err}
 use Rattle.std.specs.Borrow.{Bor}
 use Rattle.capnp_words.specs.Meter.{Meter, unused}
 use Rattle.capnp_words.specs.declared.error.ErrorKind.{ErrorKind}
-use Rattle.capnp_objects.specs.Source.{levels}
+use Rattle.capnp_pointers.specs.Source.{levels}
 use Rattle.capnp_messages.specs.Extents.{root_extent}
 use Rattle.capnp_refusals.specs.RefusedPointers.{message_searched}
 use Rattle.capnp_refusals.specs.Search.{of_values}

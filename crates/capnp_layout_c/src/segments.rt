@@ -4,12 +4,12 @@ ghost use Rattle.capnp_format.specs.Bytes.{message, words_of};
 ghost use Rattle.capnp_format.specs.Segments.{segment};
 ghost use Rattle.capnp_arena_traits.specs.Limits.{whole, AreSmall, IsSmall};
 ghost use Rattle.capnp_words.specs.declared.error.ErrorKind.TheVariants.{InvalidSegmentId};
-ghost use Rattle.capnp_objects.specs.Source.{levels};
+ghost use Rattle.capnp_pointers.specs.Source.{levels};
 ghost use Rattle.capnp_layout_c.specs.Lent.{lent, lent_pointer};
 
 use capnp_arena_traits::arena::ReaderArena;
-use capnp_objects::object::Place;
-use capnp_objects::source::Source;
+use capnp_pointers::object::Place;
+use capnp_pointers::source::Source;
 use capnp_readers::readers::PointerReader;
 use capnp_words::error::ErrorKind;
 

@@ -8,7 +8,7 @@ use Rattle.capnp_format.specs.Tree.{Tree, depth}
 use Rattle.capnp_arena_traits.specs.Checks.{total_words}
 use Rattle.capnp_arena_traits.proofs.MessageLemmas.{length-message}
 use Rattle.capnp_arena.specs.declared.arena.reader_arena_impl.ReaderOptions.{ReaderOptions}
-use Rattle.capnp_objects.specs.Source.{levels}
+use Rattle.capnp_pointers.specs.Source.{levels}
 use Rattle.capnp_messages.specs.CanonicalMessages.{IsCanonicalMessage, IsCanonicalOf, IsPaid, IsWithinLevels}
 use Rattle.capnp_messages.specs.Messages.{IsValueOf}
 use Rattle.capnp_messages.proofs.CanonicalMessageLemmas.{has_root, means_its_value}

@@ -5,15 +5,15 @@ use Rattle.capnp_words.specs.declared.error.ErrorKind.{ErrorKind}
 use Rattle.capnp_words.specs.declared.error.ErrorKind.TheVariants.{AllocationFailed}
 use Rattle.capnp_format.specs.Segments.{Segments, IsPlace, segment, word_at}
 use Rattle.capnp_words.specs.Meter.{Meter, unused, less, FitsIn}
-use Rattle.capnp_objects.specs.Refusals.{Refused}
-use Rattle.capnp_objects.specs.Reading.{Reading, place_past, segment_read, words_from}
-use Rattle.capnp_objects.specs.Wanted.{canonical}
+use Rattle.capnp_pointers.specs.Refusals.{Refused}
+use Rattle.capnp_pointers.specs.Reading.{Reading, place_past, segment_read, words_from}
+use Rattle.capnp_pointers.specs.Wanted.{canonical}
 use Rattle.capnp_format.specs.Canonical.{encoding, trim, word_count}
 use Rattle.capnp_format.specs.Tree.{Tree, Null, Struct}
 use Rattle.capnp_format.proofs.Trimming.{used_words-le}
 use Rattle.capnp_format.proofs.Levels.{one_value}
 use Rattle.std.proofs.lemmas.Bool.{cases_lt}
-use Rattle.capnp_making.specs.Memory.{KeepsMemory}
+use Rattle.capnp_allocation.specs.Memory.{KeepsMemory}
 use Rattle.capnp_copies.specs.Changes.{ComesToObject, MakesCopy, StopsCopy, copy_call}
 use Rattle.capnp_copies.specs.Originals.{value_original}
 use Rattle.capnp_copies.proofs.Copying.{fresh_made}
@@ -24,12 +24,12 @@ use Rattle.capnp_messages.specs.EndValues.{EndMeans, EndReads, IsElementPlace, I
 use Rattle.capnp_messages.specs.Parts.{PathEnd, to_element, to_pointer}
 use Rattle.capnp_messages.proofs.EndRefusals.{MeansMore, StopsAnywhere, stops_anywhere}
 use Rattle.capnp_messages.proofs.EndValueLemmas.{EndStopsAs}
-use Rattle.capnp_objects.specs.Outcomes.{Reads}
+use Rattle.capnp_pointers.specs.Outcomes.{Reads}
 use Rattle.capnp_arena_traits.specs.Allocations.{one_more}
 use Rattle.capnp_arena_traits.specs.View.{View}
-use Rattle.capnp_making.specs.Makes.{call_at}
+use Rattle.capnp_allocation.specs.Makes.{call_at}
 use Rattle.capnp_format.proofs.Slices.{only_segment}
-use Rattle.capnp_making.proofs.Memory.{words_named}
+use Rattle.capnp_allocation.proofs.Memory.{words_named}
 
 -- the root of a fresh message is its only word, which is zero
 root_alone : (S : Segments) → S ≡ (0 ∷ []) ∷ [] → segment S 0 ≡ 0 ∷ []

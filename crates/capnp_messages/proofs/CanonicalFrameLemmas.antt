@@ -9,10 +9,10 @@ use Rattle.capnp_words.specs.declared.error.ErrorKind.{ErrorKind}
 use Rattle.capnp_framing.specs.Frames.{frame}
 use Rattle.capnp_framing.specs.declared.framing.frame_error.FrameError.{FrameError}
 use Rattle.capnp_framing.specs.declared.framing.frame_error.FrameError.TheVariants.{WriteFailed}
-use Rattle.capnp_objects.specs.Outcomes.{ReadsAll}
-use Rattle.capnp_objects.specs.Reading.{place_past}
-use Rattle.capnp_objects.specs.Spending.{after_charge, pointers_in, pointers_in_all}
-use Rattle.capnp_objects.specs.Wanted.{canonical}
+use Rattle.capnp_pointers.specs.Outcomes.{ReadsAll}
+use Rattle.capnp_pointers.specs.Reading.{place_past}
+use Rattle.capnp_pointers.specs.Spending.{after_charge, pointers_in, pointers_in_all}
+use Rattle.capnp_pointers.specs.Wanted.{canonical}
 use Rattle.capnp_messages.specs.CanonicalErrors.{IsLeftOf}
 use Rattle.capnp_messages.specs.EndValues.{EndReads}
 use Rattle.capnp_messages.specs.Parts.{PathEnd, to_element, to_pointer}

@@ -11,9 +11,9 @@ use Rattle.capnp_format.proofs.Lengths.{length-body}
 use Rattle.capnp_format.proofs.Unique.{for_offset, one_stands, stands_means}
 use Rattle.capnp_arena_traits.specs.Checks.{total_words}
 use Rattle.capnp_arena_traits.proofs.MessageLemmas.{length-message}
-use Rattle.capnp_objects.specs.Reading.{Reading}
-use Rattle.capnp_objects.specs.Spending.{Paid}
-use Rattle.capnp_objects.specs.Checking.{IsFound, progress}
+use Rattle.capnp_pointers.specs.Reading.{Reading}
+use Rattle.capnp_pointers.specs.Spending.{Paid}
+use Rattle.capnp_pointers.specs.Checking.{IsFound, progress}
 use Rattle.capnp_messages.specs.Roots.{CoversRoot, message_root}
 use Rattle.capnp_framing.specs.Frames.{CanBeFramed, frame}
 use Rattle.capnp_framing.specs.Reading.{total}

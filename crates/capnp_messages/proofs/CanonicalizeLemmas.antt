@@ -10,12 +10,12 @@ use Rattle.capnp_framing.specs.Reading.{total}
 use Rattle.capnp_arena_traits.specs.Allocations.{max_segment_words}
 use Rattle.capnp_arena_traits.specs.View.{View}
 use Rattle.capnp_arena.specs.declared.arena.reader_arena_impl.ReaderOptions.{ReaderOptions}
-use Rattle.capnp_objects.specs.Metered.{answer, onward}
-use Rattle.capnp_objects.specs.Reading.{Reading}
-use Rattle.capnp_objects.specs.Source.{levels}
-use Rattle.capnp_objects.specs.Values.{value}
-use Rattle.capnp_objects.specs.Wanted.{canonical}
-use Rattle.capnp_objects.proofs.WholeValue.ValueAsStated.{reads_if}
+use Rattle.capnp_pointers.specs.Metered.{answer, onward}
+use Rattle.capnp_pointers.specs.Reading.{Reading}
+use Rattle.capnp_pointers.specs.Source.{levels}
+use Rattle.capnp_pointers.specs.Values.{value}
+use Rattle.capnp_pointers.specs.Wanted.{canonical}
+use Rattle.capnp_pointers.proofs.WholeValue.ValueAsStated.{reads_if}
 use Rattle.capnp_messages.specs.Canonicalize.{canonical_value, canonical_words, canonicalize, end_value, root_end}
 use Rattle.capnp_messages.specs.Copies.{LacksMemoryOr, NeedsMoreRoom, OutgrowsRoom, RefusesCopy}
 use Rattle.capnp_messages.specs.Messages.{IsValueOf, RefusesCanon, left_of, root_within}

@@ -6,25 +6,25 @@ use Rattle.std.proofs.lemmas.Bool.{ne_eqb, false≢true}
 use Rattle.capnp_words.specs.declared.error.ErrorKind.{ErrorKind}
 use Rattle.capnp_words.specs.Meter.{Meter, FitsIn, spent, unused}
 use Rattle.capnp_arena.specs.declared.arena.reader_arena_impl.ReaderOptions.{ReaderOptions}
-use Rattle.capnp_objects.specs.CanonicalFaults.{FaultIs}
+use Rattle.capnp_pointers.specs.CanonicalFaults.{FaultIs}
 use Rattle.capnp_format.specs.Segments.{HasSmallWords, Segments, segment}
 use Rattle.capnp_format.specs.Tree.{Tree, depth}
 use Rattle.capnp_format.specs.Canonical.{charge}
 use Rattle.capnp_format.specs.Means.{Means}
 use Rattle.capnp_format.proofs.Unique.{for_offset}
-use Rattle.capnp_objects.specs.Reading.{Reading}
-use Rattle.capnp_objects.specs.Source.{levels}
-use Rattle.capnp_objects.specs.Metered.{answer, fits, onward}
-use Rattle.capnp_objects.specs.Spending.{Paid, pointers_in}
-use Rattle.capnp_objects.proofs.Decided.{same_or_not}
-use Rattle.capnp_objects.proofs.OneObject.ReadInOneWay.{no_answer, not_both, same_refusal}
-use Rattle.capnp_objects.specs.declared.pointers.canonical_fault.CanonicalFault.{CanonicalFault}
-use Rattle.capnp_objects.specs.declared.pointers.canonical_fault.CanonicalFaultReason.TheVariants.{SegmentCount, WordsBehind}
-use Rattle.capnp_objects.specs.Testing.{Verdict, fault_verdict, test_value}
-use Rattle.capnp_objects.proofs.CanonicalTest.AnswersWithinLimits.{can_answers, refused_no_value}
-use Rattle.capnp_objects.proofs.CanonicalTest.VerdictOfObject.{test_says}
-use Rattle.capnp_objects.proofs.CanonicalTest.VerdictsOfParts.{Says}
-use Rattle.capnp_objects.specs.Checking.{HasSmallSegment}
+use Rattle.capnp_pointers.specs.Reading.{Reading}
+use Rattle.capnp_pointers.specs.Source.{levels}
+use Rattle.capnp_pointers.specs.Metered.{answer, fits, onward}
+use Rattle.capnp_pointers.specs.Spending.{Paid, pointers_in}
+use Rattle.capnp_pointers.proofs.Decided.{same_or_not}
+use Rattle.capnp_pointers.proofs.OneObject.ReadInOneWay.{no_answer, not_both, same_refusal}
+use Rattle.capnp_pointers.specs.declared.pointers.canonical_fault.CanonicalFault.{CanonicalFault}
+use Rattle.capnp_pointers.specs.declared.pointers.canonical_fault.CanonicalFaultReason.TheVariants.{SegmentCount, WordsBehind}
+use Rattle.capnp_pointers.specs.Testing.{Verdict, fault_verdict, test_value}
+use Rattle.capnp_pointers.proofs.CanonicalTest.AnswersWithinLimits.{can_answers, refused_no_value}
+use Rattle.capnp_pointers.proofs.CanonicalTest.VerdictOfObject.{test_says}
+use Rattle.capnp_pointers.proofs.CanonicalTest.VerdictsOfParts.{Says}
+use Rattle.capnp_pointers.specs.Checking.{HasSmallSegment}
 use Rattle.capnp_messages.specs.CanonicalMessages.{CanBeTested, IsCanonicalMessage, IsCanonicalOf, IsPaid, IsWithinLevels}
 use Rattle.capnp_messages.specs.Check.{check, is_whole, message_tested, whole_fault, whole_result}
 use Rattle.capnp_messages.specs.Messages.{IsFaultOf, RefusesCheck}

@@ -9,15 +9,15 @@ use Rattle.capnp_format.specs.Tree.{Tree, depth}
 use Rattle.capnp_format.specs.Canonical.{charge}
 use Rattle.capnp_format.proofs.Levels.{depth_within, one_value}
 use Rattle.capnp_arena.specs.declared.arena.reader_arena_impl.ReaderOptions.{ReaderOptions}
-use Rattle.capnp_objects.specs.Metered.{onward}
-use Rattle.capnp_objects.proofs.OneObject.ReadInOneWay.{same_refusal}
-use Rattle.capnp_objects.specs.Source.{levels}
-use Rattle.capnp_objects.specs.Values.{value}
-use Rattle.capnp_objects.specs.Wanted.{plain}
-use Rattle.capnp_objects.specs.Checking.{level_refusal_name}
-use Rattle.capnp_objects.specs.Testing.{IsTestName}
-use Rattle.capnp_objects.specs.declared.pointers.canonical_fault.CanonicalFault.{CanonicalFault}
-use Rattle.capnp_objects.proofs.CanonicalTest.ReadsAsReading.{Along, refused_along, value_along}
+use Rattle.capnp_pointers.specs.Metered.{onward}
+use Rattle.capnp_pointers.proofs.OneObject.ReadInOneWay.{same_refusal}
+use Rattle.capnp_pointers.specs.Source.{levels}
+use Rattle.capnp_pointers.specs.Values.{value}
+use Rattle.capnp_pointers.specs.Wanted.{plain}
+use Rattle.capnp_pointers.specs.Checking.{level_refusal_name}
+use Rattle.capnp_pointers.specs.Testing.{IsTestName}
+use Rattle.capnp_pointers.specs.declared.pointers.canonical_fault.CanonicalFault.{CanonicalFault}
+use Rattle.capnp_pointers.proofs.CanonicalTest.ReadsAsReading.{Along, refused_along, value_along}
 use Rattle.capnp_messages.specs.CanonicalMessages.{CanBeTested, IsCanonicalMessage, IsCanonicalOf}
 use Rattle.capnp_messages.specs.Check.{check, message_tested, plain_value}
 use Rattle.capnp_messages.specs.Messages.{IsReadable, IsValueOf}

@@ -7,13 +7,13 @@ use Rattle.capnp_words.specs.Meter.{Affords, Meter, unused}
 use Rattle.capnp_words.specs.Names.{is_allocation_name}
 use Rattle.capnp_format.specs.Canonical.{encoding, trim, word_count}
 use Rattle.capnp_format.specs.Tree.{Tree, Struct, capabilities, count}
-use Rattle.capnp_objects.specs.Enter.{struct}
-use Rattle.capnp_objects.specs.Metered.{answer, demand, onward}
-use Rattle.capnp_objects.specs.Reading.{Reading, place_past, segment_read, words_from}
-use Rattle.capnp_objects.specs.Refusals.{Refused}
-use Rattle.capnp_objects.specs.Spending.{after_charge, pointers_in, pointers_in_all}
-use Rattle.capnp_objects.specs.Wanted.{AllowsCapabilities, Form, canonical, plain}
-use Rattle.capnp_objects.proofs.WholeValue.RefusalsNamed.{not_for_memory, not_for_size}
+use Rattle.capnp_pointers.specs.Enter.{struct}
+use Rattle.capnp_pointers.specs.Metered.{answer, demand, onward}
+use Rattle.capnp_pointers.specs.Reading.{Reading, place_past, segment_read, words_from}
+use Rattle.capnp_pointers.specs.Refusals.{Refused}
+use Rattle.capnp_pointers.specs.Spending.{after_charge, pointers_in, pointers_in_all}
+use Rattle.capnp_pointers.specs.Wanted.{AllowsCapabilities, Form, canonical, plain}
+use Rattle.capnp_pointers.proofs.WholeValue.RefusalsNamed.{not_for_memory, not_for_size}
 use Rattle.capnp_copies.specs.Changes.{ComesToObject}
 use Rattle.capnp_copies.specs.Costs.{spent_until}
 use Rattle.capnp_messages.specs.Canonicalize.{canonical_words, end_value}

@@ -4,20 +4,20 @@ use Rattle.capnp_words.specs.declared.error.ErrorKind.{ErrorKind}
 use Rattle.capnp_words.specs.Meter.{Meter}
 use Rattle.capnp_format.specs.Canonical.{encoding, trim, word_count}
 use Rattle.capnp_format.specs.Tree.{Tree, Struct, Trees, no_trees, tree, count}
-use Rattle.capnp_objects.specs.declared.object.Purpose.TheVariants.{Value}
-use Rattle.capnp_objects.specs.Metered.{answer, onward}
-use Rattle.capnp_objects.specs.Outcomes.{Reads, ReadsAll}
-use Rattle.capnp_objects.specs.Reading.{Reading, place_past, words_from}
-use Rattle.capnp_objects.specs.Refusals.{Refused, Stopped}
-use Rattle.capnp_objects.specs.Spending.{after_charge, pointers_in, pointers_in_all}
-use Rattle.capnp_objects.specs.Values.{read_values, value}
-use Rattle.capnp_objects.specs.Wanted.{Form}
-use Rattle.capnp_objects.proofs.Budget.PaidAndLeft.{after_after, after_none, affords_rest, paid_all, paid_both, paid_one}
-use Rattle.capnp_objects.proofs.WholeValue.ChildrenRead.{read_none}
-use Rattle.capnp_objects.proofs.WholeValue.ValueAsStated.{reads_is, refused_is}
-use Rattle.capnp_objects.proofs.WholeValue.UnreadableIfRefused.{affords_less}
-use Rattle.capnp_objects.proofs.WholeValue.Shorthands.{RefusedAll}
-use Rattle.capnp_objects.proofs.WholeValue.ValueAgrees.{Agree, value_agrees}
+use Rattle.capnp_pointers.specs.declared.object.Purpose.TheVariants.{Value}
+use Rattle.capnp_pointers.specs.Metered.{answer, onward}
+use Rattle.capnp_pointers.specs.Outcomes.{Reads, ReadsAll}
+use Rattle.capnp_pointers.specs.Reading.{Reading, place_past, words_from}
+use Rattle.capnp_pointers.specs.Refusals.{Refused, Stopped}
+use Rattle.capnp_pointers.specs.Spending.{after_charge, pointers_in, pointers_in_all}
+use Rattle.capnp_pointers.specs.Values.{read_values, value}
+use Rattle.capnp_pointers.specs.Wanted.{Form}
+use Rattle.capnp_pointers.proofs.Budget.PaidAndLeft.{after_after, after_none, affords_rest, paid_all, paid_both, paid_one}
+use Rattle.capnp_pointers.proofs.WholeValue.ChildrenRead.{read_none}
+use Rattle.capnp_pointers.proofs.WholeValue.ValueAsStated.{reads_is, refused_is}
+use Rattle.capnp_pointers.proofs.WholeValue.UnreadableIfRefused.{affords_less}
+use Rattle.capnp_pointers.proofs.WholeValue.Shorthands.{RefusedAll}
+use Rattle.capnp_pointers.proofs.WholeValue.ValueAgrees.{Agree, value_agrees}
 use Rattle.capnp_copies.proofs.Shapes.{IsShaped, all_shaped, length-body, means_shaped, trim-shaped}
 use Rattle.capnp_messages.specs.Canonicalize.{end_value}
 use Rattle.capnp_messages.specs.EndValues.{end_original}

@@ -12,27 +12,27 @@ use Rattle.capnp_format.specs.Segments.{Segments, Target}
 use Rattle.capnp_format.specs.Tree.{Tree, Null, Trees, no_trees, tree, Elements, no_elements, element, count, element_count}
 use Rattle.capnp_format.specs.Means.{MeansElements}
 use Rattle.capnp_format.proofs.Slices.{length_words}
-use Rattle.capnp_objects.specs.declared.object.Purpose.TheVariants.{Value}
-use Rattle.capnp_objects.specs.Demands.{own_charge, tag}
-use Rattle.capnp_objects.specs.Enter.{Shape, nothing, capability, struct, flat, pointers, structs, shape, read}
-use Rattle.capnp_objects.specs.Faults.{child_at}
-use Rattle.capnp_objects.specs.Measure.{fold_children, fold_elements, fold_pointers}
-use Rattle.capnp_objects.specs.Metered.{Metered, onward}
-use Rattle.capnp_objects.specs.Outcomes.{Entered, Reads, ReadsAll, ReadsElements}
-use Rattle.capnp_objects.specs.Reading.{Reading, word_of, place_past, pointers_of, segment_read, words_from, tag_size}
-use Rattle.capnp_objects.specs.Refusals.{Stopped, broken, StopsWithin, here}
-use Rattle.capnp_objects.specs.Spending.{after_charge}
-use Rattle.capnp_objects.specs.Values.{permit}
-use Rattle.capnp_objects.specs.Wanted.{canonical, FollowsTo}
-use Rattle.capnp_objects.proofs.Budget.PaidAndLeft.{paid_both, paid_all, paid_elements, affords_none, after_none}
-use Rattle.capnp_objects.proofs.OneObject.ReadAsStated.{capability_is, entering_is, stopped_is}
-use Rattle.capnp_objects.proofs.WholeValue.ChildrenRead.{read_none}
-use Rattle.capnp_objects.proofs.Decided.{same_or_not, within_or_not}
-use Rattle.capnp_objects.proofs.OneObject.ReadInOneWay.{Ends, at_capability, at_object, refused, ends}
-use Rattle.capnp_objects.proofs.WholeValue.ObjectsRead.{read_null, read_struct, read_flat, read_pointers, read_structs}
-use Rattle.capnp_objects.proofs.OneObject.PartsMeant.{claim_list}
-use Rattle.capnp_objects.proofs.WholeValue.UnreadableIfRefused.{stops_struct, stops_pointers, stops_structs}
-use Rattle.capnp_objects.proofs.WholeValue.ValueAgrees.{permits, stopped_form}
+use Rattle.capnp_pointers.specs.declared.object.Purpose.TheVariants.{Value}
+use Rattle.capnp_pointers.specs.Demands.{own_charge, tag}
+use Rattle.capnp_pointers.specs.Enter.{Shape, nothing, capability, struct, flat, pointers, structs, shape, read}
+use Rattle.capnp_pointers.specs.Faults.{child_at}
+use Rattle.capnp_pointers.specs.Measure.{fold_children, fold_elements, fold_pointers}
+use Rattle.capnp_pointers.specs.Metered.{Metered, onward}
+use Rattle.capnp_pointers.specs.Outcomes.{Entered, Reads, ReadsAll, ReadsElements}
+use Rattle.capnp_pointers.specs.Reading.{Reading, word_of, place_past, pointers_of, segment_read, words_from, tag_size}
+use Rattle.capnp_pointers.specs.Refusals.{Stopped, broken, StopsWithin, here}
+use Rattle.capnp_pointers.specs.Spending.{after_charge}
+use Rattle.capnp_pointers.specs.Values.{permit}
+use Rattle.capnp_pointers.specs.Wanted.{canonical, FollowsTo}
+use Rattle.capnp_pointers.proofs.Budget.PaidAndLeft.{paid_both, paid_all, paid_elements, affords_none, after_none}
+use Rattle.capnp_pointers.proofs.OneObject.ReadAsStated.{capability_is, entering_is, stopped_is}
+use Rattle.capnp_pointers.proofs.WholeValue.ChildrenRead.{read_none}
+use Rattle.capnp_pointers.proofs.Decided.{same_or_not, within_or_not}
+use Rattle.capnp_pointers.proofs.OneObject.ReadInOneWay.{Ends, at_capability, at_object, refused, ends}
+use Rattle.capnp_pointers.proofs.WholeValue.ObjectsRead.{read_null, read_struct, read_flat, read_pointers, read_structs}
+use Rattle.capnp_pointers.proofs.OneObject.PartsMeant.{claim_list}
+use Rattle.capnp_pointers.proofs.WholeValue.UnreadableIfRefused.{stops_struct, stops_pointers, stops_structs}
+use Rattle.capnp_pointers.proofs.WholeValue.ValueAgrees.{permits, stopped_form}
 use Rattle.capnp_copies.specs.Changes.{IsMadeOf, as_struct, as_numbers, as_pointers, as_structs}
 use Rattle.capnp_copies.specs.Costs.{spent_until}
 use Rattle.capnp_messages.proofs.EndValueLemmas.{read_first}

@@ -11,23 +11,23 @@ use Rattle.capnp_format.specs.Segments.{Segments, Target, segment}
 use Rattle.capnp_format.specs.Tree.{Tree, Null, Capability, Struct, Flat, Pointers, Structs, Trees, no_trees, tree, Elements, no_elements, element, count, element_count}
 use Rattle.capnp_format.specs.Canonical.{used_from, used_words, used_trees, is_null, take_trees, data_width, pointer_width, cut_to, trim, trim_each, trim_elements, word_count, word_count_all, word_count_elements}
 use Rattle.capnp_format.proofs.Trimming.{used_from-rest, used_from-past, used_words-le, used_trees-le, trim_each-take, trim_each-count, take_trees-count}
-use Rattle.capnp_objects.specs.declared.object.Purpose.TheVariants.{Value}
-use Rattle.capnp_objects.specs.Demands.{tag}
-use Rattle.capnp_objects.specs.Enter.{Shape, nothing, capability, struct, flat, pointers, structs, shape}
-use Rattle.capnp_objects.specs.Measure.{fold_children, fold_elements, fold_pointers}
-use Rattle.capnp_objects.specs.Metered.{Metered, answer, onward}
-use Rattle.capnp_objects.specs.Outcomes.{Entered}
-use Rattle.capnp_objects.specs.Reading.{Reading, word_of, words_from, segment_read, place_past}
-use Rattle.capnp_objects.specs.Spending.{after_charge}
-use Rattle.capnp_objects.specs.Values.{read_values, read_element_values, object_value, value_within, value}
-use Rattle.capnp_objects.specs.Wanted.{canonical}
-use Rattle.capnp_objects.proofs.OneObject.ReadAsStated.{null_is, capability_is, entering_is, stopped_is}
-use Rattle.capnp_objects.proofs.Decided.{same_or_not}
-use Rattle.capnp_objects.proofs.OneObject.ReadInOneWay.{Ends, at_capability, at_object, refused, ends}
-use Rattle.capnp_objects.proofs.WholeValue.ValueAsStated.{reads_if}
-use Rattle.capnp_objects.proofs.OneObject.PartsMeant.{claim_struct, claim_list}
-use Rattle.capnp_objects.proofs.CanonicalForm.UsedWords.{words_at-more}
-use Rattle.capnp_objects.proofs.WholeValue.ValueAgrees.{leaf_is, permits, refusal_is, value_is}
+use Rattle.capnp_pointers.specs.declared.object.Purpose.TheVariants.{Value}
+use Rattle.capnp_pointers.specs.Demands.{tag}
+use Rattle.capnp_pointers.specs.Enter.{Shape, nothing, capability, struct, flat, pointers, structs, shape}
+use Rattle.capnp_pointers.specs.Measure.{fold_children, fold_elements, fold_pointers}
+use Rattle.capnp_pointers.specs.Metered.{Metered, answer, onward}
+use Rattle.capnp_pointers.specs.Outcomes.{Entered}
+use Rattle.capnp_pointers.specs.Reading.{Reading, word_of, words_from, segment_read, place_past}
+use Rattle.capnp_pointers.specs.Spending.{after_charge}
+use Rattle.capnp_pointers.specs.Values.{read_values, read_element_values, object_value, value_within, value}
+use Rattle.capnp_pointers.specs.Wanted.{canonical}
+use Rattle.capnp_pointers.proofs.OneObject.ReadAsStated.{null_is, capability_is, entering_is, stopped_is}
+use Rattle.capnp_pointers.proofs.Decided.{same_or_not}
+use Rattle.capnp_pointers.proofs.OneObject.ReadInOneWay.{Ends, at_capability, at_object, refused, ends}
+use Rattle.capnp_pointers.proofs.WholeValue.ValueAsStated.{reads_if}
+use Rattle.capnp_pointers.proofs.OneObject.PartsMeant.{claim_struct, claim_list}
+use Rattle.capnp_pointers.proofs.CanonicalForm.UsedWords.{words_at-more}
+use Rattle.capnp_pointers.proofs.WholeValue.ValueAgrees.{leaf_is, permits, refusal_is, value_is}
 use Rattle.capnp_copies.specs.Widths.{most_used}
 use Rattle.capnp_copies.proofs.FlatRead.{word_count-flat}
 use Rattle.capnp_copies.proofs.LeastWidths.{means_is_null}

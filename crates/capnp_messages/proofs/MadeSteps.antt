@@ -8,20 +8,20 @@ use Rattle.capnp_words.specs.Meter.{Meter}
 use Rattle.capnp_format.specs.Bytes.{words_of}
 use Rattle.capnp_format.specs.Canonical.{used_words}
 use Rattle.capnp_format.specs.Segments.{Segments, segment}
-use Rattle.capnp_objects.specs.declared.object.Object.{Object}
-use Rattle.capnp_objects.specs.declared.object.Object.TheVariants.{Null as ObjectNull, Capability as ObjectCapability, Struct as ObjectStruct, Flat as ObjectFlat, Pointers as ObjectPointers, Structs as ObjectStructs}
-use Rattle.capnp_objects.specs.declared.object.Place.{Place}
-use Rattle.capnp_objects.specs.declared.object.Purpose.TheVariants.{Value}
-use Rattle.capnp_objects.specs.Enter.{Shape, nothing, capability, struct, flat, pointers, structs, object_shape, read}
-use Rattle.capnp_objects.specs.Measure.{fold_children, fold_elements, fold_pointers}
-use Rattle.capnp_objects.specs.Metered.{Metered, onward}
-use Rattle.capnp_objects.specs.Objects.{IsFew, IsHeld, IsObject}
-use Rattle.capnp_objects.specs.Reading.{Reading}
-use Rattle.capnp_objects.specs.Values.{permit}
-use Rattle.capnp_objects.specs.Wanted.{canonical}
-use Rattle.capnp_objects.proofs.OneObject.ReadAsStated.{object_is}
-use Rattle.capnp_objects.proofs.Sizes.MeasuredBySteps.{one_row}
-use Rattle.capnp_objects.proofs.Budget.OneLevelLess.{object_inside}
+use Rattle.capnp_pointers.specs.declared.object.Object.{Object}
+use Rattle.capnp_pointers.specs.declared.object.Object.TheVariants.{Null as ObjectNull, Capability as ObjectCapability, Struct as ObjectStruct, Flat as ObjectFlat, Pointers as ObjectPointers, Structs as ObjectStructs}
+use Rattle.capnp_pointers.specs.declared.object.Place.{Place}
+use Rattle.capnp_pointers.specs.declared.object.Purpose.TheVariants.{Value}
+use Rattle.capnp_pointers.specs.Enter.{Shape, nothing, capability, struct, flat, pointers, structs, object_shape, read}
+use Rattle.capnp_pointers.specs.Measure.{fold_children, fold_elements, fold_pointers}
+use Rattle.capnp_pointers.specs.Metered.{Metered, onward}
+use Rattle.capnp_pointers.specs.Objects.{IsFew, IsHeld, IsObject}
+use Rattle.capnp_pointers.specs.Reading.{Reading}
+use Rattle.capnp_pointers.specs.Values.{permit}
+use Rattle.capnp_pointers.specs.Wanted.{canonical}
+use Rattle.capnp_pointers.proofs.OneObject.ReadAsStated.{object_is}
+use Rattle.capnp_pointers.proofs.Sizes.MeasuredBySteps.{one_row}
+use Rattle.capnp_pointers.proofs.Budget.OneLevelLess.{object_inside}
 use Rattle.capnp_copies.specs.Widths.{most_used}
 use Rattle.capnp_messages.specs.Fitting.{made_words}
 use Rattle.capnp_messages.specs.MadeWords.{IsInBytes, IsObjectInBytes, has_copy, made_place, made_within, words_of_copy, sum_within}

@@ -6,10 +6,10 @@ use Rattle.capnp_format.specs.Canonical.{encoding, trim}
 use Rattle.capnp_format.specs.Segments.{Segments}
 use Rattle.capnp_format.specs.Tree.{Tree}
 use Rattle.capnp_arena.specs.declared.arena.reader_arena_impl.ReaderOptions.{ReaderOptions}
-use Rattle.capnp_objects.specs.Outcomes.{Reads}
-use Rattle.capnp_objects.specs.Reading.{Reading}
-use Rattle.capnp_objects.specs.Source.{levels}
-use Rattle.capnp_objects.specs.Wanted.{canonical}
+use Rattle.capnp_pointers.specs.Outcomes.{Reads}
+use Rattle.capnp_pointers.specs.Reading.{Reading}
+use Rattle.capnp_pointers.specs.Source.{levels}
+use Rattle.capnp_pointers.specs.Wanted.{canonical}
 use Rattle.capnp_messages.specs.Roots.{CoversRoot, message_root}
 use Rattle.capnp_messages.proofs.CanonLemmas.{covers_root}
 use Rattle.capnp_messages.specs.Messages.{IsValueOf, left_of, root_within}

@@ -7,9 +7,9 @@ use Rattle.capnp_format.specs.Segments.{Segments}
 use Rattle.capnp_format.specs.Tree.{Tree}
 use Rattle.capnp_arena_traits.specs.Allocations.{max_segment_words}
 use Rattle.capnp_arena.specs.declared.arena.reader_arena_impl.ReaderOptions.{ReaderOptions}
-use Rattle.capnp_objects.specs.Reading.{segment_read, words_from}
-use Rattle.capnp_objects.specs.Source.{levels}
-use Rattle.capnp_objects.specs.Wanted.{canonical}
+use Rattle.capnp_pointers.specs.Reading.{segment_read, words_from}
+use Rattle.capnp_pointers.specs.Source.{levels}
+use Rattle.capnp_pointers.specs.Wanted.{canonical}
 use Rattle.capnp_messages.specs.Canonicalize.{end_value}
 use Rattle.capnp_messages.specs.Copies.{LacksMemoryOr, NeedsMoreRoom, RefusesCopy}
 use Rattle.capnp_messages.specs.EndValues.{EndMeans, EndReads, IsEndThere, end_place}

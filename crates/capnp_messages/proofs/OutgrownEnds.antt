@@ -6,13 +6,13 @@ use Rattle.capnp_words.specs.Meter.{Meter, less, unused}
 use Rattle.capnp_arena_traits.specs.Allocations.{max_segment_words}
 use Rattle.capnp_format.specs.Tree.{count}
 use Rattle.capnp_format.proofs.Trimming.{used_words-le}
-use Rattle.capnp_objects.specs.Enter.{struct}
-use Rattle.capnp_objects.specs.Measure.{fold_pointers}
-use Rattle.capnp_objects.specs.Reading.{Reading, place_past, segment_read, words_from}
-use Rattle.capnp_objects.specs.Refusals.{Refused}
-use Rattle.capnp_objects.specs.Spending.{after_charge, pointers_in_all}
-use Rattle.capnp_objects.specs.Wanted.{canonical}
-use Rattle.capnp_objects.proofs.WholeValue.RefusalsNamed.{not_for_size}
+use Rattle.capnp_pointers.specs.Enter.{struct}
+use Rattle.capnp_pointers.specs.Measure.{fold_pointers}
+use Rattle.capnp_pointers.specs.Reading.{Reading, place_past, segment_read, words_from}
+use Rattle.capnp_pointers.specs.Refusals.{Refused}
+use Rattle.capnp_pointers.specs.Spending.{after_charge, pointers_in_all}
+use Rattle.capnp_pointers.specs.Wanted.{canonical}
+use Rattle.capnp_pointers.proofs.WholeValue.RefusalsNamed.{not_for_size}
 use Rattle.capnp_copies.proofs.Growth.{covered_by}
 use Rattle.capnp_copies.proofs.WithinBudget.{covered_wanted}
 use Rattle.capnp_messages.specs.Canonicalize.{canonical_words}

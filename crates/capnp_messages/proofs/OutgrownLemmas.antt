@@ -9,20 +9,20 @@ use Rattle.capnp_format.specs.Segments.{Target}
 use Rattle.capnp_format.specs.Tree.{Tree, Trees, no_trees, tree, Elements, no_elements, element, count, element_count}
 use Rattle.capnp_format.specs.Means.{MeansElements}
 use Rattle.capnp_format.proofs.Levels.{one_value}
-use Rattle.capnp_objects.specs.declared.object.Purpose.TheVariants.{Value}
-use Rattle.capnp_objects.specs.Demands.{own_charge, tag}
-use Rattle.capnp_objects.specs.Enter.{shape}
-use Rattle.capnp_objects.specs.Faults.{child_at}
-use Rattle.capnp_objects.specs.Measure.{fold_children, fold_elements, fold_pointers}
-use Rattle.capnp_objects.specs.Metered.{Metered, onward}
-use Rattle.capnp_objects.specs.Outcomes.{Entered, Reads, ReadsAll, ReadsElements}
-use Rattle.capnp_objects.specs.Reading.{Reading, place_past, tag_size}
-use Rattle.capnp_objects.specs.Refusals.{GoesBefore, in_struct, in_pointers, in_element, StopsWithin, here, below}
-use Rattle.capnp_objects.specs.Spending.{after_charge, pointers_in, pointers_in_all, pointers_in_elements}
-use Rattle.capnp_objects.specs.Wanted.{canonical}
-use Rattle.capnp_objects.proofs.Budget.PaidAndLeft.{after_after, after_none, affords_rest, paid_all}
-use Rattle.capnp_objects.proofs.WholeValue.RefusalsNamed.{not_for_size}
-use Rattle.capnp_objects.proofs.WholeValue.UnreadableIfRefused.{unreadable, affords_less}
+use Rattle.capnp_pointers.specs.declared.object.Purpose.TheVariants.{Value}
+use Rattle.capnp_pointers.specs.Demands.{own_charge, tag}
+use Rattle.capnp_pointers.specs.Enter.{shape}
+use Rattle.capnp_pointers.specs.Faults.{child_at}
+use Rattle.capnp_pointers.specs.Measure.{fold_children, fold_elements, fold_pointers}
+use Rattle.capnp_pointers.specs.Metered.{Metered, onward}
+use Rattle.capnp_pointers.specs.Outcomes.{Entered, Reads, ReadsAll, ReadsElements}
+use Rattle.capnp_pointers.specs.Reading.{Reading, place_past, tag_size}
+use Rattle.capnp_pointers.specs.Refusals.{GoesBefore, in_struct, in_pointers, in_element, StopsWithin, here, below}
+use Rattle.capnp_pointers.specs.Spending.{after_charge, pointers_in, pointers_in_all, pointers_in_elements}
+use Rattle.capnp_pointers.specs.Wanted.{canonical}
+use Rattle.capnp_pointers.proofs.Budget.PaidAndLeft.{after_after, after_none, affords_rest, paid_all}
+use Rattle.capnp_pointers.proofs.WholeValue.RefusalsNamed.{not_for_size}
+use Rattle.capnp_pointers.proofs.WholeValue.UnreadableIfRefused.{unreadable, affords_less}
 use Rattle.capnp_copies.specs.Costs.{spent_before, spent_until}
 use Rattle.capnp_messages.specs.Fitting.{fit_within, made_words}
 use Rattle.capnp_messages.proofs.EndValueLemmas.{nothing_read, split}

@@ -10,23 +10,23 @@ use Rattle.capnp_format.specs.Tree.{Tree, Null, Capability, Struct, Flat, Pointe
 use Rattle.capnp_format.specs.Means.{IsTag, Means, MeansAll, MeansElements, count_cost}
 use Rattle.capnp_format.specs.Numbers.{words_for}
 use Rattle.capnp_format.specs.Path.{struct_at, tree_at}
-use Rattle.capnp_objects.specs.Demands.{Meets, claimed_words, own_charge, tag}
-use Rattle.capnp_objects.specs.Enter.{Shape, capability, flat, nothing, pointers, read, shape, struct, structs}
-use Rattle.capnp_objects.specs.Faults.{LeadsTo}
-use Rattle.capnp_objects.specs.Metered.{fits, onward, outcome}
-use Rattle.capnp_objects.specs.Outcomes.{MeansThere}
-use Rattle.capnp_objects.specs.Reading.{Reading, place_past}
-use Rattle.capnp_objects.specs.Refusals.{Stopped, claim_exceeds, count_exceeds, exceeding, no_target}
-use Rattle.capnp_objects.specs.Spending.{Paid, after_charge}
-use Rattle.capnp_objects.specs.Wanted.{FollowsTo, plain}
-use Rattle.capnp_objects.specs.declared.object.Purpose.TheVariants.{Value}
-use Rattle.capnp_objects.proofs.Budget.PaidAndLeft.{affords_none, affords_rest}
-use Rattle.capnp_objects.proofs.OneObject.ReadAsStated.{capability_is, entering_is, null_is, pads_are, stopped_is}
-use Rattle.capnp_objects.proofs.Following.FaultlessWhereMeant.{one_target}
-use Rattle.capnp_objects.proofs.Following.LeadsWhereFollowed.{leads_to}
-use Rattle.capnp_objects.proofs.OneObject.ReadInOneWay.{affords_or_not}
-use Rattle.capnp_objects.proofs.OneObject.PartsMeant.{claim_flat, claim_list, claim_struct, extra_flat, extra_list, extra_struct, is_capability, is_inner, is_null, means_parts}
-use Rattle.capnp_objects.proofs.WholeValue.UnreadableIfRefused.{affords_less}
+use Rattle.capnp_pointers.specs.Demands.{Meets, claimed_words, own_charge, tag}
+use Rattle.capnp_pointers.specs.Enter.{Shape, capability, flat, nothing, pointers, read, shape, struct, structs}
+use Rattle.capnp_pointers.specs.Faults.{LeadsTo}
+use Rattle.capnp_pointers.specs.Metered.{fits, onward, outcome}
+use Rattle.capnp_pointers.specs.Outcomes.{MeansThere}
+use Rattle.capnp_pointers.specs.Reading.{Reading, place_past}
+use Rattle.capnp_pointers.specs.Refusals.{Stopped, claim_exceeds, count_exceeds, exceeding, no_target}
+use Rattle.capnp_pointers.specs.Spending.{Paid, after_charge}
+use Rattle.capnp_pointers.specs.Wanted.{FollowsTo, plain}
+use Rattle.capnp_pointers.specs.declared.object.Purpose.TheVariants.{Value}
+use Rattle.capnp_pointers.proofs.Budget.PaidAndLeft.{affords_none, affords_rest}
+use Rattle.capnp_pointers.proofs.OneObject.ReadAsStated.{capability_is, entering_is, null_is, pads_are, stopped_is}
+use Rattle.capnp_pointers.proofs.Following.FaultlessWhereMeant.{one_target}
+use Rattle.capnp_pointers.proofs.Following.LeadsWhereFollowed.{leads_to}
+use Rattle.capnp_pointers.proofs.OneObject.ReadInOneWay.{affords_or_not}
+use Rattle.capnp_pointers.proofs.OneObject.PartsMeant.{claim_flat, claim_list, claim_struct, extra_flat, extra_list, extra_struct, is_capability, is_inner, is_null, means_parts}
+use Rattle.capnp_pointers.proofs.WholeValue.UnreadableIfRefused.{affords_less}
 use Rattle.capnp_messages.specs.EndValues.{EndMeans, end_place}
 use Rattle.capnp_messages.specs.Parts.{PathEnd, part_of, to_pointer, to_element, pointer_in, end_at, end_in, inside, follow_path, part}
 use Rattle.capnp_messages.specs.Roots.{CoversRoot, message_root, read_message_root}

@@ -5,18 +5,18 @@ use Rattle.capnp_format.specs.Segments.{segment}
 use Rattle.capnp_words.specs.declared.error.ErrorKind.{ErrorKind}
 use Rattle.capnp_words.specs.Meter.{Meter}
 use Rattle.capnp_arena_traits.specs.declared.arena.reader_arena.ReaderArena.{Ghosts}
-use Rattle.capnp_objects.specs.declared.object.Place.{Place}
-use Rattle.capnp_objects.specs.declared.object.Purpose.TheVariants.{Value}
-use Rattle.capnp_objects.specs.Enter.{Shape, read}
-use Rattle.capnp_objects.specs.Metered.{onward, outcome}
-use Rattle.capnp_objects.specs.declared.object.Object.TheVariants.{Struct as ObjectStruct, Pointers as ObjectPointers, Structs as ObjectStructs}
-use Rattle.capnp_objects.specs.Objects.{IsHeld, IsObjectRead}
-use Rattle.capnp_objects.specs.Reading.{Reading}
-use Rattle.capnp_objects.specs.Source.{levels}
-use Rattle.capnp_objects.specs.declared.pointers.Pointer.{Pointer}
-use Rattle.capnp_objects.specs.Pointers.{reading}
-use Rattle.capnp_objects.proofs.OneObject.PartsMeant.{claim_list, claim_struct}
-use Rattle.capnp_objects.proofs.WholeValue.WordsAdded.{row_within}
+use Rattle.capnp_pointers.specs.declared.object.Place.{Place}
+use Rattle.capnp_pointers.specs.declared.object.Purpose.TheVariants.{Value}
+use Rattle.capnp_pointers.specs.Enter.{Shape, read}
+use Rattle.capnp_pointers.specs.Metered.{onward, outcome}
+use Rattle.capnp_pointers.specs.declared.object.Object.TheVariants.{Struct as ObjectStruct, Pointers as ObjectPointers, Structs as ObjectStructs}
+use Rattle.capnp_pointers.specs.Objects.{IsHeld, IsObjectRead}
+use Rattle.capnp_pointers.specs.Reading.{Reading}
+use Rattle.capnp_pointers.specs.Source.{levels}
+use Rattle.capnp_pointers.specs.declared.pointers.Pointer.{Pointer}
+use Rattle.capnp_pointers.specs.Pointers.{reading}
+use Rattle.capnp_pointers.proofs.OneObject.PartsMeant.{claim_list, claim_struct}
+use Rattle.capnp_pointers.proofs.WholeValue.WordsAdded.{row_within}
 use Rattle.capnp_messages.specs.Parts.{end_in, inside, step, to_pointer}
 
 -- Element i of n elements of this width is inside the words of all.

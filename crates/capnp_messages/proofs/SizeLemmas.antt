@@ -7,18 +7,18 @@ use Rattle.capnp_words.specs.Meter.{FitsIn, Meter, less, unused}
 use Rattle.capnp_format.specs.Segments.{IsPlace, Segments, segment}
 use Rattle.capnp_arena_traits.specs.Checks.{misplaced}
 use Rattle.capnp_arena.specs.declared.arena.reader_arena_impl.ReaderOptions.{ReaderOptions}
-use Rattle.capnp_objects.specs.Metered.{fits, onward}
-use Rattle.capnp_objects.specs.Reading.{Reading}
-use Rattle.capnp_objects.specs.Source.{levels}
-use Rattle.capnp_objects.specs.declared.pointers.sizes.MessageSize.{MessageSize}
-use Rattle.capnp_objects.specs.Measure.{measure, only_words}
-use Rattle.capnp_objects.proofs.Sizes.CountsTheValue.{size_is}
+use Rattle.capnp_pointers.specs.Metered.{fits, onward}
+use Rattle.capnp_pointers.specs.Reading.{Reading}
+use Rattle.capnp_pointers.specs.Source.{levels}
+use Rattle.capnp_pointers.specs.declared.pointers.sizes.MessageSize.{MessageSize}
+use Rattle.capnp_pointers.specs.Measure.{measure, only_words}
+use Rattle.capnp_pointers.proofs.Sizes.CountsTheValue.{size_is}
 use Rattle.capnp_messages.specs.Roots.{CoversRoot, RefusesRoot, message_root, read_message_root}
 use Rattle.capnp_messages.specs.Roots.RefusesRoot.{no_root, no_budget}
 use Rattle.capnp_messages.specs.Messages.{HasSizeOf, HasSizeWithin, RefusesSize, message_size, root_within}
 use Rattle.capnp_format.specs.Means.{Means}
 use Rattle.capnp_format.specs.Tree.{Tree}
-use Rattle.capnp_objects.specs.ValueSize.{value_size}
+use Rattle.capnp_pointers.specs.ValueSize.{value_size}
 use Rattle.capnp_messages.proofs.MessageLemmas.{AtRoot}
 
 pub fits_one : (left : Option ℕ) → FitsIn left 1 → fits left 1 ≡ true

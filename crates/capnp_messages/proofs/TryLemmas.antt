@@ -12,10 +12,10 @@ use Rattle.capnp_format.specs.Canonical.{encoding, trim, word_count}
 use Rattle.capnp_format.specs.Segments.{Segments, segment}
 use Rattle.capnp_format.specs.Tree.{Tree}
 use Rattle.capnp_framing.specs.Reading.{total}
-use Rattle.capnp_objects.specs.Outcomes.{ReadsAll}
-use Rattle.capnp_objects.specs.Reading.{place_past}
-use Rattle.capnp_objects.specs.Spending.{after_charge, pointers_in_all}
-use Rattle.capnp_objects.specs.Wanted.{canonical, plain}
+use Rattle.capnp_pointers.specs.Outcomes.{ReadsAll}
+use Rattle.capnp_pointers.specs.Reading.{place_past}
+use Rattle.capnp_pointers.specs.Spending.{after_charge, pointers_in_all}
+use Rattle.capnp_pointers.specs.Wanted.{canonical, plain}
 use Rattle.capnp_messages.specs.Canonicalize.{end_value}
 use Rattle.capnp_messages.specs.Copies.{HoldsCanonicalWords, LacksMemoryOr, NeedsMoreRoom, RefusesCopy, is_message_too_large}
 use Rattle.capnp_messages.specs.EndValues.{EndReads, IsEndThere, end_place}

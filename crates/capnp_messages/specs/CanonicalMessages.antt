@@ -5,7 +5,7 @@ use Rattle.capnp_format.specs.Segments.{Segments}
 use Rattle.capnp_format.specs.Tree.{Tree, depth}
 use Rattle.capnp_format.specs.Value.{IsValue}
 use Rattle.capnp_format.specs.Canonical.{IsEncodable, HasNoCapabilities, IsTrimmed, charge, encoding}
-use Rattle.capnp_objects.specs.Spending.{Paid, pointers_in}
+use Rattle.capnp_pointers.specs.Spending.{Paid, pointers_in}
 
 -- S is the canonical message of t: one segment, which holds t's canonical words and nothing else
 -- ("Canonicalization").

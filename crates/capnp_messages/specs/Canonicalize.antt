@@ -9,11 +9,11 @@ use Rattle.capnp_format.specs.Segments.{Segments}
 use Rattle.capnp_format.specs.Tree.{Tree, Struct}
 use Rattle.capnp_arena_traits.specs.Allocations.{max_segment_words}
 use Rattle.capnp_arena.specs.declared.arena.reader_arena_impl.ReaderOptions.{ReaderOptions}
-use Rattle.capnp_objects.specs.Metered.{Metered, answer, demand, onward, ◌>>>◌}
-use Rattle.capnp_objects.specs.Reading.{place_past, words_from}
-use Rattle.capnp_objects.specs.Source.{levels}
-use Rattle.capnp_objects.specs.Values.{read_values, value}
-use Rattle.capnp_objects.specs.Wanted.{Form, canonical}
+use Rattle.capnp_pointers.specs.Metered.{Metered, answer, demand, onward, ◌>>>◌}
+use Rattle.capnp_pointers.specs.Reading.{place_past, words_from}
+use Rattle.capnp_pointers.specs.Source.{levels}
+use Rattle.capnp_pointers.specs.Values.{read_values, value}
+use Rattle.capnp_pointers.specs.Wanted.{Form, canonical}
 use Rattle.capnp_messages.specs.Parts.{PathEnd, to_element, to_pointer}
 use Rattle.capnp_messages.specs.Roots.{read_message_root}
 

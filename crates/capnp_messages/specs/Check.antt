@@ -5,14 +5,14 @@ use Rattle.capnp_words.specs.Meter.{unused}
 use Rattle.capnp_format.specs.Segments.{Segments, segment}
 use Rattle.capnp_format.specs.Tree.{Tree}
 use Rattle.capnp_arena.specs.declared.arena.reader_arena_impl.ReaderOptions.{ReaderOptions}
-use Rattle.capnp_objects.specs.Metered.{Metered, answer, ◌>>>◌}
-use Rattle.capnp_objects.specs.Source.{levels}
-use Rattle.capnp_objects.specs.Values.{value}
-use Rattle.capnp_objects.specs.Wanted.{plain}
-use Rattle.capnp_objects.specs.declared.pointers.canonical_fault.CanonicalFault.{CanonicalFault}
-use Rattle.capnp_objects.specs.declared.pointers.canonical_fault.CanonicalFaultReason.TheVariants.{SegmentCount}
-use Rattle.capnp_objects.specs.declared.pointers.canonical_fault.CanonicalFaultReason.TheVariants.{WordsBehind}
-use Rattle.capnp_objects.specs.Testing.{Verdict, test_value}
+use Rattle.capnp_pointers.specs.Metered.{Metered, answer, ◌>>>◌}
+use Rattle.capnp_pointers.specs.Source.{levels}
+use Rattle.capnp_pointers.specs.Values.{value}
+use Rattle.capnp_pointers.specs.Wanted.{plain}
+use Rattle.capnp_pointers.specs.declared.pointers.canonical_fault.CanonicalFault.{CanonicalFault}
+use Rattle.capnp_pointers.specs.declared.pointers.canonical_fault.CanonicalFaultReason.TheVariants.{SegmentCount}
+use Rattle.capnp_pointers.specs.declared.pointers.canonical_fault.CanonicalFaultReason.TheVariants.{WordsBehind}
+use Rattle.capnp_pointers.specs.Testing.{Verdict, test_value}
 use Rattle.capnp_messages.specs.Roots.{read_message_root}
 
 -- The fault of S, a message of one segment, by what the test at its root has found: words may not

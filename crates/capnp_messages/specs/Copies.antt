@@ -9,7 +9,7 @@ use Rattle.capnp_format.specs.Canonical.{trim, encoding}
 use Rattle.capnp_format.specs.Tree.{Tree}
 use Rattle.capnp_arena_traits.specs.Allocations.{one_more}
 use Rattle.capnp_arena_traits.specs.View.{View}
-use Rattle.capnp_objects.specs.Wanted.{canonical, plain}
+use Rattle.capnp_pointers.specs.Wanted.{canonical, plain}
 use Rattle.capnp_messages.specs.Canonicalize.{canonical_words, end_value}
 use Rattle.capnp_messages.specs.Fitting.{fit_end}
 use Rattle.capnp_messages.specs.Parts.{PathEnd}

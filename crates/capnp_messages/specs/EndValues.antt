@@ -6,12 +6,12 @@ use Rattle.capnp_words.specs.Meter.{Meter}
 use Rattle.capnp_format.specs.Means.{MeansAll}
 use Rattle.capnp_format.specs.Segments.{HasWords}
 use Rattle.capnp_format.specs.Tree.{Tree, Trees, Struct, count}
-use Rattle.capnp_objects.specs.Metered.{Metered}
-use Rattle.capnp_objects.specs.Outcomes.{MeansThere, Reads, ReadsAll}
-use Rattle.capnp_objects.specs.Reading.{Reading, place_past, segment_read, words_from}
-use Rattle.capnp_objects.specs.Wanted.{canonical}
-use Rattle.capnp_objects.specs.Measure.{measure, measure_pointers, only_words}
-use Rattle.capnp_objects.specs.declared.pointers.sizes.MessageSize.{MessageSize}
+use Rattle.capnp_pointers.specs.Metered.{Metered}
+use Rattle.capnp_pointers.specs.Outcomes.{MeansThere, Reads, ReadsAll}
+use Rattle.capnp_pointers.specs.Reading.{Reading, place_past, segment_read, words_from}
+use Rattle.capnp_pointers.specs.Wanted.{canonical}
+use Rattle.capnp_pointers.specs.Measure.{measure, measure_pointers, only_words}
+use Rattle.capnp_pointers.specs.declared.pointers.sizes.MessageSize.{MessageSize}
 use Rattle.capnp_copies.specs.Originals.{Original, sections_original, value_original}
 use Rattle.capnp_messages.specs.Parts.{PathEnd, to_element, to_pointer}
 

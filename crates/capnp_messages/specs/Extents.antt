@@ -6,10 +6,10 @@ use Rattle.capnp_format.specs.Means.{Means}
 use Rattle.capnp_format.specs.Segments.{Segments}
 use Rattle.capnp_format.specs.Tree.{Tree}
 use Rattle.capnp_arena.specs.declared.arena.reader_arena_impl.ReaderOptions.{ReaderOptions}
-use Rattle.capnp_objects.specs.Metered.{Metered, ◌>>>◌}
-use Rattle.capnp_objects.specs.Source.{levels}
-use Rattle.capnp_objects.specs.Extents.{value_extent, read_extent}
-use Rattle.capnp_objects.specs.declared.pointers.validate.Extent.{Extent}
+use Rattle.capnp_pointers.specs.Metered.{Metered, ◌>>>◌}
+use Rattle.capnp_pointers.specs.Source.{levels}
+use Rattle.capnp_pointers.specs.Extents.{value_extent, read_extent}
+use Rattle.capnp_pointers.specs.declared.pointers.validate.Extent.{Extent}
 use Rattle.capnp_messages.specs.Roots.{read_message_root}
 use Rattle.capnp_messages.specs.declared.messages.validation.MessageExtent.{MessageExtent}
 

@@ -7,14 +7,14 @@ use Rattle.capnp_words.specs.declared.error.ErrorKind.TheVariants.{MessageTooLar
 use Rattle.capnp_format.specs.Canonical.{used_words}
 use Rattle.capnp_format.specs.Numbers.{words_for}
 use Rattle.capnp_format.specs.Segments.{Segments, segment, words_at}
-use Rattle.capnp_objects.specs.declared.object.Purpose.TheVariants.{Value}
-use Rattle.capnp_objects.specs.Demands.{own_charge}
-use Rattle.capnp_objects.specs.Enter.{Shape, nothing, struct, flat, pointers, structs, read}
-use Rattle.capnp_objects.specs.Measure.{fold_children, fold_pointers}
-use Rattle.capnp_objects.specs.Metered.{Metered, answer, ◌>>>◌, demand}
-use Rattle.capnp_objects.specs.Reading.{Reading, place_past}
-use Rattle.capnp_objects.specs.Values.{permit}
-use Rattle.capnp_objects.specs.Wanted.{canonical, follow_at}
+use Rattle.capnp_pointers.specs.declared.object.Purpose.TheVariants.{Value}
+use Rattle.capnp_pointers.specs.Demands.{own_charge}
+use Rattle.capnp_pointers.specs.Enter.{Shape, nothing, struct, flat, pointers, structs, read}
+use Rattle.capnp_pointers.specs.Measure.{fold_children, fold_pointers}
+use Rattle.capnp_pointers.specs.Metered.{Metered, answer, ◌>>>◌, demand}
+use Rattle.capnp_pointers.specs.Reading.{Reading, place_past}
+use Rattle.capnp_pointers.specs.Values.{permit}
+use Rattle.capnp_pointers.specs.Wanted.{canonical, follow_at}
 use Rattle.capnp_copies.specs.Widths.{most_used}
 use Rattle.capnp_messages.specs.Parts.{PathEnd, to_element, to_pointer}
 

@@ -11,22 +11,22 @@ use Rattle.capnp_format.specs.Canonical.{encoding, trim, used_words}
 use Rattle.capnp_format.specs.Tree.{Tree}
 use Rattle.capnp_arena_traits.specs.Allocations.{max_segment_words}
 use Rattle.capnp_format.specs.Numbers.{words_for}
-use Rattle.capnp_objects.specs.declared.object.Place.{Place}
-use Rattle.capnp_objects.specs.declared.object.Object.{Object}
-use Rattle.capnp_objects.specs.declared.object.Object.TheVariants.{Null as ObjectNull}
-use Rattle.capnp_objects.specs.declared.object.Object.TheVariants.{Capability as ObjectCapability}
-use Rattle.capnp_objects.specs.declared.object.Object.TheVariants.{Struct as ObjectStruct}
-use Rattle.capnp_objects.specs.declared.object.Object.TheVariants.{Flat as ObjectFlat}
-use Rattle.capnp_objects.specs.declared.object.Object.TheVariants.{Pointers as ObjectPointers}
-use Rattle.capnp_objects.specs.declared.object.Object.TheVariants.{Structs as ObjectStructs}
-use Rattle.capnp_objects.specs.declared.object.Purpose.TheVariants.{Value}
-use Rattle.capnp_objects.specs.Enter.{Shape, capability, struct, read}
-use Rattle.capnp_objects.specs.Measure.{fold_children, fold_elements, fold_pointers}
-use Rattle.capnp_objects.specs.Metered.{Metered, answer, ◌>>>◌, demand}
-use Rattle.capnp_objects.specs.Objects.{IsFew}
-use Rattle.capnp_objects.specs.Reading.{Reading, place_past}
-use Rattle.capnp_objects.specs.Values.{permit}
-use Rattle.capnp_objects.specs.Wanted.{canonical}
+use Rattle.capnp_pointers.specs.declared.object.Place.{Place}
+use Rattle.capnp_pointers.specs.declared.object.Object.{Object}
+use Rattle.capnp_pointers.specs.declared.object.Object.TheVariants.{Null as ObjectNull}
+use Rattle.capnp_pointers.specs.declared.object.Object.TheVariants.{Capability as ObjectCapability}
+use Rattle.capnp_pointers.specs.declared.object.Object.TheVariants.{Struct as ObjectStruct}
+use Rattle.capnp_pointers.specs.declared.object.Object.TheVariants.{Flat as ObjectFlat}
+use Rattle.capnp_pointers.specs.declared.object.Object.TheVariants.{Pointers as ObjectPointers}
+use Rattle.capnp_pointers.specs.declared.object.Object.TheVariants.{Structs as ObjectStructs}
+use Rattle.capnp_pointers.specs.declared.object.Purpose.TheVariants.{Value}
+use Rattle.capnp_pointers.specs.Enter.{Shape, capability, struct, read}
+use Rattle.capnp_pointers.specs.Measure.{fold_children, fold_elements, fold_pointers}
+use Rattle.capnp_pointers.specs.Metered.{Metered, answer, ◌>>>◌, demand}
+use Rattle.capnp_pointers.specs.Objects.{IsFew}
+use Rattle.capnp_pointers.specs.Reading.{Reading, place_past}
+use Rattle.capnp_pointers.specs.Values.{permit}
+use Rattle.capnp_pointers.specs.Wanted.{canonical}
 use Rattle.capnp_copies.specs.Widths.{most_used}
 use Rattle.capnp_messages.specs.Canonicalize.{end_value}
 use Rattle.capnp_messages.specs.Fitting.{made_words}

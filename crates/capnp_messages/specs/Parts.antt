@@ -8,10 +8,10 @@ use Rattle.capnp_words.specs.declared.error.ErrorKind.TheVariants.{NoSuchPlace}
 use Rattle.capnp_format.specs.Path.{struct_at, tree_at}
 use Rattle.capnp_format.specs.Segments.{Segments}
 use Rattle.capnp_format.specs.Tree.{Tree, Struct, Pointers, Structs, count, element_count}
-use Rattle.capnp_objects.specs.declared.object.Purpose.TheVariants.{Value}
-use Rattle.capnp_objects.specs.Enter.{Shape, struct, pointers, structs, read}
-use Rattle.capnp_objects.specs.Metered.{Metered, answer, outcome, ◌>>>◌}
-use Rattle.capnp_objects.specs.Reading.{Reading, place_past}
+use Rattle.capnp_pointers.specs.declared.object.Purpose.TheVariants.{Value}
+use Rattle.capnp_pointers.specs.Enter.{Shape, struct, pointers, structs, read}
+use Rattle.capnp_pointers.specs.Metered.{Metered, answer, outcome, ◌>>>◌}
+use Rattle.capnp_pointers.specs.Reading.{Reading, place_past}
 use Rattle.capnp_messages.specs.Roots.{read_message_root}
 
 -- The value that a path leads to in the value t, if it leads anywhere.

@@ -2,9 +2,9 @@
 use Rattle.std.specs.Prelude.{Result, Ok, Err}
 use Rattle.capnp_words.specs.declared.error.ErrorKind.{ErrorKind}
 use Rattle.capnp_arena_traits.specs.declared.arena.reader_arena.ReaderArena.{Ghosts}
-use Rattle.capnp_objects.specs.Reading.{Reading}
-use Rattle.capnp_objects.specs.declared.pointers.Pointer.{Pointer}
-use Rattle.capnp_objects.specs.Pointers.{reading}
+use Rattle.capnp_pointers.specs.Reading.{Reading}
+use Rattle.capnp_pointers.specs.declared.pointers.Pointer.{Pointer}
+use Rattle.capnp_pointers.specs.Pointers.{reading}
 use Rattle.capnp_messages.specs.Parts.{PathEnd, to_pointer, to_element}
 use Rattle.capnp_messages.specs.declared.messages.path.Reached.{Reached}
 use Rattle.capnp_messages.specs.declared.messages.path.Reached.TheVariants.{Pointer as AtPointer}

@@ -6,8 +6,8 @@ use Rattle.capnp_words.specs.declared.error.ErrorKind.TheVariants.{ReadLimitExce
 use Rattle.capnp_words.specs.Meter.{FitsIn}
 use Rattle.capnp_format.specs.Segments.{Segments, segment, IsPlace}
 use Rattle.capnp_arena_traits.specs.Checks.{misplaced}
-use Rattle.capnp_objects.specs.Metered.{Metered, answer, ◌>>>◌, charge_words, demand}
-use Rattle.capnp_objects.specs.Reading.{Reading}
+use Rattle.capnp_pointers.specs.Metered.{Metered, answer, ◌>>>◌, charge_words, demand}
+use Rattle.capnp_pointers.specs.Reading.{Reading}
 
 -- The root of S, for a reading that is charged and may enter n levels.
 abbrev pub message_root : Segments → ℕ → Reading

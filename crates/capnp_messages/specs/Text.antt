@@ -5,7 +5,7 @@ use mir.Val.{SFits as FitsSigned}
 use mir.Syntax.{w32}
 use Rattle.std.specs.Fmt.{decimal}
 use Rattle.std.specs.Str.Parse.{IsNumeral, digits_value, starts_with_minus}
-use Rattle.capnp_objects.specs.declared.pointers.validate.Extent.{Extent}
+use Rattle.capnp_pointers.specs.declared.pointers.validate.Extent.{Extent}
 
 -- The text of the nesting limit n: an optional '-' and one or more decimal digits, with a value of
 -- i32.

@@ -4,7 +4,7 @@ use Rattle.capnp_arena_traits.specs.Allocations.{max_segment_words}
 use Rattle.capnp_arena_traits.specs.View.{View}
 use Rattle.capnp_format.specs.Segments.{segment}
 use Rattle.capnp_framing.specs.Reading.{total}
-use Rattle.capnp_objects.specs.Reading.{Reading}
+use Rattle.capnp_pointers.specs.Reading.{Reading}
 
 -- The words that the first try requests for a source of `words` words: one more than these, and
 -- none more than a segment can have.

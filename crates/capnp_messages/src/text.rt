@@ -5,7 +5,7 @@ ghost use Rattle.capnp_framing.specs.Writing.{Writes};
 ghost use Rattle.capnp_messages.specs.Text.{IsBudget, IsNesting, extent_line, size_line};
 
 use capnp_framing::devices::{DeviceFault, Output, write_all};
-use capnp_objects::pointers::{Extent, MessageSize};
+use capnp_pointers::pointers::{Extent, MessageSize};
 
 /// Parses a nesting limit: an `i32` in decimal digits with an optional `-`. Returns `None` for any
 /// other text, also for one with a `+`.

@@ -5,18 +5,18 @@ use Rattle.std.proofs.lemmas.Bool.{ne_eqb}
 use Rattle.capnp_words.specs.declared.error.ErrorKind.{ErrorKind}
 use Rattle.capnp_words.specs.Meter.{Meter}
 use Rattle.capnp_arena_traits.specs.declared.arena.reader_arena.ReaderArena.{Ghosts}
-use Rattle.capnp_objects.specs.declared.object.Expected.TheVariants.{Struct as ExpectsStruct, List as ExpectsList}
-use Rattle.capnp_objects.specs.declared.object.Object.{Object}
-use Rattle.capnp_objects.specs.declared.source.Source.TheVariants.{Default}
+use Rattle.capnp_pointers.specs.declared.object.Expected.TheVariants.{Struct as ExpectsStruct, List as ExpectsList}
+use Rattle.capnp_pointers.specs.declared.object.Object.{Object}
+use Rattle.capnp_pointers.specs.declared.source.Source.TheVariants.{Default}
 use Rattle.capnp_words.specs.declared.wire_pointer.StructSize.{StructSize}
 use Rattle.capnp_words.specs.Sizes.{size_number}
-use Rattle.capnp_objects.proofs.Decided.{within_or_not}
+use Rattle.capnp_pointers.proofs.Decided.{within_or_not}
 use Rattle.capnp_words.specs.declared.wire_pointer.ElementSize.{ElementSize}
 use Rattle.capnp_words.specs.declared.wire_pointer.ElementSize.TheVariants.{Void, Bit, Byte, TwoBytes, FourBytes, EightBytes, Pointer, InlineComposite}
-use Rattle.capnp_objects.specs.Expected.{Expectation, list_expected, HasExpected, IsExpected, narrow_elements, narrow_structs}
+use Rattle.capnp_pointers.specs.Expected.{Expectation, list_expected, HasExpected, IsExpected, narrow_elements, narrow_structs}
 use Rattle.capnp_format.specs.Numbers.{element_bits}
-use Rattle.capnp_objects.specs.Reading.{source_start, word_of, tag_size}
-use Rattle.capnp_objects.specs.Source.{default_segment, levels}
+use Rattle.capnp_pointers.specs.Reading.{source_start, word_of, tag_size}
+use Rattle.capnp_pointers.specs.Source.{default_segment, levels}
 use Rattle.capnp_readers.specs.Readers.{read_by, IsTargetList, IsTarget}
 use Rattle.capnp_readers.specs.Calls.{Call, IsRead, of_pointer, of_default, short_default, of_null_default, WhereRead, IsRefused}
 use Rattle.capnp_readers.specs.Sections.{HoldsPointer, data_bits}
@@ -26,10 +26,10 @@ use Rattle.capnp_readers.specs.declared.readers.list_reader.ListReader.{ListRead
 use Rattle.capnp_readers.specs.declared.readers.struct_reader.StructReader.{StructReader}
 use Rattle.capnp_readers.specs.declared.readers.target.Target.{Target as ReadTarget}
 use Rattle.capnp_readers.specs.declared.readers.target.Target.TheVariants.{Null as NullTarget, Cap as CapTarget, Struct as StructTarget, List as ListTarget}
-use Rattle.capnp_objects.proofs.OneObject.ExpectedAsStated.{not_withheld}
-use Rattle.capnp_objects.proofs.OneObject.ExpectedBySteps.{IsReadAt, struct_or_null, list_or_null, given_fits}
-use Rattle.capnp_objects.proofs.Following.FaultlessWhereMeant.{same_target}
-use Rattle.capnp_objects.proofs.Following.LeadsWhereFollowed.{entered_leads, leads_there}
+use Rattle.capnp_pointers.proofs.OneObject.ExpectedAsStated.{not_withheld}
+use Rattle.capnp_pointers.proofs.OneObject.ExpectedBySteps.{IsReadAt, struct_or_null, list_or_null, given_fits}
+use Rattle.capnp_pointers.proofs.Following.FaultlessWhereMeant.{same_target}
+use Rattle.capnp_pointers.proofs.Following.LeadsWhereFollowed.{entered_leads, leads_there}
 
 -- Elements of the size `found`, with these sections if they are structs, are at least as wide as
 -- those of the expected size.

@@ -14,17 +14,17 @@ use Rattle.capnp_format.proofs.BytesLemmas.{words_are_bytes}
 use Rattle.capnp_format.proofs.WordsOf.{words_of-part}
 use Rattle.capnp_format.proofs.Digits.{low, high}
 use Rattle.capnp_words.specs.declared.wire_pointer.ElementSize.TheVariants.{Byte}
-use Rattle.capnp_objects.specs.Demands.{claimed_words}
-use Rattle.capnp_objects.specs.Faults.{LeadsTo}
-use Rattle.capnp_objects.specs.declared.object.Object.TheVariants.{Flat as ObjectFlat}
-use Rattle.capnp_objects.specs.declared.object.Place.{Place}
-use Rattle.capnp_objects.specs.Outcomes.{Entered, MeansThere}
-use Rattle.capnp_objects.specs.Reading.{Reading}
-use Rattle.capnp_objects.specs.declared.object.Purpose.TheVariants.{Value}
-use Rattle.capnp_objects.proofs.OneObject.ExpectedBySteps.{one_level, IsReadAt}
-use Rattle.capnp_objects.proofs.Following.FaultlessWhereMeant.{same_target}
-use Rattle.capnp_objects.proofs.Following.LeadsWhereFollowed.{entered_leads}
-use Rattle.capnp_objects.proofs.OneObject.PartsMeant.{claim_list, claim_flat}
+use Rattle.capnp_pointers.specs.Demands.{claimed_words}
+use Rattle.capnp_pointers.specs.Faults.{LeadsTo}
+use Rattle.capnp_pointers.specs.declared.object.Object.TheVariants.{Flat as ObjectFlat}
+use Rattle.capnp_pointers.specs.declared.object.Place.{Place}
+use Rattle.capnp_pointers.specs.Outcomes.{Entered, MeansThere}
+use Rattle.capnp_pointers.specs.Reading.{Reading}
+use Rattle.capnp_pointers.specs.declared.object.Purpose.TheVariants.{Value}
+use Rattle.capnp_pointers.proofs.OneObject.ExpectedBySteps.{one_level, IsReadAt}
+use Rattle.capnp_pointers.proofs.Following.FaultlessWhereMeant.{same_target}
+use Rattle.capnp_pointers.proofs.Following.LeadsWhereFollowed.{entered_leads}
+use Rattle.capnp_pointers.proofs.OneObject.PartsMeant.{claim_list, claim_flat}
 use Rattle.capnp_readers.specs.Calls.{Call, WhereRead, AreBytesRead}
 use Rattle.capnp_readers.specs.Readers.{read_by}
 use Rattle.capnp_readers.specs.Values.{HasValue, list_numbers, place_read}

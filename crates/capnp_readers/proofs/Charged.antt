@@ -5,22 +5,22 @@ use Rattle.capnp_words.specs.declared.error.ErrorKind.{ErrorKind}
 use Rattle.capnp_words.specs.Sizes.{sized}
 use Rattle.capnp_format.specs.Numbers.{words_for}
 use Rattle.capnp_format.specs.Word.{kind, list_count}
-use Rattle.capnp_objects.specs.Enter.{Shape, nothing, capability, struct, flat, pointers, structs, read}
-use Rattle.capnp_objects.specs.Metered.{Metered, answer, onward}
-use Rattle.capnp_objects.specs.Reading.{Reading, place_past, segment_read, word_of}
-use Rattle.capnp_objects.specs.Refusals.{exceeding, leading_nowhere, Stopped, no_target, broken, claim_exceeds, count_exceeds}
-use Rattle.capnp_objects.specs.Wanted.{plain}
-use Rattle.capnp_objects.specs.declared.object.Purpose.TheVariants.{Value}
-use Rattle.capnp_objects.specs.Spending.{Paid}
-use Rattle.capnp_objects.proofs.Budget.PaidAndLeft.{affords_none, after_none, paid_both, paid_own}
-use Rattle.capnp_objects.proofs.OneObject.ReadAsStated.{capability_is, entering_is, null_is, stopped_is}
-use Rattle.capnp_objects.proofs.Decided.{same_or_not}
-use Rattle.capnp_objects.proofs.OneObject.ReadInOneWay.{Ends, at_capability, at_object, refused, ends}
-use Rattle.capnp_objects.specs.CanonicalFaults.{other_reason}
-use Rattle.capnp_objects.specs.Testing.{TestStep, Verdict, elements_tested, fault_unless, flat_tested, is_padded, is_used, near_tested, object_tested, pointers_tested, renamed, rows_tested, some_used, struct_tested, structs_tested, test_values, test_within, unless_fault}
-use Rattle.capnp_objects.specs.Measure.{fold_elements, fold_pointers}
-use Rattle.capnp_objects.specs.declared.pointers.canonical_fault.CanonicalFaultReason.{CanonicalFaultReason}
-use Rattle.capnp_objects.specs.declared.pointers.canonical_fault.CanonicalFaultReason.TheVariants.{DataSection, ElementData, ElementPointers, ElementWords, EmptyStructPlace, NoPointer, ObjectPlace, Padding, PointerSection}
+use Rattle.capnp_pointers.specs.Enter.{Shape, nothing, capability, struct, flat, pointers, structs, read}
+use Rattle.capnp_pointers.specs.Metered.{Metered, answer, onward}
+use Rattle.capnp_pointers.specs.Reading.{Reading, place_past, segment_read, word_of}
+use Rattle.capnp_pointers.specs.Refusals.{exceeding, leading_nowhere, Stopped, no_target, broken, claim_exceeds, count_exceeds}
+use Rattle.capnp_pointers.specs.Wanted.{plain}
+use Rattle.capnp_pointers.specs.declared.object.Purpose.TheVariants.{Value}
+use Rattle.capnp_pointers.specs.Spending.{Paid}
+use Rattle.capnp_pointers.proofs.Budget.PaidAndLeft.{affords_none, after_none, paid_both, paid_own}
+use Rattle.capnp_pointers.proofs.OneObject.ReadAsStated.{capability_is, entering_is, null_is, stopped_is}
+use Rattle.capnp_pointers.proofs.Decided.{same_or_not}
+use Rattle.capnp_pointers.proofs.OneObject.ReadInOneWay.{Ends, at_capability, at_object, refused, ends}
+use Rattle.capnp_pointers.specs.CanonicalFaults.{other_reason}
+use Rattle.capnp_pointers.specs.Testing.{TestStep, Verdict, elements_tested, fault_unless, flat_tested, is_padded, is_used, near_tested, object_tested, pointers_tested, renamed, rows_tested, some_used, struct_tested, structs_tested, test_values, test_within, unless_fault}
+use Rattle.capnp_pointers.specs.Measure.{fold_elements, fold_pointers}
+use Rattle.capnp_pointers.specs.declared.pointers.canonical_fault.CanonicalFaultReason.{CanonicalFaultReason}
+use Rattle.capnp_pointers.specs.declared.pointers.canonical_fault.CanonicalFaultReason.TheVariants.{DataSection, ElementData, ElementPointers, ElementWords, EmptyStructPlace, NoPointer, ObjectPlace, Padding, PointerSection}
 
 -- From m to m' g words were granted and i pointers counted.
 abbrev pub IsCharged : Bool → Meter → Meter → Type 0

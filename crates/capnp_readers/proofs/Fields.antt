@@ -11,7 +11,7 @@ use Rattle.capnp_format.specs.Numbers.{from_digits}
 use Rattle.capnp_format.specs.Tree.{Tree}
 use Rattle.capnp_format.specs.Fields.{field_in}
 use Rattle.capnp_format.proofs.FieldBytes.{in_one_word, bytes_read, byte_as_digit, bit_at-mod}
-use Rattle.capnp_objects.proofs.Decided.{within_or_not}
+use Rattle.capnp_pointers.proofs.Decided.{within_or_not}
 use Rattle.capnp_readers.specs.Sections.{IsInside, bytes_for, bit_at}
 use Rattle.capnp_readers.specs.Values.{struct_data, ShowsStructOf}
 use Rattle.capnp_readers.specs.declared.readers.struct_reader.StructReader.{StructReader}

@@ -7,19 +7,19 @@ use Rattle.capnp_words.specs.declared.wire_pointer.ElementSize.{ElementSize}
 use Rattle.capnp_format.specs.Segments.{Target}
 use Rattle.capnp_format.specs.Tree.{Tree, Null, Capability, Struct, Flat, Pointers, Structs}
 use Rattle.capnp_format.specs.Word.{kind, element_size}
-use Rattle.capnp_objects.specs.Demands.{own_charge}
-use Rattle.capnp_objects.specs.Expected.{struct_expected, list_expected, narrow_structs, narrow_elements, HasExpected, null_pointer, fitting}
-use Rattle.capnp_objects.specs.Faults.{LeadsTo}
-use Rattle.capnp_objects.specs.Outcomes.{MeansThere, Entered}
-use Rattle.capnp_objects.specs.Reading.{Reading, word_of, tag_size}
+use Rattle.capnp_pointers.specs.Demands.{own_charge}
+use Rattle.capnp_pointers.specs.Expected.{struct_expected, list_expected, narrow_structs, narrow_elements, HasExpected, null_pointer, fitting}
+use Rattle.capnp_pointers.specs.Faults.{LeadsTo}
+use Rattle.capnp_pointers.specs.Outcomes.{MeansThere, Entered}
+use Rattle.capnp_pointers.specs.Reading.{Reading, word_of, tag_size}
 use Rattle.capnp_words.specs.Sizes.{sized}
-use Rattle.capnp_objects.specs.Spending.{after_charge}
-use Rattle.capnp_objects.specs.declared.object.Purpose.TheVariants.{Value}
-use Rattle.capnp_objects.proofs.OneObject.ExpectedBySteps.{one_level}
-use Rattle.capnp_objects.proofs.Following.FaultlessWhereMeant.{same_target}
-use Rattle.capnp_objects.proofs.Following.LeadsWhereFollowed.{leads_to}
-use Rattle.capnp_objects.proofs.OneObject.PartsMeant.{Inner, Parts, is_null, is_capability, is_inner, means_parts}
-use Rattle.capnp_objects.proofs.WholeValue.UnreadableIfRefused.{affords_less}
+use Rattle.capnp_pointers.specs.Spending.{after_charge}
+use Rattle.capnp_pointers.specs.declared.object.Purpose.TheVariants.{Value}
+use Rattle.capnp_pointers.proofs.OneObject.ExpectedBySteps.{one_level}
+use Rattle.capnp_pointers.proofs.Following.FaultlessWhereMeant.{same_target}
+use Rattle.capnp_pointers.proofs.Following.LeadsWhereFollowed.{leads_to}
+use Rattle.capnp_pointers.proofs.OneObject.PartsMeant.{Inner, Parts, is_null, is_capability, is_inner, means_parts}
+use Rattle.capnp_pointers.proofs.WholeValue.UnreadableIfRefused.{affords_less}
 use Rattle.capnp_readers.specs.Values.{IsStructOrNull, FitsSize}
 
 -- a call isn't refused for the level or the kind if there is what it expects

@@ -15,15 +15,15 @@ use Rattle.capnp_format.specs.Tree.{Tree, Null, Capability, Struct, Flat, Pointe
 use Rattle.capnp_format.specs.Word.{kind, element_size, offset_bits, list_count}
 use Rattle.capnp_format.specs.Path.{tree_at, struct_at, next, Child}
 use Rattle.capnp_format.proofs.Children.{means_child, means_element_child}
-use Rattle.capnp_objects.specs.Demands.{tag}
-use Rattle.capnp_objects.specs.Faults.{LeadsTo, child_at}
-use Rattle.capnp_objects.specs.Outcomes.{MeansThere}
-use Rattle.capnp_objects.specs.Reading.{Reading, place_past, tag_size}
-use Rattle.capnp_objects.specs.Rows.{rows_sized}
-use Rattle.capnp_objects.specs.Source.{levels}
-use Rattle.capnp_objects.proofs.Following.FaultlessWhereMeant.{same_target}
-use Rattle.capnp_objects.proofs.Following.LeadsWhereFollowed.{entered_leads}
-use Rattle.capnp_objects.proofs.WholeValue.Shorthands.{MeanThere}
+use Rattle.capnp_pointers.specs.Demands.{tag}
+use Rattle.capnp_pointers.specs.Faults.{LeadsTo, child_at}
+use Rattle.capnp_pointers.specs.Outcomes.{MeansThere}
+use Rattle.capnp_pointers.specs.Reading.{Reading, place_past, tag_size}
+use Rattle.capnp_pointers.specs.Rows.{rows_sized}
+use Rattle.capnp_pointers.specs.Source.{levels}
+use Rattle.capnp_pointers.proofs.Following.FaultlessWhereMeant.{same_target}
+use Rattle.capnp_pointers.proofs.Following.LeadsWhereFollowed.{entered_leads}
+use Rattle.capnp_pointers.proofs.WholeValue.Shorthands.{MeanThere}
 use Rattle.capnp_readers.specs.Calls.{Call, WhereRead, IsListRead}
 use Rattle.capnp_readers.specs.Readers.{read_by, IsTargetList, ShowsList, ShowsElement}
 use Rattle.capnp_readers.specs.Sections.{HoldsPointer, pointers_offset, elements_words}
@@ -35,7 +35,7 @@ use Rattle.capnp_readers.specs.declared.readers.list_reader.ListReader.{ListRead
 use Rattle.capnp_readers.proofs.Answering.{read_at}
 use Rattle.capnp_readers.proofs.Sections.{flat_words}
 use Rattle.capnp_readers.proofs.Values.{tree_means}
-use Rattle.capnp_objects.proofs.Budget.LevelsLeft.{level_less}
+use Rattle.capnp_pointers.proofs.Budget.LevelsLeft.{level_less}
 
 -- Element i of a list of structs is at its place.
 pub record ElementThere (r : Reading) (d q : ℕ) (es : Elements) (i : ℕ) : Type 0 where

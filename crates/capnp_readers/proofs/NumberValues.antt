@@ -21,7 +21,7 @@ use Rattle.capnp_format.proofs.BytesLemmas.{words_are_bytes}
 use Rattle.capnp_format.proofs.LawLemmas.{element_is_bits}
 use Rattle.capnp_format.proofs.Lies.{pow_pow}
 use Rattle.capnp_format.proofs.FieldBytes.{cut, below_drop}
-use Rattle.capnp_objects.proofs.Decided.{within_or_not}
+use Rattle.capnp_pointers.proofs.Decided.{within_or_not}
 use Rattle.capnp_readers.proofs.Elements.{bit_within, whole_step}
 use Rattle.capnp_format.proofs.WordsOf.{words, words_of-part}
 use Rattle.capnp_format.specs.Path.{struct_at}

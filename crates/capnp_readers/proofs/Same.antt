@@ -10,13 +10,13 @@ use Rattle.capnp_format.proofs.Trimmed.{trim-depth}
 use Rattle.capnp_format.proofs.Unique.{Standing, for_offset}
 use Rattle.capnp_format.proofs.LawLemmas.{canonical_cost, one_stands}
 use Rattle.capnp_words.specs.Meter.{Meter, Affords}
-use Rattle.capnp_objects.specs.Outcomes.{MeansThere, Reads}
-use Rattle.capnp_objects.specs.Reading.{Reading, word_of, segment_read}
-use Rattle.capnp_objects.specs.Wanted.{canonical}
-use Rattle.capnp_objects.proofs.Budget.PaidAndLeft.{affords_rest}
-use Rattle.capnp_objects.proofs.WholeValue.WordsAdded.{paid_none}
-use Rattle.capnp_objects.specs.Checking.{Progress, progress, Finds, CanBeFound}
-use Rattle.capnp_objects.proofs.CanonicalForm.MeansWhatStands.{stands_means_at}
+use Rattle.capnp_pointers.specs.Outcomes.{MeansThere, Reads}
+use Rattle.capnp_pointers.specs.Reading.{Reading, word_of, segment_read}
+use Rattle.capnp_pointers.specs.Wanted.{canonical}
+use Rattle.capnp_pointers.proofs.Budget.PaidAndLeft.{affords_rest}
+use Rattle.capnp_pointers.proofs.WholeValue.WordsAdded.{paid_none}
+use Rattle.capnp_pointers.specs.Checking.{Progress, progress, Finds, CanBeFound}
+use Rattle.capnp_pointers.proofs.CanonicalForm.MeansWhatStands.{stands_means_at}
 
 pub copy_is_answered : (r q : Reading) (m m' : Meter) (h : ℕ) (t : Tree) → AreWords r.segments → Reads canonical r m m' t → q.levels ≡ r.levels → q.charging ≡ r.charging → h ≤ length (segment_read q) →
     HasCanonicalAt q.segments q.segment q.at h (trim t) → CanBeFound q (progress h m)

@@ -12,13 +12,13 @@ use Rattle.capnp_words.specs.Sizes.{size_number}
 use Rattle.capnp_words.specs.declared.wire_pointer.ElementSize.{ElementSize}
 use Rattle.capnp_words.specs.declared.wire_pointer.ElementSize.TheVariants.{Void, Bit, Byte, TwoBytes, FourBytes, EightBytes, Pointer, InlineComposite}
 use Rattle.capnp_words.specs.declared.wire_pointer.StructSize.{StructSize}
-use Rattle.capnp_objects.specs.Objects.{IsHeld}
-use Rattle.capnp_objects.specs.declared.object.Place.{Place}
+use Rattle.capnp_pointers.specs.Objects.{IsHeld}
+use Rattle.capnp_pointers.specs.declared.object.Place.{Place}
 use Rattle.capnp_readers.specs.Sections.{IsInside, IsPart, bytes_for, HoldsPointer, elements_words, pointers_offset}
-use Rattle.capnp_objects.specs.Source.{default_segments}
+use Rattle.capnp_pointers.specs.Source.{default_segments}
 use Rattle.capnp_arena_traits.specs.declared.arena.reader_arena.ReaderArena.{Ghosts}
 use Rattle.capnp_readers.specs.declared.readers.list_reader.ListReader.{ListReader}
-use Rattle.capnp_objects.proofs.Following.DefaultSegments.{default_at}
+use Rattle.capnp_pointers.proofs.Following.DefaultSegments.{default_at}
 
 -- all bytes of a default's whole words
 pub default_whole : (bytes : List ℕ) → words_of (take (8 * (length bytes / 8)) bytes) ≡ segment (default_segments bytes) (2 ^ 32)

@@ -5,10 +5,10 @@ use Rattle.capnp_words.specs.Meter.{Meter}
 use Rattle.capnp_words.specs.declared.wire_pointer.ElementSize.{ElementSize}
 use Rattle.capnp_arena_traits.specs.declared.arena.reader_arena.ReaderArena.{Ghosts}
 use Rattle.capnp_format.specs.Tree.{Tree, Null, Capability, Struct, Flat, Pointers, Structs}
-use Rattle.capnp_objects.specs.Outcomes.{MeansThere}
-use Rattle.capnp_objects.specs.Reading.{Reading, source_start, word_of}
-use Rattle.capnp_objects.specs.declared.source.Source.{Source}
-use Rattle.capnp_objects.specs.declared.source.Source.TheVariants.{Nothing}
+use Rattle.capnp_pointers.specs.Outcomes.{MeansThere}
+use Rattle.capnp_pointers.specs.Reading.{Reading, source_start, word_of}
+use Rattle.capnp_pointers.specs.declared.source.Source.{Source}
+use Rattle.capnp_pointers.specs.declared.source.Source.TheVariants.{Nothing}
 use Rattle.capnp_readers.specs.Calls.{Call, WhereRead, IsStructRead, IsListRead}
 use Rattle.capnp_readers.specs.Readers.{read_by}
 use Rattle.capnp_readers.specs.Values.{StaysIn, FitsElements, place_read}

@@ -3,15 +3,15 @@ use Rattle.std.proofs.Common.{◌≡◌, ◌↔◌, ℕ, Bool, true, false, IsTr
 use Rattle.std.proofs.lemmas.Bool.{false≢true}
 use Rattle.capnp_words.specs.declared.error.ErrorKind.{ErrorKind}
 use Rattle.capnp_words.specs.Meter.{Meter}
-use Rattle.capnp_objects.specs.Metered.{answer, onward, ◌>>>◌}
-use Rattle.capnp_objects.specs.Reading.{Reading}
-use Rattle.capnp_objects.proofs.OneObject.ReadInOneWay.{no_answer, not_both, same_refusal}
-use Rattle.capnp_objects.specs.declared.pointers.canonical_fault.CanonicalFault.{CanonicalFault}
-use Rattle.capnp_objects.specs.Checking.{CanBeFound, HasSmallSegment, IsCanonicalAt, IsFound, progress}
-use Rattle.capnp_objects.specs.Testing.{Verdict, head_found, head_moved, test_value}
-use Rattle.capnp_objects.proofs.CanonicalTest.AnswersWithinLimits.{can_answers, found_if}
-use Rattle.capnp_objects.proofs.CanonicalTest.VerdictOfObject.{test_says}
-use Rattle.capnp_objects.proofs.CanonicalTest.VerdictsOfParts.{Says}
+use Rattle.capnp_pointers.specs.Metered.{answer, onward, ◌>>>◌}
+use Rattle.capnp_pointers.specs.Reading.{Reading}
+use Rattle.capnp_pointers.proofs.OneObject.ReadInOneWay.{no_answer, not_both, same_refusal}
+use Rattle.capnp_pointers.specs.declared.pointers.canonical_fault.CanonicalFault.{CanonicalFault}
+use Rattle.capnp_pointers.specs.Checking.{CanBeFound, HasSmallSegment, IsCanonicalAt, IsFound, progress}
+use Rattle.capnp_pointers.specs.Testing.{Verdict, head_found, head_moved, test_value}
+use Rattle.capnp_pointers.proofs.CanonicalTest.AnswersWithinLimits.{can_answers, found_if}
+use Rattle.capnp_pointers.proofs.CanonicalTest.VerdictOfObject.{test_says}
+use Rattle.capnp_pointers.proofs.CanonicalTest.VerdictsOfParts.{Says}
 
 -- The test of the place r from the head h on has this result, and the head e after it.
 abbrev pub IsTestOf : Reading → ℕ → Meter → Result Bool ErrorKind → ℕ → Meter → Type 0

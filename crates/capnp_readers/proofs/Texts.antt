@@ -8,9 +8,9 @@ use Rattle.capnp_format.specs.Numbers.{unpacked, words_for}
 use Rattle.capnp_format.specs.Segments.{Target, words_at}
 use Rattle.capnp_format.specs.Tree.{Tree, Null, Capability, Struct, Flat, Pointers, Structs}
 use Rattle.capnp_format.specs.Word.{kind, element_size, list_count}
-use Rattle.capnp_objects.specs.Expected.{text_expected, data_expected, HasExpected, null_pointer, fitting}
-use Rattle.capnp_objects.specs.Outcomes.{MeansThere}
-use Rattle.capnp_objects.specs.Reading.{Reading}
+use Rattle.capnp_pointers.specs.Expected.{text_expected, data_expected, HasExpected, null_pointer, fitting}
+use Rattle.capnp_pointers.specs.Outcomes.{MeansThere}
+use Rattle.capnp_pointers.specs.Reading.{Reading}
 use Rattle.capnp_readers.specs.Values.{IsBytes, IsText}
 use Rattle.capnp_readers.proofs.Given.{entered_value}
 

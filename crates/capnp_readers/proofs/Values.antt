@@ -8,14 +8,14 @@ use Rattle.capnp_format.specs.Tree.{Tree, Null, Capability, Struct, Flat, Pointe
 use Rattle.capnp_format.specs.Word.{kind, data_words, pointer_count}
 use Rattle.capnp_format.specs.Path.{tree_at, next, Child}
 use Rattle.capnp_format.proofs.Children.{means_child}
-use Rattle.capnp_objects.specs.Faults.{LeadsTo, child_at}
-use Rattle.capnp_objects.specs.Outcomes.{MeansThere}
-use Rattle.capnp_objects.specs.Reading.{Reading, place_past, word_of}
-use Rattle.capnp_objects.specs.Source.{levels}
-use Rattle.capnp_objects.proofs.Decided.{within_or_not}
-use Rattle.capnp_objects.proofs.Following.FaultlessWhereMeant.{same_target}
-use Rattle.capnp_objects.proofs.Following.LeadsWhereFollowed.{entered_leads}
-use Rattle.capnp_objects.proofs.WholeValue.Shorthands.{MeanThere}
+use Rattle.capnp_pointers.specs.Faults.{LeadsTo, child_at}
+use Rattle.capnp_pointers.specs.Outcomes.{MeansThere}
+use Rattle.capnp_pointers.specs.Reading.{Reading, place_past, word_of}
+use Rattle.capnp_pointers.specs.Source.{levels}
+use Rattle.capnp_pointers.proofs.Decided.{within_or_not}
+use Rattle.capnp_pointers.proofs.Following.FaultlessWhereMeant.{same_target}
+use Rattle.capnp_pointers.proofs.Following.LeadsWhereFollowed.{entered_leads}
+use Rattle.capnp_pointers.proofs.WholeValue.Shorthands.{MeanThere}
 use Rattle.capnp_readers.specs.Calls.{Call, WhereRead, IsStructRead}
 use Rattle.capnp_readers.specs.Readers.{read_by}
 use Rattle.capnp_readers.specs.Sizes.{pointers_read}
@@ -23,7 +23,7 @@ use Rattle.capnp_readers.specs.Values.{HasValue, place_read, struct_children, tr
 use Rattle.capnp_readers.specs.declared.readers.PointerReader.{PointerReader}
 use Rattle.capnp_readers.specs.declared.readers.struct_reader.StructReader.{StructReader}
 use Rattle.capnp_readers.proofs.Answering.{read_at}
-use Rattle.capnp_objects.proofs.Budget.LevelsLeft.{level_less}
+use Rattle.capnp_pointers.proofs.Budget.LevelsLeft.{level_less}
 
 -- there are no children after the last
 tree_past : (ts : Trees) (i : ℕ) → count ts ≤ i → tree_at ts i ≡ Null

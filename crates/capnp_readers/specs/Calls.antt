@@ -13,12 +13,12 @@ use Rattle.capnp_format.specs.Word.{kind, element_size, list_count}
 use Rattle.capnp_words.specs.declared.wire_pointer.ElementSize.{ElementSize}
 use Rattle.capnp_words.specs.declared.wire_pointer.ElementSize.TheVariants.{Void}
 use Rattle.capnp_arena_traits.specs.declared.arena.reader_arena.ReaderArena.{Ghosts}
-use Rattle.capnp_objects.specs.declared.source.Source.TheVariants.{Default, Nothing}
-use Rattle.capnp_objects.specs.Expected.{Expectation, RefusesExpected}
-use Rattle.capnp_objects.specs.Outcomes.{Entered}
-use Rattle.capnp_objects.specs.Reading.{word_of}
-use Rattle.capnp_objects.specs.Source.{default_segment, default_segments}
-use Rattle.capnp_objects.specs.declared.object.Purpose.TheVariants.{Value}
+use Rattle.capnp_pointers.specs.declared.source.Source.TheVariants.{Default, Nothing}
+use Rattle.capnp_pointers.specs.Expected.{Expectation, RefusesExpected}
+use Rattle.capnp_pointers.specs.Outcomes.{Entered}
+use Rattle.capnp_pointers.specs.Reading.{word_of}
+use Rattle.capnp_pointers.specs.Source.{default_segment, default_segments}
+use Rattle.capnp_pointers.specs.declared.object.Purpose.TheVariants.{Value}
 use Rattle.capnp_readers.specs.Readers.{read_by, IsStructThere, IsListThere}
 use Rattle.capnp_readers.specs.Sections.{HoldsPointer, data_bits}
 use Rattle.capnp_readers.specs.declared.readers.PointerReader.{PointerReader}

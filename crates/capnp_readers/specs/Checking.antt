@@ -1,9 +1,9 @@
 -- What a struct that is read shows to the test for canonical form ("Canonicalization").
 use Rattle.std.specs.Prelude.{◌≡◌, ◌≢◌, ℕ, ◌+◌, ◌*◌, ◌-◌, ◌/◌, ◌%◌, ◌^◌, min}
 use Rattle.capnp_arena_traits.specs.declared.arena.reader_arena.ReaderArena.{Ghosts}
-use Rattle.capnp_objects.specs.Reading.{source_start}
-use Rattle.capnp_objects.specs.declared.source.Source.TheVariants.{Nothing}
-use Rattle.capnp_objects.specs.Standing.{EndsUsed}
+use Rattle.capnp_pointers.specs.Reading.{source_start}
+use Rattle.capnp_pointers.specs.declared.source.Source.TheVariants.{Nothing}
+use Rattle.capnp_pointers.specs.Standing.{EndsUsed}
 use Rattle.capnp_readers.specs.Sizes.{own_words}
 use Rattle.capnp_readers.specs.declared.readers.struct_reader.StructReader.{StructReader}
 

@@ -10,14 +10,14 @@ use Rattle.capnp_format.specs.Word.{list_count, upper_half}
 use Rattle.capnp_words.specs.declared.wire_pointer.ElementSize.{ElementSize}
 use Rattle.capnp_words.specs.declared.wire_pointer.ElementSize.TheVariants.{Pointer, InlineComposite}
 use Rattle.capnp_arena_traits.specs.declared.arena.reader_arena.ReaderArena.{Ghosts}
-use Rattle.capnp_objects.specs.Demands.{tag}
-use Rattle.capnp_objects.specs.Reading.{Reading, source_start, reading_at, word_of, tag_size}
-use Rattle.capnp_objects.specs.Rows.{Rows, rows_sized}
+use Rattle.capnp_pointers.specs.Demands.{tag}
+use Rattle.capnp_pointers.specs.Reading.{Reading, source_start, reading_at, word_of, tag_size}
+use Rattle.capnp_pointers.specs.Rows.{Rows, rows_sized}
 use Rattle.capnp_words.specs.declared.wire_pointer.StructSize.{StructSize}
-use Rattle.capnp_objects.specs.Outcomes.{Entered}
+use Rattle.capnp_pointers.specs.Outcomes.{Entered}
 use Rattle.capnp_readers.specs.Sections.{bytes_for, elements_words, step_bits}
-use Rattle.capnp_objects.specs.Spending.{after_charge}
-use Rattle.capnp_objects.specs.declared.object.Purpose.TheVariants.{Value}
+use Rattle.capnp_pointers.specs.Spending.{after_charge}
+use Rattle.capnp_pointers.specs.declared.object.Purpose.TheVariants.{Value}
 use Rattle.capnp_readers.specs.declared.readers.PointerReader.{PointerReader}
 use Rattle.capnp_readers.specs.declared.readers.struct_reader.StructPlace.{StructPlace}
 use Rattle.capnp_readers.specs.declared.readers.struct_reader.StructReader.{StructReader}
@@ -25,7 +25,7 @@ use Rattle.capnp_readers.specs.declared.readers.list_reader.ListPlace.{ListPlace
 use Rattle.capnp_readers.specs.declared.readers.list_reader.ListReader.{ListReader}
 use Rattle.capnp_readers.specs.declared.readers.target.Target.{Target as ReadTarget}
 use Rattle.capnp_readers.specs.declared.readers.target.Target.TheVariants.{Null, Cap, Struct, List}
-use Rattle.capnp_objects.specs.Wanted.{FollowsTo}
+use Rattle.capnp_pointers.specs.Wanted.{FollowsTo}
 
 -- Both sections of a struct are inside its segment.
 abbrev pub IsStructPlace : Segments → StructPlace → Type 0

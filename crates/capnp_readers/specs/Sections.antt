@@ -7,7 +7,7 @@ use Rattle.capnp_words.specs.Sizes.{size_number}
 use Rattle.capnp_words.specs.declared.wire_pointer.ElementSize.{ElementSize}
 use Rattle.capnp_words.specs.declared.wire_pointer.ElementSize.TheVariants.{Bit, Pointer, InlineComposite}
 use Rattle.capnp_words.specs.declared.wire_pointer.StructSize.{StructSize}
-use Rattle.capnp_objects.specs.declared.object.Place.{Place}
+use Rattle.capnp_pointers.specs.declared.object.Place.{Place}
 
 -- The number of bytes that hold `bits` bits.
 abbrev pub bytes_for : ℕ → ℕ

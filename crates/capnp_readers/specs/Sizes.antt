@@ -1,7 +1,7 @@
 -- What the size of a struct that is read counts.
 use Rattle.std.specs.Prelude.{ℕ, ◌+◌, ◌/◌}
 use Rattle.capnp_arena_traits.specs.declared.arena.reader_arena.ReaderArena.{Ghosts}
-use Rattle.capnp_objects.specs.Reading.{Reading, reading_at}
+use Rattle.capnp_pointers.specs.Reading.{Reading, reading_at}
 use Rattle.capnp_readers.specs.declared.readers.struct_reader.StructReader.{StructReader}
 
 module _ {A : Type 0} (g : Ghosts A) where

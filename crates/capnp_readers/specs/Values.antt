@@ -15,11 +15,11 @@ use Rattle.capnp_words.specs.declared.wire_pointer.ElementSize.{ElementSize}
 use Rattle.capnp_words.specs.declared.wire_pointer.ElementSize.TheVariants.{Pointer, InlineComposite}
 use Rattle.capnp_arena_traits.specs.declared.arena.reader_arena.ReaderArena.{Ghosts}
 use Rattle.capnp_format.specs.Path.{tree_at, struct_at}
-use Rattle.capnp_objects.specs.Expected.{narrow_elements, narrow_structs}
-use Rattle.capnp_objects.specs.Outcomes.{MeansThere}
-use Rattle.capnp_objects.specs.Reading.{Reading, place_past, reading_at, source_start, word_of}
-use Rattle.capnp_objects.specs.Source.{levels}
-use Rattle.capnp_objects.specs.declared.source.Source.TheVariants.{Default}
+use Rattle.capnp_pointers.specs.Expected.{narrow_elements, narrow_structs}
+use Rattle.capnp_pointers.specs.Outcomes.{MeansThere}
+use Rattle.capnp_pointers.specs.Reading.{Reading, place_past, reading_at, source_start, word_of}
+use Rattle.capnp_pointers.specs.Source.{levels}
+use Rattle.capnp_pointers.specs.declared.source.Source.TheVariants.{Default}
 use Rattle.capnp_readers.specs.Readers.{read_by}
 use Rattle.capnp_readers.specs.Sections.{HoldsPointer, data_bits}
 use Rattle.capnp_readers.specs.Sizes.{pointers_read}

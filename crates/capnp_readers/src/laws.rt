@@ -7,12 +7,12 @@ ghost use Rattle.capnp_words.specs.Meter.{Meter};
 ghost use Rattle.capnp_format.specs.Tree.{Tree};
 ghost use Rattle.capnp_format.specs.Canonical.{HasCanonicalAt, charge, trim};
 ghost use Rattle.capnp_format.specs.Segments.{words_at, AreWords};
-ghost use Rattle.capnp_objects.specs.Outcomes.{MeansThere, Reads};
-ghost use Rattle.capnp_objects.specs.Spending.{Paid};
-ghost use Rattle.capnp_objects.specs.Reading.{Reading, word_of, segment_read};
-ghost use Rattle.capnp_objects.specs.Wanted.{canonical};
-ghost use Rattle.capnp_objects.specs.Checking.{CanAllBeFound, CanBeFound, Finds, Progress, progress};
-ghost use Rattle.capnp_objects.specs.Testing.{test_value, test_values};
+ghost use Rattle.capnp_pointers.specs.Outcomes.{MeansThere, Reads};
+ghost use Rattle.capnp_pointers.specs.Spending.{Paid};
+ghost use Rattle.capnp_pointers.specs.Reading.{Reading, word_of, segment_read};
+ghost use Rattle.capnp_pointers.specs.Wanted.{canonical};
+ghost use Rattle.capnp_pointers.specs.Checking.{CanAllBeFound, CanBeFound, Finds, Progress, progress};
+ghost use Rattle.capnp_pointers.specs.Testing.{test_value, test_values};
 
 /// The test for canonical form never refuses a pointer if the pointer and words of its segment are
 /// the canonical words of a value, and reading them is within the nesting limit and the traversal

@@ -4,4 +4,4 @@
 pub mod laws;
 pub mod readers;
 
-pub use capnp_objects::{object, source};
+pub use capnp_pointers::{object, source};

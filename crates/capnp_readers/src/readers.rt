@@ -3,22 +3,22 @@ ghost use Rattle.std.specs.Prelude.{◌≡◌, ◌≢◌, Some, Ok, ◌<◌, ◌
 ghost use Rattle.capnp_format.specs.Bytes.{message};
 ghost use Rattle.capnp_format.specs.Means.{Means};
 ghost use Rattle.capnp_format.specs.Tree.{Tree, Null};
-ghost use Rattle.capnp_objects.specs.Outcomes.{MeansThere};
-ghost use Rattle.capnp_objects.specs.Spending.{Paid};
+ghost use Rattle.capnp_pointers.specs.Outcomes.{MeansThere};
+ghost use Rattle.capnp_pointers.specs.Spending.{Paid};
 ghost use Rattle.capnp_words.specs.Meter.{Meter, Affords, charged};
 ghost use Rattle.capnp_format.specs.Segments.{word_at, segment, IsPlace};
 ghost use Rattle.capnp_words.specs.declared.error.ErrorKind.TheVariants.{MessageContainsNonCapabilityPointerWhereCapabilityPointerWasExpected, MessageContainsNullCapabilityPointer, MessageContainsOutOfBoundsPointer, ReadLimitExceeded};
 ghost use Rattle.capnp_arena_traits.specs.Checks.{Holds, misplaced};
-ghost use Rattle.capnp_objects.specs.Source.{default_segment, levels};
-ghost use Rattle.capnp_objects.specs.Refusals.{NotRead, CanBeRead};
-ghost use Rattle.capnp_objects.specs.Objects.{IsHeld};
-ghost use Rattle.capnp_objects.specs.Reading.{Reading, source_start, reading_at, word_of};
-ghost use Rattle.capnp_objects.specs.Objects.{IsFew, IsObject};
-ghost use Rattle.capnp_objects.specs.Expected.{expectation, struct_expected, list_expected, text_expected, data_expected, HasExpected, IsExpected};
+ghost use Rattle.capnp_pointers.specs.Source.{default_segment, levels};
+ghost use Rattle.capnp_pointers.specs.Refusals.{NotRead, CanBeRead};
+ghost use Rattle.capnp_pointers.specs.Objects.{IsHeld};
+ghost use Rattle.capnp_pointers.specs.Reading.{Reading, source_start, reading_at, word_of};
+ghost use Rattle.capnp_pointers.specs.Objects.{IsFew, IsObject};
+ghost use Rattle.capnp_pointers.specs.Expected.{expectation, struct_expected, list_expected, text_expected, data_expected, HasExpected, IsExpected};
 ghost use Rattle.capnp_words.specs.declared.wire_pointer.PointerType.{PointerType};
-ghost use Rattle.capnp_objects.specs.Types.{IsOfType, HasNoType};
+ghost use Rattle.capnp_pointers.specs.Types.{IsOfType, HasNoType};
 ghost use Rattle.capnp_format.specs.Word.{lower_half, upper_half};
-ghost use Rattle.capnp_objects.specs.declared.object.Purpose.TheVariants.{Value};
+ghost use Rattle.capnp_pointers.specs.declared.object.Purpose.TheVariants.{Value};
 
 mod canonical;
 mod list_reader;
@@ -28,12 +28,12 @@ mod struct_reader;
 mod target;
 
 use capnp_arena_traits::arena::ReaderArena;
-use capnp_objects::object::{Expected, Object, Place};
-use capnp_objects::pointers::Pointer;
-pub use capnp_objects::pointers::{
+use capnp_pointers::object::{Expected, Object, Place};
+use capnp_pointers::pointers::Pointer;
+pub use capnp_pointers::pointers::{
     CanonicalFault, CanonicalFaultReason, MessageSize, PointerPlace,
 };
-use capnp_objects::source::Source;
+use capnp_pointers::source::Source;
 use capnp_words::error::ErrorKind;
 use capnp_words::read_limiter::ReadLimiter;
 use capnp_words::wire_pointer::{ElementSize, PointerType, StructSize};

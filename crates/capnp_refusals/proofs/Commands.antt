@@ -7,17 +7,17 @@ use Rattle.capnp_format.specs.Segments.{Segments}
 use Rattle.capnp_format.specs.Tree.{Tree}
 use Rattle.capnp_arena_traits.specs.Allocations.{max_segment_words}
 use Rattle.capnp_arena.specs.declared.arena.reader_arena_impl.ReaderOptions.{ReaderOptions}
-use Rattle.capnp_objects.specs.Metered.{answer, onward, ◌>>>◌}
-use Rattle.capnp_objects.specs.Source.{levels}
-use Rattle.capnp_objects.specs.Values.{value}
-use Rattle.capnp_objects.specs.Wanted.{canonical, plain}
-use Rattle.capnp_objects.specs.Extents.{read_extent, value_extent}
-use Rattle.capnp_objects.specs.Measure.{measure, only_words}
-use Rattle.capnp_objects.specs.Testing.{IsTestName, Verdict, test_value}
-use Rattle.capnp_objects.specs.declared.pointers.canonical_fault.CanonicalFault.{CanonicalFault}
-use Rattle.capnp_objects.specs.declared.pointers.canonical_fault.CanonicalFaultReason.TheVariants.{SegmentCount}
-use Rattle.capnp_objects.specs.declared.pointers.sizes.MessageSize.{MessageSize}
-use Rattle.capnp_objects.proofs.CanonicalTest.ReadsAsReading.{Along, refused_along, value_along}
+use Rattle.capnp_pointers.specs.Metered.{answer, onward, ◌>>>◌}
+use Rattle.capnp_pointers.specs.Source.{levels}
+use Rattle.capnp_pointers.specs.Values.{value}
+use Rattle.capnp_pointers.specs.Wanted.{canonical, plain}
+use Rattle.capnp_pointers.specs.Extents.{read_extent, value_extent}
+use Rattle.capnp_pointers.specs.Measure.{measure, only_words}
+use Rattle.capnp_pointers.specs.Testing.{IsTestName, Verdict, test_value}
+use Rattle.capnp_pointers.specs.declared.pointers.canonical_fault.CanonicalFault.{CanonicalFault}
+use Rattle.capnp_pointers.specs.declared.pointers.canonical_fault.CanonicalFaultReason.TheVariants.{SegmentCount}
+use Rattle.capnp_pointers.specs.declared.pointers.sizes.MessageSize.{MessageSize}
+use Rattle.capnp_pointers.proofs.CanonicalTest.ReadsAsReading.{Along, refused_along, value_along}
 use Rattle.capnp_messages.specs.Check.{check, whole_fault}
 use Rattle.capnp_messages.specs.Commands.{RefusesAnswer}
 use Rattle.capnp_messages.specs.Extents.{validate, with_cost}

@@ -4,13 +4,13 @@ use Rattle.std.proofs.Common.{◌≡◌, ◌↔◌, ℕ, zero, suc, ◌+◌, Boo
 use Rattle.capnp_words.specs.declared.error.ErrorKind.{ErrorKind}
 use Rattle.capnp_words.specs.Meter.{Meter}
 use Rattle.capnp_format.specs.Tree.{Tree, Null, Trees, Elements, tree, element}
-use Rattle.capnp_objects.specs.declared.object.Purpose.TheVariants.{Value}
-use Rattle.capnp_objects.specs.Enter.{Shape, nothing, capability, struct, flat, pointers, structs, read}
-use Rattle.capnp_objects.specs.Metered.{Metered, answer, onward, outcome, ◌>>>◌}
-use Rattle.capnp_objects.specs.Reading.{Reading, place_past, words_from}
-use Rattle.capnp_objects.specs.Values.{object_value, permit, read_element_values, read_values, value, value_within}
-use Rattle.capnp_objects.specs.Wanted.{Form, canonical, plain}
-use Rattle.capnp_objects.specs.Measure.{fold_children, fold_elements, fold_pointers}
+use Rattle.capnp_pointers.specs.declared.object.Purpose.TheVariants.{Value}
+use Rattle.capnp_pointers.specs.Enter.{Shape, nothing, capability, struct, flat, pointers, structs, read}
+use Rattle.capnp_pointers.specs.Metered.{Metered, answer, onward, outcome, ◌>>>◌}
+use Rattle.capnp_pointers.specs.Reading.{Reading, place_past, words_from}
+use Rattle.capnp_pointers.specs.Values.{object_value, permit, read_element_values, read_values, value, value_within}
+use Rattle.capnp_pointers.specs.Wanted.{Form, canonical, plain}
+use Rattle.capnp_pointers.specs.Measure.{fold_children, fold_elements, fold_pointers}
 use Rattle.capnp_refusals.specs.Search.{Finding, form_for, of_values, permitted, search_on, search_place, search_within, unless_found}
 use Rattle.capnp_refusals.specs.declared.refusals.search.RefusedPointer.{RefusedPointer}
 use Rattle.capnp_refusals.proofs.Searched.{elements_stay, pointers_stay}

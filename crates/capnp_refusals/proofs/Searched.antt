@@ -3,15 +3,15 @@
 use Rattle.std.proofs.Common.{◌≡◌, ℕ, zero, suc, pred, ◌+◌, ◌<◌, Some, None, Ok, Err, refl, ap, ◌∙◌, arith}
 use Rattle.capnp_words.specs.declared.error.ErrorKind.{ErrorKind}
 use Rattle.capnp_words.specs.Meter.{Meter}
-use Rattle.capnp_objects.specs.declared.object.Object.{Object}
-use Rattle.capnp_objects.specs.declared.object.ChildRows.{ChildRows}
-use Rattle.capnp_objects.specs.Enter.{Shape, object_shape, read}
-use Rattle.capnp_objects.specs.Metered.{Metered, answer, onward, outcome, ◌>>>◌}
-use Rattle.capnp_objects.specs.Reading.{Reading, place_past}
-use Rattle.capnp_objects.specs.Measure.{fold_children, fold_elements, fold_pointers}
-use Rattle.capnp_objects.specs.Sizes.{HasRows}
-use Rattle.capnp_objects.proofs.Sizes.MeasuredBySteps.{children_in_rows, no_children}
-use Rattle.capnp_objects.proofs.WholeValue.WordsAdded.{beginning}
+use Rattle.capnp_pointers.specs.declared.object.Object.{Object}
+use Rattle.capnp_pointers.specs.declared.object.ChildRows.{ChildRows}
+use Rattle.capnp_pointers.specs.Enter.{Shape, object_shape, read}
+use Rattle.capnp_pointers.specs.Metered.{Metered, answer, onward, outcome, ◌>>>◌}
+use Rattle.capnp_pointers.specs.Reading.{Reading, place_past}
+use Rattle.capnp_pointers.specs.Measure.{fold_children, fold_elements, fold_pointers}
+use Rattle.capnp_pointers.specs.Sizes.{HasRows}
+use Rattle.capnp_pointers.proofs.Sizes.MeasuredBySteps.{children_in_rows, no_children}
+use Rattle.capnp_pointers.proofs.WholeValue.WordsAdded.{beginning}
 use Rattle.capnp_refusals.specs.Search.{Finding, demanded, permitted, refused_at, search_elements, search_on, search_place, search_within, unless_found}
 use Rattle.capnp_refusals.specs.declared.refusals.search.Demands.{Demands}
 use Rattle.capnp_refusals.specs.declared.refusals.search.RefusedPointer.{RefusedPointer}

@@ -6,10 +6,10 @@ use Rattle.capnp_words.specs.declared.error.ErrorKind.TheVariants.{MessageTooLar
 use Rattle.capnp_words.specs.Meter.{unused}
 use Rattle.capnp_format.specs.Segments.{Segments}
 use Rattle.capnp_arena.specs.declared.arena.reader_arena_impl.ReaderOptions.{ReaderOptions}
-use Rattle.capnp_objects.specs.Metered.{Metered}
-use Rattle.capnp_objects.specs.Source.{levels}
-use Rattle.capnp_objects.specs.declared.object.Purpose.TheVariants.{Size}
-use Rattle.capnp_objects.specs.Testing.{IsTestName}
+use Rattle.capnp_pointers.specs.Metered.{Metered}
+use Rattle.capnp_pointers.specs.Source.{levels}
+use Rattle.capnp_pointers.specs.declared.object.Purpose.TheVariants.{Size}
+use Rattle.capnp_pointers.specs.Testing.{IsTestName}
 use Rattle.capnp_messages.specs.Roots.{message_root, read_message_root}
 use Rattle.capnp_messages.specs.declared.messages.command.Command.{Command}
 use Rattle.capnp_messages.specs.declared.messages.command.Command.TheVariants.{Canon, Check, Digest, Size as SizeCommand, Validate}

@@ -5,12 +5,12 @@ use Rattle.std.specs.Prelude.{ℕ, zero, suc, Bool, true, false, Option, Some, N
 use Rattle.capnp_words.specs.declared.error.ErrorKind.{ErrorKind}
 use Rattle.capnp_words.specs.declared.error.ErrorKind.TheVariants.{CannotCreateACanonicalMessageWithACapability}
 use Rattle.capnp_words.specs.Meter.{Meter}
-use Rattle.capnp_objects.specs.declared.object.Purpose.TheVariants.{Value}
-use Rattle.capnp_objects.specs.Enter.{Shape, nothing, capability, struct, flat, pointers, structs, read}
-use Rattle.capnp_objects.specs.Metered.{Metered, answer, outcome, ◌>>>◌}
-use Rattle.capnp_objects.specs.Reading.{Reading}
-use Rattle.capnp_objects.specs.Wanted.{Form, canonical, plain}
-use Rattle.capnp_objects.specs.Measure.{fold_children, fold_elements, fold_pointers}
+use Rattle.capnp_pointers.specs.declared.object.Purpose.TheVariants.{Value}
+use Rattle.capnp_pointers.specs.Enter.{Shape, nothing, capability, struct, flat, pointers, structs, read}
+use Rattle.capnp_pointers.specs.Metered.{Metered, answer, outcome, ◌>>>◌}
+use Rattle.capnp_pointers.specs.Reading.{Reading}
+use Rattle.capnp_pointers.specs.Wanted.{Form, canonical, plain}
+use Rattle.capnp_pointers.specs.Measure.{fold_children, fold_elements, fold_pointers}
 use Rattle.capnp_refusals.specs.declared.refusals.search.Demands.{Demands}
 use Rattle.capnp_refusals.specs.declared.refusals.search.RefusedPointer.{RefusedPointer}
 

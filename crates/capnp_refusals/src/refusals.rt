@@ -9,7 +9,7 @@ mod search;
 
 use capnp_arena::arena::{ReaderArenaImpl, ReaderOptions, ReaderSegments};
 use capnp_messages::messages::{Command, read_root};
-use capnp_objects::object::Purpose;
+use capnp_pointers::object::Purpose;
 use capnp_words::error::ErrorKind;
 use capnp_words::read_limiter::ReadLimiter;
 pub use search::{Demands, RefusedPointer, search_value};

@@ -22,9 +22,9 @@ use Rattle.capnp_format.proofs.WordsOf.{small_word, words, words_of-part}
 use Rattle.capnp_format.specs.Segments.{segment, words_at}
 use Rattle.capnp_framing.specs.Frames.{bytes_of_words}
 use Rattle.capnp_framing.proofs.TableLemmas.{bytes-words, below_take}
-use Rattle.capnp_objects.specs.declared.object.Place.{Place}
-use Rattle.capnp_objects.specs.Objects.{IsHeld}
-use Rattle.capnp_objects.specs.Reading.{Reading}
+use Rattle.capnp_pointers.specs.declared.object.Place.{Place}
+use Rattle.capnp_pointers.specs.Objects.{IsHeld}
+use Rattle.capnp_pointers.specs.Reading.{Reading}
 use Rattle.capnp_show.specs.Line.{flat_member, numbers_member}
 use Rattle.capnp_show.specs.Numbers.{flat_numbers, number_in, number_text, word_index}
 

@@ -7,16 +7,16 @@ use Rattle.capnp_format.specs.Means.{Means, MeansAll}
 use Rattle.capnp_format.specs.Segments.{Segments}
 use Rattle.capnp_format.specs.Tree.{Tree, Struct, Trees, no_trees, tree, count, depth}
 use Rattle.capnp_arena.specs.declared.arena.reader_arena_impl.ReaderOptions.{ReaderOptions}
-use Rattle.capnp_objects.specs.Metered.{onward}
-use Rattle.capnp_objects.specs.Outcomes.{Reads}
-use Rattle.capnp_objects.specs.Reading.{Reading, place_past, words_from}
-use Rattle.capnp_objects.specs.Source.{levels}
-use Rattle.capnp_objects.specs.Spending.{after_charge, pointers_in}
-use Rattle.capnp_objects.specs.Values.{read_values, value_within, value}
-use Rattle.capnp_objects.specs.Wanted.{plain}
-use Rattle.capnp_objects.proofs.Budget.PaidAndLeft.{affords_rest, paid_one}
-use Rattle.capnp_objects.proofs.WholeValue.ValueAsStated.{reads_is}
-use Rattle.capnp_objects.proofs.WholeValue.UnreadableIfRefused.{affords_less}
+use Rattle.capnp_pointers.specs.Metered.{onward}
+use Rattle.capnp_pointers.specs.Outcomes.{Reads}
+use Rattle.capnp_pointers.specs.Reading.{Reading, place_past, words_from}
+use Rattle.capnp_pointers.specs.Source.{levels}
+use Rattle.capnp_pointers.specs.Spending.{after_charge, pointers_in}
+use Rattle.capnp_pointers.specs.Values.{read_values, value_within, value}
+use Rattle.capnp_pointers.specs.Wanted.{plain}
+use Rattle.capnp_pointers.proofs.Budget.PaidAndLeft.{affords_rest, paid_one}
+use Rattle.capnp_pointers.proofs.WholeValue.ValueAsStated.{reads_is}
+use Rattle.capnp_pointers.proofs.WholeValue.UnreadableIfRefused.{affords_less}
 use Rattle.capnp_messages.specs.EndValues.{EndMeans, end_place}
 use Rattle.capnp_messages.specs.Parts.{PathEnd, part, to_element, to_pointer}
 use Rattle.capnp_show.specs.Line.{value_line}

@@ -7,10 +7,10 @@ use Rattle.capnp_words.specs.declared.error.ErrorKind.{ErrorKind}
 use Rattle.capnp_words.specs.Meter.{Meter}
 use Rattle.capnp_words.specs.Names.{name_of}
 use Rattle.capnp_format.specs.Numbers.{words_for, unpacked}
-use Rattle.capnp_objects.specs.declared.object.Purpose.TheVariants.{Value}
-use Rattle.capnp_objects.specs.Enter.{Shape, nothing, capability, struct, flat, pointers, structs, read}
-use Rattle.capnp_objects.specs.Reading.{Reading, place_past, word_of, words_from}
-use Rattle.capnp_objects.proofs.Decided.{same_or_not}
+use Rattle.capnp_pointers.specs.declared.object.Purpose.TheVariants.{Value}
+use Rattle.capnp_pointers.specs.Enter.{Shape, nothing, capability, struct, flat, pointers, structs, read}
+use Rattle.capnp_pointers.specs.Reading.{Reading, place_past, word_of, words_from}
+use Rattle.capnp_pointers.proofs.Decided.{same_or_not}
 use Rattle.capnp_messages.specs.Parts.{inside}
 use Rattle.capnp_show.specs.Line.{data_member, flat_member, member}
 use Rattle.capnp_show.specs.Shown.{Shown, ShowsArray, add, array_begin, array_within, comma, cut_text, refusal_text, show_array, show_each, show_elements, show_object, show_place, show_result, show_struct, show_structs, sizes_members}

@@ -5,13 +5,13 @@ use Rattle.capnp_words.specs.Sizes.{size_number}
 use Rattle.capnp_format.specs.Numbers.{unpacked, words_for}
 use Rattle.capnp_format.specs.Segments.{segment}
 use Rattle.capnp_format.specs.Word.{list_count}
-use Rattle.capnp_objects.specs.declared.object.Place.{Place}
-use Rattle.capnp_objects.specs.declared.object.Object.TheVariants.{Flat}
-use Rattle.capnp_objects.specs.declared.object.Purpose.TheVariants.{Value}
-use Rattle.capnp_objects.specs.Demands.{claimed_words}
-use Rattle.capnp_objects.specs.Objects.{IsHeld, IsObjectRead}
-use Rattle.capnp_objects.specs.Reading.{Reading, words_from}
-use Rattle.capnp_objects.proofs.OneObject.PartsMeant.{claim_flat, claim_list}
+use Rattle.capnp_pointers.specs.declared.object.Place.{Place}
+use Rattle.capnp_pointers.specs.declared.object.Object.TheVariants.{Flat}
+use Rattle.capnp_pointers.specs.declared.object.Purpose.TheVariants.{Value}
+use Rattle.capnp_pointers.specs.Demands.{claimed_words}
+use Rattle.capnp_pointers.specs.Objects.{IsHeld, IsObjectRead}
+use Rattle.capnp_pointers.specs.Reading.{Reading, words_from}
+use Rattle.capnp_pointers.proofs.OneObject.PartsMeant.{claim_flat, claim_list}
 use Rattle.capnp_messages.specs.Parts.{inside}
 use Rattle.capnp_show.specs.Numbers.{flat_numbers}
 

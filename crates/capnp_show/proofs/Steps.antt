@@ -5,9 +5,9 @@ use Rattle.std.specs.Fmt.{decimal}
 use Rattle.std.proofs.lemmas.Bool.{ne_eqb}
 use Rattle.capnp_words.specs.declared.error.ErrorKind.{ErrorKind}
 use Rattle.capnp_words.specs.Meter.{Meter}
-use Rattle.capnp_objects.specs.declared.object.Purpose.TheVariants.{Value}
-use Rattle.capnp_objects.specs.Enter.{Shape, read}
-use Rattle.capnp_objects.specs.Reading.{Reading, place_past, word_of}
+use Rattle.capnp_pointers.specs.declared.object.Purpose.TheVariants.{Value}
+use Rattle.capnp_pointers.specs.Enter.{Shape, read}
+use Rattle.capnp_pointers.specs.Reading.{Reading, place_past, word_of}
 use Rattle.capnp_show.specs.Adding.{Adds}
 use Rattle.capnp_show.specs.Line.{member}
 use Rattle.capnp_show.specs.Shown.{IsPlain, Shown, Shows, ShowsArray, add, array_begin, array_within, comma, cut_text, show_each, show_elements, show_place, show_result, show_struct, show_structs, show_within, shown_json, sizes_members}

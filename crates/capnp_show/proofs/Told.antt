@@ -10,18 +10,18 @@ use Rattle.capnp_format.specs.Word.{kind, data_words, pointer_count, element_siz
 use Rattle.capnp_format.specs.Numbers.{words_for, unpacked}
 use Rattle.capnp_format.specs.Segments.{Segments, Target}
 use Rattle.capnp_format.specs.Tree.{Tree, Null, Capability, Struct, Pointers, Structs, Trees, no_trees, tree, Elements, no_elements, element, element_count, depth, depth_all, depth_elements}
-use Rattle.capnp_objects.specs.declared.object.Purpose.TheVariants.{Value}
-use Rattle.capnp_objects.specs.Demands.{tag}
-use Rattle.capnp_objects.specs.Enter.{Shape, nothing, capability, struct, flat, pointers, structs, shape, read}
-use Rattle.capnp_objects.specs.Metered.{Metered, answer, onward}
-use Rattle.capnp_objects.specs.Reading.{Reading, place_past, word_of, words_from}
-use Rattle.capnp_objects.specs.Spending.{after_charge}
-use Rattle.capnp_objects.specs.Values.{read_values, read_element_values, object_value, value_within, value}
-use Rattle.capnp_objects.specs.Wanted.{plain}
-use Rattle.capnp_objects.proofs.OneObject.ReadAsStated.{null_is, capability_is, entering_is, stopped_is}
-use Rattle.capnp_objects.proofs.Decided.{same_or_not}
-use Rattle.capnp_objects.proofs.OneObject.ReadInOneWay.{Ends, at_capability, at_object, refused, ends}
-use Rattle.capnp_objects.proofs.WholeValue.ValueAgrees.{leaf_is, refusal_is, value_is}
+use Rattle.capnp_pointers.specs.declared.object.Purpose.TheVariants.{Value}
+use Rattle.capnp_pointers.specs.Demands.{tag}
+use Rattle.capnp_pointers.specs.Enter.{Shape, nothing, capability, struct, flat, pointers, structs, shape, read}
+use Rattle.capnp_pointers.specs.Metered.{Metered, answer, onward}
+use Rattle.capnp_pointers.specs.Reading.{Reading, place_past, word_of, words_from}
+use Rattle.capnp_pointers.specs.Spending.{after_charge}
+use Rattle.capnp_pointers.specs.Values.{read_values, read_element_values, object_value, value_within, value}
+use Rattle.capnp_pointers.specs.Wanted.{plain}
+use Rattle.capnp_pointers.proofs.OneObject.ReadAsStated.{null_is, capability_is, entering_is, stopped_is}
+use Rattle.capnp_pointers.proofs.Decided.{same_or_not}
+use Rattle.capnp_pointers.proofs.OneObject.ReadInOneWay.{Ends, at_capability, at_object, refused, ends}
+use Rattle.capnp_pointers.proofs.WholeValue.ValueAgrees.{leaf_is, refusal_is, value_is}
 use Rattle.capnp_messages.specs.Parts.{inside}
 use Rattle.capnp_show.specs.Line.{value_line, lines, element_lines, struct_object, object, member, array, data_member, flat_member}
 use Rattle.capnp_show.specs.Shown.{Shown, add, comma, array_begin, array_within, sizes_members, show_array, show_each, show_elements, show_object, show_result, show_struct, show_structs, show_within}

@@ -6,7 +6,7 @@ use Rattle.capnp_words.specs.declared.wire_pointer.ElementSize.{ElementSize}
 use Rattle.capnp_words.specs.declared.wire_pointer.ElementSize.TheVariants.{Bit, Byte, TwoBytes, FourBytes}
 use Rattle.capnp_format.specs.Bytes.{words_of}
 use Rattle.capnp_format.specs.Numbers.{unpacked, words_for}
-use Rattle.capnp_objects.specs.declared.object.Place.{Place}
+use Rattle.capnp_pointers.specs.declared.object.Place.{Place}
 use Rattle.capnp_show.specs.Line.{in_quotes}
 
 -- The n elements of a list of this size, which start at this place.

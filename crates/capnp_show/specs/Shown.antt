@@ -7,9 +7,9 @@ use Rattle.capnp_words.specs.declared.error.ErrorKind.{ErrorKind}
 use Rattle.capnp_words.specs.Meter.{Meter}
 use Rattle.capnp_words.specs.Names.{name_of}
 use Rattle.capnp_format.specs.Numbers.{words_for, unpacked}
-use Rattle.capnp_objects.specs.declared.object.Purpose.TheVariants.{Value}
-use Rattle.capnp_objects.specs.Enter.{Shape, nothing, capability, struct, flat, pointers, structs, read}
-use Rattle.capnp_objects.specs.Reading.{Reading, place_past, word_of, words_from}
+use Rattle.capnp_pointers.specs.declared.object.Purpose.TheVariants.{Value}
+use Rattle.capnp_pointers.specs.Enter.{Shape, nothing, capability, struct, flat, pointers, structs, read}
+use Rattle.capnp_pointers.specs.Reading.{Reading, place_past, word_of, words_from}
 use Rattle.capnp_messages.specs.Parts.{PathEnd, inside, to_element, to_pointer}
 use Rattle.capnp_show.specs.Adding.{max_text}
 use Rattle.capnp_show.specs.Line.{data_member, flat_member, in_quotes, member}

@@ -4,7 +4,7 @@ use Rattle.capnp_words.specs.Meter.{Affords, Meter, unused}
 use Rattle.capnp_format.specs.Segments.{Segments}
 use Rattle.capnp_format.specs.Tree.{Tree, depth}
 use Rattle.capnp_arena.specs.declared.arena.reader_arena_impl.ReaderOptions.{ReaderOptions}
-use Rattle.capnp_objects.specs.Source.{levels}
+use Rattle.capnp_pointers.specs.Source.{levels}
 use Rattle.capnp_messages.specs.EndValues.{EndMeans, end_place}
 use Rattle.capnp_messages.specs.MessageParts.{part_within}
 use Rattle.capnp_messages.specs.Parts.{PathEnd, part}

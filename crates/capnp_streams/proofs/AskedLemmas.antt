@@ -6,7 +6,7 @@ use Rattle.capnp_words.specs.declared.error.ErrorKind.TheVariants.{AllocationFai
 use Rattle.capnp_format.specs.Segments.{Segments}
 use Rattle.capnp_format.specs.Tree.{Tree}
 use Rattle.capnp_arena.specs.declared.arena.reader_arena_impl.ReaderOptions.{ReaderOptions}
-use Rattle.capnp_objects.specs.declared.pointers.sizes.MessageSize.{MessageSize}
+use Rattle.capnp_pointers.specs.declared.pointers.sizes.MessageSize.{MessageSize}
 use Rattle.capnp_messages.specs.Copies.{LacksMemoryOr}
 use Rattle.capnp_messages.specs.MessageParts.{RefusesPart, part_size}
 use Rattle.capnp_messages.specs.Messages.{IsValueOf, RefusesCanon}

@@ -6,8 +6,8 @@ use Rattle.capnp_words.specs.declared.error.ErrorKind.{ErrorKind}
 use Rattle.capnp_words.specs.declared.error.ErrorKind.TheVariants.{AllocationFailed}
 use Rattle.capnp_format.specs.Segments.{Segments}
 use Rattle.capnp_arena.specs.declared.arena.reader_arena_impl.ReaderOptions.{ReaderOptions}
-use Rattle.capnp_making.specs.Memory.{refusals_for}
-use Rattle.capnp_making.proofs.Memory.{not_the_allocator}
+use Rattle.capnp_allocation.specs.Memory.{refusals_for}
+use Rattle.capnp_allocation.proofs.Memory.{not_the_allocator}
 use Rattle.capnp_framing.specs.declared.framing.frame_error.FrameError.TheVariants.{WriteFailed}
 use Rattle.capnp_messages.specs.Copies.{LacksMemoryOr}
 use Rattle.capnp_messages.specs.declared.messages.command.Command.{Command}

@@ -7,15 +7,15 @@ use Rattle.capnp_format.specs.Segments.{Segments, segment}
 use Rattle.capnp_arena.specs.declared.arena.reader_arena_impl.ReaderOptions.{ReaderOptions}
 use Rattle.capnp_arena_traits.specs.Allocations.{max_segment_words}
 use Rattle.capnp_arena_traits.specs.Checks.{misplaced}
-use Rattle.capnp_objects.specs.declared.object.Purpose.TheVariants.{Value}
-use Rattle.capnp_objects.specs.Enter.{Shape, capability, flat, nothing, pointers, read, struct, structs}
-use Rattle.capnp_objects.specs.Metered.{Metered, answer, charge_words, covers, demand, onward, outcome, ◌>>>◌}
-use Rattle.capnp_objects.specs.Reading.{Reading, place_past}
-use Rattle.capnp_objects.specs.Refusals.{here}
-use Rattle.capnp_objects.specs.Source.{levels}
-use Rattle.capnp_objects.specs.Wanted.{plain}
-use Rattle.capnp_objects.proofs.OneObject.ReadInOneWay.{not_read_if}
-use Rattle.capnp_objects.proofs.WholeValue.RefusalsNamed.{not_for_memory}
+use Rattle.capnp_pointers.specs.declared.object.Purpose.TheVariants.{Value}
+use Rattle.capnp_pointers.specs.Enter.{Shape, capability, flat, nothing, pointers, read, struct, structs}
+use Rattle.capnp_pointers.specs.Metered.{Metered, answer, charge_words, covers, demand, onward, outcome, ◌>>>◌}
+use Rattle.capnp_pointers.specs.Reading.{Reading, place_past}
+use Rattle.capnp_pointers.specs.Refusals.{here}
+use Rattle.capnp_pointers.specs.Source.{levels}
+use Rattle.capnp_pointers.specs.Wanted.{plain}
+use Rattle.capnp_pointers.proofs.OneObject.ReadInOneWay.{not_read_if}
+use Rattle.capnp_pointers.proofs.WholeValue.RefusalsNamed.{not_for_memory}
 use Rattle.capnp_messages.specs.Copies.{RefusesCopy}
 use Rattle.capnp_messages.specs.MessageParts.{RefusesPart, part_within}
 use Rattle.capnp_messages.specs.Parts.{PathEnd, end_at, end_in, follow_path, inside, pointer_in, step, to_element, to_pointer}

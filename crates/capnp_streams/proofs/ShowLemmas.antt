@@ -1,7 +1,7 @@
 -- A message is shown.
 use Rattle.std.proofs.Common.{◌≡◌, ℕ, List, Bool, subst}
 use Rattle.capnp_format.specs.Segments.{Segments}
-use Rattle.capnp_objects.specs.Source.{levels}
+use Rattle.capnp_pointers.specs.Source.{levels}
 use Rattle.capnp_show.specs.ShownParts.{IsShownText, message_shown}
 use Rattle.capnp_streams.specs.Paths.{path_indexes}
 use Rattle.capnp_streams.specs.Shows.{IsShown, showing_of}

@@ -1,7 +1,7 @@
 -- What is written of a message that is shown.
 use Rattle.std.specs.Prelude.{ℕ, List, Bool}
 use Rattle.capnp_format.specs.Segments.{Segments}
-use Rattle.capnp_objects.specs.Source.{levels}
+use Rattle.capnp_pointers.specs.Source.{levels}
 use Rattle.capnp_show.specs.ShownParts.{IsShownText, message_shown}
 use Rattle.capnp_show.specs.declared.show.message.Showing.{Showing}
 use Rattle.capnp_streams.specs.Paths.{path_indexes}

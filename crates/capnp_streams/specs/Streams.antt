@@ -23,9 +23,9 @@ use Rattle.capnp_framing.specs.declared.devices.Input.{Ghosts as InputGhosts}
 use Rattle.capnp_framing.specs.declared.devices.Output.{Ghosts as OutputGhosts}
 use Rattle.capnp_framing.specs.declared.framing.frame_error.FrameError.TheVariants.{AllocationFailed as NoMemory}
 use Rattle.capnp_framing.specs.declared.framing.frame_error.FrameError.TheVariants.{ReadFailed, WriteFailed}
-use Rattle.capnp_making.specs.Memory.{refusals_for}
-use Rattle.capnp_objects.specs.CanonicalFaults.{fault_reason_text}
-use Rattle.capnp_objects.specs.declared.pointers.canonical_fault.CanonicalFault.{CanonicalFault}
+use Rattle.capnp_allocation.specs.Memory.{refusals_for}
+use Rattle.capnp_pointers.specs.CanonicalFaults.{fault_reason_text}
+use Rattle.capnp_pointers.specs.declared.pointers.canonical_fault.CanonicalFault.{CanonicalFault}
 use Rattle.capnp_messages.specs.Text.{check_line, extent_line, size_line}
 use Rattle.capnp_messages.specs.CanonicalMessages.{IsCanonicalMessage}
 use Rattle.capnp_messages.specs.Extents.{HasExtent}

@@ -2,7 +2,7 @@
 use Rattle.std.proofs.Common.{◌≡◌, inl, inr, ℕ, zero, suc, ◌+◌, ◌-◌, ◌^◌, ◌≤◌, List, [], ◌∷◌, ◌++◌, length, take, set, refl, ap, ap₂, sym, ◌∙◌, arith, length-append}
 use Rattle.std.proofs.lemmas.List.{set_past}
 use Rattle.std.proofs.lemmas.Bool.{cases_lt}
-use Rattle.capnp_objects.specs.Extents.{capped}
+use Rattle.capnp_pointers.specs.Extents.{capped}
 use Rattle.capnp_walks.specs.Listing.{into_array, into_list}
 use Rattle.capnp_walks.specs.Walks.{written_over}
 use Rattle.capnp_walks.specs.declared.walks.listing.WalkedObject.{WalkedObject}

@@ -4,12 +4,12 @@ use Rattle.capnp_words.specs.declared.error.ErrorKind.{ErrorKind}
 use Rattle.capnp_words.specs.Meter.{FitsIn, Meter, less, unused}
 use Rattle.capnp_format.specs.Segments.{Segments}
 use Rattle.capnp_arena.specs.declared.arena.reader_arena_impl.ReaderOptions.{ReaderOptions}
-use Rattle.capnp_objects.specs.Reading.{Reading}
-use Rattle.capnp_objects.specs.Source.{levels}
-use Rattle.capnp_objects.specs.Spending.{after_charge, pointers_in}
-use Rattle.capnp_objects.specs.Wanted.{plain}
-use Rattle.capnp_objects.proofs.WholeValue.ValueAsStated.{reads_is}
-use Rattle.capnp_objects.specs.Extents.{capped}
+use Rattle.capnp_pointers.specs.Reading.{Reading}
+use Rattle.capnp_pointers.specs.Source.{levels}
+use Rattle.capnp_pointers.specs.Spending.{after_charge, pointers_in}
+use Rattle.capnp_pointers.specs.Wanted.{plain}
+use Rattle.capnp_pointers.proofs.WholeValue.ValueAsStated.{reads_is}
+use Rattle.capnp_pointers.specs.Extents.{capped}
 use Rattle.capnp_messages.specs.Messages.{IsReadable, left_of, root_within}
 use Rattle.capnp_messages.specs.Roots.{CoversRoot, RefusesRoot}
 use Rattle.capnp_messages.specs.declared.messages.command.Command.TheVariants.{Validate}

@@ -6,21 +6,21 @@ use Rattle.capnp_words.specs.declared.error.ErrorKind.{ErrorKind}
 use Rattle.capnp_words.specs.Meter.{Affords, FitsIn, Meter, less}
 use Rattle.capnp_format.specs.Word.{kind, data_words, pointer_count, element_size, list_count, offset_bits, upper_half}
 use Rattle.capnp_format.specs.Segments.{Target}
-use Rattle.capnp_objects.specs.declared.object.Purpose.TheVariants.{Value}
-use Rattle.capnp_objects.specs.Demands.{own_charge, tag}
-use Rattle.capnp_objects.specs.Enter.{Shape, nothing, capability, struct, flat, pointers, structs, shape}
-use Rattle.capnp_objects.specs.Metered.{Metered, onward}
-use Rattle.capnp_objects.specs.Outcomes.{Entered}
-use Rattle.capnp_objects.specs.Reading.{Reading, word_of}
-use Rattle.capnp_objects.specs.Refusals.{Stopped, Unfollowed, no_target, broken, claim_exceeds, count_exceeds, exceeding, leading_nowhere}
-use Rattle.capnp_objects.specs.Spending.{Paid, after_charge}
-use Rattle.capnp_objects.specs.Wanted.{plain}
-use Rattle.capnp_objects.proofs.Budget.PaidAndLeft.{fewer_than_words}
-use Rattle.capnp_objects.proofs.OneObject.ReadAsStated.{null_is, capability_is, entering_is, stopped_is}
-use Rattle.capnp_objects.proofs.Decided.{same_or_not}
-use Rattle.capnp_objects.proofs.OneObject.ReadInOneWay.{Ends, at_capability, at_object, refused, ends}
-use Rattle.capnp_objects.proofs.WholeValue.ObjectsRead.{own_pointers, own_struct, own_structs}
-use Rattle.capnp_objects.specs.Measure.{fold_children, fold_elements, fold_pointers}
+use Rattle.capnp_pointers.specs.declared.object.Purpose.TheVariants.{Value}
+use Rattle.capnp_pointers.specs.Demands.{own_charge, tag}
+use Rattle.capnp_pointers.specs.Enter.{Shape, nothing, capability, struct, flat, pointers, structs, shape}
+use Rattle.capnp_pointers.specs.Metered.{Metered, onward}
+use Rattle.capnp_pointers.specs.Outcomes.{Entered}
+use Rattle.capnp_pointers.specs.Reading.{Reading, word_of}
+use Rattle.capnp_pointers.specs.Refusals.{Stopped, Unfollowed, no_target, broken, claim_exceeds, count_exceeds, exceeding, leading_nowhere}
+use Rattle.capnp_pointers.specs.Spending.{Paid, after_charge}
+use Rattle.capnp_pointers.specs.Wanted.{plain}
+use Rattle.capnp_pointers.proofs.Budget.PaidAndLeft.{fewer_than_words}
+use Rattle.capnp_pointers.proofs.OneObject.ReadAsStated.{null_is, capability_is, entering_is, stopped_is}
+use Rattle.capnp_pointers.proofs.Decided.{same_or_not}
+use Rattle.capnp_pointers.proofs.OneObject.ReadInOneWay.{Ends, at_capability, at_object, refused, ends}
+use Rattle.capnp_pointers.proofs.WholeValue.ObjectsRead.{own_pointers, own_struct, own_structs}
+use Rattle.capnp_pointers.specs.Measure.{fold_children, fold_elements, fold_pointers}
 use Rattle.capnp_walks.specs.Listing.{into_list}
 use Rattle.capnp_walks.specs.Walks.{Walking, added, unless_stopped, walk_place, walk_within}
 use Rattle.capnp_walks.specs.declared.walks.listing.WalkedObject.{WalkedObject}

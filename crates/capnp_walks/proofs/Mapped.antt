@@ -2,11 +2,11 @@
 use Rattle.std.proofs.Common.{◌≡◌, ℕ, zero, suc, ◌+◌, Some, None, Option, Result, Ok, Err, refl, ap, ap₂, ◌∙◌}
 use Rattle.capnp_words.specs.declared.error.ErrorKind.{ErrorKind}
 use Rattle.capnp_words.specs.Meter.{Meter}
-use Rattle.capnp_objects.specs.declared.object.Purpose.TheVariants.{Value}
-use Rattle.capnp_objects.specs.Enter.{Shape, nothing, capability, struct, flat, pointers, structs, read}
-use Rattle.capnp_objects.specs.Metered.{Metered, answer, onward}
-use Rattle.capnp_objects.specs.Reading.{Reading, place_past}
-use Rattle.capnp_objects.specs.Measure.{fold_children, fold_elements, fold_pointers}
+use Rattle.capnp_pointers.specs.declared.object.Purpose.TheVariants.{Value}
+use Rattle.capnp_pointers.specs.Enter.{Shape, nothing, capability, struct, flat, pointers, structs, read}
+use Rattle.capnp_pointers.specs.Metered.{Metered, answer, onward}
+use Rattle.capnp_pointers.specs.Reading.{Reading, place_past}
+use Rattle.capnp_pointers.specs.Measure.{fold_children, fold_elements, fold_pointers}
 use Rattle.capnp_walks.specs.Listing.{Collector, collected, walked_object}
 use Rattle.capnp_walks.specs.Walks.{Walking, added, unless_stopped, walk_on, walk_within}
 use Rattle.capnp_walks.specs.declared.walks.listing.WalkedObject.{WalkedObject}

@@ -2,11 +2,11 @@
 use Rattle.std.proofs.Common.{◌≡◌, ℕ, zero, suc, true, None, Some, Result, Ok, Err, refl}
 use Rattle.capnp_words.specs.declared.error.ErrorKind.{ErrorKind}
 use Rattle.capnp_words.specs.Meter.{Meter}
-use Rattle.capnp_objects.specs.declared.object.Purpose.TheVariants.{Value}
-use Rattle.capnp_objects.specs.Enter.{Shape, read}
-use Rattle.capnp_objects.specs.Metered.{Metered, answer, onward, outcome, ◌>>>◌}
-use Rattle.capnp_objects.specs.Reading.{Reading}
-use Rattle.capnp_objects.specs.Measure.{fold_children}
+use Rattle.capnp_pointers.specs.declared.object.Purpose.TheVariants.{Value}
+use Rattle.capnp_pointers.specs.Enter.{Shape, read}
+use Rattle.capnp_pointers.specs.Metered.{Metered, answer, onward, outcome, ◌>>>◌}
+use Rattle.capnp_pointers.specs.Reading.{Reading}
+use Rattle.capnp_pointers.specs.Measure.{fold_children}
 use Rattle.capnp_refusals.specs.Search.{Finding, of_values, permitted, search_on, search_within, unless_found}
 use Rattle.capnp_walks.specs.Listing.{Collector}
 use Rattle.capnp_walks.specs.Walks.{Walking, added, unless_stopped, walk_on, walk_within}

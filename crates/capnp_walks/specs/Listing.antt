@@ -1,7 +1,7 @@
 -- The entries of a list of objects, and what collects them.
 use Rattle.std.specs.Prelude.{ℕ, ◌+◌, ◌-◌, ◌^◌, List, [], ◌∷◌, ◌++◌, Option, Some, None, length, slice_set}
-use Rattle.capnp_objects.specs.Enter.{Shape, nothing, capability, struct, flat, pointers, structs}
-use Rattle.capnp_objects.specs.Extents.{capped}
+use Rattle.capnp_pointers.specs.Enter.{Shape, nothing, capability, struct, flat, pointers, structs}
+use Rattle.capnp_pointers.specs.Extents.{capped}
 use Rattle.capnp_walks.specs.declared.walks.listing.WalkedObject.{WalkedObject}
 
 -- The numbers of the kinds of objects that aren't lists; a list has the number of its element size

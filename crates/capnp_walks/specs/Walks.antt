@@ -6,12 +6,12 @@ use Rattle.capnp_words.specs.declared.error.ErrorKind.{ErrorKind}
 use Rattle.capnp_words.specs.Meter.{Meter, unused}
 use Rattle.capnp_format.specs.Segments.{Segments}
 use Rattle.capnp_arena.specs.declared.arena.reader_arena_impl.ReaderOptions.{ReaderOptions}
-use Rattle.capnp_objects.specs.declared.object.Purpose.TheVariants.{Value}
-use Rattle.capnp_objects.specs.Enter.{Shape, read}
-use Rattle.capnp_objects.specs.Metered.{Metered, answer}
-use Rattle.capnp_objects.specs.Reading.{Reading}
-use Rattle.capnp_objects.specs.Source.{levels}
-use Rattle.capnp_objects.specs.Measure.{fold_children, fold_elements, fold_pointers}
+use Rattle.capnp_pointers.specs.declared.object.Purpose.TheVariants.{Value}
+use Rattle.capnp_pointers.specs.Enter.{Shape, read}
+use Rattle.capnp_pointers.specs.Metered.{Metered, answer}
+use Rattle.capnp_pointers.specs.Reading.{Reading}
+use Rattle.capnp_pointers.specs.Source.{levels}
+use Rattle.capnp_pointers.specs.Measure.{fold_children, fold_elements, fold_pointers}
 use Rattle.capnp_messages.specs.Roots.{message_root, read_message_root}
 use Rattle.capnp_refusals.specs.Search.{Finding, refused_at}
 use Rattle.capnp_walks.specs.Listing.{Collector, into_list, no_parent, noted}

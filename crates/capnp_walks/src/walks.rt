@@ -2,7 +2,7 @@
 ghost use Rattle.std.specs.Prelude.{◌≡◌, length};
 ghost use Rattle.capnp_format.specs.Bytes.{message};
 ghost use Rattle.capnp_arena_traits.specs.Limits.{IsSmall};
-ghost use Rattle.capnp_objects.specs.Extents.{capped};
+ghost use Rattle.capnp_pointers.specs.Extents.{capped};
 ghost use Rattle.capnp_walks.specs.Walks.{written_over, walk_message};
 
 mod listing;

@@ -90,18 +90,18 @@ Rattle.capnp_words.specs.declared.wire_pointer.ElementSize.TheVariants
 Rattle.capnp_arena_traits.specs.Checks
  Holds |Holds
 
-Rattle.capnp_objects.specs.Expected
+Rattle.capnp_pointers.specs.Expected
  data_expected|data_expected
 (list_expected |list_expected
  struct_expected|struct_expected
  text_expected|text_expected
 
-Rattle.capnp_objects.specs.Reading
+Rattle.capnp_pointers.specs.Reading
  source_start |source_start
 (source_start |source_start
 (word_of |word_of
 
-Rattle.capnp_objects.specs.Source
+Rattle.capnp_pointers.specs.Source
 (levels |levels
 
 Rattle.capnp_readers.specs.Readers
@@ -246,7 +246,7 @@ Rattle.capnp_words.specs.declared.wire_pointer.ElementSize.TheVariants
 .words Pointer) }|Pointer
  HasElements Pointer |Pointer
 
-Rattle.capnp_making.specs.Made
+Rattle.capnp_allocation.specs.Made
 (list_words |list_words
 (nulls |nulls
 (words_of_zero |words_of_zero
@@ -255,23 +255,23 @@ Rattle.capnp_making.specs.Made
 (zero_struct |zero_struct
 (zero_structs |zero_structs
 
-Rattle.capnp_making.specs.Makes
+Rattle.capnp_allocation.specs.Makes
  Allocates |Allocates
  MakesObject |MakesObject
 (call_at |call_at
 
-Rattle.capnp_making.specs.Stored
+Rattle.capnp_allocation.specs.Stored
 (IsStored |IsStored
  IsStored |IsStored
 
-Rattle.capnp_contents.specs.Anew
+Rattle.capnp_in_place.specs.Anew
  OnlyWrites |OnlyWrites
 
-Rattle.capnp_contents.specs.Rooms
+Rattle.capnp_in_place.specs.Rooms
  OpeningFits |OpeningFits
  WiderListFits|WiderListFits
 
-Rattle.capnp_objects.specs.Wanted
+Rattle.capnp_pointers.specs.Wanted
  plain |plain
 
 Rattle.capnp_readers.specs.Readers
@@ -463,13 +463,13 @@ Rattle.capnp_arena_traits.specs.Checks
  Holds |Holds
 (Holds |Holds
 
-Rattle.capnp_objects.specs.Reading
+Rattle.capnp_pointers.specs.Reading
 (word_of |word_of
 
-Rattle.capnp_objects.specs.Source
+Rattle.capnp_pointers.specs.Source
 (levels |levels
 
-Rattle.capnp_objects.specs.Spending
+Rattle.capnp_pointers.specs.Spending
 (Paid |Paid
 (pointers_in |pointers_in
 

@@ -3,7 +3,7 @@ ghost use Rattle.std.specs.Prelude.{◌≡◌, ℕ, IfOk};
 ghost use Rattle.capnp_format.specs.Bytes.{message};
 ghost use Rattle.capnp_format.specs.Means.{Means};
 ghost use Rattle.capnp_format.specs.Tree.{Tree};
-ghost use Rattle.capnp_objects.specs.Source.{levels};
+ghost use Rattle.capnp_pointers.specs.Source.{levels};
 ghost use Rattle.capnp_readers.specs.Values.{text_bytes};
 ghost use Rattle.typed_reading.specs.Values.{child};
 

@@ -6,7 +6,7 @@ ghost use Rattle.capnp_format.specs.Means.{Means};
 ghost use Rattle.capnp_format.specs.Tree.{Tree};
 ghost use Rattle.capnp_words.specs.Meter.{Affords};
 ghost use Rattle.capnp_arena_traits.specs.Checks.{Holds};
-ghost use Rattle.capnp_objects.specs.Source.{levels};
+ghost use Rattle.capnp_pointers.specs.Source.{levels};
 ghost use Rattle.capnp_readers.specs.Values.{HasStructs, IsStructOrNull, IsText, list_length, struct_element};
 ghost use Rattle.typed_reading.specs.Outcomes.{root_outcome, root_place};
 ghost use Rattle.typed_reading.specs.Sections.{LeadsToSectionsOf};

@@ -6,10 +6,10 @@ use Rattle.capnp_words.specs.Meter.{Meter, unused}
 use Rattle.capnp_format.specs.Canonical.{trim, encoding, word_count}
 use Rattle.capnp_format.specs.Segments.{Segments}
 use Rattle.capnp_format.specs.Tree.{Tree, capabilities, depth}
-use Rattle.capnp_objects.specs.Examples.{root_reading, root_value}
-use Rattle.capnp_objects.specs.Wanted.{plain, canonical}
-use Rattle.capnp_objects.specs.declared.pointers.sizes.MessageSize.{MessageSize}
-use Rattle.capnp_objects.specs.Measure.{measure, only_words}
+use Rattle.capnp_pointers.specs.Examples.{root_reading, root_value}
+use Rattle.capnp_pointers.specs.Wanted.{plain, canonical}
+use Rattle.capnp_pointers.specs.declared.pointers.sizes.MessageSize.{MessageSize}
+use Rattle.capnp_pointers.specs.Measure.{measure, only_words}
 
 -- What a reading results in, and what it leaves of the traversal limit.
 abbrev pub Ended : Type 0 → Type 0

@@ -9,7 +9,7 @@ use Rattle.capnp_words.specs.declared.error.ErrorKind.TheVariants.{MessageContai
 use Rattle.capnp_words.specs.declared.error.ErrorKind.TheVariants.{MessageIsTooDeeplyNested}
 use Rattle.capnp_words.specs.declared.error.ErrorKind.TheVariants.{MessageIsTooDeeplyNestedOrContainsCycles}
 use Rattle.capnp_words.specs.declared.error.ErrorKind.TheVariants.{UnknownPointerType}
-use Rattle.capnp_objects.specs.Examples.{alone}
+use Rattle.capnp_pointers.specs.Examples.{alone}
 use Rattle.outside_facts.specs.Facts.{Fact, lacks, refused}
 
 abbrev pub refusals_1 : List Fact

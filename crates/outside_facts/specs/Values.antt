@@ -1,6 +1,6 @@
 -- Messages that mean a value without capabilities.
 use Rattle.std.specs.Prelude.{List, [], ◌∷◌}
-use Rattle.capnp_objects.specs.Examples.{alone}
+use Rattle.capnp_pointers.specs.Examples.{alone}
 use Rattle.outside_facts.specs.Facts.{Fact, means}
 
 abbrev pub values_1 : List Fact

@@ -3,8 +3,8 @@ ghost use Rattle.std.specs.Prelude.{◌≡◌, ◌≢◌, ◌↔◌, ℕ, IsTrue
 ghost use Rattle.std.specs.Result.{result_err};
 ghost use Rattle.capnp_format.specs.Tree.{Tree, Null};
 ghost use Rattle.capnp_words.specs.Meter.{Affords};
-ghost use Rattle.capnp_objects.specs.Expected.{struct_expected};
-ghost use Rattle.capnp_objects.specs.Reading.{source_start, word_of};
+ghost use Rattle.capnp_pointers.specs.Expected.{struct_expected};
+ghost use Rattle.capnp_pointers.specs.Reading.{source_start, word_of};
 ghost use Rattle.capnp_readers.specs.Values.{IsStructOrNull, ShowsStructOf, child_cost};
 ghost use Rattle.typed_reading.specs.Outcomes.{reading_outcome};
 ghost use Rattle.typed_reading.specs.Sections.{LeadsToSectionsOf, ShowsSectionsOf, pointer_field};

@@ -14,12 +14,12 @@ use Rattle.capnp_arena_traits.specs.View.{View}
 use Rattle.capnp_arena_traits.specs.declared.arena.reader_arena.ReaderArena.{Ghosts}
 use Rattle.capnp_format.specs.Path.{tree_at}
 use Rattle.capnp_format.specs.Segments.{segment}
-use Rattle.capnp_making.specs.Stored.{Puts}
-use Rattle.capnp_making.proofs.Memory.{keeps_both, keeps_then_spends}
-use Rattle.capnp_contents.specs.Anew.{OnlyWrites}
-use Rattle.capnp_contents.proofs.MovedPointers.RewrittenInTurn.{keeps_writes}
-use Rattle.capnp_objects.specs.Reading.{Reading, words_from}
-use Rattle.capnp_objects.specs.Wanted.{plain}
+use Rattle.capnp_allocation.specs.Stored.{Puts}
+use Rattle.capnp_allocation.proofs.Memory.{keeps_both, keeps_then_spends}
+use Rattle.capnp_in_place.specs.Anew.{OnlyWrites}
+use Rattle.capnp_in_place.proofs.MovedPointers.RewrittenInTurn.{keeps_writes}
+use Rattle.capnp_pointers.specs.Reading.{Reading, words_from}
+use Rattle.capnp_pointers.specs.Wanted.{plain}
 use Rattle.capnp_readers.specs.Readers.{read_by}
 use Rattle.capnp_readers.specs.Sizes.{pointers_read}
 use Rattle.capnp_readers.specs.Values.{HasValue, ShowsListOf, ShowsStructOf, first_element, struct_children, struct_data}

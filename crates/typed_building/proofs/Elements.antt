@@ -7,11 +7,11 @@ use Rattle.capnp_format.specs.Means.{Leads, Means}
 use Rattle.capnp_format.specs.Path.{Element, put_tree, tree_at}
 use Rattle.capnp_format.specs.Segments.{Segments, Target}
 use Rattle.capnp_format.specs.Tree.{Tree, Null, Pointers, Trees, count}
-use Rattle.capnp_making.specs.Makes.{MakesObject, call_at}
-use Rattle.capnp_making.specs.Stored.{IsReplaced, IsStored}
-use Rattle.capnp_making.proofs.Filling.{holder_put, pointers_holder}
-use Rattle.capnp_making.proofs.Replace.{put_tree-count}
-use Rattle.capnp_making.proofs.Replaced.{stored_within}
+use Rattle.capnp_allocation.specs.Makes.{MakesObject, call_at}
+use Rattle.capnp_allocation.specs.Stored.{IsReplaced, IsStored}
+use Rattle.capnp_allocation.proofs.Filling.{holder_put, pointers_holder}
+use Rattle.capnp_allocation.proofs.Replace.{put_tree-count}
+use Rattle.capnp_allocation.proofs.Replaced.{stored_within}
 use Rattle.capnp_readers.specs.declared.readers.list_reader.ListPlace.{ListPlace}
 use Rattle.capnp_builders.specs.Held.{HasList}
 use Rattle.typed_building.specs.Elements.{MakesElement, list_call}

@@ -8,9 +8,9 @@ use Rattle.capnp_format.specs.Path.{put_struct, tree_at}
 use Rattle.capnp_format.specs.Segments.{HasWords, Segments, Target, segment, word_at}
 use Rattle.capnp_format.specs.Tree.{Null, Struct, Structs, Trees, count}
 use Rattle.capnp_format.proofs.ZeroWords.{zero_is_null}
-use Rattle.capnp_making.specs.Stored.{IsStored}
-use Rattle.capnp_making.proofs.FillingElements.{put_struct-count, put_struct-here}
-use Rattle.capnp_contents.proofs.Fields.FieldWritten.{element_has_words}
+use Rattle.capnp_allocation.specs.Stored.{IsStored}
+use Rattle.capnp_allocation.proofs.FillingElements.{put_struct-count, put_struct-here}
+use Rattle.capnp_in_place.proofs.Fields.FieldWritten.{element_has_words}
 use Rattle.capnp_readers.specs.Sections.{IsInside}
 use Rattle.capnp_readers.specs.declared.readers.struct_reader.StructPlace.{StructPlace}
 use Rattle.capnp_builders.specs.Held.{Lead, directly, as_element, HasStruct, Holder, LeadsToSections, held_start, held_tree, struct_held}

@@ -4,12 +4,12 @@ use Rattle.capnp_words.specs.declared.error.ErrorKind.{ErrorKind}
 use Rattle.capnp_arena_traits.specs.Allocations.{one_more}
 use Rattle.capnp_arena_traits.specs.Taking.{IsAllocationRefusal}
 use Rattle.capnp_arena_traits.specs.View.{View}
-use Rattle.capnp_making.specs.Makes.{Allocates, call_at}
-use Rattle.capnp_making.specs.Memory.{HasRoom, IsRefusedFor, KeepsMemory, TakesWords}
-use Rattle.capnp_making.proofs.Memory.{keeps_both}
-use Rattle.capnp_making.proofs.Outcomes.{if_err_so, on_made_so}
-use Rattle.capnp_contents.specs.Anew.{OnlyWrites}
-use Rattle.capnp_contents.proofs.MovedPointers.RewrittenInTurn.{keeps_writes, taken_before}
+use Rattle.capnp_allocation.specs.Makes.{Allocates, call_at}
+use Rattle.capnp_allocation.specs.Memory.{HasRoom, IsRefusedFor, KeepsMemory, TakesWords}
+use Rattle.capnp_allocation.proofs.Memory.{keeps_both}
+use Rattle.capnp_allocation.proofs.Outcomes.{if_err_so, on_made_so}
+use Rattle.capnp_in_place.specs.Anew.{OnlyWrites}
+use Rattle.capnp_in_place.proofs.MovedPointers.RewrittenInTurn.{keeps_writes, taken_before}
 
 room_written : (a b : View) (id n : ℕ) → OnlyWrites a b → HasRoom a id n → HasRoom b id n
 room_written a b id n w (inl fits) = inl (omega (arith, fits, w.words id, ap (λ (v : View). v.room id) w.limits))

@@ -12,16 +12,16 @@ use Rattle.capnp_format.specs.Path.{put_struct, put_tree, struct_at, tree_at}
 use Rattle.capnp_format.specs.Segments.{IsPlace, Segments, Target}
 use Rattle.capnp_format.specs.Tree.{Tree, Null, Capability, Struct, Flat, Pointers, Structs, Trees, no_trees, tree, Elements, count, element_count}
 use Rattle.capnp_arena_traits.specs.View.{View}
-use Rattle.capnp_contents.specs.Existing.{list_in, plain_list, struct_list}
-use Rattle.capnp_making.specs.Made.{zero_elements}
-use Rattle.capnp_making.specs.Makes.{CallAt}
-use Rattle.capnp_making.specs.Stored.{IsReplaced, IsStored}
-use Rattle.capnp_making.proofs.Filling.{unchanged}
-use Rattle.capnp_making.proofs.FillingMade.{null_stored}
-use Rattle.capnp_contents.specs.Opening.{Opens, OpensStruct, struct_opened}
-use Rattle.capnp_contents.specs.Rooms.{OpeningFits, WiderListFits}
-use Rattle.capnp_contents.specs.Widened.{fill_elements, limited, list_widened, struct_for_each, struct_for_each_tree}
-use Rattle.capnp_contents.proofs.WiderObjects.WhichList.{structs_stay, structs_widen}
+use Rattle.capnp_in_place.specs.Existing.{list_in, plain_list, struct_list}
+use Rattle.capnp_allocation.specs.Made.{zero_elements}
+use Rattle.capnp_allocation.specs.Makes.{CallAt}
+use Rattle.capnp_allocation.specs.Stored.{IsReplaced, IsStored}
+use Rattle.capnp_allocation.proofs.Filling.{unchanged}
+use Rattle.capnp_allocation.proofs.FillingMade.{null_stored}
+use Rattle.capnp_in_place.specs.Opening.{Opens, OpensStruct, struct_opened}
+use Rattle.capnp_in_place.specs.Rooms.{OpeningFits, WiderListFits}
+use Rattle.capnp_in_place.specs.Widened.{fill_elements, limited, list_widened, struct_for_each, struct_for_each_tree}
+use Rattle.capnp_in_place.proofs.WiderObjects.WhichList.{structs_stay, structs_widen}
 use Rattle.capnp_readers.specs.Readers.{IsListPlace}
 use Rattle.capnp_readers.specs.Values.{struct_children, struct_data}
 use Rattle.capnp_readers.specs.declared.readers.list_reader.ListPlace.{ListPlace}

@@ -4,9 +4,9 @@ use Rattle.capnp_words.specs.declared.error.ErrorKind.{ErrorKind}
 use Rattle.capnp_format.specs.Path.{put_tree, tree_at}
 use Rattle.capnp_format.specs.Segments.{Segments}
 use Rattle.capnp_format.specs.Tree.{Tree, Null, Trees}
-use Rattle.capnp_making.specs.Stored.{IsReplaced, Puts}
-use Rattle.capnp_making.proofs.Filling.{unchanged}
-use Rattle.capnp_making.proofs.Replaced.{replaced_again}
+use Rattle.capnp_allocation.specs.Stored.{IsReplaced, Puts}
+use Rattle.capnp_allocation.proofs.Filling.{unchanged}
+use Rattle.capnp_allocation.proofs.Replaced.{replaced_again}
 use Rattle.capnp_readers.specs.declared.readers.struct_reader.StructPlace.{StructPlace}
 use Rattle.capnp_builders.specs.Held.{CallIn, HasStruct, MakesChild, ReplacesChild, ReplacesField, SetsChild, SetsField, call_in, held_tree}
 use Rattle.capnp_builders.proofs.HeldStructs.{child_replaced, child_set, child_stored}

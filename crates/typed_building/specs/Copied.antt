@@ -6,7 +6,7 @@ use Rattle.capnp_words.specs.declared.wire_pointer.ElementSize.TheVariants.{Inli
 use Rattle.capnp_words.specs.declared.wire_pointer.StructSize.{StructSize}
 use Rattle.capnp_words.specs.declared.error.ErrorKind.{ErrorKind}
 use Rattle.capnp_format.specs.Tree.{Tree, Null, Struct, Flat, Pointers, Structs, no_elements, no_trees}
-use Rattle.capnp_making.specs.Memory.{KeepsMemory, SpendsMemory}
+use Rattle.capnp_allocation.specs.Memory.{KeepsMemory, SpendsMemory}
 use Rattle.capnp_readers.specs.Values.{struct_children, struct_data}
 use Rattle.capnp_copies.specs.Changes.{CopyCall, RefusesToCopy}
 use Rattle.capnp_copies.specs.Originals.{Original}

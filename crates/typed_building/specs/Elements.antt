@@ -4,7 +4,7 @@ use Rattle.capnp_words.specs.declared.error.ErrorKind.{ErrorKind}
 use Rattle.capnp_format.specs.Path.{put_tree}
 use Rattle.capnp_format.specs.Segments.{Segments}
 use Rattle.capnp_format.specs.Tree.{Tree, Null, Pointers, Trees}
-use Rattle.capnp_making.specs.Stored.{IsReplaced}
+use Rattle.capnp_allocation.specs.Stored.{IsReplaced}
 use Rattle.capnp_readers.specs.declared.readers.list_reader.ListPlace.{ListPlace}
 use Rattle.capnp_builders.specs.Held.{HasList}
 

@@ -4,7 +4,7 @@ use Rattle.capnp_words.specs.declared.error.ErrorKind.{ErrorKind}
 use Rattle.capnp_format.specs.Fields.{put_field}
 use Rattle.capnp_format.specs.Path.{put_tree}
 use Rattle.capnp_format.specs.Tree.{Tree, Null, Trees}
-use Rattle.capnp_making.specs.Stored.{IsReplaced}
+use Rattle.capnp_allocation.specs.Stored.{IsReplaced}
 use Rattle.capnp_builders.specs.Held.{CallIn, HasStruct, Holder, held_tree}
 use Rattle.capnp_builders.specs.Places.{Field, number_field}
 use Rattle.typed_building.specs.declared.tag.UnionTag.{UnionTag}

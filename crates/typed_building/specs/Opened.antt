@@ -6,9 +6,9 @@ use Rattle.capnp_words.specs.declared.wire_pointer.ElementSize.{ElementSize}
 use Rattle.capnp_words.specs.declared.wire_pointer.StructSize.{StructSize}
 use Rattle.capnp_format.specs.Path.{put_tree, tree_at}
 use Rattle.capnp_format.specs.Tree.{Tree, Flat, Pointers, Trees}
-use Rattle.capnp_making.specs.Stored.{IsReplaced}
-use Rattle.capnp_contents.specs.Opening.{struct_opened}
-use Rattle.capnp_contents.specs.Widened.{list_widened}
+use Rattle.capnp_allocation.specs.Stored.{IsReplaced}
+use Rattle.capnp_in_place.specs.Opening.{struct_opened}
+use Rattle.capnp_in_place.specs.Widened.{list_widened}
 use Rattle.capnp_builders.specs.Held.{CallIn, HasStruct, Holder, held_tree}
 
 -- What t becomes; t itself, if that is refused.

@@ -2,7 +2,7 @@
 use Rattle.std.specs.Prelude.{ℕ, ◌<◌, List, [], ◌∷◌, ⊤}
 use Rattle.capnp_format.specs.Path.{put_tree}
 use Rattle.capnp_format.specs.Tree.{Null, Trees}
-use Rattle.capnp_making.specs.Stored.{IsReplaced}
+use Rattle.capnp_allocation.specs.Stored.{IsReplaced}
 use Rattle.capnp_readers.specs.Sections.{IsInside}
 use Rattle.capnp_readers.specs.declared.readers.struct_reader.StructPlace.{StructPlace}
 use Rattle.capnp_builders.specs.Held.{CallIn, HasStruct, Holder, held_tree}

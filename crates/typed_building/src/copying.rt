@@ -3,7 +3,7 @@ ghost use Rattle.std.specs.Prelude.{◌≡◌, ◌+◌, ◌<◌, Err, IfErr, IfO
 ghost use Rattle.capnp_format.specs.Segments.{Grows};
 ghost use Rattle.capnp_format.specs.Tree.{Tree};
 ghost use Rattle.capnp_words.specs.declared.error.ErrorKind.{ErrorKind};
-ghost use Rattle.capnp_objects.specs.Wanted.{plain};
+ghost use Rattle.capnp_pointers.specs.Wanted.{plain};
 ghost use Rattle.capnp_readers.specs.Readers.{IsStructPlace, read_by};
 ghost use Rattle.capnp_readers.specs.Values.{HasValue, ShowsListOf, ShowsStructOf};
 ghost use Rattle.capnp_copies.specs.Changes.{copy_call};

@@ -5,7 +5,7 @@ ghost use Rattle.capnp_readers.specs.Readers.{IsStructPlace};
 ghost use Rattle.capnp_builders.specs.Held.{call_in};
 ghost use Rattle.capnp_builders.specs.Places.{IsAligned};
 ghost use Rattle.capnp_readers.specs.Sections.{IsInside};
-ghost use Rattle.capnp_contents.specs.Anew.{OnlyWrites};
+ghost use Rattle.capnp_in_place.specs.Anew.{OnlyWrites};
 ghost use Rattle.typed_building.specs.Slots.{BeginsGroup, HoldsSlot, HoldsSlots, ReplacesGroup, ReplacesSlots, ZeroesSlots};
 
 use crate::slots::Slot;

@@ -8,9 +8,9 @@ ghost use Rattle.capnp_readers.specs.Sections.{IsInside};
 ghost use Rattle.capnp_builders.specs.Held.{HasStruct, Holder};
 ghost use Rattle.capnp_builders.specs.Places.{IsAligned};
 
+use capnp_allocation::landing::pointer_word;
 use capnp_arena_traits::arena::BuilderArena;
-use capnp_contents::{existing, numbers};
-use capnp_making::landing::pointer_word;
+use capnp_in_place::{existing, numbers};
 use capnp_readers::readers::StructPlace;
 use capnp_words::error::ErrorKind;
 use capnp_words::mask::Mask;

@@ -4,9 +4,9 @@ ghost use Rattle.capnp_format.specs.Numbers.{words_for};
 ghost use Rattle.capnp_format.specs.Segments.{Grows};
 ghost use Rattle.capnp_format.specs.Tree.{Capability, Flat, Null, Trees};
 ghost use Rattle.capnp_words.specs.Sizes.{size_number};
-ghost use Rattle.capnp_making.specs.Made.{list_words, zero_list};
-ghost use Rattle.capnp_making.specs.Makes.{Allocates};
-ghost use Rattle.capnp_contents.specs.Anew.{OnlyWrites};
+ghost use Rattle.capnp_allocation.specs.Made.{list_words, zero_list};
+ghost use Rattle.capnp_allocation.specs.Makes.{Allocates};
+ghost use Rattle.capnp_in_place.specs.Anew.{OnlyWrites};
 ghost use Rattle.capnp_readers.specs.Readers.{IsStructPlace};
 ghost use Rattle.capnp_readers.specs.Sections.{IsInside};
 ghost use Rattle.capnp_builders.specs.Held.{HasList, HasStruct, Holder, ReplacesChild, ReplacesField, SetsChild, SetsField, call_in};
@@ -15,13 +15,13 @@ ghost use Rattle.typed_building.specs.Members.{MakesMember, ReplacesChildMember,
 ghost use Rattle.typed_building.specs.There.{HasListPlace, call_on};
 
 use crate::tag::UnionTag;
+use capnp_allocation::making;
 use capnp_arena_traits::arena::BuilderArena;
 use capnp_builders::fields;
 pub use capnp_builders::fields::{
     init_list, init_root, init_struct, init_struct_list, set_bool, set_data, set_number, set_text,
 };
-use capnp_contents::initializing;
-use capnp_making::making;
+use capnp_in_place::initializing;
 use capnp_readers::readers::{ListPlace, StructPlace};
 use capnp_words::error::ErrorKind;
 use capnp_words::mask::Mask;

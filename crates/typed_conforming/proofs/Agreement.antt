@@ -7,19 +7,19 @@ use Rattle.capnp_words.specs.Meter.{Meter}
 use Rattle.capnp_format.specs.Word.{kind, data_words, pointer_count, element_size, list_count, offset_bits, upper_half}
 use Rattle.capnp_format.specs.Segments.{Target}
 use Rattle.capnp_format.specs.Tree.{Tree, Null, Capability, Struct, Pointers, Structs, tree, element}
-use Rattle.capnp_objects.specs.declared.object.Purpose.TheVariants.{Value}
-use Rattle.capnp_objects.specs.Demands.{tag}
-use Rattle.capnp_objects.specs.Enter.{Shape, nothing, capability, struct, flat, pointers, structs, shape}
-use Rattle.capnp_objects.specs.Metered.{Metered, answer, onward}
-use Rattle.capnp_objects.specs.Outcomes.{Entered}
-use Rattle.capnp_objects.specs.Reading.{Reading, place_past, word_of, words_from}
-use Rattle.capnp_objects.specs.Spending.{after_charge}
-use Rattle.capnp_objects.specs.Values.{read_values, read_element_values, object_value, value_within, value}
-use Rattle.capnp_objects.specs.Wanted.{plain}
-use Rattle.capnp_objects.proofs.OneObject.ReadAsStated.{null_is, capability_is, entering_is, stopped_is}
-use Rattle.capnp_objects.proofs.Decided.{same_or_not}
-use Rattle.capnp_objects.proofs.OneObject.ReadInOneWay.{Ends, at_capability, at_object, refused, ends}
-use Rattle.capnp_objects.proofs.WholeValue.ValueAgrees.{leaf_is, refusal_is, value_is}
+use Rattle.capnp_pointers.specs.declared.object.Purpose.TheVariants.{Value}
+use Rattle.capnp_pointers.specs.Demands.{tag}
+use Rattle.capnp_pointers.specs.Enter.{Shape, nothing, capability, struct, flat, pointers, structs, shape}
+use Rattle.capnp_pointers.specs.Metered.{Metered, answer, onward}
+use Rattle.capnp_pointers.specs.Outcomes.{Entered}
+use Rattle.capnp_pointers.specs.Reading.{Reading, place_past, word_of, words_from}
+use Rattle.capnp_pointers.specs.Spending.{after_charge}
+use Rattle.capnp_pointers.specs.Values.{read_values, read_element_values, object_value, value_within, value}
+use Rattle.capnp_pointers.specs.Wanted.{plain}
+use Rattle.capnp_pointers.proofs.OneObject.ReadAsStated.{null_is, capability_is, entering_is, stopped_is}
+use Rattle.capnp_pointers.proofs.Decided.{same_or_not}
+use Rattle.capnp_pointers.proofs.OneObject.ReadInOneWay.{Ends, at_capability, at_object, refused, ends}
+use Rattle.capnp_pointers.proofs.WholeValue.ValueAgrees.{leaf_is, refusal_is, value_is}
 use Rattle.typed_conforming.specs.declared.conforms.SchemaPointer.{SchemaPointer}
 use Rattle.typed_conforming.specs.declared.schema.Misfit.{Misfit}
 use Rattle.typed_conforming.specs.Tables.{row_below, table_below, wanted}

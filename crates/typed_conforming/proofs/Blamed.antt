@@ -2,9 +2,9 @@
 use Rattle.std.proofs.Common.{◌≡◌, ◌⊎◌, inl, inr, ℕ, zero, suc, pred, ◌+◌, ◌*◌, ◌<◌, Option, Some, None, Result, Ok, Err, List, refl, sym, ap, ◌∙◌, subst, arith}
 use Rattle.capnp_words.specs.declared.error.ErrorKind.{ErrorKind}
 use Rattle.capnp_words.specs.Meter.{Meter}
-use Rattle.capnp_objects.specs.declared.object.Purpose.TheVariants.{Value}
-use Rattle.capnp_objects.specs.Enter.{Shape, nothing, capability, struct, flat, pointers, structs, read}
-use Rattle.capnp_objects.specs.Reading.{Reading, place_past, words_from}
+use Rattle.capnp_pointers.specs.declared.object.Purpose.TheVariants.{Value}
+use Rattle.capnp_pointers.specs.Enter.{Shape, nothing, capability, struct, flat, pointers, structs, read}
+use Rattle.capnp_pointers.specs.Reading.{Reading, place_past, words_from}
 use Rattle.typed_conforming.specs.declared.conforms.SchemaPointer.{SchemaPointer}
 use Rattle.typed_conforming.specs.declared.schema.Misfit.{Misfit}
 use Rattle.typed_conforming.specs.Tables.{row_below, table_below}

@@ -13,8 +13,8 @@ use Rattle.capnp_format.specs.Bytes.{words_of}
 use Rattle.capnp_format.specs.Numbers.{element_bits}
 use Rattle.capnp_words.specs.declared.wire_pointer.ElementSize.{ElementSize}
 use Rattle.capnp_words.specs.declared.error.ErrorKind.{ErrorKind}
-use Rattle.capnp_objects.specs.Expected.{Expectation}
-use Rattle.capnp_objects.specs.Reading.{word_of}
+use Rattle.capnp_pointers.specs.Expected.{Expectation}
+use Rattle.capnp_pointers.specs.Reading.{word_of}
 use Rattle.capnp_readers.specs.Sections.{bytes_for}
 use Rattle.capnp_readers.specs.declared.readers.list_reader.ListReader.{ListReader}
 use Rattle.capnp_readers.specs.declared.readers.struct_reader.StructReader.{StructReader}

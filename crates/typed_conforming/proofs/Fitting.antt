@@ -10,7 +10,7 @@ use Rattle.capnp_format.specs.Segments.{Segments, words_at}
 use Rattle.capnp_format.specs.Tree.{Tree, Null, Flat, Capability, Struct, Pointers, Structs, Trees, Elements}
 use Rattle.capnp_format.proofs.Digits.{length-digits}
 use Rattle.capnp_readers.specs.Values.{IsText, text_bytes}
-use Rattle.capnp_objects.specs.Enter.{capability, struct, flat, pointers, structs}
+use Rattle.capnp_pointers.specs.Enter.{capability, struct, flat, pointers, structs}
 use Rattle.typed_conforming.specs.declared.schema.Kind.{Kind}
 use Rattle.typed_conforming.specs.declared.schema.Kind.TheVariants.{Any, AnyList, Capability as CapabilityKind, Text, Utf8, Data, Struct as StructKind, List as ListKind}
 use Rattle.typed_conforming.specs.Conforms.{IsOfKind}

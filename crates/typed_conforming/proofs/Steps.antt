@@ -6,22 +6,22 @@ use Rattle.capnp_words.specs.Meter.{Meter}
 use Rattle.capnp_format.specs.Numbers.{words_for}
 use Rattle.capnp_format.specs.Segments.{segment}
 use Rattle.capnp_format.specs.Word.{kind, element_size, list_count}
-use Rattle.capnp_objects.specs.declared.object.Object.{Object}
-use Rattle.capnp_objects.specs.declared.object.Object.TheVariants.{Null as ObjectNull, Capability as ObjectCapability, Struct as ObjectStruct, Flat as ObjectFlat, Pointers as ObjectPointers, Structs as ObjectStructs}
-use Rattle.capnp_objects.specs.declared.object.Purpose.TheVariants.{Value}
+use Rattle.capnp_pointers.specs.declared.object.Object.{Object}
+use Rattle.capnp_pointers.specs.declared.object.Object.TheVariants.{Null as ObjectNull, Capability as ObjectCapability, Struct as ObjectStruct, Flat as ObjectFlat, Pointers as ObjectPointers, Structs as ObjectStructs}
+use Rattle.capnp_pointers.specs.declared.object.Purpose.TheVariants.{Value}
 use Rattle.capnp_words.specs.declared.wire_pointer.StructSize.{StructSize}
-use Rattle.capnp_objects.specs.declared.object.Place.{Place}
-use Rattle.capnp_objects.specs.Enter.{Shape, flat, nothing, object_shape, read}
-use Rattle.capnp_objects.specs.Entering.{IsObjectHeld}
-use Rattle.capnp_objects.specs.Objects.{EntersNear, IsObject, near_at}
-use Rattle.capnp_objects.specs.Sizes.{IsWordAt}
-use Rattle.capnp_objects.specs.Reading.{Reading, place_past, segment_read, word_of, words_from}
-use Rattle.capnp_objects.specs.Refusals.{NotRead}
-use Rattle.capnp_objects.proofs.CanonicalTest.FoundBySteps.{pointers_room, struct_room}
-use Rattle.capnp_objects.proofs.Sizes.MeasuredBySteps.{near_flat}
-use Rattle.capnp_objects.proofs.OneObject.PartsMeant.{claim_flat, claim_list}
-use Rattle.capnp_objects.proofs.OneObject.ReadAsStated.{entering_is, null_is, object_is, stopped_is}
-use Rattle.capnp_objects.proofs.WholeValue.WordsAdded.{beginning}
+use Rattle.capnp_pointers.specs.declared.object.Place.{Place}
+use Rattle.capnp_pointers.specs.Enter.{Shape, flat, nothing, object_shape, read}
+use Rattle.capnp_pointers.specs.Entering.{IsObjectHeld}
+use Rattle.capnp_pointers.specs.Objects.{EntersNear, IsObject, near_at}
+use Rattle.capnp_pointers.specs.Sizes.{IsWordAt}
+use Rattle.capnp_pointers.specs.Reading.{Reading, place_past, segment_read, word_of, words_from}
+use Rattle.capnp_pointers.specs.Refusals.{NotRead}
+use Rattle.capnp_pointers.proofs.CanonicalTest.FoundBySteps.{pointers_room, struct_room}
+use Rattle.capnp_pointers.proofs.Sizes.MeasuredBySteps.{near_flat}
+use Rattle.capnp_pointers.proofs.OneObject.PartsMeant.{claim_flat, claim_list}
+use Rattle.capnp_pointers.proofs.OneObject.ReadAsStated.{entering_is, null_is, object_is, stopped_is}
+use Rattle.capnp_pointers.proofs.WholeValue.WordsAdded.{beginning}
 use Rattle.typed_conforming.specs.declared.conforms.ObjectElements.{ObjectElements}
 use Rattle.typed_conforming.specs.declared.schema.Kind.{Kind}
 use Rattle.typed_conforming.specs.declared.schema.Kind.TheVariants.{Any, AnyList, Capability, Data, List as ListKind, Struct, Text, Utf8}

@@ -12,8 +12,8 @@ use Rattle.capnp_format.proofs.BytesLemmas.{words_are_bytes}
 use Rattle.capnp_format.proofs.Bounds.{below_each}
 use Rattle.capnp_format.proofs.Digits.{low, high}
 use Rattle.capnp_format.proofs.WordsOf.{words_of-part}
-use Rattle.capnp_objects.specs.Objects.{IsHeld}
-use Rattle.capnp_objects.specs.declared.object.Place.{Place}
+use Rattle.capnp_pointers.specs.Objects.{IsHeld}
+use Rattle.capnp_pointers.specs.declared.object.Place.{Place}
 use Rattle.typed_conforming.specs.Misfits.{list_bytes}
 
 -- The lowest digits of a number, if they are known to be small.

@@ -18,8 +18,8 @@ use Rattle.capnp_words.specs.declared.wire_pointer.ElementSize.{ElementSize}
 use Rattle.capnp_words.specs.Sizes.{sized}
 use Rattle.capnp_format.specs.Numbers.{unpacked, words_for}
 use Rattle.capnp_format.specs.Segments.{Segments, words_at}
-use Rattle.capnp_objects.specs.Enter.{Shape, nothing, capability, struct, flat, pointers, structs}
-use Rattle.capnp_objects.specs.Expected.{narrow_elements, narrow_structs}
+use Rattle.capnp_pointers.specs.Enter.{Shape, nothing, capability, struct, flat, pointers, structs}
+use Rattle.capnp_pointers.specs.Expected.{narrow_elements, narrow_structs}
 use Rattle.typed_conforming.specs.declared.schema.Kind.{Kind}
 use Rattle.typed_conforming.specs.declared.schema.Kind.TheVariants.{Any, Capability, Text, Utf8, Data, Struct}
 use Rattle.typed_conforming.specs.declared.schema.Kind.TheVariants.{AnyList, List as ListKind}

@@ -1,7 +1,7 @@
 -- The elements of an object that may have pointers.
 use Rattle.std.specs.Prelude.{◌≡◌}
-use Rattle.capnp_objects.specs.declared.object.Object.{Object}
-use Rattle.capnp_objects.specs.declared.object.Object.TheVariants.{Struct, Pointers, Structs}
+use Rattle.capnp_pointers.specs.declared.object.Object.{Object}
+use Rattle.capnp_pointers.specs.declared.object.Object.TheVariants.{Struct, Pointers, Structs}
 use Rattle.typed_conforming.specs.declared.conforms.ObjectElements.{ObjectElements}
 
 -- These are the elements of an object: a struct is one, and a pointer of a list is one without

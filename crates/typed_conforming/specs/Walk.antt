@@ -3,9 +3,9 @@
 use Rattle.std.specs.Prelude.{◌≡◌, ℕ, zero, suc, ◌+◌, List, Option, Some, None, Result, Ok, Err}
 use Rattle.capnp_words.specs.Meter.{Meter}
 use Rattle.capnp_words.specs.declared.error.ErrorKind.{ErrorKind}
-use Rattle.capnp_objects.specs.declared.object.Purpose.TheVariants.{Value}
-use Rattle.capnp_objects.specs.Enter.{Shape, struct, pointers, structs, read}
-use Rattle.capnp_objects.specs.Reading.{Reading, place_past, words_from}
+use Rattle.capnp_pointers.specs.declared.object.Purpose.TheVariants.{Value}
+use Rattle.capnp_pointers.specs.Enter.{Shape, struct, pointers, structs, read}
+use Rattle.capnp_pointers.specs.Reading.{Reading, place_past, words_from}
 use Rattle.typed_conforming.specs.declared.conforms.SchemaPointer.{SchemaPointer}
 use Rattle.typed_conforming.specs.declared.conforms.SchemaWalk.{SchemaWalk}
 use Rattle.typed_conforming.specs.declared.schema.Kind.{Kind}

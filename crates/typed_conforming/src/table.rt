@@ -5,7 +5,7 @@ ghost use Rattle.capnp_format.specs.Fields.{field_in};
 ghost use Rattle.typed_conforming.specs.Tables.{kind_word, next_word, row_below, table_below, tested_kind, word_kind, wanted};
 
 use crate::schema::Kind;
-use capnp_objects::object::Place;
+use capnp_pointers::object::Place;
 use capnp_words::wire_pointer::ElementSize;
 use capnp_words::words::word_at;
 

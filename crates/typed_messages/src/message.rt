@@ -7,7 +7,7 @@ ghost use Rattle.capnp_format.specs.Tree.{Null};
 ghost use Rattle.capnp_words.specs.declared.error.ErrorKind.TheVariants.{AllocationFailed};
 ghost use Rattle.capnp_arena_traits.specs.Allocations.{max_segment_words};
 ghost use Rattle.capnp_arena_traits.specs.Limits.{IsSmall};
-ghost use Rattle.capnp_making.specs.Stored.{IsStored};
+ghost use Rattle.capnp_allocation.specs.Stored.{IsStored};
 ghost use Rattle.typed_messages.specs.Reading.{HasLimits, words_of_message};
 
 pub use capnp_arena::arena::ReaderOptions;

@@ -6,8 +6,8 @@ use Rattle.std.specs.Prelude.{◌↔◌, IfOk, IsTrue}
 use Rattle.capnp_format.specs.Tree.{Tree, Null, Capability, Struct, Flat, Pointers, Structs}
 use Rattle.capnp_words.specs.Meter.{Meter, Affords}
 use Rattle.capnp_arena_traits.specs.declared.arena.reader_arena.ReaderArena.{Ghosts}
-use Rattle.capnp_objects.specs.Source.{default_segment}
-use Rattle.capnp_objects.specs.declared.source.Source.TheVariants.{Default}
+use Rattle.capnp_pointers.specs.Source.{default_segment}
+use Rattle.capnp_pointers.specs.declared.source.Source.TheVariants.{Default}
 use Rattle.capnp_readers.specs.Readers.{read_by}
 use Rattle.capnp_readers.specs.Values.{HasValue, list_numbers, text_bytes}
 use Rattle.capnp_readers.specs.declared.readers.PointerReader.{PointerReader}

@@ -7,12 +7,12 @@ use Rattle.capnp_format.proofs.Levels.{one_value}
 use Rattle.capnp_format.specs.Means.{MeansElements}
 use Rattle.capnp_format.specs.Tree.{Tree, Null, Capability, Struct, Flat, Pointers, Structs, Trees, no_trees, tree, Elements, no_elements, element}
 use Rattle.capnp_arena_traits.specs.declared.arena.reader_arena.ReaderArena.{Ghosts}
-use Rattle.capnp_objects.specs.Expected.{list_expected, struct_expected}
-use Rattle.capnp_objects.specs.Outcomes.{MeansThere}
-use Rattle.capnp_objects.specs.Reading.{Reading, place_past, source_start}
-use Rattle.capnp_objects.proofs.Budget.PaidAndLeft.{affords_rest, affords_none}
-use Rattle.capnp_objects.proofs.WholeValue.UnreadableIfRefused.{affords_less}
-use Rattle.capnp_objects.proofs.WholeValue.Shorthands.{MeanThere}
+use Rattle.capnp_pointers.specs.Expected.{list_expected, struct_expected}
+use Rattle.capnp_pointers.specs.Outcomes.{MeansThere}
+use Rattle.capnp_pointers.specs.Reading.{Reading, place_past, source_start}
+use Rattle.capnp_pointers.proofs.Budget.PaidAndLeft.{affords_rest, affords_none}
+use Rattle.capnp_pointers.proofs.WholeValue.UnreadableIfRefused.{affords_less}
+use Rattle.capnp_pointers.proofs.WholeValue.Shorthands.{MeanThere}
 use Rattle.capnp_readers.specs.Calls.{WhereRead, IsListRead, IsStructRead}
 use Rattle.capnp_readers.specs.Readers.{read_by}
 use Rattle.capnp_readers.specs.Sizes.{pointers_read}

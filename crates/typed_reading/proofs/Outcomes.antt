@@ -12,21 +12,21 @@ use Rattle.capnp_format.specs.Segments.{Segments, Target, segment}
 use Rattle.capnp_format.specs.Word.{lower_half, upper_half}
 use Rattle.capnp_arena_traits.specs.Checks.{Holds, misplaced}
 use Rattle.capnp_arena_traits.specs.declared.arena.reader_arena.ReaderArena.{Ghosts}
-use Rattle.capnp_objects.specs.Demands.{own_charge}
-use Rattle.capnp_objects.specs.Enter.{nothing, shape}
-use Rattle.capnp_objects.specs.Expected.{Expectation, HasExpected, null_pointer, fitting, RefusesExpected, no_level, unfollowed, of_another_kind, stopped, misfits, expectation, list_expected, struct_expected}
-use Rattle.capnp_objects.specs.Refusals.{Unfollowed, exceeding, leading_nowhere, Stopped, no_target, broken, claim_exceeds, count_exceeds}
-use Rattle.capnp_objects.specs.Reading.{Reading, word_of}
-use Rattle.capnp_objects.specs.Spending.{after_charge}
-use Rattle.capnp_objects.specs.Values.{expect}
-use Rattle.capnp_objects.specs.Wanted.{FollowsTo, plain}
-use Rattle.capnp_objects.specs.declared.object.Expected.{Expected}
-use Rattle.capnp_objects.specs.declared.object.Purpose.TheVariants.{Value}
-use Rattle.capnp_objects.specs.declared.source.Source.TheVariants.{Arena}
-use Rattle.capnp_objects.proofs.Budget.ChargedAsStated.{covers_true, covers_false}
-use Rattle.capnp_objects.proofs.Decided.{same_or_not, within_or_not}
-use Rattle.capnp_objects.proofs.OneObject.ExpectedAsStated.{fitting_is, given_if, withheld_if, withheld_is}
-use Rattle.capnp_objects.proofs.OneObject.ExpectedBySteps.{kind_below_two}
+use Rattle.capnp_pointers.specs.Demands.{own_charge}
+use Rattle.capnp_pointers.specs.Enter.{nothing, shape}
+use Rattle.capnp_pointers.specs.Expected.{Expectation, HasExpected, null_pointer, fitting, RefusesExpected, no_level, unfollowed, of_another_kind, stopped, misfits, expectation, list_expected, struct_expected}
+use Rattle.capnp_pointers.specs.Refusals.{Unfollowed, exceeding, leading_nowhere, Stopped, no_target, broken, claim_exceeds, count_exceeds}
+use Rattle.capnp_pointers.specs.Reading.{Reading, word_of}
+use Rattle.capnp_pointers.specs.Spending.{after_charge}
+use Rattle.capnp_pointers.specs.Values.{expect}
+use Rattle.capnp_pointers.specs.Wanted.{FollowsTo, plain}
+use Rattle.capnp_pointers.specs.declared.object.Expected.{Expected}
+use Rattle.capnp_pointers.specs.declared.object.Purpose.TheVariants.{Value}
+use Rattle.capnp_pointers.specs.declared.source.Source.TheVariants.{Arena}
+use Rattle.capnp_pointers.proofs.Budget.ChargedAsStated.{covers_true, covers_false}
+use Rattle.capnp_pointers.proofs.Decided.{same_or_not, within_or_not}
+use Rattle.capnp_pointers.proofs.OneObject.ExpectedAsStated.{fitting_is, given_if, withheld_if, withheld_is}
+use Rattle.capnp_pointers.proofs.OneObject.ExpectedBySteps.{kind_below_two}
 use Rattle.capnp_readers.specs.Calls.{Call, WhereRead, IsRefused, of_pointer, of_default, short_default, of_null_default, IsStructRead, IsListRead, AreBytesRead}
 use Rattle.capnp_readers.specs.Readers.{read_by}
 use Rattle.capnp_readers.specs.declared.readers.PointerReader.{PointerReader}

@@ -2,8 +2,8 @@
 use Rattle.std.proofs.Common.{◌≡◌, ℕ, ◌+◌, Bool, true, false, Option, Some, None, arith}
 use Rattle.capnp_words.specs.Meter.{Meter, FitsIn, less, Affords, charged}
 use Rattle.capnp_arena_traits.specs.declared.arena.reader_arena.ReaderArena.{Ghosts}
-use Rattle.capnp_objects.specs.Reading.{source_start}
-use Rattle.capnp_objects.specs.declared.source.Source.{Source}
+use Rattle.capnp_pointers.specs.Reading.{source_start}
+use Rattle.capnp_pointers.specs.declared.source.Source.{Source}
 use Rattle.capnp_readers.specs.Readers.{read_by}
 use Rattle.capnp_readers.specs.Values.{StaysIn}
 use Rattle.capnp_readers.specs.declared.readers.PointerReader.{PointerReader}

@@ -9,13 +9,13 @@ use Rattle.capnp_format.specs.Word.{data_words, pointer_count}
 use Rattle.capnp_words.specs.declared.error.ErrorKind.{ErrorKind}
 use Rattle.capnp_words.specs.Meter.{Meter}
 use Rattle.capnp_arena_traits.specs.declared.arena.reader_arena.ReaderArena.{Ghosts}
-use Rattle.capnp_objects.specs.declared.source.Source.TheVariants.{Nothing}
-use Rattle.capnp_objects.proofs.Decided.{within_or_not}
-use Rattle.capnp_objects.proofs.Following.FaultlessWhereMeant.{same_target}
-use Rattle.capnp_objects.proofs.Following.LeadsWhereFollowed.{entered_leads}
-use Rattle.capnp_objects.specs.Outcomes.{MeansThere}
-use Rattle.capnp_objects.specs.Reading.{Reading, source_start, word_of}
-use Rattle.capnp_objects.specs.Expected.{struct_expected}
+use Rattle.capnp_pointers.specs.declared.source.Source.TheVariants.{Nothing}
+use Rattle.capnp_pointers.proofs.Decided.{within_or_not}
+use Rattle.capnp_pointers.proofs.Following.FaultlessWhereMeant.{same_target}
+use Rattle.capnp_pointers.proofs.Following.LeadsWhereFollowed.{entered_leads}
+use Rattle.capnp_pointers.specs.Outcomes.{MeansThere}
+use Rattle.capnp_pointers.specs.Reading.{Reading, source_start, word_of}
+use Rattle.capnp_pointers.specs.Expected.{struct_expected}
 use Rattle.capnp_readers.specs.Calls.{WhereRead, IsStructRead}
 use Rattle.capnp_words.specs.Sizes.{sized}
 use Rattle.capnp_readers.specs.Readers.{ShowsElement, ShowsStruct, read_by}

@@ -6,9 +6,9 @@ use Rattle.capnp_words.specs.Meter.{Meter, Affords}
 use Rattle.capnp_words.specs.declared.error.ErrorKind.{ErrorKind}
 use Rattle.capnp_words.specs.declared.wire_pointer.ElementSize.{ElementSize}
 use Rattle.capnp_arena_traits.specs.declared.arena.reader_arena.ReaderArena.{Ghosts}
-use Rattle.capnp_objects.specs.Expected.{list_expected}
-use Rattle.capnp_objects.specs.Reading.{source_start}
-use Rattle.capnp_objects.specs.Spending.{Paid}
+use Rattle.capnp_pointers.specs.Expected.{list_expected}
+use Rattle.capnp_pointers.specs.Reading.{source_start}
+use Rattle.capnp_pointers.specs.Spending.{Paid}
 use Rattle.capnp_readers.specs.Values.{FitsSize, ShowsListOf, ShowsStructOf, StaysIn, child_cost}
 use Rattle.capnp_readers.specs.declared.readers.list_reader.ListReader.{ListReader}
 use Rattle.capnp_readers.specs.declared.readers.struct_reader.StructReader.{StructReader}

@@ -15,12 +15,12 @@ use Rattle.capnp_format.specs.Segments.{segment}
 use Rattle.capnp_format.specs.Word.{lower_half, upper_half}
 use Rattle.capnp_arena_traits.specs.Checks.{misplaced}
 use Rattle.capnp_arena_traits.specs.declared.arena.reader_arena.ReaderArena.{Ghosts}
-use Rattle.capnp_objects.specs.Expected.{Expectation, struct_expected}
-use Rattle.capnp_objects.specs.Metered.{covers}
-use Rattle.capnp_objects.specs.Reading.{Reading, source_start, word_of}
-use Rattle.capnp_objects.specs.Source.{levels}
-use Rattle.capnp_objects.specs.Values.{expect}
-use Rattle.capnp_objects.specs.declared.source.Source.TheVariants.{Arena}
+use Rattle.capnp_pointers.specs.Expected.{Expectation, struct_expected}
+use Rattle.capnp_pointers.specs.Metered.{covers}
+use Rattle.capnp_pointers.specs.Reading.{Reading, source_start, word_of}
+use Rattle.capnp_pointers.specs.Source.{levels}
+use Rattle.capnp_pointers.specs.Values.{expect}
+use Rattle.capnp_pointers.specs.declared.source.Source.TheVariants.{Arena}
 use Rattle.typed_reading.specs.Values.{default_place}
 
 -- The refusal of a call that expects an object of some kind at a place, if it is refused, and the

@@ -7,7 +7,7 @@ use Rattle.capnp_format.specs.Segments.{Target, HasWords}
 use Rattle.capnp_format.specs.Tree.{Tree, Null, Struct, count}
 use Rattle.capnp_words.specs.declared.wire_pointer.ElementSize.TheVariants.{InlineComposite}
 use Rattle.capnp_arena_traits.specs.declared.arena.reader_arena.ReaderArena.{Ghosts}
-use Rattle.capnp_objects.specs.Reading.{Reading, place_past, source_start, unset, word_of}
+use Rattle.capnp_pointers.specs.Reading.{Reading, place_past, source_start, unset, word_of}
 use Rattle.capnp_readers.specs.Sections.{pointers_offset}
 use Rattle.capnp_readers.specs.Sizes.{pointers_read}
 use Rattle.capnp_readers.specs.Values.{first_element, struct_children, struct_data}

@@ -3,8 +3,8 @@ use Rattle.std.specs.Prelude.{ℕ, List, ◌-◌, ◌^◌, ◌≤◌, false, len
 use Rattle.capnp_format.specs.Tree.{Tree, Null}
 use Rattle.capnp_format.specs.Fields.{field_in}
 use Rattle.capnp_format.specs.Path.{Child, next}
-use Rattle.capnp_objects.specs.Reading.{Reading}
-use Rattle.capnp_objects.specs.Source.{default_segment, default_segments}
+use Rattle.capnp_pointers.specs.Reading.{Reading}
+use Rattle.capnp_pointers.specs.Source.{default_segment, default_segments}
 use Rattle.capnp_readers.specs.Values.{HasValue, list_numbers, struct_data, struct_element, text_bytes}
 
 -- The w bits of a struct's data from bit b on, which are in one word.

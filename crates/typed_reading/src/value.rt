@@ -6,11 +6,11 @@ ghost use Rattle.capnp_format.specs.Means.{Means};
 ghost use Rattle.capnp_format.specs.Tree.{Tree, Capability, Null, Struct, no_trees};
 ghost use Rattle.capnp_words.specs.Meter.{Affords, charged};
 ghost use Rattle.capnp_arena_traits.specs.Checks.{Holds};
-ghost use Rattle.capnp_objects.specs.Expected.{data_expected, struct_expected, text_expected};
-ghost use Rattle.capnp_objects.specs.Outcomes.{MeansThere};
-ghost use Rattle.capnp_objects.specs.Reading.{source_start, word_of};
-ghost use Rattle.capnp_objects.specs.Source.{levels};
-ghost use Rattle.capnp_objects.specs.Spending.{Paid};
+ghost use Rattle.capnp_pointers.specs.Expected.{data_expected, struct_expected, text_expected};
+ghost use Rattle.capnp_pointers.specs.Outcomes.{MeansThere};
+ghost use Rattle.capnp_pointers.specs.Reading.{source_start, word_of};
+ghost use Rattle.capnp_pointers.specs.Source.{levels};
+ghost use Rattle.capnp_pointers.specs.Spending.{Paid};
 ghost use Rattle.capnp_readers.specs.Readers.{read_by};
 ghost use Rattle.capnp_readers.specs.Values.{HasValue, ShowsNumber, ShowsStructOf, StaysIn, IsBytes, IsStructOrNull, IsText, child_cost, field_of_number, list_numbers, struct_data, text_bytes};
 ghost use Rattle.typed_reading.specs.Outcomes.{capability_index, default_outcome, reading_outcome, root_outcome, root_place};
@@ -18,7 +18,7 @@ ghost use Rattle.typed_reading.specs.Sections.{LeadsToSectionsOf, ShowsSectionsO
 ghost use Rattle.typed_reading.specs.Values.{IsDefault, bits_in, child, data_or, text_or};
 
 use capnp_arena_traits::arena::ReaderArena;
-use capnp_objects::source::Source;
+use capnp_pointers::source::Source;
 use capnp_readers::readers::{PointerReader, StructReader};
 use capnp_words::error::ErrorKind;
 use capnp_words::mask::Mask;

@@ -5,9 +5,9 @@ use Rattle.capnp_words.specs.declared.error.ErrorKind.{ErrorKind}
 use Rattle.capnp_words.specs.Meter.{Affords, Meter, unused}
 use Rattle.capnp_format.specs.Segments.{Segments}
 use Rattle.capnp_format.specs.Tree.{Tree}
-use Rattle.capnp_objects.specs.Outcomes.{MeansThere}
-use Rattle.capnp_objects.specs.Reading.{Reading, unset}
-use Rattle.capnp_objects.specs.Source.{levels}
+use Rattle.capnp_pointers.specs.Outcomes.{MeansThere}
+use Rattle.capnp_pointers.specs.Reading.{Reading, unset}
+use Rattle.capnp_pointers.specs.Source.{levels}
 use Rattle.capnp_messages.specs.Messages.{left_of, root_within}
 use Rattle.capnp_messages.specs.Roots.{CoversRoot, RefusesRoot, no_root, no_budget}
 use Rattle.capnp_messages.proofs.CanonLemmas.{covers_rest}

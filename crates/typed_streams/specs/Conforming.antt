@@ -16,8 +16,8 @@ use Rattle.capnp_framing.specs.Reading.{NoFrame, total}
 use Rattle.capnp_framing.specs.declared.devices.Output.{Ghosts as OutputGhosts}
 use Rattle.capnp_framing.specs.declared.framing.frame_error.FrameError.TheVariants.{AllocationFailed as NoMemory}
 use Rattle.capnp_framing.specs.declared.framing.frame_error.FrameError.TheVariants.{ReadFailed, Truncated, WriteFailed}
-use Rattle.capnp_objects.specs.Reading.{Reading, unset}
-use Rattle.capnp_objects.specs.Source.{levels}
+use Rattle.capnp_pointers.specs.Reading.{Reading, unset}
+use Rattle.capnp_pointers.specs.Source.{levels}
 use Rattle.capnp_messages.specs.Messages.{root_within}
 use Rattle.capnp_messages.specs.Roots.{CoversRoot, RefusesRoot, read_message_root}
 use Rattle.capnp_packing.specs.Packing.{IsWhole}

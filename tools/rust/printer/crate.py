@@ -8,8 +8,8 @@ from .departures import Departures
 from .tokens import NotPrintable
 
 # The libraries that users call or that those need, and those that only programs and tests of this repository need.
-LIBRARIES = ('capnp_format', 'capnp_words', 'capnp_arena_traits', 'capnp_arena', 'capnp_framing', 'capnp_packing', 'capnp_making',
-             'capnp_contents', 'capnp_objects', 'capnp_readers', 'capnp_copies', 'capnp_messages', 'capnp_refusals', 'capnp_walks',
+LIBRARIES = ('capnp_format', 'capnp_words', 'capnp_arena_traits', 'capnp_arena', 'capnp_framing', 'capnp_packing', 'capnp_allocation',
+             'capnp_in_place', 'capnp_pointers', 'capnp_readers', 'capnp_copies', 'capnp_messages', 'capnp_refusals', 'capnp_walks',
              'capnp_builders', 'typed_messages', 'typed_reading', 'typed_conforming', 'typed_building', 'capnp_numbers',
              'capnp_canonical')
 OF_PROGRAMS = 'capnp_edits', 'capnp_layout', 'capnp_show', 'capnp_streams', 'layout_vectors'

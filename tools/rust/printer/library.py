@@ -15,7 +15,7 @@ ROOT = 'crate::proved'
 # The modules of support/: those that the sources call `std::NAME`, and those that they call NAME.
 SUPPORT = {'std': ('alloc', 'io', 'simd', 'string', 'vec'), '': ('hex', 'sha2')}
 # The libraries whose functions get `#[inline]` if they are short: those that readers and builders call for each field.
-INLINED = ('capnp_words', 'capnp_arena_traits', 'capnp_arena', 'capnp_making', 'capnp_contents', 'capnp_objects', 'capnp_readers',
+INLINED = ('capnp_words', 'capnp_arena_traits', 'capnp_arena', 'capnp_allocation', 'capnp_in_place', 'capnp_pointers', 'capnp_readers',
            'capnp_builders', 'typed_messages', 'typed_reading', 'typed_conforming', 'typed_building')
 # The libraries of the toolchain that have a module of support/, or whose derives are written out.
 OF_TOOLCHAIN = *SUPPORT[''], 'thiserror'

@@ -1,7 +1,7 @@
 //! What code is made of that `capnpc-layout-rust` generates from a schema. Programs name the types
 //! by the crate's root.
 
-use crate::proved::capnp_objects::source::Source;
+use crate::proved::capnp_pointers::source::Source;
 use crate::proved::capnp_readers::readers::{ListReader, PointerReader};
 use crate::segments::Arena;
 use crate::Outcome;

@@ -102,7 +102,7 @@ pub use typed::{Enum, PointerBuilder, StructType, TypedBuilder};
 
 pub use proved::capnp_framing::framing::FrameError;
 pub use proved::capnp_messages::messages::MessageExtent;
-pub use proved::capnp_objects::pointers::{
+pub use proved::capnp_pointers::pointers::{
     CanonicalFault, CanonicalFaultReason, Extent, MessageSize,
 };
 pub use proved::capnp_walks::walks::{WalkedObject, CAPABILITY, NO_PARENT, STRUCT};

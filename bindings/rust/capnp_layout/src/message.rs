@@ -8,7 +8,7 @@ use crate::proved::capnp_arena::arena::{
     ReaderArena, ReaderArenaImpl, ReaderOptions, ReaderSegments,
 };
 use crate::proved::capnp_messages::messages::{self, MessageExtent};
-use crate::proved::capnp_objects::pointers::{CanonicalFault, MessageSize};
+use crate::proved::capnp_pointers::pointers::{CanonicalFault, MessageSize};
 use crate::proved::capnp_readers::readers::PointerReader;
 use crate::proved::capnp_walks::walks::{walk_message, WalkedObject, NO_PARENT};
 use crate::proved::capnp_words::error::ErrorKind;

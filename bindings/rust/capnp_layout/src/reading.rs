@@ -5,7 +5,7 @@ use crate::element::{Element, Number, Structs};
 use crate::error::{Error, Reason};
 use crate::list::List;
 use crate::meter::{Meter, Sound};
-use crate::proved::capnp_objects::pointers::{Extent, MessageSize};
+use crate::proved::capnp_pointers::pointers::{Extent, MessageSize};
 use crate::proved::capnp_readers::readers::{PointerReader, StructReader, Target as RawTarget};
 use crate::proved::capnp_words::wire_pointer::ElementSize;
 use crate::proved::support::sha2::{Digest, Sha256};

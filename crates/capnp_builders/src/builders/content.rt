@@ -3,14 +3,14 @@
 ghost use Rattle.std.specs.Prelude.{◌≡◌, ℕ, ◌+◌, ◌*◌, ◌/◌, ◌%◌, ◌^◌, ◌<◌, ◌≤◌, length, slice_index};
 ghost use Rattle.capnp_arena_traits.specs.View.{KeepsLimits};
 ghost use Rattle.capnp_format.specs.Segments.{segment, word_at};
-ghost use Rattle.capnp_making.specs.Zeroed.{IsPruned};
+ghost use Rattle.capnp_allocation.specs.Zeroed.{IsPruned};
 ghost use Rattle.capnp_readers.specs.Readers.{IsStructPlace};
 ghost use Rattle.capnp_readers.specs.Sections.{bytes_for};
 ghost use Rattle.capnp_builders.specs.Content.{content_byte, with_fields, fields_from, with_content, AreCleared};
 
+use capnp_allocation::making::clear;
 use capnp_arena_traits::arena::BuilderArena;
-use capnp_contents::numbers::{set_bit, set_number};
-use capnp_making::making::clear;
+use capnp_in_place::numbers::{set_bit, set_number};
 use capnp_readers::readers::StructPlace;
 use capnp_words::lanes;
 

@@ -4,15 +4,15 @@ ghost use Rattle.std.specs.Prelude.{◌≡◌, ◌↔◌, ◌/◌, ◌^◌, ◌<
 ghost use Rattle.capnp_format.specs.Bytes.{words_of};
 ghost use Rattle.capnp_format.specs.Segments.{IsPlace};
 ghost use Rattle.capnp_format.specs.Tree.{Tree};
-ghost use Rattle.capnp_making.specs.Makes.{call_at};
+ghost use Rattle.capnp_allocation.specs.Makes.{call_at};
 ghost use Rattle.capnp_copies.specs.Changes.{IsNullPlace};
-ghost use Rattle.capnp_contents.specs.Rooms.{UsesMemory};
+ghost use Rattle.capnp_in_place.specs.Rooms.{UsesMemory};
 ghost use Rattle.capnp_builders.specs.Defaults.{DropsDefault, PutsDefault, PutsDefaultBy, IsShortDefault, object_default, blob_default, DefaultCopyFits, DefaultFits};
 
 use crate::copy;
+use capnp_allocation::landing::pointer_word;
 use capnp_arena_traits::arena::{BuilderArena, WordPlace};
 use capnp_copies::form::{CopyForm, Destination};
-use capnp_making::landing::pointer_word;
 use capnp_readers::readers::PointerReader;
 use capnp_words::error::ErrorKind;
 use capnp_words::read_limiter::ReadLimiter;

@@ -2,18 +2,18 @@
 //! and widens a struct or a list of structs that is too small (encoding specification, "Structs",
 //! "Lists" and "Default Values").
 ghost use Rattle.std.specs.Prelude.{◌-◌, ◌≡◌, ◌+◌, ◌*◌, ◌^◌, ◌<◌, ◌≤◌, true, IsNone, IsOk, IfOk, IfErr, OnOk, OnErr};
-ghost use Rattle.capnp_contents.specs.Existing.{AreBytesInside, data_in, is_unfound, text_in};
+ghost use Rattle.capnp_in_place.specs.Existing.{AreBytesInside, data_in, is_unfound, text_in};
 ghost use Rattle.capnp_format.specs.Forest.{target};
 ghost use Rattle.capnp_format.specs.Segments.{word_at, Grows};
 ghost use Rattle.capnp_format.specs.Word.{struct_word};
-ghost use Rattle.capnp_contents.specs.InPlace.{LendsBytes};
-ghost use Rattle.capnp_making.specs.Makes.{ReachesArena};
-ghost use Rattle.capnp_making.specs.Memory.{KeepsMemory, ComesAfter, TakesWords, start_of};
-ghost use Rattle.capnp_making.specs.Stored.{IsStored};
+ghost use Rattle.capnp_in_place.specs.InPlace.{LendsBytes};
+ghost use Rattle.capnp_allocation.specs.Makes.{ReachesArena};
+ghost use Rattle.capnp_allocation.specs.Memory.{KeepsMemory, ComesAfter, TakesWords, start_of};
+ghost use Rattle.capnp_allocation.specs.Stored.{IsStored};
 ghost use Rattle.capnp_words.specs.Sizes.{size_number};
 ghost use Rattle.capnp_readers.specs.Readers.{IsListPlace};
-ghost use Rattle.capnp_contents.specs.Opening.{IsNoWider};
-ghost use Rattle.capnp_contents.specs.RowsRemade.{RefusesWider};
+ghost use Rattle.capnp_in_place.specs.Opening.{IsNoWider};
+ghost use Rattle.capnp_in_place.specs.RowsRemade.{RefusesWider};
 ghost use Rattle.capnp_builders.specs.Defaults.{DefaultFits, IsIgnoredDefault, PutsDefaultBy, TakesDefault, object_default};
 ghost use Rattle.capnp_builders.specs.Found.{FindsList, FindsBytes};
 ghost use Rattle.capnp_builders.specs.Opening.{FindsStruct, FindsStructs, StructFindFits, StructsFindFits};
@@ -26,9 +26,9 @@ use super::list_builder::ListBuilder;
 use super::places::struct_place;
 use super::struct_builder::StructBuilder;
 use capnp_arena_traits::arena::BuilderArena;
-use capnp_contents::existing::{self, ExistingBytes};
-use capnp_contents::lent;
-use capnp_contents::opening::{open_struct, open_struct_list};
+use capnp_in_place::existing::{self, ExistingBytes};
+use capnp_in_place::lent;
+use capnp_in_place::opening::{open_struct, open_struct_list};
 use capnp_readers::readers::{ListPlace, StructPlace};
 use capnp_words::error::ErrorKind;
 use capnp_words::wire_pointer::{ElementSize, StructSize};

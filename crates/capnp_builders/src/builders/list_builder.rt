@@ -11,7 +11,7 @@ ghost use Rattle.capnp_builders.specs.Reads.{IsListReader};
 
 use crate::builders::{PointerBuilder, StructBuilder};
 use capnp_arena_traits::arena::BuilderArena;
-use capnp_contents::numbers;
+use capnp_in_place::numbers;
 use capnp_readers::readers::{ListPlace, ListReader, StructPlace};
 use capnp_words::primitive::Primitive;
 use capnp_words::wire_pointer::{ElementSize, data_bits_per_element, pointers_per_element};

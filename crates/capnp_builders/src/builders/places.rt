@@ -2,7 +2,7 @@
 ghost use Rattle.std.specs.Prelude.{◌≡◌, ◌+◌, ◌*◌, ◌^◌, ◌<◌};
 ghost use Rattle.capnp_builders.specs.Places.{IsAligned, list_place, struct_place};
 
-use capnp_contents::existing::{ExistingList, ExistingStruct};
+use capnp_in_place::existing::{ExistingList, ExistingStruct};
 use capnp_readers::readers::{ListPlace, StructPlace};
 
 /// Returns the place for a `StructBuilder` of the struct `found`.

@@ -1,18 +1,18 @@
 //! Copies consecutive pointers, up to the first one that is refused.
 ghost use Rattle.std.specs.Prelude.{◌≡◌, ℕ, ◌+◌, ◌<◌, ◌≤◌, length, IsOk, IfOk, IfErr};
 ghost use Rattle.capnp_format.specs.Segments.{segment, word_at};
-ghost use Rattle.capnp_objects.specs.Reading.{segment_read};
-ghost use Rattle.capnp_objects.specs.Wanted.{plain};
-ghost use Rattle.capnp_objects.specs.Pointers.{reading};
+ghost use Rattle.capnp_pointers.specs.Reading.{segment_read};
+ghost use Rattle.capnp_pointers.specs.Wanted.{plain};
+ghost use Rattle.capnp_pointers.specs.Pointers.{reading};
 ghost use Rattle.capnp_copies.specs.Growth.{TakesAtMost};
 ghost use Rattle.capnp_copies.specs.Changes.{copy_call, CopiesChildren, CopiesFirst, HasNullsFor};
 ghost use Rattle.capnp_copies.specs.Rooms.{CanBeCopied};
 ghost use Rattle.capnp_copies.specs.Originals.{children_original};
-ghost use Rattle.capnp_making.specs.Makes.{call_at};
+ghost use Rattle.capnp_allocation.specs.Makes.{call_at};
 
 use capnp_arena_traits::arena::{BuilderArena, ReaderArena, WordPlace};
 use capnp_copies::copy::{copy_value, place_past};
-use capnp_objects::pointers::Pointer;
+use capnp_pointers::pointers::Pointer;
 use capnp_words::error::ErrorKind;
 use capnp_words::read_limiter::ReadLimiter;
 

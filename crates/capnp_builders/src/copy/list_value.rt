@@ -6,7 +6,7 @@ ghost use Rattle.capnp_copies.specs.Rooms.{CopiesOrClears};
 ghost use Rattle.capnp_copies.specs.Forms.{form_of};
 ghost use Rattle.capnp_builders.specs.ListValues.{list_read};
 ghost use Rattle.capnp_copies.specs.Originals.{FitsListPointer};
-ghost use Rattle.capnp_making.specs.Makes.{call_at};
+ghost use Rattle.capnp_allocation.specs.Makes.{call_at};
 
 use capnp_arena_traits::arena::{BuilderArena, ReaderArena, WordPlace};
 use capnp_copies::copy::{
@@ -14,7 +14,7 @@ use capnp_copies::copy::{
 };
 use capnp_copies::form::{CopyForm, Destination};
 use capnp_copies::widths::StructList;
-use capnp_objects::pointers::Pointer;
+use capnp_pointers::pointers::Pointer;
 use capnp_readers::readers::ListReader;
 use capnp_words::error::ErrorKind;
 use capnp_words::read_limiter::ReadLimiter;

@@ -1,21 +1,21 @@
 //! Copies a struct that a `StructReader` reads (encoding specification, "Structs" and
 //! "Canonicalization").
 ghost use Rattle.std.specs.Prelude.{◌≡◌, ◌<◌, ◌^◌, IfOk, IfErr};
-ghost use Rattle.capnp_objects.specs.Reading.{words_from};
+ghost use Rattle.capnp_pointers.specs.Reading.{words_from};
 ghost use Rattle.capnp_readers.specs.Sizes.{pointers_read};
 ghost use Rattle.capnp_copies.specs.Changes.{copy_call, IsNullPlace};
 ghost use Rattle.capnp_copies.specs.Rooms.{CopiesOrClears};
 ghost use Rattle.capnp_copies.specs.Forms.{form_of};
 ghost use Rattle.capnp_copies.specs.Originals.{kept_count};
 ghost use Rattle.capnp_builders.specs.StructValues.{data_of, struct_read};
-ghost use Rattle.capnp_making.specs.Makes.{call_at};
+ghost use Rattle.capnp_allocation.specs.Makes.{call_at};
 
 use crate::section::{kept_words, write_section};
+use capnp_allocation::making::make_struct;
 use capnp_arena_traits::arena::{BuilderArena, ReaderArena, WordPlace};
 use capnp_copies::copy::{clear_if_refused, copy_children};
 use capnp_copies::form::{CopyForm, Destination};
-use capnp_making::making::make_struct;
-use capnp_objects::pointers::Pointer;
+use capnp_pointers::pointers::Pointer;
 use capnp_readers::readers::StructReader;
 use capnp_words::error::ErrorKind;
 use capnp_words::read_limiter::ReadLimiter;

@@ -4,9 +4,9 @@ ghost use Rattle.std.specs.Prelude.{◌≡◌, ℕ, ◌+◌, ◌*◌, ◌<◌, �
 ghost use Rattle.capnp_words.specs.declared.error.ErrorKind.{ErrorKind};
 ghost use Rattle.capnp_format.specs.Bytes.{words_of};
 ghost use Rattle.capnp_arena_traits.specs.View.{View};
-ghost use Rattle.capnp_making.specs.Near.{HasOwnRoom};
-ghost use Rattle.capnp_objects.specs.Reading.{Reading};
-ghost use Rattle.capnp_objects.specs.Refusals.{Refused};
+ghost use Rattle.capnp_allocation.specs.Near.{HasOwnRoom};
+ghost use Rattle.capnp_pointers.specs.Reading.{Reading};
+ghost use Rattle.capnp_pointers.specs.Refusals.{Refused};
 ghost use Rattle.capnp_copies.specs.Changes.{CopyCall, StayInSegment, RefusesToCopy};
 ghost use Rattle.capnp_copies.specs.Growth.{Makes, MakesAtMost, TakesAtMost};
 ghost use Rattle.capnp_copies.specs.Originals.{value_original};

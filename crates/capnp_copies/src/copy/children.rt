@@ -1,21 +1,21 @@
 //! Copies consecutive pointers.
 ghost use Rattle.std.specs.Prelude.{◌≡◌, ◌<◌, ◌≤◌, ◌↔◌, IsTrue};
 ghost use Rattle.capnp_format.specs.Word.{kind, element_size};
-ghost use Rattle.capnp_objects.specs.Wanted.{Form};
-ghost use Rattle.capnp_objects.specs.Pointers.{reading};
+ghost use Rattle.capnp_pointers.specs.Wanted.{Form};
+ghost use Rattle.capnp_pointers.specs.Pointers.{reading};
 ghost use Rattle.capnp_copies.specs.Growth.{CopiesOrLeaves, CopiesOrStops};
 ghost use Rattle.capnp_copies.specs.Changes.{copy_call, copy_call_to, HasNullsFor, IsNullPlace, IsPointerRead};
 ghost use Rattle.capnp_copies.specs.Forms.{form_in};
 ghost use Rattle.capnp_copies.specs.Originals.{value_original};
-ghost use Rattle.capnp_making.specs.Makes.{call_at};
+ghost use Rattle.capnp_allocation.specs.Makes.{call_at};
 
 use super::flat::copy_primitive_list;
 use super::places::place_past;
 use super::structs::copy_struct;
 use crate::form::{CopyForm, Destination};
 use capnp_arena_traits::arena::{BuilderArena, ReaderArena, WordPlace};
-use capnp_objects::object::{Place, PointerWord};
-use capnp_objects::pointers::Pointer;
+use capnp_pointers::object::{Place, PointerWord};
+use capnp_pointers::pointers::Pointer;
 use capnp_words::error::ErrorKind;
 use capnp_words::read_limiter::ReadLimiter;
 use capnp_words::wire_pointer::{

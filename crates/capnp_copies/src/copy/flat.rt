@@ -7,14 +7,14 @@ ghost use Rattle.capnp_format.specs.Segments.{segment, IsPlace};
 ghost use Rattle.capnp_arena_traits.specs.Written.{with_words};
 ghost use Rattle.capnp_copies.specs.Growth.{MakesAtMost, TakesNone};
 ghost use Rattle.capnp_format.specs.Tree.{Null, Flat};
-ghost use Rattle.capnp_making.specs.Memory.{KeepsMemory, SpendsMemory, RefusesWords};
-ghost use Rattle.capnp_making.specs.Near.{HasOwnRoom};
-ghost use Rattle.capnp_making.specs.Stored.{IsReplaced};
+ghost use Rattle.capnp_allocation.specs.Memory.{KeepsMemory, SpendsMemory, RefusesWords};
+ghost use Rattle.capnp_allocation.specs.Near.{HasOwnRoom};
+ghost use Rattle.capnp_allocation.specs.Stored.{IsReplaced};
 ghost use Rattle.capnp_words.specs.Sizes.{size_number};
 ghost use Rattle.capnp_copies.specs.Changes.{IsCopiedInRoom};
 
+use capnp_allocation::making::make_list;
 use capnp_arena_traits::arena::{BuilderArena, WordPlace, copy_words, set_word};
-use capnp_making::making::make_list;
 use capnp_words::error::ErrorKind;
 use capnp_words::wire_pointer::{ElementSize, data_bits_per_element};
 use capnp_words::words;

@@ -1,8 +1,8 @@
 //! Copies lists of pointers and of structs (encoding specification, "Lists" and
 //! "Canonicalization").
 ghost use Rattle.std.specs.Prelude.{◌≡◌, ◌+◌, ◌*◌, ◌<◌, ◌≤◌, ◌^◌, length};
-ghost use Rattle.capnp_objects.specs.Reading.{segment_read};
-ghost use Rattle.capnp_objects.specs.Pointers.{reading};
+ghost use Rattle.capnp_pointers.specs.Reading.{segment_read};
+ghost use Rattle.capnp_pointers.specs.Pointers.{reading};
 ghost use Rattle.capnp_copies.specs.Growth.{CopiesOrLeaves};
 ghost use Rattle.capnp_copies.specs.Changes.{copy_call_to, IsNullPlace};
 ghost use Rattle.capnp_copies.specs.Forms.{form_in};
@@ -13,9 +13,9 @@ use super::children::copy_children_inline;
 use super::elements::copy_elements;
 use crate::form::{CopyForm, Destination};
 use crate::widths::{ElementSizes, StructList, least_widths};
+use capnp_allocation::making::{make_list, make_struct_list};
 use capnp_arena_traits::arena::{BuilderArena, ReaderArena, WordPlace};
-use capnp_making::making::{make_list, make_struct_list};
-use capnp_objects::pointers::Pointer;
+use capnp_pointers::pointers::Pointer;
 use capnp_words::error::ErrorKind;
 use capnp_words::read_limiter::ReadLimiter;
 use capnp_words::wire_pointer::{ElementSize, StructSize};

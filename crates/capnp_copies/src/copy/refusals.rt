@@ -2,10 +2,10 @@
 ghost use Rattle.std.specs.Prelude.{◌≡◌, OnErr};
 ghost use Rattle.capnp_format.specs.Segments.{IsPlace};
 ghost use Rattle.capnp_copies.specs.Rooms.{ClearsRefused};
-ghost use Rattle.capnp_making.specs.Makes.{call_at};
+ghost use Rattle.capnp_allocation.specs.Makes.{call_at};
 
+use capnp_allocation::making::clear;
 use capnp_arena_traits::arena::{BuilderArena, WordPlace};
-use capnp_making::making::clear;
 use capnp_words::error::ErrorKind;
 
 /// Ends a copy to the pointer at `to`. If the copy was refused, makes the pointer null, and zeroes

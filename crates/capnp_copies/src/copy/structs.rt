@@ -1,8 +1,8 @@
 //! Copies a struct (encoding specification, "Structs" and "Canonicalization").
 ghost use Rattle.std.specs.Prelude.{◌≡◌, ◌+◌, ◌≤◌, length};
 ghost use Rattle.capnp_format.specs.Canonical.{used_words};
-ghost use Rattle.capnp_objects.specs.Reading.{segment_read, place_past, words_from};
-ghost use Rattle.capnp_objects.specs.Pointers.{reading};
+ghost use Rattle.capnp_pointers.specs.Reading.{segment_read, place_past, words_from};
+ghost use Rattle.capnp_pointers.specs.Pointers.{reading};
 ghost use Rattle.capnp_copies.specs.Growth.{CopiesOrLeaves};
 ghost use Rattle.capnp_copies.specs.Changes.{copy_call_to, IsNullPlace};
 ghost use Rattle.capnp_copies.specs.Forms.{form_in};
@@ -12,10 +12,10 @@ ghost use Rattle.capnp_copies.specs.Widths.{IsAtMost};
 use super::children::copy_children;
 use super::elements::put_words;
 use crate::form::{CopyForm, Destination};
+use capnp_allocation::making::make_struct;
 use capnp_arena_traits::arena::{BuilderArena, ReaderArena, WordPlace};
-use capnp_making::making::make_struct;
-use capnp_objects::object::Place;
-use capnp_objects::pointers::Pointer;
+use capnp_pointers::object::Place;
+use capnp_pointers::pointers::Pointer;
 use capnp_words::error::ErrorKind;
 use capnp_words::read_limiter::ReadLimiter;
 use capnp_words::wire_pointer::StructSize;

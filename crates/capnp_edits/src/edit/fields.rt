@@ -1,15 +1,15 @@
 //! Edits of the data section of a struct.
 ghost use Rattle.std.specs.Prelude.{◌≡◌, true, cond, IfErr};
 ghost use Rattle.capnp_words.specs.declared.error.ErrorKind.TheVariants.{NoSuchPlace};
-ghost use Rattle.capnp_contents.specs.Existing.{IsStructInside};
+ghost use Rattle.capnp_in_place.specs.Existing.{IsStructInside};
 ghost use Rattle.capnp_builders.specs.Places.{field, number_field};
 ghost use Rattle.capnp_edits.specs.Tasks.{is_number};
 ghost use Rattle.capnp_edits.specs.Edits.{refusal_of, bits_of, PutsBits, WritesWords};
 
 use crate::edit::tasks::Number;
 use capnp_arena::arena::BuilderArena;
-use capnp_contents::existing::ExistingStruct;
-use capnp_contents::numbers::{set_bit, set_number};
+use capnp_in_place::existing::ExistingStruct;
+use capnp_in_place::numbers::{set_bit, set_number};
 use capnp_words::error::ErrorKind;
 use capnp_words::primitive::Primitive;
 use capnp_words::wire_pointer::ElementSize;

@@ -1,7 +1,7 @@
 //! Edits of a struct: writes to its data section, and copies of the content of another message's
 //! struct.
 ghost use Rattle.std.specs.Prelude.{◌≡◌, ◌+◌, None, true, IsOk, IfSome};
-ghost use Rattle.capnp_contents.specs.Existing.{IsStructInside};
+ghost use Rattle.capnp_in_place.specs.Existing.{IsStructInside};
 ghost use Rattle.capnp_readers.specs.Readers.{IsStructPlace};
 ghost use Rattle.capnp_builders.specs.Places.{struct_place};
 ghost use Rattle.capnp_edits.specs.declared.edit.path.PathEnd.TheVariants.{Element as AtElement};
@@ -19,7 +19,7 @@ use crate::edit::tasks::StructChange;
 use capnp_arena::arena::BuilderArena;
 use capnp_builders::builders::StructBuilder;
 use capnp_builders::builders::places::struct_place;
-use capnp_contents::existing::ExistingStruct;
+use capnp_in_place::existing::ExistingStruct;
 use capnp_readers::readers::StructPlace;
 use capnp_words::error::ErrorKind;
 

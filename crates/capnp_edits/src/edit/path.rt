@@ -2,13 +2,13 @@
 ghost use Rattle.std.specs.Prelude.{◌≡◌, ◌↔◌, ◌≤◌, ◌<◌, ◌^◌, IsTrue, IfSome, length, map};
 ghost use Rattle.capnp_format.specs.Segments.{segment, IsPlace};
 ghost use Rattle.capnp_format.specs.Tree.{Tree};
-ghost use Rattle.capnp_making.specs.Stored.{IsStored};
+ghost use Rattle.capnp_allocation.specs.Stored.{IsStored};
 ghost use Rattle.capnp_edits.specs.Paths.{step_of, IsPathFound, IsEndInside, IsEndFound, Steps, child_in, element_in};
 
 use crate::edit::Step;
 use capnp_arena::arena::BuilderArena;
-use capnp_contents::existing;
-use capnp_contents::existing::{ExistingList, ExistingStruct};
+use capnp_in_place::existing;
+use capnp_in_place::existing::{ExistingList, ExistingStruct};
 use capnp_readers::readers::PointerPlace;
 use capnp_words::wire_pointer::ElementSize;
 

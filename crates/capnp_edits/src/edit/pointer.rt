@@ -15,7 +15,7 @@ use crate::edit::found::find_value;
 use crate::edit::tasks::{NewObject, Task};
 use capnp_arena::arena::BuilderArena;
 use capnp_builders::builders::PointerBuilder;
-use capnp_contents::existing;
+use capnp_in_place::existing;
 use capnp_readers::readers::PointerPlace;
 use capnp_words::error::ErrorKind;
 use capnp_words::wire_pointer::ElementSize;

@@ -2,8 +2,8 @@ use Rattle.std.proofs.Common.{Some, arith, refl, w32}
 use Rattle.std.proofs.lemmas.Int.{to_z-of_z}
 use Rattle.std.proofs.lemmas.Bool.{false≢true}
 use Rattle.std.proofs.Common.{sym, subst}
-use Rattle.capnp_objects.specs.Expected.{data_expected}
-use Rattle.capnp_objects.specs.Outcomes.{MeansThere}
+use Rattle.capnp_pointers.specs.Expected.{data_expected}
+use Rattle.capnp_pointers.specs.Outcomes.{MeansThere}
 use Rattle.capnp_layout_c.specs.Lent.{lent_pointer, words_left}
 use Rattle.capnp_layout_c.proofs.OwnPlace.{expected_at, expected_there, refused_at}
 use Rattle.capnp_layout_c.proofs.Unlimited.{stays}

@@ -4,7 +4,7 @@ use Rattle.std.proofs.lemmas.Bool.{cases_lt, false≢true}
 use Rattle.capnp_words.specs.Meter.{Affords, Meter, charged, unused}
 use Rattle.capnp_format.specs.Segments.{Segments, segment}
 use Rattle.capnp_arena_traits.specs.Checks.{Holds}
-use Rattle.capnp_objects.specs.Expected.{struct_expected, HasExpected}
+use Rattle.capnp_pointers.specs.Expected.{struct_expected, HasExpected}
 use Rattle.capnp_numbers.specs.Numbers.{error_number}
 use Rattle.capnp_layout_c.specs.Found.{RefusesNumber}
 use Rattle.capnp_layout_c.specs.Found.RefusesRootNumber.{no_root, no_struct, no_words}

@@ -1,5 +1,5 @@
 use Rattle.std.proofs.Common.{Some, ◌-◌, ap, arith, refl, w32}
-use Rattle.capnp_objects.specs.Reading.{Reading}
+use Rattle.capnp_pointers.specs.Reading.{Reading}
 use Rattle.std.proofs.lemmas.Int.{to_z-of_z}
 use Rattle.std.proofs.lemmas.Bool.{false≢true}
 use Rattle.capnp_layout_c.specs.Lent.{lent, lent_pointer, words_left}

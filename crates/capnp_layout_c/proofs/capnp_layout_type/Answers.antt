@@ -1,6 +1,6 @@
 use Rattle.std.proofs.Common.{pos, subst}
-use Rattle.capnp_objects.specs.Reading.{Reading}
-use Rattle.capnp_objects.specs.Types.{HasNoType}
+use Rattle.capnp_pointers.specs.Reading.{Reading}
+use Rattle.capnp_pointers.specs.Types.{HasNoType}
 use Rattle.capnp_words.specs.Meter.{Meter}
 use Rattle.capnp_layout_c.specs.Lent.{lent_pointer}
 use Rattle.capnp_layout_c.proofs.capnp_layout_type.Goals as goal

@@ -3,7 +3,7 @@ ghost use Rattle.std.specs.Prelude.{◌≡◌, ◌<◌, ◌+◌, [], ◌∷◌, 
 ghost use Rattle.capnp_format.specs.Canonical.{encoding, trim};
 ghost use Rattle.capnp_format.specs.Segments.{Grows};
 ghost use Rattle.capnp_format.specs.Tree.{Tree};
-ghost use Rattle.capnp_objects.specs.Wanted.{canonical, plain};
+ghost use Rattle.capnp_pointers.specs.Wanted.{canonical, plain};
 ghost use Rattle.capnp_readers.specs.Readers.{IsStructPlace, read_by};
 ghost use Rattle.capnp_readers.specs.Values.{HasValue};
 ghost use Rattle.capnp_copies.specs.Changes.{copy_call};

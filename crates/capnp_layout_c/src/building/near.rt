@@ -2,13 +2,13 @@
 //! calls have. What is made in other cases takes more code, and the calls keep that out of line.
 ghost use Rattle.std.specs.Prelude.{◌≡◌, ◌<◌, ◌+◌, ◌*◌, ◌^◌, Ok};
 ghost use Rattle.capnp_format.specs.Segments.{IsPlace, word_at};
-ghost use Rattle.capnp_making.specs.Made.{zero_structs};
-ghost use Rattle.capnp_making.specs.Makes.{call_at};
-ghost use Rattle.capnp_making.specs.Near.{HasOwnRoom};
-ghost use Rattle.capnp_contents.specs.Initialized.{GivesObject};
+ghost use Rattle.capnp_allocation.specs.Made.{zero_structs};
+ghost use Rattle.capnp_allocation.specs.Makes.{call_at};
+ghost use Rattle.capnp_allocation.specs.Near.{HasOwnRoom};
+ghost use Rattle.capnp_in_place.specs.Initialized.{GivesObject};
 
+use capnp_allocation::making::{Shape, pointer_to};
 use capnp_arena_traits::arena::{BuilderArena, WordPlace, set_word};
-use capnp_making::making::{Shape, pointer_to};
 use capnp_words::wire_pointer::{ElementSize, StructSize, WirePointer};
 
 /// Makes a list of `count` structs, all zero, and makes the pointer at `at` of segment `id` lead to

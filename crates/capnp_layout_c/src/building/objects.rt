@@ -2,9 +2,9 @@
 ghost use Rattle.std.specs.Prelude.{◌≡◌, ◌≢◌, ◌<◌, ◌≤◌, ◌+◌, ◌*◌, ◌^◌, ◌∷◌, [], ℕ, List, length};
 ghost use Rattle.capnp_format.specs.Tree.{Tree, Trees};
 ghost use Rattle.capnp_words.specs.Sizes.{sized};
-ghost use Rattle.capnp_making.specs.Made.{list_words, nulls, words_of_zero, zero_elements, zero_list, zero_struct, zero_structs};
-ghost use Rattle.capnp_making.specs.Stored.{IsStored};
-ghost use Rattle.capnp_contents.specs.Existing.{size_of};
+ghost use Rattle.capnp_allocation.specs.Made.{list_words, nulls, words_of_zero, zero_elements, zero_list, zero_struct, zero_structs};
+ghost use Rattle.capnp_allocation.specs.Stored.{IsStored};
+ghost use Rattle.capnp_in_place.specs.Existing.{size_of};
 ghost use Rattle.capnp_builders.specs.Held.{HasList, HasStruct, Holder, element_of, pointer_to};
 ghost use Rattle.capnp_readers.specs.declared.readers.list_reader.ListPlace.{ListPlace};
 ghost use Rattle.capnp_readers.specs.declared.readers.struct_reader.StructPlace.{StructPlace};

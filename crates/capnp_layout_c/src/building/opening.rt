@@ -2,10 +2,10 @@
 ghost use Rattle.std.specs.Prelude.{◌≡◌, ◌≢◌, ◌<◌, ◌≤◌, ℕ, List, Option};
 ghost use Rattle.capnp_words.specs.Sizes.{sized};
 ghost use Rattle.capnp_format.specs.Tree.{Flat};
-ghost use Rattle.capnp_making.specs.Stored.{IsStored};
-ghost use Rattle.capnp_contents.specs.Existing.{size_of};
-ghost use Rattle.capnp_contents.specs.declared.existing.ExistingList.{ExistingList};
-ghost use Rattle.capnp_contents.specs.declared.existing.ExistingStruct.{ExistingStruct};
+ghost use Rattle.capnp_allocation.specs.Stored.{IsStored};
+ghost use Rattle.capnp_in_place.specs.Existing.{size_of};
+ghost use Rattle.capnp_in_place.specs.declared.existing.ExistingList.{ExistingList};
+ghost use Rattle.capnp_in_place.specs.declared.existing.ExistingStruct.{ExistingStruct};
 ghost use Rattle.capnp_builders.specs.Held.{HasList};
 ghost use Rattle.capnp_layout_c.specs.Buffers.{Gives, IsPointerIn, Refuses, buffer, placed_list, pointer_of, sized_at, words_in};
 ghost use Rattle.capnp_layout_c.specs.BuildingNumbers.{bad_place};
@@ -16,7 +16,7 @@ use crate::building::numbers::{BAD_PLACE, number_of};
 use crate::building::places::{
     ElementsAt, NO_ELEMENTS, StructAt, element_size, elements_of, has_pointer,
 };
-use capnp_contents::{existing, opening};
+use capnp_in_place::{existing, opening};
 use capnp_lent_arena::lent_arena::LentArena;
 use capnp_words::wire_pointer::StructSize;
 

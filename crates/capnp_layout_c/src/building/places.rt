@@ -3,11 +3,11 @@ ghost use Rattle.std.specs.Prelude.{◌≡◌, ◌<◌, ◌≤◌, ◌+◌, ◌*
 ghost use Rattle.capnp_arena_traits.specs.Allocations.{max_segment_words};
 ghost use Rattle.capnp_format.specs.Bytes.{words_of};
 ghost use Rattle.capnp_words.specs.Sizes.{size_number};
-ghost use Rattle.capnp_contents.specs.Existing.{size_of};
+ghost use Rattle.capnp_in_place.specs.Existing.{size_of};
 ghost use Rattle.capnp_layout_c.specs.Buffers.{IsMessage, IsPointerIn, IsStructIn, IsWordIn, placed_list, placed_struct};
 ghost use Rattle.capnp_layout_c.specs.Lists.{elements_of_found};
 
-use capnp_contents::existing::ExistingList;
+use capnp_in_place::existing::ExistingList;
 use capnp_readers::readers::{ListPlace, StructPlace};
 use capnp_words::wire_pointer::{ElementSize, StructSize};
 use capnp_words::words;

@@ -12,7 +12,7 @@ ghost use Rattle.capnp_layout_c.specs.declared.building.places.StructAt.{StructA
 
 use crate::building::numbers::{BAD_PLACE, TOO_LARGE, number_of};
 use crate::building::places::{has_null, has_word};
-use capnp_contents::bytes;
+use capnp_in_place::bytes;
 use capnp_lent_arena::lent_arena::LentArena;
 
 /// Makes the pointer at word `pointer` of the message lead to a new text: the bytes of `text`, and a

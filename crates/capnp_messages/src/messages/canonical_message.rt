@@ -1,8 +1,8 @@
 //! Tests whether a whole message is in canonical form.
 ghost use Rattle.std.specs.Prelude.{◌≡◌, ◌↔◌, true, Ok, IsTrue, IfOk};
 ghost use Rattle.capnp_format.specs.Bytes.{message};
-ghost use Rattle.capnp_objects.specs.Source.{levels};
-ghost use Rattle.capnp_objects.specs.Metered.{answer, ◌>>>◌};
+ghost use Rattle.capnp_pointers.specs.Source.{levels};
+ghost use Rattle.capnp_pointers.specs.Metered.{answer, ◌>>>◌};
 ghost use Rattle.capnp_messages.specs.CanonicalMessages.{IsCanonicalMessage, IsPaid, IsWithinLevels};
 ghost use Rattle.capnp_messages.specs.Check.{is_whole, message_tested};
 

@@ -14,10 +14,10 @@ ghost use Rattle.capnp_format.specs.Canonical.{charge, encoding, trim, word_coun
 ghost use Rattle.capnp_arena_traits.specs.Allocations.{max_segment_words};
 ghost use Rattle.capnp_arena.specs.declared.arena.reader_arena_impl.ReaderOptions.{ReaderOptions};
 ghost use Rattle.capnp_framing.specs.Frames.{CanBeFramed, frame};
-ghost use Rattle.capnp_objects.specs.Testing.{IsTestName};
-ghost use Rattle.capnp_objects.specs.ValueSize.{value_size};
-ghost use Rattle.capnp_objects.specs.declared.pointers.canonical_fault.CanonicalFault.{CanonicalFault};
-ghost use Rattle.capnp_objects.specs.declared.pointers.sizes.MessageSize.{MessageSize};
+ghost use Rattle.capnp_pointers.specs.Testing.{IsTestName};
+ghost use Rattle.capnp_pointers.specs.ValueSize.{value_size};
+ghost use Rattle.capnp_pointers.specs.declared.pointers.canonical_fault.CanonicalFault.{CanonicalFault};
+ghost use Rattle.capnp_pointers.specs.declared.pointers.sizes.MessageSize.{MessageSize};
 ghost use Rattle.capnp_messages.specs.CanonicalMessages.{IsCanonicalMessage, IsCanonicalOf};
 ghost use Rattle.capnp_messages.specs.Check.{check, plain_value};
 ghost use Rattle.capnp_messages.specs.Canonicalize.{canonical_value, canonical_words, canonicalize};

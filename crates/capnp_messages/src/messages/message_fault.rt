@@ -2,14 +2,14 @@
 //! "Canonicalization").
 ghost use Rattle.std.specs.Prelude.{◌≡◌, ◌≢◌, ◌↔◌, None, Some, Ok, length, min, IsNone, IfNone, IfSome, IfOk};
 ghost use Rattle.capnp_format.specs.Bytes.{message};
-ghost use Rattle.capnp_objects.specs.Source.{levels};
-ghost use Rattle.capnp_objects.specs.CanonicalFaults.{FaultIs};
+ghost use Rattle.capnp_pointers.specs.Source.{levels};
+ghost use Rattle.capnp_pointers.specs.CanonicalFaults.{FaultIs};
 ghost use Rattle.capnp_messages.specs.CanonicalMessages.{IsCanonicalMessage, IsPaid, IsWithinLevels};
 ghost use Rattle.capnp_messages.specs.Check.{message_tested};
 
 use super::root::read_root;
 use capnp_arena::arena::{ReaderArena, ReaderArenaImpl, ReaderSegments};
-use capnp_objects::pointers::{CanonicalFault, CanonicalFaultReason};
+use capnp_pointers::pointers::{CanonicalFault, CanonicalFaultReason};
 use capnp_words::error::ErrorKind;
 use capnp_words::read_limiter::ReadLimiter;
 

@@ -18,7 +18,7 @@ use super::path::read_part;
 use capnp_arena::arena::{
     Allocator, BuilderArena, BuilderArenaImpl, ReaderArena, ReaderArenaImpl, ReaderSegments,
 };
-use capnp_objects::pointers::MessageSize;
+use capnp_pointers::pointers::MessageSize;
 use capnp_words::error::ErrorKind;
 use capnp_words::read_limiter::ReadLimiter;
 use std::alloc::Global;

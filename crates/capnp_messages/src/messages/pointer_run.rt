@@ -1,15 +1,15 @@
 //! Elements of lists of structs, and consecutive pointers of an object.
 ghost use Rattle.std.specs.Prelude.{◌≡◌, ◌+◌, ◌≤◌, length, ⊤};
 ghost use Rattle.capnp_format.specs.Segments.{segment};
-ghost use Rattle.capnp_objects.specs.Objects.{IsHeld};
-ghost use Rattle.capnp_objects.specs.Reading.{place_past, segment_read, source_start};
-ghost use Rattle.capnp_objects.specs.Pointers.{reading};
+ghost use Rattle.capnp_pointers.specs.Objects.{IsHeld};
+ghost use Rattle.capnp_pointers.specs.Reading.{place_past, segment_read, source_start};
+ghost use Rattle.capnp_pointers.specs.Pointers.{reading};
 ghost use Rattle.capnp_messages.specs.EndValues.{IsElementPlace};
 ghost use Rattle.capnp_messages.specs.Parts.{inside, pointer_in};
 
 use capnp_arena::arena::ReaderArena;
-use capnp_objects::object::Place;
-use capnp_objects::pointers::Pointer;
+use capnp_pointers::object::Place;
+use capnp_pointers::pointers::Pointer;
 use capnp_words::error::ErrorKind;
 use capnp_words::wire_pointer::StructSize;
 use std::alloc::AllocError;

@@ -1,13 +1,13 @@
 //! Finds out whether the whole value of a message can be read.
 ghost use Rattle.std.specs.Prelude.{◌≡◌, ◌↔◌, IsOk, IfOk};
 ghost use Rattle.capnp_format.specs.Bytes.{message};
-ghost use Rattle.capnp_objects.specs.Source.{levels};
+ghost use Rattle.capnp_pointers.specs.Source.{levels};
 ghost use Rattle.capnp_messages.specs.Extents.{HasExtent, root_extent, validate, words_taken};
 ghost use Rattle.capnp_messages.specs.Messages.{IsReadable, arena_limits};
 
 use super::root::read_root;
 use capnp_arena::arena::{ReaderArena, ReaderArenaImpl, ReaderSegments};
-use capnp_objects::pointers::Extent;
+use capnp_pointers::pointers::Extent;
 use capnp_words::error::ErrorKind;
 use capnp_words::read_limiter::ReadLimiter;
 

@@ -21,7 +21,7 @@ use super::root::read_root;
 use capnp_arena::arena::{
     Allocator, BuilderArena, BuilderArenaImpl, ReaderArena, ReaderArenaImpl, ReaderSegments,
 };
-use capnp_objects::pointers::{CanonicalFault, MessageSize};
+use capnp_pointers::pointers::{CanonicalFault, MessageSize};
 use capnp_words::error::ErrorKind;
 use capnp_words::read_limiter::ReadLimiter;
 use std::alloc::Global;

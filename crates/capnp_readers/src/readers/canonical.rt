@@ -3,15 +3,15 @@
 ghost use Rattle.std.specs.Prelude.{◌<◌, ◌≡◌, ◌≢◌, ◌↔◌, None, IsTrue, Ok, true, false, IfOk};
 ghost use Rattle.capnp_readers.specs.Readers.{read_by};
 ghost use Rattle.capnp_readers.specs.Sizes.{pointers_read};
-ghost use Rattle.capnp_objects.specs.Metered.{◌>>>◌, answer};
-ghost use Rattle.capnp_objects.specs.Checking.{HasSmallSegment};
-ghost use Rattle.capnp_objects.specs.Testing.{fault_verdict, head_found, head_moved, test_value, test_values};
+ghost use Rattle.capnp_pointers.specs.Metered.{◌>>>◌, answer};
+ghost use Rattle.capnp_pointers.specs.Checking.{HasSmallSegment};
+ghost use Rattle.capnp_pointers.specs.Testing.{fault_verdict, head_found, head_moved, test_value, test_values};
 ghost use Rattle.capnp_readers.specs.Checking.{StartsWhole, IsDataUsed, ArePointersUsed, head_behind};
 
 use crate::readers::{PointerReader, StructReader};
 use capnp_arena_traits::arena::ReaderArena;
-use capnp_objects::pointers::{CanonicalFault, is_last_word_used};
-use capnp_objects::source::Source;
+use capnp_pointers::pointers::{CanonicalFault, is_last_word_used};
+use capnp_pointers::source::Source;
 use capnp_words::error::ErrorKind;
 use capnp_words::read_limiter::ReadLimiter;
 

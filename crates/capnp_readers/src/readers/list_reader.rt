@@ -7,16 +7,16 @@ ghost use Rattle.capnp_format.specs.Path.{Child, next};
 ghost use Rattle.capnp_words.specs.declared.wire_pointer.ElementSize.TheVariants.{Void, InlineComposite};
 ghost use Rattle.capnp_format.specs.Numbers.{element_bits, from_digits};
 ghost use Rattle.capnp_words.specs.Sizes.{size_number};
-ghost use Rattle.capnp_objects.specs.Outcomes.{MeansThere};
-ghost use Rattle.capnp_objects.specs.Reading.{source_start};
-ghost use Rattle.capnp_objects.specs.Rows.{rows_sized};
-ghost use Rattle.capnp_objects.specs.Objects.{IsHeld};
+ghost use Rattle.capnp_pointers.specs.Outcomes.{MeansThere};
+ghost use Rattle.capnp_pointers.specs.Reading.{source_start};
+ghost use Rattle.capnp_pointers.specs.Rows.{rows_sized};
+ghost use Rattle.capnp_pointers.specs.Objects.{IsHeld};
 ghost use Rattle.capnp_readers.specs.Sections.{IsPart, HasWordsFrom, HoldsPointer, elements_words, pointers_offset, bit_at, step_bits, data_bits, low_data};
 
 use crate::readers::{NO_SECTIONS, PointerReader, StructReader, bytes_are_below_256};
 use capnp_arena_traits::arena::ReaderArena;
-use capnp_objects::object::Place;
-use capnp_objects::source::Source;
+use capnp_pointers::object::Place;
+use capnp_pointers::source::Source;
 use capnp_words::primitive::Primitive;
 use capnp_words::wire_pointer::{
     ElementSize, StructSize, data_bits_per_element, pointers_per_element,

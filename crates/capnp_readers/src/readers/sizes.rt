@@ -1,12 +1,12 @@
 //! Counts the words and capabilities of a value being read, without reading its data.
 ghost use Rattle.std.specs.Prelude.{◌≡◌};
-ghost use Rattle.capnp_objects.specs.Measure.{measure, measure_pointers, only_words};
+ghost use Rattle.capnp_pointers.specs.Measure.{measure, measure_pointers, only_words};
 ghost use Rattle.capnp_readers.specs.Readers.{read_by};
 ghost use Rattle.capnp_readers.specs.Sizes.{own_words, pointers_read};
 
 use crate::readers::{PointerReader, StructReader};
 use capnp_arena_traits::arena::ReaderArena;
-use capnp_objects::pointers::MessageSize;
+use capnp_pointers::pointers::MessageSize;
 use capnp_words::error::ErrorKind;
 use capnp_words::read_limiter::ReadLimiter;
 

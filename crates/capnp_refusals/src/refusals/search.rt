@@ -1,13 +1,13 @@
 //! Searches a value for the first pointer whose object is refused.
 ghost use Rattle.std.specs.Prelude.{◌≡◌, ◌≤◌, ◌+◌, ◌*◌, Ok, length};
-ghost use Rattle.capnp_objects.specs.Enter.{object_shape};
-ghost use Rattle.capnp_objects.specs.Reading.{segment_read};
-ghost use Rattle.capnp_objects.specs.Pointers.{reading, reading_on};
+ghost use Rattle.capnp_pointers.specs.Enter.{object_shape};
+ghost use Rattle.capnp_pointers.specs.Reading.{segment_read};
+ghost use Rattle.capnp_pointers.specs.Pointers.{reading, reading_on};
 ghost use Rattle.capnp_refusals.specs.Search.{demanded, permitted, search_elements, search_place, search_pointers};
 
 use capnp_arena_traits::arena::ReaderArena;
-use capnp_objects::object::{Object, Place, Purpose, rows_of_object};
-use capnp_objects::pointers::Pointer;
+use capnp_pointers::object::{Object, Place, Purpose, rows_of_object};
+use capnp_pointers::pointers::Pointer;
 use capnp_words::error::ErrorKind;
 use capnp_words::read_limiter::ReadLimiter;
 

@@ -5,7 +5,7 @@ ghost use Rattle.capnp_format.specs.Segments.{AreWords};
 ghost use Rattle.capnp_format.specs.Tree.{Tree};
 ghost use Rattle.capnp_arena_traits.specs.Limits.{IsSmall};
 ghost use Rattle.capnp_framing.specs.Writing.{IsUnwritten};
-ghost use Rattle.capnp_objects.specs.Source.{levels};
+ghost use Rattle.capnp_pointers.specs.Source.{levels};
 ghost use Rattle.capnp_messages.specs.Messages.{IsReadable};
 ghost use Rattle.capnp_show.specs.Compared.{ComparesLines, HasLineOf};
 ghost use Rattle.capnp_show.specs.Show.{PrintsAtMost, PrintsSome};
@@ -17,7 +17,7 @@ use super::path::push_path;
 use super::text::{CUT_LINE, Ended, MOST_BYTES, Text, text_prefix};
 use capnp_arena::arena::{ReaderArena, ReaderArenaImpl, ReaderOptions, ReaderSegments};
 use capnp_framing::devices::Output;
-use capnp_objects::nesting::levels_left;
+use capnp_pointers::nesting::levels_left;
 use capnp_words::read_limiter::ReadLimiter;
 use std::alloc::Global;
 

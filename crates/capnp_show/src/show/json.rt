@@ -1,10 +1,10 @@
 //! A message as one line of JSON.
 ghost use Rattle.std.specs.Prelude.{◌≡◌, ◌+◌, ◌*◌, ◌≤◌, true, false, codes, length, [], Ok, OnOk};
-ghost use Rattle.capnp_objects.specs.declared.object.Purpose.TheVariants.{Value};
-ghost use Rattle.capnp_objects.specs.Enter.{object_shape};
-ghost use Rattle.capnp_objects.specs.Objects.{IsObjectRead};
-ghost use Rattle.capnp_objects.specs.Reading.{segment_read};
-ghost use Rattle.capnp_objects.specs.Pointers.{reading};
+ghost use Rattle.capnp_pointers.specs.declared.object.Purpose.TheVariants.{Value};
+ghost use Rattle.capnp_pointers.specs.Enter.{object_shape};
+ghost use Rattle.capnp_pointers.specs.Objects.{IsObjectRead};
+ghost use Rattle.capnp_pointers.specs.Reading.{segment_read};
+ghost use Rattle.capnp_pointers.specs.Pointers.{reading};
 ghost use Rattle.capnp_messages.specs.PathEnds.{end_read, end_result};
 ghost use Rattle.capnp_show.specs.Adding.{max_text};
 ghost use Rattle.capnp_show.specs.Shown.{IsPlain, Shows, add, array_within, comma, show_elements, show_end};
@@ -15,8 +15,8 @@ use super::path::{PathStep, enter};
 use super::text::{CUT_OBJECT, Ended, Text};
 use capnp_arena_traits::arena::ReaderArena;
 use capnp_messages::messages::{ElementPlace, Reached};
-use capnp_objects::object::{Object, Place, Purpose};
-use capnp_objects::pointers::Pointer;
+use capnp_pointers::object::{Object, Place, Purpose};
+use capnp_pointers::pointers::Pointer;
 use capnp_words::error::ErrorKind;
 use capnp_words::read_limiter::ReadLimiter;
 use capnp_words::wire_pointer::{StructSize, WirePointerKind};

@@ -1,6 +1,6 @@
 //! A message as lines of text, one for each object.
-ghost use Rattle.capnp_objects.specs.Entering.{IsObjectHeld};
-ghost use Rattle.capnp_objects.specs.Reading.{source_start};
+ghost use Rattle.capnp_pointers.specs.Entering.{IsObjectHeld};
+ghost use Rattle.capnp_pointers.specs.Reading.{source_start};
 
 use super::message::Showing;
 use super::objects::{bytes_at, number_at, place_past};
@@ -8,8 +8,8 @@ use super::path::{PathStep, enter, push_path};
 use super::text::{CUT_COLORED_LINE, CUT_LINE, Ended, Text, as_text, text_prefix};
 use capnp_arena_traits::arena::ReaderArena;
 use capnp_messages::messages::ElementPlace;
-use capnp_objects::object::{Object, Place, Purpose};
-use capnp_objects::pointers::Pointer;
+use capnp_pointers::object::{Object, Place, Purpose};
+use capnp_pointers::pointers::Pointer;
 use capnp_words::read_limiter::ReadLimiter;
 use capnp_words::wire_pointer::{ElementSize, StructSize, WirePointerKind};
 use std::alloc::Global;

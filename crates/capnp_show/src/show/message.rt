@@ -4,7 +4,7 @@ ghost use Rattle.capnp_format.specs.Bytes.{message};
 ghost use Rattle.capnp_format.specs.Tree.{Tree};
 ghost use Rattle.capnp_arena_traits.specs.Limits.{IsSmall};
 ghost use Rattle.capnp_framing.specs.Writing.{IsUnwritten, Prints};
-ghost use Rattle.capnp_objects.specs.Source.{levels};
+ghost use Rattle.capnp_pointers.specs.Source.{levels};
 ghost use Rattle.capnp_show.specs.Adding.{max_text};
 ghost use Rattle.capnp_show.specs.Show.{PrintsAtMost};
 ghost use Rattle.capnp_show.specs.Shown.{IsPlain, Shows, shown_json};

@@ -3,7 +3,7 @@ ghost use Rattle.std.specs.Prelude.{◌≡◌, ◌+◌, ◌*◌, ◌^◌, ◌<�
 ghost use Rattle.capnp_format.specs.Bytes.{words_of};
 ghost use Rattle.capnp_show.specs.Numbers.{number_in, word_index};
 
-use capnp_objects::object::Place;
+use capnp_pointers::object::Place;
 use capnp_words::wire_pointer::ElementSize;
 
 /// The place `words` words after `start`. It saturates nowhere inside of an object.

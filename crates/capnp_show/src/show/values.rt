@@ -4,8 +4,8 @@ ghost use Rattle.std.specs.Fmt.{decimal};
 ghost use Rattle.std.specs.List.{join_with_byte};
 ghost use Rattle.hex.specs.Hex.{encode_lower};
 ghost use Rattle.capnp_words.specs.Sizes.{size_number};
-ghost use Rattle.capnp_objects.specs.declared.object.Object.TheVariants.{Flat as ObjectFlat};
-ghost use Rattle.capnp_objects.specs.Entering.{IsAtHand};
+ghost use Rattle.capnp_pointers.specs.declared.object.Object.TheVariants.{Flat as ObjectFlat};
+ghost use Rattle.capnp_pointers.specs.Entering.{IsAtHand};
 ghost use Rattle.capnp_show.specs.Adding.{Adds};
 ghost use Rattle.capnp_show.specs.Line.{bytes_member, escaped, flat_member, in_quotes, member};
 ghost use Rattle.capnp_show.specs.Line.{numbers_member};
@@ -15,7 +15,7 @@ ghost use Rattle.capnp_show.specs.Shown.{sizes_members};
 
 use super::objects::{bytes_are_below_256, bytes_at, number_at};
 use super::text::{Ended, Text, as_text};
-use capnp_objects::object::Place;
+use capnp_pointers::object::Place;
 use capnp_words::wire_pointer::{ElementSize, StructSize};
 
 impl Text {

@@ -18,7 +18,7 @@ use capnp_arena::arena::{
 };
 use capnp_messages::messages;
 use capnp_messages::messages::MessageExtent;
-use capnp_objects::pointers::{CanonicalFault, MessageSize};
+use capnp_pointers::pointers::{CanonicalFault, MessageSize};
 use capnp_words::error::ErrorKind;
 use std::alloc::Global;
 

@@ -12,7 +12,7 @@ use super::task::ShowTask;
 use capnp_arena::arena::ReaderSegments;
 use capnp_framing::devices::Output;
 use capnp_framing::framing::FrameError;
-use capnp_objects::nesting::levels_left;
+use capnp_pointers::nesting::levels_left;
 use capnp_show::show::{MOST_BYTES, ShowFault, Showing, show_message};
 use capnp_words::error::ErrorKind;
 use std::alloc::Global;

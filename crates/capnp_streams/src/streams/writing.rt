@@ -10,7 +10,7 @@ ghost use Rattle.capnp_streams.specs.Streams.{fault_line, hex_line, no_text, seg
 use capnp_framing::devices::{DeviceFault, Output, write_all};
 use capnp_messages::messages::{Form, write_words};
 use capnp_messages::text::write_number;
-use capnp_objects::pointers::CanonicalFault;
+use capnp_pointers::pointers::CanonicalFault;
 
 /// The largest number of bytes that are written as hex digits at a time.
 const PIECE: usize = 512;

@@ -1,11 +1,11 @@
 //! The entries of a list of objects.
 ghost use Rattle.std.specs.Prelude.{◌≡◌, ◌+◌, slice_set};
 ghost use Rattle.capnp_words.specs.Sizes.{size_number};
-ghost use Rattle.capnp_objects.specs.Enter.{object_shape};
-ghost use Rattle.capnp_objects.specs.Extents.{capped};
+ghost use Rattle.capnp_pointers.specs.Enter.{object_shape};
+ghost use Rattle.capnp_pointers.specs.Extents.{capped};
 ghost use Rattle.capnp_walks.specs.Listing.{into_array, noted, walked_object};
 
-use capnp_objects::object::{Object, Place};
+use capnp_pointers::object::{Object, Place};
 use capnp_words::wire_pointer::ElementSize;
 
 /// The kind of a struct in a `WalkedObject`.

@@ -1,14 +1,14 @@
 //! Walks over the objects of a value.
 ghost use Rattle.std.specs.Prelude.{◌≡◌, ◌≤◌, ◌+◌, ◌*◌, Ok, length};
-ghost use Rattle.capnp_objects.specs.Reading.{segment_read};
-ghost use Rattle.capnp_objects.specs.Pointers.{reading, reading_on};
+ghost use Rattle.capnp_pointers.specs.Reading.{segment_read};
+ghost use Rattle.capnp_pointers.specs.Pointers.{reading, reading_on};
 ghost use Rattle.capnp_walks.specs.Listing.{into_array, no_parent};
 ghost use Rattle.capnp_walks.specs.Walks.{walk_elements, walk_place, walk_pointers};
 
 use crate::walks::listing::{NO_PARENT, WalkedObject, add_object};
 use capnp_arena_traits::arena::ReaderArena;
-use capnp_objects::object::{Place, Purpose, rows_of_object};
-use capnp_objects::pointers::Pointer;
+use capnp_pointers::object::{Place, Purpose, rows_of_object};
+use capnp_pointers::pointers::Pointer;
 use capnp_refusals::refusals::RefusedPointer;
 use capnp_words::read_limiter::ReadLimiter;
 

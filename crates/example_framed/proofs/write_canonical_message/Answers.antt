@@ -1,7 +1,7 @@
 use Rattle.std.proofs.Common.{rules}
 use Rattle.std.proofs.lemmas.Result.{on_ok_weaker}
-use Rattle.capnp_objects.specs.Wanted.{canonical}
-use Rattle.capnp_objects.proofs.WholeValue.ValueAsStated.{reads_if}
+use Rattle.capnp_pointers.specs.Wanted.{canonical}
+use Rattle.capnp_pointers.proofs.WholeValue.ValueAsStated.{reads_if}
 use Rattle.example_framed.proofs.write_canonical_message.Goals as goal
 
 pub returns-in-Ok : goal.returns-in-Ok

@@ -1,7 +1,7 @@
 -- The readings are computed.
 use Rattle.std.proofs.Common.{refl}
-use Rattle.capnp_objects.specs.Values.{value_within}
-use Rattle.capnp_objects.specs.Measure.{measure_within}
+use Rattle.capnp_pointers.specs.Values.{value_within}
+use Rattle.capnp_pointers.specs.Measure.{measure_within}
 use Rattle.outside_facts.proofs.facts_from_outside.Goals as goal
 
 pub returns : goal.returns

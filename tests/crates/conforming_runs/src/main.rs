@@ -13,7 +13,7 @@ mod tests;
 use capnp_proved::capnp_arena::arena::{ReaderArena, ReaderArenaImpl, ReaderOptions};
 use capnp_proved::capnp_framing::devices::MemoryInput;
 use capnp_proved::capnp_framing::framing::{read, OwnedSegments};
-use capnp_proved::capnp_objects::pointers::Pointer;
+use capnp_proved::capnp_pointers::pointers::Pointer;
 use capnp_proved::capnp_words::error::ErrorKind;
 use capnp_proved::capnp_words::read_limiter::ReadLimiter;
 use capnp_proved::support::alloc::Global;

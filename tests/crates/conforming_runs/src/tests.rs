@@ -5,7 +5,7 @@ use crate::tables::{ITEM, KINDS, KINDS_ROW, TEXTS};
 use crate::{answers, Answers, Schema};
 use capnp_proved::capnp_arena::arena::{ReaderArenaImpl, ReaderOptions};
 use capnp_proved::capnp_framing::framing::OwnedSegments;
-use capnp_proved::capnp_objects::pointers::Pointer;
+use capnp_proved::capnp_pointers::pointers::Pointer;
 use capnp_proved::capnp_words::error::ErrorKind;
 use capnp_proved::capnp_words::read_limiter::ReadLimiter;
 use capnp_proved::typed_conforming::conforms::conforms;

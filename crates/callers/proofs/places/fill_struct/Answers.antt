@@ -1,7 +1,7 @@
 use Rattle.std.proofs.Common.{ℕ, List, [], ◌∷◌, ◌++◌, cond, arith}
 use Rattle.capnp_format.specs.Tree.{Flat, Trees}
 use Rattle.capnp_format.specs.Fields.{put_field}
-use Rattle.capnp_making.specs.Made.{words_of_zero}
+use Rattle.capnp_allocation.specs.Made.{words_of_zero}
 use Rattle.capnp_format.specs.Path.{put_tree}
 use Rattle.callers.proofs.places.fill_struct.Goals as goal
 

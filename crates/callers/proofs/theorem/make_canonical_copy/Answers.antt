@@ -3,7 +3,7 @@ use Rattle.capnp_format.specs.Bytes.{message}
 use Rattle.capnp_format.specs.Canonical.{trim, word_count}
 use Rattle.capnp_format.specs.Segments.{Segments, segment}
 use Rattle.capnp_format.proofs.Levels.{one_value}
-use Rattle.capnp_objects.specs.Source.{levels}
+use Rattle.capnp_pointers.specs.Source.{levels}
 use Rattle.capnp_messages.proofs.AnsweredLemmas.{copy_lacks_memory}
 use Rattle.capnp_messages.proofs.CanonicalizeLemmas.{value_if}
 use Rattle.capnp_framing.specs.Reading.{total}

@@ -9,10 +9,10 @@ use Rattle.capnp_format.specs.Tree.{Tree}
 use Rattle.capnp_arena_traits.specs.Limits.{whole}
 use Rattle.capnp_copies.specs.Changes.{RefusesToCopy, copy_call}
 use Rattle.capnp_copies.specs.Originals.{value_original}
-use Rattle.capnp_making.specs.Makes.{call_at}
-use Rattle.capnp_objects.specs.Source.{levels}
-use Rattle.capnp_objects.specs.Spending.{Paid, pointers_in}
-use Rattle.capnp_objects.specs.Wanted.{canonical}
+use Rattle.capnp_allocation.specs.Makes.{call_at}
+use Rattle.capnp_pointers.specs.Source.{levels}
+use Rattle.capnp_pointers.specs.Spending.{Paid, pointers_in}
+use Rattle.capnp_pointers.specs.Wanted.{canonical}
 use Rattle.callers.specs.Truly.{read_at}
 use Rattle.callers.proofs.InRoom.{IsFreshRoot, null_root, on_err, on_ok, unasked_there, zeros_there}
 use Rattle.callers.proofs.InRoomAt.{fits_here, made_here, refused_here}

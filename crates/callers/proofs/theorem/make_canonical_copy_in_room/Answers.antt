@@ -4,14 +4,14 @@ use Rattle.capnp_format.specs.Tree.{Null}
 use Rattle.capnp_words.specs.Meter.{Meter}
 use Rattle.capnp_arena_traits.specs.View.{View}
 use Rattle.capnp_arena.specs.declared.arena.reader_arena_impl.ReaderOptions.{ReaderOptions}
-use Rattle.capnp_making.specs.Makes.{call_at}
-use Rattle.capnp_objects.specs.Reading.{Reading}
-use Rattle.capnp_objects.specs.Wanted.{canonical}
+use Rattle.capnp_allocation.specs.Makes.{call_at}
+use Rattle.capnp_pointers.specs.Reading.{Reading}
+use Rattle.capnp_pointers.specs.Wanted.{canonical}
 use Rattle.capnp_copies.specs.Changes.{MakesCopy, copy_call}
 use Rattle.capnp_copies.specs.Originals.{value_original}
 use Rattle.capnp_messages.proofs.MessageLemmas.{value_of}
 use Rattle.callers.proofs.AgreedLemmas.{fresh_forest}
-use Rattle.capnp_making.proofs.Replaced.{forest_updated}
+use Rattle.capnp_allocation.proofs.Replaced.{forest_updated}
 use Rattle.std.proofs.Common.{rules, sym, refl, IsOk, IfOk, OnOk, OnErr, ◌≡◌, ◌↔◌, ◌+◌, ◌≤◌, ℕ, [], ◌∷◌, ap, subst}
 use Rattle.std.proofs.lemmas.Result.{IfErr-weaker, IfOk-weaker}
 use Rattle.capnp_format.specs.Bytes.{message}

@@ -1,4 +1,4 @@
-use Rattle.capnp_making.proofs.Taken.{leads_to_end}
+use Rattle.capnp_allocation.proofs.Taken.{leads_to_end}
 use Rattle.capnp_builders.proofs.fields.new_list.Goals as goal
 
 -- The returned place is where the pointer leads.

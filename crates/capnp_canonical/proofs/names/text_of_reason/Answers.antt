@@ -1,6 +1,6 @@
 use Rattle.std.proofs.Common.{sym, subst, arith}
 use Rattle.capnp_canonical.specs.Texts.{IsTextOf}
-use Rattle.capnp_objects.specs.CanonicalFaults.{fault_reason_text}
+use Rattle.capnp_pointers.specs.CanonicalFaults.{fault_reason_text}
 use Rattle.capnp_canonical.specs.Numbers.{reason_number}
 use Rattle.capnp_canonical.proofs.NumberLemmas.{reason_found}
 use Rattle.capnp_canonical.proofs.names.text_of_reason.Goals as goal

@@ -9,21 +9,21 @@ use Rattle.capnp_format.specs.Segments.{Segments, segment, word_at, IsPlace}
 use Rattle.capnp_format.specs.Tree.{Flat, Pointers}
 use Rattle.capnp_format.specs.Numbers.{words_for, unpacked}
 use Rattle.capnp_format.proofs.Slices.{length_words}
-use Rattle.capnp_making.specs.Made.{zero_structs, nulls, structs_words}
-use Rattle.capnp_making.specs.Memory.{HasRoom}
-use Rattle.capnp_making.specs.Near.{HasOwnRoom}
-use Rattle.capnp_making.proofs.FillingMade.{IsBegun, pointers_ready, structs_ready}
+use Rattle.capnp_allocation.specs.Made.{zero_structs, nulls, structs_words}
+use Rattle.capnp_allocation.specs.Memory.{HasRoom}
+use Rattle.capnp_allocation.specs.Near.{HasOwnRoom}
+use Rattle.capnp_allocation.proofs.FillingMade.{IsBegun, pointers_ready, structs_ready}
 use Rattle.capnp_format.specs.Word.{kind, data_words, pointer_count}
-use Rattle.capnp_objects.specs.declared.object.Place.{Place}
-use Rattle.capnp_objects.specs.declared.object.Object.TheVariants.{Struct as ObjectStruct}
-use Rattle.capnp_objects.specs.Objects.{IsObject}
-use Rattle.capnp_objects.specs.Source.{levels}
-use Rattle.capnp_objects.specs.Reading.{Reading, place_past, segment_read, word_of, words_from}
-use Rattle.capnp_objects.specs.declared.object.Purpose.TheVariants.{Value}
-use Rattle.capnp_objects.specs.Pointers.{reading}
-use Rattle.capnp_objects.proofs.CanonicalTest.FoundBySteps.{struct_room}
-use Rattle.capnp_objects.proofs.Following.NearByWord.{struct_by_word}
-use Rattle.capnp_objects.proofs.Budget.OneLevelLess.{ok_so, err_so}
+use Rattle.capnp_pointers.specs.declared.object.Place.{Place}
+use Rattle.capnp_pointers.specs.declared.object.Object.TheVariants.{Struct as ObjectStruct}
+use Rattle.capnp_pointers.specs.Objects.{IsObject}
+use Rattle.capnp_pointers.specs.Source.{levels}
+use Rattle.capnp_pointers.specs.Reading.{Reading, place_past, segment_read, word_of, words_from}
+use Rattle.capnp_pointers.specs.declared.object.Purpose.TheVariants.{Value}
+use Rattle.capnp_pointers.specs.Pointers.{reading}
+use Rattle.capnp_pointers.proofs.CanonicalTest.FoundBySteps.{struct_room}
+use Rattle.capnp_pointers.proofs.Following.NearByWord.{struct_by_word}
+use Rattle.capnp_pointers.proofs.Budget.OneLevelLess.{ok_so, err_so}
 use Rattle.std.proofs.lemmas.Result.{err_from_is_err_and}
 use Rattle.capnp_arena_traits.specs.View.{View}
 use Rattle.capnp_copies.specs.Changes.{HasNulls}
@@ -45,7 +45,7 @@ use Rattle.capnp_copies.proofs.Originals.{halfway, sections_large, pointers_larg
 use Rattle.capnp_copies.proofs.TightElements.{all_rows}
 use Rattle.capnp_copies.proofs.TooLarge.{no_pointers_room, no_structs_room, no_sections_room}
 use Rattle.capnp_copies.proofs.WordsInside.{child_there, part_inside, behind_inside, rows_inside, one_more, some_more, kept_inside, fewer_words, first_fits, row_fits, product_fits, kept_fits, child_fits, null_fits, children_fit, kept_starts}
-use Rattle.capnp_objects.proofs.CanonicalTest.ResultFromParts.{some_words}
+use Rattle.capnp_pointers.proofs.CanonicalTest.ResultFromParts.{some_words}
 use Rattle.capnp_copies.proofs.copy.+copies.Goals as goal
 
 -- Positions fit 32 bits.

@@ -1,6 +1,6 @@
 use Rattle.std.proofs.Common.{◌+◌, ◌-◌, ◌*◌}
-use Rattle.capnp_objects.specs.Source.{levels}
-use Rattle.capnp_objects.specs.Pointers.{reading}
+use Rattle.capnp_pointers.specs.Source.{levels}
+use Rattle.capnp_pointers.specs.Pointers.{reading}
 use Rattle.capnp_copies.specs.Changes.{copy_call_to, CopiesChildren, CopiesRows}
 use Rattle.capnp_copies.specs.Originals.{children_original, elements_original}
 use Rattle.capnp_copies.proofs.ObjectsMade.{TakesForCopy}

@@ -1,4 +1,4 @@
-use Rattle.capnp_objects.specs.Pointers.{reading}
+use Rattle.capnp_pointers.specs.Pointers.{reading}
 use Rattle.capnp_copies.specs.Forms.{form_in}
 use Rattle.capnp_copies.proofs.Cleared.{place_left, value_apart, copies_or_clears}
 use Rattle.capnp_copies.proofs.copy.copy_in_form.Goals as goal

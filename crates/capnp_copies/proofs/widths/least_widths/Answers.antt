@@ -2,7 +2,7 @@ use Rattle.std.proofs.Common.{◌≡◌, suc, ◌+◌, ◌-◌, max, take, drop,
 use Rattle.capnp_format.specs.Bytes.{words_of}
 use Rattle.capnp_format.specs.Canonical.{used_words}
 use Rattle.capnp_copies.proofs.Scanning.{data_used, pointers_used, no_data, no_pointers, one_left, data_more, pointers_more, none_yet, no_more, none_left, none_fits, data_inside, pointers_inside, next_at, next_reached}
-use Rattle.capnp_making.proofs.WordsInside.{first_place}
+use Rattle.capnp_allocation.proofs.WordsInside.{first_place}
 use Rattle.capnp_copies.proofs.widths.least_widths.Goals as goal
 
 pub loop-i-preserved : goal.loop-i-preserved

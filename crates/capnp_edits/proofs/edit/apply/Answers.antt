@@ -1,7 +1,7 @@
 use Rattle.std.proofs.Common.{◌≡◌, true, Some, None, IfSome, sym, ap, ◌∙◌, subst, map}
 use Rattle.std.proofs.lemmas.Bool.{false≢true}
 use Rattle.capnp_format.specs.Tree.{Tree}
-use Rattle.capnp_making.specs.Stored.{IsStored}
+use Rattle.capnp_allocation.specs.Stored.{IsStored}
 use Rattle.capnp_edits.specs.declared.edit.path.PathEnd.TheVariants.{Pointer as AtPointer, Element as AtElement}
 use Rattle.capnp_edits.specs.declared.edit.tasks.Task.TheVariants.{InStruct}
 use Rattle.capnp_edits.specs.Edits.{refusal_of}

@@ -1,4 +1,4 @@
-use Rattle.capnp_objects.proofs.CanonicalTest.AnswersWithinLimits.{all_can_answer, can_answers}
+use Rattle.capnp_pointers.proofs.CanonicalTest.AnswersWithinLimits.{all_can_answer, can_answers}
 use Rattle.capnp_readers.proofs.laws.canonical_is_answered.Goals as goal
 
 pub returns : goal.returns

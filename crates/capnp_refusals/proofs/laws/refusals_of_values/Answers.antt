@@ -1,4 +1,4 @@
-use Rattle.capnp_objects.specs.Values.{value}
+use Rattle.capnp_pointers.specs.Values.{value}
 use Rattle.capnp_refusals.specs.Search.{form_for, of_values, search_place}
 use Rattle.capnp_refusals.proofs.Named.{read_so, refused_so, search_ends}
 use Rattle.capnp_refusals.proofs.laws.refusals_of_values.Goals as goal

@@ -1,6 +1,6 @@
 use Rattle.capnp_readers.specs.Readers.{read_by}
 use Rattle.capnp_copies.specs.Originals.{value_original}
-use Rattle.capnp_contents.proofs.Room.PlacesStay.{grows_again}
+use Rattle.capnp_in_place.proofs.Room.PlacesStay.{grows_again}
 use Rattle.typed_building.proofs.Copied.{can_written, member_read, member_refused, pointer_taken}
 use Rattle.typed_building.proofs.Sets.{makes_member}
 use Rattle.typed_building.proofs.Outcomes.{place_grown}

@@ -1,5 +1,5 @@
 use Rattle.capnp_builders.specs.StructValues.{struct_read}
-use Rattle.capnp_contents.proofs.Room.PlacesStay.{grows_again}
+use Rattle.capnp_in_place.proofs.Room.PlacesStay.{grows_again}
 use Rattle.typed_building.proofs.Copied.{can_written, member_read, member_refused, struct_taken}
 use Rattle.typed_building.proofs.Sets.{makes_member}
 use Rattle.typed_building.proofs.Outcomes.{place_grown}

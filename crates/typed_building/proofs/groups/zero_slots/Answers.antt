@@ -1,9 +1,9 @@
 use Rattle.std.proofs.Common.{◌≡◌, ◌+◌, [], ◌∷◌, ◌++◌, get_or, take, sym, subst, take_all}
 use Rattle.std.proofs.lemmas.List.{take_more}
 use Rattle.capnp_builders.specs.Held.{call_in}
-use Rattle.capnp_contents.proofs.Room.PlacesStay.{grows_again}
-use Rattle.capnp_contents.proofs.MovedPointers.RewrittenInTurn.{writes_both, writes_nothing}
-use Rattle.capnp_making.proofs.FillingChains.{no_growth}
+use Rattle.capnp_in_place.proofs.Room.PlacesStay.{grows_again}
+use Rattle.capnp_in_place.proofs.MovedPointers.RewrittenInTurn.{writes_both, writes_nothing}
+use Rattle.capnp_allocation.proofs.FillingChains.{no_growth}
 use Rattle.typed_building.specs.Slots.{ReplacesSlots, ZeroesSlots}
 use Rattle.typed_building.specs.declared.slots.Slot.TheVariants.{Bit}
 use Rattle.typed_building.proofs.Sets.{holds_at, replaces_last, replaces_none, zeroes_last}

@@ -1,7 +1,7 @@
 use Rattle.std.proofs.Common.{take}
 use Rattle.capnp_builders.specs.Held.{call_in}
 use Rattle.capnp_format.specs.Segments.{Grows}
-use Rattle.capnp_contents.specs.Anew.{OnlyWrites}
+use Rattle.capnp_in_place.specs.Anew.{OnlyWrites}
 use Rattle.typed_building.specs.Slots.{ReplacesSlots, ZeroesSlots}
 use Rattle.typed_building.proofs.groups.zero_slots.Given as goal
 

@@ -1,5 +1,5 @@
-use Rattle.capnp_contents.proofs.MovedPointers.RewrittenInTurn.{writes_both}
-use Rattle.capnp_contents.proofs.Room.PlacesStay.{grows_again}
+use Rattle.capnp_in_place.proofs.MovedPointers.RewrittenInTurn.{writes_both}
+use Rattle.capnp_in_place.proofs.Room.PlacesStay.{grows_again}
 use Rattle.typed_building.proofs.Sets.{begins_group, replaces_group}
 use Rattle.typed_building.proofs.Outcomes.{place_grown}
 use Rattle.typed_building.proofs.groups.zero_slots_member.Goals as goal

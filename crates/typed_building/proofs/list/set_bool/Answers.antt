@@ -1,7 +1,7 @@
 use Rattle.std.proofs.Common.{◌≡◌, ◌+◌, ◌*◌, cond, Bool, true, false, ◌<◌, ◌^◌, ap, ◌∙◌, arith}
 use Rattle.capnp_arena_traits.specs.View.{View}
 use Rattle.capnp_format.specs.Numbers.{element_bits}
-use Rattle.capnp_making.specs.Fields.{with_field}
+use Rattle.capnp_allocation.specs.Fields.{with_field}
 use Rattle.capnp_words.specs.Sizes.{size_number}
 use Rattle.capnp_readers.specs.Sections.{step_bits}
 use Rattle.capnp_builders.proofs.HeldMade.{field_writes}

@@ -2,8 +2,8 @@ use Rattle.std.proofs.Common.{rules, ◌+◌, IfOk, subst, arith}
 use Rattle.capnp_format.specs.Path.{tree_at}
 use Rattle.capnp_format.specs.Segments.{Grows}
 use Rattle.capnp_format.specs.Tree.{Tree}
-use Rattle.capnp_making.specs.Stored.{IsStored}
-use Rattle.capnp_contents.specs.Opening.{OpensStruct, struct_opened}
+use Rattle.capnp_allocation.specs.Stored.{IsStored}
+use Rattle.capnp_in_place.specs.Opening.{OpensStruct, struct_opened}
 use Rattle.capnp_readers.specs.Values.{struct_children, struct_data}
 use Rattle.capnp_builders.specs.Held.{HasStruct, call_in, pointer_to}
 use Rattle.capnp_builders.specs.Opening.{IsStructGiven}

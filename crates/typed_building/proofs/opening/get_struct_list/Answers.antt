@@ -3,7 +3,7 @@ use Rattle.capnp_words.specs.Sizes.{sized}
 use Rattle.capnp_format.specs.Path.{tree_at}
 use Rattle.capnp_format.specs.Segments.{Grows}
 use Rattle.capnp_format.specs.Tree.{Tree}
-use Rattle.capnp_making.specs.Stored.{IsStored}
+use Rattle.capnp_allocation.specs.Stored.{IsStored}
 use Rattle.capnp_builders.specs.Held.{HasStruct, call_in, element_of}
 use Rattle.capnp_builders.specs.Opening.{OpensList}
 use Rattle.capnp_builders.specs.Places.{element_place}

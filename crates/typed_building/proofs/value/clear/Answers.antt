@@ -1,7 +1,7 @@
 use Rattle.std.proofs.Common.{◌+◌, refl}
 use Rattle.capnp_format.specs.Tree.{Null}
-use Rattle.capnp_contents.proofs.Room.WordsTaken.{pruned_writes}
-use Rattle.capnp_contents.proofs.Room.PlacesStay.{pruned_grows}
+use Rattle.capnp_in_place.proofs.Room.WordsTaken.{pruned_writes}
+use Rattle.capnp_in_place.proofs.Room.PlacesStay.{pruned_grows}
 use Rattle.typed_building.proofs.Sets.{replaces_child, sets_child}
 use Rattle.typed_building.proofs.value.clear.Goals as goal
 

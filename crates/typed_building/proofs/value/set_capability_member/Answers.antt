@@ -1,5 +1,5 @@
-use Rattle.capnp_contents.proofs.MovedPointers.RewrittenInTurn.{writes_both}
-use Rattle.capnp_contents.proofs.Room.PlacesStay.{grows_again}
+use Rattle.capnp_in_place.proofs.MovedPointers.RewrittenInTurn.{writes_both}
+use Rattle.capnp_in_place.proofs.Room.PlacesStay.{grows_again}
 use Rattle.typed_building.proofs.Sets.{replaces_child_member, sets_child_member}
 use Rattle.typed_building.proofs.Outcomes.{place_grown}
 use Rattle.typed_building.proofs.value.set_capability_member.Goals as goal

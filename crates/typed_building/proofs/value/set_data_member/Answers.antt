@@ -1,4 +1,4 @@
-use Rattle.capnp_contents.proofs.Room.PlacesStay.{grows_again}
+use Rattle.capnp_in_place.proofs.Room.PlacesStay.{grows_again}
 use Rattle.typed_building.proofs.Memory.{allocates_written}
 use Rattle.typed_building.proofs.Sets.{makes_member}
 use Rattle.typed_building.proofs.Outcomes.{place_grown}

@@ -1,7 +1,7 @@
 use Rattle.std.proofs.Common.{bit_xor}
 use Rattle.capnp_builders.specs.Places.{number_field}
-use Rattle.capnp_contents.proofs.MovedPointers.RewrittenInTurn.{writes_both}
-use Rattle.capnp_contents.proofs.Room.PlacesStay.{grows_again}
+use Rattle.capnp_in_place.proofs.MovedPointers.RewrittenInTurn.{writes_both}
+use Rattle.capnp_in_place.proofs.Room.PlacesStay.{grows_again}
 use Rattle.typed_building.proofs.Sets.{replaces_member, sets_member}
 use Rattle.typed_building.proofs.Outcomes.{place_grown}
 use Rattle.typed_building.proofs.value.set_number_or_member.Goals as goal

@@ -1,12 +1,12 @@
 use Rattle.std.proofs.Common.{take, drop, ◌≡◌, ℕ, suc, ◌+◌, ◌*◌, ◌-◌, get_or, refl, ap, ap₂, sym, ◌∙◌, arith, rules}
 use Rattle.std.proofs.lemmas.Int.{to_z-of_z}
 use mir.Syntax.{w32}
-use Rattle.capnp_objects.specs.declared.object.Purpose.TheVariants.{Value}
-use Rattle.capnp_objects.specs.Objects.{IsObject}
-use Rattle.capnp_objects.specs.Reading.{Reading, place_past, word_of, words_from}
-use Rattle.capnp_objects.specs.Pointers.{reading, reading_on}
-use Rattle.capnp_objects.proofs.Budget.MeasuresFall.{falls_in}
-use Rattle.capnp_objects.proofs.CanonicalTest.ResultFromParts.{inner_levels}
+use Rattle.capnp_pointers.specs.declared.object.Purpose.TheVariants.{Value}
+use Rattle.capnp_pointers.specs.Objects.{IsObject}
+use Rattle.capnp_pointers.specs.Reading.{Reading, place_past, word_of, words_from}
+use Rattle.capnp_pointers.specs.Pointers.{reading, reading_on}
+use Rattle.capnp_pointers.proofs.Budget.MeasuresFall.{falls_in}
+use Rattle.capnp_pointers.proofs.CanonicalTest.ResultFromParts.{inner_levels}
 use Rattle.typed_conforming.specs.Tables.{wanted, word_kind}
 use Rattle.typed_conforming.specs.Walk.{check_place, check_within, schema_pointer}
 use Rattle.typed_conforming.proofs.Steps.{held, inside, level, no_pointers, not_read, null_conforms, object_ends, object_opens, object_unfit, one_more, one_stops, row_more, row_stops}

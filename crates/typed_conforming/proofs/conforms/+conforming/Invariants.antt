@@ -1,7 +1,7 @@
 use Rattle.std.proofs.Common.{◌≡◌, ℕ, ◌+◌, ◌*◌}
-use Rattle.capnp_objects.specs.Reading.{Reading, place_past, words_from}
-use Rattle.capnp_objects.specs.Source.{levels}
-use Rattle.capnp_objects.specs.Pointers.{reading, reading_on}
+use Rattle.capnp_pointers.specs.Reading.{Reading, place_past, words_from}
+use Rattle.capnp_pointers.specs.Source.{levels}
+use Rattle.capnp_pointers.specs.Pointers.{reading, reading_on}
 use Rattle.typed_conforming.specs.Walk.{check_elements, check_pointers, check_within, schema_pointer}
 use Rattle.typed_conforming.specs.declared.conforms.SchemaPointer.{SchemaPointer}
 use Rattle.typed_conforming.proofs.conforms.+conforming.Given as goal

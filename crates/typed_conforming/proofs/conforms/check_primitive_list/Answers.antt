@@ -1,10 +1,10 @@
 use Rattle.std.proofs.Common.{sym, rules}
 use Rattle.std.proofs.lemmas.Int.{to_z-of_z}
 use mir.Syntax.{w32}
-use Rattle.capnp_objects.specs.declared.object.Purpose.TheVariants.{Value}
-use Rattle.capnp_objects.specs.Objects.{EntersNear}
-use Rattle.capnp_objects.specs.Reading.{Reading}
-use Rattle.capnp_objects.specs.Pointers.{reading_on}
+use Rattle.capnp_pointers.specs.declared.object.Purpose.TheVariants.{Value}
+use Rattle.capnp_pointers.specs.Objects.{EntersNear}
+use Rattle.capnp_pointers.specs.Reading.{Reading}
+use Rattle.capnp_pointers.specs.Pointers.{reading_on}
 use Rattle.typed_conforming.proofs.Steps.{flat_at_hand, flat_ends, flat_unfit, not_read}
 use Rattle.typed_conforming.proofs.conforms.check_primitive_list.Goals as goal
 

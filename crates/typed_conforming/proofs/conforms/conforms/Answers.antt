@@ -1,5 +1,5 @@
 use Rattle.std.proofs.Common.{◌≡◌, Ok, Err, sym, ap, ◌∙◌}
-use Rattle.capnp_objects.specs.Pointers.{reading}
+use Rattle.capnp_pointers.specs.Pointers.{reading}
 use Rattle.typed_conforming.specs.Blame.{first_visit}
 use Rattle.typed_conforming.specs.Walk.{check_place, rowless_pointer}
 use Rattle.typed_conforming.proofs.Blamed.{refusal_is_true}

@@ -1,8 +1,8 @@
 use Rattle.std.proofs.Common.{◌≡◌, ℕ, ◌-◌, ◌*◌, ◌/◌, ◌%◌, ◌^◌, ◌<◌, true, nat_eq, nat_lt, bit_and, sym, ap, ◌∙◌, arith, lt-ltb}
 use Rattle.std.proofs.lemmas.Nat.{and_mask}
 use Rattle.capnp_format.specs.Bytes.{words_of}
-use Rattle.capnp_objects.specs.Reading.{list_byte}
-use Rattle.capnp_objects.proofs.OneObject.LastByteOfText.{last_of_bytes}
+use Rattle.capnp_pointers.specs.Reading.{list_byte}
+use Rattle.capnp_pointers.proofs.OneObject.LastByteOfText.{last_of_bytes}
 use Rattle.typed_conforming.proofs.conforms.ends_in_zero.Goals as goal
 
 pub returns : goal.returns

@@ -1,4 +1,4 @@
-use Rattle.capnp_objects.specs.Expected.{expectation}
+use Rattle.capnp_pointers.specs.Expected.{expectation}
 use Rattle.typed_reading.proofs.Outcomes.{answered_if, charged_if, free_if, null_outcome, refused_if}
 use Rattle.typed_reading.proofs.laws.outcome_of_reading.Goals as goal
 

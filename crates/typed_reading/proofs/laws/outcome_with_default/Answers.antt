@@ -1,4 +1,4 @@
-use Rattle.capnp_objects.specs.Expected.{expectation}
+use Rattle.capnp_pointers.specs.Expected.{expectation}
 use Rattle.typed_reading.proofs.Outcomes.{default_free, default_unread}
 use Rattle.typed_reading.proofs.laws.outcome_with_default.Goals as goal
 

@@ -1,4 +1,4 @@
-use Rattle.capnp_objects.specs.Reading.{source_start}
+use Rattle.capnp_pointers.specs.Reading.{source_start}
 use Rattle.capnp_readers.specs.Readers.{read_by}
 use Rattle.capnp_readers.specs.Values.{child_cost}
 use Rattle.typed_reading.specs.Sections.{pointer_field}

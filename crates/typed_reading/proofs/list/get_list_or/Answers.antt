@@ -1,5 +1,5 @@
 use Rattle.std.proofs.Common.{refl, ◌∙◌}
-use Rattle.capnp_objects.specs.Expected.{list_expected}
+use Rattle.capnp_pointers.specs.Expected.{list_expected}
 use Rattle.typed_reading.specs.Sections.{pointer_field}
 use Rattle.typed_reading.specs.Values.{default_place}
 use Rattle.typed_reading.proofs.Defaults.{ReadsDefault, at_default, not_null, not_zero, reads_default}

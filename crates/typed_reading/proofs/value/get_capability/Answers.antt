@@ -1,5 +1,5 @@
 use Rattle.std.proofs.Common.{◌≡◌, subst}
-use Rattle.capnp_objects.specs.Reading.{word_of}
+use Rattle.capnp_pointers.specs.Reading.{word_of}
 use Rattle.capnp_readers.specs.Readers.{read_by}
 use Rattle.typed_reading.proofs.Outcomes.{capability_is}
 use Rattle.typed_reading.proofs.Sections.{field_read}

@@ -1,4 +1,4 @@
-use Rattle.capnp_objects.specs.Expected.{data_expected}
+use Rattle.capnp_pointers.specs.Expected.{data_expected}
 use Rattle.capnp_readers.specs.Values.{child_cost}
 use Rattle.typed_reading.specs.Sections.{pointer_field}
 use Rattle.typed_reading.specs.Values.{child}

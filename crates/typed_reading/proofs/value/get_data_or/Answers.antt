@@ -1,5 +1,5 @@
 use Rattle.std.proofs.Common.{refl}
-use Rattle.capnp_objects.specs.Expected.{data_expected}
+use Rattle.capnp_pointers.specs.Expected.{data_expected}
 use Rattle.typed_reading.specs.Sections.{pointer_field}
 use Rattle.typed_reading.specs.Values.{child}
 use Rattle.typed_reading.proofs.Defaults.{not_null, same_bytes, data_of_default, data_of_value}

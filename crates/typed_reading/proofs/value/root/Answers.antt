@@ -1,5 +1,5 @@
-use Rattle.capnp_objects.specs.Reading.{source_start}
-use Rattle.capnp_objects.specs.declared.source.Source.TheVariants.{Arena}
+use Rattle.capnp_pointers.specs.Reading.{source_start}
+use Rattle.capnp_pointers.specs.declared.source.Source.TheVariants.{Arena}
 use Rattle.std.proofs.Common.{refl, ◌∙◌}
 use Rattle.capnp_readers.specs.Readers.{read_by}
 use Rattle.typed_reading.specs.Outcomes.{root_place}

@@ -2,19 +2,19 @@ use Rattle.std.proofs.Common.{◌≡◌, refl, rules, arith}
 use Rattle.capnp_arena_traits.specs.View.{View}
 use Rattle.capnp_format.specs.Segments.{word_at}
 use Rattle.capnp_format.specs.Tree.{Null}
-use Rattle.capnp_making.proofs.Filling.{unchanged}
-use Rattle.capnp_making.proofs.FillingMade.{null_stored}
+use Rattle.capnp_allocation.proofs.Filling.{unchanged}
+use Rattle.capnp_allocation.proofs.FillingMade.{null_stored}
 use Rattle.capnp_readers.specs.Readers.{read_by}
 use Rattle.capnp_copies.specs.Changes.{copy_call}
 use Rattle.capnp_copies.specs.Forms.{form_of}
 use Rattle.capnp_copies.specs.Originals.{value_original}
-use Rattle.capnp_making.proofs.Outcomes.{if_ok_so, if_err_so}
+use Rattle.capnp_allocation.proofs.Outcomes.{if_ok_so, if_err_so}
 use Rattle.capnp_copies.proofs.Growth.{none_itself, none_pruned, taken_so, value_within, until_within}
-use Rattle.capnp_contents.proofs.Room.PlacesStay.{grows_again, pruned_grows}
+use Rattle.capnp_in_place.proofs.Room.PlacesStay.{grows_again, pruned_grows}
 use Rattle.capnp_builders.proofs.CopiesHeld.{null_replaced, fresh_copied, alone_copied, put_copied, put_stopped, can_later, copy_grows}
-use Rattle.capnp_making.proofs.Zeros.{pruned_itself}
+use Rattle.capnp_allocation.proofs.Zeros.{pruned_itself}
 use Rattle.capnp_builders.proofs.builders.PointerBuilder.copy_from.Goals as goal
-use Rattle.capnp_making.specs.Makes.{call_at}
+use Rattle.capnp_allocation.specs.Makes.{call_at}
 
 -- A null pointer.
 

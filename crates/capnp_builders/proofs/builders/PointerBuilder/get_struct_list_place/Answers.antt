@@ -2,12 +2,12 @@ use Rattle.std.proofs.Common.{rules, Ok, Err, subst}
 use Rattle.std.proofs.lemmas.Bool.{false≢true}
 use Rattle.std.proofs.lemmas.Result.{err_from_is_err_and}
 use Rattle.capnp_arena_traits.specs.View.{View}
-use Rattle.capnp_making.specs.Stored.{IsStored}
-use Rattle.capnp_contents.specs.Rooms.{WiderListFits}
-use Rattle.capnp_contents.specs.RowsRemade.{RefusesWider}
+use Rattle.capnp_allocation.specs.Stored.{IsStored}
+use Rattle.capnp_in_place.specs.Rooms.{WiderListFits}
+use Rattle.capnp_in_place.specs.RowsRemade.{RefusesWider}
 use Rattle.capnp_builders.specs.Defaults.{object_default}
 use Rattle.capnp_builders.specs.Opening.{OpensList}
-use Rattle.capnp_contents.proofs.Room.PlacesStay.{grows_again}
+use Rattle.capnp_in_place.proofs.Room.PlacesStay.{grows_again}
 use Rattle.capnp_builders.proofs.DefaultRooms.{then_fits, refused_default}
 use Rattle.capnp_builders.proofs.DefaultUses.{then_does}
 use Rattle.capnp_builders.proofs.Openings.{list_opens, list_refused, still_there}

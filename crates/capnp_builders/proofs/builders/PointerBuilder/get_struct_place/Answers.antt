@@ -5,20 +5,20 @@ use Rattle.capnp_arena_traits.specs.View.{View}
 use Rattle.capnp_format.specs.Segments.{segment, word_at}
 use Rattle.capnp_format.specs.Tree.{Null}
 use Rattle.capnp_format.specs.Forest.{target}
-use Rattle.capnp_making.specs.Memory.{TakesWords, ComesAfter, start_of}
-use Rattle.capnp_making.proofs.FillingMade.{null_stored}
-use Rattle.capnp_making.proofs.Memory.{words_in}
-use Rattle.capnp_making.proofs.Zeros.{there}
-use Rattle.capnp_contents.specs.Opening.{IsNoWider, OpensStruct}
-use Rattle.capnp_contents.specs.Rooms.{OpeningFits}
+use Rattle.capnp_allocation.specs.Memory.{TakesWords, ComesAfter, start_of}
+use Rattle.capnp_allocation.proofs.FillingMade.{null_stored}
+use Rattle.capnp_allocation.proofs.Memory.{words_in}
+use Rattle.capnp_allocation.proofs.Zeros.{there}
+use Rattle.capnp_in_place.specs.Opening.{IsNoWider, OpensStruct}
+use Rattle.capnp_in_place.specs.Rooms.{OpeningFits}
 use Rattle.capnp_builders.specs.Defaults.{object_default}
 use Rattle.capnp_builders.specs.Opening.{IsStructGiven}
-use Rattle.capnp_contents.proofs.Room.PlacesStay.{grows_again}
+use Rattle.capnp_in_place.proofs.Room.PlacesStay.{grows_again}
 use Rattle.capnp_builders.proofs.DefaultRooms.{null_left, then_fits, refused_default}
 use Rattle.capnp_builders.proofs.DefaultUses.{then_does}
 use Rattle.capnp_builders.proofs.Openings.{struct_opens, struct_refused, still_there}
 use Rattle.capnp_builders.proofs.builders.PointerBuilder.get_struct_place.Goals as goal
-use Rattle.capnp_making.specs.Makes.{call_at}
+use Rattle.capnp_allocation.specs.Makes.{call_at}
 
 -- The value that is there after the default is put is opened.
 pub returns-clause-found : goal.returns-clause-found

@@ -4,8 +4,8 @@ use Rattle.capnp_format.specs.Forest.{target}
 use Rattle.capnp_builders.specs.Defaults.{blob_default}
 use Rattle.capnp_builders.proofs.DefaultUses.{then_does}
 use Rattle.capnp_builders.proofs.FoundBytes.{GivesFoundBytes, text_inside, found_given}
-use Rattle.capnp_contents.specs.Existing.{text_in}
-use Rattle.capnp_making.proofs.Zeros.{there}
+use Rattle.capnp_in_place.specs.Existing.{text_in}
+use Rattle.capnp_allocation.proofs.Zeros.{there}
 use Rattle.capnp_builders.proofs.builders.PointerBuilder.get_text_place.Goals as goal
 
 -- The value that is there after the default is put is inside the message.

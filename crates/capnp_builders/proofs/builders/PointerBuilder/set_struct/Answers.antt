@@ -3,12 +3,12 @@ use Rattle.capnp_readers.specs.Sizes.{pointers_read}
 use Rattle.capnp_copies.specs.Changes.{copy_call}
 use Rattle.capnp_copies.specs.Forms.{form_of}
 use Rattle.capnp_builders.specs.StructValues.{data_of, struct_read}
-use Rattle.capnp_making.proofs.Outcomes.{if_ok_so, if_err_so}
+use Rattle.capnp_allocation.proofs.Outcomes.{if_ok_so, if_err_so}
 use Rattle.capnp_copies.proofs.Growth.{none_itself, none_pruned, taken_so, sections_within, sections_until_within}
-use Rattle.capnp_contents.proofs.Room.PlacesStay.{grows_again, pruned_grows}
+use Rattle.capnp_in_place.proofs.Room.PlacesStay.{grows_again, pruned_grows}
 use Rattle.capnp_builders.proofs.CopiesHeld.{put_copied, put_stopped, can_later, copy_grows}
 use Rattle.capnp_builders.proofs.builders.PointerBuilder.set_struct.Goals as goal
-use Rattle.capnp_making.specs.Makes.{call_at}
+use Rattle.capnp_allocation.specs.Makes.{call_at}
 
 -- What the pointer held is zeroed, and then the struct is copied to the null pointer.
 

@@ -1,7 +1,7 @@
 use Rattle.std.proofs.Common.{◌≡◌, ℕ, ◌+◌, ◌<◌}
 use Rattle.capnp_arena_traits.specs.View.{KeepsLimits}
 use Rattle.capnp_format.specs.Segments.{word_at}
-use Rattle.capnp_making.specs.Zeroed.{IsPruned}
+use Rattle.capnp_allocation.specs.Zeroed.{IsPruned}
 use Rattle.capnp_builders.specs.Content.{AreCleared}
 use Rattle.capnp_builders.proofs.builders.content.clear_pointers.Given as goal
 

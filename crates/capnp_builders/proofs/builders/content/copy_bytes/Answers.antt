@@ -2,9 +2,9 @@ use Rattle.std.proofs.Common.{rules, ◌≡◌, ℕ, ◌+◌, ◌-◌, ◌*◌, 
 use Rattle.capnp_arena_traits.specs.Written.{overwritten}
 use Rattle.capnp_format.specs.Bytes.{message}
 use Rattle.capnp_format.specs.Segments.{Segments}
-use Rattle.capnp_contents.proofs.ByteLists.BytesWritten.{put_over}
+use Rattle.capnp_in_place.proofs.ByteLists.BytesWritten.{put_over}
 use Rattle.capnp_arena_traits.proofs.WordsLent.{words_lent}
-use Rattle.capnp_making.proofs.Zeros.{length-over}
+use Rattle.capnp_allocation.proofs.Zeros.{length-over}
 use Rattle.capnp_builders.specs.Content.{with_fields, fields_from}
 use Rattle.capnp_builders.proofs.BytesAsFields.{bytes_as_fields}
 use Rattle.capnp_builders.proofs.builders.content.copy_bytes.Goals as goal

@@ -3,16 +3,16 @@ use Rattle.std.proofs.lemmas.Bool.{false≢true}
 use Rattle.capnp_words.specs.Meter.{unused}
 use Rattle.capnp_format.specs.Tree.{Null}
 use Rattle.capnp_arena_traits.specs.View.{View}
-use Rattle.capnp_objects.specs.Wanted.{of_default}
+use Rattle.capnp_pointers.specs.Wanted.{of_default}
 use Rattle.capnp_copies.specs.Changes.{copy_call, MakesCopy, StopsCopy}
 use Rattle.capnp_copies.specs.Growth.{TakesAtMost}
 use Rattle.capnp_copies.specs.Originals.{value_original}
-use Rattle.capnp_making.proofs.Outcomes.{if_err_so}
+use Rattle.capnp_allocation.proofs.Outcomes.{if_err_so}
 use Rattle.capnp_builders.specs.Defaults.{default_root}
 use Rattle.capnp_builders.proofs.CopiesHeld.{on_ok}
 use Rattle.capnp_builders.proofs.DefaultCopies.{default_copy, nothing_spent, puts_default, drops_default}
 use Rattle.capnp_builders.proofs.builders.defaults.copy_default.Goals as goal
-use Rattle.capnp_making.specs.Makes.{call_at}
+use Rattle.capnp_allocation.specs.Makes.{call_at}
 
 -- A default with a first word has a pointer there.
 pub returns-in_err-from : goal.returns-in_err-from

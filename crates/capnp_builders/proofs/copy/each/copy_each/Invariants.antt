@@ -1,10 +1,10 @@
-use Rattle.capnp_objects.specs.Wanted.{plain}
-use Rattle.capnp_objects.specs.Pointers.{reading}
+use Rattle.capnp_pointers.specs.Wanted.{plain}
+use Rattle.capnp_pointers.specs.Pointers.{reading}
 use Rattle.capnp_copies.specs.Changes.{copy_call, CopiesChildren}
 use Rattle.capnp_copies.specs.Originals.{children_original}
 use Rattle.capnp_copies.proofs.ObjectsMade.{TakesForCopy}
 use Rattle.capnp_builders.proofs.copy.each.copy_each.Given as goal
-use Rattle.capnp_making.specs.Makes.{call_at}
+use Rattle.capnp_allocation.specs.Makes.{call_at}
 
 abbrev pub invariant-loop-i : goal.invariant-loop-i
 invariant-loop-i g l =

@@ -4,7 +4,7 @@ use mir.Syntax.{w32}
 use Rattle.capnp_format.specs.Bytes.{words_of}
 use Rattle.capnp_format.specs.Numbers.{words_for, unpacked}
 use Rattle.capnp_format.specs.Tree.{Tree, Null, Flat}
-use Rattle.capnp_objects.specs.Reading.{source_start}
+use Rattle.capnp_pointers.specs.Reading.{source_start}
 use Rattle.capnp_words.specs.Sizes.{size_number}
 use Rattle.capnp_copies.specs.Changes.{CopyCall, copy_call, MakesCopy, StopsCopy}
 use Rattle.capnp_copies.proofs.Cleared.{place_left, refused_clear, ends_clear, copies_or_clears}
@@ -19,7 +19,7 @@ use Rattle.capnp_builders.proofs.OneReading.{list_apart}
 use Rattle.capnp_builders.proofs.ListValues.{first_read, too_long, number_size, few_numbers, numbers_held, numbers_copied, numbers_stop}
 use Rattle.capnp_copies.proofs.Originals.{pointers_listed, structs_listed, numbers_listed, exceeding}
 use Rattle.capnp_builders.proofs.copy.list_value.copy_list.Goals as goal
-use Rattle.capnp_making.specs.Makes.{call_at}
+use Rattle.capnp_allocation.specs.Makes.{call_at}
 
 -- A list that is too long.
 pub returns-then-not-fits_list_pointer : goal.returns-then-not-fits_list_pointer

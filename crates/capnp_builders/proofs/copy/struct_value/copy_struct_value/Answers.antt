@@ -5,11 +5,11 @@ use mir.Syntax.{w32}
 use Rattle.capnp_format.specs.Segments.{segment}
 use Rattle.capnp_format.proofs.Slices.{length_words}
 use Rattle.capnp_arena_traits.specs.View.{View}
-use Rattle.capnp_objects.specs.Reading.{Reading, words_from}
+use Rattle.capnp_pointers.specs.Reading.{Reading, words_from}
 use Rattle.capnp_readers.specs.Sizes.{pointers_read}
-use Rattle.capnp_objects.proofs.Budget.OneLevelLess.{ok_so, err_so}
+use Rattle.capnp_pointers.proofs.Budget.OneLevelLess.{ok_so, err_so}
 use Rattle.std.proofs.lemmas.Result.{err_from_is_err_and}
-use Rattle.capnp_making.specs.Makes.{call_at}
+use Rattle.capnp_allocation.specs.Makes.{call_at}
 use Rattle.capnp_copies.specs.Changes.{copy_call}
 use Rattle.capnp_copies.specs.Growth.{CopiesOrLeaves}
 use Rattle.capnp_copies.specs.Originals.{sections_original}
@@ -24,8 +24,8 @@ use Rattle.capnp_copies.proofs.KeptForms.{SectionsCut}
 use Rattle.capnp_copies.proofs.ObjectsMade.{struct_begins, no_own_room}
 use Rattle.capnp_copies.proofs.Originals.{sections_large}
 use Rattle.capnp_copies.proofs.TooLarge.{no_sections_room}
-use Rattle.capnp_making.specs.Memory.{HasRoom, refusals_for}
-use Rattle.capnp_making.proofs.Memory.{keeps_itself, spends_nothing, made_refused}
+use Rattle.capnp_allocation.specs.Memory.{HasRoom, refusals_for}
+use Rattle.capnp_allocation.proofs.Memory.{keeps_itself, spends_nothing, made_refused}
 use Rattle.capnp_copies.proofs.Growth.{none_itself, none_written, none_refused, taken_so, made_none, all_within, among_within, sections_behind, sections_stop_behind, sections_until_more}
 use Rattle.capnp_builders.proofs.copy.struct_value.copy_struct_value.Goals as goal
 

@@ -7,17 +7,17 @@ use Rattle.capnp_format.specs.Tree.{Flat}
 use Rattle.capnp_format.specs.Word.{kind, element_size, list_count}
 use Rattle.capnp_words.specs.Sizes.{size_number}
 use Rattle.capnp_words.specs.declared.wire_pointer.ElementSize.{ElementSize}
-use Rattle.capnp_objects.specs.declared.object.Place.{Place}
-use Rattle.capnp_objects.specs.declared.object.Object.TheVariants.{Flat as ObjectFlat}
-use Rattle.capnp_objects.specs.Objects.{IsObject}
-use Rattle.capnp_objects.specs.Reading.{Reading, word_of}
-use Rattle.capnp_objects.specs.declared.object.Purpose.TheVariants.{Value}
-use Rattle.capnp_objects.specs.Pointers.{reading}
+use Rattle.capnp_pointers.specs.declared.object.Place.{Place}
+use Rattle.capnp_pointers.specs.declared.object.Object.TheVariants.{Flat as ObjectFlat}
+use Rattle.capnp_pointers.specs.Objects.{IsObject}
+use Rattle.capnp_pointers.specs.Reading.{Reading, word_of}
+use Rattle.capnp_pointers.specs.declared.object.Purpose.TheVariants.{Value}
+use Rattle.capnp_pointers.specs.Pointers.{reading}
 use Rattle.std.proofs.lemmas.Result.{err_from_is_err_and}
 use Rattle.capnp_copies.proofs.FlatRead.{word_count-flat}
 use Rattle.capnp_copies.proofs.FilledValues.{read_stops, FlatOutcome, flat_value, flat_stops}
 use Rattle.capnp_copies.proofs.Growth.{taken_so, read_stop_taken, flat_takes, flat_stop_takes}
-use Rattle.capnp_objects.proofs.Following.NearByWord.{flat_by_word}
+use Rattle.capnp_pointers.proofs.Following.NearByWord.{flat_by_word}
 use Rattle.capnp_copies.proofs.copy.children.copy_near_primitive_list.Goals as goal
 
 pub returns-in_err-start : goal.returns-in_err-start

@@ -8,15 +8,15 @@ use Rattle.capnp_format.proofs.Bounds.{digits_below}
 use Rattle.capnp_format.proofs.Digits.{length-digits}
 use Rattle.capnp_arena_traits.specs.View.{View}
 use Rattle.capnp_arena_traits.specs.Written.{with_words}
-use Rattle.capnp_making.specs.Made.{words_of_zero, nulls, list_words}
-use Rattle.capnp_making.specs.Memory.{RefusesWords}
-use Rattle.capnp_making.specs.Stored.{IsReplaced}
-use Rattle.capnp_making.proofs.FillingMade.{IsBegun, flat_whole}
-use Rattle.capnp_making.proofs.Memory.{words_in, made_refused}
-use Rattle.capnp_making.proofs.WordsPut.{words_put}
+use Rattle.capnp_allocation.specs.Made.{words_of_zero, nulls, list_words}
+use Rattle.capnp_allocation.specs.Memory.{RefusesWords}
+use Rattle.capnp_allocation.specs.Stored.{IsReplaced}
+use Rattle.capnp_allocation.proofs.FillingMade.{IsBegun, flat_whole}
+use Rattle.capnp_allocation.proofs.Memory.{words_in, made_refused}
+use Rattle.capnp_allocation.proofs.WordsPut.{words_put}
 use Rattle.capnp_words.specs.Sizes.{size_number}
 use Rattle.capnp_format.specs.Word.{list_word}
-use Rattle.capnp_making.specs.Near.{HasOwnRoom, offset_to_end, with_object}
+use Rattle.capnp_allocation.specs.Near.{HasOwnRoom, offset_to_end, with_object}
 use Rattle.std.proofs.lemmas.Result.{err_from_is_err_and}
 use Rattle.capnp_copies.proofs.Copying.{there}
 use Rattle.capnp_copies.proofs.ObjectsMade.{Begins}

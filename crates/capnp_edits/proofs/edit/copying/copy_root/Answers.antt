@@ -1,6 +1,6 @@
 use Rattle.std.proofs.Common.{◌≡◌, inl, true, false, refl}
 use Rattle.std.proofs.lemmas.Result.{err_from_is_err_and}
-use Rattle.capnp_making.proofs.Outcomes.{if_err_so}
+use Rattle.capnp_allocation.proofs.Outcomes.{if_err_so}
 use Rattle.capnp_builders.proofs.CopiesHeld.{on_ok, on_err}
 use Rattle.capnp_edits.specs.Edits.{place_of}
 use Rattle.capnp_edits.proofs.Copied.{Tried, root_unread, tried_done, copy_counted, tried_taken, tried_fits, value_tried, struct_copied, list_copied, unread_counted, struct_unread, list_unread, struct_found, list_found}

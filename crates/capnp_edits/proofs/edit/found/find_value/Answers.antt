@@ -1,5 +1,5 @@
 use Rattle.std.proofs.Common.{rules, ◌≡◌, true, sym, subst}
-use Rattle.capnp_making.specs.Makes.{call_at}
+use Rattle.capnp_allocation.specs.Makes.{call_at}
 use Rattle.capnp_edits.specs.declared.edit.path.PathEnd.TheVariants.{Pointer as AtPointer}
 use Rattle.capnp_edits.specs.declared.edit.tasks.Task.TheVariants.{Search}
 use Rattle.capnp_edits.specs.Tasks.{is_in_range}

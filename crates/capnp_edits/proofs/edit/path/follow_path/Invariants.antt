@@ -1,6 +1,6 @@
 use Rattle.std.proofs.Common.{take, Some, map}
 use Rattle.capnp_format.specs.Tree.{Tree}
-use Rattle.capnp_making.specs.Stored.{IsStored}
+use Rattle.capnp_allocation.specs.Stored.{IsStored}
 use Rattle.capnp_edits.specs.Paths.{IsPathFound, IsEndInside, step_of}
 use Rattle.capnp_edits.proofs.edit.path.follow_path.Given as goal
 

@@ -7,8 +7,8 @@ use Rattle.capnp_edits.specs.declared.edit.tasks.Task.TheVariants.{Make}
 use Rattle.capnp_edits.specs.declared.edit.tasks.NewObject.TheVariants.{ZeroStruct, ZeroList, ZeroStructs, ZeroText, Text, Data}
 use Rattle.capnp_edits.specs.Edits.{refusal_of, place_of}
 use Rattle.capnp_edits.specs.Steps.{IsDoneAt}
-use Rattle.capnp_making.specs.Makes.{call_at}
-use Rattle.capnp_making.specs.Near.{LeadsToEnd}
+use Rattle.capnp_allocation.specs.Makes.{call_at}
+use Rattle.capnp_allocation.specs.Near.{LeadsToEnd}
 use Rattle.capnp_edits.proofs.Applied.{struct_words, list_words_are, structs_words_are, struct_leads, leads_behind, object_made}
 use Rattle.capnp_edits.proofs.edit.pointer.init_object.Goals as goal
 

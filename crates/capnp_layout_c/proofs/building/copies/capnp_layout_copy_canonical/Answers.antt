@@ -1,7 +1,7 @@
 use Rattle.std.proofs.Common.{refl, sym, rules, w32, arith}
 use Rattle.std.proofs.lemmas.Int.{to_z-of_z}
 use Rattle.std.specs.Prelude.{Ok, Err}
-use Rattle.capnp_objects.specs.Wanted.{canonical}
+use Rattle.capnp_pointers.specs.Wanted.{canonical}
 use Rattle.capnp_layout_c.specs.Lent.{lent_pointer}
 use Rattle.capnp_layout_c.proofs.BuildingCalls.{Tie, place_there}
 use Rattle.capnp_layout_c.proofs.BuildingCopies.{fills_alone, gives_copied}

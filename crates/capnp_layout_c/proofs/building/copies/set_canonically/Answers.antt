@@ -1,7 +1,7 @@
 use Rattle.std.proofs.Common.{rules, subst, IfOk}
 use Rattle.capnp_format.specs.Canonical.{trim}
 use Rattle.capnp_readers.specs.Readers.{read_by}
-use Rattle.capnp_objects.specs.Wanted.{canonical}
+use Rattle.capnp_pointers.specs.Wanted.{canonical}
 use Rattle.capnp_copies.specs.Changes.{copy_call}
 use Rattle.capnp_builders.specs.Held.{MakesChild, call_in}
 use Rattle.capnp_builders.specs.Kept.{FillsMessage}

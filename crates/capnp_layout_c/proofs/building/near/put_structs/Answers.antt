@@ -7,19 +7,19 @@ use Rattle.capnp_format.specs.Segments.{Segments, Target, segment}
 use Rattle.capnp_arena_traits.specs.View.{View}
 use Rattle.capnp_arena_traits.specs.Written.{with_word}
 use Rattle.capnp_arena_traits.specs.declared.arena.WordPlace.{WordPlace}
-use Rattle.capnp_making.specs.Made.{IsGrown, IsMade, IsShape, zero_structs}
-use Rattle.capnp_making.specs.Memory.{Lengthens}
-use Rattle.capnp_making.specs.declared.making.Shape.{Shape}
-use Rattle.capnp_making.specs.declared.making.Shape.TheVariants.{List as ListShape}
+use Rattle.capnp_allocation.specs.Made.{IsGrown, IsMade, IsShape, zero_structs}
+use Rattle.capnp_allocation.specs.Memory.{Lengthens}
+use Rattle.capnp_allocation.specs.declared.making.Shape.{Shape}
+use Rattle.capnp_allocation.specs.declared.making.Shape.TheVariants.{List as ListShape}
 use Rattle.capnp_words.specs.declared.wire_pointer.ElementSize.TheVariants.{InlineComposite}
-use Rattle.capnp_making.proofs.MadeWords.{extended_grown, made_near, word_put}
-use Rattle.capnp_making.proofs.Memory.{keeps_written, limits_again, limits_written, words_in}
-use Rattle.capnp_making.proofs.Objects.{null_done}
-use Rattle.capnp_making.proofs.PlacedStructs.{IsListMade, structs_lead, structs_made}
-use Rattle.capnp_making.proofs.Shapes.{shape_near, shape_some}
-use Rattle.capnp_making.proofs.Taken.{extended_lengthens, lengthens_written}
-use Rattle.capnp_making.proofs.Zeros.{pruned_itself, there}
-use Rattle.capnp_contents.proofs.Room.MadeAfterZeroing.{gives_after_zeros}
+use Rattle.capnp_allocation.proofs.MadeWords.{extended_grown, made_near, word_put}
+use Rattle.capnp_allocation.proofs.Memory.{keeps_written, limits_again, limits_written, words_in}
+use Rattle.capnp_allocation.proofs.Objects.{null_done}
+use Rattle.capnp_allocation.proofs.PlacedStructs.{IsListMade, structs_lead, structs_made}
+use Rattle.capnp_allocation.proofs.Shapes.{shape_near, shape_some}
+use Rattle.capnp_allocation.proofs.Taken.{extended_lengthens, lengthens_written}
+use Rattle.capnp_allocation.proofs.Zeros.{pruned_itself, there}
+use Rattle.capnp_in_place.proofs.Room.MadeAfterZeroing.{gives_after_zeros}
 use Rattle.capnp_layout_c.proofs.building.near.put_structs.Goals as goal
 
 -- The words of the list are allocated after those of the segment, and then its pointer and its tag

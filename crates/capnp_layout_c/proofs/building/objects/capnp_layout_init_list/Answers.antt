@@ -1,11 +1,11 @@
 use Rattle.std.proofs.Common.{◌+◌, refl, sym, ◌∙◌, subst, rules, arith}
 use Rattle.std.specs.Prelude.{Ok, Err}
 use Rattle.capnp_words.specs.Sizes.{size_number}
-use Rattle.capnp_making.specs.Made.{list_words, zero_list}
-use Rattle.capnp_making.specs.Makes.{MakesObject, call_at}
+use Rattle.capnp_allocation.specs.Made.{list_words, zero_list}
+use Rattle.capnp_allocation.specs.Makes.{MakesObject, call_at}
 use Rattle.capnp_readers.specs.declared.readers.list_reader.ListPlace.{ListPlace}
 use Rattle.capnp_readers.specs.declared.readers.struct_reader.StructPlace.{StructPlace}
-use Rattle.capnp_contents.specs.Existing.{size_of}
+use Rattle.capnp_in_place.specs.Existing.{size_of}
 use Rattle.capnp_builders.specs.Held.{HasList, HasStruct, MakesChild, call_in}
 use Rattle.capnp_layout_c.specs.Buffers.{placed_list, placed_struct}
 use Rattle.capnp_layout_c.specs.Lists.{listed_at}

@@ -1,8 +1,8 @@
 use Rattle.std.proofs.Common.{refl, sym, arith}
 use Rattle.std.specs.Prelude.{Ok, Err}
 use Rattle.capnp_words.specs.Sizes.{sized}
-use Rattle.capnp_making.specs.Made.{nulls, words_of_zero, zero_struct}
-use Rattle.capnp_making.specs.Stored.{IsStored}
+use Rattle.capnp_allocation.specs.Made.{nulls, words_of_zero, zero_struct}
+use Rattle.capnp_allocation.specs.Stored.{IsStored}
 use Rattle.capnp_builders.specs.Held.{HasStruct, pointer_to}
 use Rattle.capnp_layout_c.specs.Buffers.{sized_at, placed_struct}
 use Rattle.capnp_layout_c.specs.Builds.{BuildsRoot}

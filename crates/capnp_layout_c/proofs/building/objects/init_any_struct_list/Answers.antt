@@ -1,7 +1,7 @@
 use Rattle.std.proofs.Common.{◌+◌, ◌*◌, refl, sym, subst, rules, arith}
 use Rattle.std.specs.Prelude.{Ok, Err}
 use Rattle.capnp_words.specs.Sizes.{sized}
-use Rattle.capnp_making.specs.Made.{nulls, words_of_zero, zero_elements, zero_structs}
+use Rattle.capnp_allocation.specs.Made.{nulls, words_of_zero, zero_elements, zero_structs}
 use Rattle.capnp_readers.specs.declared.readers.struct_reader.StructPlace.{StructPlace}
 use Rattle.capnp_builders.specs.Held.{HasStruct, element_of}
 use Rattle.capnp_builders.specs.Places.{element_place}

@@ -1,7 +1,7 @@
 use Rattle.std.proofs.Common.{◌≡◌, ◌+◌, List, ℕ, refl, sym, subst, rules, arith}
 use Rattle.std.specs.Prelude.{Ok}
 use Rattle.capnp_format.specs.Tree.{Flat}
-use Rattle.capnp_contents.specs.Existing.{size_of}
+use Rattle.capnp_in_place.specs.Existing.{size_of}
 use Rattle.capnp_builders.specs.Held.{HasList}
 use Rattle.capnp_layout_c.specs.Buffers.{placed_list, words_in}
 use Rattle.capnp_layout_c.specs.Lists.{listed_at}

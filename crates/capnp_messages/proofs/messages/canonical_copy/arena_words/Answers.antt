@@ -1,6 +1,6 @@
 use Rattle.std.proofs.Common.{◌∙◌, ap, sym}
-use Rattle.capnp_objects.specs.Reading.{reading_at}
-use Rattle.capnp_objects.specs.declared.source.Source.{Source}
+use Rattle.capnp_pointers.specs.Reading.{reading_at}
+use Rattle.capnp_pointers.specs.declared.source.Source.{Source}
 use Rattle.capnp_messages.specs.Tries.{words_read}
 use Rattle.capnp_messages.proofs.TryLemmas.{total-message}
 use Rattle.capnp_messages.proofs.messages.canonical_copy.arena_words.Goals as goal

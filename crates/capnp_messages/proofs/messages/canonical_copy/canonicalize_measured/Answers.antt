@@ -2,7 +2,7 @@ use Rattle.std.proofs.Common.{inl, inr, refl, Ok, Err, subst, ◌≡◌, Option,
 use Rattle.std.proofs.lemmas.Result.{IfErr-weaker}
 use Rattle.capnp_words.specs.Meter.{unused}
 use Rattle.capnp_arena_traits.specs.Allocations.{max_segment_words}
-use Rattle.capnp_objects.specs.Wanted.{canonical}
+use Rattle.capnp_pointers.specs.Wanted.{canonical}
 use Rattle.capnp_messages.specs.Canonicalize.{end_value}
 use Rattle.capnp_messages.specs.PathEnds.{end_read}
 use Rattle.capnp_messages.proofs.EndRefusals.{words_unread}

@@ -1,7 +1,7 @@
 use Rattle.std.proofs.lemmas.Result.{IfOk-weaker}
-use Rattle.capnp_objects.specs.Pointers.{reading}
-use Rattle.capnp_objects.specs.Wanted.{canonical}
-use Rattle.capnp_objects.proofs.WholeValue.ValueAsStated.{reads_is}
+use Rattle.capnp_pointers.specs.Pointers.{reading}
+use Rattle.capnp_pointers.specs.Wanted.{canonical}
+use Rattle.capnp_pointers.proofs.WholeValue.ValueAsStated.{reads_is}
 use Rattle.capnp_messages.proofs.messages.canonical_copy.canonicalize_pointer.Goals as goal
 
 pub returns-clause-copied : goal.returns-clause-copied

@@ -1,5 +1,5 @@
 use Rattle.std.proofs.Common.{ap, ◌∙◌}
-use Rattle.capnp_objects.specs.Metered.{answer, onward}
+use Rattle.capnp_pointers.specs.Metered.{answer, onward}
 use Rattle.capnp_messages.specs.Check.{is_whole}
 use Rattle.capnp_messages.proofs.CheckedLemmas.{whole_is}
 use Rattle.capnp_messages.proofs.messages.canonical_message.is_canonical_message.Goals as goal

@@ -3,16 +3,16 @@ use Rattle.std.proofs.lemmas.Int.{to_z-of_z}
 use mir.Syntax.{w32}
 use mir.Val.{to_z, of_z}
 use Rattle.capnp_arena_traits.specs.Allocations.{max_segment_words}
-use Rattle.capnp_objects.specs.Enter.{object_shape}
-use Rattle.capnp_objects.specs.Measure.{fold_pointers}
-use Rattle.capnp_objects.specs.Objects.{IsObject}
-use Rattle.capnp_objects.specs.declared.object.Purpose.TheVariants.{Value}
-use Rattle.capnp_objects.specs.Reading.{Reading, place_past}
-use Rattle.capnp_objects.specs.Pointers.{reading, reading_on}
-use Rattle.capnp_objects.proofs.Budget.MeasuresFall.{falls_in}
-use Rattle.capnp_objects.proofs.Sizes.MeasuredBySteps.{no_pointers, one_more, one_stops, row_more, row_stops}
-use Rattle.capnp_objects.proofs.CanonicalTest.ResultFromParts.{inner_levels}
-use Rattle.capnp_objects.proofs.OneObject.ReadAsStated.{object_is, stopped_is}
+use Rattle.capnp_pointers.specs.Enter.{object_shape}
+use Rattle.capnp_pointers.specs.Measure.{fold_pointers}
+use Rattle.capnp_pointers.specs.Objects.{IsObject}
+use Rattle.capnp_pointers.specs.declared.object.Purpose.TheVariants.{Value}
+use Rattle.capnp_pointers.specs.Reading.{Reading, place_past}
+use Rattle.capnp_pointers.specs.Pointers.{reading, reading_on}
+use Rattle.capnp_pointers.proofs.Budget.MeasuresFall.{falls_in}
+use Rattle.capnp_pointers.proofs.Sizes.MeasuredBySteps.{no_pointers, one_more, one_stops, row_more, row_stops}
+use Rattle.capnp_pointers.proofs.CanonicalTest.ResultFromParts.{inner_levels}
+use Rattle.capnp_pointers.proofs.OneObject.ReadAsStated.{object_is, stopped_is}
 use Rattle.capnp_messages.specs.MadeWords.{made_within}
 use Rattle.capnp_messages.proofs.MadeSteps.{Counted, leaf_counted, no_copy, pointers_counted, struct_counted, structs_counted, structs_inside, structs_level, sum_over, unread}
 use Rattle.capnp_messages.proofs.messages.copy_size.+copy_size.Goals as goal

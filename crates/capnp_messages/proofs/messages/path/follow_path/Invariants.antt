@@ -1,5 +1,5 @@
 use Rattle.std.proofs.Common.{◌≡◌, drop}
-use Rattle.capnp_objects.specs.Pointers.{reading}
+use Rattle.capnp_pointers.specs.Pointers.{reading}
 use Rattle.capnp_messages.specs.Parts.{follow_path, to_pointer}
 use Rattle.capnp_messages.specs.PathEnds.{end_read}
 use Rattle.capnp_messages.proofs.messages.path.follow_path.Given as goal

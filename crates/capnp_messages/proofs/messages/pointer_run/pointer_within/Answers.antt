@@ -1,5 +1,5 @@
 use Rattle.std.proofs.Common.{◌+◌, ◌<◌, ◌^◌, ap, ◌∙◌, arith}
-use Rattle.capnp_objects.specs.Reading.{place_past}
+use Rattle.capnp_pointers.specs.Reading.{place_past}
 use Rattle.capnp_messages.proofs.PathLemmas.{inside_at}
 use Rattle.capnp_messages.proofs.messages.pointer_run.pointer_within.Goals as goal
 

@@ -1,7 +1,7 @@
 use Rattle.std.proofs.Common.{inr, rules, IsOk, refl}
 use Rattle.std.proofs.lemmas.Result.{IfErr-weaker, IfOk-weaker}
-use Rattle.capnp_objects.specs.Wanted.{canonical}
-use Rattle.capnp_objects.proofs.WholeValue.ValueAsStated.{reads_is}
+use Rattle.capnp_pointers.specs.Wanted.{canonical}
+use Rattle.capnp_pointers.proofs.WholeValue.ValueAsStated.{reads_is}
 use Rattle.capnp_messages.specs.Messages.{arena_limits}
 use Rattle.capnp_messages.proofs.CanonicalizeLemmas.{copy_refused, first_try, read_of, without_root}
 use Rattle.capnp_messages.proofs.MessageLemmas.{AtRoot, at_root}

@@ -7,8 +7,8 @@ use Rattle.capnp_format.specs.Bytes.{message}
 use Rattle.capnp_format.specs.Segments.{Segments}
 use Rattle.capnp_arena_traits.specs.Limits.{whole}
 use Rattle.capnp_arena.specs.declared.arena.reader_arena_impl.ReaderOptions.{ReaderOptions}
-use Rattle.capnp_objects.specs.Source.{levels}
-use Rattle.capnp_objects.specs.declared.pointers.canonical_fault.CanonicalFault.{CanonicalFault}
+use Rattle.capnp_pointers.specs.Source.{levels}
+use Rattle.capnp_pointers.specs.declared.pointers.canonical_fault.CanonicalFault.{CanonicalFault}
 use Rattle.capnp_messages.specs.CanonicalMessages.{IsPaid, IsWithinLevels}
 use Rattle.capnp_messages.specs.Messages.{IsCanonicalWithin, arena_limits}
 use Rattle.capnp_messages.proofs.CheckedLemmas.{fault_if, refused_if, within_limits}

@@ -1,6 +1,6 @@
 use Rattle.std.proofs.Common.{◌≡◌, get_or, ap, ◌∙◌, sym, refl}
 use Rattle.std.proofs.lemmas.Bool.{false≢true}
-use Rattle.capnp_objects.specs.Reading.{word_of}
+use Rattle.capnp_pointers.specs.Reading.{word_of}
 use Rattle.capnp_readers.specs.Readers.{read_by}
 use Rattle.capnp_readers.proofs.readers.PointerReader.get_capability.Goals as goal
 

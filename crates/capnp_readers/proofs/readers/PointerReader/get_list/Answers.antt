@@ -1,8 +1,8 @@
 use Rattle.std.proofs.Common.{inl, inr, refl}
-use Rattle.capnp_objects.proofs.OneObject.ExpectedBySteps.{IsReadAt, list_given}
+use Rattle.capnp_pointers.proofs.OneObject.ExpectedBySteps.{IsReadAt, list_given}
 use Rattle.capnp_readers.specs.Readers.{read_by}
 use Rattle.capnp_readers.specs.declared.readers.target.Target.TheVariants.{List}
-use Rattle.capnp_objects.specs.Expected.{list_expected}
+use Rattle.capnp_pointers.specs.Expected.{list_expected}
 use Rattle.capnp_readers.specs.Values.{place_read}
 use Rattle.capnp_readers.proofs.Answering.{IsShown, no_list, wide_target, given_there, never_refused, of_some}
 use Rattle.capnp_readers.proofs.Given.{list_suits}

@@ -1,7 +1,7 @@
 use Rattle.std.proofs.Common.{inl, inr, refl}
-use Rattle.capnp_objects.proofs.OneObject.ExpectedBySteps.{IsReadAt, struct_given}
+use Rattle.capnp_pointers.proofs.OneObject.ExpectedBySteps.{IsReadAt, struct_given}
 use Rattle.capnp_readers.specs.Readers.{read_by}
-use Rattle.capnp_objects.specs.Expected.{struct_expected}
+use Rattle.capnp_pointers.specs.Expected.{struct_expected}
 use Rattle.capnp_readers.specs.Values.{place_read}
 use Rattle.capnp_readers.proofs.Answering.{IsShown, no_struct, never_refused, of_some}
 use Rattle.capnp_readers.proofs.Given.{struct_suits}

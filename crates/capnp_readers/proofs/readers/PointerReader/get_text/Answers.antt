@@ -1,9 +1,9 @@
 use Rattle.std.proofs.Common.{◌≡◌, ◌<◌, inl, inr, [], refl}
 use Rattle.capnp_words.specs.declared.wire_pointer.ElementSize.TheVariants.{Byte}
-use Rattle.capnp_objects.specs.declared.object.Object.TheVariants.{Flat}
-use Rattle.capnp_objects.proofs.OneObject.ExpectedBySteps.{IsReadAt, no_text}
+use Rattle.capnp_pointers.specs.declared.object.Object.TheVariants.{Flat}
+use Rattle.capnp_pointers.proofs.OneObject.ExpectedBySteps.{IsReadAt, no_text}
 use Rattle.capnp_readers.specs.Readers.{read_by}
-use Rattle.capnp_objects.specs.Expected.{text_expected}
+use Rattle.capnp_pointers.specs.Expected.{text_expected}
 use Rattle.capnp_readers.specs.Values.{place_read}
 use Rattle.capnp_readers.proofs.Answering.{never_refused, of_some}
 use Rattle.capnp_readers.proofs.Given.{not_null}

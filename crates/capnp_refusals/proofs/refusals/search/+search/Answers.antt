@@ -2,15 +2,15 @@ use Rattle.std.proofs.Common.{◌≡◌, ℕ, suc, ◌+◌, ◌*◌, ◌-◌, So
 use Rattle.std.proofs.lemmas.Int.{to_z-of_z}
 use mir.Syntax.{w32}
 use mir.Val.{to_z, of_z}
-use Rattle.capnp_objects.specs.Enter.{object_shape}
-use Rattle.capnp_objects.specs.Objects.{IsObjectRead}
-use Rattle.capnp_objects.specs.Reading.{Reading, place_past}
-use Rattle.capnp_objects.specs.Measure.{fold_pointers}
-use Rattle.capnp_objects.specs.Pointers.{reading, reading_on}
-use Rattle.capnp_objects.specs.Source.{levels}
-use Rattle.capnp_objects.proofs.Budget.MeasuresFall.{falls_in}
-use Rattle.capnp_objects.proofs.Sizes.MeasuredBySteps.{no_pointers, one_more, row_more}
-use Rattle.capnp_objects.proofs.Budget.OneLevelLess.{Opened, object_inside, object_level}
+use Rattle.capnp_pointers.specs.Enter.{object_shape}
+use Rattle.capnp_pointers.specs.Objects.{IsObjectRead}
+use Rattle.capnp_pointers.specs.Reading.{Reading, place_past}
+use Rattle.capnp_pointers.specs.Measure.{fold_pointers}
+use Rattle.capnp_pointers.specs.Pointers.{reading, reading_on}
+use Rattle.capnp_pointers.specs.Source.{levels}
+use Rattle.capnp_pointers.proofs.Budget.MeasuresFall.{falls_in}
+use Rattle.capnp_pointers.proofs.Sizes.MeasuredBySteps.{no_pointers, one_more, row_more}
+use Rattle.capnp_pointers.proofs.Budget.OneLevelLess.{Opened, object_inside, object_level}
 use Rattle.capnp_refusals.specs.Search.{search_elements, search_within, unless_found}
 use Rattle.capnp_refusals.proofs.Searched.{ends_here, object_ends, object_opens, pointer_found, row_found, unmet, unread}
 use Rattle.capnp_refusals.proofs.refusals.search.+search.Goals as goal

@@ -1,7 +1,7 @@
 use Rattle.std.proofs.Common.{◌≡◌, ℕ, ◌+◌, ◌*◌}
-use Rattle.capnp_objects.specs.Reading.{Reading, place_past}
-use Rattle.capnp_objects.specs.Source.{levels}
-use Rattle.capnp_objects.specs.Pointers.{reading, reading_on}
+use Rattle.capnp_pointers.specs.Reading.{Reading, place_past}
+use Rattle.capnp_pointers.specs.Source.{levels}
+use Rattle.capnp_pointers.specs.Pointers.{reading, reading_on}
 use Rattle.capnp_refusals.specs.Search.{search_elements, search_pointers}
 use Rattle.capnp_refusals.proofs.refusals.search.+search.Given as goal
 

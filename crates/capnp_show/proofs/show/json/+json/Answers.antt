@@ -1,11 +1,11 @@
 use Rattle.std.proofs.Common.{◌≢◌, ℕ, suc, ◌+◌, ◌*◌, ◌-◌, ◌≤◌, ◌++◌, true, false, length, refl, ap, sym, ◌∙◌, subst, arith, Ok, Err}
 use Rattle.std.specs.Prelude.{codes}
 use Rattle.hex.specs.Hex.{encode_lower}
-use Rattle.capnp_objects.specs.declared.object.Purpose.TheVariants.{Value}
-use Rattle.capnp_objects.specs.Enter.{object_shape}
-use Rattle.capnp_objects.specs.Objects.{IsObjectRead}
-use Rattle.capnp_objects.specs.Reading.{Reading, place_past, segment_read, word_of, words_from}
-use Rattle.capnp_objects.specs.Pointers.{reading}
+use Rattle.capnp_pointers.specs.declared.object.Purpose.TheVariants.{Value}
+use Rattle.capnp_pointers.specs.Enter.{object_shape}
+use Rattle.capnp_pointers.specs.Objects.{IsObjectRead}
+use Rattle.capnp_pointers.specs.Reading.{Reading, place_past, segment_read, word_of, words_from}
+use Rattle.capnp_pointers.specs.Pointers.{reading}
 use Rattle.capnp_messages.specs.Parts.{inside}
 use Rattle.capnp_messages.proofs.PathLemmas.{inside_at, row_inside}
 use Rattle.capnp_show.specs.Line.{data_member, in_quotes, member}

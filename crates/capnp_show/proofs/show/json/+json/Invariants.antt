@@ -1,6 +1,6 @@
 use Rattle.std.proofs.Common.{◌≡◌, ℕ, ◌+◌, ◌-◌, ◌*◌}
-use Rattle.capnp_objects.specs.Reading.{Reading, place_past}
-use Rattle.capnp_objects.specs.Pointers.{reading}
+use Rattle.capnp_pointers.specs.Reading.{Reading, place_past}
+use Rattle.capnp_pointers.specs.Pointers.{reading}
 use Rattle.capnp_show.specs.Shown.{IsPlain, add, array_begin, array_within, show_each, show_elements, show_within, shown_json}
 use Rattle.capnp_show.proofs.show.json.+json.Given as goal
 

@@ -1,7 +1,7 @@
 use Rattle.std.proofs.Common.{refl, ap}
 use Rattle.std.specs.Prelude.{codes}
-use Rattle.capnp_objects.specs.Reading.{Reading}
-use Rattle.capnp_objects.specs.Pointers.{reading}
+use Rattle.capnp_pointers.specs.Reading.{Reading}
+use Rattle.capnp_pointers.specs.Pointers.{reading}
 use Rattle.capnp_show.specs.Shown.{add, array_within, show_struct, shown_json}
 use Rattle.capnp_show.proofs.Grows.{struct_longer, within_longer}
 use Rattle.capnp_show.proofs.Steps.{push_shows, push_stops, shows_after, shows_as}

@@ -1,6 +1,6 @@
 use Rattle.std.proofs.Common.{ap, sym, subst, ◌∙◌}
 use Rattle.std.specs.Prelude.{List, ℕ, ◌≤◌, length}
-use Rattle.capnp_objects.specs.Source.{levels}
+use Rattle.capnp_pointers.specs.Source.{levels}
 use Rattle.capnp_show.specs.Adding.{max_text}
 use Rattle.capnp_show.specs.Shown.{IsPlain, Shown}
 use Rattle.capnp_show.proofs.Ends.{end_shown, fresh, line_written, whole_shown}

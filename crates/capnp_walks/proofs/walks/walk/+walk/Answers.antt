@@ -1,15 +1,15 @@
 use Rattle.std.proofs.Common.{◌≡◌, ℕ, suc, ◌+◌, ◌*◌, ◌-◌, None, Ok, refl, ap, ap₂, ◌∙◌, arith, rules, pred}
 use Rattle.std.proofs.lemmas.Int.{to_z-of_z}
 use mir.Syntax.{w32}
-use Rattle.capnp_objects.specs.declared.object.Purpose.TheVariants.{Value}
-use Rattle.capnp_objects.specs.Objects.{IsObjectRead}
-use Rattle.capnp_objects.specs.Reading.{Reading, place_past}
-use Rattle.capnp_objects.specs.Measure.{fold_pointers}
-use Rattle.capnp_objects.specs.Pointers.{reading, reading_on}
-use Rattle.capnp_objects.specs.Source.{levels}
-use Rattle.capnp_objects.proofs.Budget.MeasuresFall.{falls_in}
-use Rattle.capnp_objects.proofs.Sizes.MeasuredBySteps.{no_pointers, one_more, row_more}
-use Rattle.capnp_objects.proofs.Budget.OneLevelLess.{Opened, object_inside, object_level}
+use Rattle.capnp_pointers.specs.declared.object.Purpose.TheVariants.{Value}
+use Rattle.capnp_pointers.specs.Objects.{IsObjectRead}
+use Rattle.capnp_pointers.specs.Reading.{Reading, place_past}
+use Rattle.capnp_pointers.specs.Measure.{fold_pointers}
+use Rattle.capnp_pointers.specs.Pointers.{reading, reading_on}
+use Rattle.capnp_pointers.specs.Source.{levels}
+use Rattle.capnp_pointers.proofs.Budget.MeasuresFall.{falls_in}
+use Rattle.capnp_pointers.proofs.Sizes.MeasuredBySteps.{no_pointers, one_more, row_more}
+use Rattle.capnp_pointers.proofs.Budget.OneLevelLess.{Opened, object_inside, object_level}
 use Rattle.capnp_walks.specs.Listing.{into_array}
 use Rattle.capnp_walks.specs.Walks.{unless_stopped, walk_elements, walk_within}
 use Rattle.capnp_walks.proofs.Stepped.{object_ends, object_opens, pointer_stops, refusal_stops, row_stops}

@@ -1,7 +1,7 @@
 use Rattle.std.proofs.Common.{◌≡◌, ℕ, ◌+◌, ◌*◌}
-use Rattle.capnp_objects.specs.Reading.{Reading, place_past}
-use Rattle.capnp_objects.specs.Source.{levels}
-use Rattle.capnp_objects.specs.Pointers.{reading, reading_on}
+use Rattle.capnp_pointers.specs.Reading.{Reading, place_past}
+use Rattle.capnp_pointers.specs.Source.{levels}
+use Rattle.capnp_pointers.specs.Pointers.{reading, reading_on}
 use Rattle.capnp_walks.specs.Listing.{into_array}
 use Rattle.capnp_walks.specs.Walks.{walk_elements, walk_pointers}
 use Rattle.capnp_walks.proofs.walks.walk.+walk.Given as goal

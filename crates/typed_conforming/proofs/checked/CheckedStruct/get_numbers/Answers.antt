@@ -1,5 +1,5 @@
 use Rattle.std.proofs.Common.{ap, inl, inr}
-use Rattle.capnp_objects.specs.Reading.{source_start}
+use Rattle.capnp_pointers.specs.Reading.{source_start}
 use Rattle.capnp_readers.specs.Values.{child_cost, struct_data}
 use Rattle.typed_reading.specs.Values.{child}
 use Rattle.typed_conforming.specs.Conforms.{Conforms}

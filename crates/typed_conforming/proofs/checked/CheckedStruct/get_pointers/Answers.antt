@@ -1,7 +1,7 @@
 use Rattle.std.proofs.Common.{ap, sym, subst, arith, inl, inr}
 use Rattle.std.proofs.Math.Logic.{∥∥₁_map}
 use Rattle.capnp_format.specs.Tree.{Null}
-use Rattle.capnp_objects.specs.Reading.{source_start}
+use Rattle.capnp_pointers.specs.Reading.{source_start}
 use Rattle.capnp_words.specs.declared.wire_pointer.ElementSize.TheVariants.{Pointer}
 use Rattle.capnp_readers.specs.Values.{ShowsListOf, child_cost, struct_data}
 use Rattle.typed_reading.specs.Values.{child}

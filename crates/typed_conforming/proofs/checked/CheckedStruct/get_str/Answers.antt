@@ -1,7 +1,7 @@
 use Rattle.std.proofs.Common.{◌≡◌, ap, sym, ◌∙◌, arith, inl, inr}
 use Rattle.std.proofs.lemmas.Str.{IsUtf8-from_is_utf8}
 use Rattle.std.specs.Str.{IsUtf8, IsValidUpTo, is_utf8, valid_up_to}
-use Rattle.capnp_objects.specs.Reading.{source_start}
+use Rattle.capnp_pointers.specs.Reading.{source_start}
 use Rattle.capnp_readers.specs.Values.{child_cost, text_bytes, struct_data}
 use Rattle.typed_reading.specs.Values.{child}
 use Rattle.typed_conforming.specs.Conforms.{Conforms, IsOfKind}

@@ -1,6 +1,6 @@
 use Rattle.std.proofs.Common.{ap, sym, subst, arith, inl, inr}
 use Rattle.std.proofs.Math.Logic.{∥∥₁_map}
-use Rattle.capnp_objects.specs.Reading.{source_start}
+use Rattle.capnp_pointers.specs.Reading.{source_start}
 use Rattle.capnp_readers.specs.Values.{ShowsStructOf, child_cost, struct_data}
 use Rattle.typed_reading.specs.Values.{child}
 use Rattle.typed_conforming.specs.Conforms.{Conforms}

@@ -2,7 +2,7 @@ use Rattle.std.proofs.Common.{inl, inr, refl}
 use Rattle.std.proofs.lemmas.Bool.{false≢true}
 use Rattle.capnp_format.specs.Bytes.{message}
 use Rattle.capnp_format.specs.Means.{Means}
-use Rattle.capnp_objects.specs.Source.{levels}
+use Rattle.capnp_pointers.specs.Source.{levels}
 use Rattle.typed_reading.proofs.Root.{root_affords}
 use Rattle.typed_conforming.specs.Checked.{ShowsConforming}
 use Rattle.typed_conforming.proofs.Checking.{affords_both, children_conform}

@@ -7,8 +7,8 @@ use Rattle.capnp_format.specs.Tree.{Null}
 use Rattle.capnp_arena_traits.specs.Taking.{GrowsSegment}
 use Rattle.capnp_arena_traits.specs.View.{View}
 use Rattle.capnp_arena_traits.specs.Written.{extended}
-use Rattle.capnp_making.specs.Stored.{IsStored}
-use Rattle.capnp_making.proofs.FillingMade.{null_stored}
+use Rattle.capnp_allocation.specs.Stored.{IsStored}
+use Rattle.capnp_allocation.proofs.FillingMade.{null_stored}
 use Rattle.typed_messages.proofs.message.MessageBuilder.new.Goals as goal
 
 -- Allocating in a segment leaves its capacity.

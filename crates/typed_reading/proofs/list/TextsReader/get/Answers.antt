@@ -1,5 +1,5 @@
 use Rattle.std.proofs.Common.{◌≡◌, refl}
-use Rattle.capnp_objects.specs.Expected.{text_expected}
+use Rattle.capnp_pointers.specs.Expected.{text_expected}
 use Rattle.capnp_readers.specs.Readers.{read_by}
 use Rattle.typed_reading.specs.Sections.{element_pointer}
 use Rattle.typed_reading.proofs.Outcomes.{bytes_outcome}

@@ -1,5 +1,5 @@
 //! Tests calls that read the object that a pointer leads to: `Source::read_object`, `read_expected`
-//! and `read_type` of `capnp_objects`, which `capnp_readers` re-exports.
+//! and `read_type` of `capnp_pointers`, which `capnp_readers` re-exports.
 
 use super::messages::*;
 use capnp_proved::capnp_readers::object::{Expected, Object, Place};

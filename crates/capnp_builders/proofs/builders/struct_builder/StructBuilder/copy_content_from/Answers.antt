@@ -4,14 +4,14 @@ use mir.Syntax.{w32}
 use Rattle.capnp_arena_traits.specs.View.{View}
 use Rattle.capnp_format.specs.Segments.{Segments, segment}
 use Rattle.capnp_format.specs.Canonical.{word_count_all}
-use Rattle.capnp_making.specs.Near.{HasOwnRoom}
-use Rattle.capnp_making.specs.Zeroed.{IsPruned}
+use Rattle.capnp_allocation.specs.Near.{HasOwnRoom}
+use Rattle.capnp_allocation.specs.Zeroed.{IsPruned}
 use Rattle.capnp_readers.specs.declared.readers.struct_reader.StructPlace.{StructPlace}
 use Rattle.capnp_builders.specs.Content.{with_content, AreCleared, TakesData}
 use Rattle.capnp_copies.specs.Growth.{TakesNone}
-use Rattle.capnp_making.proofs.Outcomes.{if_err_so}
+use Rattle.capnp_allocation.proofs.Outcomes.{if_err_so}
 use Rattle.capnp_copies.proofs.Growth.{none_itself, none_both, none_pruned, taken_so, all_within, among_within}
-use Rattle.capnp_making.proofs.Taken.{ends_after}
+use Rattle.capnp_allocation.proofs.Taken.{ends_after}
 use Rattle.capnp_builders.proofs.ContentWritten.{content_long, content_many, each_grows, content_grows}
 use Rattle.capnp_builders.proofs.builders.struct_builder.StructBuilder.copy_content_from.Goals as goal
 

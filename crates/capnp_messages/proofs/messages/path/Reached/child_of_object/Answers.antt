@@ -1,8 +1,8 @@
 use Rattle.std.proofs.Common.{subst, arith}
-use Rattle.capnp_objects.specs.Reading.{Reading}
-use Rattle.capnp_objects.specs.Pointers.{reading}
-use Rattle.capnp_objects.specs.declared.object.Purpose.TheVariants.{Value}
-use Rattle.capnp_objects.specs.Objects.{IsObjectRead}
+use Rattle.capnp_pointers.specs.Reading.{Reading}
+use Rattle.capnp_pointers.specs.Pointers.{reading}
+use Rattle.capnp_pointers.specs.declared.object.Purpose.TheVariants.{Value}
+use Rattle.capnp_pointers.specs.Objects.{IsObjectRead}
 use Rattle.capnp_messages.proofs.PathLemmas.{pointers_room, struct_room, structs_room}
 use Rattle.capnp_messages.proofs.messages.path.Reached.child_of_object.Goals as goal
 

@@ -1,6 +1,6 @@
 use Rattle.std.proofs.Common.{◌+◌, ◌≤◌, length, ap, sym, ◌∙◌, subst, arith}
-use Rattle.capnp_objects.specs.Reading.{Reading, place_past, segment_read}
-use Rattle.capnp_objects.specs.Pointers.{reading}
+use Rattle.capnp_pointers.specs.Reading.{Reading, place_past, segment_read}
+use Rattle.capnp_pointers.specs.Pointers.{reading}
 use Rattle.capnp_messages.proofs.messages.pointer_run.PointerRun.from_element.Goals as goal
 
 pub invariant_of-result : goal.invariant_of-result

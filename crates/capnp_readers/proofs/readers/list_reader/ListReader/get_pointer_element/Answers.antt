@@ -3,7 +3,7 @@ use Rattle.std.proofs.lemmas.Grind.{common_steps}
 use Rattle.std.proofs.lemmas.Int.{to_z-of_z}
 use Rattle.capnp_readers.proofs.ListValues.{pointer_element_means}
 use Rattle.std.proofs.Common.{arith}
-use Rattle.capnp_objects.specs.Reading.{place_past, source_start}
+use Rattle.capnp_pointers.specs.Reading.{place_past, source_start}
 use Rattle.capnp_readers.specs.Values.{first_element, pointer_cost}
 use Rattle.capnp_readers.specs.Sections.{pointers_offset}
 use Rattle.capnp_readers.proofs.Sections.{held_words, pointers_within, elements}

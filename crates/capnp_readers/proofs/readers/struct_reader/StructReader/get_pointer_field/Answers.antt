@@ -1,6 +1,6 @@
 use Rattle.std.proofs.Common.{refl, w32, arith, rules}
 use Rattle.std.proofs.lemmas.Int.{to_z-of_z}
-use Rattle.capnp_objects.specs.Reading.{place_past}
+use Rattle.capnp_pointers.specs.Reading.{place_past}
 use Rattle.capnp_readers.specs.Readers.{read_by}
 use Rattle.capnp_readers.specs.Sizes.{pointers_read}
 use Rattle.capnp_readers.specs.Values.{child_cost}

@@ -1,5 +1,0 @@
-use Rattle.capnp_contents.proofs.Fields.FieldWritten.{flat_element_written}
-use Rattle.capnp_contents.proofs.laws.list_element_written.Goals as goal
-
-pub returns : goal.returns
-returns c = flat_element_written

@@ -1,0 +1,15 @@
+use Rattle.std.proofs.Common.{◌≡◌, ◌+◌, ◌*◌}
+use Rattle.capnp_arena_traits.specs.View.{KeepsLimits}
+use Rattle.capnp_allocation.specs.Zeroed.{IsPruned}
+use Rattle.capnp_in_place.specs.Moved.{Unmoves}
+use Rattle.capnp_in_place.proofs.WiderObjects.Statements.{rows_moves}
+use Rattle.capnp_in_place.proofs.moving.zero_pads_of_rows.Given as goal
+
+abbrev pub invariant-loop-i : goal.invariant-loop-i
+invariant-loop-i g l = record {
+  zeroed : Unmoves (g.A.BuilderArena.view l.fn.arena).words (g.A.BuilderArena.view l.arena).words (rows_moves l.from.segment l.from.at l.from.step l.to.segment l.to.at l.to.step l.pointers l.i);
+  source_at : l.source ≡ l.from.at + l.i * l.from.step;
+  place_at : l.place ≡ l.to.at + l.i * l.to.step;
+  pruned : IsPruned (g.A.BuilderArena.view l.fn.arena).words (g.A.BuilderArena.view l.arena).words;
+  limits : KeepsLimits (g.A.BuilderArena.view l.fn.arena) (g.A.BuilderArena.view l.arena);
+}

@@ -1,5 +1,0 @@
-use Rattle.capnp_objects.proofs.Budget.TraversalAffordable.{leads_to_other}
-use Rattle.capnp_objects.proofs.laws.pointers.refused_as_unexpected.Goals as goal
-
-pub returns : goal.returns
-returns c = leads_to_other

@@ -1,5 +1,0 @@
-use Rattle.capnp_objects.proofs.Sizes.CountsTheValue.{has_size}
-use Rattle.capnp_objects.proofs.laws.pointers.values_have_sizes.Goals as goal
-
-pub returns : goal.returns
-returns c = has_size

@@ -1,5 +1,0 @@
-use Rattle.capnp_objects.proofs.WholeValue.UnreadableIfRefused.{unreadable}
-use Rattle.capnp_objects.proofs.laws.refused_rightly.Goals as goal
-
-pub returns : goal.returns
-returns c = λ form r m m' k refused. (unreadable refused).only
