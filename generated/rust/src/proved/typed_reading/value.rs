@@ -9,11 +9,11 @@ use crate::proved::capnp_words::primitive::Primitive;
 use crate::proved::capnp_words::read_limiter::ReadLimiter;
 use crate::proved::capnp_words::zero::Zero;
 
-/// Returns the struct that the root of a message is; a struct without sections if the root pointer is
-/// null. Charges one word for the root pointer, and the struct's own words.
+/// Returns the struct that the root of a message is; a struct without sections if the root pointer
+/// is null. Charges one word for the root pointer, and the struct's own words.
 ///
-/// Refuses like `PointerReader::get_root_from_arena` and `PointerReader::get_struct`. What was charged
-/// before a refusal stays charged.
+/// Refuses like `PointerReader::get_root_from_arena` and `PointerReader::get_struct`. What was
+/// charged before a refusal stays charged.
 #[inline]
 pub fn root<'a, A: ReaderArena>(
     arena: &'a A,
