@@ -1,18 +1,12 @@
 -- Messages that have an answer aren't refused: a fault is one of memory or of a device.
-use Rattle.std.proofs.Common.{◌≡◌, ◌⊎◌, inl, inr, ℕ, ◌++◌, List, [], ◌∷◌, Bool, Option, Some, None}
+use Rattle.std.proofs.Common.{◌≡◌, ◌⊎◌, inl, inr, ℕ, List, Bool, Option, Some, None}
 use Rattle.std.proofs.Common.{All, IsSomeAnd, Result, Ok, Err, OnOk, OnErr}
-use Rattle.std.proofs.Common.{refl, sym, ◌∙◌, subst}
-use Rattle.std.proofs.lemmas.List.Elements.{All-head, All-tail}
+use Rattle.std.proofs.Common.{refl, sym, subst}
 use Rattle.std.specs.Io.KnownBytes.{Consumes, Keeps}
 use Rattle.capnp_format.specs.Segments.{Segments}
-use Rattle.capnp_framing.specs.Flat.{BeginsWithFrame}
-use Rattle.capnp_framing.specs.Reading.{NoFrame}
 use Rattle.capnp_framing.specs.Writing.{Writes}
 use Rattle.capnp_framing.specs.declared.devices.Output.{Ghosts}
-use Rattle.capnp_framing.proofs.FrameLemmas.{one_frame_begins}
-use Rattle.capnp_framing.proofs.ReadingLemmas.{frame_is_read}
 use Rattle.capnp_words.specs.declared.error.ErrorKind.{ErrorKind}
-use Rattle.capnp_messages.proofs.FramesLemmas.{no_bytes_begin}
 use Rattle.capnp_words.specs.declared.error.ErrorKind.TheVariants.{AllocationFailed}
 use Rattle.capnp_refusals.specs.declared.refusals.search.RefusedPointer.{RefusedPointer}
 use Rattle.capnp_streams.specs.Asked.{RefusesAsked}
@@ -21,32 +15,14 @@ use Rattle.capnp_streams.specs.declared.streams.task.Job.{Job}
 use Rattle.capnp_streams.specs.declared.streams.task.Job.TheVariants.{Answer, Show}
 use Rattle.capnp_streams.specs.Streams.{AnswerIs, Answers, AreDone, AreFrames, CanBeAnswered, EndsAfter, HasJobAnswer, IsOfDevices}
 use Rattle.capnp_streams.specs.Streams.{JobRefuses, Question, Stage, StopsAt}
-use Rattle.capnp_framing.specs.declared.framing.frame_error.FrameError.{FrameError}
 use Rattle.capnp_framing.specs.declared.framing.frame_error.FrameError.TheVariants.{WriteFailed}
 use Rattle.capnp_streams.specs.declared.streams.stream_error.StreamError.{StreamError}
 use Rattle.capnp_streams.specs.declared.streams.stream_error.StreamError.TheVariants.{Frame, Layout, TooManyMessages}
 use Rattle.capnp_streams.specs.declared.streams.runs.Stop.{Stop}
 use Rattle.capnp_streams.specs.declared.streams.runs.Summary.{Summary}
 use Rattle.capnp_streams.proofs.AskedLemmas.{asked_refused}
-use Rattle.capnp_streams.proofs.FramesLemmas.{frames_behind, no_bytes_refused}
+use Rattle.capnp_streams.proofs.FramesLemmas.{all_left, frame_is_there, frames_behind, front_has}
 use Rattle.capnp_streams.proofs.StreamLemmas.{begins}
-
--- what is left is frames of messages that have an answer
-frame_is_there : (most : ℕ) (more : List Segments) (left : List ℕ) (e : FrameError) →
-    AreFrames most more left → NoFrame left most e → ⊥
-frame_is_there most [] left e framed none =
-    no_bytes_refused most e (subst (λ (bs : List ℕ). NoFrame bs most e) framed none)
-frame_is_there most (S ∷ more) left e (first, rest, is, framed, short, others) none =
-    frame_is_read S first rest most e framed short (subst (λ (bs : List ℕ). NoFrame bs most e) is none)
-
-first_has : (P : Segments → Type 0) (most : ℕ) (more : List Segments) (left : List ℕ) (S : Segments) →
-    AreFrames most more left → All P more → BeginsWithFrame left most S → P S
-first_has P most [] left S framed all begins =
-    absurd (no_bytes_begin most S (subst (λ (bs : List ℕ). BeginsWithFrame bs most S) framed begins))
-first_has P most (T ∷ more) left S (first, rest, is, framed, short, others) all begins =
-    let (one, begun, behind) =
-    one_frame_begins T S first begins.front rest begins.behind framed begins.framed (sym is ∙ begins.is) in
-    subst P one (All-head P T more all)
 
 -- a job that has an answer isn't refused for what a message holds
 pub job_refused : (job : Job) (S : Segments) (k : ErrorKind) (p : Option RefusedPointer) → HasJobAnswer job S → JobRefuses job S k p → k ≡ AllocationFailed
@@ -63,12 +39,8 @@ stops_so job more left after failed (Frame e) framed all (inr (inr none)) =
 stops_so job more left after failed (Layout k p) framed all (S, bytes, is, short, consumed, refused) =
     let P : Segments → Type 0 = HasJobAnswer job in
     job_refused job S k p
-    (first_has P (most_of job) more left S framed all (begins (Some left) after consumed is short)) refused
+    (front_has P (most_of job) more left S framed all (begins (Some left) after consumed is short)) refused
 stops_so job more left after failed TooManyMessages framed all stops = absurd stops
-
-all_behind : (P : Segments → Type 0) (done more : List Segments) → All P (done ++ more) → All P more
-all_behind P [] more all = all
-all_behind P (S ∷ done) more all = all_behind P done more (All-tail P S (done ++ more) all)
 
 -- a run over such messages stops only for memory or a device
 pub step_answerable : {job : Job} {summary : Summary} {P Q : Type 0} (old : Stage)
@@ -88,7 +60,7 @@ step_answerable {job} old left between after failed fault done (inr (stops, same
     go (Some x) (Some y) consumed (messages, framed, all) stopped =
         let (more, is, others) =
         frames_behind (most_of job) done.messages messages done.bytes y x done.framed framed consumed in
-        let rest = all_behind (HasJobAnswer job) done.messages more
+        let rest = all_left (HasJobAnswer job) done.messages more
         (subst (All (HasJobAnswer job)) is all) in
         stops_so job more y after failed fault others rest stopped
 

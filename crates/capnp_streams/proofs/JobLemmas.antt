@@ -78,3 +78,6 @@ refused_counted refusals old new task S fault counts = record {
   kept = tt;
   counted = counts.counted ∙ behind_located task S fault (option_map_or refusals old 0);
 }
+
+-- what is known of a job that is done
+pub ruleset jobs = (answered_job, refused_job, shown_job, refused_counted)

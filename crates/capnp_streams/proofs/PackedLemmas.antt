@@ -1,14 +1,12 @@
 -- What a run over unpacked bytes states about the packed bytes that they come from.
 use Rattle.std.proofs.Common.{◌≡◌, ◌∙◌, ◌⊎◌, inl, inr, ℕ, List, [], Bool, true, false, ◌&&◌, Option, Some, None, IfSome, ap, refl, sym, subst}
 use Rattle.std.specs.Option.{option_map}
-use Rattle.std.specs.Io.KnownBytes.{Consumes}
-use Rattle.capnp_framing.specs.Reading.{NoFrame}
-use Rattle.capnp_framing.specs.Reading.NoFrame.{count_cut, table_cut, too_long, too_many, words_cut}
 use Rattle.capnp_framing.specs.Wholeness.{KeepsWhole}
 use Rattle.capnp_packing.specs.Packing.{IsWhole, is_tag, place_at_end, unpacked_bytes, whole_behind}
 use Rattle.capnp_packing.specs.declared.packing.place.Place.TheVariants.{Tag}
 use Rattle.capnp_framing.proofs.WholenessLemmas.{keeps_whole_both}
 use Rattle.capnp_framing.specs.declared.framing.frame_error.FrameError.TheVariants.{ReadFailed, Truncated, WriteFailed}
+use Rattle.capnp_streams.proofs.FramesLemmas.{known_are_read, left_known}
 use Rattle.capnp_streams.proofs.StreamLemmas.{keeps_same}
 use Rattle.capnp_streams.specs.declared.streams.task.Job.{Job}
 use Rattle.capnp_streams.specs.Packed.{IsCutAfter}
@@ -92,27 +90,12 @@ ends_packed {P} {Q} {job} packed given output left after failed stop same (end, 
     go (inr (kept, inl stops)) = inr (inr (left, (kept, inl (stops_failed job end.input left failed stop.fault stops))))
     go (inr (kept, inr many)) = inr (inr (left, (kept, inr many)))
 
--- known bytes are never refused with ReadFailed
-bytes_are_read : {bytes : List ℕ} {most : ℕ} → NoFrame bytes most ReadFailed → ⊥
-bytes_are_read (count_cut some cut is) = cc
-bytes_are_read (too_many long many is) = cc
-bytes_are_read (table_cut long few cut is) = cc
-bytes_are_read (too_long there many is) = cc
-bytes_are_read (words_cut there few cut is) = cc
-
 stop_failed : (job : Job) (left after : Option (List ℕ)) (failed : Bool) → (left ≡ None → ⊥) →
     StopsAt job left after failed (Frame ReadFailed) → failed ≡ true
 stop_failed job left after failed known (inl memory) = cc
 stop_failed job left after failed known (inr (inl (same, is))) = is
 stop_failed job None after failed known (inr (inr none)) = absurd (known refl)
-stop_failed job (Some bytes) after failed known (inr (inr none)) = absurd (bytes_are_read none)
-
--- what is left of known bytes is known
-left_known : (old left : Option (List ℕ)) (xs taken : List ℕ) → old ≡ Some xs → Consumes old left taken →
-    left ≡ None → ⊥
-left_known old left xs taken some takes none =
-    subst (λ (l : Option (List ℕ)). Consumes (Some xs) l taken) none
-    (subst (λ (o : Option (List ℕ)). Consumes o left taken) some takes)
+stop_failed job (Some bytes) after failed known (inr (inr none)) = absurd (known_are_read none)
 
 -- an input over packed bytes has failed only if the packed input has
 failed_below : (told failed : Bool) → (told && failed) ≡ true → failed ≡ true

@@ -72,7 +72,8 @@ option_text (Valued option) = value_option_text option
 abbrev pub all_options : List OptionName
 all_options =
     Help ∷ HelpLetter ∷ Version ∷ VersionLetter ∷ End
-    ∷ Plain Packed ∷ Plain Pack ∷ Plain FlatName ∷ Plain FromFlat ∷ Plain Hex ∷ Plain Quiet ∷ Plain CheckName ∷ Plain CheckLetter
+    ∷ Plain Packed ∷ Plain Pack ∷ Plain FlatName ∷ Plain FromFlat ∷ Plain Hex ∷ Plain Quiet
+    ∷ Plain CheckName ∷ Plain CheckLetter
     ∷ Plain Json ∷ Plain Values ∷ Plain Color
     ∷ Valued Nesting ∷ Valued Words ∷ Valued At ∷ Valued Depth ∷ Valued Bytes ∷ []
 
@@ -117,14 +118,16 @@ signed_value text =
 -- The nesting limit that a text writes: an optional `-` and decimal digits, with a value of i32.
 abbrev pub nesting_of : List ℕ → Option ℤ
 nesting_of text =
-    if is_numeral (unsigned_text text) && nat_lt (mag (signed_value text)) (2 ^ 31) then Some (signed_value text) else None
+    if is_numeral (unsigned_text text) && nat_lt (mag (signed_value text)) (2 ^ 31)
+    then Some (signed_value text) else None
 
--- The traversal limit in words, or the number of bytes, that a text writes: decimal digits with a value below 2^64, or the
--- word `none` for no limit.
+-- The traversal limit in words, or the number of bytes, that a text writes: decimal digits with a
+-- value below 2^64, or the word `none` for no limit.
 abbrev pub budget_of : List ℕ → Option (Option ℕ)
 budget_of text =
     if bytes_eq text (codes "none") then Some None else
-    if is_numeral text && nat_lt (digits_value 10 text) (2 ^ 64) then Some (Some (digits_value 10 text)) else None
+    if is_numeral text && nat_lt (digits_value 10 text) (2 ^ 64)
+    then Some (Some (digits_value 10 text)) else None
 
 -- No arguments yet: a nesting limit of 64, and a traversal limit of 8,388,608 words.
 abbrev pub no_arguments : ParsedArguments
@@ -247,7 +250,8 @@ parsed_with_value Words text line = option_map (λ n. record line {
   limits = record line.limits { traversal_limit_in_words = n };
   expects = None;
 }) (budget_of text)
-parsed_with_value At text line = option_map (λ p. record line { path = p; expects = None }) (path_of text)
+parsed_with_value At text line =
+    option_map (λ p. record line { path = p; expects = None }) (path_of text)
 parsed_with_value Depth text line = option_map (λ n. record line {
   depth = Some n;
   expects = None;
@@ -286,9 +290,11 @@ option_step (Plain option) line = step_if_allowed (with_option option line)
 option_step (Valued option) line = Ok (Goes (record line { expects = Some option }))
 
 -- The step of an option with a `=` and a value after it.
-abbrev pub assigned_step : Option OptionName → List ℕ → ParsedArguments → Result ArgumentStep ArgumentFault
+abbrev pub assigned_step :
+    Option OptionName → List ℕ → ParsedArguments → Result ArgumentStep ArgumentFault
 assigned_step None value line = Err UnknownOption
-assigned_step (Some (Valued option)) value line = step_or (InvalidAssignment option) (parsed_with_value option value line)
+assigned_step (Some (Valued option)) value line =
+    step_or (InvalidAssignment option) (parsed_with_value option value line)
 assigned_step (Some option) value line = Err (UnwantedValue option)
 
 -- Whether a byte separates an option from its value.
@@ -299,10 +305,12 @@ is_equals b = b == 61
 abbrev pub parted_step : List ℕ → ParsedArguments → Result ArgumentStep ArgumentFault
 parted_step text line =
     if nat_lt (position_or_len is_equals text) (length text)
-    then assigned_step (option_named (before_first is_equals text)) (after_first is_equals text) line
+    then
+    assigned_step (option_named (before_first is_equals text)) (after_first is_equals text) line
     else Err UnknownOption
 
-abbrev pub named_step : Option OptionName → List ℕ → ParsedArguments → Result ArgumentStep ArgumentFault
+abbrev pub named_step :
+    Option OptionName → List ℕ → ParsedArguments → Result ArgumentStep ArgumentFault
 named_step (Some option) text line = option_step option line
 named_step None text line = parted_step text line
 
@@ -312,7 +320,8 @@ command_step (Some subcommand) line = step_if_allowed (record line { subcommand 
 
 -- The step of an argument that is neither an option nor the value of one: the command, if there is
 -- none yet, and otherwise a file.
-abbrev pub operand_step : Option Subcommand → List ℕ → ParsedArguments → Result ArgumentStep ArgumentFault
+abbrev pub operand_step :
+    Option Subcommand → List ℕ → ParsedArguments → Result ArgumentStep ArgumentFault
 operand_step None text line = command_step (subcommand_named text) line
 operand_step (Some subcommand) text line = Ok File
 
@@ -321,8 +330,10 @@ operand_step (Some subcommand) text line = Ok File
 abbrev pub has_option_form : List ℕ → Bool
 has_option_form text = starts_with_minus text && nat_lt 1 (length text)
 
-abbrev pub step_by : Option ValueOption → List ℕ → ParsedArguments → Result ArgumentStep ArgumentFault
-step_by (Some value_option) text line = step_or (InvalidValue value_option) (parsed_with_value value_option text line)
+abbrev pub step_by :
+    Option ValueOption → List ℕ → ParsedArguments → Result ArgumentStep ArgumentFault
+step_by (Some value_option) text line =
+    step_or (InvalidValue value_option) (parsed_with_value value_option text line)
 step_by None text line =
     if has_option_form text && not line.ended
     then named_step (option_named text) text line
@@ -386,10 +397,12 @@ parsed_request ToDiff line = Diff (parsed_diff line)
 abbrev pub lacks_check : Subcommand → ParsedArguments → Bool
 lacks_check subcommand line = reads_lists subcommand && line.quiet && not line.lists
 
-abbrev pub end_by : Option ValueOption → Option Subcommand → ParsedArguments → Result Request ArgumentFault
+abbrev pub end_by :
+    Option ValueOption → Option Subcommand → ParsedArguments → Result Request ArgumentFault
 end_by (Some value_option) subcommand line = Err (MissingValue value_option)
 end_by None None line = Err MissingCommand
-end_by None (Some subcommand) line = if lacks_check subcommand line then Err (Needs Quiet CheckName) else
+end_by None (Some subcommand) line =
+    if lacks_check subcommand line then Err (Needs Quiet CheckName) else
     Ok (parsed_request subcommand line)
 
 -- What a line requests if no argument follows.
@@ -400,7 +413,9 @@ abbrev pub located : ℕ → Result Request ArgumentFault → Result Request Wro
 located at (Ok r) = Ok r
 located at (Err fault) = Err (record { at = at; fault = fault })
 
-abbrev pub request_after : Result ArgumentStep ArgumentFault → ParsedArguments → ℕ → (ParsedArguments → Result Request WrongArgument) → Result Request WrongArgument
+abbrev pub request_after :
+    Result ArgumentStep ArgumentFault → ParsedArguments → ℕ
+    → (ParsedArguments → Result Request WrongArgument) → Result Request WrongArgument
 request_after (Ok (Goes next)) line at rest = rest next
 request_after (Ok File) line at rest = rest line
 request_after (Ok (Stops r)) line at rest = Ok r
@@ -417,7 +432,9 @@ request_from line at (text ∷ more) =
 abbrev pub request_of : List (List ℕ) → Result Request WrongArgument
 request_of texts = request_from no_arguments 0 texts
 
-abbrev pub files_after : Result ArgumentStep ArgumentFault → List ℕ → ParsedArguments → (ParsedArguments → List (List ℕ)) → List (List ℕ)
+abbrev pub files_after :
+    Result ArgumentStep ArgumentFault → List ℕ → ParsedArguments
+    → (ParsedArguments → List (List ℕ)) → List (List ℕ)
 files_after (Ok (Goes next)) text line rest = rest next
 files_after (Ok File) text line rest = text ∷ rest line
 files_after (Ok (Stops r)) text line rest = []
@@ -426,7 +443,8 @@ files_after (Err fault) text line rest = []
 -- The files among arguments after others that made the line.
 abbrev pub files_from : ParsedArguments → List (List ℕ) → List (List ℕ)
 files_from line [] = []
-files_from line (text ∷ more) = files_after (argument_step text line) text line (λ next. files_from next more)
+files_from line (text ∷ more) =
+    files_after (argument_step text line) text line (λ next. files_from next more)
 
 -- The files among the arguments, in order.
 abbrev pub files_of : List (List ℕ) → List (List ℕ)

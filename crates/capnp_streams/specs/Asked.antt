@@ -46,8 +46,8 @@ abbrev pub RefusesSizeAt : Segments → ReaderOptions → List ℕ → ErrorKind
 RefusesSizeAt S limits [] k = RefusesSize S limits k
 RefusesSizeAt S limits (i ∷ path) k = part_size S limits (i ∷ path) ≡ Err k
 
--- The whole of S, or its part, has a canonical copy: a value without capabilities within the limits,
--- whose canonical words fit a segment.
+-- The whole of S, or its part, has a canonical copy: a value without capabilities within the
+-- limits, whose canonical words fit a segment.
 abbrev pub HasCopyAt : Segments → ReaderOptions → List ℕ → Type 0
 HasCopyAt S limits [] = HasCanonicalCopy S limits
 HasCopyAt S limits (i ∷ path) =

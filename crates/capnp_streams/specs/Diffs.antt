@@ -139,17 +139,19 @@ module _ {L R W : Type 0} (f : InputGhosts L) (g : InputGhosts R) (h : OutputGho
 
 module _ {R : Type 0} (g : InputGhosts R) where
   -- The next message of an input was read, S, which is sound; or the input is at its end.
-  pub record IsNextRead (limits : ReaderOptions) (from to : R) (has : Bool) (S : Segments) : Type 0 where
+  pub record IsNextRead (limits : ReaderOptions) (from to : R) (has : Bool) (S : Segments)
+      : Type 0 where
     pub read : has ≡ true → IsFrameRead g from to S
     pub short : has ≡ true → total S ≤ most_words limits
     pub sound : has ≡ true → IsReadable S limits
     pub end : has ≡ false → IsAtEnd (g.remaining from) × IsAtEnd (g.remaining to)
 
 -- From old to new the frames of `counts.messages` messages were read from the front of each input,
--- with these numbers of bytes, at most what 64 bits count. Each message was compared with the one of
--- the same number, in order, and the texts were written after what the output had. `counts.is_same`
--- says whether the values of each two are equal; `counts.longer` isn't looked at.
-pub record ArePairsDone (limits : ReaderOptions) (old new : DiffStage) (counts : Compared) : Type 0 where
+-- with these numbers of bytes, at most what 64 bits count. Each message was compared with the one
+-- of the same number, in order, and the texts were written after what the output had.
+-- `counts.is_same` says whether the values of each two are equal; `counts.longer` isn't looked at.
+pub record ArePairsDone (limits : ReaderOptions) (old new : DiffStage) (counts : Compared)
+    : Type 0 where
   pub pairs : List Pair
   pub left_bytes : List ℕ
   pub right_bytes : List ℕ
@@ -227,7 +229,8 @@ with_pair counts pair = record {
 -- The next two messages were compared; or an input has none.
 abbrev pub IsDiffStep : ReaderOptions → DiffStage → DiffStage → DiffStep → Type 0
 IsDiffStep limits old new (Compares pair) = ArePairsDone limits old new (one_pair pair)
-IsDiffStep limits old new (Ended longer) = EndsInputs limits old longer × Keeps old.output new.output
+IsDiffStep limits old new (Ended longer) =
+    EndsInputs limits old longer × Keeps old.output new.output
 
 -- The inputs that aren't longer were read to their end.
 abbrev pub EndsRead : Option Side → Option (List ℕ) → Option (List ℕ) → Type 0
@@ -262,7 +265,8 @@ side_bytes counts Right = counts.right_bytes
 
 abbrev pub side_refusal : Compared → Side → StreamError → DiffFault
 side_refusal counts side fault =
-    Refused side (record { answered = counts.messages; byte = side_bytes counts side; fault = fault })
+    Refused side
+    (record { answered = counts.messages; byte = side_bytes counts side; fault = fault })
 
 -- The next message of an input is refused, after this number of messages and bytes.
 abbrev pub IsStopAfter : ℕ → ℕ → Stop → Type 0
@@ -354,8 +358,8 @@ module _ {L R : Type 0} (f : InputGhosts L) (g : InputGhosts R) where
   IsNotWhole compared left right _ = ⊥
 
   -- The next message of a packed input is refused, or the run has stopped otherwise.
-  pub record IsPackedStopped (limits : ReaderOptions) (packed : DiffStage) (output : Option (List ℕ))
-      (failed : Bool) (fault : DiffFault) : Type 0 where
+  pub record IsPackedStopped (limits : ReaderOptions) (packed : DiffStage)
+      (output : Option (List ℕ)) (failed : Bool) (fault : DiffFault) : Type 0 where
     pub devices : DiffDevices
     pub stopped : IsDiffStopped limits (unpacked_stages packed) devices fault
     pub kept : devices.stage.output ≡ output
@@ -377,7 +381,8 @@ module _ {L R : Type 0} (f : InputGhosts L) (g : InputGhosts R) where
 
 -- From old to new everything in both inputs was read: the raw words of two messages, which were
 -- compared. The text was written after what the output had.
-pub record AreFlatCompared (limits : ReaderOptions) (old new : DiffStage) (is_same : Bool) : Type 0 where
+pub record AreFlatCompared (limits : ReaderOptions) (old new : DiffStage) (is_same : Bool)
+    : Type 0 where
   pub left : List ℕ
   pub right : List ℕ
   pub text : List ℕ
@@ -388,7 +393,8 @@ pub record AreFlatCompared (limits : ReaderOptions) (old new : DiffStage) (is_sa
   pub left_ended : IsAtEnd new.left
   pub right_ended : IsAtEnd new.right
   pub compared :
-      IsCompared limits (record { left = message (left ∷ []); right = message (right ∷ []) }) is_same text
+      IsCompared limits (record { left = message (left ∷ []); right = message (right ∷ []) })
+      is_same text
   pub written : Appends old.output new.output text
 
 -- Why two messages whose raw words two inputs hold aren't compared.

@@ -27,7 +27,8 @@ IsAnsweredAs RawWords job from output summary =
 -- Two inputs, which were read in this form, are compared, and the output has `output` now.
 abbrev pub IsComparedAs : InputForm → ReaderOptions → DiffStage → Option (List ℕ) → Bool → Type 0
 IsComparedAs Frames limits from output is_same =
-    (compared : Compared) × AreAllCompared limits from output compared × (is_same ≡ compared.is_same)
+    (compared : Compared) × AreAllCompared limits from output compared
+    × (is_same ≡ compared.is_same)
 IsComparedAs PackedFrames limits from output is_same = IsPackedCompared limits from output is_same
 IsComparedAs RawWords limits from output is_same =
     (left : Option (List ℕ)) × (right : Option (List ℕ))

@@ -1,4 +1,5 @@
--- The text of a path to a part of a message: indexes between dots, each in decimal digits, with or without brackets.
+-- The text of a path to a part of a message: indexes between dots, each in decimal digits, with or
+-- without brackets.
 use Rattle.std.specs.Prelude.{◌≡◌, ℕ, ◌+◌, ◌-◌, ◌^◌, ◌<◌, min, ◌==◌, nat_lt, List, [], ◌∷◌, length, replicate, take}
 use Rattle.std.specs.Prelude.{slice_index, slice_range, slice_set, Option, Some, None, Bool, ◌&&◌, if◌then◌else◌}
 use Rattle.std.specs.Str.{all_ascii_digits}
@@ -36,12 +37,14 @@ with_byte_in_front b (part ∷ parts) = (b ∷ part) ∷ parts
 abbrev pub parts_between_dots : List ℕ → List (List ℕ)
 parts_between_dots [] = [] ∷ []
 parts_between_dots (b ∷ text) =
-    if is_dot b then [] ∷ parts_between_dots text else with_byte_in_front b (parts_between_dots text)
+    if is_dot b then [] ∷ parts_between_dots text
+    else with_byte_in_front b (parts_between_dots text)
 
 -- Whether a text is a `[`, more, and a `]`.
 abbrev pub is_bracketed : List ℕ → Bool
 is_bracketed text =
-    nat_lt 1 (length text) && (slice_index text 0 == 91) && (slice_index text (length text - 1) == 93)
+    nat_lt 1 (length text) && (slice_index text 0 == 91)
+    && (slice_index text (length text - 1) == 93)
 
 -- The text without the brackets around it, if there are any.
 abbrev pub unbracketed : List ℕ → List ℕ
@@ -58,7 +61,8 @@ is_numeral text = nat_lt 0 (length text) && all_ascii_digits text
 -- The index that decimal digits write.
 abbrev pub number_of_index : List ℕ → Option ℕ
 number_of_index text =
-    if is_numeral text && nat_lt (digits_value 10 text) (2 ^ 32) then Some (digits_value 10 text) else None
+    if is_numeral text && nat_lt (digits_value 10 text) (2 ^ 32)
+    then Some (digits_value 10 text) else None
 
 -- The index that a text writes, with or without brackets.
 abbrev pub index_of : List ℕ → Option ℕ

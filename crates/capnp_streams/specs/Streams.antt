@@ -83,9 +83,10 @@ written_words true form words = hex_line (bytes_of_words words)
 written_words false form words = form_bytes form words
 
 -- What a command answers to S, with the other settings of a task: `holds` is yes or no, and `bytes`
--- are written. Copies, digests and sizes are of the part to which the task's path leads. Canonical words are at most as many as a segment of a copy can have. The value of a message
--- that is said to be canonical is within the limits. The line about a message that isn't canonical says
--- why: the reason is true of the word that it names.
+-- are written. Copies, digests and sizes are of the part to which the task's path leads. Canonical
+-- words are at most as many as a segment of a copy can have. The value of a message that is said to
+-- be canonical is within the limits. The line about a message that isn't canonical says why: the
+-- reason is true of the word that it names.
 abbrev pub AnswerIs : Command → Task → Segments → Bool → List ℕ → Type 0
 AnswerIs (Canon form) task S holds bytes =
     (holds ≡ true)
@@ -218,8 +219,8 @@ HasJobAnswer (Show task) S = ⊤
 abbrev pub AreFrames : ℕ → List Segments → List ℕ → Type 0
 AreFrames most [] bytes = bytes ≡ []
 AreFrames most (S ∷ more) bytes =
-    (first : List ℕ) × (rest : List ℕ) × (bytes ≡ first ++ rest) × IsFrameOf S first × (total S ≤ most)
-    × AreFrames most more rest
+    (first : List ℕ) × (rest : List ℕ) × (bytes ≡ first ++ rest) × IsFrameOf S first
+    × (total S ≤ most) × AreFrames most more rest
 
 -- A job answers to messages with these bytes, one answer after the other, and with yes if each
 -- answer is yes.

@@ -206,7 +206,7 @@ fn answer<A: Allocator, S: ReaderSegments + Drop, W: Output>(
 
 /// Does `job` with message `number`, which is in `segments`: answers it like `answer`, or shows it
 /// like `show`. Tells at which of its pointers a message is refused, if it is at one.
-#[tactic(auto, using(crate::proofs::JobLemmas::answered_job, crate::proofs::JobLemmas::refused_job, crate::proofs::JobLemmas::shown_job, crate::proofs::JobLemmas::refused_counted))]
+#[tactic(auto, using(crate::proofs::JobLemmas::jobs))]
 pub(super) fn do_job<A: Allocator, W: Output>(
     memory: &mut Memory<A>,
     job: Job,
