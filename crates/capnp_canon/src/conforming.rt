@@ -6,6 +6,7 @@ ghost use Rattle.typed_streams.specs.TestedForms.{AreTestedAs};
 
 use crate::progress::{CountedInput, Session};
 use crate::schema::Schema;
+use capnp_arena::arena::HeapAllocator;
 use capnp_packing::buffered::{BufferedInput, BufferedOutput};
 use capnp_refusals::refusals::RefusedPointer;
 use capnp_streams::streams::{InputForm, Stop, StreamError, Task};
@@ -31,15 +32,25 @@ pub fn test_input<R: BufferedInput + Drop, W: BufferedOutput>(
         (stage_of R.Input W.Output input output.old) (W.contents output.new)) }
 {
     let alloc = session.rt.alloc();
+    let mut memory = HeapAllocator::new(alloc, 0);
     let (table, row) = (schema.table.words.as_slice(), schema.row);
     let mut input = CountedInput::new(input, session);
     match task.input_form {
-        InputForm::Frames => test_stream(alloc, table, row, task.limits, &mut input, output),
+        InputForm::Frames => test_stream(
+            alloc,
+            &mut memory,
+            table,
+            row,
+            task.limits,
+            &mut input,
+            output,
+        ),
         InputForm::PackedFrames => {
-            test_packed_stream(alloc, table, row, task.limits, input, output)
+            test_packed_stream(alloc, &mut memory, table, row, task.limits, input, output)
         }
         InputForm::RawWords => tested_one(test_raw_words(
             alloc,
+            &mut memory,
             table,
             row,
             task.limits,

@@ -84,17 +84,14 @@ fn run_request(
     }
 }
 
-/// Reports why `--schema` with the value `text` is refused, and how to get help, and returns status 2.
+/// Reports why `--schema` with the value `text` is refused, and how to get help, and returns
+/// status 2.
 fn report_schema_fault(rt: &HostRuntime, text: &str, fault: SchemaFault) -> ExitCode {
     match fault {
-        SchemaFault::MissingValue => {
-            print_pieces(rt, "option '", "--schema", "' needs a value", "", "");
-        }
-        SchemaFault::InvalidValue => {
-            print_pieces(rt, "invalid value '", text, "' for ", "--schema", "");
-        }
+        SchemaFault::MissingValue => print_about(rt, "option '", "--schema", "' needs a value"),
+        SchemaFault::InvalidValue => print_invalid_value(rt, text, "--schema"),
         SchemaFault::NotOfCommand(command) => {
-            print_pieces(rt, "'", command, "' has no option '", "--schema", "'");
+            print_both(rt, "'", command, "' has no option '", "--schema");
         }
     }
     print_error(rt, HINT)
@@ -121,48 +118,39 @@ fn report_usage_error(rt: &HostRuntime, args: &[String], wrong: WrongArgument) -
         None => "",
     };
     match wrong.fault {
-        ArgumentFault::MissingCommand => print_pieces(rt, "missing command", "", "", "", ""),
-        ArgumentFault::UnknownCommand => print_pieces(rt, "unknown command '", text, "'", "", ""),
-        ArgumentFault::UnknownOption => {
-            print_pieces(rt, "unrecognized option '", text, "'", "", "");
-        }
+        ArgumentFault::MissingCommand => print_about(rt, "missing command", "", ""),
+        ArgumentFault::UnknownCommand => print_about(rt, "unknown command '", text, "'"),
+        ArgumentFault::UnknownOption => print_about(rt, "unrecognized option '", text, "'"),
         ArgumentFault::MissingValue(option) => {
-            print_pieces(rt, "option '", option.text(), "' needs a value", "", "");
+            print_about(rt, "option '", option.text(), "' needs a value");
         }
-        ArgumentFault::InvalidValue(option) => {
-            print_pieces(rt, "invalid value '", text, "' for ", option.text(), "");
-        }
+        ArgumentFault::InvalidValue(option) => print_invalid_value(rt, text, option.text()),
         ArgumentFault::InvalidAssignment(option) => {
-            let value = assigned_value(text);
-            print_pieces(rt, "invalid value '", value, "' for ", option.text(), "");
+            print_invalid_value(rt, assigned_value(text), option.text());
         }
         ArgumentFault::UnwantedValue(option) => {
-            let end = "' doesn't allow a value";
-            print_pieces(rt, "option '", option.text(), end, "", "");
+            print_about(rt, "option '", option.text(), "' doesn't allow a value");
         }
         ArgumentFault::NotOfCommand(subcommand, option) => {
-            print_pieces(
+            print_both(
                 rt,
                 "'",
                 subcommand.text(),
                 "' has no option '",
                 option.text(),
-                "'",
             );
         }
         ArgumentFault::Excluded(first, second) => {
-            let middle = "' can't be combined with '";
-            print_pieces(rt, "'", first.text(), middle, second.text(), "'");
+            print_both(
+                rt,
+                "'",
+                first.text(),
+                "' can't be combined with '",
+                second.text(),
+            );
         }
         ArgumentFault::Needs(first, second) => {
-            print_pieces(
-                rt,
-                "option '",
-                first.text(),
-                "' needs '",
-                second.text(),
-                "'",
-            );
+            print_both(rt, "option '", first.text(), "' needs '", second.text());
         }
     }
     print_error(rt, HINT)
@@ -176,9 +164,20 @@ fn assigned_value(text: &str) -> &str {
     }
 }
 
-/// Writes a line to standard error, if possible: two words, and what is around them.
-fn print_pieces(rt: &HostRuntime, start: &str, first: &str, middle: &str, second: &str, end: &str) {
-    let _ = eprintln!(rt; "capnp_canon: {start}{first}{middle}{second}{end}");
+/// Writes a line to standard error, if possible: a word, and what is around it.
+fn print_about(rt: &HostRuntime, start: &str, word: &str, end: &str) {
+    let _ = eprintln!(rt; "capnp_canon: {start}{word}{end}");
+}
+
+/// Writes a line to standard error, if possible: two words, what is before each, and a quotation
+/// mark.
+fn print_both(rt: &HostRuntime, start: &str, first: &str, middle: &str, second: &str) {
+    let _ = eprintln!(rt; "capnp_canon: {start}{first}{middle}{second}'");
+}
+
+/// Writes to standard error, if possible, that `option` doesn't take `value`.
+fn print_invalid_value(rt: &HostRuntime, value: &str, option: &str) {
+    let _ = eprintln!(rt; "capnp_canon: invalid value '{value}' for {option}");
 }
 
 /// Does `task` with the messages of `files`, or of standard input if there are no files, and writes
@@ -260,8 +259,8 @@ fn diff(session: &Session<'_>, task: DiffTask, files: &[String]) -> ExitCode {
     flush_and_choose_exit_code(session, ended, &mut output, &seen)
 }
 
-/// Erases what shows the progress, flushes `output`, and returns the exit status of a program that has `ended` so. If `output`
-/// fails, reports this failure.
+/// Erases what shows the progress, flushes `output`, and returns the exit status of a program that
+/// has `ended` so. If `output` fails, reports this failure.
 fn flush_and_choose_exit_code<W: BufferedOutput>(
     session: &Session<'_>,
     ended: Result<bool, Unanswered>,

@@ -12,9 +12,8 @@ use Rattle.capnp_framing.proofs.WritingLemmas.{appends_both}
 use Rattle.capnp_framing.specs.declared.framing.frame_error.FrameError.TheVariants.{WriteFailed}
 use Rattle.capnp_packing.proofs.PackingLemmas.{kept_appends}
 use Rattle.capnp_streams.specs.Streams.{AreFrames, Stage}
-use Rattle.capnp_streams.proofs.FramesLemmas.{frames_behind}
+use Rattle.capnp_streams.proofs.FramesLemmas.{all_left, frame_is_there, frames_behind, front_has}
 use Rattle.capnp_streams.proofs.StreamLemmas.{appends_keeps, appends_none, begins, consumes_none, frames_both, length_framed}
-use Rattle.typed_streams.proofs.FrameLemmas.{all_left, frame_is_there, front_has}
 use Rattle.typed_streams.specs.Conforming.{AreConforming, AreTested, IsConforming, IsNoMisfit, StopsTest, Wanted, yes_line, yes_lines}
 use Rattle.typed_streams.specs.declared.conforming.ConformingFault.{ConformingFault}
 use Rattle.typed_streams.specs.declared.conforming.ConformingFault.TheVariants.{Frame, Misfit, TooManyMessages}

@@ -1,5 +1,4 @@
 pub mod ConformingLemmas
-pub mod FrameLemmas
 pub mod PackedLemmas
 pub mod RawLemmas
 pub mod WalkLemmas

@@ -8,8 +8,8 @@ use Rattle.capnp_packing.specs.declared.packing.place.Place.TheVariants.{Tag}
 use Rattle.capnp_streams.specs.Packed.{unpacked_known_input}
 use Rattle.capnp_streams.specs.Streams.{Stage}
 use Rattle.capnp_streams.proofs.PackedLemmas.{are_cut, device_failed}
+use Rattle.capnp_streams.proofs.FramesLemmas.{known_are_read, left_known}
 use Rattle.capnp_streams.proofs.StreamLemmas.{keeps_same}
-use Rattle.typed_streams.proofs.FrameLemmas.{known_are_read, left_known}
 use Rattle.typed_streams.specs.Conforming.{AreTested, CutsTest, EndsTest, StopsTest, Wanted}
 use Rattle.typed_streams.specs.declared.conforming.ConformingFault.{ConformingFault}
 use Rattle.typed_streams.specs.declared.conforming.ConformingFault.TheVariants.{Frame, Misfit, TooManyMessages}

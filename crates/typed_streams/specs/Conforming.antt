@@ -12,6 +12,7 @@ use Rattle.capnp_arena.specs.declared.arena.reader_arena_impl.ReaderOptions.{Rea
 use Rattle.capnp_framing.specs.Bare.{AreBareWords, NoBareWords}
 use Rattle.capnp_framing.specs.Frames.{IsFrameOf}
 use Rattle.capnp_framing.specs.Limits.{most_words}
+use Rattle.capnp_framing.specs.Memory.{frame_refusals}
 use Rattle.capnp_framing.specs.Reading.{NoFrame, total}
 use Rattle.capnp_framing.specs.declared.devices.Output.{Ghosts as OutputGhosts}
 use Rattle.capnp_framing.specs.declared.framing.frame_error.FrameError.TheVariants.{AllocationFailed as NoMemory}
@@ -90,9 +91,16 @@ pub record AreTested (w : Wanted) (old new : Stage) (count size : ℕ) : Type 0 
   pub conform : All (IsConforming w) messages
   pub written : Appends old.output new.output (yes_lines messages)
 
+-- How often memory was refused after a fault, if it was n times before: one more if there was none
+-- for the message that is read, otherwise n.
+abbrev pub refusals_of_test : ConformingFault → ℕ → ℕ
+refusals_of_test (Frame e) n = frame_refusals e n
+refusals_of_test (Misfit m) n = n
+refusals_of_test TooManyMessages n = n
+
 -- Why the message at the front of the remaining input isn't said to conform. Either there is no
--- frame, or memory runs out, or the input fails; or its frame is read, and nothing after it, and the
--- message doesn't conform, for the reason that is told.
+-- frame, or memory runs out, or the input fails; or its frame is read, and nothing behind it, and
+-- the message doesn't conform, for the reason that is told.
 abbrev pub StopsTest : Wanted → Option (List ℕ) → Option (List ℕ) → Bool → ConformingFault → Type 0
 StopsTest w old new failed (Frame e) =
     (e ≡ NoMemory) ⊎ ((e ≡ ReadFailed) × (failed ≡ true))

@@ -10,11 +10,13 @@ ghost use Rattle.capnp_packing.specs.Packing.{IsWhole, unpacked_bytes};
 ghost use Rattle.capnp_packing.specs.declared.packing.place.Place.TheVariants.{Tag};
 ghost use Rattle.capnp_streams.specs.Packed.{unpacked_stage};
 ghost use Rattle.capnp_streams.specs.Streams.{AreWorking, RunsToEnd, Stage, stage_of};
-ghost use Rattle.typed_streams.specs.Conforming.{AreConforming, AreConformingWords, AreRawWordsTested, AreTested, CutsTest, EndsTest, FailsToWrite, IsConforming, IsMisfitOf, IsNoMisfit, StopsRawTest, StopsTest, Wanted, yes_line};
+ghost use Rattle.typed_streams.specs.Conforming.{AreConforming, AreConformingWords, AreRawWordsTested, AreTested, CutsTest, EndsTest, FailsToWrite, IsConforming, IsMisfitOf, IsNoMisfit, StopsRawTest, StopsTest, Wanted, refusals_of_test, yes_line};
 
-use capnp_arena::arena::{ReaderArenaImpl, ReaderOptions, ReaderSegments};
+use capnp_arena::arena::{Allocator, ReaderArenaImpl, ReaderOptions, ReaderSegments};
 use capnp_framing::devices::{DeviceFault, Input, Output, write_all};
-use capnp_framing::framing::{FrameError, OwnedSegments, most_words, read_into, read_segment_into};
+use capnp_framing::framing::{
+    FrameError, OwnedSegments, most_words, read_into_with, read_segment_into_with,
+};
 use capnp_messages::messages::read_root;
 use capnp_packing::buffered::{BufferedInput, BufferedOutput, flush_before_waiting};
 use capnp_packing::packing::UnpackingInput;
@@ -60,9 +62,9 @@ pub struct ConformingStop {
 /// Tests whether the root of the message in `segments` means a value within `limits` that conforms
 /// to the row at `row` of `table`.
 ///
-/// Refuses like `read_root`, then at word 0 of segment 0, and like `conforms`: with the first pointer,
-/// in its order, that can't be read or doesn't conform. Precondition: `segments` has fewer than 2^32
-/// segments, each of fewer than 2^32 words.
+/// Refuses like `read_root`, then at word 0 of segment 0, and like `conforms`: with the first
+/// pointer, in its order, that can't be read or doesn't conform. Precondition: `segments` has fewer
+/// than 2^32 segments, each of fewer than 2^32 words.
 pub fn test_message<S: ReaderSegments + Drop>(
     table: &[u32],
     row: u32,
@@ -103,7 +105,8 @@ fn write_yes<W: Output>(output: &mut W) -> Result<(), DeviceFault>
 ///
 /// Precondition: the whole frame of the message is in the input's buffer, or the output has flushed
 /// all its bytes. So no read waits for a sender while the output still holds a line.
-fn test_next<R: BufferedInput, W: BufferedOutput>(
+fn test_next<A: Allocator, R: BufferedInput, W: BufferedOutput>(
+    allocator: &mut A,
     table: &[u32],
     row: u32,
     limits: ReaderOptions,
@@ -128,8 +131,11 @@ fn test_next<R: BufferedInput, W: BufferedOutput>(
         ⊎ (StopsTest (record { table = table.now; row = row; limits = limits })
         (R.remaining input.old) (R.remaining input.new) (R.has_failed input.new) e
         × Keeps (W.contents output.old) (W.contents output.new))) }
+    ensures kept { OnOk result (A.refusals allocator.new ≡ A.refusals allocator.old) }
+    ensures counted { IfErr result (λ e. A.refusals allocator.new
+        ≡ refusals_of_test e (A.refusals allocator.old)) }
 {
-    match read_into(input, most_words(limits), segments) {
+    match read_into_with(allocator, input, most_words(limits), segments) {
         Ok(false) => Ok(None),
         Ok(true) => match test_message(table, row, limits, &*segments) {
             Ok(()) => match write_yes(output) {
@@ -144,7 +150,8 @@ fn test_next<R: BufferedInput, W: BufferedOutput>(
 
 /// Flushes the lines so far, unless the next message is already in the input's buffer; then reads
 /// and tests this message. Returns `None` at the end of the input.
-fn flush_and_test_next<R: BufferedInput, W: BufferedOutput>(
+fn flush_and_test_next<A: Allocator, R: BufferedInput, W: BufferedOutput>(
+    allocator: &mut A,
     table: &[u32],
     row: u32,
     limits: ReaderOptions,
@@ -168,11 +175,14 @@ fn flush_and_test_next<R: BufferedInput, W: BufferedOutput>(
         ⊎ (StopsTest (record { table = table.now; row = row; limits = limits })
         (R.remaining input.old) (R.remaining input.new) (R.has_failed input.new) e
         × Keeps (W.contents output.old) (W.contents output.new))) }
+    ensures kept { OnOk result (A.refusals allocator.new ≡ A.refusals allocator.old) }
+    ensures counted { IfErr result (λ e. A.refusals allocator.new
+        ≡ refusals_of_test e (A.refusals allocator.old)) }
 {
     if flush_before_waiting(input, output).is_err() {
         return Err(ConformingFault::Frame(FrameError::WriteFailed));
     }
-    test_next(table, row, limits, input, segments, output)
+    test_next(allocator, table, row, limits, input, segments, output)
 }
 
 /// Tests each message of the input, a stream of frames, like `test_message`, and writes the line
@@ -183,10 +193,15 @@ fn flush_and_test_next<R: BufferedInput, W: BufferedOutput>(
 /// Stops at the first message that doesn't conform or whose frame can't be read, and then writes
 /// nothing about this message. If all messages of the input conform, stops only if memory runs out,
 /// if the input or the output fails, or if there are more messages than a `u64` can count. Before a
-/// read that may wait for input, flushes all lines. Memory comes from the heap, and is reused from
-/// one message to the next.
-pub fn test_stream<R: BufferedInput, W: BufferedOutput>(
+/// read that may wait for input, flushes all lines.
+///
+/// Memory for the frames read is reused from one message to the next. It comes from the heap; only
+/// if the heap has none, it is requested from `allocator`. If the test stops with
+/// `AllocationFailed`, the allocator has counted one more refusal (`A.refusals`); after any other
+/// result it has counted none.
+pub fn test_stream<A: Allocator, R: BufferedInput, W: BufferedOutput>(
     alloc: Global,
+    allocator: &mut A,
     table: &[u32],
     row: u32,
     limits: ReaderOptions,
@@ -194,7 +209,8 @@ pub fn test_stream<R: BufferedInput, W: BufferedOutput>(
     output: &mut W,
 ) -> Result<TestedMessages, ConformingStop>
     requires { AreWorking R.Input W.Output input.old output.old }
-    ensures done { IfOk result (λ t. AreTested (record { table = table.now; row = row; limits = limits })
+    ensures done { IfOk result (λ t.
+        AreTested (record { table = table.now; row = row; limits = limits })
         (stage_of R.Input W.Output input.old output.old)
         (record { input = Some []; output = W.contents output.new }) t.messages t.bytes) }
     ensures ended { OnOk result (RunsToEnd R.Input W.Output input.old input.new output.new) }
@@ -209,11 +225,14 @@ pub fn test_stream<R: BufferedInput, W: BufferedOutput>(
         → IsNoMisfit s.fault) }
     ensures failed { IfErr result (λ s. R.has_failed input.new ≡ true
         → s.fault ≡ ConformingFault.Frame ReadFailed) }
+    ensures kept { OnOk result (A.refusals allocator.new ≡ A.refusals allocator.old) }
+    ensures counted { IfErr result (λ s. A.refusals allocator.new
+        ≡ refusals_of_test s.fault (A.refusals allocator.old)) }
 {
     let mut segments = OwnedSegments::new(alloc);
     let mut bytes = 0u64;
     for messages in 0..u64::MAX {
-        match flush_and_test_next(table, row, limits, input, &mut segments, output) {
+        match flush_and_test_next(allocator, table, row, limits, input, &mut segments, output) {
             Ok(None) => return Ok(TestedMessages { messages, bytes }),
             Ok(Some(size)) => bytes = bytes.saturating_add(size),
             Err(fault) => {
@@ -249,10 +268,11 @@ fn stop_after(tested: TestedMessages, error: FrameError) -> ConformingStop
 /// unpacked bytes like `test_stream`. Precondition: neither `packed` nor `output` has failed.
 ///
 /// If the packed bytes end inside a packed word, or where the count after a tag is missing, stops
-/// with `Truncated`, after the messages whose frames are complete. The fault `ReadFailed` means that
-/// reading from `packed` failed.
-pub fn test_packed_stream<R: Input + Drop, W: BufferedOutput>(
+/// with `Truncated`, after the messages whose frames are complete. The fault `ReadFailed` means
+/// that reading from `packed` failed.
+pub fn test_packed_stream<A: Allocator, R: Input + Drop, W: BufferedOutput>(
     alloc: Global,
+    allocator: &mut A,
     table: &[u32],
     row: u32,
     limits: ReaderOptions,
@@ -260,7 +280,8 @@ pub fn test_packed_stream<R: Input + Drop, W: BufferedOutput>(
     output: &mut W,
 ) -> Result<TestedMessages, ConformingStop>
     requires { AreWorking R.Input W.Output packed output.old }
-    ensures done { IfOk result (λ t. AreTested (record { table = table.now; row = row; limits = limits })
+    ensures done { IfOk result (λ t.
+        AreTested (record { table = table.now; row = row; limits = limits })
         (unpacked_stage (stage_of R.Input W.Output packed output.old))
         (record { input = Some []; output = W.contents output.new }) t.messages t.bytes) }
     ensures whole { OnOk result (IfSome (R.remaining packed) (IsWhole Tag)) }
@@ -278,9 +299,12 @@ pub fn test_packed_stream<R: Input + Drop, W: BufferedOutput>(
         × AreConforming (record { table = table.now; row = row; limits = limits })
         (unpacked_bytes Tag bytes)) → IsNoMisfit s.fault) }
     ensures works { OnOk result (W.has_failed output.new ≡ false) }
+    ensures kept { OnOk result (A.refusals allocator.new ≡ A.refusals allocator.old) }
+    ensures counted { IfErr result (λ s. A.refusals allocator.new
+        ≡ refusals_of_test s.fault (A.refusals allocator.old)) }
 {
     let mut input = UnpackingInput::new(packed);
-    match test_stream(alloc, table, row, limits, &mut input, output) {
+    match test_stream(alloc, allocator, table, row, limits, &mut input, output) {
         Ok(tested) => match input.is_whole_at_end() {
             Ok(true) => Ok(tested),
             Ok(false) => Err(stop_after(tested, FrameError::Truncated)),
@@ -297,8 +321,12 @@ pub fn test_packed_stream<R: Input + Drop, W: BufferedOutput>(
 /// Refusals: `Truncated` if the bytes end inside a word; `MessageTooLong` if there are more words
 /// than the limit; the misfit of the message; `WriteFailed` if the output failed. After any refusal
 /// except `WriteFailed`, nothing has been written.
-pub fn test_raw_words<R: Input, W: Output>(
+///
+/// Memory for the bytes read comes from the heap; only if the heap has none, it is requested from
+/// `allocator`, which counts refusals like that of `test_stream`.
+pub fn test_raw_words<A: Allocator, R: Input, W: Output>(
     alloc: Global,
+    allocator: &mut A,
     table: &[u32],
     row: u32,
     limits: ReaderOptions,
@@ -320,9 +348,12 @@ pub fn test_raw_words<R: Input, W: Output>(
         → IsNoMisfit fault) }
     ensures failed { IfErr result (λ fault. R.has_failed input.new ≡ true
         → fault ≡ ConformingFault.Frame ReadFailed) }
+    ensures kept { OnOk result (A.refusals allocator.new ≡ A.refusals allocator.old) }
+    ensures counted { IfErr result (λ fault. A.refusals allocator.new
+        ≡ refusals_of_test fault (A.refusals allocator.old)) }
 {
     let mut segments = OwnedSegments::new(alloc);
-    match read_segment_into(input, most_words(limits), &mut segments) {
+    match read_segment_into_with(allocator, input, most_words(limits), &mut segments) {
         Ok(()) => match test_message(table, row, limits, &segments) {
             Ok(()) => match write_yes(output) {
                 Ok(()) => Ok(()),

@@ -1,4 +1,4 @@
-use Rattle.std.proofs.Common.{◌≡◌, ◌-◌, ◌^◌, inr, refl, rules}
+use Rattle.std.proofs.Common.{◌≡◌, ◌∙◌, ◌-◌, ◌^◌, inr, refl, rules}
 use Rattle.capnp_framing.proofs.WholenessLemmas.{keeps_whole, keeps_whole_both}
 use Rattle.capnp_streams.proofs.StreamLemmas.{keeps_same}
 use Rattle.typed_streams.proofs.ConformingLemmas.{all_tested, ends_test, more_tested, none_tested, step_conforming}
@@ -9,6 +9,7 @@ loop-messages-init g c = record {
   done = none_tested _ _;
   whole = keeps_whole _;
   work = c.requires;
+  kept = refl;
 }
 
 pub loop-messages-preserved : goal.loop-messages-preserved
@@ -18,6 +19,7 @@ loop-messages-preserved g c =
       done = rw c.saturating_add-bytes.ensures all;
       whole = keeps_whole_both _ _ _ c.loop-messages.invariant.whole c.in-Ok-Some.ensures.whole;
       work = c.in-Ok-Some.ensures.work;
+      kept = c.in-Ok-Some.ensures.kept ∙ c.loop-messages.invariant.kept;
     }
 
 pub returns-in-Ok-None-clause-done : goal.returns-in-Ok-None-clause-done

@@ -1,3 +1,4 @@
+use Rattle.std.proofs.Common.{◌≡◌}
 use Rattle.capnp_framing.specs.Wholeness.{KeepsWhole}
 use Rattle.capnp_streams.specs.Streams.{AreWorking, stage_of}
 use Rattle.typed_streams.specs.Conforming.{AreTested}
@@ -11,4 +12,5 @@ invariant-loop-messages g l = record {
       l.messages l.bytes;
   whole : KeepsWhole (g.R.Input.ends_whole l.fn.input) (g.R.Input.ends_whole l.input);
   work : AreWorking g.R.Input g.W.Output l.input l.output;
+  kept : g.A.Allocator.refusals l.allocator ≡ g.A.Allocator.refusals l.fn.allocator;
 }
