@@ -32,6 +32,8 @@ The parts, by default all of them:
 - `annotated`: names that annotations give are those of the code, and standard error names those that can't be used.
 - `odd`: the code for schemas with odd names and declarations, and for a request of a later schema compiler, is compiled like
   `headers`, and standard error names what isn't written.
+- `files`: the same, by one command, for files that import one another, in folders, two with the same name, some that declare the same
+  names, and some with words of languages, with every kind of constant, with scopes in scopes, and with comments that look like code.
 
 The generator is by default `capnpc-layout-c` at the top, and the library `generated/capnp_layout.c`. The last line is `N passed,
 M failed`."""
@@ -53,7 +55,7 @@ from schema import Schema
 HERE = pathlib.Path(__file__).resolve().parent
 BINDINGS = run.TOP / 'bindings/c'
 SCHEMAS = 'addressbook', 'fields'
-PARTS = 'ours', 'headers', 'book', 'fields', 'random', 'large', 'versions', 'altered', 'checks', 'names', 'bugs', 'annotated', 'odd'
+PARTS = 'ours', 'headers', 'book', 'fields', 'random', 'large', 'versions', 'altered', 'checks', 'names', 'bugs', 'annotated', 'odd', 'files'
 STRICT = '-Wall -Wextra -Wpedantic -Wconversion -Wshadow -Werror'.split()
 COMPILERS = ('gcc', '-std=c99'), ('clang', '-std=c99'), ('g++', '-std=c++11', '-x', 'c++'), ('clang++', '-std=c++11', '-x', 'c++')
 # The planted bugs: what is wrong, what is before it, a part of the code, and what takes the place of that.
@@ -402,6 +404,13 @@ def odd(options, room, counts):
     strictly(folder, sorted(it.name for it in folder.glob('*.h')), room, counts, 'odd')
     wanted = (HERE / 'odd/skipped_c.txt').read_text(encoding='utf-8')
     counts.say(said == wanted, 'odd: standard error names what is not written' if said == wanted else f'odd: standard error is {said}')
+
+
+def files(options, room, counts):
+    folder, said = room / 'files', run.generate_files(options.generator, room / 'files')
+    wanted = (HERE / 'files/skipped_c.txt').read_text(encoding='utf-8')
+    counts.say(said == wanted, 'files: standard error names what is not written' if said == wanted else f'files: standard error is {said}')
+    strictly(folder, sorted(it.name for it in folder.glob('*.h')), room, counts, 'files')
 
 
 # What annotated/named.c prints of these.

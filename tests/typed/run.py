@@ -8,9 +8,9 @@ The parts, by default all of them:
 - `ours`: for `schema.capnp` and `addressbook.capnp` the generator writes the crates `schema_reading`, `addressbook_reading`,
   `addressbook_building` and `addressbook_checking`, byte for byte; and `capnpc-rattle` writes the first three of them.
 - `fields`: the readers, the builders and the readers of checked messages of `fields.capnp` are proved at the first check, without
-  a proof. A program over the readers prints M random messages (by default 200), made by `capnp encode`, as `capnp decode` prints
-  them, and so does one over the readers of checked messages. Another copies them, by readers and builders: `capnp decode` prints
-  the copies as it prints the messages, and C++ makes the same canonical words of both.
+  a proof, and `rt fmt` leaves them as they are. A program over the readers prints M random messages (by default 200), made by
+  `capnp encode`, as `capnp decode` prints them, and so does one over the readers of checked messages. Another copies them, by
+  readers and builders: `capnp decode` prints the copies as it prints the messages, and C++ makes the same canonical words of both.
 - `bugs`: planted bugs in these three crates of `fields.capnp`, one of each kind for each kind of field, are refused by a clause of
   that field's call, or because a call requires something of the table.
 - `random`: like `fields`, for N random schemas (by default 2) of S structs (by default 8). Each struct in turn is the root of a
@@ -162,6 +162,17 @@ def generate(path, folder, generator='capnpc-rattle-checked'):
     source = pathlib.Path(path).parent
     subprocess.run(['capnp', 'compile', f'--src-prefix={source}', f'-o{TOP}/{generator}:{folder}', path], check=True)
     return pathlib.Path(path).stem
+
+
+def generate_files(generator, folder):
+    """Makes a folder with the code for the schemas of the folder `files`, by one command, and returns what the generator says."""
+    here = TOP / 'tests/typed/files'
+    folder.mkdir(parents=True)
+    schemas = sorted(here.rglob('*.capnp'))
+    ran = subprocess.run(['capnp', 'compile', f'-I{here}', f'--src-prefix={here}', f'-o{generator}:{folder}', *schemas], stderr=subprocess.PIPE, encoding='utf-8')
+    if ran.returncode:
+        sys.exit(f'files: {ran.stderr}')
+    return ran.stderr
 
 
 def tree(folder):
@@ -367,6 +378,14 @@ class Generated(Programs):
         (self.crates / name / 'src/main.rt').write_text(text, encoding='utf-8')
         add(self.folder, f'{name}: {PROGRAM} {CHECKING} {BUILT_ON} {self.readers} {self.builders} {self.checking} anyhow')
 
+    def lay_out(self, counts):
+        """Lets `rt fmt` lay out what is generated: it has to leave that as it is."""
+        changed = []
+        for name in (self.readers, self.builders, self.checking):
+            run = subprocess.run(['rt', 'fmt'], cwd=self.crates / name, stdout=subprocess.PIPE, stderr=subprocess.STDOUT, encoding='utf-8')
+            changed += [f'{name}/{file}' for file in re.findall(r'formatted (\S+)', run.stdout)]
+        counts.say(not changed, f'{self.file}: the three crates are in the layout of rt fmt' + (f', but not {" ".join(changed)}' if changed else ''))
+
     def prove(self, name, jobs, counts):
         """Proves a crate, which has no proof, and prints what a call costs. Builds the library of the readers."""
         before = prover_seconds()
@@ -451,6 +470,7 @@ def plant(made, crate, of, bugs, jobs, counts):
 
 def trip(made, count, seed, jobs, counts):
     """Prints and copies random messages of a schema, and proves what is generated for it. With 0 jobs it proves nothing."""
+    made.lay_out(counts)
     if count:
         frames = messages.frames(made.schema, made.roots, count, seed)
         made.read(frames, '', counts)

@@ -28,6 +28,8 @@ The parts, by default all of them:
   for build scripts passes clippy; and it says which program is missing, or what `capnp` refuses.
 - `odd`: schemas with odd names and declarations, and a request of a later schema compiler, are compiled without a warning, also with
   plain values, and standard error names what isn't written.
+- `files`: the same, by one command, for files that import one another, in folders, two with the same name, some that declare the same
+  names, and some with words of languages, with every kind of constant, with scopes in scopes, and with comments that look like code.
 
 The generator is by default `capnpc-layout-rust` at the top. The last line is `N passed, M failed`."""
 import argparse
@@ -51,7 +53,7 @@ HERE = pathlib.Path(__file__).resolve().parent
 LAYOUT = run.TOP / 'bindings/rust/capnp_layout'
 BUILD = run.TOP / 'bindings/rust/capnpc_layout_rust'
 SCHEMAS = 'addressbook', 'fields', 'recursive'
-PARTS = 'ours', 'package', 'fields', 'random', 'large', 'versions', 'altered', 'bugs', 'build', 'odd'
+PARTS = 'ours', 'package', 'fields', 'random', 'large', 'versions', 'altered', 'bugs', 'build', 'odd', 'files'
 MANIFEST = f'''[package]
 name = "made"
 version = "0.0.0"
@@ -319,6 +321,14 @@ def odd(options, room, counts):
     compiled(with_values(options.generator, room), [*schemas, HERE / 'rust/values.capnp'], room / 'odd_values', room / 'target', counts)
 
 
+def files(options, room, counts):
+    for name, generator in ('files', options.generator), ('files_values', with_values(options.generator, room)):
+        said = run.generate_files(generator, room / name / 'made')
+        wanted = (HERE / 'files/skipped.txt').read_text(encoding='utf-8')
+        counts.say(said == wanted, f'{name}: standard error names what is not written' if said == wanted else f'{name}: standard error is {said}')
+        compiled(generator, [], room / name, room / 'target', counts, room / name / 'made')
+
+
 def compiled(generator, schemas, folder, target, counts, made=None):
     """Compiles the code for schemas, with that of a folder `made`, and returns what the generator says."""
     (folder / 'src').mkdir(parents=True)
@@ -329,7 +339,7 @@ def compiled(generator, schemas, folder, target, counts, made=None):
     (folder / 'src/main.rs').write_text(''.join(f'mod {it};\n' for it in modules) + '\nfn main() {}\n', encoding='utf-8')
     (folder / 'Cargo.toml').write_text(MANIFEST.replace('"made"', f'"{folder.name}"'), encoding='utf-8')
     passed, text = cargo(['clippy'], folder, target)
-    counts.say(passed, f'odd: the code for {len(modules)} schemas is compiled without a warning of rustc or clippy' if passed else text[-3000:])
+    counts.say(passed, f'{folder.name}: the code for {len(modules)} schemas is compiled without a warning of rustc or clippy' if passed else text[-3000:])
     return said
 
 

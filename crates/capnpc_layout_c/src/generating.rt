@@ -3,12 +3,12 @@
 use crate::bytes::push_hex;
 use crate::checks::table_of_file;
 use crate::comments::{push_comment, push_escaped};
-use crate::files::{add_headers, file_of, is_foreign};
+use crate::files::{Files, clash, file_of, lacks_header, links_of};
+use crate::members::is_wrapped;
 use crate::readers::{Schema, comment_of, tag_of};
 use crate::templates;
 use capnpc_schema::files::File;
-use capnpc_schema::model::{Constant, Field, FieldKind, Node, NodeKind, Struct, find_node};
-use capnpc_schema::names::Names;
+use capnpc_schema::model::{Constant, Field, FieldKind, Node, NodeKind, Struct, Type, find_node};
 use capnpc_schema::request::SchemaFile;
 use capnpc_schema::text::{Text, Values};
 use std::alloc::{AllocError, Global};
@@ -30,22 +30,22 @@ pub fn generate(
 ) -> Result<Generated, AllocError> {
     let mut files = Vec::new(alloc);
     let mut skipped = Text::new(alloc);
-    let mut made = Names::new(alloc);
+    let links = links_of(alloc, nodes);
+    skipped.note_if_failed(links.has_failed);
     for file in requested {
+        let name = file.name.as_str();
         if let Some(node) = find_node(nodes, file.id) {
-            if made.contains(node.item.as_str()) {
-                let name = file.name.as_str();
+            if node.item.as_str().is_empty() {
                 skipped.push_all(&[name, " isn't written: another file has its name\n"]);
             } else {
-                made.add(alloc, node.item.as_str());
-                let file = generate_file(alloc, nodes, node, file.name.as_str(), &mut skipped)?;
+                let includes = links.included_by(nodes, node.id);
+                let file = generate_file(alloc, nodes, node, name, includes, &mut skipped)?;
                 if files.push(file).is_err() {
                     return Err(AllocError);
                 }
             }
         }
     }
-    skipped.note_if_failed(made.has_failed);
     let skipped = skipped.into_string()?;
     Ok(Generated { files, skipped })
 }
@@ -56,6 +56,7 @@ fn generate_file(
     nodes: &[Node],
     file: &Node,
     name: &str,
+    includes: Files,
     skipped: &mut Text,
 ) -> Result<File, AllocError> {
     let mut schema = Schema {
@@ -65,11 +66,13 @@ fn generate_file(
         skipped: Text::new(alloc),
         file_id: hex_of(alloc, file.id),
         table: table_of_file(alloc, nodes, file.id),
+        file: file.id,
+        includes,
     };
     schema.note_names(file.id);
     schema.write_head(name);
     schema.write_types(file.id);
-    schema.write_includes(file.id);
+    schema.write_includes();
     schema.write_table();
     schema.write_calls(file.id);
     schema.text.push(templates::CLOSE);
@@ -130,22 +133,18 @@ impl<'m> Schema<'m> {
 
     // Writes what includes the headers of other files, whose types fields have. They may include this one,
     // so its own types are before them.
-    fn write_includes(&mut self, file: u64) {
-        let mut headers = Names::new(self.alloc);
-        for node in self.nodes {
-            if file_of(self.nodes, node.id) == file {
-                add_headers(self.alloc, self.nodes, file, node, &mut headers);
-            }
-        }
-        self.text.note_if_failed(headers.has_failed);
-        if headers.as_slice().is_empty() {
+    fn write_includes(&mut self) {
+        self.text.note_if_failed(self.includes.has_failed);
+        if self.includes.ids.is_empty() {
             return;
         }
         self.text.push(templates::CLOSE);
         self.text.push("\n");
-        for header in headers.as_slice() {
-            self.text
-                .push_all(&["#include \"", header.as_str(), "\"\n"]);
+        for id in self.includes.ids.iter() {
+            if let Some(node) = find_node(self.nodes, *id) {
+                self.text
+                    .push_all(&["#include \"", node.item.as_str(), "\"\n"]);
+            }
         }
         self.text.push(templates::OPEN);
     }
@@ -156,8 +155,8 @@ impl<'m> Schema<'m> {
         for node in nodes {
             if file_of(nodes, node.id) == file {
                 match &node.kind {
-                    NodeKind::Struct(it) => self.write_struct(node, it, file),
-                    NodeKind::Const(constant) => self.write_const(node, constant, file),
+                    NodeKind::Struct(it) => self.write_struct(node, it),
+                    NodeKind::Const(constant) => self.write_const(node, constant),
                     NodeKind::Other(what) => self.skip(node, "", what),
                     _ => {}
                 }
@@ -166,7 +165,7 @@ impl<'m> Schema<'m> {
     }
 
     // Writes the calls of a struct.
-    fn write_struct(&mut self, node: &Node, it: &Struct, file: u64) {
+    fn write_struct(&mut self, node: &Node, it: &Struct) {
         let mut values = self.node_values(node);
         if !it.is_group {
             values.put_number("words", u64::from(it.data_words));
@@ -179,7 +178,7 @@ impl<'m> Schema<'m> {
             self.push(templates::WHICH, &values);
         }
         for (i, field) in it.fields.iter().enumerate() {
-            let why = self.reason_of(field, file);
+            let why = self.reason_of(field);
             if why.is_empty() {
                 let comment = comment_of(node, i);
                 let mut values = self.field_values(node, it, field);
@@ -191,27 +190,44 @@ impl<'m> Schema<'m> {
         }
     }
 
-    // Why a field of a file has no calls; empty if it has some.
-    fn reason_of(&self, field: &Field, file: u64) -> &'static str {
-        if let FieldKind::Slot(slot) = &field.kind
-            && is_foreign(self.nodes, file, slot.of)
-        {
-            return FOREIGN;
+    // Why a field has no calls; empty if it has some.
+    fn reason_of(&self, field: &Field) -> &'static str {
+        let why = match &field.kind {
+            FieldKind::Slot(slot) => self.foreign_reason(slot.of),
+            _ => "",
+        };
+        if why.is_empty() {
+            self.skip_reason(field)
+        } else {
+            why
         }
-        self.skip_reason(field)
+    }
+
+    // Why a type of another file can't be used in this one; empty if it can.
+    fn foreign_reason(&self, of: Type) -> &'static str {
+        let other = file_of(self.nodes, of.id);
+        let is_here = other == 0 || other == self.file || self.includes.contains(other);
+        if is_here || !is_wrapped(of) {
+            ""
+        } else if lacks_header(self.nodes, other) {
+            "another file has the name of the file of its type"
+        } else if clash(self.nodes, self.file, other) {
+            "the file of its type has a declaration with a name of this file"
+        } else {
+            "its type comes with a second declaration of a name"
+        }
     }
 
     // Writes a constant, or a comment in place of one that isn't known.
-    fn write_const(&mut self, node: &Node, constant: &Option<Constant>, file: u64) {
+    fn write_const(&mut self, node: &Node, constant: &Option<Constant>) {
         let Some(constant) = constant else {
             self.skip(node, "", "its type or its value is unknown");
             return;
         };
-        let why = if is_foreign(self.nodes, file, constant.of) {
-            FOREIGN
-        } else {
-            self.lacking_of_constant(constant)
-        };
+        let mut why = self.foreign_reason(constant.of);
+        if why.is_empty() {
+            why = self.lacking_of_constant(constant);
+        }
         if why.is_empty() {
             self.write_constant(node, constant);
         } else {
@@ -219,9 +235,6 @@ impl<'m> Schema<'m> {
         }
     }
 }
-
-// Why a field isn't written whose type is in a file with names of this one.
-const FOREIGN: &str = "the file of its type has a declaration with a name of this file";
 
 // The digits of an id.
 fn hex_of(alloc: Global, id: u64) -> Text {

@@ -23,19 +23,16 @@ use anyhow::Result;
 use capnpc_schema::files::write_files;
 use capnpc_schema::input::read_standard_input;
 use capnpc_schema::noted::Noted;
+use capnpc_schema::request::Request;
 use generating::generate;
 use naming::name_nodes;
 
 fn main(rt: HostRuntime) -> Result<()> {
     let mut noted = Noted::new(rt.alloc());
-    let mut request = read_standard_input(&rt, &mut noted)?;
-    name_nodes(&mut request.nodes, &mut noted);
+    let Request { files, mut nodes } = read_standard_input(&rt, &mut noted)?;
+    name_nodes(&mut nodes, files.as_slice(), &mut noted);
     noted.finish()?;
-    let made = generate(
-        rt.alloc(),
-        request.files.as_slice(),
-        request.nodes.as_slice(),
-    )?;
+    let made = generate(rt.alloc(), files.as_slice(), nodes.as_slice())?;
     write_files(&rt, made.files.as_slice())?;
     for line in made.skipped.lines() {
         eprintln!(rt; "{line}")?;

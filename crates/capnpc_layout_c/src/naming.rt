@@ -4,6 +4,7 @@ use crate::annotated::{member_name, name_in_scope, prefix_of};
 use crate::words::{CALL_WORDS, INNER_WORDS, OUTER_WORDS, is_word};
 use capnpc_schema::model::{Node, NodeKind, find_node};
 use capnpc_schema::noted::Noted;
+use capnpc_schema::request::SchemaFile;
 use capnpc_schema::text::Text;
 use std::alloc::Global;
 
@@ -15,14 +16,51 @@ struct NodeNames {
     in_calls: Vec<String>,
 }
 
-/// Names each declaration, and the fields of structs. A file's name is that of its header.
-pub fn name_nodes(nodes: &mut Vec<Node>, noted: &mut Noted) {
+/// Names each declaration, and the fields of structs. A file's name is that of its header; empty if
+/// another file has that header.
+pub fn name_nodes(nodes: &mut Vec<Node>, requested: &[SchemaFile], noted: &mut Noted) {
     for i in 0..nodes.len() {
         let names = names_of(nodes.as_slice(), i, noted);
         if let Some(node) = nodes.get_mut(i) {
             set_names(node, names);
         }
     }
+    for i in 0..nodes.len() {
+        if has_taken_header(nodes.as_slice(), requested, i)
+            && let Some(node) = nodes.get_mut(i)
+        {
+            node.item = String::new(noted.alloc);
+        }
+    }
+}
+
+// Whether declaration `index` is a file whose header is another file's.
+fn has_taken_header(nodes: &[Node], requested: &[SchemaFile], index: usize) -> bool {
+    match nodes.get(index) {
+        Some(node) => {
+            matches!(&node.kind, NodeKind::File)
+                && header_owner(nodes, requested, node.item.as_str()) != node.id
+        }
+        None => false,
+    }
+}
+
+// The id of the file that has a header of this name: the first one that is requested, or the first of
+// all if none is; 0 if there is none.
+fn header_owner(nodes: &[Node], requested: &[SchemaFile], header: &str) -> u64 {
+    for file in requested {
+        if let Some(node) = find_node(nodes, file.id)
+            && node.item.as_str() == header
+        {
+            return node.id;
+        }
+    }
+    for node in nodes {
+        if matches!(&node.kind, NodeKind::File) && node.item.as_str() == header {
+            return node.id;
+        }
+    }
+    0
 }
 
 // The names of declaration `index`.

@@ -1,6 +1,7 @@
 //! Writes the calls of structs that read.
 
 use crate::comments::push_comment;
+use crate::files::Files;
 use crate::forms::put_slot;
 use crate::members::{is_member, is_pointer};
 use crate::templates;
@@ -25,6 +26,10 @@ pub struct Schema<'m> {
     pub file_id: Text,
     /// The table of the file's structs.
     pub table: Table,
+    /// The id of the file.
+    pub file: u64,
+    /// The files whose headers it includes.
+    pub includes: Files,
 }
 
 impl<'m> Schema<'m> {

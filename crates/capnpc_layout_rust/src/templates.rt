@@ -19,7 +19,7 @@ const NAMES: &str = \"\\
 
 /// What is before each item outside of modules: programs needn't use all of them, and the names are those
 /// of the schema.
-pub const ALLOW: &str = "#[allow(dead_code, clippy::style)]
+pub const ALLOW: &str = "#[allow(dead_code, clippy::style, clippy::type_complexity)]
 ";
 
 /// The type of a reader.

@@ -10,15 +10,18 @@ use crate::forms::form_of;
 use crate::imports::CHECKING;
 use crate::names::{TABLE_MODULE, has_enum};
 use crate::output::Output;
+use crate::readers::Generated;
 use crate::tables::{kind_word, number_list, push_words, row_comments};
 use crate::unions::{MemberTag, member_list, set_condition, tags_of, tests_of};
 use crate::writing::Module;
-use capnpc_schema::files::File;
 use capnpc_schema::model::{Default, Field, FieldKind, Node, NodeKind, Slot, Struct};
 use capnpc_schema::table::{Table, UTF8, table_of};
 use capnpc_schema::text::{Text, Values};
 use capnpc_schema::types::BaseKind;
 use std::alloc::{AllocError, Global};
+
+// The most columns of a call in one line, and of its arguments.
+const CALL_WIDTH: usize = 60;
 
 // A struct or a group whose readers are written.
 #[derive(Clone, Copy)]
@@ -39,11 +42,13 @@ pub struct Checking<'m> {
     reading: &'m str,
     // The table of the schema.
     table: Table,
+    // A line for each field that has a getter only in the crate of readers.
+    skipped: Text,
 }
 
 impl<'m> Checking<'m> {
-    /// Returns a crate without files. `reading` is the name of the crate of readers, and `ids` those of the
-    /// structs that come first in the table.
+    /// Returns a crate without files. `reading` is the name of the crate of readers, and `ids` those of
+    /// the structs that come first in the table.
     pub fn new(
         alloc: Global,
         name: &'m str,
@@ -56,12 +61,13 @@ impl<'m> Checking<'m> {
             output: Output::new(alloc, name, reading, nodes, CHECKING),
             reading,
             table: table_of(alloc, nodes, ids, UTF8),
+            skipped: Text::new(alloc),
         }
     }
 
     /// Generates all files, and returns them. `stem` is the name of the schema's file, without its
     /// ending.
-    pub fn generate(mut self, stem: &str) -> Result<Vec<File>, AllocError> {
+    pub fn generate(mut self, stem: &str) -> Result<Generated, AllocError> {
         let nodes = self.output.nodes;
         for node in nodes {
             if let NodeKind::Struct(it) = &node.kind {
@@ -76,11 +82,14 @@ impl<'m> Checking<'m> {
         let Checking {
             mut output,
             table,
+            skipped,
             ..
         } = self;
         output.note_if_failed(table.has_failed);
         output.finish_crate(stem, definitions);
-        output.into_files()
+        let files = output.into_files()?;
+        let skipped = skipped.into_string()?;
+        Ok(Generated { files, skipped })
     }
 
     // Writes the module of the table.
@@ -105,13 +114,15 @@ impl<'m> Checking<'m> {
             return;
         };
         let mut module = Module::new(self.alloc, node.module.as_str());
-        let values = self.struct_values(node, row);
+        let mut values = self.struct_values(node, row);
         if !it.is_group {
             module.has_table = true;
             module.body.push_filled(templates::ROOT, &values);
         }
         module.begin_item();
-        module.body.push_filled(templates::AS_READER, &values);
+        module.body.push(templates::AS_READER_ABOUT);
+        values.put_lines(templates::AS_READER_PARTS);
+        push_getter(&mut module, templates::AS_READER, &values);
         self.write_getters(&mut module, Place { node, it, row });
         let methods = module.take_body();
         module.modules.add_once(self.alloc, TABLE_MODULE);
@@ -188,9 +199,11 @@ impl<'m> Checking<'m> {
         match &field.kind {
             FieldKind::Group(id) => self.write_group_getter(module, *id, values),
             FieldKind::Slot(slot) => {
-                let why = why_unchecked(self.output.nodes, slot);
+                let why = skip_reason(self.output.nodes, slot);
                 if !why.is_empty() {
                     push_skip_comment(module, why, values);
+                } else if has_other_text(slot) {
+                    self.skip_text(module, values);
                 } else if let Some(form) = checked_form_of(slot) {
                     self.write_pointer(module, place, field, slot, form, values);
                 } else if !slot.of.is_void() {
@@ -199,6 +212,16 @@ impl<'m> Checking<'m> {
             }
             FieldKind::Unknown => push_skip_comment(module, "its type is unknown", values),
         }
+    }
+
+    // Writes a comment in place of the getter of a text whose default value isn't UTF-8, and notes that.
+    // The crate of readers has one, which returns bytes.
+    fn skip_text(&mut self, module: &mut Module, values: &mut Values) {
+        push_skip_comment(module, "its default value isn't UTF-8", values);
+        self.skipped.push_filled(
+            "~full~.~name~ isn't written for checked messages: ~why~\n",
+            values,
+        );
     }
 
     // Writes the getter of a group.
@@ -214,7 +237,7 @@ impl<'m> Checking<'m> {
         push_getter(module, templates::GROUP, values);
     }
 
-    // Writes the getter of a field that no check concerns: it is that of a reader that isn't checked.
+    // Writes the getter of a field that no check concerns, as in a reader that isn't checked.
     fn write_plain(
         &mut self,
         module: &mut Module,
@@ -272,8 +295,13 @@ impl<'m> Checking<'m> {
             values.put_lines("gives=~type~\nit=result");
         }
         values.put_lines("holds=~holds_start~~it~~holds_end~");
+        values.put_lines(if is_member {
+            templates::MEMBER_CALL
+        } else {
+            templates::CALL
+        });
         let mut read = Text::new(self.alloc);
-        read.push_filled(read_template(form, is_member), values);
+        read.push_filled(read_template(form, is_member, layout_of(values)), values);
         values.put_text("read", read);
         push_getter(module, template(is_member, may_be_null), values);
         write_has(module, values);
@@ -319,13 +347,11 @@ impl<'m> Checking<'m> {
     }
 }
 
-// Why a field has no getter; empty if it has one.
-fn why_unchecked(nodes: &[Node], slot: &Slot) -> &'static str {
+// Whether a field is a text whose default value isn't UTF-8.
+fn has_other_text(slot: &Slot) -> bool {
     match &slot.default {
-        Default::Bytes(bytes) if is_text(slot) && str::from_utf8(bytes.as_slice()).is_err() => {
-            "its default value isn't UTF-8"
-        }
-        _ => skip_reason(nodes, slot),
+        Default::Bytes(bytes) => is_text(slot) && str::from_utf8(bytes.as_slice()).is_err(),
+        _ => false,
     }
 }
 
@@ -367,12 +393,36 @@ fn template(is_member: bool, may_be_null: bool) -> &'static str {
     }
 }
 
+// How `rt fmt` lays out the call that reads a field.
+#[derive(Clone, Copy)]
+enum Layout {
+    OneLine,
+    TwoLines,
+    LineOfEachArgument,
+}
+
+// The layout of the call that `CALL` or `MEMBER_CALL` has put.
+fn layout_of(values: &Values) -> Layout {
+    let args = values.get("args").chars().count();
+    let around = "self.checked.()".len();
+    let name = values.get("reads").len();
+    if around.saturating_add(name).saturating_add(args) <= CALL_WIDTH {
+        Layout::OneLine
+    } else if args <= CALL_WIDTH {
+        Layout::TwoLines
+    } else {
+        Layout::LineOfEachArgument
+    }
+}
+
 // The expression that reads a field.
-fn read_template(form: &CheckedForm, is_member: bool) -> &'static str {
-    match (is_member, form.is_declared) {
-        (true, true) => templates::READ_CHECKED_MEMBER,
-        (true, false) => templates::READ_MEMBER,
-        (false, true) => templates::READ_CHECKED,
-        (false, false) => templates::READ,
+fn read_template(form: &CheckedForm, is_member: bool, layout: Layout) -> &'static str {
+    match (form.is_declared, is_member, layout) {
+        (true, true, Layout::OneLine) => templates::READ_CHECKED_MEMBER,
+        (true, true, _) => templates::READ_CHECKED_MEMBER_IN_LINES,
+        (true, false, _) => templates::READ_CHECKED,
+        (false, _, Layout::OneLine) => templates::READ,
+        (false, _, Layout::TwoLines) => templates::READ_IN_TWO,
+        (false, _, Layout::LineOfEachArgument) => templates::READ_IN_LINES,
     }
 }

@@ -6,9 +6,9 @@ use capnpc_schema::types::BaseKind;
 
 /// What is done with a pointer that the check has seen.
 pub struct CheckedForm {
-    /// What the getter puts: the type that it returns, `type`; the end of the name of the call that reads it,
-    /// `getter`; the field of the type that has the result of this call, `field`; and what is around the result in the
-    /// clause that says what it is.
+    /// What the getter puts: the type that it returns, `type`; the end of the name of the call that
+    /// reads it, `getter`; the field of the type that has the result of this call, `field`; and what is
+    /// around the result in the clause that says what it is.
     pub read: Lines,
     /// Whether its contract names the module of its declaration.
     pub is_declared: bool,
@@ -46,6 +46,7 @@ const TEXT_OR: &CheckedForm = &CheckedForm {
     read: "type=&'a str
 getter=str_or
 default=, ~text~
+default_line=,~line~    ~text~
 holds_end=.now ≡ ~spec~ t",
     is_declared: false,
 };
@@ -63,6 +64,7 @@ const DATA_OR: &CheckedForm = &CheckedForm {
     read: "type=&'a [u8]
 getter=data_or
 default=, ~bytes~
+default_line=,~line~    ~bytes~
 holds_end=.now ≡ ~spec~ t",
     is_declared: false,
 };

@@ -54,10 +54,17 @@ pub const ROOT: &str = "    /// Checks a message against the schema, once, and r
     }
 ";
 
-/// The call that returns the reader of a struct or a group.
-pub const AS_READER: &str = "    /// Returns the reader whose getters check what they read.
-    pub fn as_reader(&self) -> ~reading~::~module~::Reader<'a, A>
-        ensures { result.reader ≡ self.now.checked.reader }
+/// The comment of the call that returns the reader of a struct or a group.
+pub const AS_READER_ABOUT: &str = "    /// Returns the reader whose getters check what they read.
+";
+
+/// What this call puts.
+pub const AS_READER_PARTS: Lines = "call=as_reader
+params=&self
+gives=~reading~::~module~::Reader<'a, A>";
+
+/// Its clauses and its body.
+pub const AS_READER: &str = "        ensures { result.reader ≡ self.now.checked.reader }
     {
         ~reading~::~module~::Reader {
             reader: self.checked.reader,
@@ -196,20 +203,44 @@ pub const MEMBER_UNLESS_NULL: &str =
     }
 ";
 
-/// How a pointer is read.
-pub const READ: &str = "self.checked.get_~getter~(~index~~default~)";
+/// What the call that reads a pointer puts: its name, and its arguments in one line and in several.
+pub const CALL: Lines = "reads=get_~getter~
+args=~index~~default~
+arg_lines=~index~~default_line~";
+
+/// The same for a member of a union.
+pub const MEMBER_CALL: Lines = "reads=get_member_~getter~
+args=&[~members~], ~index~~default~
+arg_lines=&[~members~],~line~    ~index~~default_line~";
+
+/// How a pointer is read, in one line.
+pub const READ: &str = "self.checked.~reads~(~args~)";
+
+/// The same in two lines.
+pub const READ_IN_TWO: &str = "self.checked
+            .~reads~(~args~)";
+
+/// The same with a line for each argument.
+pub const READ_IN_LINES: &str = "self.checked.~reads~(
+            ~arg_lines~,
+        )";
 
 /// How a struct or a list of structs is read.
 pub const READ_CHECKED: &str = "~made~ {
-            ~field~: self.checked.get_~getter~(~index~),
+            ~field~: self.checked.~reads~(~args~),
         }";
 
-/// How a member of a union is read.
-pub const READ_MEMBER: &str = "self.checked.get_member_~getter~(&[~members~], ~index~~default~)";
-
 /// How a member of a union is read that is a struct or a list of structs.
-pub const READ_CHECKED_MEMBER: &str =
-    "match self.checked.get_member_~getter~(&[~members~], ~index~) {
+pub const READ_CHECKED_MEMBER: &str = "match self.checked.~reads~(~args~) {
+            Some(~field~) => Some(~made~ { ~field~ }),
+            None => None,
+        }";
+
+/// The same with a longer call.
+pub const READ_CHECKED_MEMBER_IN_LINES: &str = "match self
+            .checked
+            .~reads~(~args~)
+        {
             Some(~field~) => Some(~made~ { ~field~ }),
             None => None,
         }";

@@ -75,8 +75,8 @@ fn generate_builders(alloc: Global, request: &Request) -> Result<Vec<File>, Allo
     Builders::new(alloc, name.as_str(), reading.as_str(), nodes).generate(stem)
 }
 
-/// Returns the files of the crate of readers of checked messages.
-fn generate_checking(alloc: Global, request: &Request) -> Result<Vec<File>, AllocError> {
+/// Generates the crate of readers of checked messages.
+fn generate_checking(alloc: Global, request: &Request) -> Result<Generated, AllocError> {
     let stem = stem(request.first_file());
     let name = crate_name(alloc, stem, "_checking")?;
     let reading = crate_name(alloc, stem, "_reading")?;
@@ -122,6 +122,14 @@ fn asks_checked(rt: &HostRuntime) -> Result<bool> {
     Ok(is_checked)
 }
 
+/// Prints lines on standard error.
+fn print_lines(rt: &HostRuntime, lines: &str) -> Result<()> {
+    for line in lines.lines() {
+        eprintln!(rt; "{line}")?;
+    }
+    Ok(())
+}
+
 fn main(rt: HostRuntime) -> Result<()> {
     let is_checked = asks_checked(&rt)?;
     let request = read_named_request(&rt)?;
@@ -130,14 +138,12 @@ fn main(rt: HostRuntime) -> Result<()> {
     let unwritten = unwritten_lines(rt.alloc(), request.nodes.as_slice(), request.first_id())?;
     write_files(&rt, readers.files.as_slice())?;
     write_files(&rt, builders.as_slice())?;
+    print_lines(&rt, unwritten.as_str())?;
+    print_lines(&rt, readers.skipped.as_str())?;
     if is_checked {
-        write_files(&rt, generate_checking(rt.alloc(), &request)?.as_slice())?;
-    }
-    for line in unwritten.lines() {
-        eprintln!(rt; "{line}")?;
-    }
-    for line in readers.skipped.lines() {
-        eprintln!(rt; "{line}")?;
+        let checking = generate_checking(rt.alloc(), &request)?;
+        write_files(&rt, checking.files.as_slice())?;
+        print_lines(&rt, checking.skipped.as_str())?;
     }
     Ok(())
 }

@@ -8,8 +8,8 @@ use std::alloc::Global;
 // The tag of a kind word that names a test.
 const TEST: u32 = 7;
 
-// The most columns of a line, and of a list of numbers in one line.
-const WIDTH: u64 = 100;
+// The most columns of a line of numbers, and of a list of them in one line.
+const WIDTH: u64 = 99;
 
 const SHORT: usize = 60;
 
@@ -71,8 +71,8 @@ pub fn row_comments(alloc: Global, table: &Table) -> Text {
     lines
 }
 
-/// The kind word of pointer `index` of the row at `row` if the tags of unions have the numbers of `known`:
-/// the word after all tests of them. A test of another tag counts as one that fails.
+/// The kind word of pointer `index` of the row at `row` if the tags of unions have the numbers of
+/// `known`: the word after all tests of them. A test of another tag counts as one that fails.
 pub fn kind_word(table: &Table, row: u32, index: u32, known: &[Test]) -> u32 {
     let mut word = word_at(table, row.saturating_add(1).saturating_add(index));
     for _ in 0..table.words.len() {

@@ -178,7 +178,8 @@ impl Module {
         self.modules.sort();
         push_module_imports(alloc, &mut text, "crate", &self.modules);
         self.outside.sort();
-        push_module_imports(alloc, &mut text, reading, &self.outside);
+        let mut outside = Text::new(alloc);
+        push_module_imports(alloc, &mut outside, reading, &self.outside);
         let mut uses = Text::new(alloc);
         push_imports(
             alloc,
@@ -189,7 +190,10 @@ impl Module {
             "::",
         );
         if !uses.as_str().is_empty() {
-            push_joined_imports(&mut text, uses.as_str());
+            let mut joined = Text::new(alloc);
+            push_joined_imports(&mut joined, uses.as_str());
+            push_in_order(&mut text, joined.as_str(), outside.as_str(), reading);
+            text.note_if_failed(joined.has_failed || outside.has_failed);
             text.push("\n");
         }
         text.push(self.body.as_str());
@@ -231,6 +235,32 @@ fn put_module_path(alloc: Global, module: &str, values: &mut Values) {
     values.put_text("path", path);
 }
 
+// Appends imports, and among them those of the crate `reading`, in the order of the crates' names.
+fn push_in_order(to: &mut Text, uses: &str, outside: &str, reading: &str) {
+    let mut is_left = true;
+    for line in uses.split_inclusive('\n') {
+        if is_left && is_import_after(line, reading) {
+            to.push(outside);
+            is_left = false;
+        }
+        to.push(line);
+    }
+    if is_left {
+        to.push(outside);
+    }
+}
+
+// Whether a line begins the import of a crate whose name comes after this one.
+fn is_import_after(line: &str, name: &str) -> bool {
+    match line.strip_prefix("use ") {
+        Some(path) => match path.split_once("::") {
+            Some((first, _)) => first > name,
+            None => false,
+        },
+        None => false,
+    }
+}
+
 // Appends imports, with the two that `rt fmt` makes one of as one.
 fn push_joined_imports(text: &mut Text, uses: &str) {
     match uses.split_once(BOTH) {
@@ -252,7 +282,7 @@ fn push_module_imports(alloc: Global, to: &mut Text, from: &str, modules: &Names
     let count = modules.as_slice().len();
     if count == 1 {
         to.push_filled("use ~from~::~all~;\n", &values);
-    } else if count > 1 && values.get("all").len().saturating_add(from.len()) <= 91 {
+    } else if count > 1 && values.get("all").len().saturating_add(from.len()) <= 89 {
         to.push_filled("use ~from~::{~all~};\n", &values);
     } else if count > 1 {
         push_module_import_lines(to, from, modules.as_slice());
