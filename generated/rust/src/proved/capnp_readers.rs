@@ -2,4 +2,4 @@
 
 pub mod readers;
 
-pub use crate::proved::capnp_objects::{object, source};
+pub use crate::proved::capnp_pointers::{object, source};

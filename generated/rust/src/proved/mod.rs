@@ -18,22 +18,22 @@
 #[cfg(not(target_pointer_width = "64"))]
 compile_error!("the proofs are about 64-bit addresses, so this crate needs a target that has them");
 
+pub mod capnp_allocation;
 pub mod capnp_arena;
 pub mod capnp_arena_traits;
 pub mod capnp_builders;
 pub mod capnp_canonical;
-pub mod capnp_contents;
 pub mod capnp_copies;
 #[cfg(feature = "programs")]
 pub mod capnp_edits;
 pub mod capnp_framing;
+pub mod capnp_in_place;
 #[cfg(feature = "programs")]
 pub mod capnp_layout;
-pub mod capnp_making;
 pub mod capnp_messages;
 pub mod capnp_numbers;
-pub mod capnp_objects;
 pub mod capnp_packing;
+pub mod capnp_pointers;
 pub mod capnp_readers;
 pub mod capnp_refusals;
 #[cfg(feature = "programs")]

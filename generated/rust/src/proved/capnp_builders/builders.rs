@@ -10,13 +10,13 @@ pub mod places;
 mod primitive_element;
 mod struct_builder;
 
+use crate::proved::capnp_allocation::making;
 use crate::proved::capnp_arena_traits::arena::{BuilderArena, ReaderArena, WordPlace};
 use crate::proved::capnp_builders::{copy, fields};
-use crate::proved::capnp_contents::existing::ExistingBytes;
-use crate::proved::capnp_contents::{bytes, existing, initializing, lent};
-use crate::proved::capnp_making::making;
-use crate::proved::capnp_objects::object::Place;
-use crate::proved::capnp_objects::source::Source;
+use crate::proved::capnp_in_place::existing::ExistingBytes;
+use crate::proved::capnp_in_place::{bytes, existing, initializing, lent};
+use crate::proved::capnp_pointers::object::Place;
+use crate::proved::capnp_pointers::source::Source;
 use crate::proved::capnp_readers::readers::{
     ListPlace, ListReader, PointerReader, StructPlace, StructReader,
 };

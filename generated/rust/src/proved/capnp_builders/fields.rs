@@ -8,7 +8,7 @@
 use crate::proved::capnp_arena_traits::arena::BuilderArena;
 use crate::proved::capnp_builders::builders::found::find_list;
 use crate::proved::capnp_builders::builders::{list_builder, NO_SECTIONS};
-use crate::proved::capnp_contents::{bytes, initializing, numbers};
+use crate::proved::capnp_in_place::{bytes, initializing, numbers};
 use crate::proved::capnp_readers::readers::{ListPlace, StructPlace};
 use crate::proved::capnp_words::error::ErrorKind;
 use crate::proved::capnp_words::primitive::Primitive;

@@ -6,7 +6,7 @@ use crate::proved::capnp_canonical::refusal::Refusal;
 use crate::proved::capnp_canonical::taking::{lend_words, Room};
 use crate::proved::capnp_messages::messages;
 use crate::proved::capnp_messages::messages::Form;
-use crate::proved::capnp_objects::pointers::{CanonicalFault, MessageSize};
+use crate::proved::capnp_pointers::pointers::{CanonicalFault, MessageSize};
 use crate::proved::support::alloc::Global;
 
 /// The limits for reading a message.

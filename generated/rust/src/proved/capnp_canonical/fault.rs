@@ -1,6 +1,6 @@
 //! The fault of a message that isn't canonical, in the form for C.
 
-use crate::proved::capnp_objects::pointers::{CanonicalFault, CanonicalFaultReason};
+use crate::proved::capnp_pointers::pointers::{CanonicalFault, CanonicalFaultReason};
 
 /// Why and where a message isn't canonical.
 #[repr(C)]

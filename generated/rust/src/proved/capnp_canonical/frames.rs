@@ -8,7 +8,7 @@ use crate::proved::capnp_framing::framing::{
     read_from_flat_slice, size_from_prefix, FrameSegments,
 };
 use crate::proved::capnp_messages::messages::Form;
-use crate::proved::capnp_objects::pointers::{CanonicalFault, MessageSize};
+use crate::proved::capnp_pointers::pointers::{CanonicalFault, MessageSize};
 use crate::proved::support::alloc::Global;
 
 /// Returns the message whose frame is at the front of `bytes`. Refuses a message of more than

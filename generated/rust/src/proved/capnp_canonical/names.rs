@@ -2,7 +2,7 @@
 
 use crate::proved::capnp_canonical::refusal::Refusal;
 use crate::proved::capnp_framing::framing::FrameError;
-use crate::proved::capnp_objects::pointers::CanonicalFaultReason;
+use crate::proved::capnp_pointers::pointers::CanonicalFaultReason;
 use crate::proved::capnp_words::error::ErrorKind;
 
 /// The refusals of reading and writing a frame, in the order of their numbers, from 16 on.

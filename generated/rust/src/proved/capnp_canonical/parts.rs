@@ -10,7 +10,7 @@ use crate::proved::capnp_canonical::taking::{lend_part_words, Room};
 use crate::proved::capnp_canonical::words::message_of;
 use crate::proved::capnp_messages::messages;
 use crate::proved::capnp_messages::messages::Form;
-use crate::proved::capnp_objects::pointers::MessageSize;
+use crate::proved::capnp_pointers::pointers::MessageSize;
 use crate::proved::support::alloc::Global;
 
 /// Makes the canonical copy of the part of the message in `segments` to which `path` leads, and

@@ -4,7 +4,7 @@ use crate::proved::capnp_arena::arena::{ReaderSegments, SegmentArray};
 use crate::proved::capnp_canonical::calls::{check, copy, size, Limits};
 use crate::proved::capnp_canonical::refusal::Refusal;
 use crate::proved::capnp_messages::messages::Form;
-use crate::proved::capnp_objects::pointers::{CanonicalFault, MessageSize};
+use crate::proved::capnp_pointers::pointers::{CanonicalFault, MessageSize};
 use crate::proved::capnp_words::error::ErrorKind;
 use crate::proved::support::alloc::Global;
 

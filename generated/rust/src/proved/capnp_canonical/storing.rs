@@ -1,7 +1,7 @@
 //! What a function for C does with what it made: it stores that, and returns a number.
 
 use crate::proved::capnp_canonical::refusal::Refusal;
-use crate::proved::capnp_objects::pointers::MessageSize;
+use crate::proved::capnp_pointers::pointers::MessageSize;
 
 /// Stores in `to` what a call made, or `otherwise` if it is refused. Returns 0, or the number of
 /// the refusal.

@@ -1,7 +1,7 @@
 //! Parses limits from arguments, and writes numbers, sizes and extents as text.
 
 use crate::proved::capnp_framing::devices::{write_all, DeviceFault, Output};
-use crate::proved::capnp_objects::pointers::{Extent, MessageSize};
+use crate::proved::capnp_pointers::pointers::{Extent, MessageSize};
 
 /// Parses a nesting limit: an `i32` in decimal digits with an optional `-`. Returns `None` for any
 /// other text, also for one with a `+`.

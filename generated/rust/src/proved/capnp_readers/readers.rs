@@ -8,12 +8,12 @@ mod struct_reader;
 mod target;
 
 use crate::proved::capnp_arena_traits::arena::ReaderArena;
-use crate::proved::capnp_objects::object::{Expected, Object, Place};
-use crate::proved::capnp_objects::pointers::Pointer;
-pub use crate::proved::capnp_objects::pointers::{
+use crate::proved::capnp_pointers::object::{Expected, Object, Place};
+use crate::proved::capnp_pointers::pointers::Pointer;
+pub use crate::proved::capnp_pointers::pointers::{
     CanonicalFault, CanonicalFaultReason, MessageSize, PointerPlace,
 };
-use crate::proved::capnp_objects::source::Source;
+use crate::proved::capnp_pointers::source::Source;
 use crate::proved::capnp_words::error::ErrorKind;
 use crate::proved::capnp_words::read_limiter::ReadLimiter;
 use crate::proved::capnp_words::wire_pointer::{ElementSize, PointerType, StructSize};

@@ -5,7 +5,7 @@ mod search;
 
 use crate::proved::capnp_arena::arena::{ReaderArenaImpl, ReaderOptions, ReaderSegments};
 use crate::proved::capnp_messages::messages::{read_root, Command};
-use crate::proved::capnp_objects::object::Purpose;
+use crate::proved::capnp_pointers::object::Purpose;
 use crate::proved::capnp_words::error::ErrorKind;
 use crate::proved::capnp_words::read_limiter::ReadLimiter;
 pub use search::{search_value, Demands, RefusedPointer};

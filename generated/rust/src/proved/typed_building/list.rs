@@ -3,7 +3,7 @@
 use crate::proved::capnp_arena_traits::arena::BuilderArena;
 pub use crate::proved::capnp_builders::fields::set_element;
 use crate::proved::capnp_builders::{builders, fields};
-use crate::proved::capnp_contents::numbers;
+use crate::proved::capnp_in_place::numbers;
 use crate::proved::capnp_readers::readers::{ListPlace, StructPlace};
 use crate::proved::capnp_words::error::ErrorKind;
 use crate::proved::capnp_words::wire_pointer::{ElementSize, StructSize};

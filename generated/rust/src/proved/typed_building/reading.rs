@@ -1,8 +1,8 @@
 //! What a struct of a message being built holds.
 
+use crate::proved::capnp_allocation::landing::pointer_word;
 use crate::proved::capnp_arena_traits::arena::BuilderArena;
-use crate::proved::capnp_contents::{existing, numbers};
-use crate::proved::capnp_making::landing::pointer_word;
+use crate::proved::capnp_in_place::{existing, numbers};
 use crate::proved::capnp_readers::readers::StructPlace;
 use crate::proved::capnp_words::error::ErrorKind;
 use crate::proved::capnp_words::mask::Mask;

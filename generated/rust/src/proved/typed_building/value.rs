@@ -1,12 +1,12 @@
 //! The fields of a struct of a message being built.
 
+use crate::proved::capnp_allocation::making;
 use crate::proved::capnp_arena_traits::arena::BuilderArena;
 use crate::proved::capnp_builders::fields;
 pub use crate::proved::capnp_builders::fields::{
     init_list, init_root, init_struct, init_struct_list, set_bool, set_data, set_number, set_text,
 };
-use crate::proved::capnp_contents::initializing;
-use crate::proved::capnp_making::making;
+use crate::proved::capnp_in_place::initializing;
 use crate::proved::capnp_readers::readers::{ListPlace, StructPlace};
 use crate::proved::capnp_words::error::ErrorKind;
 use crate::proved::capnp_words::mask::Mask;

@@ -2,7 +2,7 @@
 //! charge nothing.
 
 use crate::proved::capnp_arena_traits::arena::ReaderArena;
-use crate::proved::capnp_objects::pointers::Pointer;
+use crate::proved::capnp_pointers::pointers::Pointer;
 use crate::proved::capnp_readers::readers::{ListReader, PrimitiveElement, StructReader};
 use crate::proved::capnp_words::error::ErrorKind;
 use crate::proved::capnp_words::read_limiter::ReadLimiter;

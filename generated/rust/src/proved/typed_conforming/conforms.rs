@@ -1,9 +1,9 @@
 //! The walk that tests whether a value conforms to a schema.
 
 use crate::proved::capnp_arena_traits::arena::ReaderArena;
-use crate::proved::capnp_objects::nesting::one_level_less;
-use crate::proved::capnp_objects::object::{Object, Place, PointerWord};
-use crate::proved::capnp_objects::pointers::Pointer;
+use crate::proved::capnp_pointers::nesting::one_level_less;
+use crate::proved::capnp_pointers::object::{Object, Place, PointerWord};
+use crate::proved::capnp_pointers::pointers::Pointer;
 use crate::proved::capnp_words::error::ErrorKind;
 use crate::proved::capnp_words::read_limiter::ReadLimiter;
 use crate::proved::capnp_words::wire_pointer::{

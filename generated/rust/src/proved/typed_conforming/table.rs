@@ -1,6 +1,6 @@
 //! Reads a schema's table: what a pointer may lead to.
 
-use crate::proved::capnp_objects::object::Place;
+use crate::proved::capnp_pointers::object::Place;
 use crate::proved::capnp_words::wire_pointer::ElementSize;
 use crate::proved::capnp_words::words::word_at;
 use crate::proved::typed_conforming::schema::Kind;

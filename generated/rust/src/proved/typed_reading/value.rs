@@ -1,7 +1,7 @@
 //! The root of a message, and the fields of a struct that is read.
 
 use crate::proved::capnp_arena_traits::arena::ReaderArena;
-use crate::proved::capnp_objects::source::Source;
+use crate::proved::capnp_pointers::source::Source;
 use crate::proved::capnp_readers::readers::{PointerReader, StructReader};
 use crate::proved::capnp_words::error::ErrorKind;
 use crate::proved::capnp_words::mask::Mask;

@@ -1,9 +1,9 @@
 //! Overwrites the data section of a struct with that of another, and clears the struct's pointers
 //! (encoding specification, "Structs").
 
+use crate::proved::capnp_allocation::making::clear;
 use crate::proved::capnp_arena_traits::arena::BuilderArena;
-use crate::proved::capnp_contents::numbers::{set_bit, set_number};
-use crate::proved::capnp_making::making::clear;
+use crate::proved::capnp_in_place::numbers::{set_bit, set_number};
 use crate::proved::capnp_readers::readers::StructPlace;
 use crate::proved::capnp_words::lanes;
 

@@ -1,10 +1,10 @@
 //! Replaces null pointers by copies of a field's default value (encoding specification, "Default
 //! Values").
 
+use crate::proved::capnp_allocation::landing::pointer_word;
 use crate::proved::capnp_arena_traits::arena::{BuilderArena, WordPlace};
 use crate::proved::capnp_builders::copy;
 use crate::proved::capnp_copies::form::{CopyForm, Destination};
-use crate::proved::capnp_making::landing::pointer_word;
 use crate::proved::capnp_readers::readers::PointerReader;
 use crate::proved::capnp_words::error::ErrorKind;
 use crate::proved::capnp_words::read_limiter::ReadLimiter;

@@ -3,7 +3,7 @@
 use super::places::list_place;
 use super::NO_SECTIONS;
 use crate::proved::capnp_arena_traits::arena::BuilderArena;
-use crate::proved::capnp_contents::existing::{self, are_inside, ExistingBytes, ExistingList};
+use crate::proved::capnp_in_place::existing::{self, are_inside, ExistingBytes, ExistingList};
 use crate::proved::capnp_readers::readers::ListPlace;
 use crate::proved::capnp_words::error::ErrorKind;
 use crate::proved::capnp_words::wire_pointer::ElementSize;

@@ -2,7 +2,7 @@
 
 use crate::proved::capnp_arena_traits::arena::BuilderArena;
 use crate::proved::capnp_builders::builders::{PointerBuilder, StructBuilder};
-use crate::proved::capnp_contents::numbers;
+use crate::proved::capnp_in_place::numbers;
 use crate::proved::capnp_readers::readers::{ListPlace, ListReader, StructPlace};
 use crate::proved::capnp_words::primitive::Primitive;
 use crate::proved::capnp_words::wire_pointer::{

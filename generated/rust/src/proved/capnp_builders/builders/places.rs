@@ -1,6 +1,6 @@
 //! The places that builders have, made from structs and lists that were found in a message.
 
-use crate::proved::capnp_contents::existing::{ExistingList, ExistingStruct};
+use crate::proved::capnp_in_place::existing::{ExistingList, ExistingStruct};
 use crate::proved::capnp_readers::readers::{ListPlace, StructPlace};
 
 /// Returns the place for a `StructBuilder` of the struct `found`.

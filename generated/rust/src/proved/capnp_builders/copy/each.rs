@@ -2,7 +2,7 @@
 
 use crate::proved::capnp_arena_traits::arena::{BuilderArena, ReaderArena, WordPlace};
 use crate::proved::capnp_copies::copy::{copy_value, place_past};
-use crate::proved::capnp_objects::pointers::Pointer;
+use crate::proved::capnp_pointers::pointers::Pointer;
 use crate::proved::capnp_words::error::ErrorKind;
 use crate::proved::capnp_words::read_limiter::ReadLimiter;
 

@@ -7,7 +7,7 @@ use crate::proved::capnp_copies::copy::{
 };
 use crate::proved::capnp_copies::form::{CopyForm, Destination};
 use crate::proved::capnp_copies::widths::StructList;
-use crate::proved::capnp_objects::pointers::Pointer;
+use crate::proved::capnp_pointers::pointers::Pointer;
 use crate::proved::capnp_readers::readers::ListReader;
 use crate::proved::capnp_words::error::ErrorKind;
 use crate::proved::capnp_words::read_limiter::ReadLimiter;

@@ -1,12 +1,12 @@
 //! Copies a struct that a `StructReader` reads (encoding specification, "Structs" and
 //! "Canonicalization").
 
+use crate::proved::capnp_allocation::making::make_struct;
 use crate::proved::capnp_arena_traits::arena::{BuilderArena, ReaderArena, WordPlace};
 use crate::proved::capnp_builders::section::{kept_words, write_section};
 use crate::proved::capnp_copies::copy::{clear_if_refused, copy_children};
 use crate::proved::capnp_copies::form::{CopyForm, Destination};
-use crate::proved::capnp_making::making::make_struct;
-use crate::proved::capnp_objects::pointers::Pointer;
+use crate::proved::capnp_pointers::pointers::Pointer;
 use crate::proved::capnp_readers::readers::StructReader;
 use crate::proved::capnp_words::error::ErrorKind;
 use crate::proved::capnp_words::read_limiter::ReadLimiter;

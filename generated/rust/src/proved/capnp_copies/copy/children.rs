@@ -5,8 +5,8 @@ use super::places::place_past;
 use super::structs::copy_struct;
 use crate::proved::capnp_arena_traits::arena::{BuilderArena, ReaderArena, WordPlace};
 use crate::proved::capnp_copies::form::{CopyForm, Destination};
-use crate::proved::capnp_objects::object::{Place, PointerWord};
-use crate::proved::capnp_objects::pointers::Pointer;
+use crate::proved::capnp_pointers::object::{Place, PointerWord};
+use crate::proved::capnp_pointers::pointers::Pointer;
 use crate::proved::capnp_words::error::ErrorKind;
 use crate::proved::capnp_words::read_limiter::ReadLimiter;
 use crate::proved::capnp_words::wire_pointer::{

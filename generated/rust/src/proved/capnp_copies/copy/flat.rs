@@ -1,8 +1,8 @@
 //! Copies a list of numbers: its words, with zeros after the last number (encoding specification,
 //! "Lists" and "Canonicalization").
 
+use crate::proved::capnp_allocation::making::make_list;
 use crate::proved::capnp_arena_traits::arena::{copy_words, set_word, BuilderArena, WordPlace};
-use crate::proved::capnp_making::making::make_list;
 use crate::proved::capnp_words::error::ErrorKind;
 use crate::proved::capnp_words::wire_pointer::{data_bits_per_element, ElementSize};
 use crate::proved::capnp_words::words;

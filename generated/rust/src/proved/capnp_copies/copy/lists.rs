@@ -3,11 +3,11 @@
 
 use super::children::copy_children_inline;
 use super::elements::copy_elements;
+use crate::proved::capnp_allocation::making::{make_list, make_struct_list};
 use crate::proved::capnp_arena_traits::arena::{BuilderArena, ReaderArena, WordPlace};
 use crate::proved::capnp_copies::form::{CopyForm, Destination};
 use crate::proved::capnp_copies::widths::{least_widths, ElementSizes, StructList};
-use crate::proved::capnp_making::making::{make_list, make_struct_list};
-use crate::proved::capnp_objects::pointers::Pointer;
+use crate::proved::capnp_pointers::pointers::Pointer;
 use crate::proved::capnp_words::error::ErrorKind;
 use crate::proved::capnp_words::read_limiter::ReadLimiter;
 use crate::proved::capnp_words::wire_pointer::{ElementSize, StructSize};

@@ -1,7 +1,7 @@
 //! Clears what a refused copy has made.
 
+use crate::proved::capnp_allocation::making::clear;
 use crate::proved::capnp_arena_traits::arena::{BuilderArena, WordPlace};
-use crate::proved::capnp_making::making::clear;
 use crate::proved::capnp_words::error::ErrorKind;
 
 /// Ends a copy to the pointer at `to`. If the copy was refused, makes the pointer null, and zeroes

@@ -2,11 +2,11 @@
 
 use super::children::copy_children;
 use super::elements::put_words;
+use crate::proved::capnp_allocation::making::make_struct;
 use crate::proved::capnp_arena_traits::arena::{BuilderArena, ReaderArena, WordPlace};
 use crate::proved::capnp_copies::form::{CopyForm, Destination};
-use crate::proved::capnp_making::making::make_struct;
-use crate::proved::capnp_objects::object::Place;
-use crate::proved::capnp_objects::pointers::Pointer;
+use crate::proved::capnp_pointers::object::Place;
+use crate::proved::capnp_pointers::pointers::Pointer;
 use crate::proved::capnp_words::error::ErrorKind;
 use crate::proved::capnp_words::read_limiter::ReadLimiter;
 use crate::proved::capnp_words::wire_pointer::StructSize;

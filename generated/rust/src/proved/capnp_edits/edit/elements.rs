@@ -3,11 +3,11 @@
 use crate::proved::capnp_arena::arena::BuilderArena;
 use crate::proved::capnp_builders::builders::places::list_place;
 use crate::proved::capnp_builders::builders::{ListBuilder, PrimitiveElement};
-use crate::proved::capnp_contents::existing;
-use crate::proved::capnp_contents::existing::{ExistingBytes, ExistingList};
-use crate::proved::capnp_contents::numbers::set_number;
 use crate::proved::capnp_edits::edit::path::has_words;
 use crate::proved::capnp_edits::edit::tasks::{Number, Part};
+use crate::proved::capnp_in_place::existing;
+use crate::proved::capnp_in_place::existing::{ExistingBytes, ExistingList};
+use crate::proved::capnp_in_place::numbers::set_number;
 use crate::proved::capnp_readers::readers::PointerPlace;
 use crate::proved::capnp_words::error::ErrorKind;
 use crate::proved::capnp_words::wire_pointer::{data_bits_per_element, ElementSize};

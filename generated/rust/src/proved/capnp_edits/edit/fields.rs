@@ -1,9 +1,9 @@
 //! Edits of the data section of a struct.
 
 use crate::proved::capnp_arena::arena::BuilderArena;
-use crate::proved::capnp_contents::existing::ExistingStruct;
-use crate::proved::capnp_contents::numbers::{set_bit, set_number};
 use crate::proved::capnp_edits::edit::tasks::Number;
+use crate::proved::capnp_in_place::existing::ExistingStruct;
+use crate::proved::capnp_in_place::numbers::{set_bit, set_number};
 use crate::proved::capnp_words::error::ErrorKind;
 use crate::proved::capnp_words::primitive::Primitive;
 use crate::proved::capnp_words::wire_pointer::ElementSize;

@@ -4,12 +4,12 @@
 use crate::proved::capnp_arena::arena::BuilderArena;
 use crate::proved::capnp_builders::builders::places::struct_place;
 use crate::proved::capnp_builders::builders::StructBuilder;
-use crate::proved::capnp_contents::existing::ExistingStruct;
 use crate::proved::capnp_edits::edit::copying::read_source_root;
 use crate::proved::capnp_edits::edit::fields::put_field;
 use crate::proved::capnp_edits::edit::path::has_words;
 use crate::proved::capnp_edits::edit::tasks::StructChange;
 use crate::proved::capnp_edits::edit::Source;
+use crate::proved::capnp_in_place::existing::ExistingStruct;
 use crate::proved::capnp_readers::readers::StructPlace;
 use crate::proved::capnp_words::error::ErrorKind;
 

@@ -1,9 +1,9 @@
 //! Where the paths of edits lead in a message.
 
 use crate::proved::capnp_arena::arena::BuilderArena;
-use crate::proved::capnp_contents::existing;
-use crate::proved::capnp_contents::existing::{ExistingList, ExistingStruct};
 use crate::proved::capnp_edits::edit::Step;
+use crate::proved::capnp_in_place::existing;
+use crate::proved::capnp_in_place::existing::{ExistingList, ExistingStruct};
 use crate::proved::capnp_readers::readers::PointerPlace;
 use crate::proved::capnp_words::wire_pointer::ElementSize;
 

@@ -2,12 +2,12 @@
 
 use crate::proved::capnp_arena::arena::BuilderArena;
 use crate::proved::capnp_builders::builders::PointerBuilder;
-use crate::proved::capnp_contents::existing;
 use crate::proved::capnp_edits::edit::copying::copy_root;
 use crate::proved::capnp_edits::edit::elements::edit_part;
 use crate::proved::capnp_edits::edit::filling::change_struct;
 use crate::proved::capnp_edits::edit::found::find_value;
 use crate::proved::capnp_edits::edit::tasks::{NewObject, Task};
+use crate::proved::capnp_in_place::existing;
 use crate::proved::capnp_readers::readers::PointerPlace;
 use crate::proved::capnp_words::error::ErrorKind;
 use crate::proved::capnp_words::wire_pointer::ElementSize;

@@ -12,8 +12,8 @@ use crate::proved::capnp_arena::arena::{
 use crate::proved::capnp_arena_traits::arena::WordPlace;
 use crate::proved::capnp_copies::copy::{copy_in_form, copy_struct};
 use crate::proved::capnp_copies::form::{CopyForm, Destination};
-use crate::proved::capnp_objects::pointers::Pointer;
-use crate::proved::capnp_objects::source::Source;
+use crate::proved::capnp_pointers::pointers::Pointer;
+use crate::proved::capnp_pointers::source::Source;
 use crate::proved::capnp_words::error::ErrorKind;
 use crate::proved::capnp_words::read_limiter::ReadLimiter;
 use crate::proved::support::alloc::Global;

@@ -4,9 +4,9 @@
 use super::path::Reached;
 use super::pointer_run::PointerRun;
 use crate::proved::capnp_arena::arena::{ReaderArena, MAX_SEGMENT_WORDS};
-use crate::proved::capnp_objects::nesting::one_level_less;
-use crate::proved::capnp_objects::object::{Object, Place};
-use crate::proved::capnp_objects::pointers::Pointer;
+use crate::proved::capnp_pointers::nesting::one_level_less;
+use crate::proved::capnp_pointers::object::{Object, Place};
+use crate::proved::capnp_pointers::pointers::Pointer;
 use crate::proved::capnp_words::error::ErrorKind;
 use crate::proved::capnp_words::read_limiter::ReadLimiter;
 use crate::proved::capnp_words::wire_pointer::{words_for_elements, StructSize};

@@ -3,7 +3,7 @@
 
 use super::root::read_root;
 use crate::proved::capnp_arena::arena::{ReaderArena, ReaderArenaImpl, ReaderSegments};
-use crate::proved::capnp_objects::pointers::{CanonicalFault, CanonicalFaultReason};
+use crate::proved::capnp_pointers::pointers::{CanonicalFault, CanonicalFaultReason};
 use crate::proved::capnp_words::error::ErrorKind;
 use crate::proved::capnp_words::read_limiter::ReadLimiter;
 

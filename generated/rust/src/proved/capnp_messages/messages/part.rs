@@ -6,7 +6,7 @@ use super::path::read_part;
 use crate::proved::capnp_arena::arena::{
     Allocator, BuilderArena, BuilderArenaImpl, ReaderArena, ReaderArenaImpl, ReaderSegments,
 };
-use crate::proved::capnp_objects::pointers::MessageSize;
+use crate::proved::capnp_pointers::pointers::MessageSize;
 use crate::proved::capnp_words::error::ErrorKind;
 use crate::proved::capnp_words::read_limiter::ReadLimiter;
 use crate::proved::support::alloc::Global;

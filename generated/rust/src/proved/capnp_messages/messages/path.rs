@@ -4,8 +4,8 @@
 use super::pointer_run::{pointer_within, ElementPlace, PointerRun};
 use super::root::read_root;
 use crate::proved::capnp_arena::arena::{ReaderArena, ReaderArenaImpl, ReaderSegments};
-use crate::proved::capnp_objects::object::{Object, Place, Purpose};
-use crate::proved::capnp_objects::pointers::{MessageSize, Pointer};
+use crate::proved::capnp_pointers::object::{Object, Place, Purpose};
+use crate::proved::capnp_pointers::pointers::{MessageSize, Pointer};
 use crate::proved::capnp_words::error::ErrorKind;
 use crate::proved::capnp_words::read_limiter::ReadLimiter;
 use crate::proved::capnp_words::wire_pointer::StructSize;

@@ -1,8 +1,8 @@
 //! Elements of lists of structs, and consecutive pointers of an object.
 
 use crate::proved::capnp_arena::arena::ReaderArena;
-use crate::proved::capnp_objects::object::Place;
-use crate::proved::capnp_objects::pointers::Pointer;
+use crate::proved::capnp_pointers::object::Place;
+use crate::proved::capnp_pointers::pointers::Pointer;
 use crate::proved::capnp_words::error::ErrorKind;
 use crate::proved::capnp_words::wire_pointer::StructSize;
 

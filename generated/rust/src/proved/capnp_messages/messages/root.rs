@@ -1,7 +1,7 @@
 //! Reads the root pointer of a message.
 
 use crate::proved::capnp_arena::arena::{ReaderArena, ReaderArenaImpl, ReaderSegments};
-use crate::proved::capnp_objects::pointers::Pointer;
+use crate::proved::capnp_pointers::pointers::Pointer;
 use crate::proved::capnp_words::error::ErrorKind;
 use crate::proved::capnp_words::read_limiter::ReadLimiter;
 

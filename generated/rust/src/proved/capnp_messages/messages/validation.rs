@@ -2,7 +2,7 @@
 
 use super::root::read_root;
 use crate::proved::capnp_arena::arena::{ReaderArena, ReaderArenaImpl, ReaderSegments};
-use crate::proved::capnp_objects::pointers::Extent;
+use crate::proved::capnp_pointers::pointers::Extent;
 use crate::proved::capnp_words::error::ErrorKind;
 use crate::proved::capnp_words::read_limiter::ReadLimiter;
 

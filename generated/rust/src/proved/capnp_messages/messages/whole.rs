@@ -8,7 +8,7 @@ use super::root::read_root;
 use crate::proved::capnp_arena::arena::{
     Allocator, BuilderArena, BuilderArenaImpl, ReaderArena, ReaderArenaImpl, ReaderSegments,
 };
-use crate::proved::capnp_objects::pointers::{CanonicalFault, MessageSize};
+use crate::proved::capnp_pointers::pointers::{CanonicalFault, MessageSize};
 use crate::proved::capnp_words::error::ErrorKind;
 use crate::proved::capnp_words::read_limiter::ReadLimiter;
 use crate::proved::support::alloc::Global;

@@ -10,7 +10,7 @@ use crate::proved::capnp_arena::arena::{
 };
 use crate::proved::capnp_framing::devices::{write_all, DeviceFault, Output};
 use crate::proved::capnp_framing::framing::{write, FrameError};
-use crate::proved::capnp_objects::pointers::Pointer;
+use crate::proved::capnp_pointers::pointers::Pointer;
 use crate::proved::capnp_words::read_limiter::ReadLimiter;
 use crate::proved::support::alloc::Global;
 

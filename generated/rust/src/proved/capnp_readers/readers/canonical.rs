@@ -2,8 +2,8 @@
 //! form.
 
 use crate::proved::capnp_arena_traits::arena::ReaderArena;
-use crate::proved::capnp_objects::pointers::{is_last_word_used, CanonicalFault};
-use crate::proved::capnp_objects::source::Source;
+use crate::proved::capnp_pointers::pointers::{is_last_word_used, CanonicalFault};
+use crate::proved::capnp_pointers::source::Source;
 use crate::proved::capnp_readers::readers::{PointerReader, StructReader};
 use crate::proved::capnp_words::error::ErrorKind;
 use crate::proved::capnp_words::read_limiter::ReadLimiter;

@@ -1,7 +1,7 @@
 //! Counts the words and capabilities of a value being read, without reading its data.
 
 use crate::proved::capnp_arena_traits::arena::ReaderArena;
-use crate::proved::capnp_objects::pointers::MessageSize;
+use crate::proved::capnp_pointers::pointers::MessageSize;
 use crate::proved::capnp_readers::readers::{PointerReader, StructReader};
 use crate::proved::capnp_words::error::ErrorKind;
 use crate::proved::capnp_words::read_limiter::ReadLimiter;

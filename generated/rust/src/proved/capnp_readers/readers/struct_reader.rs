@@ -1,9 +1,9 @@
 //! Structs of a message, read in place.
 
 use crate::proved::capnp_arena_traits::arena::ReaderArena;
-use crate::proved::capnp_objects::object::Place;
-use crate::proved::capnp_objects::pointers::Pointer;
-use crate::proved::capnp_objects::source::Source;
+use crate::proved::capnp_pointers::object::Place;
+use crate::proved::capnp_pointers::pointers::Pointer;
+use crate::proved::capnp_pointers::source::Source;
 use crate::proved::capnp_readers::readers::{
     bytes_are_below_256, ListReader, PointerReader, NO_SECTIONS,
 };

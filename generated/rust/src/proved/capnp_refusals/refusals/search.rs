@@ -1,8 +1,8 @@
 //! Searches a value for the first pointer whose object is refused.
 
 use crate::proved::capnp_arena_traits::arena::ReaderArena;
-use crate::proved::capnp_objects::object::{rows_of_object, Object, Place, Purpose};
-use crate::proved::capnp_objects::pointers::Pointer;
+use crate::proved::capnp_pointers::object::{rows_of_object, Object, Place, Purpose};
+use crate::proved::capnp_pointers::pointers::Pointer;
 use crate::proved::capnp_words::error::ErrorKind;
 use crate::proved::capnp_words::read_limiter::ReadLimiter;
 

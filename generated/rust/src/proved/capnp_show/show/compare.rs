@@ -8,7 +8,7 @@ use crate::proved::capnp_arena::arena::{
     ReaderArena, ReaderArenaImpl, ReaderOptions, ReaderSegments,
 };
 use crate::proved::capnp_framing::devices::Output;
-use crate::proved::capnp_objects::nesting::levels_left;
+use crate::proved::capnp_pointers::nesting::levels_left;
 use crate::proved::capnp_words::read_limiter::ReadLimiter;
 use crate::proved::support::alloc::Global;
 

@@ -1,6 +1,6 @@
 //! The bytes of an object, and the numbers in them.
 
-use crate::proved::capnp_objects::object::Place;
+use crate::proved::capnp_pointers::object::Place;
 use crate::proved::capnp_words::wire_pointer::ElementSize;
 
 /// The place `words` words after `start`. It saturates nowhere inside of an object.

@@ -2,7 +2,7 @@
 
 use super::objects::{bytes_are_below_256, bytes_at, number_at};
 use super::text::{as_text, Ended, Text};
-use crate::proved::capnp_objects::object::Place;
+use crate::proved::capnp_pointers::object::Place;
 use crate::proved::capnp_words::wire_pointer::{ElementSize, StructSize};
 
 impl Text {

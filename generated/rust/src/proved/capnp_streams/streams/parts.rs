@@ -8,7 +8,7 @@ use crate::proved::capnp_arena::arena::{
 };
 use crate::proved::capnp_messages::messages;
 use crate::proved::capnp_messages::messages::MessageExtent;
-use crate::proved::capnp_objects::pointers::{CanonicalFault, MessageSize};
+use crate::proved::capnp_pointers::pointers::{CanonicalFault, MessageSize};
 use crate::proved::capnp_words::error::ErrorKind;
 use crate::proved::support::alloc::Global;
 

@@ -5,7 +5,7 @@ use super::task::ShowTask;
 use crate::proved::capnp_arena::arena::ReaderSegments;
 use crate::proved::capnp_framing::devices::Output;
 use crate::proved::capnp_framing::framing::FrameError;
-use crate::proved::capnp_objects::nesting::levels_left;
+use crate::proved::capnp_pointers::nesting::levels_left;
 use crate::proved::capnp_show::show::{show_message, ShowFault, Showing, MOST_BYTES};
 use crate::proved::capnp_words::error::ErrorKind;
 use crate::proved::support::alloc::Global;

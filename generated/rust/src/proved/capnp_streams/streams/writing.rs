@@ -3,7 +3,7 @@
 use crate::proved::capnp_framing::devices::{write_all, DeviceFault, Output};
 use crate::proved::capnp_messages::messages::{write_words, Form};
 use crate::proved::capnp_messages::text::write_number;
-use crate::proved::capnp_objects::pointers::CanonicalFault;
+use crate::proved::capnp_pointers::pointers::CanonicalFault;
 
 /// The largest number of bytes that are written as hex digits at a time.
 const PIECE: usize = 512;

@@ -1,6 +1,6 @@
 //! The entries of a list of objects.
 
-use crate::proved::capnp_objects::object::{Object, Place};
+use crate::proved::capnp_pointers::object::{Object, Place};
 use crate::proved::capnp_words::wire_pointer::ElementSize;
 
 /// The kind of a struct in a `WalkedObject`.

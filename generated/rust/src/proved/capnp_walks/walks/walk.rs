@@ -1,8 +1,8 @@
 //! Walks over the objects of a value.
 
 use crate::proved::capnp_arena_traits::arena::ReaderArena;
-use crate::proved::capnp_objects::object::{rows_of_object, Place, Purpose};
-use crate::proved::capnp_objects::pointers::Pointer;
+use crate::proved::capnp_pointers::object::{rows_of_object, Place, Purpose};
+use crate::proved::capnp_pointers::pointers::Pointer;
 use crate::proved::capnp_refusals::refusals::RefusedPointer;
 use crate::proved::capnp_walks::walks::listing::{add_object, WalkedObject, NO_PARENT};
 use crate::proved::capnp_words::read_limiter::ReadLimiter;

@@ -9,9 +9,9 @@ mod validate;
 mod walk;
 
 use crate::proved::capnp_arena_traits::arena::ReaderArena;
-use crate::proved::capnp_objects::nesting::one_level_less;
-use crate::proved::capnp_objects::object::{Object, Place, Purpose};
-use crate::proved::capnp_objects::source::Source;
+use crate::proved::capnp_pointers::nesting::one_level_less;
+use crate::proved::capnp_pointers::object::{Object, Place, Purpose};
+use crate::proved::capnp_pointers::source::Source;
 use crate::proved::capnp_words::error::ErrorKind;
 use crate::proved::capnp_words::read_limiter::ReadLimiter;
 pub use canonical::is_last_word_used;

@@ -1,10 +1,10 @@
 //! Finds out whether a value can be read: reads all of its objects, but not their data.
 
 use crate::proved::capnp_arena_traits::arena::ReaderArena;
-use crate::proved::capnp_objects::nesting::{levels_left, one_level_less};
-use crate::proved::capnp_objects::object::{rows_of_object, Object, Place, PointerWord};
-use crate::proved::capnp_objects::pointers::walk::Stopped;
-use crate::proved::capnp_objects::pointers::Pointer;
+use crate::proved::capnp_pointers::nesting::{levels_left, one_level_less};
+use crate::proved::capnp_pointers::object::{rows_of_object, Object, Place, PointerWord};
+use crate::proved::capnp_pointers::pointers::walk::Stopped;
+use crate::proved::capnp_pointers::pointers::Pointer;
 use crate::proved::capnp_words::error::ErrorKind;
 use crate::proved::capnp_words::read_limiter::ReadLimiter;
 use crate::proved::capnp_words::wire_pointer::{

@@ -9,8 +9,8 @@
 //! the caller first calls `clear` for such a pointer: that zeroes what the pointer leads to, with
 //! all objects below it and their landing pads. These words stay allocated.
 
+use crate::proved::capnp_allocation::zeroing::zero_object;
 use crate::proved::capnp_arena_traits::arena::{set_word, BuilderArena, WordPlace};
-use crate::proved::capnp_making::zeroing::zero_object;
 use crate::proved::capnp_words::error::ErrorKind;
 use crate::proved::capnp_words::wire_pointer::{
     data_bits_per_element, offset_between, pointers_per_element, ElementSize, StructSize,

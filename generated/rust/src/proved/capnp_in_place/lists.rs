@@ -1,10 +1,10 @@
 //! Turns lists into lists of structs that have at least a requested size.
 
 use crate::proved::capnp_arena_traits::arena::BuilderArena;
-use crate::proved::capnp_contents::existing::{self, ExistingList};
-use crate::proved::capnp_contents::number_lists::widen_numbers;
-use crate::proved::capnp_contents::remaking::{widen_rows, ElementRows};
-use crate::proved::capnp_contents::widening::{greater_size, is_wide_enough};
+use crate::proved::capnp_in_place::existing::{self, ExistingList};
+use crate::proved::capnp_in_place::number_lists::widen_numbers;
+use crate::proved::capnp_in_place::remaking::{widen_rows, ElementRows};
+use crate::proved::capnp_in_place::widening::{greater_size, is_wide_enough};
 use crate::proved::capnp_words::error::ErrorKind;
 use crate::proved::capnp_words::wire_pointer::{ElementSize, StructSize};
 

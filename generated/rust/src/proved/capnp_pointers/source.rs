@@ -8,8 +8,8 @@ mod measure;
 mod types;
 
 use crate::proved::capnp_arena_traits::arena::ReaderArena;
-use crate::proved::capnp_objects::nesting::levels_left;
-use crate::proved::capnp_objects::object::{Object, Place, PointerWord, Purpose};
+use crate::proved::capnp_pointers::nesting::levels_left;
+use crate::proved::capnp_pointers::object::{Object, Place, PointerWord, Purpose};
 use crate::proved::capnp_words::error::ErrorKind;
 use crate::proved::capnp_words::read_limiter::ReadLimiter;
 use crate::proved::capnp_words::wire_pointer::{WirePointer, WirePointerKind};
@@ -89,7 +89,7 @@ impl<'a, A: ReaderArena> Source<'a, A> {
     /// ```
     // Reads the object that the pointer at a place leads to, for its value or only for its size.
     #[inline(always)]
-    pub(in crate::proved::capnp_objects) fn read_for_purpose(
+    pub(in crate::proved::capnp_pointers) fn read_for_purpose(
         self,
         purpose: Purpose,
         place: Place<'a>,

@@ -1,8 +1,8 @@
 //! Lends bytes of a message being built, for writing in place (encoding specification, "Lists").
 
 use crate::proved::capnp_arena_traits::arena::BuilderArena;
-use crate::proved::capnp_contents::existing::ExistingBytes;
-use crate::proved::capnp_contents::initializing::init_list;
+use crate::proved::capnp_in_place::existing::ExistingBytes;
+use crate::proved::capnp_in_place::initializing::init_list;
 use crate::proved::capnp_words::error::ErrorKind;
 use crate::proved::capnp_words::wire_pointer::ElementSize;
 

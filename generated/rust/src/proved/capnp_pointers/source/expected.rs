@@ -4,8 +4,8 @@
 use super::landing::Entrance;
 use super::Source;
 use crate::proved::capnp_arena_traits::arena::ReaderArena;
-use crate::proved::capnp_objects::nesting::levels_left;
-use crate::proved::capnp_objects::object::{Expected, Object, Place, PointerWord, Purpose};
+use crate::proved::capnp_pointers::nesting::levels_left;
+use crate::proved::capnp_pointers::object::{Expected, Object, Place, PointerWord, Purpose};
 use crate::proved::capnp_words::error::ErrorKind;
 use crate::proved::capnp_words::read_limiter::ReadLimiter;
 use crate::proved::capnp_words::wire_pointer::{

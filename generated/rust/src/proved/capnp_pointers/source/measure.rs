@@ -2,8 +2,8 @@
 
 use super::Source;
 use crate::proved::capnp_arena_traits::arena::ReaderArena;
-use crate::proved::capnp_objects::nesting::levels_left;
-use crate::proved::capnp_objects::object::{Object, Place, PointerWord, Purpose};
+use crate::proved::capnp_pointers::nesting::levels_left;
+use crate::proved::capnp_pointers::object::{Object, Place, PointerWord, Purpose};
 use crate::proved::capnp_words::error::ErrorKind;
 use crate::proved::capnp_words::read_limiter::ReadLimiter;
 

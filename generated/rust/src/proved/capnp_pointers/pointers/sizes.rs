@@ -1,9 +1,9 @@
 //! Counts the words and capabilities of a value, without reading its data.
 
 use crate::proved::capnp_arena_traits::arena::ReaderArena;
-use crate::proved::capnp_objects::object::{rows_of_object, Object, Place, PointerWord};
-use crate::proved::capnp_objects::pointers::walk::{Stopped, Walk};
-use crate::proved::capnp_objects::pointers::Pointer;
+use crate::proved::capnp_pointers::object::{rows_of_object, Object, Place, PointerWord};
+use crate::proved::capnp_pointers::pointers::walk::{Stopped, Walk};
+use crate::proved::capnp_pointers::pointers::Pointer;
 use crate::proved::capnp_words::error::ErrorKind;
 use crate::proved::capnp_words::read_limiter::ReadLimiter;
 use crate::proved::capnp_words::wire_pointer::{

@@ -1,12 +1,12 @@
 //! Opens structs and lists of structs for writing, with at least the requested size (encoding
 //! specification, "Structs" and "Lists").
 
+use crate::proved::capnp_allocation::landing::pointer_word;
+use crate::proved::capnp_allocation::making::make_struct;
 use crate::proved::capnp_arena_traits::arena::{BuilderArena, WordPlace};
-use crate::proved::capnp_contents::existing::{self, ExistingList, ExistingStruct};
-use crate::proved::capnp_contents::lists::get_struct_list;
-use crate::proved::capnp_contents::widening::{is_wide_enough, widen_existing};
-use crate::proved::capnp_making::landing::pointer_word;
-use crate::proved::capnp_making::making::make_struct;
+use crate::proved::capnp_in_place::existing::{self, ExistingList, ExistingStruct};
+use crate::proved::capnp_in_place::lists::get_struct_list;
+use crate::proved::capnp_in_place::widening::{is_wide_enough, widen_existing};
 use crate::proved::capnp_words::error::ErrorKind;
 use crate::proved::capnp_words::wire_pointer::StructSize;
 

@@ -1,13 +1,13 @@
 //! Turns lists of numbers into lists of structs: each number becomes the lowest bytes of a struct's
 //! first data word.
 
+use crate::proved::capnp_allocation::landing::{pointer_word, segment_length};
+use crate::proved::capnp_allocation::making::Shape;
+use crate::proved::capnp_allocation::zeroing::{zero_if_inside, zero_pads};
 use crate::proved::capnp_arena_traits::arena::{set_word, BuilderArena, WordPlace};
-use crate::proved::capnp_contents::existing::ExistingList;
-use crate::proved::capnp_contents::remaking::allocate_struct_list;
-use crate::proved::capnp_contents::widening::point_to_object;
-use crate::proved::capnp_making::landing::{pointer_word, segment_length};
-use crate::proved::capnp_making::making::Shape;
-use crate::proved::capnp_making::zeroing::{zero_if_inside, zero_pads};
+use crate::proved::capnp_in_place::existing::ExistingList;
+use crate::proved::capnp_in_place::remaking::allocate_struct_list;
+use crate::proved::capnp_in_place::widening::point_to_object;
 use crate::proved::capnp_words::error::ErrorKind;
 use crate::proved::capnp_words::wire_pointer::{data_bits_per_element, ElementSize, StructSize};
 
@@ -26,7 +26,7 @@ use crate::proved::capnp_words::wire_pointer::{data_bits_per_element, ElementSiz
 /// requires small { old.count * (size.data_words + size.pointers) < 2 ^ 29 }
 /// ```
 #[inline]
-pub(in crate::proved::capnp_contents) fn widen_numbers<A: BuilderArena>(
+pub(in crate::proved::capnp_in_place) fn widen_numbers<A: BuilderArena>(
     arena: &mut A,
     id: u32,
     at: u32,

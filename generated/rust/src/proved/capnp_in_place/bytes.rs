@@ -3,7 +3,7 @@
 //! Data is a list of bytes; a text is a list of bytes whose last byte is zero.
 
 use crate::proved::capnp_arena_traits::arena::{BuilderArena, WordPlace};
-use crate::proved::capnp_contents::initializing::init_list;
+use crate::proved::capnp_in_place::initializing::init_list;
 use crate::proved::capnp_words::error::ErrorKind;
 use crate::proved::capnp_words::lanes;
 use crate::proved::capnp_words::wire_pointer::ElementSize;

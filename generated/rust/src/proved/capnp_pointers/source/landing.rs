@@ -3,19 +3,19 @@
 
 use super::{Found, Source};
 use crate::proved::capnp_arena_traits::arena::ReaderArena;
-use crate::proved::capnp_objects::object::{Object, Place, Purpose};
+use crate::proved::capnp_pointers::object::{Object, Place, Purpose};
 use crate::proved::capnp_words::error::ErrorKind;
 use crate::proved::capnp_words::read_limiter::ReadLimiter;
 use crate::proved::capnp_words::wire_pointer::{words_for_elements, ElementSize, WirePointerKind};
 
 // What following a pointer found, in the source that it is read from.
-pub(in crate::proved::capnp_objects) struct Entrance<'a, A: ReaderArena> {
+pub(in crate::proved::capnp_pointers) struct Entrance<'a, A: ReaderArena> {
     // What the object is read from.
-    pub(in crate::proved::capnp_objects) source: Source<'a, A>,
+    pub(in crate::proved::capnp_pointers) source: Source<'a, A>,
     // The word that describes the object, and where the object starts.
-    pub(in crate::proved::capnp_objects) found: Found<'a>,
+    pub(in crate::proved::capnp_pointers) found: Found<'a>,
     // The number of levels left: a struct and a list take one.
-    pub(in crate::proved::capnp_objects) depth: u32,
+    pub(in crate::proved::capnp_pointers) depth: u32,
 }
 
 impl<'a, A: ReaderArena> Clone for Entrance<'a, A> {
@@ -36,7 +36,7 @@ impl<'a, A: ReaderArena> Entrance<'a, A> {
     // Enters the object that a pointer leads to, which takes one of the levels. Precondition for
     // the size only: a level is left.
     #[inline(always)]
-    pub(in crate::proved::capnp_objects) fn enter(
+    pub(in crate::proved::capnp_pointers) fn enter(
         self,
         purpose: Purpose,
         lim: &mut ReadLimiter,
@@ -62,7 +62,7 @@ impl<'a, A: ReaderArena> Entrance<'a, A> {
     /// ```
     // Checks and charges the words that an object claims.
     #[inline(always)]
-    pub(in crate::proved::capnp_objects) fn charge_claim(
+    pub(in crate::proved::capnp_pointers) fn charge_claim(
         self,
         words: u32,
         lim: &mut ReadLimiter,

@@ -1,15 +1,15 @@
 //! Makes lists of structs from the elements of old lists: copies their data words and moves their
 //! pointers, element by element.
 
+use crate::proved::capnp_allocation::landing::{pointer_word, segment_length};
+use crate::proved::capnp_allocation::making::Shape;
+use crate::proved::capnp_allocation::zeroing::{zero_if_inside, zero_pads};
 use crate::proved::capnp_arena_traits::arena::{set_word, BuilderArena, WordPlace};
-use crate::proved::capnp_contents::existing::ExistingList;
-use crate::proved::capnp_contents::moving::{transfer_rows, zero_pads_of_rows, PointerRows};
-use crate::proved::capnp_contents::widening::{
+use crate::proved::capnp_in_place::existing::ExistingList;
+use crate::proved::capnp_in_place::moving::{transfer_rows, zero_pads_of_rows, PointerRows};
+use crate::proved::capnp_in_place::widening::{
     allocate_object, copy_words, point_to_object, Allocation,
 };
-use crate::proved::capnp_making::landing::{pointer_word, segment_length};
-use crate::proved::capnp_making::making::Shape;
-use crate::proved::capnp_making::zeroing::{zero_if_inside, zero_pads};
 use crate::proved::capnp_words::error::ErrorKind;
 use crate::proved::capnp_words::wire_pointer::{ElementSize, StructSize, WirePointer};
 
@@ -81,7 +81,7 @@ fn copy_rows<A: BuilderArena>(
 /// requires small { count * (size.data_words + size.pointers) < 2 ^ 29 }
 /// ```
 #[inline]
-pub(in crate::proved::capnp_contents) fn allocate_struct_list<A: BuilderArena>(
+pub(in crate::proved::capnp_in_place) fn allocate_struct_list<A: BuilderArena>(
     arena: &mut A,
     id: u32,
     count: u32,
@@ -172,7 +172,7 @@ fn move_elements<A: BuilderArena>(
 /// requires small { old.count * (size.data_words + size.pointers) < 2 ^ 29 }
 /// ```
 #[inline]
-pub(in crate::proved::capnp_contents) fn widen_rows<A: BuilderArena>(
+pub(in crate::proved::capnp_in_place) fn widen_rows<A: BuilderArena>(
     arena: &mut A,
     id: u32,
     at: u32,

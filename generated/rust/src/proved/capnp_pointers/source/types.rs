@@ -2,7 +2,7 @@
 
 use super::Source;
 use crate::proved::capnp_arena_traits::arena::ReaderArena;
-use crate::proved::capnp_objects::object::{Place, PointerWord};
+use crate::proved::capnp_pointers::object::{Place, PointerWord};
 use crate::proved::capnp_words::error::ErrorKind;
 use crate::proved::capnp_words::read_limiter::ReadLimiter;
 use crate::proved::capnp_words::wire_pointer::{PointerType, WirePointer, WirePointerKind};

@@ -1,7 +1,9 @@
 //! Zeroes what a pointer leads to: its object, all objects below that, and their landing pads.
 
+use crate::proved::capnp_allocation::landing::{
+    follow, pointer_word, segment_length, PointerTarget,
+};
 use crate::proved::capnp_arena_traits::arena::{set_word, zero_words, BuilderArena};
-use crate::proved::capnp_making::landing::{follow, pointer_word, segment_length, PointerTarget};
 use crate::proved::capnp_words::wire_pointer::{
     data_bits_per_element, ElementSize, StructSize, WirePointer, WirePointerKind,
 };

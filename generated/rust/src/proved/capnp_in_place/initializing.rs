@@ -2,9 +2,9 @@
 //! "Capabilities (Interfaces)"). First zeroes the object that the pointer led to, with all objects
 //! below it and their landing pads; these words stay allocated.
 
+use crate::proved::capnp_allocation::making::{make_list, make_struct, make_struct_list};
+use crate::proved::capnp_allocation::zeroing::zero_object;
 use crate::proved::capnp_arena_traits::arena::{set_word, BuilderArena, WordPlace};
-use crate::proved::capnp_making::making::{make_list, make_struct, make_struct_list};
-use crate::proved::capnp_making::zeroing::zero_object;
 use crate::proved::capnp_words::error::ErrorKind;
 use crate::proved::capnp_words::wire_pointer::{ElementSize, StructSize, WirePointer};
 

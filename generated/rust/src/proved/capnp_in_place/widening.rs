@@ -3,12 +3,12 @@
 //! object lead to the new words. Until then the old words are unchanged. After a refusal the new
 //! words are zero.
 
+use crate::proved::capnp_allocation::landing::pointer_word;
+use crate::proved::capnp_allocation::making::{pointer_to, Shape};
+use crate::proved::capnp_allocation::zeroing::{zero_if_inside, zero_pads};
 use crate::proved::capnp_arena_traits::arena::{set_word, BuilderArena, WordPlace};
-use crate::proved::capnp_contents::existing::ExistingStruct;
-use crate::proved::capnp_contents::moving::{transfer_row, zero_pads_of_row};
-use crate::proved::capnp_making::landing::pointer_word;
-use crate::proved::capnp_making::making::{pointer_to, Shape};
-use crate::proved::capnp_making::zeroing::{zero_if_inside, zero_pads};
+use crate::proved::capnp_in_place::existing::ExistingStruct;
+use crate::proved::capnp_in_place::moving::{transfer_row, zero_pads_of_row};
 use crate::proved::capnp_words::error::ErrorKind;
 use crate::proved::capnp_words::wire_pointer::{StructSize, WirePointer};
 
@@ -36,7 +36,7 @@ pub struct Allocation {
 /// requires small { amount < 2 ^ 31 }
 /// ```
 #[inline]
-pub(in crate::proved::capnp_contents) fn allocate_object<A: BuilderArena>(
+pub(in crate::proved::capnp_in_place) fn allocate_object<A: BuilderArena>(
     arena: &mut A,
     id: u32,
     amount: u32,
@@ -69,7 +69,7 @@ pub(in crate::proved::capnp_contents) fn allocate_object<A: BuilderArena>(
 /// requires apart { from.segment ≡ to.segment → from.at + count ≤ to.at }
 /// ```
 #[inline(always)]
-pub(in crate::proved::capnp_contents) fn copy_words<A: BuilderArena>(
+pub(in crate::proved::capnp_in_place) fn copy_words<A: BuilderArena>(
     arena: &mut A,
     from: WordPlace,
     to: WordPlace,
@@ -109,7 +109,7 @@ fn copy_words_at_once<A: BuilderArena>(arena: &mut A, from: WordPlace, to: WordP
 /// requires some { AsksWords shape }
 /// ```
 #[inline(always)]
-pub(in crate::proved::capnp_contents) fn point_to_object<A: BuilderArena>(
+pub(in crate::proved::capnp_in_place) fn point_to_object<A: BuilderArena>(
     arena: &mut A,
     id: u32,
     at: u32,
@@ -146,7 +146,7 @@ pub(in crate::proved::capnp_contents) fn point_to_object<A: BuilderArena>(
 ///     → size.pointers ≤ old.size.pointers → ⊥ }
 /// ```
 #[inline]
-pub(in crate::proved::capnp_contents) fn widen_existing<A: BuilderArena>(
+pub(in crate::proved::capnp_in_place) fn widen_existing<A: BuilderArena>(
     arena: &mut A,
     id: u32,
     at: u32,
@@ -159,7 +159,7 @@ pub(in crate::proved::capnp_contents) fn widen_existing<A: BuilderArena>(
 
 /// The size in which each section is as large as the larger one of `a` and `b`.
 #[inline]
-pub(in crate::proved::capnp_contents) fn greater_size(a: StructSize, b: StructSize) -> StructSize {
+pub(in crate::proved::capnp_in_place) fn greater_size(a: StructSize, b: StructSize) -> StructSize {
     StructSize {
         data_words: greater(a.data_words, b.data_words),
         pointers: greater(a.pointers, b.pointers),
@@ -178,7 +178,7 @@ fn greater(a: u16, b: u16) -> u16 {
 
 /// Whether both sections of `size` are at least as large as those of `wanted`.
 #[inline]
-pub(in crate::proved::capnp_contents) fn is_wide_enough(
+pub(in crate::proved::capnp_in_place) fn is_wide_enough(
     size: StructSize,
     wanted: StructSize,
 ) -> bool {

@@ -48,7 +48,7 @@ pub fn pointer_word<A: BuilderArena>(arena: &A, id: u32, at: u32) -> WirePointer
 /// null.
 #[cold]
 #[inline(never)]
-pub(in crate::proved::capnp_making) fn follow<A: BuilderArena>(
+pub(in crate::proved::capnp_allocation) fn follow<A: BuilderArena>(
     arena: &A,
     id: u32,
     at: u32,

@@ -8,10 +8,10 @@
 //! unchanged. The old pointer stays until the caller zeroes it, so until then two pointers lead to
 //! one object.
 
+use crate::proved::capnp_allocation::landing::{pointer_word, segment_length};
+use crate::proved::capnp_allocation::making::{pointer_to, Shape};
+use crate::proved::capnp_allocation::zeroing::zero_pads;
 use crate::proved::capnp_arena_traits::arena::{set_word, BuilderArena, WordPlace};
-use crate::proved::capnp_making::landing::{pointer_word, segment_length};
-use crate::proved::capnp_making::making::{pointer_to, Shape};
-use crate::proved::capnp_making::zeroing::zero_pads;
 use crate::proved::capnp_words::error::ErrorKind;
 use crate::proved::capnp_words::wire_pointer::{WirePointer, WirePointerKind};
 

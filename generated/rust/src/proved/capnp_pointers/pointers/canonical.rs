@@ -1,16 +1,16 @@
 //! The test for canonical form, in place.
 
 use crate::proved::capnp_arena_traits::arena::ReaderArena;
-use crate::proved::capnp_objects::nesting::one_level_less;
-use crate::proved::capnp_objects::object::{Object, Place, PointerWord};
-use crate::proved::capnp_objects::pointers::canonical_answer::{
+use crate::proved::capnp_pointers::nesting::one_level_less;
+use crate::proved::capnp_pointers::object::{Object, Place, PointerWord};
+use crate::proved::capnp_pointers::pointers::canonical_answer::{
     reason_of, stop_with_fault, stop_with_refusal, Answer, Stopped, Test,
 };
-use crate::proved::capnp_objects::pointers::canonical_fault::{
+use crate::proved::capnp_pointers::pointers::canonical_fault::{
     CanonicalFault, CanonicalFaultReason,
 };
-use crate::proved::capnp_objects::pointers::Pointer;
-use crate::proved::capnp_objects::source::Source;
+use crate::proved::capnp_pointers::pointers::Pointer;
+use crate::proved::capnp_pointers::source::Source;
 use crate::proved::capnp_words::error::ErrorKind;
 use crate::proved::capnp_words::lanes;
 use crate::proved::capnp_words::read_limiter::ReadLimiter;

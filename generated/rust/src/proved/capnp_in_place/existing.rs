@@ -1,10 +1,10 @@
 //! Finds what a pointer leads to, without changing the message (encoding specification, "Structs",
 //! "Lists" and "Capabilities (Interfaces)").
 
-use crate::proved::capnp_arena_traits::arena::BuilderArena;
-use crate::proved::capnp_making::landing::{
+use crate::proved::capnp_allocation::landing::{
     follow_word, pointer_word, segment_length, PointerTarget,
 };
+use crate::proved::capnp_arena_traits::arena::BuilderArena;
 use crate::proved::capnp_words::error::ErrorKind;
 use crate::proved::capnp_words::wire_pointer::{
     data_bits_per_element, pointers_per_element, ElementSize, StructSize, WirePointer,
