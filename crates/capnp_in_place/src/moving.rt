@@ -177,7 +177,7 @@ fn is_empty(shape: Shape) -> bool
 
 /// The second word of a double-far pointer's landing pad: it describes the object `shape`, and has
 /// the offset 0.
-#[tactic(auto, using(crate::proofs::Basics::zero_offset))]
+#[tactic(auto, using(crate::proofs::MovedPointers::SingleIntervals::zero_offset))]
 fn tag_of(shape: Shape) -> WirePointer
     requires few { CountFits shape }
     ensures shape { IsShape shape result.0 }
