@@ -13,11 +13,11 @@ const NAMES: &str = "\
 ";
 
 /// `Person`
-#[allow(dead_code, clippy::style)]
+#[allow(dead_code, clippy::style, clippy::type_complexity)]
 #[derive(Clone, Copy)]
 pub struct Person<'a, M = g::Typed>(g::Struct<'a, M>);
 
-#[allow(dead_code, clippy::style)]
+#[allow(dead_code, clippy::style, clippy::type_complexity)]
 impl<'a, M: g::Meter> Person<'a, M> {
     /// `id @0 :UInt32`
     pub fn id(&self) -> u32 {
@@ -125,7 +125,7 @@ impl<M: g::Meter> g::fmt::Debug for Person<'_, M> {
 }
 
 /// In the scope of `Person`.
-#[allow(dead_code, clippy::style)]
+#[allow(dead_code, clippy::style, clippy::type_complexity)]
 pub mod person {
     use super::g;
 
@@ -467,11 +467,11 @@ pub mod person {
 }
 
 /// `AddressBook`
-#[allow(dead_code, clippy::style)]
+#[allow(dead_code, clippy::style, clippy::type_complexity)]
 #[derive(Clone, Copy)]
 pub struct AddressBook<'a, M = g::Typed>(g::Struct<'a, M>);
 
-#[allow(dead_code, clippy::style)]
+#[allow(dead_code, clippy::style, clippy::type_complexity)]
 impl<'a, M: g::Meter> AddressBook<'a, M> {
     /// `people @0 :List(Person)`
     pub fn people(&self) -> M::Out<g::List<'a, Person<'a>, M>> {
@@ -535,7 +535,7 @@ impl<M: g::Meter> g::fmt::Debug for AddressBook<'_, M> {
 }
 
 /// In the scope of `AddressBook`.
-#[allow(dead_code, clippy::style)]
+#[allow(dead_code, clippy::style, clippy::type_complexity)]
 pub mod address_book {
     use super::g;
 

@@ -18,11 +18,11 @@ const NAMES: &str = "\
 ";
 
 /// `Tree`
-#[allow(dead_code, clippy::style)]
+#[allow(dead_code, clippy::style, clippy::type_complexity)]
 #[derive(Clone, Copy)]
 pub struct Tree<'a, M = g::Typed>(g::Struct<'a, M>);
 
-#[allow(dead_code, clippy::style)]
+#[allow(dead_code, clippy::style, clippy::type_complexity)]
 impl<'a, M: g::Meter> Tree<'a, M> {
     /// `number @0 :Int32`
     pub fn number(&self) -> i32 {
@@ -109,7 +109,7 @@ impl<M: g::Meter> g::fmt::Debug for Tree<'_, M> {
 }
 
 /// In the scope of `Tree`.
-#[allow(dead_code, clippy::style)]
+#[allow(dead_code, clippy::style, clippy::type_complexity)]
 pub mod tree {
     use super::g;
 
@@ -259,11 +259,11 @@ pub mod tree {
 }
 
 /// `Term`
-#[allow(dead_code, clippy::style)]
+#[allow(dead_code, clippy::style, clippy::type_complexity)]
 #[derive(Clone, Copy)]
 pub struct Term<'a, M = g::Typed>(g::Struct<'a, M>);
 
-#[allow(dead_code, clippy::style)]
+#[allow(dead_code, clippy::style, clippy::type_complexity)]
 impl<'a, M: g::Meter> Term<'a, M> {
     /// Whether `not` is the member that is set, and isn't null.
     pub fn has_not(&self) -> bool {
@@ -341,7 +341,7 @@ impl<M: g::Meter> g::fmt::Debug for Term<'_, M> {
 }
 
 /// In the scope of `Term`.
-#[allow(dead_code, clippy::style)]
+#[allow(dead_code, clippy::style, clippy::type_complexity)]
 pub mod term {
     use super::g;
 
@@ -527,11 +527,11 @@ pub mod term {
 }
 
 /// `Chain`
-#[allow(dead_code, clippy::style)]
+#[allow(dead_code, clippy::style, clippy::type_complexity)]
 #[derive(Clone, Copy)]
 pub struct Chain<'a, M = g::Typed>(g::Struct<'a, M>);
 
-#[allow(dead_code, clippy::style)]
+#[allow(dead_code, clippy::style, clippy::type_complexity)]
 impl<'a, M: g::Meter> Chain<'a, M> {
     /// `number @0 :Int32`
     pub fn number(&self) -> i32 {
@@ -602,7 +602,7 @@ impl<M: g::Meter> g::fmt::Debug for Chain<'_, M> {
 }
 
 /// In the scope of `Chain`.
-#[allow(dead_code, clippy::style)]
+#[allow(dead_code, clippy::style, clippy::type_complexity)]
 pub mod chain {
     use super::g;
 
@@ -652,11 +652,11 @@ pub mod chain {
 }
 
 /// `Ring`
-#[allow(dead_code, clippy::style)]
+#[allow(dead_code, clippy::style, clippy::type_complexity)]
 #[derive(Clone, Copy)]
 pub struct Ring<'a, M = g::Typed>(g::Struct<'a, M>);
 
-#[allow(dead_code, clippy::style)]
+#[allow(dead_code, clippy::style, clippy::type_complexity)]
 impl<'a, M: g::Meter> Ring<'a, M> {
     /// `number @0 :Int32`
     pub fn number(&self) -> i32 {
@@ -742,7 +742,7 @@ impl<M: g::Meter> g::fmt::Debug for Ring<'_, M> {
 }
 
 /// In the scope of `Ring`.
-#[allow(dead_code, clippy::style)]
+#[allow(dead_code, clippy::style, clippy::type_complexity)]
 pub mod ring {
     use super::g;
 
@@ -811,11 +811,11 @@ pub mod ring {
 }
 
 /// `Nest`
-#[allow(dead_code, clippy::style)]
+#[allow(dead_code, clippy::style, clippy::type_complexity)]
 #[derive(Clone, Copy)]
 pub struct Nest<'a, M = g::Typed>(g::Struct<'a, M>);
 
-#[allow(dead_code, clippy::style)]
+#[allow(dead_code, clippy::style, clippy::type_complexity)]
 impl<'a, M: g::Meter> Nest<'a, M> {
     /// `number @0 :Int32`
     pub fn number(&self) -> i32 {
@@ -888,7 +888,7 @@ impl<M: g::Meter> g::fmt::Debug for Nest<'_, M> {
 }
 
 /// In the scope of `Nest`.
-#[allow(dead_code, clippy::style)]
+#[allow(dead_code, clippy::style, clippy::type_complexity)]
 pub mod nest {
     use super::g;
 

@@ -25,11 +25,11 @@ const NAMES: &str = "\
 ";
 
 /// `Inner`
-#[allow(dead_code, clippy::style)]
+#[allow(dead_code, clippy::style, clippy::type_complexity)]
 #[derive(Clone, Copy)]
 pub struct Inner<'a, M = g::Typed>(g::Struct<'a, M>);
 
-#[allow(dead_code, clippy::style)]
+#[allow(dead_code, clippy::style, clippy::type_complexity)]
 impl<'a, M: g::Meter> Inner<'a, M> {
     /// `match @0 :UInt16`
     pub fn match_(&self) -> u16 {
@@ -125,7 +125,7 @@ impl<M: g::Meter> g::fmt::Debug for Inner<'_, M> {
 }
 
 /// In the scope of `Inner`.
-#[allow(dead_code, clippy::style)]
+#[allow(dead_code, clippy::style, clippy::type_complexity)]
 pub mod inner {
     use super::g;
 
@@ -306,7 +306,7 @@ pub mod inner {
 }
 
 /// `const filledDefault :Inner`
-#[allow(dead_code, clippy::style)]
+#[allow(dead_code, clippy::style, clippy::type_complexity)]
 pub fn filled_default() -> Inner<'static> {
     const DEFAULT: &[u8] = &[
         0, 0, 0, 0, 1, 0, 2, 0, 5, 0, 0, 0, 1, 0, 0, 0, 5, 0, 0, 0, 50, 0, 0, 0, 5, 0, 0, 0, 26, 0,
@@ -316,14 +316,14 @@ pub fn filled_default() -> Inner<'static> {
 }
 
 /// `const countedDefault :List(UInt16)`
-#[allow(dead_code, clippy::style)]
+#[allow(dead_code, clippy::style, clippy::type_complexity)]
 pub fn counted_default() -> g::List<'static, u16, g::Typed> {
     const DEFAULT: &[u8] = &[1, 0, 0, 0, 27, 0, 0, 0, 1, 0, 2, 0, 3, 0, 0, 0];
     g::constant_list(DEFAULT)
 }
 
 /// `const listedDefault :List(Inner)`
-#[allow(dead_code, clippy::style)]
+#[allow(dead_code, clippy::style, clippy::type_complexity)]
 pub fn listed_default() -> g::List<'static, Inner<'static>, g::Typed> {
     const DEFAULT: &[u8] = &[
         1, 0, 0, 0, 39, 0, 0, 0, 8, 0, 0, 0, 1, 0, 1, 0, 7, 0, 0, 0, 0, 0, 0, 0, 0, 0, 0, 0, 0, 0,
@@ -333,7 +333,7 @@ pub fn listed_default() -> g::List<'static, Inner<'static>, g::Typed> {
 }
 
 /// `const namedDefault :List(Text)`
-#[allow(dead_code, clippy::style)]
+#[allow(dead_code, clippy::style, clippy::type_complexity)]
 pub fn named_default() -> g::List<'static, str, g::Typed> {
     const DEFAULT: &[u8] = &[
         1, 0, 0, 0, 30, 0, 0, 0, 9, 0, 0, 0, 18, 0, 0, 0, 9, 0, 0, 0, 10, 0, 0, 0, 9, 0, 0, 0, 82,
@@ -344,14 +344,14 @@ pub fn named_default() -> g::List<'static, str, g::Typed> {
 }
 
 /// `const checkedDefault :List(Bool)`
-#[allow(dead_code, clippy::style)]
+#[allow(dead_code, clippy::style, clippy::type_complexity)]
 pub fn checked_default() -> g::List<'static, bool, g::Typed> {
     const DEFAULT: &[u8] = &[1, 0, 0, 0, 25, 0, 0, 0, 5, 0, 0, 0, 0, 0, 0, 0];
     g::constant_list(DEFAULT)
 }
 
 /// `const sealedDefault :List(Data)`
-#[allow(dead_code, clippy::style)]
+#[allow(dead_code, clippy::style, clippy::type_complexity)]
 pub fn sealed_default() -> g::List<'static, [u8], g::Typed> {
     const DEFAULT: &[u8] = &[
         1, 0, 0, 0, 22, 0, 0, 0, 5, 0, 0, 0, 18, 0, 0, 0, 5, 0, 0, 0, 10, 0, 0, 0, 0, 255, 0, 0, 0,
@@ -361,7 +361,7 @@ pub fn sealed_default() -> g::List<'static, [u8], g::Typed> {
 }
 
 /// `const tabledDefault :List(List(Int8))`
-#[allow(dead_code, clippy::style)]
+#[allow(dead_code, clippy::style, clippy::type_complexity)]
 pub fn tabled_default() -> g::List<'static, g::Lists<i8>, g::Typed> {
     const DEFAULT: &[u8] = &[
         1, 0, 0, 0, 30, 0, 0, 0, 9, 0, 0, 0, 18, 0, 0, 0, 9, 0, 0, 0, 2, 0, 0, 0, 5, 0, 0, 0, 10,
@@ -373,7 +373,7 @@ pub fn tabled_default() -> g::List<'static, g::Lists<i8>, g::Typed> {
 // Service isn't written: an interface.
 
 /// `Colour`
-#[allow(dead_code, clippy::style)]
+#[allow(dead_code, clippy::style, clippy::type_complexity)]
 #[derive(Clone, Copy, Debug, PartialEq, Eq, Hash)]
 pub enum Colour {
     /// `red @0`
@@ -415,11 +415,11 @@ impl From<Colour> for u16 {
 impl g::Enum for Colour {}
 
 /// `Root`
-#[allow(dead_code, clippy::style)]
+#[allow(dead_code, clippy::style, clippy::type_complexity)]
 #[derive(Clone, Copy)]
 pub struct Root<'a, M = g::Typed>(g::Struct<'a, M>);
 
-#[allow(dead_code, clippy::style)]
+#[allow(dead_code, clippy::style, clippy::type_complexity)]
 impl<'a, M: g::Meter> Root<'a, M> {
     /// `flag @0 :Bool`
     pub fn flag(&self) -> bool {
@@ -1034,7 +1034,7 @@ impl<M: g::Meter> g::fmt::Debug for Root<'_, M> {
 }
 
 /// In the scope of `Root`.
-#[allow(dead_code, clippy::style)]
+#[allow(dead_code, clippy::style, clippy::type_complexity)]
 pub mod root {
     use super::g;
 
