@@ -134,7 +134,7 @@ impl<'a, A: BuilderArena> PointerBuilder<'a, A> {
         reader_at(arena, segment, at)
     }
 
-    #[tactic(auto, using(capnp_in_place::proofs::Growing::pruned_grows))]
+    #[tactic(auto, using(capnp_in_place::proofs::Room::PlacesStay::pruned_grows))]
     /// Makes the pointer null, and zeroes what it held: its object, all objects below it, and their
     /// landing pads. These words stay allocated. Precondition: the pointer's word is allocated.
     pub fn clear(&mut self)
