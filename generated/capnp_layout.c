@@ -193,36 +193,36 @@ INLINE void mv24(u8 *to, const u8 *from) { u64 part0 = ld64(from); u64 part8 = l
 INLINE void mv32(u8 *to, const u8 *from) { u64 part0 = ld64(from); u64 part8 = ld64((from + 8)); u64 part16 = ld64((from + 16)); u64 part24 = ld64((from + 24)); st64(to, part0); st64((to + 8), part8); st64((to + 16), part16); st64((to + 24), part24); }
 
 static const u8 g_static_6[1] = { 0 };
-static const u32 switch_table_capnp_contents_existing_get_list_d7a666d2d35ab297[7] = { 0u, 1u, 8u, 16u, 32u, 64u, 0u };
-static const u8 switch_table_typed_conforming_conforms_check_object_07_45490bdc[15] = { 1, 2, 3, 4, 5, 6, 0, 7, 7, 7, 7, 7, 7, 7, 7 };
-static const u8 switch_table_typed_conforming_conforms_check_object_07_8882c947[15] = { 0, 0, 0, 0, 0, 0, 0, 0, 1, 2, 3, 4, 5, 6, 7 };
+static const u32 switch_table_capnp_in_place_existing_get_list_d7a666d2d35ab297[7] = { 0u, 1u, 8u, 16u, 32u, 64u, 0u };
+static const u8 switch_table_typed_conforming_conforms_check_object_07_c60b4b8c[15] = { 1, 2, 3, 4, 5, 6, 0, 7, 7, 7, 7, 7, 7, 7, 7 };
+static const u8 switch_table_typed_conforming_conforms_check_object_07_7954c1fd[15] = { 0, 0, 0, 0, 0, 0, 0, 0, 1, 2, 3, 4, 5, 6, 7 };
 static const u64 switch_table_capnp_copies_copy_copy_object_5ec03199cc959fcd[7] = { 0u, 1u, 8u, 16u, 32u, 64u, 0u };
-static const u64 switch_table_capnp_objects_pointers_validate_validate__79a49eb6[5] = { 1u, 8u, 16u, 32u, 64u };
+static const u64 switch_table_capnp_pointers_pointers_validate_validate_f7685ec9[5] = { 1u, 8u, 16u, 32u, 64u };
 static const u64 switch_table_capnp_layout_get_struct_list[4] = { 8u, 16u, 32u, 64u };
-static const u64 switch_table_capnp_layout_get_struct_list_14[8] = { 0u, 1u, 8u, 16u, 32u, 64u, 0u, 0u };
+static const u64 switch_table_capnp_layout_get_struct_list_12[8] = { 0u, 1u, 8u, 16u, 32u, 64u, 0u, 0u };
 static const u32 switch_table_capnp_layout_list[8] = { 0u, 1u, 8u, 16u, 32u, 64u, 0u, 0u };
 
-static NEVER COLD void capnp_contents_existing_struct_behind_pad_d7a666d2d35ab297(u8 *a_1, u8 *a_2, u32 a_3, u64 a_4);
-static NEVER COLD void capnp_making_landing_follow_far_d7a666d2d35ab297(u8 *a_1, u8 *a_2, u64 a_3);
-static NEVER void capnp_contents_opening_open_narrow_struct_d7a666d2d35ab297(u8 *a_1, u8 *a_2, u32 a_3, u32 a_4, u32 a_5, u16 a_6, u16 a_7, u16 a_8, u16 a_9);
+static NEVER COLD void capnp_in_place_existing_struct_behind_pad_d7a666d2d35ab297(u8 *a_1, u8 *a_2, u32 a_3, u64 a_4);
+static NEVER COLD void capnp_allocation_landing_follow_far_d7a666d2d35ab297(u8 *a_1, u8 *a_2, u64 a_3);
+static NEVER void capnp_in_place_opening_open_narrow_struct_d7a666d2d35ab297(u8 *a_1, u8 *a_2, u32 a_3, u32 a_4, u32 a_5, u16 a_6, u16 a_7, u16 a_8, u16 a_9);
 static struct s_i8_i32 capnp_lent_arena_lent_arena_LentArenaBuilderArena_allo_b39b26fb(u8 *a_1, u32 a_2);
 static void capnp_lent_arena_lent_arena_LentArenaBuilderArena_allo_c5878f28(u8 *a_1, u8 *a_2, u32 a_3);
-static NEVER void capnp_contents_widening_copy_words_at_once_d7a666d2d35ab297(u8 *a_1, u32 a_2, u32 a_3, u32 a_4);
-static NEVER COLD void capnp_contents_moving_transfer_row_across_d7a666d2d35ab297(u8 *a_1, u8 *a_2, u32 a_3, u32 a_4, u32 a_5, u32 a_6, u32 a_7);
-static NEVER COLD void capnp_making_zeroing_zero_far_pads_d7a666d2d35ab297(u8 *a_1, u64 a_2);
-static NEVER COLD void capnp_contents_moving_zero_pads_of_row_d7a666d2d35ab297(u8 *a_1, u32 a_2, u32 a_3, u32 a_4, u32 a_5, u32 a_6);
-static void capnp_making_zeroing_zero_if_inside_d7a666d2d35ab297(u8 *a_1, u32 a_2, u32 a_3, u64 a_4);
-static NEVER void capnp_contents_opening_new_struct_d7a666d2d35ab297(u8 *a_1, u8 *a_2, u32 a_3, u16 a_4, u16 a_5);
-static void capnp_contents_existing_get_list_d7a666d2d35ab297(u8 *a_1, u8 *a_2, u32 a_3, u8 a_4);
-static void capnp_contents_remaking_allocate_struct_list_d7a666d2d35ab297(u8 *a_1, u8 *a_2, u32 a_3, u16 a_4, u16 a_5);
-static NEVER COLD void capnp_making_landing_follow_d7a666d2d35ab297(u8 *a_1, u8 *a_2, u32 a_3, u32 a_4);
-static NEVER COLD void capnp_making_zeroing_zero_target_d7a666d2d35ab297(u8 *a_1, u8 *a_2);
+static NEVER void capnp_in_place_widening_copy_words_at_once_d7a666d2d35ab297(u8 *a_1, u32 a_2, u32 a_3, u32 a_4);
+static NEVER COLD void capnp_in_place_moving_transfer_row_across_d7a666d2d35ab297(u8 *a_1, u8 *a_2, u32 a_3, u32 a_4, u32 a_5, u32 a_6, u32 a_7);
+static NEVER COLD void capnp_allocation_zeroing_zero_far_pads_d7a666d2d35ab297(u8 *a_1, u64 a_2);
+static NEVER COLD void capnp_in_place_moving_zero_pads_of_row_d7a666d2d35ab297(u8 *a_1, u32 a_2, u32 a_3, u32 a_4, u32 a_5, u32 a_6);
+static void capnp_allocation_zeroing_zero_if_inside_d7a666d2d35ab297(u8 *a_1, u32 a_2, u32 a_3, u64 a_4);
+static NEVER void capnp_in_place_opening_new_struct_d7a666d2d35ab297(u8 *a_1, u8 *a_2, u32 a_3, u16 a_4, u16 a_5);
+static void capnp_in_place_existing_get_list_d7a666d2d35ab297(u8 *a_1, u8 *a_2, u32 a_3, u8 a_4);
+static void capnp_in_place_remaking_allocate_struct_list_d7a666d2d35ab297(u8 *a_1, u8 *a_2, u32 a_3, u16 a_4, u16 a_5);
+static NEVER COLD void capnp_allocation_landing_follow_d7a666d2d35ab297(u8 *a_1, u8 *a_2, u32 a_3, u32 a_4);
+static NEVER COLD void capnp_allocation_zeroing_zero_target_d7a666d2d35ab297(u8 *a_1, u8 *a_2);
 static NEVER u32 capnp_layout_c_building_texts_set_any_data(u8 *a_1, u64 a_2, u8 *a_3, u64 a_4, u8 *a_5, u64 a_6);
 static NEVER u32 capnp_layout_c_building_texts_set_any_text(u8 *a_1, u64 a_2, u8 *a_3, u64 a_4, u8 *a_5, u64 a_6);
 static NEVER u32 capnp_layout_c_building_objects_init_any_struct_list(u8 *a_1, u64 a_2, u8 *a_3, u8 *a_4, u16 a_5, u32 a_6, u16 a_7, u16 a_8, u8 *a_9);
-static void capnp_making_making_make_struct_list_d7a666d2d35ab297(u8 *a_1, u8 *a_2, u32 a_3, u32 a_4, u32 a_5, u16 a_6, u16 a_7);
-static NEVER void typed_conforming_conforms_check_object_07dcb38b0fe92235(u8 *a_1, u8 *a_2, u64 a_3, u8 *a_4, u8 *a_5, u32 a_6, u8 *a_7);
-static NEVER void capnp_objects_source_follow_far_07dcb38b0fe92235(u8 *a_1, u8 *a_2, u64 a_3, u8 *a_4);
+static void capnp_allocation_making_make_struct_list_d7a666d2d35ab297(u8 *a_1, u8 *a_2, u32 a_3, u32 a_4, u32 a_5, u16 a_6, u16 a_7);
+static NEVER u8 typed_conforming_conforms_check_object_07dcb38b0fe92235(u8 *a_1, u64 a_2, u8 *a_3, u8 *a_4, u32 a_5, u8 *a_6);
+static NEVER void capnp_pointers_source_follow_far_07dcb38b0fe92235(u8 *a_1, u8 *a_2, u64 a_3, u8 *a_4);
 static NEVER u8 typed_conforming_conforms_is_utf8_by_bytes(u8 *a_1, u32 a_2);
 static NEVER u64 core_slice_words_skip_far_52f9edcae2f82f51(u8 *a_1, u64 a_2, u64 a_3);
 static void typed_conforming_conforms_narrow_elements_error(u8 *a_1, u8 a_2, u8 a_3);
@@ -235,17 +235,16 @@ static NEVER u64 capnp_words_lanes_used_words_bound(u8 *a_1, u64 a_2);
 static void capnp_copies_copy_elements_put_words_d7a666d2d35ab297(u8 *a_1, u32 a_2, u8 *a_3, u64 a_4);
 static void capnp_arena_traits_arena_writing_copy_words_d7a666d2d35ab297(u8 *a_1, u32 a_2, u8 *a_3, u64 a_4);
 static NEVER void capnp_copies_copy_children_copy_children_out_of_line_5_f210a996(u8 *a_1, u8 *a_2, u32 a_3, u32 a_4, u8 *a_5, u32 a_6, u8 *a_7, u8 a_8);
-static void capnp_objects_source_expected_narrow_elements_error(u8 *a_1, u8 a_2, u8 a_3);
+static void capnp_pointers_source_expected_narrow_elements_error(u8 *a_1, u8 a_2, u8 a_3);
 static u32 capnp_layout_c_capnp_layout_struct(u8 *a_1, u8 *a_2, u64 a_3, u32 a_4, u32 a_5, u8 *a_6);
-static NEVER u8 capnp_objects_pointers_validate_validate_object_07dcb3_9288a101(u8 *a_1, u32 a_2, u32 a_3, u8 *a_4);
-static NEVER u8 capnp_objects_pointers_validate_validate_pointers_07dc_3ddc9608(u8 *a_1, u32 a_2, u32 a_3, u32 a_4, u8 *a_5);
+static NEVER u8 capnp_pointers_pointers_validate_validate_object_07dcb_94c64086(u8 *a_1, u32 a_2, u32 a_3, u8 *a_4);
+static NEVER u8 capnp_pointers_pointers_validate_validate_pointers_07d_b5563fe6(u8 *a_1, u32 a_2, u32 a_3, u32 a_4, u8 *a_5);
 static NEVER void capnp_layout_c_validation_refused_pointer(u8 *a_1, u8 *a_2, u32 a_3, u8 *a_4);
 static void capnp_refusals_refusals_search_search_object_07dcb38b0fe92235(u8 *a_1, u8 *a_2, u32 a_3, u32 a_4, u8 *a_5);
-static void capnp_refusals_refusals_search_search_elements_07dcb38b0fe92235(u8 *a_1, u8 *a_2, u32 a_3, u32 a_4, u32 a_5, u8 *a_6);
 static NEVER void capnp_refusals_refusals_search_search_pointers_07dcb38b0fe92235(u8 *a_1, u8 *a_2, u32 a_3, u32 a_4, u32 a_5, u8 *a_6);
 
-/* capnp_contents::existing::struct_behind_pad::<#d7a666d2d35ab297> */
-static NEVER COLD void capnp_contents_existing_struct_behind_pad_d7a666d2d35ab297(u8 *a_1, u8 *a_2, u32 a_3, u64 a_4)
+/* capnp_in_place::existing::struct_behind_pad::<#d7a666d2d35ab297> */
+static NEVER COLD void capnp_in_place_existing_struct_behind_pad_d7a666d2d35ab297(u8 *a_1, u8 *a_2, u32 a_3, u64 a_4)
 {
     A(8) u8 slot_1[32];
     u64 t_24;
@@ -264,7 +263,7 @@ static NEVER COLD void capnp_contents_existing_struct_behind_pad_d7a666d2d35ab29
     u32 r_ai;
     u32 r_m0;
     if (!((a_4 & 3ull) == 2ull)) goto l_else_kq;
-    capnp_making_landing_follow_far_d7a666d2d35ab297(slot_1, a_2, a_4);
+    capnp_allocation_landing_follow_far_d7a666d2d35ab297(slot_1, a_2, a_4);
     r_ed = ld32((slot_1 + 20));
     r_uo = ld32((slot_1 + 16));
     r_4i = ld64((slot_1 + 8));
@@ -309,8 +308,8 @@ l_capnp_4n:;
     return;
 }
 
-/* capnp_making::landing::follow_far::<#d7a666d2d35ab297> */
-static NEVER COLD void capnp_making_landing_follow_far_d7a666d2d35ab297(u8 *a_1, u8 *a_2, u64 a_3)
+/* capnp_allocation::landing::follow_far::<#d7a666d2d35ab297> */
+static NEVER COLD void capnp_allocation_landing_follow_far_d7a666d2d35ab297(u8 *a_1, u8 *a_2, u64 a_3)
 {
     u32 t_ri;
     u32 r_yf;
@@ -379,8 +378,8 @@ l_join_s8:;
     return;
 }
 
-/* capnp_contents::opening::open_narrow_struct::<#d7a666d2d35ab297> */
-static NEVER void capnp_contents_opening_open_narrow_struct_d7a666d2d35ab297(u8 *a_1, u8 *a_2, u32 a_3, u32 a_4, u32 a_5, u16 a_6, u16 a_7, u16 a_8, u16 a_9)
+/* capnp_in_place::opening::open_narrow_struct::<#d7a666d2d35ab297> */
+static NEVER void capnp_in_place_opening_open_narrow_struct_d7a666d2d35ab297(u8 *a_1, u8 *a_2, u32 a_3, u32 a_4, u32 a_5, u16 a_6, u16 a_7, u16 a_8, u16 a_9)
 {
     A(8) u8 slot_1[24];
     u16 a_1p;
@@ -490,7 +489,7 @@ l_arm_pm:;
     st32(r_08, storemerge_w0);
     r_29 = ((u32)(r_m2_1 << 16u) | r_m2);
     r_m2_2 = (u32)a_6;
-    if (!(a_6 == 1u)) goto l_else_s6;
+    if (!(a_6 == 1u)) goto l_else_bm;
     if (a_4 == 0u) goto l_arm_97;
     r_c5 = ldp(a_2);
     r_m4 = 0ull;
@@ -503,15 +502,15 @@ l_arm_97:;
 l_capnp_wf:;
     st64((r_c5 + (i64)(r_z6)), r_m4);
     goto l_capnp_a3;
-l_else_s6:;
-    capnp_contents_widening_copy_words_at_once_d7a666d2d35ab297(a_2, a_5, r_yf, r_m2_2);
+l_else_bm:;
+    capnp_in_place_widening_copy_words_at_once_d7a666d2d35ab297(a_2, a_5, r_yf, r_m2_2);
 l_capnp_a3:;
     r_eh = (a_5 + r_m2_2);
     r_w0 = (r_yf + r_m2);
     r_m2_3 = (u32)a_7;
     memset(slot_1, 0u, 24);
     r_sz = (a_4 == 0u);
-    if (!r_sz) goto l_capnp_7t;
+    if (!r_sz) goto l_capnp_zl;
     if (a_7 == 0u) goto l_capnp_8g;
     wide_bi = (u64)a_7;
     indvars_64 = 0ull;
@@ -556,13 +555,13 @@ l_arm_da:;
     if (!(indvars_r7 == wide_bi)) { indvars_64 = indvars_r7; goto l_join_n3; }
 l_capnp_8g:;
     goto l_capnp_he;
-l_capnp_7t:;
-    capnp_contents_moving_transfer_row_across_d7a666d2d35ab297(slot_1, a_2, a_4, r_eh, 0u, r_w0, r_m2_3);
+l_capnp_zl:;
+    capnp_in_place_moving_transfer_row_across_d7a666d2d35ab297(slot_1, a_2, a_4, r_eh, 0u, r_w0, r_m2_3);
     pre_r5 = ld8(slot_1);
     r_uq = ld32((slot_1 + 12));
     r_38 = ld64((slot_1 + 16));
     t_cf = (u32)ld8((slot_1 + 8));
-    if (!(pre_r5 == 0u)) goto l_arm_6i;
+    if (!(pre_r5 == 0u)) goto l_arm_ai;
 l_capnp_he:;
     st64((ldp(a_2) + (i64)((u64)((u64)a_3 << 3ull))), (((u64)((u64)a_1p_1 << 48ull) | (u64)((u64)a_1p << 32ull)) | (u64)(u32)((r_yf + (a_3 ^ 0xffffffffu)) << 2u)));
     r_68_1 = (r_m2_3 + r_m2_2);
@@ -591,14 +590,14 @@ l_then_qw:;
     memset(away(t_2b, 0xfffffffffffffff8ull), 0, 8);
 l_capnp_ab:;
     if (!((r_6n & 3ull) == 2ull)) { t_us = 0u; r_39 = r_yf; r_y7 = r_29; r_tm = 0ull; goto l_join_8y; }
-    capnp_making_zeroing_zero_far_pads_d7a666d2d35ab297(a_2, r_6n);
+    capnp_allocation_zeroing_zero_far_pads_d7a666d2d35ab297(a_2, r_6n);
     t_us = 0u;
     r_39 = r_yf;
     r_y7 = r_29;
     r_tm = 0ull;
     goto l_join_8y;
-l_arm_6i:;
-    capnp_contents_moving_zero_pads_of_row_d7a666d2d35ab297(a_2, a_4, r_eh, 0u, r_w0, r_m2_3);
+l_arm_ai:;
+    capnp_in_place_moving_zero_pads_of_row_d7a666d2d35ab297(a_2, a_4, r_eh, 0u, r_w0, r_m2_3);
     r_es_1 = (u64)r_68;
     if (r_68 == 0u) { t_us = pre_r5; r_39 = t_cf; r_y7 = r_uq; r_tm = r_38; goto l_join_8y; }
     if ((r_24 + r_es_1) > (u64)ld32(r_08)) { t_us = pre_r5; r_39 = t_cf; r_y7 = r_uq; r_tm = r_38; goto l_join_8y; }
@@ -751,8 +750,8 @@ l_join_5h:;
     goto l_common_68;
 }
 
-/* capnp_contents::widening::copy_words_at_once::<#d7a666d2d35ab297> */
-static NEVER void capnp_contents_widening_copy_words_at_once_d7a666d2d35ab297(u8 *a_1, u32 a_2, u32 a_3, u32 a_4)
+/* capnp_in_place::widening::copy_words_at_once::<#d7a666d2d35ab297> */
+static NEVER void capnp_in_place_widening_copy_words_at_once_d7a666d2d35ab297(u8 *a_1, u32 a_2, u32 a_3, u32 a_4)
 {
     u8 *r_fx;
     u64 r_7l;
@@ -829,8 +828,8 @@ l_capnp_68:;
     return;
 }
 
-/* capnp_contents::moving::transfer_row_across::<#d7a666d2d35ab297> */
-static NEVER COLD void capnp_contents_moving_transfer_row_across_d7a666d2d35ab297(u8 *a_1, u8 *a_2, u32 a_3, u32 a_4, u32 a_5, u32 a_6, u32 a_7)
+/* capnp_in_place::moving::transfer_row_across::<#d7a666d2d35ab297> */
+static NEVER COLD void capnp_in_place_moving_transfer_row_across_d7a666d2d35ab297(u8 *a_1, u8 *a_2, u32 a_3, u32 a_4, u32 a_5, u32 a_6, u32 a_7)
 {
     u8 r_sz;
     u8 *r_08;
@@ -898,7 +897,7 @@ l_arm_w1:;
     r_15 = (r_7q ? ((((u64)r_qw & 0xffffffffffffull) >> (32u & 63u))) : 0u);
     r_sx = ((((u64)r_79 & 0xffffffffffffull) << (16u & 63u)) & 0xffffffffffffull);
     r_j0 = (r_sx | r_15);
-    if (!r_eo) goto l_join_fn;
+    if (!r_eo) goto l_join_gd;
     if (!r_7q) goto l_arm_ue;
     u32 r_sh = (u32)r_j0;
     if (((u32)(r_sh >> 16u) | (r_sh & 65535u)) == 0u) { r_nw = r_fx; r_10 = 0xfffffffcull; goto l_arm_i3; }
@@ -909,7 +908,7 @@ l_arm_ue:;
     r_nw = r_fx;
     r_10 = ((((u64)(r_79 << 35ull) | (u64)(u32)((r_4r + (r_7m_1 ^ 0xffffffffu)) << 2u)) | t_wl) | 1ull);
     goto l_arm_i3;
-l_join_fn:;
+l_join_gd:;
     if (r_yf == (u32)umin64((u64)(ld64(r_rq) >> 3ull), 0x1fffffffull)) goto l_arm_5h;
     r_z6 = (u64)(r_24_1 << 3ull);
     memset(away(r_fx, r_z6), 0, 8);
@@ -941,8 +940,8 @@ l_capnp_zp:;
     return;
 }
 
-/* capnp_making::zeroing::zero_far_pads::<#d7a666d2d35ab297> */
-static NEVER COLD void capnp_making_zeroing_zero_far_pads_d7a666d2d35ab297(u8 *a_1, u64 a_2)
+/* capnp_allocation::zeroing::zero_far_pads::<#d7a666d2d35ab297> */
+static NEVER COLD void capnp_allocation_zeroing_zero_far_pads_d7a666d2d35ab297(u8 *a_1, u64 a_2)
 {
     u8 r_hr;
     u64 t_3h;
@@ -965,8 +964,8 @@ l_capnp_68:;
     return;
 }
 
-/* capnp_contents::moving::zero_pads_of_row::<#d7a666d2d35ab297> */
-static NEVER COLD void capnp_contents_moving_zero_pads_of_row_d7a666d2d35ab297(u8 *a_1, u32 a_2, u32 a_3, u32 a_4, u32 a_5, u32 a_6)
+/* capnp_in_place::moving::zero_pads_of_row::<#d7a666d2d35ab297> */
+static NEVER COLD void capnp_in_place_moving_zero_pads_of_row_d7a666d2d35ab297(u8 *a_1, u32 a_2, u32 a_3, u32 a_4, u32 a_5, u32 a_6)
 {
     u8 r_sz;
     u8 *r_08;
@@ -1000,7 +999,7 @@ l_arm_7z:;
     if (!(r_w2 > r_7m_1)) goto l_capnp_4g;
     r_qw = ld64(away(ldp(a_1), (u64)((u64)r_7m_1 << 3ull)));
     if (!((r_qw & 3ull) == 2ull)) goto l_capnp_4g;
-    capnp_making_zeroing_zero_far_pads_d7a666d2d35ab297(a_1, r_qw);
+    capnp_allocation_zeroing_zero_far_pads_d7a666d2d35ab297(a_1, r_qw);
 l_capnp_4g:;
     u64 indvars_r7 = (indvars_m0 + 1ull);
     if (!(indvars_r7 == wide_v1)) { indvars_m0 = indvars_r7; goto l_join_qx; }
@@ -1008,8 +1007,8 @@ l_after_68:;
     return;
 }
 
-/* capnp_making::zeroing::zero_if_inside::<#d7a666d2d35ab297> */
-static void capnp_making_zeroing_zero_if_inside_d7a666d2d35ab297(u8 *a_1, u32 a_2, u32 a_3, u64 a_4)
+/* capnp_allocation::zeroing::zero_if_inside::<#d7a666d2d35ab297> */
+static void capnp_allocation_zeroing_zero_if_inside_d7a666d2d35ab297(u8 *a_1, u32 a_2, u32 a_3, u64 a_4)
 {
     u64 r_7l;
     u32 r_73;
@@ -1044,8 +1043,8 @@ l_join_68:;
     return;
 }
 
-/* capnp_contents::opening::new_struct::<#d7a666d2d35ab297> */
-static NEVER void capnp_contents_opening_new_struct_d7a666d2d35ab297(u8 *a_1, u8 *a_2, u32 a_3, u16 a_4, u16 a_5)
+/* capnp_in_place::opening::new_struct::<#d7a666d2d35ab297> */
+static NEVER void capnp_in_place_opening_new_struct_d7a666d2d35ab297(u8 *a_1, u8 *a_2, u32 a_3, u16 a_4, u16 a_5)
 {
     u32 r_m2;
     u32 r_m2_1;
@@ -1104,8 +1103,8 @@ l_arm_5h:;
     goto l_common_68;
 }
 
-/* capnp_contents::existing::get_list::<#d7a666d2d35ab297> */
-static void capnp_contents_existing_get_list_d7a666d2d35ab297(u8 *a_1, u8 *a_2, u32 a_3, u8 a_4)
+/* capnp_in_place::existing::get_list::<#d7a666d2d35ab297> */
+static void capnp_in_place_existing_get_list_d7a666d2d35ab297(u8 *a_1, u8 *a_2, u32 a_3, u8 a_4)
 {
     A(8) u8 slot_1[32];
     u32 r_yf;
@@ -1124,7 +1123,7 @@ static void capnp_contents_existing_get_list_d7a666d2d35ab297(u8 *a_1, u8 *a_2, 
     u8 switch_wl;
     u64 r_qw_1;
     u64 r_y6;
-    u32 r_5e;
+    u32 r_1d;
     u32 r_pp;
     u32 r_9q;
     u64 r_ai;
@@ -1138,7 +1137,7 @@ static void capnp_contents_existing_get_list_d7a666d2d35ab297(u8 *a_1, u8 *a_2, 
     r_qw = ld64(away(r_fx, (u64)(r_7l << 3ull)));
     if (r_qw == 0ull) { r_pp = 0u; r_9q = 0u; r_ai = 0ull; r_m0 = 0u; r_ph = 0u; r_mc = 0u; goto l_join_4n; }
     if (!((r_qw & 3ull) == 2ull)) goto l_else_jd;
-    capnp_making_landing_follow_far_d7a666d2d35ab297(slot_1, a_2, r_qw);
+    capnp_allocation_landing_follow_far_d7a666d2d35ab297(slot_1, a_2, r_qw);
     r_m1 = ld32((slot_1 + 20));
     r_14 = ld32((slot_1 + 16));
     r_y7 = ld64((slot_1 + 8));
@@ -1181,8 +1180,8 @@ l_arm_n5:;
     switch_wl = (u8)((u8)r_ep & 7u);
     switch (switch_wl) {
     case 7u: goto l_then_p7;
-    case 0u: { r_5e = 0u; goto l_switch_lg; }
-    case 6u: { r_5e = 0u; goto l_switch_lg; }
+    case 0u: { r_1d = 0u; goto l_switch_i6; }
+    case 6u: { r_1d = 0u; goto l_switch_i6; }
     case 5u: goto l_arm_q3;
     case 1u: goto l_arm_q3_1;
     case 2u: goto l_arm_q3_2;
@@ -1218,24 +1217,24 @@ l_arm_on:;
     r_mc = 1u;
     goto l_join_4n;
 l_arm_q3_1:;
-    r_5e = 1u;
-    goto l_switch_lg;
+    r_1d = 1u;
+    goto l_switch_i6;
 l_arm_q3_2:;
-    r_5e = 8u;
-    goto l_switch_lg;
+    r_1d = 8u;
+    goto l_switch_i6;
 l_arm_q3_3:;
-    r_5e = 16u;
-    goto l_switch_lg;
+    r_1d = 16u;
+    goto l_switch_i6;
 l_arm_q3_4:;
-    r_5e = 32u;
-    goto l_switch_lg;
+    r_1d = 32u;
+    goto l_switch_i6;
 l_arm_q3:;
-    r_5e = 64u;
-    goto l_switch_lg;
+    r_1d = 64u;
+    goto l_switch_i6;
 l_default_e1:;
     UNREACHABLE();
-l_switch_lg:;
-    if (r_5e < ld32((((u8 *)switch_table_capnp_contents_existing_get_list_d7a666d2d35ab297) + (i64)(4 * (u64)a_4)))) { r_pp = 4u; r_9q = 0u; r_ai = 0ull; r_m0 = 0u; r_ph = 1u; r_mc = 0u; goto l_join_4n; }
+l_switch_i6:;
+    if (r_1d < ld32((((u8 *)switch_table_capnp_in_place_existing_get_list_d7a666d2d35ab297) + (i64)(4 * (u64)a_4)))) { r_pp = 4u; r_9q = 0u; r_ai = 0ull; r_m0 = 0u; r_ph = 1u; r_mc = 0u; goto l_join_4n; }
     if ((u8)((u8)(a_4 == 6u) & (u8)(switch_wl != 6u))) { r_pp = 4u; r_9q = 0u; r_ai = 0ull; r_m0 = 0u; r_ph = 1u; r_mc = 0u; goto l_join_4n; }
     r_pp = r_14;
     r_9q = r_m1;
@@ -1253,8 +1252,8 @@ l_join_4n:;
     goto l_common_68;
 }
 
-/* capnp_contents::remaking::allocate_struct_list::<#d7a666d2d35ab297> */
-static void capnp_contents_remaking_allocate_struct_list_d7a666d2d35ab297(u8 *a_1, u8 *a_2, u32 a_3, u16 a_4, u16 a_5)
+/* capnp_in_place::remaking::allocate_struct_list::<#d7a666d2d35ab297> */
+static void capnp_in_place_remaking_allocate_struct_list_d7a666d2d35ab297(u8 *a_1, u8 *a_2, u32 a_3, u16 a_4, u16 a_5)
 {
     u32 r_cb;
     u32 r_ll;
@@ -1368,8 +1367,8 @@ l_common_5v:;
     return;
 }
 
-/* capnp_making::landing::follow::<#d7a666d2d35ab297> */
-static NEVER COLD void capnp_making_landing_follow_d7a666d2d35ab297(u8 *a_1, u8 *a_2, u32 a_3, u32 a_4)
+/* capnp_allocation::landing::follow::<#d7a666d2d35ab297> */
+static NEVER COLD void capnp_allocation_landing_follow_d7a666d2d35ab297(u8 *a_1, u8 *a_2, u32 a_3, u32 a_4)
 {
     A(8) u8 slot_1[32];
     A(8) u8 slot_2[24];
@@ -1399,7 +1398,7 @@ l_capnp_04:;
     r_qw = ld64(away(ldp(a_2), (u64)(r_7l << 3ull)));
     memset(slot_1, 0u, 32);
     if (!((r_qw & 3ull) == 2ull)) goto l_capnp_jd;
-    capnp_making_landing_follow_far_d7a666d2d35ab297(slot_1, a_2, r_qw);
+    capnp_allocation_landing_follow_far_d7a666d2d35ab297(slot_1, a_2, r_qw);
     r_ud = ld8(slot_1);
     goto l_capnp_ty;
 l_then_ud:;
@@ -1441,8 +1440,8 @@ l_capnp_ty:;
     return;
 }
 
-/* capnp_making::zeroing::zero_target::<#d7a666d2d35ab297> */
-static NEVER COLD void capnp_making_zeroing_zero_target_d7a666d2d35ab297(u8 *a_1, u8 *a_2)
+/* capnp_allocation::zeroing::zero_target::<#d7a666d2d35ab297> */
+static NEVER COLD void capnp_allocation_zeroing_zero_target_d7a666d2d35ab297(u8 *a_1, u8 *a_2)
 {
     A(8) u8 slot_1[32];
     u64 r_tp;
@@ -1535,12 +1534,12 @@ l_join_ip:;
     r_2b = away(ldp(a_1), (u64)((u64)r_zy << 3ull));
     r_qw = ld64(r_2b);
     if (r_qw == 0ull) goto l_capnp_yw;
-    capnp_making_landing_follow_d7a666d2d35ab297(slot_1, a_1, r_5k, r_zy);
+    capnp_allocation_landing_follow_d7a666d2d35ab297(slot_1, a_1, r_5k, r_zy);
     st64(r_2b, 0ull);
     if (!(ld8(slot_1) == 1u)) goto l_capnp_yw;
-    capnp_making_zeroing_zero_target_d7a666d2d35ab297(a_1, r_x5);
+    capnp_allocation_zeroing_zero_target_d7a666d2d35ab297(a_1, r_x5);
     if (!((r_qw & 3ull) == 2ull)) goto l_capnp_yw;
-    capnp_making_zeroing_zero_far_pads_d7a666d2d35ab297(a_1, r_qw);
+    capnp_allocation_zeroing_zero_far_pads_d7a666d2d35ab297(a_1, r_qw);
 l_capnp_yw:;
     u64 indvars_r7 = (indvars_ny + 1ull);
     if (!(indvars_r7 == r_y6)) { indvars_ny = indvars_r7; goto l_join_ip; }
@@ -1596,7 +1595,7 @@ l_capnp_qm:;
     if (!r_2p_1) goto l_join_68;
     r_08 = away(a_1, 16ull);
     if ((r_c4 + (u64)r_5k_1) > (u64)ld32(r_08)) goto l_join_68;
-    if (!((r_y6_1 != 0ull) ? (t_c8 != 0u) : 0u)) goto l_capnp_bh;
+    if (!((r_y6_1 != 0ull) ? (t_c8 != 0u) : 0u)) goto l_capnp_r8;
     r_x5_1 = (slot_1 + 8);
     r_te = (r_5k_1 + 1u);
     r_52 = 0u;
@@ -1609,20 +1608,20 @@ l_join_m1:;
     r_2b_2 = away(ldp(a_1), (u64)((u64)r_sr << 3ull));
     r_qw_1 = ld64(r_2b_2);
     if (r_qw_1 == 0ull) goto l_capnp_yw_1;
-    capnp_making_landing_follow_d7a666d2d35ab297(slot_1, a_1, 0u, r_sr);
+    capnp_allocation_landing_follow_d7a666d2d35ab297(slot_1, a_1, 0u, r_sr);
     st64(r_2b_2, 0ull);
     if (!(ld8(slot_1) == 1u)) goto l_capnp_yw_1;
-    capnp_making_zeroing_zero_target_d7a666d2d35ab297(a_1, r_x5_1);
+    capnp_allocation_zeroing_zero_target_d7a666d2d35ab297(a_1, r_x5_1);
     if (!((r_qw_1 & 3ull) == 2ull)) goto l_capnp_yw_1;
-    capnp_making_zeroing_zero_far_pads_d7a666d2d35ab297(a_1, r_qw_1);
+    capnp_allocation_zeroing_zero_far_pads_d7a666d2d35ab297(a_1, r_qw_1);
 l_capnp_yw_1:;
     u64 indvars_r7_1 = (indvars_4c + 1ull);
     if (!(indvars_r7_1 == r_y6_1)) { indvars_4c = indvars_r7_1; goto l_join_m1; }
 l_capnp_to:;
     u32 r_ff = (r_52 + 1u);
     if (!(r_ff == t_c8)) { r_te = (r_w0 + t_12); r_52 = r_ff; goto l_join_b2; }
-l_capnp_bh:;
-    capnp_making_zeroing_zero_if_inside_d7a666d2d35ab297(a_1, 0u, r_5k_1, r_c4);
+l_capnp_r8:;
+    capnp_allocation_zeroing_zero_if_inside_d7a666d2d35ab297(a_1, 0u, r_5k_1, r_c4);
     goto l_join_68;
 l_arm_6p:;
     r_lc_2 = (r_ij + (u64)r_5k_1);
@@ -1637,12 +1636,12 @@ l_join_m1_1:;
     r_2b_3 = away(ldp(a_1), (u64)((u64)r_sr_1 << 3ull));
     r_qw_2 = ld64(r_2b_3);
     if (r_qw_2 == 0ull) goto l_capnp_o8;
-    capnp_making_landing_follow_d7a666d2d35ab297(slot_1, a_1, r_5k, r_sr_1);
+    capnp_allocation_landing_follow_d7a666d2d35ab297(slot_1, a_1, r_5k, r_sr_1);
     st64(r_2b_3, 0ull);
     if (!(ld8(slot_1) == 1u)) goto l_capnp_o8;
-    capnp_making_zeroing_zero_target_d7a666d2d35ab297(a_1, r_x5_2);
+    capnp_allocation_zeroing_zero_target_d7a666d2d35ab297(a_1, r_x5_2);
     if (!((r_qw_2 & 3ull) == 2ull)) goto l_capnp_o8;
-    capnp_making_zeroing_zero_far_pads_d7a666d2d35ab297(a_1, r_qw_2);
+    capnp_allocation_zeroing_zero_far_pads_d7a666d2d35ab297(a_1, r_qw_2);
 l_capnp_o8:;
     u64 indvars_r7_2 = (indvars_4c_1 + 1ull);
     if (indvars_r7_2 == r_ij) goto l_join_68;
@@ -1699,7 +1698,7 @@ static NEVER u32 capnp_layout_c_building_texts_set_any_data(u8 *a_1, u64 a_2, u8
     A(8) u8 slot_1[32];
     A(8) u8 slot_2[32];
     u32 r_iy;
-    u64 a_yf;
+    u64 a_js;
     u64 r_24;
     u32 common_hy;
     u32 r_d3;
@@ -1716,9 +1715,9 @@ static NEVER u32 capnp_layout_c_building_texts_set_any_data(u8 *a_1, u64 a_2, u8
     u32 storemerge_jl;
     u32 r_a5;
     r_iy = ld32(a_3);
-    a_yf = umin64((u64)(a_2 >> 3ull), 0x1fffffffull);
+    a_js = umin64((u64)(a_2 >> 3ull), 0x1fffffffull);
     r_24 = (u64)r_iy;
-    if ((u8)((u8)(a_yf >= r_24) & (u8)(a_4 < r_24))) goto l_join_i7;
+    if ((u8)((u8)(a_js >= r_24) & (u8)(a_4 < r_24))) goto l_join_i7;
     common_hy = 61u;
 l_common_2g:;
     return common_hy;
@@ -1733,16 +1732,16 @@ l_join_i7:;
     r_8z = away(a_1, ((u64)(a_4 << 3ull) & 0x7fffffff8ull));
     r_qw = ld64(r_8z);
     if (r_qw == 0ull) goto l_capnp_y1;
-    capnp_making_landing_follow_d7a666d2d35ab297(slot_1, slot_2, 0u, r_d3);
+    capnp_allocation_landing_follow_d7a666d2d35ab297(slot_1, slot_2, 0u, r_d3);
     st64(r_8z, 0ull);
     if (!(ld8(slot_1) == 1u)) goto l_capnp_y1;
-    capnp_making_zeroing_zero_target_d7a666d2d35ab297(slot_2, (slot_1 + 8));
+    capnp_allocation_zeroing_zero_target_d7a666d2d35ab297(slot_2, (slot_1 + 8));
     if (!((r_qw & 3ull) == 2ull)) goto l_capnp_y1;
-    capnp_making_zeroing_zero_far_pads_d7a666d2d35ab297(slot_2, r_qw);
+    capnp_allocation_zeroing_zero_far_pads_d7a666d2d35ab297(slot_2, r_qw);
 l_capnp_y1:;
     r_se = (u64)(((u64)(a_6 << 3ull) + 63ull) >> 6ull);
     r_12 = (u32)r_se;
-    if (((u32)a_yf - r_iy) < r_12) { storemerge_jl = r_iy; r_a5 = 1u; goto l_capnp_3p; }
+    if (((u32)a_js - r_iy) < r_12) { storemerge_jl = r_iy; r_a5 = 1u; goto l_capnp_3p; }
     r_z6 = (u64)(r_se << 3ull);
     r_8z_1 = away(a_1, (u64)(r_24 << 3ull));
     if (a_6 < 57ull) goto l_then_08;
@@ -1821,7 +1820,7 @@ static NEVER u32 capnp_layout_c_building_texts_set_any_text(u8 *a_1, u64 a_2, u8
     A(8) u8 slot_1[32];
     A(8) u8 slot_2[32];
     u32 r_iy;
-    u64 a_yf;
+    u64 a_js;
     u64 r_24;
     u32 common_hy;
     u32 r_d3;
@@ -1840,9 +1839,9 @@ static NEVER u32 capnp_layout_c_building_texts_set_any_text(u8 *a_1, u64 a_2, u8
     u32 storemerge_jl;
     u32 r_a5;
     r_iy = ld32(a_3);
-    a_yf = umin64((u64)(a_2 >> 3ull), 0x1fffffffull);
+    a_js = umin64((u64)(a_2 >> 3ull), 0x1fffffffull);
     r_24 = (u64)r_iy;
-    if ((u8)((u8)(a_yf >= r_24) & (u8)(a_4 < r_24))) goto l_join_6g;
+    if ((u8)((u8)(a_js >= r_24) & (u8)(a_4 < r_24))) goto l_join_6g;
     common_hy = 61u;
 l_common_2g:;
     return common_hy;
@@ -1858,16 +1857,16 @@ l_join_6g:;
     r_8z = away(a_1, ((u64)(a_4 << 3ull) & 0x7fffffff8ull));
     r_qw = ld64(r_8z);
     if (r_qw == 0ull) goto l_capnp_g2;
-    capnp_making_landing_follow_d7a666d2d35ab297(slot_1, slot_2, 0u, r_d3);
+    capnp_allocation_landing_follow_d7a666d2d35ab297(slot_1, slot_2, 0u, r_d3);
     st64(r_8z, 0ull);
     if (!(ld8(slot_1) == 1u)) goto l_capnp_g2;
-    capnp_making_zeroing_zero_target_d7a666d2d35ab297(slot_2, (slot_1 + 8));
+    capnp_allocation_zeroing_zero_target_d7a666d2d35ab297(slot_2, (slot_1 + 8));
     if (!((r_qw & 3ull) == 2ull)) goto l_capnp_g2;
-    capnp_making_zeroing_zero_far_pads_d7a666d2d35ab297(slot_2, r_qw);
+    capnp_allocation_zeroing_zero_far_pads_d7a666d2d35ab297(slot_2, r_qw);
 l_capnp_g2:;
     r_se = (u64)(((u64)(r_1p << 3ull) + 63ull) >> 6ull);
     r_12 = (u32)r_se;
-    if (((u32)a_yf - r_iy) < r_12) { storemerge_jl = r_iy; r_a5 = 1u; goto l_capnp_3p; }
+    if (((u32)a_js - r_iy) < r_12) { storemerge_jl = r_iy; r_a5 = 1u; goto l_capnp_3p; }
     r_z6 = (u64)(r_se << 3ull);
     r_8z_1 = away(a_1, (u64)(r_24 << 3ull));
     if (a_6 < 56ull) goto l_then_bm;
@@ -1979,15 +1978,15 @@ l_join_lx:;
     r_w0 = ((r_ab + (u32)a_5) + (r_4r & 65535u));
     r_8z = away(a_1, (u64)((u64)r_w0 << 3ull));
     r_qw = ld64(r_8z);
-    if (r_qw == 0ull) goto l_capnp_33;
-    capnp_making_landing_follow_d7a666d2d35ab297(slot_1, slot_3, 0u, r_w0);
+    if (r_qw == 0ull) goto l_capnp_78;
+    capnp_allocation_landing_follow_d7a666d2d35ab297(slot_1, slot_3, 0u, r_w0);
     st64(r_8z, 0ull);
-    if (!(ld8(slot_1) == 1u)) goto l_capnp_33;
-    capnp_making_zeroing_zero_target_d7a666d2d35ab297(slot_3, (slot_1 + 8));
-    if (!((r_qw & 3ull) == 2ull)) goto l_capnp_33;
-    capnp_making_zeroing_zero_far_pads_d7a666d2d35ab297(slot_3, r_qw);
-l_capnp_33:;
-    capnp_making_making_make_struct_list_d7a666d2d35ab297(slot_2, slot_3, 0u, r_w0, a_6, a_7, a_8);
+    if (!(ld8(slot_1) == 1u)) goto l_capnp_78;
+    capnp_allocation_zeroing_zero_target_d7a666d2d35ab297(slot_3, (slot_1 + 8));
+    if (!((r_qw & 3ull) == 2ull)) goto l_capnp_78;
+    capnp_allocation_zeroing_zero_far_pads_d7a666d2d35ab297(slot_3, r_qw);
+l_capnp_78:;
+    capnp_allocation_making_make_struct_list_d7a666d2d35ab297(slot_2, slot_3, 0u, r_w0, a_6, a_7, a_8);
     t_fj = ld64((slot_2 + 4));
     if (!(ld8(slot_2) == 0u)) goto l_arm_px;
     st32(a_3, ld32(r_zd));
@@ -2000,8 +1999,8 @@ l_arm_px:;
     goto l_common_2g;
 }
 
-/* capnp_making::making::make_struct_list::<#d7a666d2d35ab297> */
-static void capnp_making_making_make_struct_list_d7a666d2d35ab297(u8 *a_1, u8 *a_2, u32 a_3, u32 a_4, u32 a_5, u16 a_6, u16 a_7)
+/* capnp_allocation::making::make_struct_list::<#d7a666d2d35ab297> */
+static void capnp_allocation_making_make_struct_list_d7a666d2d35ab297(u8 *a_1, u8 *a_2, u32 a_3, u32 a_4, u32 a_5, u16 a_6, u16 a_7)
 {
     u32 r_cb;
     u32 r_ll;
@@ -2106,12 +2105,11 @@ l_common_ak:;
 }
 
 /* typed_conforming::conforms::check_object::<#07dcb38b0fe92235> */
-static NEVER void typed_conforming_conforms_check_object_07dcb38b0fe92235(u8 *a_1, u8 *a_2, u64 a_3, u8 *a_4, u8 *a_5, u32 a_6, u8 *a_7)
+static NEVER u8 typed_conforming_conforms_check_object_07dcb38b0fe92235(u8 *a_1, u64 a_2, u8 *a_3, u8 *a_4, u32 a_5, u8 *a_6)
 {
     A(8) u8 slot_1[56];
     A(4) u8 slot_2[16];
-    A(8) u8 slot_3[48];
-    A(8) u8 slot_4[64];
+    A(8) u8 slot_3[64];
     u8 r_dh;
     u8 r_dd;
     u32 r_5k;
@@ -2127,6 +2125,7 @@ static NEVER void typed_conforming_conforms_check_object_07dcb38b0fe92235(u8 *a_
     u8 *r_08;
     u8 *r_r2;
     u32 r_e3;
+    u8 *r_su;
     u64 r_7l;
     u64 r_gw;
     u64 r_qw;
@@ -2144,7 +2143,7 @@ static NEVER void typed_conforming_conforms_check_object_07dcb38b0fe92235(u8 *a_
     u64 r_ep;
     u64 r_y6;
     u64 r_lc_1;
-    u8 *r_rq_1;
+    u8 *r_t9;
     u64 r_52_1;
     u64 r_ep_1;
     u8 switch_wl;
@@ -2152,7 +2151,7 @@ static NEVER void typed_conforming_conforms_check_object_07dcb38b0fe92235(u8 *a_
     u64 r_c4;
     u64 r_24;
     u64 r_gw_1;
-    u8 *r_rq_2;
+    u8 *r_t9_1;
     u64 r_52_2;
     u64 r_eh;
     u32 t_c8;
@@ -2160,17 +2159,17 @@ static NEVER void typed_conforming_conforms_check_object_07dcb38b0fe92235(u8 *a_
     u32 r_az;
     u32 r_68;
     u64 r_c0;
-    u8 *r_rq_3;
+    u8 *r_t9_2;
     u64 r_52_3;
     u32 r_12_1;
-    u8 *r_rq_4;
+    u8 *r_t9_3;
     u64 r_52_4;
     u32 r_12_2;
-    u8 *r_rq_5;
+    u8 *r_t9_4;
     u64 r_52_5;
     u32 r_12_3;
     u64 r_c6;
-    u8 *r_rq_6;
+    u8 *r_t9_5;
     u64 r_52_6;
     u64 r_2g;
     u64 r_jg;
@@ -2197,27 +2196,27 @@ static NEVER void typed_conforming_conforms_check_object_07dcb38b0fe92235(u8 *a_
     u8 r_qf;
     u32 r_hk;
     u64 r_wj;
-    u32 r_4t;
-    u64 r_o8;
-    u32 r_xo;
-    u64 r_a2;
-    u32 r_mh;
-    u8 r_0a;
+    u32 r_mx;
+    u64 r_99;
+    u32 r_lf;
+    u64 r_g2;
+    u32 r_xd;
+    u8 r_x2;
     u32 r_5d;
     u32 r_j5;
     u32 r_rr;
     u32 r_hr;
     u8 r_dh_1;
-    u32 r_mx;
+    u32 r_mx_1;
     u8 *r_89;
     u8 *t_f6_2;
-    u8 *r_he;
-    u64 r_sf;
-    u32 r_ze;
+    u64 r_24_2;
+    u8 *r_3s;
+    u64 r_cz;
+    u32 r_iz;
+    u8 *r_fd;
+    u64 r_1x;
     u32 narrow_68;
-    u8 r_qc;
-    u8 *r_a7;
-    u64 r_c4_1;
     u8 *r_x5;
     u8 *r_lk;
     u8 *r_nk;
@@ -2225,8 +2224,15 @@ static NEVER void typed_conforming_conforms_check_object_07dcb38b0fe92235(u8 *a_
     u8 *r_ix;
     u8 *r_x5_1;
     u8 *r_k0;
-    u8 *r_08_2;
-    u8 *r_rq_7;
+    u8 *r_r2_2;
+    u8 *r_t9_6;
+    u8 *r_sl;
+    u8 *r_e7;
+    u8 *r_ud;
+    u8 *r_ng;
+    u8 *r_zh;
+    u8 *r_z8;
+    u8 *r_sd;
     u8 *r_x5_2;
     u8 *r_zd;
     u8 *r_lk_1;
@@ -2234,17 +2240,9 @@ static NEVER void typed_conforming_conforms_check_object_07dcb38b0fe92235(u8 *a_
     u8 *r_x5_3;
     u8 *r_k0_1;
     u8 *r_zd_1;
-    u8 *r_lk_2;
-    u8 *r_89_1;
-    u8 *r_gs;
-    u8 *r_a8;
-    u8 *r_f3;
     u8 *r_x5_4;
-    u8 *r_k0_2;
     u8 *r_zd_2;
-    u8 *r_x5_5;
-    u8 *r_zd_3;
-    u8 *r_lk_3;
+    u8 *r_lk_2;
     u8 *r_nk_2;
     u64 wide_es_1;
     u64 r_gw_2;
@@ -2260,28 +2258,21 @@ static NEVER void typed_conforming_conforms_check_object_07dcb38b0fe92235(u8 *a_
     u32 r_w0;
     u32 r_w0_1;
     u32 r_w0_2;
-    u64 indvars_b4;
+    u64 indvars_vr;
     u32 t_nk;
     u32 r_sr;
-    u64 r_24_4;
+    u64 r_24_3;
     u64 r_qw_3;
-    u64 r_pl;
     u32 r_yf_1;
     u32 common_8i;
     u64 r_ep_2;
     u8 switch_wl_1;
+    u8 t_8c;
     u64 r_ij_1;
     u64 r_c6_1;
     u64 r_lc_2;
     u64 r_y0;
     u64 r_52_9;
-    u64 t_5e;
-    u32 r_85;
-    u64 r_49;
-    u32 r_10_1;
-    u32 r_0a_1;
-    u32 r_mo;
-    u8 r_r5;
     u64 r_ij_2;
     u32 r_12_4;
     u64 r_c6_2;
@@ -2290,19 +2281,13 @@ static NEVER void typed_conforming_conforms_check_object_07dcb38b0fe92235(u8 *a_
     u32 r_4r;
     u8 r_8u;
     u64 r_52_10;
-    u32 r_bp;
-    u64 r_24_5;
+    u32 r_ry;
+    u64 r_24_4;
     u64 r_gw_3;
     u64 indvars_qd_1;
-    u32 r_85_1;
-    u64 r_49_1;
-    u32 r_10_2;
-    u32 r_0a_2;
-    u32 r_mo_1;
-    u8 r_r5_1;
     u32 switch_4w;
-    u8 r_86;
-    u8 r_kd;
+    u8 r_nu;
+    u8 r_ol;
     u64 r_ij_3;
     u32 r_12_5;
     u64 r_c6_3;
@@ -2311,64 +2296,41 @@ static NEVER void typed_conforming_conforms_check_object_07dcb38b0fe92235(u8 *a_
     u32 r_4r_1;
     u8 r_8u_1;
     u64 r_52_11;
-    u32 r_rj;
-    u64 r_24_6;
+    u32 r_0n;
+    u64 r_24_5;
     u64 r_gw_4;
     u64 indvars_qd_2;
-    u8 r_1m;
-    u8 r_fh;
-    u32 r_1b;
-    u64 r_sb;
-    u32 r_5t;
-    u64 r_uw;
-    u32 r_0h;
-    u32 r_e1;
-    u32 r_d7;
-    u64 r_73;
-    u64 r_do;
-    u32 r_zu;
-    u32 r_jw;
-    u32 r_dg;
-    u8 r_rf_1;
+    u8 r_bv;
+    u8 r_w9;
+    u32 r_sl_1;
+    u64 r_ko;
     u32 r_8n;
     u8 r_p9_1;
     u8 r_8f;
-    u32 r_73_1;
-    u32 r_pe;
-    u32 r_wb;
-    u32 r_9k;
-    u32 r_rw;
-    u64 r_bv;
-    u64 r_z1;
-    u32 r_q6;
-    u32 r_bq;
-    u8 r_rf;
-    u8 r_10;
-    u32 r_kb;
-    u32 r_n4;
-    u64 r_yp;
-    u64 r_iz;
-    u32 r_62;
-    u32 r_24_2;
-    u32 r_lt;
-    u32 r_va;
-    r_dh = ld8(a_4);
-    r_dd = ld8((a_4 + 1));
-    r_5k = ld32((a_4 + 4));
-    r_5k_1 = ld32((a_4 + 8));
-    r_5k_2 = ld32((a_4 + 12));
-    st64((slot_4 + 56), 0ull);
-    r_xz = away(a_5, 24ull);
+    u32 r_73;
+    u32 r_g6;
+    u32 r_8q;
+    u64 r_o5;
+    u8 r_jm;
+    u8 r_fk;
+    r_dh = ld8(a_3);
+    r_dd = ld8((a_3 + 1));
+    r_5k = ld32((a_3 + 4));
+    r_5k_1 = ld32((a_3 + 8));
+    r_5k_2 = ld32((a_3 + 12));
+    st64((slot_3 + 56), 0ull);
+    r_xz = away(a_4, 24ull);
     r_52 = ld64(r_xz);
-    r_xw = ldp(away(a_5, 32ull));
-    r_38 = ld64(away(a_5, 40ull));
-    r_y8 = ld8(a_5);
-    r_rq = away(a_5, 8ull);
+    r_xw = ldp(away(a_4, 32ull));
+    r_38 = ld64(away(a_4, 40ull));
+    r_y8 = ld8(a_4);
+    r_rq = away(a_4, 8ull);
     r_xw_1 = ldp(r_rq);
-    r_08 = away(a_5, 16ull);
-    r_r2 = away(a_5, 56ull);
+    r_08 = away(a_4, 16ull);
+    r_r2 = away(a_4, 56ull);
     r_e3 = ld32(r_r2);
-    r_7l = (u64)a_6;
+    r_su = away(a_6, 40ull);
+    r_7l = (u64)a_5;
     r_gw = (u64)(r_38 >> 3ull);
     if (!(r_gw > r_7l)) { r_7k = 0u; r_4n = 0u; r_f7 = 0ull; switch_vz = 0u; r_a3 = 0u; r_ow = 0u; r_hw = 0u; r_yw = 0ull; r_ps = 0ull; goto l_arm_1h; }
     r_qw = ld64(away(r_xw, (u64)(r_7l << 3ull)));
@@ -2377,9 +2339,9 @@ static NEVER void typed_conforming_conforms_check_object_07dcb38b0fe92235(u8 *a_
     memset(slot_1, 0u, 56);
     t_pa = (r_y8 != 0u);
     if (t_pa) goto l_capnp_sm;
-    u8 *r_08_1 = away(a_7, 16ull);
-    st64(r_08_1, uadd_sat64(ld64(r_08_1), 1ull));
-    if ((r_qw & 3ull) == 2ull) goto l_capnp_3l;
+    u8 *r_r2_1 = away(a_6, 56ull);
+    st64(r_r2_1, uadd_sat64(ld64(r_r2_1), 1ull));
+    if ((r_qw & 3ull) == 2ull) goto l_capnp_74;
     goto l_join_bd;
 l_capnp_sm:;
     if (!((r_qw & 3ull) == 2ull)) goto l_join_bd;
@@ -2406,8 +2368,8 @@ l_capnp_i5:;
     r_o2 = r_38;
     r_hq = t_al;
     goto l_arm_gc;
-l_capnp_3l:;
-    capnp_objects_source_follow_far_07dcb38b0fe92235(slot_1, r_xw_1, r_qw, a_7);
+l_capnp_74:;
+    capnp_pointers_source_follow_far_07dcb38b0fe92235(slot_1, r_xw_1, r_qw, r_su);
     u64 r_38_2 = ld64((slot_1 + 16));
     u64 r_38_3 = ld64((slot_1 + 8));
     if (ld8(slot_1) == 0u) { r_ag = ld32((slot_1 + 44)); r_38_1 = ld32((slot_1 + 40)); r_7w = r_38_2; r_un = r_38_3; r_o2 = ld64((slot_1 + 32)); r_hq = ld64((slot_1 + 24)); goto l_arm_gc; }
@@ -2418,23 +2380,23 @@ l_arm_gc:;
     switch ((u8)((u8)r_un & 3u)) {
     case 0u: goto l_arm_zd;
     case 1u: goto l_arm_z2;
-    case 2u: { r_4t = 13u; r_o8 = 0ull; r_xo = 0u; goto l_arm_r8; }
+    case 2u: { r_mx = 13u; r_99 = 0ull; r_lf = 0u; goto l_arm_am; }
     case 3u: goto l_capnp_32;
     default: goto l_default_e1;
     }
 l_arm_zd:;
     r_ep = (u64)(r_un >> 32ull);
     r_y6 = (u64)(r_un >> 48ull);
-    if ((i32)r_e3 < (i32)1u) { r_4t = 26u; r_o8 = 0ull; r_xo = 0u; goto l_arm_r8; }
+    if ((i32)r_e3 < (i32)1u) { r_mx = 26u; r_99 = 0ull; r_lf = 0u; goto l_arm_am; }
     r_lc_1 = ((r_ep & 65535ull) + r_y6);
-    if (((u64)(r_o2 >> 3ull) & 0xffffffffull) < (r_lc_1 + (u64)r_38_1)) { r_4t = 23u; r_o8 = 0ull; r_xo = 0u; goto l_arm_r8; }
+    if (((u64)(r_o2 >> 3ull) & 0xffffffffull) < (r_lc_1 + (u64)r_38_1)) { r_mx = 23u; r_99 = 0ull; r_lf = 0u; goto l_arm_am; }
     if (t_pa) goto l_arm_mf;
-    if (!(ld8(a_7) == 1u)) goto l_arm_mf;
-    r_rq_1 = away(a_7, 8ull);
-    r_52_1 = ld64(r_rq_1);
-    if (r_52_1 < r_lc_1) { r_4t = 30u; r_o8 = 0ull; r_xo = 0u; goto l_arm_r8; }
-    st64(a_7, 1ull);
-    st64(r_rq_1, (r_52_1 - r_lc_1));
+    if (!(ld8(r_su) == 1u)) goto l_arm_mf;
+    r_t9 = away(a_6, 48ull);
+    r_52_1 = ld64(r_t9);
+    if (r_52_1 < r_lc_1) { r_mx = 30u; r_99 = 0ull; r_lf = 0u; goto l_arm_am; }
+    st64(r_su, 1ull);
+    st64(r_t9, (r_52_1 - r_lc_1));
 l_arm_mf:;
     r_7k = 0u;
     r_4n = ((u32)((u32)r_y6 << 16u) | ((u32)r_ep & 65535u));
@@ -2462,40 +2424,40 @@ l_arm_z2:;
     default: goto l_default_e1;
     }
 l_arm_td:;
-    if ((i32)r_e3 < (i32)1u) { r_4t = 26u; r_o8 = 0ull; r_xo = 0u; goto l_arm_r8; }
+    if ((i32)r_e3 < (i32)1u) { r_mx = 26u; r_99 = 0ull; r_lf = 0u; goto l_arm_am; }
     r_c4 = (r_ij + 1ull);
     r_24 = (u64)r_38_1;
     r_gw_1 = (u64)(r_o2 >> 3ull);
-    if ((r_gw_1 & 0xffffffffull) < (r_c4 + r_24)) { r_4t = 23u; r_o8 = 0ull; r_xo = 0u; goto l_arm_r8; }
+    if ((r_gw_1 & 0xffffffffull) < (r_c4 + r_24)) { r_mx = 23u; r_99 = 0ull; r_lf = 0u; goto l_arm_am; }
     if (t_pa) goto l_arm_ga;
-    if (!(ld8(a_7) == 1u)) goto l_arm_ga;
-    r_rq_2 = away(a_7, 8ull);
-    r_52_2 = ld64(r_rq_2);
-    if (!(r_52_2 > r_ij)) { r_4t = 30u; r_o8 = 0ull; r_xo = 0u; goto l_arm_r8; }
-    st64(a_7, 1ull);
-    st64(r_rq_2, (r_52_2 - r_c4));
+    if (!(ld8(r_su) == 1u)) goto l_arm_ga;
+    r_t9_1 = away(a_6, 48ull);
+    r_52_2 = ld64(r_t9_1);
+    if (!(r_52_2 > r_ij)) { r_mx = 30u; r_99 = 0ull; r_lf = 0u; goto l_arm_am; }
+    st64(r_su, 1ull);
+    st64(r_t9_1, (r_52_2 - r_c4));
 l_arm_ga:;
     if (!(r_gw_1 > r_24)) { r_eh = 0ull; goto l_join_qm; }
     u64 r_qw_1 = ld64(away(((u8 *)(uptr)r_hq), (u64)(r_24 << 3ull)));
     if ((r_qw_1 & 3ull) == 0ull) { r_eh = r_qw_1; goto l_join_qm; }
-    r_4t = 11u;
-    r_o8 = 0ull;
-    r_xo = 0u;
-    goto l_arm_r8;
+    r_mx = 11u;
+    r_99 = 0ull;
+    r_lf = 0u;
+    goto l_arm_am;
 l_join_qm:;
     t_c8 = (u32)((u32)r_eh >> 2u);
     r_12 = (u32)(u64)(r_eh >> 48ull);
     r_az = ((u32)(u64)(r_eh >> 32ull) & 65535u);
     r_68 = (r_az + r_12);
     r_c0 = (u64)t_c8;
-    if (r_ij < ((u64)r_68 * r_c0)) { r_4t = 10u; r_o8 = 0ull; r_xo = 0u; goto l_arm_r8; }
+    if (r_ij < ((u64)r_68 * r_c0)) { r_mx = 10u; r_99 = 0ull; r_lf = 0u; goto l_arm_am; }
     if ((u8)((u8)t_pa | (u8)(r_68 != 0u))) goto l_arm_8v;
-    if (!(ld8(a_7) == 1u)) goto l_arm_8v;
-    r_rq_3 = away(a_7, 8ull);
-    r_52_3 = ld64(r_rq_3);
-    if (r_52_3 < r_c0) { r_4t = 30u; r_o8 = 0ull; r_xo = 0u; goto l_arm_r8; }
-    st64(a_7, 1ull);
-    st64(r_rq_3, (r_52_3 - r_c0));
+    if (!(ld8(r_su) == 1u)) goto l_arm_8v;
+    r_t9_2 = away(a_6, 48ull);
+    r_52_3 = ld64(r_t9_2);
+    if (r_52_3 < r_c0) { r_mx = 30u; r_99 = 0ull; r_lf = 0u; goto l_arm_am; }
+    st64(r_su, 1ull);
+    st64(r_t9_2, (r_52_3 - r_c0));
 l_arm_8v:;
     r_7k = t_c8;
     r_4n = ((u32)(r_12 << 16u) | r_az);
@@ -2509,15 +2471,15 @@ l_arm_8v:;
     goto l_arm_1h;
 l_arm_ff:;
     r_12_1 = (u32)r_ij;
-    if ((i32)r_e3 < (i32)1u) { r_4t = 26u; r_o8 = 0ull; r_xo = 0u; goto l_arm_r8; }
-    if (((u64)(r_o2 >> 3ull) & 0xffffffffull) < (r_ij + (u64)r_38_1)) { r_4t = 23u; r_o8 = 0ull; r_xo = 0u; goto l_arm_r8; }
+    if ((i32)r_e3 < (i32)1u) { r_mx = 26u; r_99 = 0ull; r_lf = 0u; goto l_arm_am; }
+    if (((u64)(r_o2 >> 3ull) & 0xffffffffull) < (r_ij + (u64)r_38_1)) { r_mx = 23u; r_99 = 0ull; r_lf = 0u; goto l_arm_am; }
     if (t_pa) { r_7k = 0u; r_4n = r_12_1; r_f7 = r_7w; switch_vz = 1u; r_a3 = 4u; r_ow = r_ag; r_hw = r_38_1; r_yw = r_o2; r_ps = r_hq; goto l_arm_1h; }
-    if (!(ld8(a_7) == 1u)) { r_7k = 0u; r_4n = r_12_1; r_f7 = r_7w; switch_vz = 1u; r_a3 = 4u; r_ow = r_ag; r_hw = r_38_1; r_yw = r_o2; r_ps = r_hq; goto l_arm_1h; }
-    r_rq_4 = away(a_7, 8ull);
-    r_52_4 = ld64(r_rq_4);
-    if (r_52_4 < r_ij) { r_4t = 30u; r_o8 = 0ull; r_xo = 0u; goto l_arm_r8; }
-    st64(a_7, 1ull);
-    st64(r_rq_4, (r_52_4 - r_ij));
+    if (!(ld8(r_su) == 1u)) { r_7k = 0u; r_4n = r_12_1; r_f7 = r_7w; switch_vz = 1u; r_a3 = 4u; r_ow = r_ag; r_hw = r_38_1; r_yw = r_o2; r_ps = r_hq; goto l_arm_1h; }
+    r_t9_3 = away(a_6, 48ull);
+    r_52_4 = ld64(r_t9_3);
+    if (r_52_4 < r_ij) { r_mx = 30u; r_99 = 0ull; r_lf = 0u; goto l_arm_am; }
+    st64(r_su, 1ull);
+    st64(r_t9_3, (r_52_4 - r_ij));
     r_7k = 0u;
     r_4n = r_12_1;
     r_f7 = r_7w;
@@ -2530,15 +2492,15 @@ l_arm_ff:;
     goto l_arm_1h;
 l_arm_ff_1:;
     r_12_2 = (u32)r_ij;
-    if ((i32)r_e3 < (i32)1u) { r_4t = 26u; r_o8 = 0ull; r_xo = 0u; goto l_arm_r8; }
-    if (((u64)(r_o2 >> 3ull) & 0xffffffffull) < (u64)r_38_1) { r_4t = 23u; r_o8 = 0ull; r_xo = 0u; goto l_arm_r8; }
+    if ((i32)r_e3 < (i32)1u) { r_mx = 26u; r_99 = 0ull; r_lf = 0u; goto l_arm_am; }
+    if (((u64)(r_o2 >> 3ull) & 0xffffffffull) < (u64)r_38_1) { r_mx = 23u; r_99 = 0ull; r_lf = 0u; goto l_arm_am; }
     if (t_pa) { r_7k = r_12_2; r_4n = 0u; r_f7 = r_7w; switch_vz = 1u; r_a3 = 3u; r_ow = r_ag; r_hw = r_38_1; r_yw = r_o2; r_ps = r_hq; goto l_arm_1h; }
-    if (!(ld8(a_7) == 1u)) { r_7k = r_12_2; r_4n = 0u; r_f7 = r_7w; switch_vz = 1u; r_a3 = 3u; r_ow = r_ag; r_hw = r_38_1; r_yw = r_o2; r_ps = r_hq; goto l_arm_1h; }
-    st64(a_7, 1ull);
-    r_rq_5 = away(a_7, 8ull);
-    r_52_5 = ld64(r_rq_5);
-    if (r_52_5 < r_ij) { r_4t = 30u; r_o8 = 0ull; r_xo = 0u; goto l_arm_r8; }
-    st64(r_rq_5, (r_52_5 - r_ij));
+    if (!(ld8(r_su) == 1u)) { r_7k = r_12_2; r_4n = 0u; r_f7 = r_7w; switch_vz = 1u; r_a3 = 3u; r_ow = r_ag; r_hw = r_38_1; r_yw = r_o2; r_ps = r_hq; goto l_arm_1h; }
+    st64(r_su, 1ull);
+    r_t9_4 = away(a_6, 48ull);
+    r_52_5 = ld64(r_t9_4);
+    if (r_52_5 < r_ij) { r_mx = 30u; r_99 = 0ull; r_lf = 0u; goto l_arm_am; }
+    st64(r_t9_4, (r_52_5 - r_ij));
     r_7k = r_12_2;
     r_4n = 0u;
     r_f7 = r_7w;
@@ -2551,16 +2513,16 @@ l_arm_ff_1:;
     goto l_arm_1h;
 l_arm_ff_2:;
     r_12_3 = (u32)r_ij;
-    if ((i32)r_e3 < (i32)1u) { r_4t = 26u; r_o8 = 0ull; r_xo = 0u; goto l_arm_r8; }
-    r_c6 = (u64)(((ld64(away(away(((u8 *)switch_table_capnp_objects_pointers_validate_validate__79a49eb6), 8 * (r_ep_1 & 7ull)), 0xfffffffffffffff8ull)) * r_ij) + 63ull) >> 6ull);
-    if (((u64)(r_o2 >> 3ull) & 0xffffffffull) < (r_c6 + (u64)r_38_1)) { r_4t = 23u; r_o8 = 0ull; r_xo = 0u; goto l_arm_r8; }
+    if ((i32)r_e3 < (i32)1u) { r_mx = 26u; r_99 = 0ull; r_lf = 0u; goto l_arm_am; }
+    r_c6 = (u64)(((ld64(away(away(((u8 *)switch_table_capnp_pointers_pointers_validate_validate_f7685ec9), 8 * (r_ep_1 & 7ull)), 0xfffffffffffffff8ull)) * r_ij) + 63ull) >> 6ull);
+    if (((u64)(r_o2 >> 3ull) & 0xffffffffull) < (r_c6 + (u64)r_38_1)) { r_mx = 23u; r_99 = 0ull; r_lf = 0u; goto l_arm_am; }
     if (t_pa) goto l_arm_eq;
-    if (!(ld8(a_7) == 1u)) goto l_arm_eq;
-    r_rq_6 = away(a_7, 8ull);
-    r_52_6 = ld64(r_rq_6);
-    if (r_52_6 < r_c6) { r_4t = 30u; r_o8 = 0ull; r_xo = 0u; goto l_arm_r8; }
-    st64(a_7, 1ull);
-    st64(r_rq_6, (r_52_6 - r_c6));
+    if (!(ld8(r_su) == 1u)) goto l_arm_eq;
+    r_t9_5 = away(a_6, 48ull);
+    r_52_6 = ld64(r_t9_5);
+    if (r_52_6 < r_c6) { r_mx = 30u; r_99 = 0ull; r_lf = 0u; goto l_arm_am; }
+    st64(r_su, 1ull);
+    st64(r_t9_5, (r_52_6 - r_c6));
 l_arm_eq:;
     r_7k = r_12_3;
     r_4n = (u32)switch_wl;
@@ -2578,43 +2540,43 @@ l_capnp_8g:;
     r_jg = 0ull;
     r_6e = r_2g;
 l_capnp_qu:;
-    r_4t = ((u32)r_6e & 255u);
-    r_o8 = r_jg;
-    r_xo = (u32)(u64)(r_6e >> 32ull);
-    goto l_arm_r8;
+    r_mx = ((u32)r_6e & 255u);
+    r_99 = r_jg;
+    r_lf = (u32)(u64)(r_6e >> 32ull);
+    goto l_arm_am;
 l_capnp_32:;
     u8 r_e6 = ((r_un & 0xffffffffull) == 3ull);
     if (r_e6) { r_7k = 0u; r_4n = 0u; r_f7 = 0ull; switch_vz = 0u; r_a3 = 1u; r_ow = 0u; r_hw = 0u; r_yw = 0ull; r_ps = 0ull; goto l_arm_1h; }
-    r_4t = (r_e6 ? 1u : 34u);
-    r_o8 = 0ull;
-    r_xo = 0u;
-    goto l_arm_r8;
+    r_mx = (r_e6 ? 1u : 34u);
+    r_99 = 0ull;
+    r_lf = 0u;
+    goto l_arm_am;
 l_arm_1h:;
     switch (r_dh) {
-    case 0u: goto l_join_9d;
-    case 2u: goto l_arm_27;
-    case 3u: goto l_arm_27_1;
-    case 4u: goto l_arm_z5;
+    case 0u: goto l_join_xx;
+    case 2u: goto l_arm_y7;
+    case 3u: goto l_arm_y7_1;
+    case 4u: goto l_arm_r1;
     case 7u: goto l_arm_cz;
     case 1u: goto l_arm_lh;
     case 5u: goto l_arm_t4;
     case 6u: goto l_arm_ha;
     default: goto l_noarm_e1;
     }
-l_arm_27:;
+l_arm_y7:;
     t_f6 = ((u8 *)(uptr)r_ps);
     switch (r_a3) {
-    case 0u: goto l_arm_z2_1;
+    case 0u: { r_fk = r_a3; goto l_return_ri; }
     case 3u: goto l_arm_cq;
     case 4u: goto l_after_m6;
     case 5u: goto l_after_m6;
-    case 1u: { r_a2 = 0ull; r_mh = 0u; r_0a = 20u; goto l_arm_vs; }
-    case 2u: { r_a2 = 0ull; r_mh = 0u; r_0a = 20u; goto l_arm_vs; }
+    case 1u: { r_g2 = 0ull; r_xd = 0u; r_x2 = 20u; goto l_arm_b3; }
+    case 2u: { r_g2 = 0ull; r_xd = 0u; r_x2 = 20u; goto l_arm_b3; }
     default: goto l_noarm_e1_1;
     }
 l_arm_cq:;
     if (!((r_4n & 255u) == 2u)) goto l_after_m6;
-    if (r_7k == 0u) { r_a2 = 0ull; r_mh = 0u; r_0a = 24u; goto l_arm_vs; }
+    if (r_7k == 0u) { r_g2 = 0ull; r_xd = 0u; r_x2 = 24u; goto l_arm_b3; }
     u64 r_es = (u64)(r_7k + 0xffffffffu);
     u8 r_pa = ((ld64(away(t_f6, (((u64)((u64)r_hw << 3ull) + r_es) & 0xffffffff8ull))) & (u64)(255ull << (((u64)(r_es << 3ull) & 56ull) & 63u))) != 0ull);
     r_la = r_pa;
@@ -2623,38 +2585,38 @@ l_arm_cq:;
     r_wj = 0ull;
     goto l_typed_i0;
 l_after_m6:;
-    r_a2 = 0ull;
-    r_mh = 0u;
-    r_0a = 15u;
-    goto l_arm_vs;
+    r_g2 = 0ull;
+    r_xd = 0u;
+    r_x2 = 15u;
+    goto l_arm_b3;
 l_noarm_e1_1:;
     UNREACHABLE();
-l_arm_27_1:;
+l_arm_y7_1:;
     t_f6_1 = ((u8 *)(uptr)r_ps);
     switch (r_a3) {
-    case 0u: goto l_arm_z2_1;
+    case 0u: { r_fk = r_a3; goto l_return_ri; }
     case 3u: goto l_arm_cq_1;
     case 4u: goto l_after_m6_1;
     case 5u: goto l_after_m6_1;
-    case 1u: { r_a2 = 0ull; r_mh = 0u; r_0a = 20u; goto l_arm_vs; }
-    case 2u: { r_a2 = 0ull; r_mh = 0u; r_0a = 20u; goto l_arm_vs; }
+    case 1u: { r_g2 = 0ull; r_xd = 0u; r_x2 = 20u; goto l_arm_b3; }
+    case 2u: { r_g2 = 0ull; r_xd = 0u; r_x2 = 20u; goto l_arm_b3; }
     default: goto l_noarm_e1_2;
     }
 l_arm_cq_1:;
     if (!((r_4n & 255u) == 2u)) goto l_after_m6_1;
-    if (r_7k == 0u) { r_a2 = 0ull; r_mh = 0u; r_0a = 24u; goto l_arm_vs; }
+    if (r_7k == 0u) { r_g2 = 0ull; r_xd = 0u; r_x2 = 24u; goto l_arm_b3; }
     u64 r_es_1 = (u64)(r_7k + 0xffffffffu);
     r_24_1 = (u64)r_hw;
     if ((ld64(away(t_f6_1, (((u64)(r_24_1 << 3ull) + r_es_1) & 0xffffffff8ull))) & (u64)(255ull << (((u64)(r_es_1 << 3ull) & 56ull) & 63u))) == 0ull) goto l_join_zu;
-    r_a2 = 0ull;
-    r_mh = 0u;
-    r_0a = 24u;
-    goto l_arm_vs;
+    r_g2 = 0ull;
+    r_xd = 0u;
+    r_x2 = 24u;
+    goto l_arm_b3;
 l_after_m6_1:;
-    r_a2 = 0ull;
-    r_mh = 0u;
-    r_0a = 15u;
-    goto l_arm_vs;
+    r_g2 = 0ull;
+    r_xd = 0u;
+    r_x2 = 15u;
+    goto l_arm_b3;
 l_noarm_e1_2:;
     UNREACHABLE();
 l_join_zu:;
@@ -2664,7 +2626,7 @@ l_join_zu:;
 l_loop_qu:;
     u64 indvars_r7 = (indvars_qd + 1ull);
     if (!(indvars_r7 == wide_es)) { indvars_qd = indvars_r7; goto l_join_aa; }
-    goto l_join_9d;
+    goto l_join_xx;
 l_join_aa:;
     if ((ld64(away(t_f6_1, (u64)((indvars_qd + r_24_1) << 3ull))) & 0x8080808080808080ull) == 0ull) goto l_loop_qu;
     st64(slot_1, r_f7);
@@ -2678,23 +2640,23 @@ l_join_aa:;
     r_hk = 0u;
     r_wj = 0ull;
     goto l_typed_i0;
-l_arm_z5:;
+l_arm_r1:;
     switch (r_a3) {
-    case 0u: goto l_arm_z2_1;
-    case 3u: goto l_arm_cq_2;
+    case 0u: { r_fk = r_a3; goto l_return_ri; }
+    case 3u: goto l_arm_k5;
     case 4u: goto l_after_m6_2;
     case 5u: goto l_after_m6_2;
-    case 1u: { r_a2 = 0ull; r_mh = 0u; r_0a = 18u; goto l_arm_vs; }
-    case 2u: { r_a2 = 0ull; r_mh = 0u; r_0a = 18u; goto l_arm_vs; }
+    case 1u: { r_g2 = 0ull; r_xd = 0u; r_x2 = 18u; goto l_arm_b3; }
+    case 2u: { r_g2 = 0ull; r_xd = 0u; r_x2 = 18u; goto l_arm_b3; }
     default: goto l_noarm_e1_3;
     }
-l_arm_cq_2:;
-    if ((r_4n & 255u) == 2u) goto l_arm_z2_1;
+l_arm_k5:;
+    if ((r_4n & 255u) == 2u) { r_fk = 0u; goto l_return_ri; }
 l_after_m6_2:;
-    r_a2 = 0ull;
-    r_mh = 0u;
-    r_0a = 14u;
-    goto l_arm_vs;
+    r_g2 = 0ull;
+    r_xd = 0u;
+    r_x2 = 14u;
+    goto l_arm_b3;
 l_noarm_e1_3:;
     UNREACHABLE();
 l_arm_cz:;
@@ -2778,12 +2740,12 @@ l_arm_lh:;
     goto l_typed_i0;
 l_arm_t4:;
     switch (r_a3) {
-    case 0u: goto l_join_9d;
-    case 2u: goto l_join_9d;
-    case 1u: { r_a2 = 0ull; r_mh = 0u; r_0a = 21u; goto l_arm_vs; }
-    case 3u: { r_a2 = 0ull; r_mh = 0u; r_0a = 21u; goto l_arm_vs; }
-    case 4u: { r_a2 = 0ull; r_mh = 0u; r_0a = 21u; goto l_arm_vs; }
-    case 5u: { r_a2 = 0ull; r_mh = 0u; r_0a = 21u; goto l_arm_vs; }
+    case 0u: goto l_join_xx;
+    case 2u: goto l_join_xx;
+    case 1u: { r_g2 = 0ull; r_xd = 0u; r_x2 = 21u; goto l_arm_b3; }
+    case 3u: { r_g2 = 0ull; r_xd = 0u; r_x2 = 21u; goto l_arm_b3; }
+    case 4u: { r_g2 = 0ull; r_xd = 0u; r_x2 = 21u; goto l_arm_b3; }
+    case 5u: { r_g2 = 0ull; r_xd = 0u; r_x2 = 21u; goto l_arm_b3; }
     default: goto l_noarm_e1;
     }
 l_arm_ha:;
@@ -2796,40 +2758,38 @@ l_arm_ha:;
 l_noarm_e1:;
     UNREACHABLE();
 l_typed_i0:;
-    if (r_la) { r_a2 = r_wj; r_mh = r_hk; r_0a = r_qf; goto l_arm_vs; }
-    goto l_join_9d;
-l_common_68:;
-    return;
-l_arm_r8:;
+    if (r_la) { r_g2 = r_wj; r_xd = r_hk; r_x2 = r_qf; goto l_arm_b3; }
+    goto l_join_xx;
+l_arm_am:;
     u64 r_52_7 = ld64(r_xz);
-    st8(a_1, 1u);
-    st32(away(a_1, 8ull), r_4t);
-    st32(away(a_1, 12ull), r_xo);
-    st64(away(a_1, 16ull), r_o8);
-    st64(away(a_1, 24ull), r_52_7);
-    st32(away(a_1, 32ull), a_6);
-    st32(away(a_1, 36ull), r_5k_1);
-    st32(away(a_1, 40ull), r_5k_2);
-    st32(away(a_1, 44ull), 0u);
-    goto l_common_68;
-l_arm_vs:;
+    st32(a_6, r_mx);
+    st32((a_6 + 4), r_lf);
+    st64((a_6 + 8), r_99);
+    st64((a_6 + 16), r_52_7);
+    st32((a_6 + 24), a_5);
+    st32((a_6 + 28), r_5k_1);
+    st32((a_6 + 32), r_5k_2);
+    st32((a_6 + 36), 0u);
+    r_fk = 1u;
+    goto l_return_ri;
+l_arm_b3:;
     u64 r_52_8 = ld64(r_xz);
-    st8(a_1, 1u);
-    st32(away(a_1, 8ull), (u32)r_0a);
-    st32(away(a_1, 12ull), r_mh);
-    st64(away(a_1, 16ull), r_a2);
-    st64(away(a_1, 24ull), r_52_8);
-    st32(away(a_1, 32ull), a_6);
-    st32(away(a_1, 36ull), r_5k_1);
-    st32(away(a_1, 40ull), r_5k_2);
-    st32(away(a_1, 44ull), 0u);
-    goto l_common_68;
-l_join_9d:;
+    st32(a_6, (u32)r_x2);
+    st32((a_6 + 4), r_xd);
+    st64((a_6 + 8), r_g2);
+    st64((a_6 + 16), r_52_8);
+    st32((a_6 + 24), a_5);
+    st32((a_6 + 28), r_5k_1);
+    st32((a_6 + 32), r_5k_2);
+    st32((a_6 + 36), 0u);
+    r_fk = 1u;
+    goto l_return_ri;
+l_join_xx:;
     r_5d = (u32)(r_4n >> 16u);
     switch (r_a3) {
-    case 0u: goto l_arm_z2_1;
-    case 1u: goto l_arm_z2_1;
-    case 3u: goto l_arm_z2_1;
+    case 0u: { r_fk = 0u; goto l_return_ri; }
+    case 1u: { r_fk = 0u; goto l_return_ri; }
+    case 3u: { r_fk = 0u; goto l_return_ri; }
     case 2u: goto l_arm_si;
     case 4u: { r_j5 = 0u; r_rr = 1u; r_hr = r_4n; goto l_arm_t1; }
     case 5u: goto l_arm_si_1;
@@ -2848,48 +2808,49 @@ l_arm_si_1:;
 l_noarm_e1_6:;
     UNREACHABLE();
 l_arm_t1:;
-    r_dh_1 = ld8(a_5);
+    r_dh_1 = ld8(a_4);
     u32 r_yf = ld32(r_r2);
-    r_mx = ((r_yf == 0x80000000u) ? 0x80000000u : (r_yf + 0xffffffffu));
+    r_mx_1 = ((r_yf == 0x80000000u) ? 0x80000000u : (r_yf + 0xffffffffu));
     u8 *r_rv = ldp(r_rq);
     u64 r_qw_2 = ld64(r_08);
-    st64(slot_4, (u64)r_dh_1);
-    stp((slot_4 + 8), r_rv);
-    st64((slot_4 + 16), r_qw_2);
-    st64((slot_4 + 24), r_f7);
-    r_89 = (slot_4 + 32);
+    st64(slot_3, (u64)r_dh_1);
+    stp((slot_3 + 8), r_rv);
+    st64((slot_3 + 16), r_qw_2);
+    st64((slot_3 + 24), r_f7);
+    r_89 = (slot_3 + 32);
     st64(r_89, r_ps);
-    st64((slot_4 + 40), r_yw);
-    st32((slot_4 + 48), r_hw);
-    st32((slot_4 + 52), r_ow);
-    st32((slot_4 + 56), r_mx);
+    st64((slot_3 + 40), r_yw);
+    st32((slot_3 + 48), r_hw);
+    st32((slot_3 + 52), r_ow);
+    st32((slot_3 + 56), r_mx_1);
     t_f6_2 = ((u8 *)(uptr)r_ps);
     switch (r_dh) {
-    case 5u: goto l_after_r0;
-    case 7u: goto l_after_r0;
-    case 0u: { r_he = ((u8 *)g_static_6); r_sf = 0ull; r_ze = 0u; goto l_typed_xb; }
-    case 1u: { r_he = ((u8 *)g_static_6); r_sf = 0ull; r_ze = 0u; goto l_typed_xb; }
-    case 2u: { r_he = ((u8 *)g_static_6); r_sf = 0ull; r_ze = 0u; goto l_typed_xb; }
-    case 3u: { r_he = ((u8 *)g_static_6); r_sf = 0ull; r_ze = 0u; goto l_typed_xb; }
-    case 4u: { r_he = ((u8 *)g_static_6); r_sf = 0ull; r_ze = 0u; goto l_typed_xb; }
-    case 6u: { r_he = ((u8 *)g_static_6); r_sf = 0ull; r_ze = 0u; goto l_typed_xb; }
+    case 5u: goto l_after_pt;
+    case 7u: goto l_after_pt;
+    case 0u: { r_3s = ((u8 *)g_static_6); r_cz = 0ull; r_iz = 0u; r_fd = ((u8 *)g_static_6); r_1x = 0ull; goto l_typed_1x; }
+    case 1u: { r_3s = ((u8 *)g_static_6); r_cz = 0ull; r_iz = 0u; r_fd = ((u8 *)g_static_6); r_1x = 0ull; goto l_typed_1x; }
+    case 2u: { r_3s = ((u8 *)g_static_6); r_cz = 0ull; r_iz = 0u; r_fd = ((u8 *)g_static_6); r_1x = 0ull; goto l_typed_1x; }
+    case 3u: { r_3s = ((u8 *)g_static_6); r_cz = 0ull; r_iz = 0u; r_fd = ((u8 *)g_static_6); r_1x = 0ull; goto l_typed_1x; }
+    case 4u: { r_3s = ((u8 *)g_static_6); r_cz = 0ull; r_iz = 0u; r_fd = ((u8 *)g_static_6); r_1x = 0ull; goto l_typed_1x; }
+    case 6u: { r_3s = ((u8 *)g_static_6); r_cz = 0ull; r_iz = 0u; r_fd = ((u8 *)g_static_6); r_1x = 0ull; goto l_typed_1x; }
     default: goto l_noarm_e1_7;
     }
-l_after_r0:;
-    r_he = a_2;
-    r_sf = a_3;
-    r_ze = r_5k;
-    goto l_typed_xb;
+l_after_pt:;
+    r_24_2 = (u64)r_5k;
+    if (!(a_2 > r_24_2)) { r_3s = a_1; r_cz = a_2; r_iz = r_5k; r_fd = ((u8 *)g_static_6); r_1x = 0ull; goto l_typed_1x; }
+    u64 r_c4_1 = (r_24_2 + 1ull);
+    r_3s = a_1;
+    r_cz = a_2;
+    r_iz = r_5k;
+    r_fd = away(a_1, (u64)(r_c4_1 << 2ull));
+    r_1x = umin64((u64)ld32((a_1 + (i64)((u64)(r_24_2 << 2ull)))), (a_2 - r_c4_1));
+    goto l_typed_1x;
 l_noarm_e1_7:;
     UNREACHABLE();
-l_typed_xb:;
-    if (r_rr == 0u) { r_10 = 0u; r_kb = 0u; r_n4 = 0u; r_yp = 0ull; r_iz = 0ull; r_62 = 0u; r_24_2 = 0u; r_lt = 0u; r_va = 0u; goto l_typed_9c; }
+l_typed_1x:;
+    if (r_rr == 0u) { r_fk = 0u; goto l_return_ri; }
     narrow_68 = (r_rr + r_j5);
-    if (r_hr == 0u) { r_10 = 0u; r_kb = 0u; r_n4 = 0u; r_yp = 0ull; r_iz = 0ull; r_62 = 0u; r_24_2 = 0u; r_lt = 0u; r_va = 0u; goto l_typed_9c; }
-    u64 r_24_3 = (u64)r_ze;
-    r_qc = (r_sf > r_24_3);
-    r_a7 = away(r_he, (u64)(r_24_3 << 2ull));
-    r_c4_1 = (r_24_3 + 1ull);
+    if (r_hr == 0u) { r_fk = 0u; goto l_return_ri; }
     r_x5 = (slot_1 + 8);
     r_lk = (slot_1 + 24);
     r_nk = (slot_1 + 28);
@@ -2897,511 +2858,398 @@ l_typed_xb:;
     r_ix = (slot_2 + 4);
     r_x5_1 = (slot_2 + 8);
     r_k0 = (slot_2 + 12);
-    r_08_2 = away(a_7, 16ull);
-    r_rq_7 = away(a_7, 8ull);
+    r_r2_2 = away(a_6, 56ull);
+    r_t9_6 = away(a_6, 48ull);
+    r_sl = (a_6 + 4);
+    r_e7 = (a_6 + 8);
+    r_ud = (a_6 + 16);
+    r_ng = (a_6 + 24);
+    r_zh = (a_6 + 28);
+    r_z8 = (a_6 + 32);
+    r_sd = (a_6 + 36);
     r_x5_2 = (slot_1 + 8);
     r_zd = (slot_1 + 16);
     r_lk_1 = (slot_1 + 24);
     r_nk_1 = (slot_1 + 28);
-    r_x5_3 = (slot_3 + 8);
-    r_k0_1 = (slot_3 + 12);
-    r_zd_1 = (slot_3 + 16);
-    r_lk_2 = (slot_3 + 24);
-    r_89_1 = (slot_3 + 32);
-    r_gs = (slot_3 + 36);
-    r_a8 = (slot_3 + 40);
-    r_f3 = (slot_3 + 44);
+    r_x5_3 = (slot_1 + 8);
+    r_k0_1 = (slot_1 + 12);
+    r_zd_1 = (slot_1 + 16);
     r_x5_4 = (slot_1 + 8);
-    r_k0_2 = (slot_1 + 12);
     r_zd_2 = (slot_1 + 16);
-    r_x5_5 = (slot_1 + 8);
-    r_zd_3 = (slot_1 + 16);
-    r_lk_3 = (slot_1 + 24);
+    r_lk_2 = (slot_1 + 24);
     r_nk_2 = (slot_1 + 28);
     wide_es_1 = (u64)r_rr;
     r_gw_2 = (u64)(r_yw >> 3ull);
     t_pa_1 = (r_dh_1 != 0u);
     r_nb_1 = (r_gw_2 & 0xffffffffull);
-    r_n1 = ((i32)r_mx < (i32)1u);
+    r_n1 = ((i32)r_mx_1 < (i32)1u);
     t_0c = (r_dh_1 == 0u);
     r_nb_2 = (r_gw_2 & 0xffffffffull);
-    r_n1_1 = ((i32)r_mx < (i32)1u);
+    r_n1_1 = ((i32)r_mx_1 < (i32)1u);
     t_pa_2 = (r_dh_1 != 0u);
     r_nb_3 = (r_gw_2 & 0xffffffffull);
-    r_n1_2 = ((i32)r_mx < (i32)1u);
+    r_n1_2 = ((i32)r_mx_1 < (i32)1u);
     r_w0 = 0u;
-    goto l_join_u5;
-l_loop_73:;
-    u32 r_7t = (r_w0 + 1u);
-    if (r_7t == r_hr) { r_10 = 0u; r_kb = 0u; r_n4 = 0u; r_yp = 0ull; r_iz = 0ull; r_62 = 0u; r_24_2 = 0u; r_lt = 0u; r_va = 0u; goto l_typed_9c; }
-    r_w0 = r_7t;
 l_join_u5:;
     r_w0_1 = (r_hw + (r_w0 * narrow_68));
     r_w0_2 = (r_w0_1 + r_j5);
-    indvars_b4 = 0ull;
-    goto l_join_1e;
-l_loop_w2:;
-    u64 indvars_r7_1 = (indvars_b4 + 1ull);
-    if (indvars_r7_1 == wide_es_1) goto l_loop_73;
-    indvars_b4 = indvars_r7_1;
-l_join_1e:;
+    indvars_vr = 0ull;
+    goto l_join_je;
+l_loop_c4:;
+    u64 indvars_r7_1 = (indvars_vr + 1ull);
+    if (indvars_r7_1 == wide_es_1) goto l_join_ki;
+    indvars_vr = indvars_r7_1;
+l_join_je:;
     st32(slot_2, 0u);
-    memset(slot_3, 0u, 48);
-    t_nk = (u32)indvars_b4;
+    t_nk = (u32)indvars_vr;
     r_sr = (r_w0_2 + t_nk);
-    r_24_4 = (u64)r_sr;
-    if (!(r_gw_2 > r_24_4)) goto l_typed_v7;
-    r_qw_3 = ld64(away(t_f6_2, (u64)(r_24_4 << 3ull)));
-    if (r_qw_3 == 0ull) goto l_typed_v7;
-    if (!r_qc) { common_8i = 0u; goto l_typed_dt; }
-    if (!(indvars_b4 < (u64)ld32(r_a7))) { common_8i = 0u; goto l_typed_dt; }
-    r_pl = (r_c4_1 + indvars_b4);
-    if (!(r_sf > r_pl)) { common_8i = 0u; goto l_typed_dt; }
-    r_yf_1 = ld32((r_he + (i64)((u64)(r_pl << 2ull))));
+    r_24_3 = (u64)r_sr;
+    if (!(r_gw_2 > r_24_3)) goto l_typed_kc;
+    r_qw_3 = ld64(away(t_f6_2, (u64)(r_24_3 << 3ull)));
+    if (r_qw_3 == 0ull) goto l_typed_kc;
+    if (!(r_1x > indvars_vr)) { common_8i = 0u; goto l_typed_dt; }
+    r_yf_1 = ld32((r_fd + (i64)((u64)(indvars_vr << 2ull))));
     if (!((r_yf_1 & 15u) == 7u)) { common_8i = r_yf_1; goto l_typed_dt; }
     st64(slot_1, r_f7);
     mv16(r_x5, r_89);
     st32(r_lk, r_w0_1);
     st32(r_nk, 0u);
-    u32 r_3z = typed_conforming_table_tested_word(r_he, r_sf, r_yf_1, slot_1, r_j5);
-    common_8i = r_3z;
+    u32 r_n1_3 = typed_conforming_table_tested_word(r_3s, r_cz, r_yf_1, slot_1, r_j5);
+    common_8i = r_n1_3;
 l_typed_dt:;
     if (!((r_qw_3 & 3ull) == 1ull)) goto l_after_xg;
     r_ep_2 = (u64)(r_qw_3 >> 32ull);
     switch_wl_1 = (u8)((u8)r_ep_2 & 7u);
     if (!((u8)(switch_wl_1 + 255u) < 5u)) goto l_after_xg;
+    t_8c = (switch_wl_1 != 2u);
+    if (t_8c) goto l_after_3v;
     switch (common_8i) {
-    case 2u: goto l_then_2f;
-    case 3u: goto l_then_e3;
-    default: goto l_join_3v;
+    case 2u: goto l_then_hu;
+    case 3u: goto l_then_9h;
+    default: goto l_after_3v;
     }
-l_then_2f:;
+l_then_hu:;
     r_ij_1 = (u64)(r_qw_3 >> 35ull);
-    r_c6_1 = (u64)(((ld64(away(away(((u8 *)switch_table_capnp_objects_pointers_validate_validate__79a49eb6), 8 * (r_ep_2 & 7ull)), 0xfffffffffffffff8ull)) * r_ij_1) + 63ull) >> 6ull);
+    r_c6_1 = (u64)(((u64)(r_ij_1 << 3ull) + 63ull) >> 6ull);
     if (!t_0c) goto l_join_bd_1;
-    st64(r_08_2, uadd_sat64(ld64(r_08_2), 1ull));
+    st64(r_r2_2, uadd_sat64(ld64(r_r2_2), 1ull));
 l_join_bd_1:;
     u64 r_m6_1 = ((u64)(r_qw_3 >> 2ull) & 0x3fffffffull);
-    r_lc_2 = ((r_24_4 + 1ull) + r_m6_1);
+    r_lc_2 = ((r_24_3 + 1ull) + r_m6_1);
     if (!(r_m6_1 < 0x20000000ull)) goto l_else_70_1;
-    if (r_lc_2 > r_nb_2) { r_85 = 23u; r_49 = r_f7; r_10_1 = r_sr; r_0a_1 = r_ze; r_mo = t_nk; r_r5 = 1u; goto l_typed_5y; }
+    if (r_lc_2 > r_nb_2) { r_g6 = 23u; r_8q = 0u; r_o5 = 0ull; goto l_typed_8l; }
     r_y0 = r_lc_2;
     goto l_arm_2y;
 l_else_70_1:;
     u64 r_3o_1 = (r_lc_2 + 0xffffffffc0000000ull);
-    if ((r_lc_2 < 0x40000000ull) ? 1u : (r_3o_1 > r_nb_2)) { r_85 = 23u; r_49 = r_f7; r_10_1 = r_sr; r_0a_1 = r_ze; r_mo = t_nk; r_r5 = 1u; goto l_typed_5y; }
+    if ((r_lc_2 < 0x40000000ull) ? 1u : (r_3o_1 > r_nb_2)) { r_g6 = 23u; r_8q = 0u; r_o5 = 0ull; goto l_typed_8l; }
     r_y0 = r_3o_1;
 l_arm_2y:;
-    if (r_n1_1) { r_85 = 26u; r_49 = r_f7; r_10_1 = r_sr; r_0a_1 = r_ze; r_mo = t_nk; r_r5 = 1u; goto l_typed_5y; }
-    if (r_nb_2 < (r_y0 + r_c6_1)) { r_85 = 23u; r_49 = r_f7; r_10_1 = r_sr; r_0a_1 = r_ze; r_mo = t_nk; r_r5 = 1u; goto l_typed_5y; }
-    if (!t_0c) goto l_arm_fy;
-    if (!(ld8(a_7) == 1u)) goto l_arm_fy;
-    r_52_9 = ld64(r_rq_7);
-    if (r_52_9 < r_c6_1) { r_85 = 30u; r_49 = r_f7; r_10_1 = r_sr; r_0a_1 = r_ze; r_mo = t_nk; r_r5 = 1u; goto l_typed_5y; }
-    st64(a_7, 1ull);
-    st64(r_rq_7, (r_52_9 - r_c6_1));
-l_arm_fy:;
-    t_5e = ((u64)(r_y0 << 3ull) & 0x7fffffff8ull);
-    if (!(switch_wl_1 == 2u)) { r_85 = 15u; r_49 = r_f7; r_10_1 = r_sr; r_0a_1 = r_ze; r_mo = t_nk; r_r5 = 1u; goto l_typed_5y; }
-    if (r_ij_1 == 0ull) { r_85 = 24u; r_49 = r_f7; r_10_1 = r_sr; r_0a_1 = r_ze; r_mo = t_nk; r_r5 = 1u; goto l_typed_5y; }
+    if (r_n1_1) { r_g6 = 26u; r_8q = 0u; r_o5 = 0ull; goto l_typed_8l; }
+    if (r_nb_2 < (r_y0 + r_c6_1)) { r_g6 = 23u; r_8q = 0u; r_o5 = 0ull; goto l_typed_8l; }
+    if (!t_0c) goto l_arm_b5;
+    if (!(ld8(r_su) == 1u)) goto l_arm_b5;
+    r_52_9 = ld64(r_t9_6);
+    if (r_52_9 < r_c6_1) { r_g6 = 30u; r_8q = 0u; r_o5 = 0ull; goto l_typed_8l; }
+    st64(r_su, 1ull);
+    st64(r_t9_6, (r_52_9 - r_c6_1));
+l_arm_b5:;
+    if (r_ij_1 == 0ull) { r_g6 = 24u; r_8q = 0u; r_o5 = 0ull; goto l_typed_8l; }
     u64 r_19 = (r_ij_1 + 0xffffffffull);
-    if ((ld64(away(t_f6_2, ((t_5e + (r_19 & 0xffffffffull)) & 0xffffffff8ull))) & (u64)(255ull << (((u64)(r_19 << 3ull) & 56ull) & 63u))) == 0ull) { r_85 = 0u; r_49 = 0ull; r_10_1 = 0u; r_0a_1 = 0u; r_mo = 0u; r_r5 = 0u; goto l_typed_5y; }
-    r_85 = 24u;
-    r_49 = r_f7;
-    r_10_1 = r_sr;
-    r_0a_1 = r_ze;
-    r_mo = t_nk;
-    r_r5 = 1u;
-l_typed_5y:;
-    st8(slot_3, r_r5);
-    st32(r_x5_3, r_85);
-    st32(r_k0_1, 0u);
-    st64(r_zd_1, 0ull);
-    st64(r_lk_2, r_49);
-    st32(r_89_1, r_10_1);
-    st32(r_gs, r_0a_1);
-    r_pe = 0u;
-    r_wb = r_mo;
-    r_9k = r_0a_1;
-    r_rw = r_10_1;
-    r_bv = r_49;
-    r_z1 = 0ull;
-    r_q6 = 0u;
-    r_bq = r_85;
-    r_rf = r_r5;
-    goto l_typed_0z;
-l_then_e3:;
+    if ((ld64(away(t_f6_2, ((((u64)(r_y0 << 3ull) & 0x7fffffff8ull) + (r_19 & 0xffffffffull)) & 0xffffffff8ull))) & (u64)(255ull << (((u64)(r_19 << 3ull) & 56ull) & 63u))) == 0ull) goto l_typed_kc;
+    r_g6 = 24u;
+    r_8q = 0u;
+    r_o5 = 0ull;
+    goto l_typed_8l;
+l_then_9h:;
     r_ij_2 = (u64)(r_qw_3 >> 35ull);
     r_12_4 = (u32)r_ij_2;
-    r_c6_2 = (u64)(((ld64(away(away(((u8 *)switch_table_capnp_objects_pointers_validate_validate__79a49eb6), 8 * (r_ep_2 & 7ull)), 0xfffffffffffffff8ull)) * r_ij_2) + 63ull) >> 6ull);
+    r_c6_2 = (u64)(((u64)(r_ij_2 << 3ull) + 63ull) >> 6ull);
     if (t_pa_1) goto l_join_bd_2;
-    st64(r_08_2, uadd_sat64(ld64(r_08_2), 1ull));
+    st64(r_r2_2, uadd_sat64(ld64(r_r2_2), 1ull));
 l_join_bd_2:;
     u64 r_m6_2 = ((u64)(r_qw_3 >> 2ull) & 0x3fffffffull);
-    r_lc_3 = ((r_24_4 + 1ull) + r_m6_2);
+    r_lc_3 = ((r_24_3 + 1ull) + r_m6_2);
     if (!(r_m6_2 < 0x20000000ull)) goto l_else_70_2;
-    if (r_lc_3 > r_nb_1) { r_85_1 = 23u; r_49_1 = r_f7; r_10_2 = r_sr; r_0a_2 = r_ze; r_mo_1 = t_nk; r_r5_1 = 1u; goto l_typed_5y_1; }
+    if (r_lc_3 > r_nb_1) { r_g6 = 23u; r_8q = 0u; r_o5 = 0ull; goto l_typed_8l; }
     r_5g = r_lc_3;
     goto l_arm_mu;
 l_else_70_2:;
     u64 r_3o_2 = (r_lc_3 + 0xffffffffc0000000ull);
-    if ((r_lc_3 < 0x40000000ull) ? 1u : (r_3o_2 > r_nb_1)) { r_85_1 = 23u; r_49_1 = r_f7; r_10_2 = r_sr; r_0a_2 = r_ze; r_mo_1 = t_nk; r_r5_1 = 1u; goto l_typed_5y_1; }
+    if ((r_lc_3 < 0x40000000ull) ? 1u : (r_3o_2 > r_nb_1)) { r_g6 = 23u; r_8q = 0u; r_o5 = 0ull; goto l_typed_8l; }
     r_5g = r_3o_2;
 l_arm_mu:;
     r_4r = (u32)r_5g;
-    if (r_n1) { r_85_1 = 26u; r_49_1 = r_f7; r_10_2 = r_sr; r_0a_2 = r_ze; r_mo_1 = t_nk; r_r5_1 = 1u; goto l_typed_5y_1; }
+    if (r_n1) { r_g6 = 26u; r_8q = 0u; r_o5 = 0ull; goto l_typed_8l; }
     r_8u = (r_nb_1 < (r_5g + r_c6_2));
-    if ((u8)((u8)t_pa_1 | (u8)r_8u)) goto l_capnp_yn;
-    if (!(ld8(a_7) == 1u)) { r_bp = r_4r; goto l_arm_20; }
-    r_52_10 = ld64(r_rq_7);
-    if (r_52_10 < r_c6_2) { r_85_1 = 30u; r_49_1 = r_f7; r_10_2 = r_sr; r_0a_2 = r_ze; r_mo_1 = t_nk; r_r5_1 = 1u; goto l_typed_5y_1; }
-    st64(a_7, 1ull);
-    st64(r_rq_7, (r_52_10 - r_c6_2));
-    r_bp = r_4r;
-    goto l_arm_20;
-l_capnp_yn:;
-    if (r_8u) { r_85_1 = (r_8u ? 23u : 0u); r_49_1 = r_f7; r_10_2 = r_sr; r_0a_2 = r_ze; r_mo_1 = t_nk; r_r5_1 = 1u; goto l_typed_5y_1; }
-    r_bp = (r_8u ? 0u : r_4r);
-l_arm_20:;
-    if (!(switch_wl_1 == 2u)) { r_85_1 = 15u; r_49_1 = r_f7; r_10_2 = r_sr; r_0a_2 = r_ze; r_mo_1 = t_nk; r_r5_1 = 1u; goto l_typed_5y_1; }
-    if (r_ij_2 == 0ull) { r_85_1 = 24u; r_49_1 = r_f7; r_10_2 = r_sr; r_0a_2 = r_ze; r_mo_1 = t_nk; r_r5_1 = 1u; goto l_typed_5y_1; }
+    if ((u8)((u8)t_pa_1 | (u8)r_8u)) goto l_capnp_ar;
+    if (!(ld8(r_su) == 1u)) { r_ry = r_4r; goto l_arm_b5_1; }
+    r_52_10 = ld64(r_t9_6);
+    if (r_52_10 < r_c6_2) { r_g6 = 30u; r_8q = 0u; r_o5 = 0ull; goto l_typed_8l; }
+    st64(r_su, 1ull);
+    st64(r_t9_6, (r_52_10 - r_c6_2));
+    r_ry = r_4r;
+    goto l_arm_b5_1;
+l_capnp_ar:;
+    if (r_8u) { r_g6 = 23u; r_8q = 0u; r_o5 = 0ull; goto l_typed_8l; }
+    r_ry = (r_8u ? 0u : r_4r);
+l_arm_b5_1:;
+    if (r_ij_2 == 0ull) { r_g6 = 24u; r_8q = 0u; r_o5 = 0ull; goto l_typed_8l; }
     u64 r_19_1 = (r_ij_2 + 0xffffffffull);
-    r_24_5 = (u64)r_bp;
-    if (!((ld64(away(t_f6_2, (((u64)(r_24_5 << 3ull) + (r_19_1 & 0xffffffffull)) & 0xffffffff8ull))) & (u64)(255ull << (((u64)(r_19_1 << 3ull) & 56ull) & 63u))) == 0ull)) { r_85_1 = 24u; r_49_1 = r_f7; r_10_2 = r_sr; r_0a_2 = r_ze; r_mo_1 = t_nk; r_r5_1 = 1u; goto l_typed_5y_1; }
+    r_24_4 = (u64)r_ry;
+    if (!((ld64(away(t_f6_2, (((u64)(r_24_4 << 3ull) + (r_19_1 & 0xffffffffull)) & 0xffffffff8ull))) & (u64)(255ull << (((u64)(r_19_1 << 3ull) & 56ull) & 63u))) == 0ull)) { r_g6 = 24u; r_8q = 0u; r_o5 = 0ull; goto l_typed_8l; }
     r_gw_3 = (u64)((r_ij_2 + 7ull) >> 3ull);
     indvars_qd_1 = 0ull;
     goto l_join_aa_1;
 l_loop_ob:;
     u64 indvars_r7_2 = (indvars_qd_1 + 1ull);
     if (!(indvars_r7_2 == r_gw_3)) { indvars_qd_1 = indvars_r7_2; goto l_join_aa_1; }
-    r_85_1 = 0u;
-    r_49_1 = 0ull;
-    r_10_2 = 0u;
-    r_0a_2 = 0u;
-    r_mo_1 = 0u;
-    r_r5_1 = 0u;
-    goto l_typed_5y_1;
+    goto l_typed_kc;
 l_join_aa_1:;
-    if ((ld64(away(t_f6_2, (u64)((indvars_qd_1 + r_24_5) << 3ull))) & 0x8080808080808080ull) == 0ull) goto l_loop_ob;
+    if ((ld64(away(t_f6_2, (u64)((indvars_qd_1 + r_24_4) << 3ull))) & 0x8080808080808080ull) == 0ull) goto l_loop_ob;
     st64(slot_1, r_f7);
     stp(r_x5_2, t_f6_2);
     st64(r_zd, r_yw);
-    st32(r_lk_1, r_bp);
+    st32(r_lk_1, r_ry);
     st32(r_nk_1, 0u);
     u8 r_ik_1 = typed_conforming_conforms_is_utf8_by_bytes(slot_1, r_12_4);
-    if (r_ik_1) { r_85_1 = 0u; r_49_1 = 0ull; r_10_2 = 0u; r_0a_2 = 0u; r_mo_1 = 0u; r_r5_1 = 0u; goto l_typed_5y_1; }
-    r_85_1 = 4u;
-    r_49_1 = r_f7;
-    r_10_2 = r_sr;
-    r_0a_2 = r_ze;
-    r_mo_1 = t_nk;
-    r_r5_1 = 1u;
-l_typed_5y_1:;
-    st8(slot_3, r_r5_1);
-    st32(r_x5_3, r_85_1);
-    st32(r_k0_1, 0u);
-    st64(r_zd_1, 0ull);
-    st64(r_lk_2, r_49_1);
-    st32(r_89_1, r_10_2);
-    st32(r_gs, r_0a_2);
-    r_pe = 0u;
-    r_wb = r_mo_1;
-    r_9k = r_0a_2;
-    r_rw = r_10_2;
-    r_bv = r_49_1;
-    r_z1 = 0ull;
-    r_q6 = 0u;
-    r_bq = r_85_1;
-    r_rf = r_r5_1;
-    goto l_typed_0z;
-l_join_3v:;
+    if (r_ik_1) goto l_typed_kc;
+    r_g6 = 4u;
+    r_8q = 0u;
+    r_o5 = 0ull;
+    goto l_typed_8l;
+l_after_3v:;
     switch_4w = ((common_8i & 15u) + 0xffffffffu);
-    if (!(switch_4w < 15u)) { r_86 = 0u; r_kd = 0u; goto l_typed_e3; }
-    r_86 = ld8((((u8 *)switch_table_typed_conforming_conforms_check_object_07_45490bdc) + (i64)((u64)switch_4w)));
-    r_kd = ld8((((u8 *)switch_table_typed_conforming_conforms_check_object_07_8882c947) + (i64)((u64)switch_4w)));
-l_typed_e3:;
+    if (!(switch_4w < 15u)) { r_nu = 0u; r_ol = 0u; goto l_typed_qq; }
+    r_nu = ld8((((u8 *)switch_table_typed_conforming_conforms_check_object_07_c60b4b8c) + (i64)((u64)switch_4w)));
+    r_ol = ld8((((u8 *)switch_table_typed_conforming_conforms_check_object_07_7954c1fd) + (i64)((u64)switch_4w)));
+l_typed_qq:;
     r_ij_3 = (u64)(r_qw_3 >> 35ull);
     r_12_5 = (u32)r_ij_3;
-    r_c6_3 = (u64)(((ld64(away(away(((u8 *)switch_table_capnp_objects_pointers_validate_validate__79a49eb6), 8 * (r_ep_2 & 7ull)), 0xfffffffffffffff8ull)) * r_ij_3) + 63ull) >> 6ull);
+    r_c6_3 = (u64)(((ld64(away(away(((u8 *)switch_table_capnp_pointers_pointers_validate_validate_f7685ec9), 8 * (r_ep_2 & 7ull)), 0xfffffffffffffff8ull)) * r_ij_3) + 63ull) >> 6ull);
     if (t_pa_2) goto l_join_bd_3;
-    st64(r_08_2, uadd_sat64(ld64(r_08_2), 1ull));
+    st64(r_r2_2, uadd_sat64(ld64(r_r2_2), 1ull));
 l_join_bd_3:;
     u64 r_m6_3 = ((u64)(r_qw_3 >> 2ull) & 0x3fffffffull);
-    r_lc_4 = ((r_24_4 + 1ull) + r_m6_3);
+    r_lc_4 = ((r_24_3 + 1ull) + r_m6_3);
     if (!(r_m6_3 < 0x20000000ull)) goto l_else_70_3;
-    if (r_lc_4 > r_nb_3) { r_e1 = 23u; r_d7 = 0u; r_73 = 0ull; r_do = r_f7; r_zu = r_sr; r_jw = r_ze; r_dg = t_nk; r_rf_1 = 1u; goto l_typed_c7; }
+    if (r_lc_4 > r_nb_3) { r_g6 = 23u; r_8q = 0u; r_o5 = 0ull; goto l_typed_8l; }
     r_5g_1 = r_lc_4;
     goto l_arm_mu_1;
 l_else_70_3:;
     u64 r_3o_3 = (r_lc_4 + 0xffffffffc0000000ull);
-    if ((r_lc_4 < 0x40000000ull) ? 1u : (r_3o_3 > r_nb_3)) { r_e1 = 23u; r_d7 = 0u; r_73 = 0ull; r_do = r_f7; r_zu = r_sr; r_jw = r_ze; r_dg = t_nk; r_rf_1 = 1u; goto l_typed_c7; }
+    if ((r_lc_4 < 0x40000000ull) ? 1u : (r_3o_3 > r_nb_3)) { r_g6 = 23u; r_8q = 0u; r_o5 = 0ull; goto l_typed_8l; }
     r_5g_1 = r_3o_3;
 l_arm_mu_1:;
     r_4r_1 = (u32)r_5g_1;
-    if (r_n1_2) { r_e1 = 26u; r_d7 = 0u; r_73 = 0ull; r_do = r_f7; r_zu = r_sr; r_jw = r_ze; r_dg = t_nk; r_rf_1 = 1u; goto l_typed_c7; }
+    if (r_n1_2) { r_g6 = 26u; r_8q = 0u; r_o5 = 0ull; goto l_typed_8l; }
     r_8u_1 = (r_nb_3 < (r_5g_1 + r_c6_3));
-    if ((u8)((u8)t_pa_2 | (u8)r_8u_1)) goto l_capnp_yn_1;
-    if (!(ld8(a_7) == 1u)) { r_rj = r_4r_1; goto l_arm_ef; }
-    r_52_11 = ld64(r_rq_7);
-    if (r_52_11 < r_c6_3) { r_e1 = 30u; r_d7 = 0u; r_73 = 0ull; r_do = r_f7; r_zu = r_sr; r_jw = r_ze; r_dg = t_nk; r_rf_1 = 1u; goto l_typed_c7; }
-    st64(a_7, 1ull);
-    st64(r_rq_7, (r_52_11 - r_c6_3));
-    r_rj = r_4r_1;
-    goto l_arm_ef;
-l_capnp_yn_1:;
-    if (r_8u_1) { r_e1 = (r_8u_1 ? 23u : 0u); r_d7 = 0u; r_73 = 0ull; r_do = r_f7; r_zu = r_sr; r_jw = r_ze; r_dg = t_nk; r_rf_1 = 1u; goto l_typed_c7; }
-    r_rj = (r_8u_1 ? 0u : r_4r_1);
-l_arm_ef:;
-    switch (r_86) {
-    case 0u: { r_e1 = 0u; r_d7 = 0u; r_73 = 0ull; r_do = 0ull; r_zu = 0u; r_jw = 0u; r_dg = 0u; r_rf_1 = 0u; goto l_typed_c7; }
-    case 2u: goto l_arm_qs;
-    case 3u: goto l_arm_qs_1;
-    case 4u: goto l_arm_52;
+    if ((u8)((u8)t_pa_2 | (u8)r_8u_1)) goto l_capnp_ar_1;
+    if (!(ld8(r_su) == 1u)) { r_0n = r_4r_1; goto l_arm_g5; }
+    r_52_11 = ld64(r_t9_6);
+    if (r_52_11 < r_c6_3) { r_g6 = 30u; r_8q = 0u; r_o5 = 0ull; goto l_typed_8l; }
+    st64(r_su, 1ull);
+    st64(r_t9_6, (r_52_11 - r_c6_3));
+    r_0n = r_4r_1;
+    goto l_arm_g5;
+l_capnp_ar_1:;
+    if (r_8u_1) { r_g6 = 23u; r_8q = 0u; r_o5 = 0ull; goto l_typed_8l; }
+    r_0n = (r_8u_1 ? 0u : r_4r_1);
+l_arm_g5:;
+    switch (r_nu) {
+    case 0u: goto l_typed_kc;
+    case 2u: goto l_arm_eu;
+    case 3u: goto l_arm_eu_1;
+    case 4u: goto l_arm_u7;
     case 7u: goto l_typed_a3;
-    case 1u: { r_5t = 17u; r_uw = 0ull; r_0h = 0u; goto l_arm_r0_2; }
-    case 5u: goto l_join_m6;
-    case 6u: { r_e1 = 0u; r_d7 = 0u; r_73 = 0ull; r_do = 0ull; r_zu = 0u; r_jw = 0u; r_dg = 0u; r_rf_1 = 0u; goto l_typed_c7; }
+    case 1u: goto l_typed_r0;
+    case 5u: { r_g6 = 21u; r_8q = 0u; r_o5 = 0ull; goto l_typed_8l; }
+    case 6u: goto l_typed_kc;
     default: goto l_default_e1;
     }
-l_arm_qs:;
-    if (!(switch_wl_1 == 2u)) { r_5t = 15u; r_uw = 0ull; r_0h = 0u; goto l_arm_r0_2; }
-    if (r_ij_3 == 0ull) { r_5t = 24u; r_uw = 0ull; r_0h = 0u; goto l_arm_r0_2; }
+l_arm_eu:;
+    if (t_8c) { r_g6 = 15u; r_8q = 0u; r_o5 = 0ull; goto l_typed_8l; }
+    if (r_ij_3 == 0ull) { r_g6 = 24u; r_8q = 0u; r_o5 = 0ull; goto l_typed_8l; }
     u64 r_19_2 = (r_ij_3 + 0xffffffffull);
-    u8 r_pa_1 = ((ld64(away(t_f6_2, (((u64)((u64)r_rj << 3ull) + (r_19_2 & 0xffffffffull)) & 0xffffffff8ull))) & (u64)(255ull << (((u64)(r_19_2 << 3ull) & 56ull) & 63u))) != 0ull);
-    r_1m = (u8)r_pa_1;
-    r_fh = (r_pa_1 ? 24u : 0u);
-    r_1b = 0u;
-    r_sb = 0ull;
-    goto l_typed_ag;
-l_arm_qs_1:;
-    if (!(switch_wl_1 == 2u)) { r_5t = 15u; r_uw = 0ull; r_0h = 0u; goto l_arm_r0_2; }
-    if (r_ij_3 == 0ull) { r_5t = 24u; r_uw = 0ull; r_0h = 0u; goto l_arm_r0_2; }
+    u8 r_pa_1 = ((ld64(away(t_f6_2, (((u64)((u64)r_0n << 3ull) + (r_19_2 & 0xffffffffull)) & 0xffffffff8ull))) & (u64)(255ull << (((u64)(r_19_2 << 3ull) & 56ull) & 63u))) != 0ull);
+    r_bv = (u8)r_pa_1;
+    r_w9 = (r_pa_1 ? 24u : 0u);
+    r_sl_1 = 0u;
+    r_ko = 0ull;
+    goto l_typed_gu;
+l_arm_eu_1:;
+    if (t_8c) { r_g6 = 15u; r_8q = 0u; r_o5 = 0ull; goto l_typed_8l; }
+    if (r_ij_3 == 0ull) { r_g6 = 24u; r_8q = 0u; r_o5 = 0ull; goto l_typed_8l; }
     u64 r_19_3 = (r_ij_3 + 0xffffffffull);
-    r_24_6 = (u64)r_rj;
-    if (!((ld64(away(t_f6_2, (((u64)(r_24_6 << 3ull) + (r_19_3 & 0xffffffffull)) & 0xffffffff8ull))) & (u64)(255ull << (((u64)(r_19_3 << 3ull) & 56ull) & 63u))) == 0ull)) { r_5t = 24u; r_uw = 0ull; r_0h = 0u; goto l_arm_r0_2; }
+    r_24_5 = (u64)r_0n;
+    if (!((ld64(away(t_f6_2, (((u64)(r_24_5 << 3ull) + (r_19_3 & 0xffffffffull)) & 0xffffffff8ull))) & (u64)(255ull << (((u64)(r_19_3 << 3ull) & 56ull) & 63u))) == 0ull)) { r_g6 = 24u; r_8q = 0u; r_o5 = 0ull; goto l_typed_8l; }
     r_gw_4 = (u64)((r_ij_3 + 7ull) >> 3ull);
     indvars_qd_2 = 0ull;
     goto l_join_aa_2;
 l_loop_ob_1:;
     u64 indvars_r7_3 = (indvars_qd_2 + 1ull);
     if (!(indvars_r7_3 == r_gw_4)) { indvars_qd_2 = indvars_r7_3; goto l_join_aa_2; }
-    r_e1 = 0u;
-    r_d7 = 0u;
-    r_73 = 0ull;
-    r_do = 0ull;
-    r_zu = 0u;
-    r_jw = 0u;
-    r_dg = 0u;
-    r_rf_1 = 0u;
-    goto l_typed_c7;
+    goto l_typed_kc;
 l_join_aa_2:;
-    if ((ld64(away(t_f6_2, (u64)((indvars_qd_2 + r_24_6) << 3ull))) & 0x8080808080808080ull) == 0ull) goto l_loop_ob_1;
+    if ((ld64(away(t_f6_2, (u64)((indvars_qd_2 + r_24_5) << 3ull))) & 0x8080808080808080ull) == 0ull) goto l_loop_ob_1;
     st64(slot_1, r_f7);
-    stp(r_x5_5, t_f6_2);
-    st64(r_zd_3, r_yw);
-    st32(r_lk_3, r_rj);
+    stp(r_x5_4, t_f6_2);
+    st64(r_zd_2, r_yw);
+    st32(r_lk_2, r_0n);
     st32(r_nk_2, 0u);
     u8 r_ik_2 = typed_conforming_conforms_is_utf8_by_bytes(slot_1, r_12_5);
-    r_1m = (u8)(u8)((u8)r_ik_2 ^ (u8)1u);
-    r_fh = (r_ik_2 ? 0u : 4u);
-    r_1b = 0u;
-    r_sb = 0ull;
-    goto l_typed_ag;
-l_arm_52:;
-    u8 t_8c = (switch_wl_1 != 2u);
-    r_1m = (u8)t_8c;
-    r_fh = (t_8c ? 14u : 0u);
-    r_1b = 0u;
-    r_sb = 0ull;
-    goto l_typed_ag;
+    r_bv = (u8)(u8)((u8)r_ik_2 ^ (u8)1u);
+    r_w9 = (r_ik_2 ? 0u : 4u);
+    r_sl_1 = 0u;
+    r_ko = 0ull;
+    goto l_typed_gu;
+l_arm_u7:;
+    r_bv = (u8)t_8c;
+    r_w9 = (t_8c ? 14u : 0u);
+    r_sl_1 = 0u;
+    r_ko = 0ull;
+    goto l_typed_gu;
 l_typed_a3:;
     memset(slot_1, 0u, 24);
-    typed_conforming_conforms_narrow_elements_error(slot_1, r_kd, switch_wl_1);
-    r_1m = ld8(slot_1);
-    r_fh = ld8(r_x5_4);
-    r_1b = ld32(r_k0_2);
-    r_sb = ld64(r_zd_2);
-    goto l_typed_ag;
-l_join_m6:;
-    r_5t = 21u;
-    r_uw = 0ull;
-    r_0h = 0u;
-    goto l_arm_r0_2;
-l_typed_ag:;
-    if (r_1m == 1u) { r_5t = (u32)r_fh; r_uw = r_sb; r_0h = r_1b; goto l_arm_r0_2; }
-    r_e1 = 0u;
-    r_d7 = 0u;
-    r_73 = 0ull;
-    r_do = 0ull;
-    r_zu = 0u;
-    r_jw = 0u;
-    r_dg = 0u;
-    r_rf_1 = r_1m;
-    goto l_typed_c7;
-l_arm_r0_2:;
-    r_e1 = r_5t;
-    r_d7 = r_0h;
-    r_73 = r_uw;
-    r_do = r_f7;
-    r_zu = r_sr;
-    r_jw = r_ze;
-    r_dg = t_nk;
-    r_rf_1 = 1u;
-l_typed_c7:;
-    st8(slot_3, r_rf_1);
-    st32(r_x5_3, r_e1);
-    st32(r_k0_1, r_d7);
-    st64(r_zd_1, r_73);
-    st64(r_lk_2, r_do);
-    st32(r_89_1, r_zu);
-    st32(r_gs, r_jw);
-    r_pe = 0u;
-    r_wb = r_dg;
-    r_9k = r_jw;
-    r_rw = r_zu;
-    r_bv = r_do;
-    r_z1 = r_73;
-    r_q6 = r_d7;
-    r_bq = r_e1;
-    r_rf = r_rf_1;
-    goto l_typed_0z;
+    typed_conforming_conforms_narrow_elements_error(slot_1, r_ol, switch_wl_1);
+    r_bv = ld8(slot_1);
+    r_w9 = ld8(r_x5_3);
+    r_sl_1 = ld32(r_k0_1);
+    r_ko = ld64(r_zd_1);
+l_typed_gu:;
+    if (!(r_bv == 1u)) { r_jm = r_bv; goto l_typed_9j; }
+    r_g6 = (u32)r_w9;
+    r_8q = r_sl_1;
+    r_o5 = r_ko;
+    goto l_typed_8l;
 l_after_xg:;
     r_8n = (u32)(common_8i >> 4u);
     switch ((common_8i & 15u)) {
-    case 1u: { r_p9_1 = 1u; r_8f = 0u; r_73_1 = 0u; goto l_typed_n5; }
-    case 2u: goto l_arm_r0_3;
-    case 3u: goto l_arm_r0_4;
-    case 4u: goto l_arm_r0_5;
-    case 5u: goto l_arm_r0_6;
-    case 6u: goto l_arm_r0_7;
-    case 8u: goto l_arm_r0_8;
-    case 9u: goto l_arm_r0_9;
-    case 10u: goto l_arm_r0_10;
-    case 11u: goto l_arm_r0_11;
-    case 12u: goto l_arm_r0_12;
-    case 13u: goto l_arm_r0_13;
-    case 14u: goto l_arm_r0_14;
-    case 15u: goto l_arm_r0_15;
+    case 1u: { r_p9_1 = 1u; r_8f = 0u; r_73 = 0u; goto l_typed_n5; }
+    case 2u: goto l_arm_r0_2;
+    case 3u: goto l_arm_r0_3;
+    case 4u: goto l_arm_r0_4;
+    case 5u: goto l_arm_r0_5;
+    case 6u: goto l_arm_r0_6;
+    case 8u: goto l_arm_r0_7;
+    case 9u: goto l_arm_r0_8;
+    case 10u: goto l_arm_r0_9;
+    case 11u: goto l_arm_r0_10;
+    case 12u: goto l_arm_r0_11;
+    case 13u: goto l_arm_r0_12;
+    case 14u: goto l_arm_r0_13;
+    case 15u: goto l_arm_r0_14;
     default: goto l_default_r0;
     }
-l_arm_r0_3:;
+l_arm_r0_2:;
     r_p9_1 = 2u;
     r_8f = 0u;
-    r_73_1 = 0u;
+    r_73 = 0u;
     goto l_typed_n5;
-l_arm_r0_4:;
+l_arm_r0_3:;
     r_p9_1 = 3u;
     r_8f = 0u;
-    r_73_1 = 0u;
+    r_73 = 0u;
     goto l_typed_n5;
-l_arm_r0_5:;
+l_arm_r0_4:;
     r_p9_1 = 4u;
     r_8f = 0u;
-    r_73_1 = 0u;
+    r_73 = 0u;
     goto l_typed_n5;
-l_arm_r0_6:;
+l_arm_r0_5:;
     r_p9_1 = 5u;
     r_8f = 0u;
-    r_73_1 = r_8n;
+    r_73 = r_8n;
     goto l_typed_n5;
-l_arm_r0_7:;
+l_arm_r0_6:;
     r_p9_1 = 6u;
     r_8f = 0u;
-    r_73_1 = 0u;
+    r_73 = 0u;
+    goto l_typed_n5;
+l_arm_r0_7:;
+    r_p9_1 = 7u;
+    r_8f = 0u;
+    r_73 = r_8n;
     goto l_typed_n5;
 l_arm_r0_8:;
     r_p9_1 = 7u;
-    r_8f = 0u;
-    r_73_1 = r_8n;
+    r_8f = 1u;
+    r_73 = r_8n;
     goto l_typed_n5;
 l_arm_r0_9:;
     r_p9_1 = 7u;
-    r_8f = 1u;
-    r_73_1 = r_8n;
+    r_8f = 2u;
+    r_73 = r_8n;
     goto l_typed_n5;
 l_arm_r0_10:;
     r_p9_1 = 7u;
-    r_8f = 2u;
-    r_73_1 = r_8n;
+    r_8f = 3u;
+    r_73 = r_8n;
     goto l_typed_n5;
 l_arm_r0_11:;
     r_p9_1 = 7u;
-    r_8f = 3u;
-    r_73_1 = r_8n;
+    r_8f = 4u;
+    r_73 = r_8n;
     goto l_typed_n5;
 l_arm_r0_12:;
     r_p9_1 = 7u;
-    r_8f = 4u;
-    r_73_1 = r_8n;
+    r_8f = 5u;
+    r_73 = r_8n;
     goto l_typed_n5;
 l_arm_r0_13:;
     r_p9_1 = 7u;
-    r_8f = 5u;
-    r_73_1 = r_8n;
+    r_8f = 6u;
+    r_73 = r_8n;
     goto l_typed_n5;
 l_arm_r0_14:;
     r_p9_1 = 7u;
-    r_8f = 6u;
-    r_73_1 = r_8n;
-    goto l_typed_n5;
-l_arm_r0_15:;
-    r_p9_1 = 7u;
     r_8f = 7u;
-    r_73_1 = r_8n;
+    r_73 = r_8n;
     goto l_typed_n5;
 l_default_r0:;
     r_p9_1 = 0u;
     r_8f = 0u;
-    r_73_1 = 0u;
+    r_73 = 0u;
 l_typed_n5:;
     st8(slot_2, r_p9_1);
     st8(r_p9, r_8f);
-    st32(r_ix, r_73_1);
-    st32(r_x5_1, r_ze);
+    st32(r_ix, r_73);
+    st32(r_x5_1, r_iz);
     st32(r_k0, t_nk);
-    typed_conforming_conforms_check_object_07dcb38b0fe92235(slot_3, r_he, r_sf, slot_2, slot_4, r_sr, a_7);
-    r_pe = ld32(r_f3);
-    r_wb = ld32(r_a8);
-    r_9k = ld32(r_gs);
-    r_rw = ld32(r_89_1);
-    r_bv = ld64(r_lk_2);
-    r_z1 = ld64(r_zd_1);
-    r_q6 = ld32(r_k0_1);
-    r_bq = ld32(r_x5_3);
-    r_rf = ld8(slot_3);
-    goto l_typed_0z;
-l_typed_v7:;
-    goto l_loop_w2;
-l_typed_0z:;
-    if (r_rf == 0u) goto l_loop_w2;
-    r_10 = 1u;
-    r_kb = r_bq;
-    r_n4 = r_q6;
-    r_yp = r_z1;
-    r_iz = r_bv;
-    r_62 = r_rw;
-    r_24_2 = r_9k;
-    r_lt = r_wb;
-    r_va = r_pe;
-l_typed_9c:;
-    st8(a_1, r_10);
-    st32(away(a_1, 8ull), r_kb);
-    st32(away(a_1, 12ull), r_n4);
-    st64(away(a_1, 16ull), r_yp);
-    st64(away(a_1, 24ull), r_iz);
-    st32(away(a_1, 32ull), r_62);
-    st32(away(a_1, 36ull), r_24_2);
-    st32(away(a_1, 40ull), r_lt);
-    st32(away(a_1, 44ull), r_va);
-    goto l_common_68;
-l_arm_z2_1:;
-    st8(a_1, 0u);
-    memset(away(a_1, 8ull), 0u, 40);
-    goto l_common_68;
+    u8 r_fc = typed_conforming_conforms_check_object_07dcb38b0fe92235(r_3s, r_cz, slot_2, slot_3, r_sr, a_6);
+    r_jm = r_fc;
+    goto l_typed_9j;
+l_typed_kc:;
+    goto l_loop_c4;
+l_typed_r0:;
+    r_g6 = 17u;
+    r_8q = 0u;
+    r_o5 = 0ull;
+l_typed_8l:;
+    st32(a_6, r_g6);
+    st32(r_sl, r_8q);
+    st64(r_e7, r_o5);
+    st64(r_ud, r_f7);
+    st32(r_ng, r_sr);
+    st32(r_zh, r_iz);
+    st32(r_z8, t_nk);
+    st32(r_sd, 0u);
+    r_fk = 1u;
+    goto l_return_ri;
+l_typed_9j:;
+    if ((u8)(r_jm & 1)) { r_fk = 1u; goto l_return_ri; }
+    goto l_loop_c4;
+l_join_ki:;
+    u32 r_7t = (r_w0 + 1u);
+    if (r_7t == r_hr) { r_fk = 0u; goto l_return_ri; }
+    r_w0 = r_7t;
+    goto l_join_u5;
+l_return_ri:;
+    return r_fk;
 }
 
-/* capnp_objects::source::follow_far::<#07dcb38b0fe92235> */
-static NEVER void capnp_objects_source_follow_far_07dcb38b0fe92235(u8 *a_1, u8 *a_2, u64 a_3, u8 *a_4)
+/* capnp_pointers::source::follow_far::<#07dcb38b0fe92235> */
+static NEVER void capnp_pointers_source_follow_far_07dcb38b0fe92235(u8 *a_1, u8 *a_2, u64 a_3, u8 *a_4)
 {
     u64 r_cy;
     u8 *r_e7;
@@ -3880,12 +3728,12 @@ l_join_9r:;
     r_2b = away(ldp(r_fx), r_z6);
     r_qw = ld64(r_2b);
     if (r_qw == 0ull) goto l_capnp_vp;
-    capnp_making_landing_follow_d7a666d2d35ab297(slot_1, r_fx, r_yf, r_yf_1);
+    capnp_allocation_landing_follow_d7a666d2d35ab297(slot_1, r_fx, r_yf, r_yf_1);
     st64(r_2b, 0ull);
     if (!(ld8(slot_1) == 1u)) goto l_capnp_vp;
-    capnp_making_zeroing_zero_target_d7a666d2d35ab297(r_fx, (slot_1 + 8));
+    capnp_allocation_zeroing_zero_target_d7a666d2d35ab297(r_fx, (slot_1 + 8));
     if (!((r_qw & 3ull) == 2ull)) goto l_capnp_vp;
-    capnp_making_zeroing_zero_far_pads_d7a666d2d35ab297(r_fx, r_qw);
+    capnp_allocation_zeroing_zero_far_pads_d7a666d2d35ab297(r_fx, r_qw);
 l_capnp_vp:;
     u8 *r_fx_1 = ldp(a_2);
     st64(slot_6, r_eg);
@@ -3929,12 +3777,12 @@ static void capnp_copies_copy_copy_value_5ec03199cc959fcd(u8 *a_1, u8 *a_2, u32 
     r_2b = away(ldp(a_2), (u64)((u64)a_4 << 3ull));
     r_qw = ld64(r_2b);
     if (r_qw == 0ull) goto l_capnp_ku;
-    capnp_making_landing_follow_d7a666d2d35ab297(slot_1, a_2, a_3, a_4);
+    capnp_allocation_landing_follow_d7a666d2d35ab297(slot_1, a_2, a_3, a_4);
     st64(r_2b, 0ull);
     if (!(ld8(slot_1) == 1u)) goto l_capnp_ku;
-    capnp_making_zeroing_zero_target_d7a666d2d35ab297(a_2, (slot_1 + 8));
+    capnp_allocation_zeroing_zero_target_d7a666d2d35ab297(a_2, (slot_1 + 8));
     if (!((r_qw & 3ull) == 2ull)) goto l_capnp_ku;
-    capnp_making_zeroing_zero_far_pads_d7a666d2d35ab297(a_2, r_qw);
+    capnp_allocation_zeroing_zero_far_pads_d7a666d2d35ab297(a_2, r_qw);
 l_capnp_ku:;
     r_vm = (u32)r_r5_1;
     r_40 = r_uq;
@@ -4143,7 +3991,7 @@ static NEVER void capnp_copies_copy_copy_object_5ec03199cc959fcd(u8 *a_1, u8 *a_
     u32 r_e3_4;
     u64 r_z6_6;
     u8 *r_2b_5;
-    u32 r_2v;
+    u32 r_oh;
     u64 r_4i_1;
     u64 r_y6_2;
     u64 r_q7_1;
@@ -4193,8 +4041,8 @@ static NEVER void capnp_copies_copy_copy_object_5ec03199cc959fcd(u8 *a_1, u8 *a_
     u64 r_nm_7;
     u64 r_nm_8;
     u64 r_a3;
-    u16 r_l1;
-    u16 r_5s;
+    u16 r_xa;
+    u16 r_fz;
     u64 r_fj;
     u32 r_wt;
     u32 r_ll_1;
@@ -4225,7 +4073,7 @@ static NEVER void capnp_copies_copy_copy_object_5ec03199cc959fcd(u8 *a_1, u8 *a_
     u8 *r_x5_7;
     u8 *r_k0_4;
     u8 *r_zd_7;
-    u32 r_s1_1;
+    u32 r_mx;
     u8 *r_rq_9;
     u8 *r_08_6;
     u8 *r_xz_2;
@@ -4351,7 +4199,7 @@ static NEVER void capnp_copies_copy_copy_object_5ec03199cc959fcd(u8 *a_1, u8 *a_
     if (t_pa) goto l_capnp_sm;
     u8 *r_08 = away(a_6, 16ull);
     st64(r_08, uadd_sat64(ld64(r_08), 1ull));
-    if ((r_qw_3 & 3ull) == 2ull) goto l_capnp_3l;
+    if ((r_qw_3 & 3ull) == 2ull) goto l_capnp_nl;
     goto l_join_bd;
 l_capnp_sm:;
     if (!((r_qw_3 & 3ull) == 2ull)) goto l_join_bd;
@@ -4377,8 +4225,8 @@ l_capnp_i5:;
     r_9h = r_qw_2;
     r_27 = t_al;
     goto l_arm_wn;
-l_capnp_3l:;
-    capnp_objects_source_follow_far_07dcb38b0fe92235(slot_1, r_rv, r_qw_3, a_6);
+l_capnp_nl:;
+    capnp_pointers_source_follow_far_07dcb38b0fe92235(slot_1, r_rv, r_qw_3, a_6);
     u64 r_38 = ld64((slot_1 + 16));
     u64 r_38_1 = ld64((slot_1 + 8));
     if (ld8(slot_1) == 0u) { r_gx = ld32((slot_1 + 40)); r_qd = r_38; r_d4 = r_38_1; r_9h = ld64((slot_1 + 32)); r_27 = ld64((slot_1 + 24)); goto l_arm_wn; }
@@ -4472,9 +4320,9 @@ l_arm_ae:;
     r_py = (u16)r_y6_1;
     t_q5 = (a_7 == 1u);
     if (t_q5) goto l_arm_q5;
-    r_l1 = r_xg;
-    r_5s = r_py;
-    goto l_capnp_dd;
+    r_xa = r_xg;
+    r_fz = r_py;
+    goto l_capnp_l9;
 l_arm_lc:;
     r_12_1 = (u32)r_ij;
     if ((i32)r_5k < (i32)1u) { r_10 = 1u; r_kb = 26u; r_n4 = 0u; r_yp = 0ull; goto l_common_9c; }
@@ -4630,13 +4478,13 @@ l_capnp_ed:;
     r_xg_1 = (u16)r_ag;
     r_29 = ((u32)r_ag & 65535u);
     r_68_1 = (r_ib + r_29);
-    if (!(r_68_1 == 0u)) goto l_join_uv;
+    if (!(r_68_1 == 0u)) goto l_join_iw;
     u64 r_7l = (u64)a_4;
     st64((ldp(a_2) + (i64)((u64)(r_7l << 3ull))), 0xfffffffcull);
     pre_bv = r_7l;
     r_6n = a_3;
     goto l_arm_y5;
-l_join_uv:;
+l_join_iw:;
     r_08_2 = away(a_2, 16ull);
     r_e3_1 = ld32(r_08_2);
     if (r_68_1 > ((u32)umin64((u64)(ld64(away(a_2, 8ull)) >> 3ull), 0x1fffffffull) - r_e3_1)) goto l_arm_45;
@@ -4985,7 +4833,7 @@ l_join_1e:;
     r_ep_2 = (u64)(r_qw_5 >> 32ull);
     if (!((switch_f9 == 1ull) ? ((u8)((u8)((u8)r_ep_2 & 7u) + 255u) < 5u) : 0u)) goto l_join_br;
     r_ij_1 = (u64)(r_qw_5 >> 35ull);
-    r_c6_5 = (u64)(((ld64(away(away(((u8 *)switch_table_capnp_objects_pointers_validate_validate__79a49eb6), 8 * (r_ep_2 & 7ull)), 0xfffffffffffffff8ull)) * r_ij_1) + 63ull) >> 6ull);
+    r_c6_5 = (u64)(((ld64(away(away(((u8 *)switch_table_capnp_pointers_pointers_validate_validate_f7685ec9), 8 * (r_ep_2 & 7ull)), 0xfffffffffffffff8ull)) * r_ij_1) + 63ull) >> 6ull);
     if (!t_0c) goto l_join_bd_1;
     st64(r_08_4, uadd_sat64(ld64(r_08_4), 1ull));
 l_join_bd_1:;
@@ -5011,7 +4859,7 @@ l_arm_vo:;
 l_arm_p5:;
     r_z6_5 = (u64)(r_c6_5 << 3ull);
     r_8a = away(t_f6_2, (u64)(r_gk << 3ull));
-    r_1q_1 = (ld64(away(away(((u8 *)switch_table_capnp_objects_pointers_validate_validate__79a49eb6), 8 * (r_ep_2 & 7ull)), 0xfffffffffffffff8ull)) * r_ij_1);
+    r_1q_1 = (ld64(away(away(((u8 *)switch_table_capnp_pointers_pointers_validate_validate_f7685ec9), 8 * (r_ep_2 & 7ull)), 0xfffffffffffffff8ull)) * r_ij_1);
     r_se_1 = (u64)((r_1q_1 + 63ull) >> 6ull);
     r_12_3 = (u32)r_se_1;
     r_e3_4 = ld32(r_08_1);
@@ -5038,8 +4886,8 @@ l_else_r8:;
 l_core_kl:;
     st32(r_08_1, (r_e3_4 + r_12_3));
     st64((ldp(a_2) + (i64)((u64)((u64)r_sr << 3ull))), ((r_qw_5 & 0xffffffff00000001ull) | (u64)(u32)((r_e3_4 + (r_sr ^ 0xffffffffu)) << 2u)));
-    r_2v = r_e3_4;
-    goto l_arm_2p;
+    r_oh = r_e3_4;
+    goto l_arm_4s;
 l_arm_45_1:;
     capnp_lent_arena_lent_arena_LentArenaBuilderArena_allo_c5878f28(slot_1, a_2, (r_12_3 + 1u));
     if (!(ld8(slot_1) == 0u)) goto l_arm_vh;
@@ -5048,14 +4896,14 @@ l_arm_45_1:;
     u32 r_yf_1 = ld32(r_ix_1);
     st64((ldp(a_2) + (i64)(r_z6_7)), (r_qw_5 & 0xffffffff00000001ull));
     st64((ldp(a_2) + (i64)((u64)((u64)r_sr << 3ull))), (((u64)((u64)r_yf_1 << 32ull) | r_z6_7) | 2ull));
-    r_2v = (r_e3_5 + 1u);
-l_arm_2p:;
-    u64 r_1q_2 = (ld64(away(away(((u8 *)switch_table_capnp_objects_pointers_validate_validate__79a49eb6), 8 * (r_ep_2 & 7ull)), 0xfffffffffffffff8ull)) * r_ij_1);
-    capnp_arena_traits_arena_writing_copy_words_d7a666d2d35ab297(a_2, r_2v, r_8a, r_z6_5);
+    r_oh = (r_e3_5 + 1u);
+l_arm_4s:;
+    u64 r_1q_2 = (ld64(away(away(((u8 *)switch_table_capnp_pointers_pointers_validate_validate_f7685ec9), 8 * (r_ep_2 & 7ull)), 0xfffffffffffffff8ull)) * r_ij_1);
+    capnp_arena_traits_arena_writing_copy_words_d7a666d2d35ab297(a_2, r_oh, r_8a, r_z6_5);
     r_4i_1 = (r_1q_2 & 63ull);
     if (r_4i_1 == 0ull) goto l_capnp_v7;
     u64 r_0f_4 = (r_c6_5 + 0xffffffffffffffffull);
-    st64((ldp(a_2) + (i64)((u64)((u64)(r_2v + (u32)r_0f_4) << 3ull))), (ld64(away(r_8a, (u64)(r_0f_4 << 3ull))) & ((u64)(0xffffffffffffffffull << (r_4i_1 & 63u)) ^ 0xffffffffffffffffull)));
+    st64((ldp(a_2) + (i64)((u64)((u64)(r_oh + (u32)r_0f_4) << 3ull))), (ld64(away(r_8a, (u64)(r_0f_4 << 3ull))) & ((u64)(0xffffffffffffffffull << (r_4i_1 & 63u)) ^ 0xffffffffffffffffull)));
     goto l_capnp_v7;
 l_arm_vh:;
     r_t8_1 = ld8(r_x5_5);
@@ -5196,7 +5044,7 @@ l_capnp_rz:;
     r_pz = t_pz;
     goto l_join_1g;
 l_arm_q5:;
-    if ((u8)((u8)(t_c8 == 0u) | (u8)((u16)(r_py | r_xg) == 0u))) { r_l1 = 0u; r_5s = 0u; goto l_capnp_dd; }
+    if ((u8)((u8)(t_c8 == 0u) | (u8)((u16)(r_py | r_xg) == 0u))) { r_xa = 0u; r_fz = 0u; goto l_capnp_l9; }
     r_q7_2 = (r_ep_1 & 65535ull);
     r_i4 = 0u;
     r_pi = (u64)r_ll;
@@ -5251,31 +5099,31 @@ l_loop_jc_7:;
 l_capnp_8b:;
     u16 r_5f_1 = (u16)(r_jc + (u16)r_a3);
     u32 r_ff = (r_i4 + 1u);
-    if (r_ff == t_c8) { r_l1 = r_5f; r_5s = r_5f_1; goto l_capnp_dd; }
+    if (r_ff == t_c8) { r_xa = r_5f; r_fz = r_5f_1; goto l_capnp_l9; }
     r_i4 = r_ff;
     r_pi = (r_5q + r_y6_1);
     r_jc = r_5f_1;
     r_qp_1 = r_5f;
     goto l_join_20;
-l_capnp_dd:;
-    capnp_making_making_make_struct_list_d7a666d2d35ab297(slot_5, a_2, a_3, a_4, t_c8, r_l1, r_5s);
+l_capnp_l9:;
+    capnp_allocation_making_make_struct_list_d7a666d2d35ab297(slot_5, a_2, a_3, a_4, t_c8, r_xa, r_fz);
     r_fj = ld64((slot_5 + 4));
     if (!(ld8(slot_5) == 0u)) goto l_arm_mo;
     r_wt = (u32)r_fj;
     r_ll_1 = ((u32)(u64)(r_fj >> 32ull) + 1u);
     r_68_3 = (r_az_1 + r_12);
-    r_00 = (u32)r_l1;
-    r_68_4 = ((u32)r_5s + r_00);
+    r_00 = (u32)r_xa;
+    r_68_4 = ((u32)r_fz + r_00);
     if ((u8)((u8)(r_68_4 == 0u) | (u8)(t_c8 == 0u))) { r_rh = 0u; r_hg_2 = 0u; r_je = 0u; r_s2 = 0ull; goto l_capnp_nb; }
-    r_z6_11 = (u64)((u64)r_l1 << 3ull);
-    r_hi = (r_l1 == 0u);
-    r_u6 = (r_l1 < 8u);
-    r_vw = (r_l1 > 3u);
-    r_bh_2 = (r_l1 == 1u);
+    r_z6_11 = (u64)((u64)r_xa << 3ull);
+    r_hi = (r_xa == 0u);
+    r_u6 = (r_xa < 8u);
+    r_vw = (r_xa > 3u);
+    r_bh_2 = (r_xa == 1u);
     r_8f_2 = (r_z6_11 + 0xfffffffffffffff0ull);
     r_la_2 = (r_z6_11 + 0xfffffffffffffff8ull);
     r_bh_3 = (r_z6_11 + 0xffffffffffffffe0ull);
-    r_hi_1 = (r_5s == 0u);
+    r_hi_1 = (r_fz == 0u);
     r_gw_3 = (u64)(r_9h >> 3ull);
     r_x5_6 = (slot_4 + 8);
     r_zd_6 = (slot_4 + 16);
@@ -5291,7 +5139,7 @@ l_capnp_dd:;
     r_x5_7 = (slot_3 + 8);
     r_k0_4 = (slot_3 + 12);
     r_zd_7 = (slot_3 + 16);
-    r_s1_1 = (r_5k + 0xfffffffeu);
+    r_mx = ((r_4w_1 == 0x80000000u) ? 0x80000000u : (r_5k + 0xfffffffeu));
     r_rq_9 = away(a_2, 8ull);
     r_08_6 = away(a_2, 16ull);
     r_xz_2 = away(a_2, 24ull);
@@ -5308,7 +5156,7 @@ l_capnp_dd:;
     r_zd_9 = (slot_1 + 16);
     t_0c_1 = (r_dh == 0u);
     wide_c0 = (u64)t_c8;
-    wide_u7 = (u64)r_5s;
+    wide_u7 = (u64)r_fz;
     t_6c_2 = (slot_4 + 56);
     t_6c_3 = (slot_2 + 56);
     r_wt_1 = (u32)r_fj;
@@ -5352,12 +5200,12 @@ l_capnp_j9:;
     r_w0_3 = (r_w0_1 + r_00);
     if (r_hi_1) goto l_loop_da;
     indvars_vm = 0ull;
-    goto l_join_iw;
+    goto l_join_iw_1;
 l_loop_w2:;
     u64 indvars_r7_2 = (indvars_vm + 1ull);
     if (indvars_r7_2 == wide_u7) goto l_loop_da;
     indvars_vm = indvars_r7_2;
-l_join_iw:;
+l_join_iw_1:;
     u32 t_nk_1 = (u32)indvars_vm;
     r_sr_1 = (r_w0_3 + t_nk_1);
     r_24_7 = (u64)(r_w0_2 + t_nk_1);
@@ -5370,7 +5218,7 @@ l_join_iw:;
     r_ep_3 = (u64)(r_qw_6 >> 32ull);
     if (!((switch_f9_1 == 1ull) ? ((u8)((u8)((u8)r_ep_3 & 7u) + 255u) < 5u) : 0u)) goto l_join_br_1;
     r_ij_2 = (u64)(r_qw_6 >> 35ull);
-    r_1q_3 = (ld64(away(away(((u8 *)switch_table_capnp_objects_pointers_validate_validate__79a49eb6), 8 * (r_ep_3 & 7ull)), 0xfffffffffffffff8ull)) * r_ij_2);
+    r_1q_3 = (ld64(away(away(((u8 *)switch_table_capnp_pointers_pointers_validate_validate_f7685ec9), 8 * (r_ep_3 & 7ull)), 0xfffffffffffffff8ull)) * r_ij_2);
     r_c6_6 = (u64)((r_1q_3 + 63ull) >> 6ull);
     if (!t_0c_1) goto l_join_bd_2;
     st64(r_08_5, uadd_sat64(ld64(r_08_5), 1ull));
@@ -5397,7 +5245,7 @@ l_arm_vo_1:;
 l_arm_p5_1:;
     r_z6_12 = (u64)(r_c6_6 << 3ull);
     r_8a_1 = away(t_f6_1, (u64)(r_gk_1 << 3ull));
-    r_1q_4 = (ld64(away(away(((u8 *)switch_table_capnp_objects_pointers_validate_validate__79a49eb6), 8 * (r_ep_3 & 7ull)), 0xfffffffffffffff8ull)) * r_ij_2);
+    r_1q_4 = (ld64(away(away(((u8 *)switch_table_capnp_pointers_pointers_validate_validate_f7685ec9), 8 * (r_ep_3 & 7ull)), 0xfffffffffffffff8ull)) * r_ij_2);
     r_se_2 = (u64)((r_1q_4 + 63ull) >> 6ull);
     r_12_4 = (u32)r_se_2;
     r_e3_7 = ld32(r_08_6);
@@ -5431,7 +5279,7 @@ l_join_t5:;
 l_arm_kl:;
     st32(r_08_6, (r_e3_7 + r_12_4));
     st64((ldp(a_2) + (i64)((u64)((u64)r_sr_1 << 3ull))), ((r_qw_6 & 0xffffffff00000001ull) | (u64)(u32)((r_e3_7 + (r_sr_1 ^ 0xffffffffu)) << 2u)));
-    r_1q_5 = (ld64(away(away(((u8 *)switch_table_capnp_objects_pointers_validate_validate__79a49eb6), 8 * (r_ep_3 & 7ull)), 0xfffffffffffffff8ull)) * r_ij_2);
+    r_1q_5 = (ld64(away(away(((u8 *)switch_table_capnp_pointers_pointers_validate_validate_f7685ec9), 8 * (r_ep_3 & 7ull)), 0xfffffffffffffff8ull)) * r_ij_2);
     if (r_c6_6 == 0ull) goto l_capnp_pq;
     r_2b_10 = away(ldp(a_2), (u64)((u64)r_e3_7 << 3ull));
     if (!(r_1q_3 < 449ull)) goto l_else_r3_3;
@@ -5548,12 +5396,12 @@ l_capnp_hv:;
     r_29_1 = ((u32)r_dl & 65535u);
     r_az_4 = ((u32)r_9n & 65535u);
     r_68_5 = (r_az_4 + r_29_1);
-    if (!(r_68_5 == 0u)) goto l_join_fn;
+    if (!(r_68_5 == 0u)) goto l_join_gd;
     u64 r_24_9 = (u64)r_sr_1;
     st64((ldp(a_2) + (i64)((u64)(r_24_9 << 3ull))), 0xfffffffcull);
     r_s8 = r_24_9;
     goto l_arm_rv;
-l_join_fn:;
+l_join_gd:;
     r_e3_8 = ld32(r_08_6);
     if (r_68_5 > ((u32)umin64((u64)(ld64(r_rq_9) >> 3ull), 0x1fffffffull) - r_e3_8)) goto l_arm_xy;
     r_c0_10 = (u64)(u32)(r_68_5 << 3u);
@@ -5622,7 +5470,7 @@ l_capnp_5c:;
     st64(r_a8_3, r_9h);
     st32(r_c4_6, (r_5b_1 + ((u32)r_ep_3 & 65535u)));
     st32(r_bk_1, 0u);
-    st32(r_6c_3, r_s1_1);
+    st32(r_6c_3, r_mx);
     capnp_copies_copy_children_copy_children_out_of_line_5_f210a996(slot_1, a_2, r_wt_1, (r_29_1 + r_4r_3), slot_2, r_az_4, a_6, a_7);
     r_2b_14 = ld8(slot_1);
     r_qh_2 = ld8(r_x5_9);
@@ -5858,7 +5706,7 @@ static NEVER void capnp_copies_copy_children_copy_children_out_of_line_5_f210a99
     u8 *r_x5_1;
     u8 *r_k0;
     u8 *r_zd_1;
-    u32 r_53;
+    u32 r_mx;
     u8 t_q5;
     u8 *r_rq_1;
     u8 *r_08_1;
@@ -5979,7 +5827,7 @@ static NEVER void capnp_copies_copy_children_copy_children_out_of_line_5_f210a99
     r_x5_1 = (slot_3 + 8);
     r_k0 = (slot_3 + 12);
     r_zd_1 = (slot_3 + 16);
-    r_53 = (r_5k_1 + 0xffffffffu);
+    r_mx = ((r_5k_1 == 0x80000000u) ? 0x80000000u : (r_5k_1 + 0xffffffffu));
     t_q5 = (a_8 == 1u);
     r_rq_1 = away(a_2, 8ull);
     r_08_1 = away(a_2, 16ull);
@@ -6018,7 +5866,7 @@ l_join_22:;
     r_ep = (u64)(r_qw_3 >> 32ull);
     if (!((switch_f9 == 1ull) ? ((u8)((u8)((u8)r_ep & 7u) + 255u) < 5u) : 0u)) goto l_join_br;
     r_ij = (u64)(r_qw_3 >> 35ull);
-    r_1q = (ld64(away(away(((u8 *)switch_table_capnp_objects_pointers_validate_validate__79a49eb6), 8 * (r_ep & 7ull)), 0xfffffffffffffff8ull)) * r_ij);
+    r_1q = (ld64(away(away(((u8 *)switch_table_capnp_pointers_pointers_validate_validate_f7685ec9), 8 * (r_ep & 7ull)), 0xfffffffffffffff8ull)) * r_ij);
     r_c6 = (u64)((r_1q + 63ull) >> 6ull);
     if (!t_0c) goto l_join_bd;
     st64(r_08, uadd_sat64(ld64(r_08), 1ull));
@@ -6045,7 +5893,7 @@ l_arm_i0_1:;
 l_arm_5g:;
     r_z6 = (u64)(r_c6 << 3ull);
     r_dx = away(r_rv_1, (u64)(r_la << 3ull));
-    r_1q_1 = (ld64(away(away(((u8 *)switch_table_capnp_objects_pointers_validate_validate__79a49eb6), 8 * (r_ep & 7ull)), 0xfffffffffffffff8ull)) * r_ij);
+    r_1q_1 = (ld64(away(away(((u8 *)switch_table_capnp_pointers_pointers_validate_validate_f7685ec9), 8 * (r_ep & 7ull)), 0xfffffffffffffff8ull)) * r_ij);
     r_se = (u64)((r_1q_1 + 63ull) >> 6ull);
     r_12 = (u32)r_se;
     r_e3 = ld32(r_08_1);
@@ -6079,7 +5927,7 @@ l_join_m2:;
 l_arm_kl:;
     st32(r_08_1, (r_e3 + r_12));
     st64((ldp(a_2) + (i64)((u64)((u64)r_7m << 3ull))), ((r_qw_3 & 0xffffffff00000001ull) | (u64)(u32)((r_e3 + (r_7m ^ 0xffffffffu)) << 2u)));
-    r_1q_2 = (ld64(away(away(((u8 *)switch_table_capnp_objects_pointers_validate_validate__79a49eb6), 8 * (r_ep & 7ull)), 0xfffffffffffffff8ull)) * r_ij);
+    r_1q_2 = (ld64(away(away(((u8 *)switch_table_capnp_pointers_pointers_validate_validate_f7685ec9), 8 * (r_ep & 7ull)), 0xfffffffffffffff8ull)) * r_ij);
     if (r_c6 == 0ull) goto l_capnp_pq;
     r_2b_1 = away(ldp(a_2), (u64)((u64)r_e3 << 3ull));
     if (!(r_1q < 449ull)) goto l_else_r3;
@@ -6196,12 +6044,12 @@ l_capnp_hv:;
     r_29 = ((u32)r_dl & 65535u);
     r_az = ((u32)r_9n & 65535u);
     r_68 = (r_az + r_29);
-    if (!(r_68 == 0u)) goto l_join_fn;
+    if (!(r_68 == 0u)) goto l_join_gd;
     u64 r_24_2 = (u64)r_7m;
     st64((ldp(a_2) + (i64)((u64)(r_24_2 << 3ull))), 0xfffffffcull);
     r_s8 = r_24_2;
     goto l_arm_rv;
-l_join_fn:;
+l_join_gd:;
     r_e3_1 = ld32(r_08_1);
     if (r_68 > ((u32)umin64((u64)(ld64(r_rq_1) >> 3ull), 0x1fffffffull) - r_e3_1)) goto l_arm_xy;
     r_c0 = (u64)(u32)(r_68 << 3u);
@@ -6270,7 +6118,7 @@ l_capnp_5c:;
     st64(r_a8_1, r_qw_2);
     st32(r_c4_1, (r_5b + ((u32)r_ep & 65535u)));
     st32(r_bk, 0u);
-    st32(r_6c_1, r_53);
+    st32(r_6c_1, r_mx);
     capnp_copies_copy_children_copy_children_out_of_line_5_f210a996(slot_1, a_2, a_3, (r_29 + r_4r_1), slot_2, r_az, a_7, a_8);
     r_2b_7 = ld8(slot_1);
     r_qh = ld8(r_x5_3);
@@ -6329,8 +6177,8 @@ l_capnp_9c:;
     return;
 }
 
-/* capnp_objects::source::expected::narrow_elements_error */
-static void capnp_objects_source_expected_narrow_elements_error(u8 *a_1, u8 a_2, u8 a_3)
+/* capnp_pointers::source::expected::narrow_elements_error */
+static void capnp_pointers_source_expected_narrow_elements_error(u8 *a_1, u8 a_2, u8 a_3)
 {
     u64 r_6f;
     u32 r_3l;
@@ -6463,7 +6311,7 @@ l_arm_cr:;
     if (r_qw_1 == 0ull) { r_bb = 0ull; r_o5 = 0ull; r_04 = 0u; r_b2 = 0u; r_3n = ((u8 *)g_static_6); r_v8 = 0x7fffffffu; goto l_arm_c9; }
     if ((i32)a_5 < (i32)1u) { r_bb_1 = 58u; goto l_arm_c9_1; }
     st64(r_zd, 1ull);
-    if ((r_qw_1 & 3ull) == 2ull) goto l_capnp_nk;
+    if ((r_qw_1 & 3ull) == 2ull) goto l_capnp_fq;
     u64 r_m6 = ((u64)(r_qw_1 >> 2ull) & 0x3fffffffull);
     r_lc = ((r_7l + 1ull) + r_m6);
     r_nb = (r_oz & 0xffffffffull);
@@ -6485,8 +6333,8 @@ l_capnp_i5:;
 l_capnp_5s:;
     r_un = 23ull;
     goto l_arm_61;
-l_capnp_nk:;
-    capnp_objects_source_follow_far_07dcb38b0fe92235(slot_1, a_1, r_qw_1, slot_2);
+l_capnp_fq:;
+    capnp_pointers_source_follow_far_07dcb38b0fe92235(slot_1, a_1, r_qw_1, slot_2);
     u64 r_38 = ld64((slot_1 + 8));
     if (ld8(slot_1) == 0u) { r_ob = ld32((slot_1 + 40)); r_oh = ld64((slot_1 + 16)); r_q1 = r_38; r_ly = ld64((slot_1 + 32)); r_mf = ((u8 *)(uptr)ld64((slot_1 + 24))); goto l_arm_7y; }
     r_un = r_38;
@@ -6538,8 +6386,8 @@ l_join_ti:;
     return r_gw;
 }
 
-/* capnp_objects::pointers::validate::validate_object::<#07dcb38b0fe92235> */
-static NEVER u8 capnp_objects_pointers_validate_validate_object_07dcb3_9288a101(u8 *a_1, u32 a_2, u32 a_3, u8 *a_4)
+/* capnp_pointers::pointers::validate::validate_object::<#07dcb38b0fe92235> */
+static NEVER u8 capnp_pointers_pointers_validate_validate_object_07dcb_94c64086(u8 *a_1, u32 a_2, u32 a_3, u8 *a_4)
 {
     A(8) u8 slot_1[56];
     A(8) u8 slot_2[64];
@@ -6616,7 +6464,7 @@ static NEVER u8 capnp_objects_pointers_validate_validate_object_07dcb3_9288a101(
     u32 r_68_1;
     u32 invariant_w0;
     u32 r_e3;
-    u32 r_9l;
+    u32 r_e5;
     u8 r_fk;
     memset(slot_2, 0u, 64);
     r_52 = ld64(away(a_1, 24ull));
@@ -6638,7 +6486,7 @@ static NEVER u8 capnp_objects_pointers_validate_validate_object_07dcb3_9288a101(
     if (t_pa) goto l_capnp_sm;
     u8 *r_r2 = away(a_4, 56ull);
     st64(r_r2, uadd_sat64(ld64(r_r2), 1ull));
-    if ((r_qw & 3ull) == 2ull) goto l_capnp_1t;
+    if ((r_qw & 3ull) == 2ull) goto l_capnp_74;
     goto l_join_bd;
 l_capnp_sm:;
     if (!((r_qw & 3ull) == 2ull)) goto l_join_bd;
@@ -6665,8 +6513,8 @@ l_capnp_i5:;
     r_o2 = r_38;
     r_hq = t_al;
     goto l_arm_gc;
-l_capnp_1t:;
-    capnp_objects_source_follow_far_07dcb38b0fe92235(slot_1, r_xw_1, r_qw, r_su);
+l_capnp_74:;
+    capnp_pointers_source_follow_far_07dcb38b0fe92235(slot_1, r_xw_1, r_qw, r_su);
     u64 r_38_2 = ld64((slot_1 + 16));
     u64 r_38_3 = ld64((slot_1 + 8));
     if (ld8(slot_1) == 0u) { r_ag = ld32((slot_1 + 44)); r_38_1 = ld32((slot_1 + 40)); r_7w = r_38_2; r_un = r_38_3; r_o2 = ld64((slot_1 + 32)); r_hq = ld64((slot_1 + 24)); goto l_arm_gc; }
@@ -6912,22 +6760,22 @@ l_arm_2c:;
     if (r_ij == 0u) { r_fk = 0u; goto l_return_ri; }
     invariant_w0 = (r_ae + ld32(r_c4_1));
     r_e3 = ld32(r_6c);
-    r_9l = 0u;
-    goto l_join_kq;
+    r_e5 = 0u;
+    goto l_join_wb;
 l_loop_i4:;
-    u32 r_ff = (r_9l + 1u);
+    u32 r_ff = (r_e5 + 1u);
     if (r_ff == r_ij) { r_fk = 0u; goto l_return_ri; }
-    r_9l = r_ff;
-l_join_kq:;
-    u8 r_b9 = capnp_objects_pointers_validate_validate_pointers_07dc_3ddc9608(slot_2, ((r_9l * r_68_1) + invariant_w0), r_3i, r_e3, a_4);
-    if ((u8)(r_b9 & 1)) { r_fk = 1u; goto l_return_ri; }
+    r_e5 = r_ff;
+l_join_wb:;
+    u8 r_7j = capnp_pointers_pointers_validate_validate_pointers_07d_b5563fe6(slot_2, ((r_e5 * r_68_1) + invariant_w0), r_3i, r_e3, a_4);
+    if ((u8)(r_7j & 1)) { r_fk = 1u; goto l_return_ri; }
     goto l_loop_i4;
 l_return_ri:;
     return r_fk;
 }
 
-/* capnp_objects::pointers::validate::validate_pointers::<#07dcb38b0fe92235> */
-static NEVER u8 capnp_objects_pointers_validate_validate_pointers_07dc_3ddc9608(u8 *a_1, u32 a_2, u32 a_3, u32 a_4, u8 *a_5)
+/* capnp_pointers::pointers::validate::validate_pointers::<#07dcb38b0fe92235> */
+static NEVER u8 capnp_pointers_pointers_validate_validate_pointers_07d_b5563fe6(u8 *a_1, u32 a_2, u32 a_3, u32 a_4, u8 *a_5)
 {
     u8 *r_su;
     u8 *r_xm;
@@ -7001,8 +6849,8 @@ l_join_7l:;
     switch ((u8)((u8)r_qw & 3u)) {
     case 0u: goto l_arm_kb;
     case 1u: goto l_arm_ui;
-    case 2u: goto l_after_eu;
-    case 3u: goto l_after_eu;
+    case 2u: goto l_after_3a;
+    case 3u: goto l_after_3a;
     default: goto l_default_e1;
     }
 l_arm_kb:;
@@ -7045,13 +6893,13 @@ l_arm_0g:;
     st32(a_5, (r_93 ? 0u : umin32(t_1n, ld32(a_5))));
     st64(r_rq, uadd_sat64((u64)(r_az + r_12), ld64(r_rq)));
     if (r_y6 == 0ull) goto l_loop_2y;
-    u8 r_7f = capnp_objects_pointers_validate_validate_pointers_07dc_3ddc9608(a_1, (r_ae + r_az), r_12, t_y0, a_5);
-    r_hf = r_7f;
+    u8 r_le = capnp_pointers_pointers_validate_validate_pointers_07d_b5563fe6(a_1, (r_ae + r_az), r_12, t_y0, a_5);
+    r_hf = r_le;
     goto l_capnp_5o;
 l_arm_ui:;
     r_ep_1 = (u64)(r_qw >> 32ull);
-    if (!((u8)((u8)((u8)r_ep_1 & 7u) + 255u) < 5u)) goto l_after_eu;
-    r_c6 = (u64)(((ld64(away(away(((u8 *)switch_table_capnp_objects_pointers_validate_validate__79a49eb6), 8 * (r_ep_1 & 7ull)), 0xfffffffffffffff8ull)) * (u64)(r_qw >> 35ull)) + 63ull) >> 6ull);
+    if (!((u8)((u8)((u8)r_ep_1 & 7u) + 255u) < 5u)) goto l_after_3a;
+    r_c6 = (u64)(((ld64(away(away(((u8 *)switch_table_capnp_pointers_pointers_validate_validate_f7685ec9), 8 * (r_ep_1 & 7ull)), 0xfffffffffffffff8ull)) * (u64)(r_qw >> 35ull)) + 63ull) >> 6ull);
     t_0c = (ld8(a_1) == 0u);
     if (!t_0c) goto l_join_bd_1;
     st64(r_r2, uadd_sat64(ld64(r_r2), 1ull));
@@ -7080,9 +6928,9 @@ l_arm_z5:;
     st32(a_5, umin32(t_y0, ld32(a_5)));
     st64(r_rq, uadd_sat64(r_c6, ld64(r_rq)));
     goto l_loop_2y;
-l_after_eu:;
-    u8 r_5d = capnp_objects_pointers_validate_validate_object_07dcb3_9288a101(a_1, r_7m, a_4, a_5);
-    r_hf = r_5d;
+l_after_3a:;
+    u8 r_ep_2 = capnp_pointers_pointers_validate_validate_object_07dcb_94c64086(a_1, r_7m, a_4, a_5);
+    r_hf = r_ep_2;
     goto l_capnp_5o;
 l_default_e1:;
     UNREACHABLE();
@@ -7176,39 +7024,37 @@ static void capnp_refusals_refusals_search_search_object_07dcb38b0fe92235(u8 *a_
 {
     A(8) u8 slot_1[56];
     A(8) u8 slot_2[64];
-    A(8) u8 slot_3[64];
-    A(8) u8 slot_4[64];
-    A(8) u8 slot_5[40];
+    u8 r_dh;
+    u64 r_eg;
+    u8 *r_rv;
+    u64 r_qw;
     u64 r_52;
     u8 *r_xw;
     u64 r_38;
-    u8 r_y8;
-    u8 *r_rq;
-    u8 *r_xw_1;
     u64 r_7l;
     u64 r_gw;
-    u64 r_qw;
+    u64 r_qw_1;
     u64 t_al;
     u8 t_pa;
     u64 r_lc;
     u64 r_nb;
     u64 r_yz;
-    u32 r_gx;
-    u32 r_qd;
-    u64 r_d4;
-    u64 r_9h;
-    u64 r_27;
-    u64 r_hv;
+    u32 r_ag;
+    u32 r_38_1;
+    u64 r_7w;
+    u64 r_un;
+    u64 r_o2;
+    u64 r_hq;
     u64 r_ep;
     u64 r_y6;
     u64 r_lc_1;
-    u8 *r_rq_1;
+    u8 *r_rq;
     u64 r_52_1;
     u64 r_ij;
     u64 r_c4;
     u64 r_24;
     u64 r_gw_1;
-    u8 *r_rq_2;
+    u8 *r_rq_1;
     u64 r_52_2;
     u64 r_eh;
     u32 t_c8;
@@ -7216,57 +7062,69 @@ static void capnp_refusals_refusals_search_search_object_07dcb38b0fe92235(u8 *a_
     u32 r_az;
     u32 r_68;
     u64 r_c0;
-    u8 *r_rq_3;
+    u8 *r_rq_2;
     u64 r_52_3;
     u32 r_12_1;
-    u8 *r_rq_4;
+    u8 *r_rq_3;
     u64 r_52_4;
-    u8 *r_rq_5;
+    u8 *r_rq_4;
     u64 r_52_5;
-    u64 r_ac;
+    u64 r_hn;
     u64 r_c6;
-    u8 *r_rq_6;
+    u8 *r_rq_5;
     u64 r_52_6;
     u64 r_2g;
     u64 r_jg;
     u64 r_6e;
-    u64 r_vt;
-    u64 r_8t;
-    u32 r_49;
-    u32 r_1t;
-    u32 r_a3;
-    u32 r_wr;
-    u64 r_hb;
+    u32 r_ef;
+    u64 r_kn;
+    u32 r_9a;
+    u32 r_nt;
+    u32 r_p0;
+    u32 r_ne;
+    u32 r_dl;
+    u32 r_mb;
+    u8 *r_c4_1;
+    u8 *r_6c;
+    u32 r_68_1;
+    u32 invariant_w0;
+    u32 r_e3;
+    u32 r_08_1;
+    u64 r_lt;
+    u64 r_5a;
+    u32 r_8y;
+    u32 r_5c;
+    u32 r_rj;
+    u32 r_40;
+    u64 r_uj;
     memset(slot_2, 0u, 64);
-    st64((slot_3 + 56), 0ull);
-    memset(slot_4, 0u, 64);
-    memset(slot_5, 0u, 40);
+    r_dh = ld8(a_2);
+    r_eg = (u64)r_dh;
+    r_rv = ldp(away(a_2, 8ull));
+    r_qw = ld64(away(a_2, 16ull));
     r_52 = ld64(away(a_2, 24ull));
     r_xw = ldp(away(a_2, 32ull));
     r_38 = ld64(away(a_2, 40ull));
-    r_y8 = ld8(a_2);
-    r_rq = away(a_2, 8ull);
-    r_xw_1 = ldp(r_rq);
     r_7l = (u64)a_3;
     r_gw = (u64)(r_38 >> 3ull);
-    if (!(r_gw > r_7l)) goto l_join_c0;
-    r_qw = ld64(away(r_xw, (u64)(r_7l << 3ull)));
-    if (r_qw == 0ull) goto l_join_c0;
+    if (!(r_gw > r_7l)) goto l_arm_h9;
+    r_qw_1 = ld64(away(r_xw, (u64)(r_7l << 3ull)));
+    if (r_qw_1 == 0ull) goto l_arm_h9;
     t_al = (u64)(uptr)r_xw;
     memset(slot_1, 0u, 56);
-    t_pa = (r_y8 != 0u);
+    t_pa = (r_dh != 0u);
     if (t_pa) goto l_capnp_sm;
     u8 *r_08 = away(a_5, 16ull);
     st64(r_08, uadd_sat64(ld64(r_08), 1ull));
-    if ((r_qw & 3ull) == 2ull) goto l_capnp_3l;
+    if ((r_qw_1 & 3ull) == 2ull) goto l_capnp_nl;
     goto l_join_bd;
 l_capnp_sm:;
-    if (!((r_qw & 3ull) == 2ull)) goto l_join_bd;
+    if (!((r_qw_1 & 3ull) == 2ull)) goto l_join_bd;
     st32((slot_1 + 8), 32u);
     r_2g = ld64((slot_1 + 8));
     goto l_capnp_8g;
 l_join_bd:;
-    u64 r_m6 = ((u64)(r_qw >> 2ull) & 0x3fffffffull);
+    u64 r_m6 = ((u64)(r_qw_1 >> 2ull) & 0x3fffffffull);
     r_lc = ((r_7l + 1ull) + r_m6);
     r_nb = (r_gw & 0xffffffffull);
     if (!(r_m6 < 0x20000000ull)) goto l_else_70;
@@ -7278,256 +7136,227 @@ l_else_70:;
     if ((r_lc < 0x40000000ull) ? 1u : (r_3o > r_nb)) { r_2g = 23ull; goto l_capnp_8g; }
     r_yz = r_3o;
 l_capnp_i5:;
-    r_gx = 0u;
-    r_qd = (u32)r_yz;
-    r_d4 = r_52;
-    r_9h = r_qw;
-    r_27 = r_38;
-    r_hv = t_al;
-    goto l_arm_wn;
-l_capnp_3l:;
-    capnp_objects_source_follow_far_07dcb38b0fe92235(slot_1, r_xw_1, r_qw, a_5);
-    u64 r_38_1 = ld64((slot_1 + 16));
-    u64 r_38_2 = ld64((slot_1 + 8));
-    if (ld8(slot_1) == 0u) { r_gx = ld32((slot_1 + 44)); r_qd = ld32((slot_1 + 40)); r_d4 = r_38_1; r_9h = r_38_2; r_27 = ld64((slot_1 + 32)); r_hv = ld64((slot_1 + 24)); goto l_arm_wn; }
-    r_jg = r_38_1;
-    r_6e = r_38_2;
+    r_ag = 0u;
+    r_38_1 = (u32)r_yz;
+    r_7w = r_52;
+    r_un = r_qw_1;
+    r_o2 = r_38;
+    r_hq = t_al;
+    goto l_arm_gc;
+l_capnp_nl:;
+    capnp_pointers_source_follow_far_07dcb38b0fe92235(slot_1, r_rv, r_qw_1, a_5);
+    u64 r_38_2 = ld64((slot_1 + 16));
+    u64 r_38_3 = ld64((slot_1 + 8));
+    if (ld8(slot_1) == 0u) { r_ag = ld32((slot_1 + 44)); r_38_1 = ld32((slot_1 + 40)); r_7w = r_38_2; r_un = r_38_3; r_o2 = ld64((slot_1 + 32)); r_hq = ld64((slot_1 + 24)); goto l_arm_gc; }
+    r_jg = r_38_2;
+    r_6e = r_38_3;
     goto l_capnp_qu;
-l_arm_wn:;
-    switch ((u8)((u8)r_9h & 3u)) {
-    case 0u: goto l_arm_9l;
+l_arm_gc:;
+    switch ((u8)((u8)r_un & 3u)) {
+    case 0u: goto l_arm_4l;
     case 1u: goto l_arm_z2;
-    case 2u: { r_vt = 1ull; r_8t = r_52; r_49 = a_3; r_1t = 0u; r_a3 = 13u; r_wr = 0u; r_hb = 0ull; goto l_common_s8; }
-    case 3u: goto l_capnp_a6;
+    case 2u: { r_ef = 13u; r_kn = 0ull; r_9a = 0u; goto l_arm_c6; }
+    case 3u: goto l_capnp_32;
     default: goto l_default_e1;
     }
-l_arm_9l:;
-    r_ep = (u64)(r_9h >> 32ull);
-    r_y6 = (u64)(r_9h >> 48ull);
-    if ((i32)a_4 < (i32)1u) { r_vt = 1ull; r_8t = r_52; r_49 = a_3; r_1t = 0u; r_a3 = 26u; r_wr = 0u; r_hb = 0ull; goto l_common_s8; }
+l_arm_4l:;
+    r_ep = (u64)(r_un >> 32ull);
+    r_y6 = (u64)(r_un >> 48ull);
+    if ((i32)a_4 < (i32)1u) { r_ef = 26u; r_kn = 0ull; r_9a = 0u; goto l_arm_c6; }
     r_lc_1 = ((r_ep & 65535ull) + r_y6);
-    if (((u64)(r_27 >> 3ull) & 0xffffffffull) < (r_lc_1 + (u64)r_qd)) { r_vt = 1ull; r_8t = r_52; r_49 = a_3; r_1t = 0u; r_a3 = 23u; r_wr = 0u; r_hb = 0ull; goto l_common_s8; }
-    if (t_pa) goto l_join_67;
-    if (!(ld8(a_5) == 1u)) goto l_join_67;
-    r_rq_1 = away(a_5, 8ull);
-    r_52_1 = ld64(r_rq_1);
-    if (r_52_1 < r_lc_1) { r_vt = 1ull; r_8t = r_52; r_49 = a_3; r_1t = 0u; r_a3 = 30u; r_wr = 0u; r_hb = 0ull; goto l_common_s8; }
+    if (((u64)(r_o2 >> 3ull) & 0xffffffffull) < (r_lc_1 + (u64)r_38_1)) { r_ef = 23u; r_kn = 0ull; r_9a = 0u; goto l_arm_c6; }
+    if (t_pa) goto l_join_1n;
+    if (!(ld8(a_5) == 1u)) goto l_join_1n;
+    r_rq = away(a_5, 8ull);
+    r_52_1 = ld64(r_rq);
+    if (r_52_1 < r_lc_1) { r_ef = 30u; r_kn = 0ull; r_9a = 0u; goto l_arm_c6; }
     st64(a_5, 1ull);
-    st64(r_rq_1, (r_52_1 - r_lc_1));
-l_join_67:;
-    st64(slot_2, (u64)ld8(a_2));
-    mv16((slot_2 + 8), r_rq);
-    st64((slot_2 + 24), r_d4);
-    st64((slot_2 + 32), r_hv);
-    st64((slot_2 + 40), r_27);
-    st32((slot_2 + 48), r_qd);
-    st32((slot_2 + 52), r_gx);
-    st32((slot_2 + 56), (a_4 + 0xffffffffu));
-    capnp_refusals_refusals_search_search_elements_07dcb38b0fe92235(slot_5, slot_2, ((u32)r_ep & 65535u), (u32)r_y6, 1u, a_5);
-    goto l_join_c0;
+    st64(r_rq, (r_52_1 - r_lc_1));
+l_join_1n:;
+    r_nt = r_38_1;
+    r_p0 = r_ag;
+    r_ne = ((u32)r_ep & 65535u);
+    r_dl = (u32)r_y6;
+    r_mb = 1u;
+    goto l_arm_6s;
 l_arm_z2:;
-    r_ij = (u64)(r_9h >> 35ull);
-    switch ((u8)((u8)(u64)(r_9h >> 32ull) & 7u)) {
-    case 7u: goto l_arm_kl;
-    case 6u: goto l_arm_oi;
-    case 0u: goto l_arm_kl_1;
-    case 5u: goto l_arm_h9;
-    case 4u: goto l_arm_h9_1;
-    case 3u: goto l_arm_h9_2;
-    case 1u: { r_ac = 1ull; goto l_capnp_kl; }
-    case 2u: goto l_arm_h9_3;
+    r_ij = (u64)(r_un >> 35ull);
+    switch ((u8)((u8)(u64)(r_un >> 32ull) & 7u)) {
+    case 7u: goto l_arm_ot;
+    case 6u: goto l_arm_3a;
+    case 0u: goto l_arm_ot_1;
+    case 5u: goto l_arm_h9_1;
+    case 4u: goto l_arm_h9_2;
+    case 3u: goto l_arm_h9_3;
+    case 1u: { r_hn = 1ull; goto l_capnp_ot; }
+    case 2u: goto l_arm_h9_4;
     default: goto l_default_e1;
     }
-l_arm_kl:;
-    if ((i32)a_4 < (i32)1u) { r_vt = 1ull; r_8t = r_52; r_49 = a_3; r_1t = 0u; r_a3 = 26u; r_wr = 0u; r_hb = 0ull; goto l_common_s8; }
+l_arm_ot:;
+    if ((i32)a_4 < (i32)1u) { r_ef = 26u; r_kn = 0ull; r_9a = 0u; goto l_arm_c6; }
     r_c4 = (r_ij + 1ull);
-    r_24 = (u64)r_qd;
-    r_gw_1 = (u64)(r_27 >> 3ull);
-    if ((r_gw_1 & 0xffffffffull) < (r_c4 + r_24)) { r_vt = 1ull; r_8t = r_52; r_49 = a_3; r_1t = 0u; r_a3 = 23u; r_wr = 0u; r_hb = 0ull; goto l_common_s8; }
+    r_24 = (u64)r_38_1;
+    r_gw_1 = (u64)(r_o2 >> 3ull);
+    if ((r_gw_1 & 0xffffffffull) < (r_c4 + r_24)) { r_ef = 23u; r_kn = 0ull; r_9a = 0u; goto l_arm_c6; }
     if (t_pa) goto l_arm_ga;
     if (!(ld8(a_5) == 1u)) goto l_arm_ga;
-    r_rq_2 = away(a_5, 8ull);
-    r_52_2 = ld64(r_rq_2);
-    if (!(r_52_2 > r_ij)) { r_vt = 1ull; r_8t = r_52; r_49 = a_3; r_1t = 0u; r_a3 = 30u; r_wr = 0u; r_hb = 0ull; goto l_common_s8; }
+    r_rq_1 = away(a_5, 8ull);
+    r_52_2 = ld64(r_rq_1);
+    if (!(r_52_2 > r_ij)) { r_ef = 30u; r_kn = 0ull; r_9a = 0u; goto l_arm_c6; }
     st64(a_5, 1ull);
-    st64(r_rq_2, (r_52_2 - r_c4));
+    st64(r_rq_1, (r_52_2 - r_c4));
 l_arm_ga:;
     if (!(r_gw_1 > r_24)) { r_eh = 0ull; goto l_join_qm; }
-    u64 r_qw_1 = ld64(away(((u8 *)(uptr)r_hv), (u64)(r_24 << 3ull)));
-    if ((r_qw_1 & 3ull) == 0ull) { r_eh = r_qw_1; goto l_join_qm; }
-    r_vt = 1ull;
-    r_8t = r_52;
-    r_49 = a_3;
-    r_1t = 0u;
-    r_a3 = 11u;
-    r_wr = 0u;
-    r_hb = 0ull;
-    goto l_common_s8;
+    u64 r_qw_2 = ld64(away(((u8 *)(uptr)r_hq), (u64)(r_24 << 3ull)));
+    if ((r_qw_2 & 3ull) == 0ull) { r_eh = r_qw_2; goto l_join_qm; }
+    r_ef = 11u;
+    r_kn = 0ull;
+    r_9a = 0u;
+    goto l_arm_c6;
 l_join_qm:;
     t_c8 = (u32)((u32)r_eh >> 2u);
     r_12 = (u32)(u64)(r_eh >> 48ull);
     r_az = ((u32)(u64)(r_eh >> 32ull) & 65535u);
     r_68 = (r_az + r_12);
     r_c0 = (u64)t_c8;
-    if (r_ij < ((u64)r_68 * r_c0)) { r_vt = 1ull; r_8t = r_52; r_49 = a_3; r_1t = 0u; r_a3 = 10u; r_wr = 0u; r_hb = 0ull; goto l_common_s8; }
-    if ((u8)((u8)t_pa | (u8)(r_68 != 0u))) goto l_join_4n;
-    if (!(ld8(a_5) == 1u)) goto l_join_4n;
-    r_rq_3 = away(a_5, 8ull);
-    r_52_3 = ld64(r_rq_3);
-    if (r_52_3 < r_c0) { r_vt = 1ull; r_8t = r_52; r_49 = a_3; r_1t = 0u; r_a3 = 30u; r_wr = 0u; r_hb = 0ull; goto l_common_s8; }
+    if (r_ij < ((u64)r_68 * r_c0)) { r_ef = 10u; r_kn = 0ull; r_9a = 0u; goto l_arm_c6; }
+    if ((u8)((u8)t_pa | (u8)(r_68 != 0u))) goto l_join_l6;
+    if (!(ld8(a_5) == 1u)) goto l_join_l6;
+    r_rq_2 = away(a_5, 8ull);
+    r_52_3 = ld64(r_rq_2);
+    if (r_52_3 < r_c0) { r_ef = 30u; r_kn = 0ull; r_9a = 0u; goto l_arm_c6; }
     st64(a_5, 1ull);
-    st64(r_rq_3, (r_52_3 - r_c0));
-l_join_4n:;
-    st64(slot_4, (u64)ld8(a_2));
-    mv16((slot_4 + 8), r_rq);
-    st64((slot_4 + 24), r_d4);
-    st64((slot_4 + 32), r_hv);
-    st64((slot_4 + 40), r_27);
-    st32((slot_4 + 48), (r_qd + 1u));
-    st32((slot_4 + 52), 0u);
-    st32((slot_4 + 56), (a_4 + 0xffffffffu));
-    capnp_refusals_refusals_search_search_elements_07dcb38b0fe92235(slot_5, slot_4, r_az, r_12, t_c8, a_5);
-    goto l_join_c0;
-l_arm_oi:;
+    st64(r_rq_2, (r_52_3 - r_c0));
+l_join_l6:;
+    r_nt = (r_38_1 + 1u);
+    r_p0 = 0u;
+    r_ne = r_az;
+    r_dl = r_12;
+    r_mb = t_c8;
+    goto l_arm_6s;
+l_arm_3a:;
     r_12_1 = (u32)r_ij;
-    if ((i32)a_4 < (i32)1u) { r_vt = 1ull; r_8t = r_52; r_49 = a_3; r_1t = 0u; r_a3 = 26u; r_wr = 0u; r_hb = 0ull; goto l_common_s8; }
-    if (((u64)(r_27 >> 3ull) & 0xffffffffull) < (r_ij + (u64)r_qd)) { r_vt = 1ull; r_8t = r_52; r_49 = a_3; r_1t = 0u; r_a3 = 23u; r_wr = 0u; r_hb = 0ull; goto l_common_s8; }
-    if (t_pa) goto l_join_pj;
-    if (!(ld8(a_5) == 1u)) goto l_join_pj;
+    if ((i32)a_4 < (i32)1u) { r_ef = 26u; r_kn = 0ull; r_9a = 0u; goto l_arm_c6; }
+    if (((u64)(r_o2 >> 3ull) & 0xffffffffull) < (r_ij + (u64)r_38_1)) { r_ef = 23u; r_kn = 0ull; r_9a = 0u; goto l_arm_c6; }
+    if (t_pa) { r_nt = r_38_1; r_p0 = r_ag; r_ne = 0u; r_dl = r_12_1; r_mb = 1u; goto l_arm_6s; }
+    if (!(ld8(a_5) == 1u)) { r_nt = r_38_1; r_p0 = r_ag; r_ne = 0u; r_dl = r_12_1; r_mb = 1u; goto l_arm_6s; }
+    r_rq_3 = away(a_5, 8ull);
+    r_52_4 = ld64(r_rq_3);
+    if (r_52_4 < r_ij) { r_ef = 30u; r_kn = 0ull; r_9a = 0u; goto l_arm_c6; }
+    st64(a_5, 1ull);
+    st64(r_rq_3, (r_52_4 - r_ij));
+    r_nt = r_38_1;
+    r_p0 = r_ag;
+    r_ne = 0u;
+    r_dl = r_12_1;
+    r_mb = 1u;
+    goto l_arm_6s;
+l_arm_ot_1:;
+    if ((i32)a_4 < (i32)1u) { r_ef = 26u; r_kn = 0ull; r_9a = 0u; goto l_arm_c6; }
+    if (((u64)(r_o2 >> 3ull) & 0xffffffffull) < (u64)r_38_1) { r_ef = 23u; r_kn = 0ull; r_9a = 0u; goto l_arm_c6; }
+    if (t_pa) goto l_arm_h9;
+    if (!(ld8(a_5) == 1u)) goto l_arm_h9;
+    st64(a_5, 1ull);
     r_rq_4 = away(a_5, 8ull);
-    r_52_4 = ld64(r_rq_4);
-    if (r_52_4 < r_ij) { r_vt = 1ull; r_8t = r_52; r_49 = a_3; r_1t = 0u; r_a3 = 30u; r_wr = 0u; r_hb = 0ull; goto l_common_s8; }
-    st64(a_5, 1ull);
-    st64(r_rq_4, (r_52_4 - r_ij));
-    goto l_join_pj;
-l_arm_kl_1:;
-    if ((i32)a_4 < (i32)1u) { r_vt = 1ull; r_8t = r_52; r_49 = a_3; r_1t = 0u; r_a3 = 26u; r_wr = 0u; r_hb = 0ull; goto l_common_s8; }
-    if (((u64)(r_27 >> 3ull) & 0xffffffffull) < (u64)r_qd) { r_vt = 1ull; r_8t = r_52; r_49 = a_3; r_1t = 0u; r_a3 = 23u; r_wr = 0u; r_hb = 0ull; goto l_common_s8; }
-    if (t_pa) goto l_arm_c3;
-    if (!(ld8(a_5) == 1u)) goto l_arm_c3;
-    st64(a_5, 1ull);
-    r_rq_5 = away(a_5, 8ull);
-    r_52_5 = ld64(r_rq_5);
-    if (r_52_5 < r_ij) { r_vt = 1ull; r_8t = r_52; r_49 = a_3; r_1t = 0u; r_a3 = 30u; r_wr = 0u; r_hb = 0ull; goto l_common_s8; }
-    st64(r_rq_5, (r_52_5 - r_ij));
-    goto l_arm_c3;
+    r_52_5 = ld64(r_rq_4);
+    if (r_52_5 < r_ij) { r_ef = 30u; r_kn = 0ull; r_9a = 0u; goto l_arm_c6; }
+    st64(r_rq_4, (r_52_5 - r_ij));
+    goto l_arm_h9;
+l_arm_h9_4:;
+    r_hn = 8ull;
+    goto l_capnp_ot;
 l_arm_h9_3:;
-    r_ac = 8ull;
-    goto l_capnp_kl;
+    r_hn = 16ull;
+    goto l_capnp_ot;
 l_arm_h9_2:;
-    r_ac = 16ull;
-    goto l_capnp_kl;
+    r_hn = 32ull;
+    goto l_capnp_ot;
 l_arm_h9_1:;
-    r_ac = 32ull;
-    goto l_capnp_kl;
-l_arm_h9:;
-    r_ac = 64ull;
-l_capnp_kl:;
-    if ((i32)a_4 < (i32)1u) { r_vt = 1ull; r_8t = r_52; r_49 = a_3; r_1t = 0u; r_a3 = 26u; r_wr = 0u; r_hb = 0ull; goto l_common_s8; }
-    r_c6 = (u64)(((r_ac * r_ij) + 63ull) >> 6ull);
-    if (((u64)(r_27 >> 3ull) & 0xffffffffull) < (r_c6 + (u64)r_qd)) { r_vt = 1ull; r_8t = r_52; r_49 = a_3; r_1t = 0u; r_a3 = 23u; r_wr = 0u; r_hb = 0ull; goto l_common_s8; }
-    if (t_pa) goto l_arm_c3;
-    if (!(ld8(a_5) == 1u)) goto l_arm_c3;
-    r_rq_6 = away(a_5, 8ull);
-    r_52_6 = ld64(r_rq_6);
-    if (r_52_6 < r_c6) { r_vt = 1ull; r_8t = r_52; r_49 = a_3; r_1t = 0u; r_a3 = 30u; r_wr = 0u; r_hb = 0ull; goto l_common_s8; }
+    r_hn = 64ull;
+l_capnp_ot:;
+    if ((i32)a_4 < (i32)1u) { r_ef = 26u; r_kn = 0ull; r_9a = 0u; goto l_arm_c6; }
+    r_c6 = (u64)(((r_hn * r_ij) + 63ull) >> 6ull);
+    if (((u64)(r_o2 >> 3ull) & 0xffffffffull) < (r_c6 + (u64)r_38_1)) { r_ef = 23u; r_kn = 0ull; r_9a = 0u; goto l_arm_c6; }
+    if (t_pa) goto l_arm_h9;
+    if (!(ld8(a_5) == 1u)) goto l_arm_h9;
+    r_rq_5 = away(a_5, 8ull);
+    r_52_6 = ld64(r_rq_5);
+    if (r_52_6 < r_c6) { r_ef = 30u; r_kn = 0ull; r_9a = 0u; goto l_arm_c6; }
     st64(a_5, 1ull);
-    st64(r_rq_6, (r_52_6 - r_c6));
-    goto l_arm_c3;
+    st64(r_rq_5, (r_52_6 - r_c6));
+    goto l_arm_h9;
 l_default_e1:;
     UNREACHABLE();
 l_capnp_8g:;
     r_jg = 0ull;
     r_6e = r_2g;
 l_capnp_qu:;
-    r_vt = 1ull;
-    r_8t = r_52;
-    r_49 = a_3;
-    r_1t = 0u;
-    r_a3 = ((u32)r_6e & 255u);
-    r_wr = (u32)(u64)(r_6e >> 32ull);
-    r_hb = r_jg;
-    goto l_common_s8;
-l_capnp_a6:;
-    u8 r_e6 = ((r_9h & 0xffffffffull) == 3ull);
-    if (r_e6) goto l_arm_c3_1;
-    r_vt = 1ull;
-    r_8t = r_52;
-    r_49 = a_3;
-    r_1t = 0u;
-    r_a3 = (r_e6 ? 1u : 34u);
-    r_wr = 0u;
-    r_hb = 0ull;
-l_common_s8:;
-    st64(a_1, r_vt);
-    st64(away(a_1, 8ull), r_8t);
-    st32(away(a_1, 16ull), r_49);
-    st32(away(a_1, 20ull), r_1t);
-    st32(away(a_1, 24ull), r_a3);
-    st32(away(a_1, 28ull), r_wr);
-    st64(away(a_1, 32ull), r_hb);
-    return;
-l_join_pj:;
-    st64(slot_3, (u64)ld8(a_2));
-    mv16((slot_3 + 8), r_rq);
-    st64((slot_3 + 24), r_d4);
-    st64((slot_3 + 32), r_hv);
-    st64((slot_3 + 40), r_27);
-    st32((slot_3 + 48), r_qd);
-    st32((slot_3 + 52), r_gx);
-    st32((slot_3 + 56), (a_4 + 0xffffffffu));
-    capnp_refusals_refusals_search_search_elements_07dcb38b0fe92235(slot_5, slot_3, 0u, r_12_1, 1u, a_5);
-    goto l_join_c0;
-l_arm_c3_1:;
-    st64(slot_5, 0ull);
-    goto l_join_c0;
-l_arm_c3:;
-    st64(slot_5, 0ull);
-l_join_c0:;
-    r_vt = (u64)ld8(slot_5);
-    r_8t = ld64((slot_5 + 8));
-    r_49 = ld32((slot_5 + 16));
-    r_1t = ld32((slot_5 + 20));
-    r_a3 = ld32((slot_5 + 24));
-    r_wr = ld32((slot_5 + 28));
-    r_hb = ld64((slot_5 + 32));
-    goto l_common_s8;
-}
-
-/* capnp_refusals::refusals::search::search_elements::<#07dcb38b0fe92235> */
-static void capnp_refusals_refusals_search_search_elements_07dcb38b0fe92235(u8 *a_1, u8 *a_2, u32 a_3, u32 a_4, u32 a_5, u8 *a_6)
-{
-    A(8) u8 slot_1[40];
-    u32 r_yg;
-    u8 *r_t9;
-    u8 *r_r2;
-    u32 r_sv;
-    memset(slot_1, 0u, 40);
-    if (a_4 == 0u) goto l_then_h9;
-    goto l_join_a3;
+    r_ef = ((u32)r_6e & 255u);
+    r_kn = r_jg;
+    r_9a = (u32)(u64)(r_6e >> 32ull);
+    goto l_arm_c6;
+l_capnp_32:;
+    u8 r_e6 = ((r_un & 0xffffffffull) == 3ull);
+    if (r_e6) goto l_arm_h9;
+    r_ef = (r_e6 ? 1u : 34u);
+    r_kn = 0ull;
+    r_9a = 0u;
+    goto l_arm_c6;
 l_common_68:;
     return;
-l_then_h9:;
-    memset(a_1, 0u, 40);
-    goto l_common_68;
-l_join_a3:;
-    r_yg = (a_4 + a_3);
-    if (a_5 == 0u) goto l_after_h9;
-    r_t9 = away(a_2, 48ull);
-    r_r2 = away(a_2, 56ull);
-    r_sv = 0u;
-    goto l_join_tm;
-l_loop_0k:;
-    u32 r_7t = (r_sv + 1u);
-    if (r_7t == a_5) goto l_after_h9;
-    r_sv = r_7t;
-l_join_tm:;
-    capnp_refusals_refusals_search_search_pointers_07dcb38b0fe92235(slot_1, a_2, (((r_sv * r_yg) + a_3) + ld32(r_t9)), a_4, ld32(r_r2), a_6);
-    if (!(ld8(slot_1) == 1u)) goto l_loop_0k;
+l_arm_c6:;
     st64(a_1, 1ull);
-    mv32(away(a_1, 8ull), (slot_1 + 8));
+    st64(away(a_1, 8ull), r_52);
+    st32(away(a_1, 16ull), a_3);
+    st32(away(a_1, 20ull), 0u);
+    st32(away(a_1, 24ull), r_ef);
+    st32(away(a_1, 28ull), r_9a);
+    st64(away(a_1, 32ull), r_kn);
     goto l_common_68;
-l_after_h9:;
+l_arm_6s:;
+    st64(slot_2, r_eg);
+    stp((slot_2 + 8), r_rv);
+    st64((slot_2 + 16), r_qw);
+    st64((slot_2 + 24), r_7w);
+    st64((slot_2 + 32), r_hq);
+    st64((slot_2 + 40), r_o2);
+    r_c4_1 = (slot_2 + 48);
+    st32(r_c4_1, r_nt);
+    st32((slot_2 + 52), r_p0);
+    r_6c = (slot_2 + 56);
+    st32(r_6c, ((a_4 == 0x80000000u) ? 0x80000000u : (a_4 + 0xffffffffu)));
+    memset(slot_1, 0u, 40);
+    if (r_dl == 0u) { r_lt = 0ull; r_5a = 0ull; r_8y = 0u; r_5c = 0u; r_rj = 0u; r_40 = 0u; r_uj = 0ull; goto l_capnp_ov; }
+    r_68_1 = (r_dl + r_ne);
+    if (r_mb == 0u) { r_lt = 0ull; r_5a = 0ull; r_8y = 0u; r_5c = 0u; r_rj = 0u; r_40 = 0u; r_uj = 0ull; goto l_capnp_ov; }
+    invariant_w0 = (r_ne + ld32(r_c4_1));
+    r_e3 = ld32(r_6c);
+    r_08_1 = 0u;
+    goto l_join_3t;
+l_loop_j4:;
+    u32 r_ff = (r_08_1 + 1u);
+    if (r_ff == r_mb) { r_lt = 0ull; r_5a = 0ull; r_8y = 0u; r_5c = 0u; r_rj = 0u; r_40 = 0u; r_uj = 0ull; goto l_capnp_ov; }
+    r_08_1 = r_ff;
+l_join_3t:;
+    capnp_refusals_refusals_search_search_pointers_07dcb38b0fe92235(slot_1, slot_2, ((r_08_1 * r_68_1) + invariant_w0), r_dl, r_e3, a_5);
+    if (!(ld8(slot_1) == 1u)) goto l_loop_j4;
+    r_lt = 1ull;
+    r_5a = ld64((slot_1 + 8));
+    r_8y = ld32((slot_1 + 16));
+    r_5c = ld32((slot_1 + 20));
+    r_rj = ld32((slot_1 + 24));
+    r_40 = ld32((slot_1 + 28));
+    r_uj = ld64((slot_1 + 32));
+l_capnp_ov:;
+    st64(a_1, r_lt);
+    st64(away(a_1, 8ull), r_5a);
+    st32(away(a_1, 16ull), r_8y);
+    st32(away(a_1, 20ull), r_5c);
+    st32(away(a_1, 24ull), r_rj);
+    st32(away(a_1, 28ull), r_40);
+    st64(away(a_1, 32ull), r_uj);
+    goto l_common_68;
+l_arm_h9:;
     memset(a_1, 0u, 40);
     goto l_common_68;
 }
@@ -7768,12 +7597,12 @@ uint32_t capnp_layout_get_struct(uint8_t *bytes, size_t room, uint32_t *used, ui
     st32((slot_3 + 20), 0u);
     st64((slot_3 + 24), 0ull);
     memset(slot_2, 0u, 24);
-    if (!(r_iy > r_w0)) goto l_join_px;
+    if (!(r_iy > r_w0)) goto l_join_zt;
     r_24_1 = (u64)r_w0;
     r_qw = ld64(away(r_8z, (u64)(r_24_1 << 3ull)));
-    if (r_qw == 0ull) goto l_join_px;
+    if (r_qw == 0ull) goto l_join_zt;
     switch_f9 = (r_qw & 3ull);
-    if (switch_f9 == 2ull) goto l_capnp_q6;
+    if (switch_f9 == 2ull) goto l_capnp_07;
     u64 r_m6 = ((u64)(r_qw >> 2ull) & 0x3fffffffull);
     r_lc = ((r_24_1 + 1ull) + r_m6);
     if (!(r_m6 < 0x20000000ull)) goto l_else_70;
@@ -7797,26 +7626,26 @@ l_arm_cj:;
     goto l_arm_4z;
 l_capnp_8g:;
     goto l_capnp_5s;
-l_capnp_q6:;
-    capnp_contents_existing_struct_behind_pad_d7a666d2d35ab297(slot_1, slot_3, r_w0, r_qw);
+l_capnp_07:;
+    capnp_in_place_existing_struct_behind_pad_d7a666d2d35ab297(slot_1, slot_3, r_w0, r_qw);
     u8 t_0q = (ld8(slot_1) == 1u);
     u32 r_0s = (t_0q ? ld32((slot_1 + 12)) : 0u);
     if (t_0q) { r_a6 = (u16)r_0s; r_ka = (u16)(u32)(r_0s >> 16u); r_yg = ld32((slot_1 + 8)); r_qx = ld32((slot_1 + 4)); goto l_arm_4z; }
     goto l_capnp_5s;
 l_arm_4z:;
-    if (!(u8)((u8)(a_6 <= r_a6) & (u8)(a_7 <= r_ka))) goto l_join_qx;
+    if (!(u8)((u8)(a_6 <= r_a6) & (u8)(a_7 <= r_ka))) goto l_join_5w;
     r_ej = r_a6;
     r_hb = r_ka;
     r_dn = r_yg;
     goto l_arm_4x;
-l_join_qx:;
-    capnp_contents_opening_open_narrow_struct_d7a666d2d35ab297(slot_2, slot_3, r_w0, r_qx, r_yg, r_a6, r_ka, a_6, a_7);
+l_join_5w:;
+    capnp_in_place_opening_open_narrow_struct_d7a666d2d35ab297(slot_2, slot_3, r_w0, r_qx, r_yg, r_a6, r_ka, a_6, a_7);
     goto l_capnp_zn;
 l_capnp_5s:;
     r_xl = 21u;
     goto l_arm_28;
-l_join_px:;
-    capnp_contents_opening_new_struct_d7a666d2d35ab297(slot_2, slot_3, r_w0, a_6, a_7);
+l_join_zt:;
+    capnp_in_place_opening_new_struct_d7a666d2d35ab297(slot_2, slot_3, r_w0, a_6, a_7);
 l_capnp_zn:;
     r_z4 = ld32((slot_2 + 8));
     r_uq = ld32((slot_2 + 12));
@@ -7877,7 +7706,7 @@ uint32_t capnp_layout_get_list(uint8_t *bytes, size_t room, uint32_t used, uint6
     st32((slot_1 + 16), a_3);
     st32((slot_1 + 20), 0u);
     st64((slot_1 + 24), 0ull);
-    capnp_contents_existing_get_list_d7a666d2d35ab297(slot_2, slot_1, (((u32)a_5 + (u32)a_4) + ((u32)r_cy & 65535u)), (u8)a_6);
+    capnp_in_place_existing_get_list_d7a666d2d35ab297(slot_2, slot_1, (((u32)a_5 + (u32)a_4) + ((u32)r_cy & 65535u)), (u8)a_6);
     if (!(ld8(slot_2) == 0u)) goto l_arm_kq;
     if (!(ld8((slot_2 + 4)) == 1u)) { r_ao = 0u; r_uk = 0u; r_gs = 0u; r_9o = 0u; r_9j = 0u; goto l_capnp_5b; }
     r_ao = ld32((slot_2 + 12));
@@ -7945,7 +7774,7 @@ uint32_t capnp_layout_get_struct_list(uint8_t *bytes, size_t room, uint32_t *use
     u32 r_m2_1;
     u32 r_68;
     u8 r_ed;
-    u64 r_ue;
+    u64 r_0f;
     u32 r_z4_1;
     u32 r_uq;
     u32 r_uq_1;
@@ -7979,7 +7808,7 @@ uint32_t capnp_layout_get_struct_list(uint8_t *bytes, size_t room, uint32_t *use
     u64 r_24_2;
     u64 r_u7;
     u64 r_k5;
-    u64 r_22;
+    u64 r_c3;
     u32 r_ze_1;
     u32 r_z4_3;
     u32 r_uq_2;
@@ -8024,9 +7853,9 @@ uint32_t capnp_layout_get_struct_list(uint8_t *bytes, size_t room, uint32_t *use
     u8 r_r5;
     u32 r_uq_4;
     u64 r_38_2;
-    u32 r_46;
-    u32 r_fl_1;
-    u32 r_oh;
+    u32 r_60;
+    u32 r_ql;
+    u32 r_hj;
     u8 *r_nw_3;
     u64 r_10_1;
     u64 r_lc_1;
@@ -8097,7 +7926,7 @@ uint32_t capnp_layout_get_struct_list(uint8_t *bytes, size_t room, uint32_t *use
     st32((slot_6 + 20), 0u);
     st64((slot_6 + 24), 0ull);
     memset(slot_5, 0u, 32);
-    capnp_contents_existing_get_list_d7a666d2d35ab297(slot_5, slot_6, r_w0, 0u);
+    capnp_in_place_existing_get_list_d7a666d2d35ab297(slot_5, slot_6, r_w0, 0u);
     u64 r_38 = ld64((slot_5 + 8));
     t_wt = (u32)r_38;
     t_ep = (u64)(r_38 >> 32ull);
@@ -8157,10 +7986,10 @@ l_capnp_fo:;
     if (!((u8)(r_a3 + 254u) < 4u)) goto l_arm_46;
     r_ed = (t_wt == 0u);
     if (((u64)(((ld64((((u8 *)switch_table_capnp_layout_get_struct_list) + (i64)(8 * ((r_38_1 + 254ull) & 255ull)))) * r_24_1) + 63ull) >> 6ull) + t_ep) > (r_ed ? r_24 : 0ull)) { r_f1 = r_iy; r_d0 = 23u; goto l_arm_fb; }
-    if (!(r_iy > r_w0)) { r_ue = 0ull; goto l_capnp_dq; }
-    r_ue = ld64(away(r_8z, (u64)((u64)r_w0 << 3ull)));
-l_capnp_dq:;
-    capnp_contents_remaking_allocate_struct_list_d7a666d2d35ab297(slot_1, slot_6, r_z4, a_b9, a_b9_1);
+    if (!(r_iy > r_w0)) { r_0f = 0ull; goto l_capnp_d7; }
+    r_0f = ld64(away(r_8z, (u64)((u64)r_w0 << 3ull)));
+l_capnp_d7:;
+    capnp_in_place_remaking_allocate_struct_list_d7a666d2d35ab297(slot_1, slot_6, r_z4, a_b9, a_b9_1);
     r_z4_1 = ld32((slot_1 + 8));
     r_uq = ld32((slot_1 + 12));
     if (!(ld8(slot_1) == 0u)) goto l_arm_2p;
@@ -8228,7 +8057,7 @@ l_capnp_4f:;
     r_10 = ((r_z6 | (u64)((u64)r_uq_1 << 32ull)) | 2ull);
 l_capnp_i3:;
     st64((r_nw + (i64)((u64)((u64)r_w0 << 3ull))), r_10);
-    r_1q = (ld64((((u8 *)switch_table_capnp_layout_get_struct_list_14) + (i64)(8 * (r_38_1 & 255ull)))) * r_24_1);
+    r_1q = (ld64((((u8 *)switch_table_capnp_layout_get_struct_list_12) + (i64)(8 * (r_38_1 & 255ull)))) * r_24_1);
     r_se = (u64)((r_1q + 63ull) >> 6ull);
     if (!(u8)((u8)r_ed & (u8)(r_se != 0ull))) goto l_capnp_25;
     if ((r_se + t_ep) > (u64)ld32(r_zd)) goto l_capnp_25;
@@ -8252,8 +8081,8 @@ l_then_qw:;
     memset(r_2b, 0, 8);
     memset(away(t_2b, 0xfffffffffffffff8ull), 0, 8);
 l_capnp_25:;
-    if (!((r_ue & 3ull) == 2ull)) goto l_capnp_68;
-    capnp_making_zeroing_zero_far_pads_d7a666d2d35ab297(slot_6, r_ue);
+    if (!((r_0f & 3ull) == 2ull)) goto l_capnp_68;
+    capnp_allocation_zeroing_zero_far_pads_d7a666d2d35ab297(slot_6, r_0f);
 l_capnp_68:;
     r_2g = 0u;
     r_cf = r_w0_1;
@@ -8306,11 +8135,11 @@ l_capnp_fi:;
     r_k5 = (u64)r_q6;
     if (((r_24_2 + r_k5) + ((r_u7 + (u64)r_fl) * r_24_1)) > (r_ed_1 ? r_24 : 0ull)) { r_f1 = r_iy; r_d0 = 23u; goto l_arm_fb; }
     memset(slot_2, 0u, 12);
-    if (!(r_iy > r_w0)) { r_22 = 0ull; goto l_capnp_bt; }
-    r_22 = ld64(away(r_8z, (u64)((u64)r_w0 << 3ull)));
-l_capnp_bt:;
+    if (!(r_iy > r_w0)) { r_c3 = 0ull; goto l_capnp_rd; }
+    r_c3 = ld64(away(r_8z, (u64)((u64)r_w0 << 3ull)));
+l_capnp_rd:;
     r_ze_1 = (r_68 * r_z4);
-    capnp_contents_remaking_allocate_struct_list_d7a666d2d35ab297(slot_3, slot_6, r_z4, a_b9, a_b9_1);
+    capnp_in_place_remaking_allocate_struct_list_d7a666d2d35ab297(slot_3, slot_6, r_z4, a_b9, a_b9_1);
     r_z4_3 = ld32((slot_3 + 8));
     r_uq_2 = ld32((slot_3 + 12));
     if (!(ld8(slot_3) == 0u)) goto l_arm_2p_1;
@@ -8330,14 +8159,14 @@ l_capnp_bt:;
     r_vl = r_ll;
     r_ab = r_57;
 l_join_lx:;
-    if (!r_bh) goto l_else_zt;
+    if (!r_bh) goto l_else_1c;
     if (!(r_ed_1 ? (r_z4_4 > r_ab) : 0u)) { r_nw_1 = 0ull; goto l_capnp_i3_1; }
     r_nw_1 = ld64(away(r_xw_1, (u64)((u64)r_ab << 3ull)));
 l_capnp_i3_1:;
     st64((r_xw_1 + (i64)((u64)((u64)r_vl << 3ull))), r_nw_1);
     goto l_capnp_fj;
-l_else_zt:;
-    capnp_contents_widening_copy_words_at_once_d7a666d2d35ab297(slot_6, r_ab, r_vl, r_00);
+l_else_1c:;
+    capnp_in_place_widening_copy_words_at_once_d7a666d2d35ab297(slot_6, r_ab, r_vl, r_00);
 l_capnp_fj:;
     u32 r_7t = (r_89 + 1u);
     if (!(r_7t == r_z4)) { u32 r_2 = r_7t; u32 r_3 = (r_vl + r_68); u32 r_4 = (r_ab + r_68_1); r_89 = r_2; r_vl = r_3; r_ab = r_4; goto l_join_lx; }
@@ -8355,7 +8184,7 @@ l_capnp_0m:;
     r_hm = r_w0_3;
 l_join_0z:;
     memset(slot_1, 0u, 24);
-    if (!r_mj) goto l_capnp_vx;
+    if (!r_mj) goto l_capnp_xe;
     r_z4_5 = ld32(r_zd);
     r_xw_2 = ldp(slot_6);
     r_24_3 = (u64)r_z4_5;
@@ -8397,12 +8226,12 @@ l_arm_mf:;
     u64 indvars_r7_1 = (indvars_l9 + 1ull);
     if (!(indvars_r7_1 == r_u7)) { indvars_l9 = indvars_r7_1; goto l_join_j9; }
     goto l_arm_fj;
-l_capnp_vx:;
-    capnp_contents_moving_transfer_row_across_d7a666d2d35ab297(slot_1, slot_6, t_wt, r_hm, r_uq_3, r_ch, r_00_1);
+l_capnp_xe:;
+    capnp_in_place_moving_transfer_row_across_d7a666d2d35ab297(slot_1, slot_6, t_wt, r_hm, r_uq_3, r_ch, r_00_1);
     r_r5 = ld8(r_x5);
     r_uq_4 = ld32(r_k0);
     r_38_2 = ld64(r_zd_1);
-    if (!(ld8(slot_1) == 0u)) { r_46 = 0u; r_fl_1 = r_w0_4; r_oh = r_w0_3; goto l_join_p1; }
+    if (!(ld8(slot_1) == 0u)) { r_60 = 0u; r_ql = r_w0_4; r_hj = r_w0_3; goto l_join_3y; }
 l_arm_fj:;
     u32 r_7t_1 = (r_6o + 1u);
     if (r_7t_1 == r_z4) goto l_arm_ed;
@@ -8413,17 +8242,17 @@ l_arm_fj:;
     r_ch = r_6;
     r_hm = r_7;
     goto l_join_0z;
-l_join_p1:;
-    capnp_contents_moving_zero_pads_of_row_d7a666d2d35ab297(slot_6, t_wt, r_oh, r_uq_3, r_fl_1, r_00_1);
-    u32 r_7t_2 = (r_46 + 1u);
+l_join_3y:;
+    capnp_in_place_moving_zero_pads_of_row_d7a666d2d35ab297(slot_6, t_wt, r_hj, r_uq_3, r_ql, r_00_1);
+    u32 r_7t_2 = (r_60 + 1u);
     if (r_7t_2 == r_z4) goto l_arm_li;
     u32 r_8 = r_7t_2;
-    u32 r_9 = (r_fl_1 + r_68);
-    u32 r_11 = (r_oh + r_68_1);
-    r_46 = r_8;
-    r_fl_1 = r_9;
-    r_oh = r_11;
-    goto l_join_p1;
+    u32 r_9 = (r_ql + r_68);
+    u32 r_11 = (r_hj + r_68_1);
+    r_60 = r_8;
+    r_ql = r_9;
+    r_hj = r_11;
+    goto l_join_3y;
 l_arm_2p_1:;
     r_2b_1 = ld64((slot_3 + 16));
     r_qh = r_uq_2;
@@ -8468,8 +8297,8 @@ l_then_qw_1:;
     memset(r_2b_2, 0, 8);
     memset(away(t_2b_1, 0xfffffffffffffff8ull), 0, 8);
 l_capnp_25_1:;
-    if (!((r_22 & 3ull) == 2ull)) goto l_capnp_1d;
-    capnp_making_zeroing_zero_far_pads_d7a666d2d35ab297(slot_6, r_22);
+    if (!((r_c3 & 3ull) == 2ull)) goto l_capnp_1d;
+    capnp_allocation_zeroing_zero_far_pads_d7a666d2d35ab297(slot_6, r_c3);
 l_capnp_1d:;
     r_51 = 0u;
     r_dh = r_ll;
@@ -8603,12 +8432,12 @@ uint32_t capnp_layout_clear(uint8_t *bytes, size_t room, uint32_t used, uint64_t
     r_2b = away(r_8z, (u64)((u64)r_w0 << 3ull));
     r_qw = ld64(r_2b);
     if (r_qw == 0ull) goto l_typed_8g;
-    capnp_making_landing_follow_d7a666d2d35ab297(slot_1, slot_2, 0u, r_w0);
+    capnp_allocation_landing_follow_d7a666d2d35ab297(slot_1, slot_2, 0u, r_w0);
     st64(r_2b, 0ull);
     if (!(ld8(slot_1) == 1u)) goto l_typed_8g;
-    capnp_making_zeroing_zero_target_d7a666d2d35ab297(slot_2, (slot_1 + 8));
+    capnp_allocation_zeroing_zero_target_d7a666d2d35ab297(slot_2, (slot_1 + 8));
     if (!((r_qw & 3ull) == 2ull)) goto l_typed_8g;
-    capnp_making_zeroing_zero_far_pads_d7a666d2d35ab297(slot_2, r_qw);
+    capnp_allocation_zeroing_zero_far_pads_d7a666d2d35ab297(slot_2, r_qw);
 l_typed_8g:;
     common_43 = 0u;
 l_capnp_gi:;
@@ -8679,12 +8508,12 @@ uint32_t capnp_layout_set_capability(uint8_t *bytes, size_t room, uint32_t used,
     r_2b = away(r_8z, (u64)((u64)r_w0 << 3ull));
     r_qw = ld64(r_2b);
     if (r_qw == 0ull) goto l_typed_5c;
-    capnp_making_landing_follow_d7a666d2d35ab297(slot_1, slot_2, 0u, r_w0);
+    capnp_allocation_landing_follow_d7a666d2d35ab297(slot_1, slot_2, 0u, r_w0);
     st64(r_2b, 0ull);
     if (!(ld8(slot_1) == 1u)) goto l_typed_5c;
-    capnp_making_zeroing_zero_target_d7a666d2d35ab297(slot_2, (slot_1 + 8));
+    capnp_allocation_zeroing_zero_target_d7a666d2d35ab297(slot_2, (slot_1 + 8));
     if (!((r_qw & 3ull) == 2ull)) goto l_typed_5c;
-    capnp_making_zeroing_zero_far_pads_d7a666d2d35ab297(slot_2, r_qw);
+    capnp_allocation_zeroing_zero_far_pads_d7a666d2d35ab297(slot_2, r_qw);
 l_typed_5c:;
     st64(r_2b, ((u64)((u64)a_6 << 32ull) | 3ull));
     common_43 = 0u;
@@ -8797,7 +8626,7 @@ uint32_t capnp_layout_set_data(uint8_t *bytes, size_t room, uint32_t *used, uint
     u8 *r_8z;
     u8 *r_8z_1;
     u32 r_iy;
-    u64 a_yf;
+    u64 a_js;
     u64 r_24;
     u64 r_v8;
     u32 r_d3;
@@ -8816,9 +8645,9 @@ uint32_t capnp_layout_set_data(uint8_t *bytes, size_t room, uint32_t *used, uint
     r_8z_1 = (((uptr)a_5 == (uptr)((u8 *)0)) ? away(a_5, 4096ull) : away(a_5, 0ull));
     if (!(a_6 < 64ull)) goto l_join_ky;
     r_iy = ld32(a_3);
-    a_yf = umin64((u64)(a_2 >> 3ull), 0x1fffffffull);
+    a_js = umin64((u64)(a_2 >> 3ull), 0x1fffffffull);
     r_24 = (u64)r_iy;
-    if (!(u8)((u8)(a_yf >= r_24) & (u8)(a_4 < r_24))) goto l_join_ky;
+    if (!(u8)((u8)(a_js >= r_24) & (u8)(a_4 < r_24))) goto l_join_ky;
     r_v8 = (u64)(a_4 << 3ull);
     if (!(ld64(away(r_8z, r_v8)) == 0ull)) goto l_join_ky;
     r_d3 = (u32)a_4;
@@ -8830,16 +8659,16 @@ uint32_t capnp_layout_set_data(uint8_t *bytes, size_t room, uint32_t *used, uint
     r_2b = away(r_8z, (r_v8 & 0x7fffffff8ull));
     r_qw = ld64(r_2b);
     if (r_qw == 0ull) goto l_capnp_y1;
-    capnp_making_landing_follow_d7a666d2d35ab297(slot_1, slot_2, 0u, r_d3);
+    capnp_allocation_landing_follow_d7a666d2d35ab297(slot_1, slot_2, 0u, r_d3);
     st64(r_2b, 0ull);
     if (!(ld8(slot_1) == 1u)) goto l_capnp_y1;
-    capnp_making_zeroing_zero_target_d7a666d2d35ab297(slot_2, (slot_1 + 8));
+    capnp_allocation_zeroing_zero_target_d7a666d2d35ab297(slot_2, (slot_1 + 8));
     if (!((r_qw & 3ull) == 2ull)) goto l_capnp_y1;
-    capnp_making_zeroing_zero_far_pads_d7a666d2d35ab297(slot_2, r_qw);
+    capnp_allocation_zeroing_zero_far_pads_d7a666d2d35ab297(slot_2, r_qw);
 l_capnp_y1:;
     r_se = (u64)(((u64)(a_6 << 3ull) + 63ull) >> 6ull);
     r_12 = (u32)r_se;
-    if (((u32)a_yf - r_iy) < r_12) { storemerge_ar = r_iy; r_zo = 1u; goto l_capnp_9g; }
+    if (((u32)a_js - r_iy) < r_12) { storemerge_ar = r_iy; r_zo = 1u; goto l_capnp_9g; }
     r_z6 = (u64)(r_se << 3ull);
     r_2b_1 = away(r_8z, (u64)(r_24 << 3ull));
     if (a_6 < 57ull) goto l_then_08;
@@ -8916,7 +8745,7 @@ uint32_t capnp_layout_set_text(uint8_t *bytes, size_t room, uint32_t *used, uint
     u8 *r_8z;
     u8 *r_8z_1;
     u32 r_iy;
-    u64 a_yf;
+    u64 a_js;
     u64 r_24;
     u64 r_v8;
     u32 r_d3;
@@ -8937,9 +8766,9 @@ uint32_t capnp_layout_set_text(uint8_t *bytes, size_t room, uint32_t *used, uint
     r_8z_1 = (((uptr)a_5 == (uptr)((u8 *)0)) ? away(a_5, 4096ull) : away(a_5, 0ull));
     if (!(a_6 < 64ull)) goto l_join_1n;
     r_iy = ld32(a_3);
-    a_yf = umin64((u64)(a_2 >> 3ull), 0x1fffffffull);
+    a_js = umin64((u64)(a_2 >> 3ull), 0x1fffffffull);
     r_24 = (u64)r_iy;
-    if (!(u8)((u8)(a_yf >= r_24) & (u8)(a_4 < r_24))) goto l_join_1n;
+    if (!(u8)((u8)(a_js >= r_24) & (u8)(a_4 < r_24))) goto l_join_1n;
     r_v8 = (u64)(a_4 << 3ull);
     if (!(ld64(away(r_8z, r_v8)) == 0ull)) goto l_join_1n;
     r_d3 = (u32)a_4;
@@ -8952,16 +8781,16 @@ uint32_t capnp_layout_set_text(uint8_t *bytes, size_t room, uint32_t *used, uint
     r_2b = away(r_8z, (r_v8 & 0x7fffffff8ull));
     r_qw = ld64(r_2b);
     if (r_qw == 0ull) goto l_capnp_g2;
-    capnp_making_landing_follow_d7a666d2d35ab297(slot_1, slot_2, 0u, r_d3);
+    capnp_allocation_landing_follow_d7a666d2d35ab297(slot_1, slot_2, 0u, r_d3);
     st64(r_2b, 0ull);
     if (!(ld8(slot_1) == 1u)) goto l_capnp_g2;
-    capnp_making_zeroing_zero_target_d7a666d2d35ab297(slot_2, (slot_1 + 8));
+    capnp_allocation_zeroing_zero_target_d7a666d2d35ab297(slot_2, (slot_1 + 8));
     if (!((r_qw & 3ull) == 2ull)) goto l_capnp_g2;
-    capnp_making_zeroing_zero_far_pads_d7a666d2d35ab297(slot_2, r_qw);
+    capnp_allocation_zeroing_zero_far_pads_d7a666d2d35ab297(slot_2, r_qw);
 l_capnp_g2:;
     r_se = (u64)(((u64)(r_1p << 3ull) + 63ull) >> 6ull);
     r_12 = (u32)r_se;
-    if (((u32)a_yf - r_iy) < r_12) { storemerge_ar = r_iy; r_zo = 1u; goto l_capnp_9g; }
+    if (((u32)a_js - r_iy) < r_12) { storemerge_ar = r_iy; r_zo = 1u; goto l_capnp_9g; }
     r_z6 = (u64)(r_se << 3ull);
     r_2b_1 = away(r_8z, (u64)(r_24 << 3ull));
     if (a_6 < 56ull) goto l_then_bm;
@@ -9115,7 +8944,7 @@ uint32_t capnp_layout_init_list(uint8_t *bytes, size_t room, uint32_t *used, uin
     u32 r_73;
     u32 r_4r;
     u32 r_iy;
-    u64 a_yf;
+    u64 a_js;
     u64 r_24;
     u8 *a_9r;
     u32 common_49;
@@ -9135,9 +8964,9 @@ uint32_t capnp_layout_init_list(uint8_t *bytes, size_t room, uint32_t *used, uin
     st32(a_8, 0u);
     r_iy = ld32(a_3);
     u64 r_56 = (u64)(a_4 >> 48ull);
-    a_yf = umin64((u64)(a_2 >> 3ull), 0x1fffffffull);
+    a_js = umin64((u64)(a_2 >> 3ull), 0x1fffffffull);
     r_24 = (u64)r_iy;
-    if ((u8)((u8)(a_6 > 6u) | (u8)(((a_yf < r_24) ? 1u : (((r_56 + (a_4 & 0xffffffffull)) + (r_cy & 65535ull)) > r_24)) ? 1u : (a_5 >= (u16)r_56)))) { common_43 = 61u; goto l_capnp_gi; }
+    if ((u8)((u8)(a_6 > 6u) | (u8)(((a_js < r_24) ? 1u : (((r_56 + (a_4 & 0xffffffffull)) + (r_cy & 65535ull)) > r_24)) ? 1u : (a_5 >= (u16)r_56)))) { common_43 = 61u; goto l_capnp_gi; }
     goto l_after_ic;
 l_common_jg:;
     st32(a_9r, r_iy);
@@ -9155,12 +8984,12 @@ l_after_ic:;
     r_2b = away(r_8z, (u64)((u64)r_w0 << 3ull));
     r_qw = ld64(r_2b);
     if (r_qw == 0ull) goto l_capnp_vg;
-    capnp_making_landing_follow_d7a666d2d35ab297(slot_1, slot_2, 0u, r_w0);
+    capnp_allocation_landing_follow_d7a666d2d35ab297(slot_1, slot_2, 0u, r_w0);
     st64(r_2b, 0ull);
     if (!(ld8(slot_1) == 1u)) goto l_capnp_vg;
-    capnp_making_zeroing_zero_target_d7a666d2d35ab297(slot_2, (slot_1 + 8));
+    capnp_allocation_zeroing_zero_target_d7a666d2d35ab297(slot_2, (slot_1 + 8));
     if (!((r_qw & 3ull) == 2ull)) goto l_capnp_vg;
-    capnp_making_zeroing_zero_far_pads_d7a666d2d35ab297(slot_2, r_qw);
+    capnp_allocation_zeroing_zero_far_pads_d7a666d2d35ab297(slot_2, r_qw);
 l_capnp_vg:;
     switch (switch_y6) {
     case 6u: { common_jv = a_7; goto l_capnp_nn; }
@@ -9192,7 +9021,7 @@ l_default_e1:;
 l_capnp_hz:;
     common_jv = (u32)(u64)(((r_rp * (u64)a_7) + 63ull) >> 6ull);
 l_capnp_nn:;
-    if (common_jv > ((u32)a_yf - r_iy)) goto l_join_aq;
+    if (common_jv > ((u32)a_js - r_iy)) goto l_join_aq;
     r_z6 = (u64)((u64)common_jv << 3ull);
     r_2b_1 = away(r_8z, (u64)(r_24 << 3ull));
     if (common_jv < 8u) goto l_then_i3;
@@ -9239,7 +9068,7 @@ uint32_t capnp_layout_init_root(uint8_t *bytes, size_t room, uint32_t *used, uin
     A(8) u8 slot_2[32];
     u8 *r_8z;
     u32 r_iy;
-    u64 a_yf;
+    u64 a_js;
     u64 r_24;
     u64 r_qw;
     u32 r_68;
@@ -9253,9 +9082,9 @@ uint32_t capnp_layout_init_root(uint8_t *bytes, size_t room, uint32_t *used, uin
     r_8z = (((uptr)a_1 == (uptr)((u8 *)0)) ? away(a_1, 4096ull) : away(a_1, 0ull));
     st32(a_6, 0u);
     r_iy = ld32(a_3);
-    a_yf = umin64((u64)(a_2 >> 3ull), 0x1fffffffull);
+    a_js = umin64((u64)(a_2 >> 3ull), 0x1fffffffull);
     r_24 = (u64)r_iy;
-    if (!(u8)((u8)(r_iy != 0u) & (u8)(a_yf >= r_24))) { common_43 = 61u; goto l_capnp_gi; }
+    if (!(u8)((u8)(r_iy != 0u) & (u8)(a_js >= r_24))) { common_43 = 61u; goto l_capnp_gi; }
     stp(slot_2, r_8z);
     st64((slot_2 + 8), a_2);
     st32((slot_2 + 16), r_iy);
@@ -9263,16 +9092,16 @@ uint32_t capnp_layout_init_root(uint8_t *bytes, size_t room, uint32_t *used, uin
     st64((slot_2 + 24), 0ull);
     r_qw = ld64(r_8z);
     if (r_qw == 0ull) goto l_capnp_cx;
-    capnp_making_landing_follow_d7a666d2d35ab297(slot_1, slot_2, 0u, 0u);
+    capnp_allocation_landing_follow_d7a666d2d35ab297(slot_1, slot_2, 0u, 0u);
     st64(r_8z, 0ull);
     if (!(ld8(slot_1) == 1u)) goto l_capnp_cx;
-    capnp_making_zeroing_zero_target_d7a666d2d35ab297(slot_2, (slot_1 + 8));
+    capnp_allocation_zeroing_zero_target_d7a666d2d35ab297(slot_2, (slot_1 + 8));
     if (!((r_qw & 3ull) == 2ull)) goto l_capnp_cx;
-    capnp_making_zeroing_zero_far_pads_d7a666d2d35ab297(slot_2, r_qw);
+    capnp_allocation_zeroing_zero_far_pads_d7a666d2d35ab297(slot_2, r_qw);
 l_capnp_cx:;
     r_68 = ((u32)a_5 + (u32)a_4);
     if (r_68 == 0u) { r_wf = r_iy; storemerge_9j = 0xfffffffcull; r_tz = 0u; goto l_arm_o5; }
-    if (r_68 > ((u32)a_yf - r_iy)) goto l_arm_jg;
+    if (r_68 > ((u32)a_js - r_iy)) goto l_arm_jg;
     r_c0 = (u64)(u32)(r_68 << 3u);
     r_2b = away(r_8z, (u64)(r_24 << 3ull));
     if (r_68 < 8u) goto l_then_5x;
@@ -9325,7 +9154,7 @@ uint32_t capnp_layout_init_struct(uint8_t *bytes, size_t room, uint32_t *used, u
     u8 *r_8z;
     u32 r_iy;
     u64 r_cy;
-    u64 a_yf;
+    u64 a_js;
     u64 r_24;
     u32 r_w0;
     u8 *r_2b;
@@ -9343,9 +9172,9 @@ uint32_t capnp_layout_init_struct(uint8_t *bytes, size_t room, uint32_t *used, u
     r_iy = ld32(a_3);
     r_cy = (u64)(a_4 >> 32ull);
     u64 r_56 = (u64)(a_4 >> 48ull);
-    a_yf = umin64((u64)(a_2 >> 3ull), 0x1fffffffull);
+    a_js = umin64((u64)(a_2 >> 3ull), 0x1fffffffull);
     r_24 = (u64)r_iy;
-    if (!(((a_yf >= r_24) ? (((r_56 + (a_4 & 0xffffffffull)) + (r_cy & 65535ull)) <= r_24) : 0u) ? (a_5 < (u16)r_56) : 0u)) { common_43 = 61u; goto l_capnp_gi; }
+    if (!(((a_js >= r_24) ? (((r_56 + (a_4 & 0xffffffffull)) + (r_cy & 65535ull)) <= r_24) : 0u) ? (a_5 < (u16)r_56) : 0u)) { common_43 = 61u; goto l_capnp_gi; }
     stp(slot_2, r_8z);
     st64((slot_2 + 8), a_2);
     st32((slot_2 + 16), r_iy);
@@ -9355,16 +9184,16 @@ uint32_t capnp_layout_init_struct(uint8_t *bytes, size_t room, uint32_t *used, u
     r_2b = away(r_8z, (u64)((u64)r_w0 << 3ull));
     r_qw = ld64(r_2b);
     if (r_qw == 0ull) goto l_capnp_cx;
-    capnp_making_landing_follow_d7a666d2d35ab297(slot_1, slot_2, 0u, r_w0);
+    capnp_allocation_landing_follow_d7a666d2d35ab297(slot_1, slot_2, 0u, r_w0);
     st64(r_2b, 0ull);
     if (!(ld8(slot_1) == 1u)) goto l_capnp_cx;
-    capnp_making_zeroing_zero_target_d7a666d2d35ab297(slot_2, (slot_1 + 8));
+    capnp_allocation_zeroing_zero_target_d7a666d2d35ab297(slot_2, (slot_1 + 8));
     if (!((r_qw & 3ull) == 2ull)) goto l_capnp_cx;
-    capnp_making_zeroing_zero_far_pads_d7a666d2d35ab297(slot_2, r_qw);
+    capnp_allocation_zeroing_zero_far_pads_d7a666d2d35ab297(slot_2, r_qw);
 l_capnp_cx:;
     r_68 = ((u32)a_7 + (u32)a_6);
     if (r_68 == 0u) { r_wf = r_iy; storemerge_9j = 0xfffffffcull; r_tz = r_w0; goto l_arm_o5; }
-    if (r_68 > ((u32)a_yf - r_iy)) goto l_arm_jg;
+    if (r_68 > ((u32)a_js - r_iy)) goto l_arm_jg;
     r_c0 = (u64)(u32)(r_68 << 3u);
     r_2b_1 = away(r_8z, (u64)(r_24 << 3ull));
     if (r_68 < 8u) goto l_then_5x;
@@ -9417,7 +9246,7 @@ uint32_t capnp_layout_init_struct_list(uint8_t *bytes, size_t room, uint32_t *us
     u8 *r_8z;
     u32 r_iy;
     u64 r_cy;
-    u64 a_yf;
+    u64 a_js;
     u64 r_24;
     u32 r_w0;
     u64 r_7l;
@@ -9436,20 +9265,20 @@ uint32_t capnp_layout_init_struct_list(uint8_t *bytes, size_t room, uint32_t *us
     r_iy = ld32(a_3);
     r_cy = (u64)(a_4 >> 32ull);
     u64 r_56 = (u64)(a_4 >> 48ull);
-    a_yf = umin64((u64)(a_2 >> 3ull), 0x1fffffffull);
+    a_js = umin64((u64)(a_2 >> 3ull), 0x1fffffffull);
     r_24 = (u64)r_iy;
-    if (!(((a_yf >= r_24) ? (((r_56 + (a_4 & 0xffffffffull)) + (r_cy & 65535ull)) <= r_24) : 0u) ? (a_5 < (u16)r_56) : 0u)) goto l_join_vo;
+    if (!(((a_js >= r_24) ? (((r_56 + (a_4 & 0xffffffffull)) + (r_cy & 65535ull)) <= r_24) : 0u) ? (a_5 < (u16)r_56) : 0u)) goto l_join_vo;
     r_w0 = (((u32)a_5 + (u32)a_4) + ((u32)r_cy & 65535u));
     r_7l = (u64)a_6;
     r_bi = (u64)a_7;
     r_bi_1 = (u64)a_8;
     if (!(a_6 < 0x20000000u)) goto l_join_vo;
-    if (!(((r_bi_1 + r_bi) * r_7l) < (a_yf - r_24))) goto l_join_vo;
+    if (!(((r_bi_1 + r_bi) * r_7l) < (a_js - r_24))) goto l_join_vo;
     r_2b = away(r_8z, (u64)((u64)r_w0 << 3ull));
     if (!(ld64(r_2b) == 0ull)) goto l_join_vo;
     r_cb = (((u32)a_8 + (u32)a_7) * a_6);
     r_ll = (r_cb + 1u);
-    if (r_ll > ((u32)a_yf - r_iy)) { r_4n = r_iy; r_8k = r_w0; goto l_capnp_tt; }
+    if (r_ll > ((u32)a_js - r_iy)) { r_4n = r_iy; r_8k = r_w0; goto l_capnp_tt; }
     r_z6 = (u64)((u64)r_ll << 3ull);
     r_2b_1 = away(r_8z, (u64)(r_24 << 3ull));
     if (r_ll < 8u) goto l_then_1k;
@@ -9522,23 +9351,30 @@ uint32_t capnp_layout_check(const struct capnp_segments *segments, const uint32_
     u8 *a_5 = (u8 *)left;
     u32 a_6 = (u32)nesting;
     u8 *a_7 = (u8 *)misfit;
-    A(8) u8 slot_1[48];
-    A(4) u8 slot_2[16];
+    A(4) u8 slot_1[16];
+    A(8) u8 slot_2[64];
     A(8) u8 slot_3[64];
-    A(8) u8 slot_4[24];
     u8 *r_8z;
     u64 r_yz;
-    u8 *r_x5;
     u8 *t_6c;
     u8 *r_mb;
     u64 r_qw;
+    u8 trunc_mp;
+    u8 r_r5;
+    u64 r_38;
+    u64 r_r9;
+    u32 r_hp;
+    u32 r_ri;
+    u32 r_vv;
+    u32 r_uq;
     u64 r_y5;
-    u8 r_tj;
-    u32 r_0a;
-    u64 r_vh;
-    u32 r_4v;
+    u64 r_tj;
+    u8 r_0a;
+    u32 r_vh;
+    u64 r_4v;
     u32 r_ct;
     u32 r_ld;
+    u32 r_k6;
     u32 r_9m;
     u64 r_2z;
     u32 r_yw;
@@ -9551,26 +9387,20 @@ uint32_t capnp_layout_check(const struct capnp_segments *segments, const uint32_
     u32 r_j1;
     r_8z = (((uptr)a_2 == (uptr)((u8 *)0)) ? away(a_2, 4096ull) : away(a_2, 0ull));
     r_yz = ld64(a_5);
-    st64(slot_4, 1ull);
-    r_x5 = (slot_4 + 8);
-    st64(r_x5, r_yz);
-    st64((slot_4 + 16), 0ull);
     t_6c = (slot_3 + 56);
     st64(t_6c, 0ull);
-    if (ld64((a_1 + 8)) == 0ull) { r_y5 = r_yz; r_tj = 0u; r_0a = 44u; r_vh = 0ull; r_4v = 0u; r_ct = 0u; r_ld = 0u; goto l_capnp_zw; }
+    if (ld64((a_1 + 8)) == 0ull) { r_y5 = r_yz; r_tj = r_yz; r_0a = 0u; r_vh = 44u; r_4v = 0ull; r_ct = 0u; r_ld = 0u; r_k6 = 0u; goto l_capnp_zw; }
     r_mb = ldp(a_1);
     r_qw = ld64((r_mb + 8));
-    if (r_qw < 8ull) { r_y5 = r_yz; r_tj = 0u; r_0a = 55u; r_vh = 0ull; r_4v = 0u; r_ct = 0u; r_ld = 0u; goto l_capnp_zw; }
-    if (!(r_yz == 0ull)) goto l_arm_1y;
+    if (r_qw < 8ull) { r_y5 = r_yz; r_tj = r_yz; r_0a = 0u; r_vh = 55u; r_4v = 0ull; r_ct = 0u; r_ld = 0u; r_k6 = 0u; goto l_capnp_zw; }
+    if (!(r_yz == 0ull)) goto l_arm_fk;
     r_9m = 62u;
     r_2z = 0ull;
     r_yw = 0u;
     r_vi = 0u;
     r_ev = 0u;
     goto l_arm_h9;
-l_arm_1y:;
-    st64(slot_4, 1ull);
-    st64(r_x5, (r_yz + 0xffffffffffffffffull));
+l_arm_fk:;
     u8 *r_rv = ldp(r_mb);
     st64(slot_3, 0ull);
     st64((slot_3 + 8), (u64)(uptr)a_1);
@@ -9580,36 +9410,53 @@ l_arm_1y:;
     st32((slot_3 + 48), 0u);
     st32((slot_3 + 52), 0u);
     st32(t_6c, a_6);
-    memset(slot_1, 0u, 48);
-    st32(slot_2, 5u);
-    st32((slot_2 + 4), a_4);
-    st32((slot_2 + 8), 0u);
-    st32((slot_2 + 12), 0u);
-    typed_conforming_conforms_check_object_07dcb38b0fe92235(slot_1, r_8z, a_3, slot_2, slot_3, 0u, slot_4);
+    st32(slot_1, 5u);
+    st32((slot_1 + 4), a_4);
+    st32((slot_1 + 8), 0u);
+    st32((slot_1 + 12), 0u);
+    st32(slot_2, 30u);
+    memset((slot_2 + 4), 0u, 36);
+    u8 *r_a8 = (slot_2 + 40);
+    st64(r_a8, 1ull);
+    u8 *r_c4 = (slot_2 + 48);
+    st64(r_c4, (r_yz + 0xffffffffffffffffull));
+    st64((slot_2 + 56), 0ull);
+    u8 r_pp = typed_conforming_conforms_check_object_07dcb38b0fe92235(r_8z, a_3, slot_1, slot_3, 0u, slot_2);
+    trunc_mp = (u8)(r_pp & 1);
+    r_r5 = ld8(r_a8);
+    r_38 = ld64(r_c4);
+    if (!trunc_mp) { r_r9 = 0ull; r_hp = 0u; r_ri = 0u; r_vv = 0u; r_uq = 32u; goto l_typed_4q; }
+    r_r9 = ld64((slot_2 + 16));
+    r_hp = ld32((slot_2 + 24));
+    r_ri = ld32((slot_2 + 28));
+    r_vv = ld32((slot_2 + 32));
+    r_uq = ((ld32(slot_2) & 255u) + 32u);
+l_typed_4q:;
     r_y5 = ld64(a_5);
-    r_tj = (ld8(slot_1) == 0u);
-    r_0a = ((ld32((slot_1 + 8)) & 255u) + 32u);
-    r_vh = ld64((slot_1 + 24));
-    r_4v = ld32((slot_1 + 32));
-    r_ct = ld32((slot_1 + 36));
-    r_ld = ld32((slot_1 + 40));
+    r_tj = ((r_r5 == 1u) ? r_38 : 0ull);
+    r_0a = (u8)((u8)trunc_mp ^ (u8)1u);
+    r_vh = r_uq;
+    r_4v = r_r9;
+    r_ct = r_hp;
+    r_ld = r_ri;
+    r_k6 = r_vv;
 l_capnp_zw:;
     if (r_y5 == 0xffffffffffffffffull) goto l_capnp_fy;
-    st64(a_5, ((ld8(slot_4) == 1u) ? ld64(r_x5) : 0ull));
-    if (r_tj) { r_cj = 0ull; r_ot = 0u; r_zv = 0u; r_sp = 0u; r_j1 = 0u; goto l_capnp_nx; }
-    r_9m = r_0a;
-    r_2z = r_vh;
-    r_yw = r_4v;
-    r_vi = r_ct;
-    r_ev = r_ld;
+    st64(a_5, r_tj);
+    if (r_0a) { r_cj = 0ull; r_ot = 0u; r_zv = 0u; r_sp = 0u; r_j1 = 0u; goto l_capnp_nx; }
+    r_9m = r_vh;
+    r_2z = r_4v;
+    r_yw = r_ct;
+    r_vi = r_ld;
+    r_ev = r_k6;
     goto l_arm_h9;
 l_capnp_fy:;
-    if (r_tj) { r_cj = 0ull; r_ot = 0u; r_zv = 0u; r_sp = 0u; r_j1 = 0u; goto l_capnp_nx; }
-    r_9m = r_0a;
-    r_2z = r_vh;
-    r_yw = r_4v;
-    r_vi = r_ct;
-    r_ev = r_ld;
+    if (r_0a) { r_cj = 0ull; r_ot = 0u; r_zv = 0u; r_sp = 0u; r_j1 = 0u; goto l_capnp_nx; }
+    r_9m = r_vh;
+    r_2z = r_4v;
+    r_yw = r_ct;
+    r_vi = r_ld;
+    r_ev = r_k6;
 l_arm_h9:;
     r_cj = r_2z;
     r_ot = r_yw;
@@ -9847,7 +9694,7 @@ l_arm_cr:;
     r_qw_1 = ld64(away(r_jg, (u64)(r_7l << 3ull)));
     if (r_qw_1 == 0ull) { r_bb = 1u; r_o5 = ((u8 *)g_static_6); r_04 = 0ull; goto l_arm_c9; }
     st64(t_zd, 1ull);
-    if ((r_qw_1 & 3ull) == 2ull) goto l_capnp_ng;
+    if ((r_qw_1 & 3ull) == 2ull) goto l_capnp_wj;
     u64 r_m6 = ((u64)(r_qw_1 >> 2ull) & 0x3fffffffull);
     r_lc = ((r_7l + 1ull) + r_m6);
     r_nb = (r_oz & 0xffffffffull);
@@ -9865,8 +9712,8 @@ l_capnp_i5:;
     r_an = r_hg;
     r_y1 = r_jg;
     goto l_arm_fc;
-l_capnp_ng:;
-    capnp_objects_source_follow_far_07dcb38b0fe92235(slot_1, a_1, r_qw_1, slot_2);
+l_capnp_wj:;
+    capnp_pointers_source_follow_far_07dcb38b0fe92235(slot_1, a_1, r_qw_1, slot_2);
     u64 r_38 = ld64((slot_1 + 8));
     if (ld8(slot_1) == 0u) { r_vg = ld32((slot_1 + 40)); r_dq = r_38; r_an = ld64((slot_1 + 32)); r_y1 = ((u8 *)(uptr)ld64((slot_1 + 24))); goto l_arm_fc; }
     r_vs = r_38;
@@ -10020,7 +9867,7 @@ l_capnp_a5:;
     if ((i32)a_5 < (i32)1u) { r_x7 = 28u; goto l_arm_vg; }
     t_al = (u64)(uptr)r_r0;
     st64(t_zd, 1ull);
-    if ((r_qw_1 & 3ull) == 2ull) goto l_capnp_jd;
+    if ((r_qw_1 & 3ull) == 2ull) goto l_capnp_vo;
     u64 r_m6 = ((u64)(r_qw_1 >> 2ull) & 0x3fffffffull);
     r_lc = ((r_7l + 1ull) + r_m6);
     r_nb = (r_oz & 0xffffffffull);
@@ -10039,8 +9886,8 @@ l_capnp_i5:;
     r_bu = r_ij;
     r_qb = t_al;
     goto l_arm_an;
-l_capnp_jd:;
-    capnp_objects_source_follow_far_07dcb38b0fe92235(slot_1, a_1, r_qw_1, slot_2);
+l_capnp_vo:;
+    capnp_pointers_source_follow_far_07dcb38b0fe92235(slot_1, a_1, r_qw_1, slot_2);
     u64 r_38 = ld64((slot_1 + 8));
     if (ld8(slot_1) == 0u) { r_wm = ld32((slot_1 + 40)); r_ig = ld64((slot_1 + 16)); r_1s = r_38; r_bu = ld64((slot_1 + 32)); r_qb = ld64((slot_1 + 24)); goto l_arm_an; }
     r_99 = r_38;
@@ -10141,7 +9988,7 @@ l_default_e1:;
     UNREACHABLE();
 l_arm_da:;
     memset(slot_1, 0u, 24);
-    capnp_objects_source_expected_narrow_elements_error(slot_1, r_x5_1, (u8)r_y0);
+    capnp_pointers_source_expected_narrow_elements_error(slot_1, r_x5_1, (u8)r_y0);
     r_9w = r_we;
     r_k0 = (u32)r_ij_1;
     r_kt = r_y0;
@@ -10413,7 +10260,7 @@ l_arm_cr:;
     r_qw_1 = ld64(away(r_jg, (u64)(r_7l << 3ull)));
     if (r_qw_1 == 0ull) { r_3w = 1u; r_nm = ((u8 *)g_static_6); r_o8 = 0ull; goto l_arm_yn; }
     st64(t_zd, 1ull);
-    if ((r_qw_1 & 3ull) == 2ull) goto l_capnp_b3;
+    if ((r_qw_1 & 3ull) == 2ull) goto l_capnp_v3;
     u64 r_m6 = ((u64)(r_qw_1 >> 2ull) & 0x3fffffffull);
     r_lc = ((r_7l + 1ull) + r_m6);
     r_nb = (r_oz & 0xffffffffull);
@@ -10434,8 +10281,8 @@ l_capnp_i5:;
 l_capnp_8g:;
     r_uv = 23ull;
     goto l_capnp_f1;
-l_capnp_b3:;
-    capnp_objects_source_follow_far_07dcb38b0fe92235(slot_1, a_1, r_qw_1, slot_2);
+l_capnp_v3:;
+    capnp_pointers_source_follow_far_07dcb38b0fe92235(slot_1, a_1, r_qw_1, slot_2);
     u64 r_38 = ld64((slot_1 + 8));
     if (ld8(slot_1) == 0u) { r_vg = ld32((slot_1 + 40)); r_dq = r_38; r_an = ld64((slot_1 + 32)); r_y1 = ((u8 *)(uptr)ld64((slot_1 + 24))); goto l_arm_fc; }
     r_uv = r_38;
@@ -10528,7 +10375,7 @@ uint32_t capnp_layout_type(const struct capnp_segments *segments, uint64_t *left
     r_qw_1 = ld64(away(((r_qw < 8ull) ? ((u8 *)g_static_6) : ldp(r_2b)), (u64)(r_7l << 3ull)));
     if (r_qw_1 == 0ull) { r_bb = 1u; r_o5 = 0u; r_04 = 0u; goto l_capnp_c9; }
     st64(t_zd, 1ull);
-    if ((r_qw_1 & 3ull) == 2ull) goto l_capnp_a7;
+    if ((r_qw_1 & 3ull) == 2ull) goto l_capnp_x3;
     u64 r_m6 = ((u64)(r_qw_1 >> 2ull) & 0x3fffffffull);
     r_lc = ((r_7l + 1ull) + r_m6);
     r_s3 = (t_gw & 0xffffffffull);
@@ -10540,8 +10387,8 @@ l_else_70:;
 l_capnp_5s:;
     r_fs = r_qw_1;
     goto l_arm_d4;
-l_capnp_a7:;
-    capnp_objects_source_follow_far_07dcb38b0fe92235(slot_1, a_1, r_qw_1, slot_2);
+l_capnp_x3:;
+    capnp_pointers_source_follow_far_07dcb38b0fe92235(slot_1, a_1, r_qw_1, slot_2);
     u64 r_38 = ld64((slot_1 + 8));
     if (ld8(slot_1) == 0u) { r_fs = r_38; goto l_arm_d4; }
     r_bd = r_38;
@@ -10641,10 +10488,10 @@ uint32_t capnp_layout_validate(const struct capnp_segments *segments, uint64_t *
     u8 *r_c4 = (slot_1 + 48);
     st64(r_c4, (r_yz + 0xffffffffffffffffull));
     st64((slot_1 + 56), 0ull);
-    u8 r_d7 = capnp_objects_pointers_validate_validate_object_07dcb3_9288a101(slot_2, 0u, a_3, slot_1);
+    u8 r_5s = capnp_pointers_pointers_validate_validate_object_07dcb_94c64086(slot_2, 0u, a_3, slot_1);
     r_r5 = ld8(r_a8);
     r_38 = ld64(r_c4);
-    if (!(u8)(r_d7 & 1)) goto l_arm_vw;
+    if (!(u8)(r_5s & 1)) goto l_arm_vw;
     r_mx = ld64(a_2);
     r_hv = ld8(r_lk);
     r_34 = ((r_r5 == 1u) ? r_38 : 0ull);
