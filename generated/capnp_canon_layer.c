@@ -4,12 +4,12 @@
 
 static NEVER u64 core_slice_words_skip_far_52f9edcae2f82f51(u8 *a_1, u64 a_2, u64 a_3);
 static NEVER u64 core_slice_words_skip_far_d9bf6fcacf29a880(u8 *a_1, u64 a_2, u64 a_3);
-static NEVER void capnp_objects_source_Source_measure_object_e069d1cb1d6451b2(u8 *a_1, u8 *a_2, u8 *a_3, u32 a_4, u8 *a_5);
-static NEVER u8 capnp_objects_pointers_sizes_add_pointers_e069d1cb1d6451b2(u8 *a_1, u32 a_2, u32 a_3, u32 a_4, u8 *a_5);
+static NEVER void capnp_pointers_source_Source_measure_object_e069d1cb1d6451b2(u8 *a_1, u8 *a_2, u8 *a_3, u32 a_4, u8 *a_5);
+static NEVER u8 capnp_pointers_pointers_sizes_add_pointers_e069d1cb1d6451b2(u8 *a_1, u32 a_2, u32 a_3, u32 a_4, u8 *a_5);
 static NEVER COLD u8 std_alloc_vec_Vec_grow_amortized_22cacb0e3deea15e(u8 *a_1);
-static NEVER COLD void capnp_making_landing_follow_far_e81703f2515d5e3b(u8 *a_1, u8 *a_2, u64 a_3);
-static void capnp_making_zeroing_zero_pointers_e81703f2515d5e3b(u8 *a_1, u32 a_2, u32 a_3, u32 a_4);
-static void capnp_making_zeroing_zero_if_inside_e81703f2515d5e3b(u8 *a_1, u32 a_2, u32 a_3, u64 a_4);
+static NEVER COLD void capnp_allocation_landing_follow_far_e81703f2515d5e3b(u8 *a_1, u8 *a_2, u64 a_3);
+static void capnp_allocation_zeroing_zero_pointers_e81703f2515d5e3b(u8 *a_1, u32 a_2, u32 a_3, u32 a_4);
+static void capnp_allocation_zeroing_zero_if_inside_e81703f2515d5e3b(u8 *a_1, u32 a_2, u32 a_3, u64 a_4);
 static u64 capnp_words_words_used_words_in(u8 *a_1, u64 a_2, u64 a_3);
 static NEVER u64 capnp_words_lanes_used_words_bound(u8 *a_1, u64 a_2);
 static void capnp_arena_arena_builder_arena_impl_BuilderArenaImplB_d542f924(u8 *a_1, u8 *a_2, u32 a_3);
@@ -21,9 +21,9 @@ static struct s_i16_i16 capnp_copies_widths_least_widths(u8 *a_1, u32 a_2, u32 a
 static NEVER void capnp_arena_arena_builder_arena_impl_deallocate_others_a8dc9355(u8 *a_1);
 static NEVER void core_slice_edits_mirror_88712faee6672b50(u8 *a_1, u8 *a_2, u64 a_3);
 static NEVER COLD void capnp_framing_framing_reading_grow_0383920df4a99c71(u8 *a_1, u8 *a_2, u8 *a_3);
-static struct s_i8_i32 capnp_objects_pointers_canonical_test_children_5ccc1be374b2e488(u8 *a_1, u32 a_2, u32 a_3, u32 a_4, u32 a_5, u8 *a_6);
-static NEVER struct s_i8_i32 capnp_objects_pointers_canonical_test_list_5ccc1be374b2e488(u8 *a_1, u32 a_2, u64 a_3, u32 a_4, u32 a_5, u8 *a_6);
-static struct s_i8_i32 capnp_objects_pointers_canonical_test_elements_5ccc1be374b2e488(u8 *a_1, u32 a_2, u16 a_3, u16 a_4, u32 a_5, u32 a_6, u8 *a_7);
+static struct s_i8_i32 capnp_pointers_pointers_canonical_test_children_5ccc1b_aa7a1372(u8 *a_1, u32 a_2, u32 a_3, u32 a_4, u32 a_5, u8 *a_6);
+static NEVER struct s_i8_i32 capnp_pointers_pointers_canonical_test_list_5ccc1be374b2e488(u8 *a_1, u32 a_2, u64 a_3, u32 a_4, u32 a_5, u8 *a_6);
+static struct s_i8_i32 capnp_pointers_pointers_canonical_test_elements_5ccc1b_0ad11fef(u8 *a_1, u32 a_2, u16 a_3, u16 a_4, u32 a_5, u32 a_6, u8 *a_7);
 static void capnp_messages_messages_canonical_copy_canonicalize_to_83269e83(u8 *a_1, u8 *a_2, u8 *a_3, u8 *a_4, u32 a_5);
 static NEVER COLD u8 std_alloc_vec_Vec_grow_amortized_044c3d3b74b9c55e(u8 *a_1, u64 a_2);
 static NEVER COLD void capnp_messages_messages_copy_memory_CopySegment_zero_up_to(u8 *a_1, u64 a_2);
@@ -39,19 +39,19 @@ static void capnp_arena_traits_arena_writing_copy_words_257eebf23d8227b7(u8 *a_1
 static NEVER COLD u8 *capnp_arena_arena_rows_Rows_other_mut_4426f83c3c99ca57(u8 *a_1, u32 a_2);
 static void capnp_copies_copy_elements_put_words_257eebf23d8227b7(u8 *a_1, u32 a_2, u32 a_3, u8 *a_4, u64 a_5);
 static NEVER COLD u64 capnp_arena_arena_rows_word_in_4426f83c3c99ca57(u8 *a_1, u64 a_2, u32 a_3);
-static NEVER COLD void capnp_making_landing_follow_257eebf23d8227b7(u8 *a_1, u8 *a_2, u32 a_3, u32 a_4);
-static NEVER COLD void capnp_making_landing_follow_far_257eebf23d8227b7(u8 *a_1, u8 *a_2, u64 a_3);
-static NEVER COLD void capnp_making_zeroing_zero_target_257eebf23d8227b7(u8 *a_1, u8 *a_2);
-static void capnp_making_zeroing_zero_pointers_257eebf23d8227b7(u8 *a_1, u32 a_2, u32 a_3, u32 a_4);
-static void capnp_making_zeroing_zero_if_inside_257eebf23d8227b7(u8 *a_1, u32 a_2, u32 a_3, u64 a_4);
-static NEVER COLD void capnp_making_zeroing_zero_far_pads_257eebf23d8227b7(u8 *a_1, u64 a_2);
+static NEVER COLD void capnp_allocation_landing_follow_257eebf23d8227b7(u8 *a_1, u8 *a_2, u32 a_3, u32 a_4);
+static NEVER COLD void capnp_allocation_landing_follow_far_257eebf23d8227b7(u8 *a_1, u8 *a_2, u64 a_3);
+static NEVER COLD void capnp_allocation_zeroing_zero_target_257eebf23d8227b7(u8 *a_1, u8 *a_2);
+static void capnp_allocation_zeroing_zero_pointers_257eebf23d8227b7(u8 *a_1, u32 a_2, u32 a_3, u32 a_4);
+static void capnp_allocation_zeroing_zero_if_inside_257eebf23d8227b7(u8 *a_1, u32 a_2, u32 a_3, u64 a_4);
+static NEVER COLD void capnp_allocation_zeroing_zero_far_pads_257eebf23d8227b7(u8 *a_1, u64 a_2);
 static NEVER void capnp_copies_copy_children_copy_children_out_of_line_3_45de2596(u8 *a_1, u8 *a_2, u32 a_3, u32 a_4, u8 *a_5, u32 a_6, u8 *a_7, u8 a_8);
 static void capnp_messages_messages_copy_size_add_value_5ccc1be374b2e488(u8 *a_1, u8 *a_2, u32 a_3, u32 a_4, u32 a_5, u8 *a_6);
 static void capnp_messages_messages_copy_size_add_elements_5ccc1be374b2e488(u8 *a_1, u8 *a_2, u16 a_3, u16 a_4, u32 a_5, u32 a_6, u8 *a_7);
 static u32 capnp_messages_messages_copy_size_struct_words(u8 *a_1, u16 a_2, u16 a_3);
 static NEVER void capnp_messages_messages_copy_size_add_pointers_5ccc1be374b2e488(u8 *a_1, u8 *a_2, u32 a_3, u32 a_4, u32 a_5, u32 a_6, u8 *a_7);
 static NEVER COLD u8 std_alloc_vec_Vec_grow_amortized_0e5e43add44bc681(u8 *a_1);
-static NEVER void capnp_objects_source_Source_measure_object_5ccc1be374b2e488(u8 *a_1, u8 *a_2, u8 *a_3, u32 a_4, u8 *a_5);
+static NEVER void capnp_pointers_source_Source_measure_object_5ccc1be374b2e488(u8 *a_1, u8 *a_2, u8 *a_3, u32 a_4, u8 *a_5);
 static NEVER COLD u8 std_alloc_vec_Vec_grow_amortized_aae383c1cebb016e(u8 *a_1);
 static struct s_i8_i32 capnp_arena_arena_builder_arena_impl_BuilderArenaImplB_8d7f3a67(u8 *a_1, u32 a_2, u32 a_3);
 static NEVER COLD struct s_i8_i32 capnp_arena_arena_rows_allocate_in_96bc33dd2dacd45a(u8 *a_1, u64 a_2, u32 a_3);
@@ -65,23 +65,24 @@ static void capnp_arena_traits_arena_writing_copy_words_22521b95e02b6c38(u8 *a_1
 static NEVER COLD u8 *capnp_arena_arena_rows_Rows_other_mut_96bc33dd2dacd45a(u8 *a_1, u32 a_2);
 static void capnp_copies_copy_elements_put_words_22521b95e02b6c38(u8 *a_1, u32 a_2, u32 a_3, u8 *a_4, u64 a_5);
 static NEVER COLD u64 capnp_arena_arena_rows_word_in_96bc33dd2dacd45a(u8 *a_1, u64 a_2, u32 a_3);
-static NEVER COLD void capnp_making_landing_follow_22521b95e02b6c38(u8 *a_1, u8 *a_2, u32 a_3, u32 a_4);
-static NEVER COLD void capnp_making_landing_follow_far_22521b95e02b6c38(u8 *a_1, u8 *a_2, u64 a_3);
-static NEVER COLD void capnp_making_zeroing_zero_target_22521b95e02b6c38(u8 *a_1, u8 *a_2);
-static void capnp_making_zeroing_zero_pointers_22521b95e02b6c38(u8 *a_1, u32 a_2, u32 a_3, u32 a_4);
-static void capnp_making_zeroing_zero_if_inside_22521b95e02b6c38(u8 *a_1, u32 a_2, u32 a_3, u64 a_4);
-static NEVER COLD void capnp_making_zeroing_zero_far_pads_22521b95e02b6c38(u8 *a_1, u64 a_2);
+static NEVER COLD void capnp_allocation_landing_follow_22521b95e02b6c38(u8 *a_1, u8 *a_2, u32 a_3, u32 a_4);
+static NEVER COLD void capnp_allocation_landing_follow_far_22521b95e02b6c38(u8 *a_1, u8 *a_2, u64 a_3);
+static NEVER COLD void capnp_allocation_zeroing_zero_target_22521b95e02b6c38(u8 *a_1, u8 *a_2);
+static void capnp_allocation_zeroing_zero_pointers_22521b95e02b6c38(u8 *a_1, u32 a_2, u32 a_3, u32 a_4);
+static void capnp_allocation_zeroing_zero_if_inside_22521b95e02b6c38(u8 *a_1, u32 a_2, u32 a_3, u64 a_4);
+static NEVER COLD void capnp_allocation_zeroing_zero_far_pads_22521b95e02b6c38(u8 *a_1, u64 a_2);
 static NEVER void capnp_copies_copy_children_copy_children_out_of_line_f_f51e9aad(u8 *a_1, u8 *a_2, u32 a_3, u32 a_4, u8 *a_5, u32 a_6, u8 *a_7, u8 a_8);
 static void sha2_block256_Core256_update(u8 *a_1, u8 *a_2, u64 a_3);
 static void sha2_block256_compress(u8 *a_1, u8 *a_2);
 static NEVER void capnp_arena_arena_builder_arena_impl_deallocate_others_a537bde4(u8 *a_1);
 static NEVER void core_slice_edits_mirror_240280a245146760(u8 *a_1, u8 *a_2, u64 a_3);
-static NEVER u8 capnp_objects_pointers_validate_validate_pointers_5ccc_6252bdf3(u8 *a_1, u32 a_2, u32 a_3, u32 a_4, u8 *a_5);
+static NEVER u8 capnp_pointers_pointers_validate_validate_pointers_5cc_67e99f56(u8 *a_1, u32 a_2, u32 a_3, u32 a_4, u8 *a_5);
 static void capnp_refusals_refusals_search_search_object_5ccc1be374b2e488(u8 *a_1, u8 a_2, u8 a_3, u8 *a_4, u32 a_5, u32 a_6, u8 *a_7);
-static void capnp_refusals_refusals_search_search_elements_5ccc1be374b2e488(u8 *a_1, u8 a_2, u8 a_3, u8 *a_4, u32 a_5, u32 a_6, u32 a_7, u8 *a_8);
 static NEVER void capnp_refusals_refusals_search_search_pointers_5ccc1be374b2e488(u8 *a_1, u8 a_2, u8 a_3, u8 *a_4, u32 a_5, u32 a_6, u32 a_7, u8 *a_8);
 static void capnp_packing_packing_place_within_word(u8 *a_1, u8 a_2, u8 a_3);
 static void capnp_framing_framing_segment_set_single_segment_03839_bd100d79(u8 *a_1, u8 *a_2, u32 a_3, u8 *a_4, u8 *a_5);
+static NEVER COLD void capnp_framing_framing_reading_grow_d2a9a4fc44ffc9f7(u8 *a_1, u8 *a_2, u8 *a_3);
+static void capnp_framing_framing_segment_set_single_segment_d2a9a_fe11ec29(u8 *a_1, u8 *a_2, u32 a_3, u8 *a_4, u8 *a_5);
 static NEVER COLD u8 std_alloc_vec_Vec_grow_amortized_f2d74098f88769d0(u8 *a_1, u64 a_2);
 
 /* std_alloc::vec::Vec::grow_amortized::<#f0820c3131a574aa> */
@@ -1363,8 +1364,8 @@ l_arm_m7:;
     goto l_common_57;
 }
 
-/* capnp_objects::source::follow_far::<#e069d1cb1d6451b2> */
-NEVER void capnp_objects_source_follow_far_e069d1cb1d6451b2(u8 *a_1, u8 *a_2, u64 a_3, u8 *a_4)
+/* capnp_pointers::source::follow_far::<#e069d1cb1d6451b2> */
+NEVER void capnp_pointers_source_follow_far_e069d1cb1d6451b2(u8 *a_1, u8 *a_2, u64 a_3, u8 *a_4)
 {
     u64 r_cy;
     u8 *r_xm;
@@ -1556,39 +1557,39 @@ u8 capnp_words_error_ErrorKindDisplay_fmt_e28d62ad0fc89b16(u8 *a_1, u8 *a_2)
     switch (r_pe) {
     case 12u: goto l_arm_pt;
     case 27u: goto l_arm_79;
-    case 0u: goto l_switch_1y;
-    case 1u: goto l_switch_1y;
-    case 2u: goto l_switch_1y;
-    case 3u: goto l_switch_1y;
-    case 4u: goto l_switch_1y;
-    case 5u: goto l_switch_1y;
-    case 6u: goto l_switch_1y;
-    case 7u: goto l_switch_1y;
-    case 8u: goto l_switch_1y;
-    case 9u: goto l_switch_1y;
-    case 10u: goto l_switch_1y;
-    case 11u: goto l_switch_1y;
-    case 13u: goto l_switch_1y;
-    case 14u: goto l_switch_1y;
-    case 15u: goto l_switch_1y;
-    case 16u: goto l_switch_1y;
-    case 17u: goto l_switch_1y;
-    case 18u: goto l_switch_1y;
-    case 19u: goto l_switch_1y;
-    case 20u: goto l_switch_1y;
-    case 21u: goto l_switch_1y;
-    case 22u: goto l_switch_1y;
-    case 23u: goto l_switch_1y;
-    case 24u: goto l_switch_1y;
-    case 25u: goto l_switch_1y;
-    case 26u: goto l_switch_1y;
-    case 28u: goto l_switch_1y;
-    case 29u: goto l_switch_1y;
-    case 30u: goto l_switch_1y;
-    case 31u: goto l_switch_1y;
-    case 32u: goto l_switch_1y;
-    case 33u: goto l_switch_1y;
-    case 34u: goto l_switch_1y;
+    case 0u: goto l_switch_82;
+    case 1u: goto l_switch_82;
+    case 2u: goto l_switch_82;
+    case 3u: goto l_switch_82;
+    case 4u: goto l_switch_82;
+    case 5u: goto l_switch_82;
+    case 6u: goto l_switch_82;
+    case 7u: goto l_switch_82;
+    case 8u: goto l_switch_82;
+    case 9u: goto l_switch_82;
+    case 10u: goto l_switch_82;
+    case 11u: goto l_switch_82;
+    case 13u: goto l_switch_82;
+    case 14u: goto l_switch_82;
+    case 15u: goto l_switch_82;
+    case 16u: goto l_switch_82;
+    case 17u: goto l_switch_82;
+    case 18u: goto l_switch_82;
+    case 19u: goto l_switch_82;
+    case 20u: goto l_switch_82;
+    case 21u: goto l_switch_82;
+    case 22u: goto l_switch_82;
+    case 23u: goto l_switch_82;
+    case 24u: goto l_switch_82;
+    case 25u: goto l_switch_82;
+    case 26u: goto l_switch_82;
+    case 28u: goto l_switch_82;
+    case 29u: goto l_switch_82;
+    case 30u: goto l_switch_82;
+    case 31u: goto l_switch_82;
+    case 32u: goto l_switch_82;
+    case 33u: goto l_switch_82;
+    case 34u: goto l_switch_82;
     default: goto l_noarm_e1;
     }
 l_arm_pt:;
@@ -1693,9 +1694,9 @@ l_core_8e_1:;
     mv24(r_7u_1, slot_1);
     r_fk = r_l0_1;
     goto l_join_ri;
-l_switch_1y:;
-    switch_xq = ld64((((u8 *)switch_table_capnp_canon_inputs_report_refusal_52) + (i64)(8 * (u64)r_pe)));
-    switch_mb = ldp((((u8 *)switch_table_capnp_canon_inputs_report_refusal_51) + (i64)(8 * (u64)r_pe)));
+l_switch_82:;
+    switch_xq = ld64((((u8 *)switch_table_capnp_canon_inputs_report_refusal_51) + (i64)(8 * (u64)r_pe)));
+    switch_mb = ldp((((u8 *)switch_table_capnp_canon_inputs_report_refusal_50) + (i64)(8 * (u64)r_pe)));
     r_7u_2 = away(a_2, 136ull);
     mv24(slot_1, r_7u_2);
     st32(r_7u_2, 32u);
@@ -1820,8 +1821,8 @@ l_arm_m7:;
     goto l_common_57;
 }
 
-/* capnp_objects::pointers::sizes::add_object::<#e069d1cb1d6451b2> */
-NEVER u8 capnp_objects_pointers_sizes_add_object_e069d1cb1d6451b2(u8 *a_1, u32 a_2, u32 a_3, u8 *a_4)
+/* capnp_pointers::pointers::sizes::add_object::<#e069d1cb1d6451b2> */
+NEVER u8 capnp_pointers_pointers_sizes_add_object_e069d1cb1d6451b2(u8 *a_1, u32 a_2, u32 a_3, u8 *a_4)
 {
     A(8) u8 slot_1[64];
     A(8) u8 slot_2[56];
@@ -1899,7 +1900,7 @@ NEVER u8 capnp_objects_pointers_sizes_add_object_e069d1cb1d6451b2(u8 *a_1, u32 a
     st32((slot_4 + 24), a_2);
     st32((slot_4 + 28), 0u);
     r_xm = away(a_4, 32ull);
-    capnp_objects_source_Source_measure_object_e069d1cb1d6451b2(slot_2, slot_3, slot_4, a_3, r_xm);
+    capnp_pointers_source_Source_measure_object_e069d1cb1d6451b2(slot_2, slot_3, slot_4, a_3, r_xm);
     r_r5 = ld8((slot_2 + 8));
     if (!(ld8(slot_2) == 0u)) goto l_arm_e5;
     r_zd = (slot_2 + 16);
@@ -1908,14 +1909,14 @@ NEVER u8 capnp_objects_pointers_sizes_add_object_e069d1cb1d6451b2(u8 *a_1, u32 a
     switch (r_r5) {
     case 0u: { r_8m = 0ull; goto l_capnp_my; }
     case 1u: { r_8m = 0ull; goto l_capnp_my; }
-    case 3u: goto l_arm_6l;
+    case 3u: goto l_arm_yk;
     case 2u: goto l_arm_1x;
     case 4u: goto l_arm_nl;
     case 5u: goto l_arm_kb;
     default: goto l_noarm_e1;
     }
-l_arm_6l:;
-    r_8m = (u64)(((ld64((((u8 *)switch_table_capnp_objects_pointers_sizes_add_object_5_3d258a4b) + (i64)(8 * (u64)(r_z4 & 255u)))) * (u64)r_uq) + 63ull) >> 6ull);
+l_arm_yk:;
+    r_8m = (u64)(((ld64((((u8 *)switch_table_capnp_pointers_pointers_sizes_add_object__4567bcc5) + (i64)(8 * (u64)(r_z4 & 255u)))) * (u64)r_uq) + 63ull) >> 6ull);
     goto l_capnp_my;
 l_arm_1x:;
     r_8m = (u64)((u32)(r_z4 >> 16u) + (r_z4 & 65535u));
@@ -2028,8 +2029,8 @@ l_join_x4:;
     switch ((u8)((u8)r_qw & 3u)) {
     case 0u: goto l_arm_vb;
     case 1u: goto l_arm_ui;
-    case 2u: goto l_after_1j;
-    case 3u: goto l_after_1j;
+    case 2u: goto l_after_4y;
+    case 3u: goto l_after_4y;
     default: goto l_default_e1;
     }
 l_arm_vb:;
@@ -2080,21 +2081,21 @@ l_arm_h4:;
 l_arm_dt:;
     st64(a_4, (r_yz_1 + r_es_1));
     if (r_y6 == 0ull) goto l_loop_aa;
-    goto l_join_yb;
+    goto l_join_ys;
 l_arm_0l:;
     st32(r_08, 27u);
     st32(r_m3, 0u);
     st64(r_xz, 0xffffffffffffffffull);
     r_fk = 1u;
     goto l_return_ri;
-l_join_yb:;
-    u8 r_k9 = capnp_objects_pointers_sizes_add_pointers_e069d1cb1d6451b2(slot_1, (r_6l + r_az), r_12, r_53, a_4);
-    r_hf = r_k9;
+l_join_ys:;
+    u8 r_wq = capnp_pointers_pointers_sizes_add_pointers_e069d1cb1d6451b2(slot_1, (r_6l + r_az), r_12, r_53, a_4);
+    r_hf = r_wq;
     goto l_capnp_5o;
 l_arm_ui:;
     r_ep = (u64)(r_qw >> 32ull);
-    if (!((u8)((u8)((u8)r_ep & 7u) + 255u) < 5u)) goto l_after_1j;
-    r_c6 = (u64)(((ld64(away(away(((u8 *)switch_table_typed_conforming_conforms_check_object_5c_426a4812), 8 * (r_ep & 7ull)), 0xfffffffffffffff8ull)) * (u64)(r_qw >> 35ull)) + 63ull) >> 6ull);
+    if (!((u8)((u8)((u8)r_ep & 7u) + 255u) < 5u)) goto l_after_4y;
+    r_c6 = (u64)(((ld64(away(away(((u8 *)switch_table_typed_conforming_conforms_check_object_5c_e20a29a0), 8 * (r_ep & 7ull)), 0xfffffffffffffff8ull)) * (u64)(r_qw >> 35ull)) + 63ull) >> 6ull);
     if (r_n1) { r_dq_1 = 25u; goto l_arm_h4_1; }
     if (!t_0c) goto l_join_bd_1;
     st64(r_t9, uadd_sat64(ld64(r_t9), 1ull));
@@ -2134,9 +2135,9 @@ l_arm_h4_1:;
     st64(r_xz, 0ull);
     r_fk = 1u;
     goto l_return_ri;
-l_after_1j:;
-    u8 r_j2 = capnp_objects_pointers_sizes_add_object_e069d1cb1d6451b2(slot_1, r_sr, r_e3, a_4);
-    r_hf = r_j2;
+l_after_4y:;
+    u8 r_mc = capnp_pointers_pointers_sizes_add_object_e069d1cb1d6451b2(slot_1, r_sr, r_e3, a_4);
+    r_hf = r_mc;
     goto l_capnp_5o;
 l_default_e1:;
     UNREACHABLE();
@@ -2152,8 +2153,8 @@ l_return_ri:;
     return r_fk;
 }
 
-/* capnp_objects::source::Source::measure_object::<#e069d1cb1d6451b2> */
-static NEVER void capnp_objects_source_Source_measure_object_e069d1cb1d6451b2(u8 *a_1, u8 *a_2, u8 *a_3, u32 a_4, u8 *a_5)
+/* capnp_pointers::source::Source::measure_object::<#e069d1cb1d6451b2> */
+static NEVER void capnp_pointers_source_Source_measure_object_e069d1cb1d6451b2(u8 *a_1, u8 *a_2, u8 *a_3, u32 a_4, u8 *a_5)
 {
     A(8) u8 slot_1[56];
     u8 r_dh;
@@ -2229,7 +2230,7 @@ static NEVER void capnp_objects_source_Source_measure_object_e069d1cb1d6451b2(u8
     if (!t_0c) goto l_capnp_sm;
     u8 *r_08 = away(a_5, 16ull);
     st64(r_08, uadd_sat64(ld64(r_08), 1ull));
-    if ((r_qw_1 & 3ull) == 2ull) goto l_capnp_ai;
+    if ((r_qw_1 & 3ull) == 2ull) goto l_capnp_6l;
     goto l_join_bd;
 l_capnp_sm:;
     if (!((r_qw_1 & 3ull) == 2ull)) goto l_join_bd;
@@ -2256,8 +2257,8 @@ l_capnp_i5:;
     r_nl = r_qw;
     r_b2 = t_al;
     goto l_arm_xs;
-l_capnp_ai:;
-    capnp_objects_source_follow_far_e069d1cb1d6451b2(slot_1, r_rv, r_qw_1, a_5);
+l_capnp_6l:;
+    capnp_pointers_source_follow_far_e069d1cb1d6451b2(slot_1, r_rv, r_qw_1, a_5);
     u64 r_38 = ld64((slot_1 + 16));
     u64 r_38_1 = ld64((slot_1 + 8));
     if (ld8(slot_1) == 0u) { r_mk = ld32((slot_1 + 44)); r_qj = ld32((slot_1 + 40)); r_vj = r_38; r_at = r_38_1; r_nl = ld64((slot_1 + 32)); r_b2 = ld64((slot_1 + 24)); goto l_arm_xs; }
@@ -2304,11 +2305,11 @@ l_arm_z2:;
     case 7u: goto l_join_vn;
     case 6u: goto l_join_10;
     case 0u: goto l_arm_ps;
-    case 1u: goto l_arm_45;
-    case 2u: goto l_arm_45;
-    case 3u: goto l_arm_45;
-    case 4u: goto l_arm_45;
-    case 5u: goto l_arm_45;
+    case 1u: goto l_arm_5v;
+    case 2u: goto l_arm_5v;
+    case 3u: goto l_arm_5v;
+    case 4u: goto l_arm_5v;
+    case 5u: goto l_arm_5v;
     default: goto l_default_e1;
     }
 l_join_vn:;
@@ -2387,9 +2388,9 @@ l_arm_ps:;
     r_7j = 0u;
     r_p8 = (u32)r_ij;
     goto l_capnp_6f;
-l_arm_45:;
+l_arm_5v:;
     r_12_1 = (u32)r_ij;
-    r_c6 = (u64)(((ld64(away(away(((u8 *)switch_table_typed_conforming_conforms_check_object_5c_426a4812), 8 * (r_ep_1 & 7ull)), 0xfffffffffffffff8ull)) * r_ij) + 63ull) >> 6ull);
+    r_c6 = (u64)(((ld64(away(away(((u8 *)switch_table_typed_conforming_conforms_check_object_5c_e20a29a0), 8 * (r_ep_1 & 7ull)), 0xfffffffffffffff8ull)) * r_ij) + 63ull) >> 6ull);
     if (((u64)(r_nl >> 3ull) & 0xffffffffull) < (r_c6 + (u64)r_qj)) { r_6f = 0ull; r_3l = 0ull; r_rk = 0u; r_7q = 0u; r_yr = 0ull; r_c1 = 1ull; r_g3 = 23u; r_vx = 0u; r_7j = 0u; r_p8 = 0u; goto l_capnp_6f; }
     if (!t_0c) goto l_arm_zg;
     if (!(ld8(a_5) == 1u)) goto l_arm_zg;
@@ -2453,8 +2454,8 @@ l_capnp_6f:;
     return;
 }
 
-/* capnp_objects::pointers::sizes::add_pointers::<#e069d1cb1d6451b2> */
-static NEVER u8 capnp_objects_pointers_sizes_add_pointers_e069d1cb1d6451b2(u8 *a_1, u32 a_2, u32 a_3, u32 a_4, u8 *a_5)
+/* capnp_pointers::pointers::sizes::add_pointers::<#e069d1cb1d6451b2> */
+static NEVER u8 capnp_pointers_pointers_sizes_add_pointers_e069d1cb1d6451b2(u8 *a_1, u32 a_2, u32 a_3, u32 a_4, u8 *a_5)
 {
     u8 *r_su;
     u8 *r_xm;
@@ -2526,8 +2527,8 @@ l_join_5y:;
     switch ((u8)((u8)r_qw & 3u)) {
     case 0u: goto l_arm_vb;
     case 1u: goto l_arm_ui;
-    case 2u: goto l_after_wq;
-    case 3u: goto l_after_wq;
+    case 2u: goto l_after_4m;
+    case 3u: goto l_after_4m;
     default: goto l_default_e1;
     }
 l_arm_vb:;
@@ -2572,13 +2573,13 @@ l_arm_up:;
     if (r_yz > (r_es_1 ^ 0xffffffffffffffffull)) { sink_qh = 27u; sink_dw = 0xffffffffffffffffull; goto l_capnp_y7; }
     st64(a_5, (r_yz + r_es_1));
     if (r_y6 == 0ull) goto l_loop_da;
-    u8 r_7a = capnp_objects_pointers_sizes_add_pointers_e069d1cb1d6451b2(a_1, (r_6l + r_az), r_12, r_ra, a_5);
-    r_t4 = r_7a;
+    u8 r_7p = capnp_pointers_pointers_sizes_add_pointers_e069d1cb1d6451b2(a_1, (r_6l + r_az), r_12, r_ra, a_5);
+    r_t4 = r_7p;
     goto l_capnp_qq;
 l_arm_ui:;
     r_ep = (u64)(r_qw >> 32ull);
-    if (!((u8)((u8)((u8)r_ep & 7u) + 255u) < 5u)) goto l_after_wq;
-    r_c6 = (u64)(((ld64(away(away(((u8 *)switch_table_typed_conforming_conforms_check_object_5c_426a4812), 8 * (r_ep & 7ull)), 0xfffffffffffffff8ull)) * (u64)(r_qw >> 35ull)) + 63ull) >> 6ull);
+    if (!((u8)((u8)((u8)r_ep & 7u) + 255u) < 5u)) goto l_after_4m;
+    r_c6 = (u64)(((ld64(away(away(((u8 *)switch_table_typed_conforming_conforms_check_object_5c_e20a29a0), 8 * (r_ep & 7ull)), 0xfffffffffffffff8ull)) * (u64)(r_qw >> 35ull)) + 63ull) >> 6ull);
     if (r_30) { sink_qh = 25u; sink_dw = 0ull; goto l_capnp_y7; }
     t_0c = (ld8(a_1) == 0u);
     if (!t_0c) goto l_join_bd_1;
@@ -2608,9 +2609,9 @@ l_arm_8q:;
     if (r_yz_1 > (r_c6 ^ 0xffffffffffffffffull)) { sink_qh = 27u; sink_dw = 0xffffffffffffffffull; goto l_capnp_y7; }
     st64(a_5, (r_yz_1 + r_c6));
     goto l_loop_da;
-l_after_wq:;
-    u8 r_tk = capnp_objects_pointers_sizes_add_object_e069d1cb1d6451b2(a_1, r_7m, a_4, a_5);
-    r_t4 = r_tk;
+l_after_4m:;
+    u8 r_v0 = capnp_pointers_pointers_sizes_add_object_e069d1cb1d6451b2(a_1, r_7m, a_4, a_5);
+    r_t4 = r_v0;
     goto l_capnp_qq;
 l_default_e1:;
     UNREACHABLE();
@@ -2754,8 +2755,8 @@ l_arm_m7:;
     goto l_common_57;
 }
 
-/* capnp_making::landing::follow::<#e81703f2515d5e3b> */
-NEVER COLD void capnp_making_landing_follow_e81703f2515d5e3b(u8 *a_1, u8 *a_2, u32 a_3, u32 a_4)
+/* capnp_allocation::landing::follow::<#e81703f2515d5e3b> */
+NEVER COLD void capnp_allocation_landing_follow_e81703f2515d5e3b(u8 *a_1, u8 *a_2, u32 a_3, u32 a_4)
 {
     A(8) u8 slot_1[32];
     A(8) u8 slot_2[24];
@@ -2790,7 +2791,7 @@ l_capnp_6l:;
     r_qw = ld64(away(ldp(r_2b), (u64)(r_7l_1 << 3ull)));
     memset(slot_1, 0u, 32);
     if (!((r_qw & 3ull) == 2ull)) goto l_capnp_jd;
-    capnp_making_landing_follow_far_e81703f2515d5e3b(slot_1, a_2, r_qw);
+    capnp_allocation_landing_follow_far_e81703f2515d5e3b(slot_1, a_2, r_qw);
     r_ud = ld8(slot_1);
     goto l_capnp_ty;
 l_then_ud:;
@@ -2834,8 +2835,8 @@ l_capnp_ty:;
     return;
 }
 
-/* capnp_making::landing::follow_far::<#e81703f2515d5e3b> */
-static NEVER COLD void capnp_making_landing_follow_far_e81703f2515d5e3b(u8 *a_1, u8 *a_2, u64 a_3)
+/* capnp_allocation::landing::follow_far::<#e81703f2515d5e3b> */
+static NEVER COLD void capnp_allocation_landing_follow_far_e81703f2515d5e3b(u8 *a_1, u8 *a_2, u64 a_3)
 {
     u64 r_cy;
     u32 r_4r;
@@ -2910,8 +2911,8 @@ l_join_s8:;
     return;
 }
 
-/* capnp_making::zeroing::zero_target::<#e81703f2515d5e3b> */
-NEVER COLD void capnp_making_zeroing_zero_target_e81703f2515d5e3b(u8 *a_1, u8 *a_2)
+/* capnp_allocation::zeroing::zero_target::<#e81703f2515d5e3b> */
+NEVER COLD void capnp_allocation_zeroing_zero_target_e81703f2515d5e3b(u8 *a_1, u8 *a_2)
 {
     u64 r_tp;
     u32 r_5k;
@@ -2940,8 +2941,8 @@ NEVER COLD void capnp_making_zeroing_zero_target_e81703f2515d5e3b(u8 *a_1, u8 *a
     u32 r_az;
     u32 t_12;
     u64 r_c4;
-    u32 r_5b;
-    u32 r_dm;
+    u32 r_tq;
+    u32 r_wz;
     u64 r_ic;
     u64 r_b6;
     u64 r_se;
@@ -2975,7 +2976,7 @@ l_arm_vb:;
     r_ef = (u64)ld32(away(away(ldp(away(a_1, 16ull)), (u64)(r_24_1 << 5ull)), 24ull));
 l_capnp_5p:;
     if (r_lc_1 > r_ef) goto l_join_68;
-    capnp_making_zeroing_zero_pointers_e81703f2515d5e3b(a_1, r_5k, (u32)r_lc, r_12);
+    capnp_allocation_zeroing_zero_pointers_e81703f2515d5e3b(a_1, r_5k, (u32)r_lc, r_12);
     r_68 = ((r_4r & 65535u) + r_12);
     r_es = (u64)r_68;
     if (r_68 == 0u) goto l_join_68;
@@ -3006,7 +3007,7 @@ l_arm_a9:;
     r_ij = (u64)(r_tp >> 35ull);
     switch ((u8)((u8)(u64)(r_tp >> 32ull) & 7u)) {
     case 7u: goto l_arm_zr;
-    case 6u: goto l_arm_cf;
+    case 6u: goto l_arm_44;
     case 0u: { r_ic = 0ull; goto l_capnp_nc; }
     case 5u: goto l_arm_h9;
     case 4u: goto l_arm_h9_1;
@@ -3030,19 +3031,19 @@ l_capnp_qm:;
     r_c4 = (((u64)(r_az + t_12) * (u64)t_c8) + 1ull);
     if (!r_qc) goto l_join_68;
     if ((r_c4 + (u64)r_5k_1) > (u64)ld32(away(away(ldp(away(a_1, 16ull)), (u64)(r_24_2 << 5ull)), 24ull))) goto l_join_68;
-    if (!((r_y6_1 != 0ull) ? (t_c8 != 0u) : 0u)) goto l_capnp_50;
-    r_5b = (r_5k_1 + 1u);
-    r_dm = 0u;
-l_join_j3:;
-    u32 r_w0 = (r_5b + r_az);
-    capnp_making_zeroing_zero_pointers_e81703f2515d5e3b(a_1, r_5k, r_w0, t_12);
-    u32 r_ff = (r_dm + 1u);
-    if (!(r_ff == t_c8)) { r_5b = (r_w0 + t_12); r_dm = r_ff; goto l_join_j3; }
-l_capnp_50:;
-    capnp_making_zeroing_zero_if_inside_e81703f2515d5e3b(a_1, r_5k, r_5k_1, r_c4);
+    if (!((r_y6_1 != 0ull) ? (t_c8 != 0u) : 0u)) goto l_capnp_b6;
+    r_tq = (r_5k_1 + 1u);
+    r_wz = 0u;
+l_join_p5:;
+    u32 r_w0 = (r_tq + r_az);
+    capnp_allocation_zeroing_zero_pointers_e81703f2515d5e3b(a_1, r_5k, r_w0, t_12);
+    u32 r_ff = (r_wz + 1u);
+    if (!(r_ff == t_c8)) { r_tq = (r_w0 + t_12); r_wz = r_ff; goto l_join_p5; }
+l_capnp_b6:;
+    capnp_allocation_zeroing_zero_if_inside_e81703f2515d5e3b(a_1, r_5k, r_5k_1, r_c4);
     goto l_join_68;
-l_arm_cf:;
-    capnp_making_zeroing_zero_pointers_e81703f2515d5e3b(a_1, r_5k, r_5k_1, (u32)r_ij);
+l_arm_44:;
+    capnp_allocation_zeroing_zero_pointers_e81703f2515d5e3b(a_1, r_5k, r_5k_1, (u32)r_ij);
     goto l_join_68;
 l_arm_h9_2:;
     r_ic = 1ull;
@@ -3092,8 +3093,8 @@ l_default_e1:;
     UNREACHABLE();
 }
 
-/* capnp_making::zeroing::zero_pointers::<#e81703f2515d5e3b> */
-static void capnp_making_zeroing_zero_pointers_e81703f2515d5e3b(u8 *a_1, u32 a_2, u32 a_3, u32 a_4)
+/* capnp_allocation::zeroing::zero_pointers::<#e81703f2515d5e3b> */
+static void capnp_allocation_zeroing_zero_pointers_e81703f2515d5e3b(u8 *a_1, u32 a_2, u32 a_3, u32 a_4)
 {
     A(8) u8 slot_1[32];
     u64 r_v1;
@@ -3123,12 +3124,12 @@ l_join_at:;
     r_2b = away(ldp(away(ldp(r_08), r_vp)), (u64)((u64)r_7m << 3ull));
     r_qw = ld64(r_2b);
     if (r_qw == 0ull) goto l_capnp_o8;
-    capnp_making_landing_follow_e81703f2515d5e3b(slot_1, a_1, a_2, r_7m);
+    capnp_allocation_landing_follow_e81703f2515d5e3b(slot_1, a_1, a_2, r_7m);
     st64(r_2b, 0ull);
     if (!(ld8(slot_1) == 1u)) goto l_capnp_o8;
-    capnp_making_zeroing_zero_target_e81703f2515d5e3b(a_1, r_x5);
+    capnp_allocation_zeroing_zero_target_e81703f2515d5e3b(a_1, r_x5);
     if (!((r_qw & 3ull) == 2ull)) goto l_capnp_o8;
-    capnp_making_zeroing_zero_far_pads_e81703f2515d5e3b(a_1, r_qw);
+    capnp_allocation_zeroing_zero_far_pads_e81703f2515d5e3b(a_1, r_qw);
 l_capnp_o8:;
     u64 indvars_r7 = (indvars_ll + 1ull);
     if (!(indvars_r7 == r_v1)) { indvars_ll = indvars_r7; goto l_join_at; }
@@ -3136,8 +3137,8 @@ l_join_68:;
     return;
 }
 
-/* capnp_making::zeroing::zero_if_inside::<#e81703f2515d5e3b> */
-static void capnp_making_zeroing_zero_if_inside_e81703f2515d5e3b(u8 *a_1, u32 a_2, u32 a_3, u64 a_4)
+/* capnp_allocation::zeroing::zero_if_inside::<#e81703f2515d5e3b> */
+static void capnp_allocation_zeroing_zero_if_inside_e81703f2515d5e3b(u8 *a_1, u32 a_2, u32 a_3, u64 a_4)
 {
     u64 r_7l;
     u64 r_7l_1;
@@ -3177,8 +3178,8 @@ l_join_68:;
     return;
 }
 
-/* capnp_making::zeroing::zero_far_pads::<#e81703f2515d5e3b> */
-NEVER COLD void capnp_making_zeroing_zero_far_pads_e81703f2515d5e3b(u8 *a_1, u64 a_2)
+/* capnp_allocation::zeroing::zero_far_pads::<#e81703f2515d5e3b> */
+NEVER COLD void capnp_allocation_zeroing_zero_far_pads_e81703f2515d5e3b(u8 *a_1, u64 a_2)
 {
     u8 r_hr;
     u64 t_3h;
@@ -3401,14 +3402,14 @@ NEVER void capnp_copies_copy_copy_object_c1b701a44f41e856(u8 *a_1, u8 *a_2, u32 
     u32 r_12_3;
     u8 *r_3q_3;
     u32 r_yf_6;
-    u32 r_iy;
-    u32 r_jm;
+    u32 r_fp;
+    u32 r_p4;
     u64 r_4i_1;
     u64 r_y6_2;
     u64 r_q7_1;
     u64 r_lc_6;
     u64 r_lc_7;
-    u64 r_jm_1;
+    u64 r_jm;
     u32 r_4r;
     u8 r_8u;
     u64 r_52_7;
@@ -3480,7 +3481,7 @@ NEVER void capnp_copies_copy_copy_object_c1b701a44f41e856(u8 *a_1, u8 *a_2, u32 
     u8 *r_x5_7;
     u8 *r_k0_4;
     u8 *r_zd_7;
-    u32 r_s1_1;
+    u32 r_mx;
     u8 *r_x5_8;
     u8 *r_k0_5;
     u8 *r_zd_8;
@@ -3528,8 +3529,8 @@ NEVER void capnp_copies_copy_copy_object_c1b701a44f41e856(u8 *a_1, u8 *a_2, u32 
     u32 r_12_4;
     u8 *r_3q_6;
     u32 r_yf_12;
-    u32 r_iy_1;
-    u32 r_jm_2;
+    u32 r_fp_1;
+    u32 r_p4_1;
     u64 r_1q_3;
     u8 *r_2b_11;
     u64 r_il_3;
@@ -3538,7 +3539,7 @@ NEVER void capnp_copies_copy_copy_object_c1b701a44f41e856(u8 *a_1, u8 *a_2, u32 
     u64 r_q7_2;
     u64 r_lc_10;
     u64 r_lc_11;
-    u64 r_jm_3;
+    u64 r_jm_1;
     u32 r_4r_1;
     u8 r_8u_1;
     u64 r_52_9;
@@ -3606,7 +3607,7 @@ NEVER void capnp_copies_copy_copy_object_c1b701a44f41e856(u8 *a_1, u8 *a_2, u32 
     if (t_pa) goto l_capnp_sm;
     u8 *r_08 = away(a_6, 16ull);
     st64(r_08, uadd_sat64(ld64(r_08), 1ull));
-    if ((r_qw_3 & 3ull) == 2ull) goto l_capnp_ai;
+    if ((r_qw_3 & 3ull) == 2ull) goto l_capnp_6l;
     goto l_join_bd;
 l_capnp_sm:;
     if (!((r_qw_3 & 3ull) == 2ull)) goto l_join_bd;
@@ -3632,8 +3633,8 @@ l_capnp_i5:;
     r_9h = r_qw_2;
     r_27 = t_al;
     goto l_arm_wn;
-l_capnp_ai:;
-    capnp_objects_source_follow_far_e069d1cb1d6451b2(slot_1, r_rv, r_qw_3, a_6);
+l_capnp_6l:;
+    capnp_pointers_source_follow_far_e069d1cb1d6451b2(slot_1, r_rv, r_qw_3, a_6);
     u64 r_38 = ld64((slot_1 + 16));
     u64 r_38_1 = ld64((slot_1 + 8));
     if (ld8(slot_1) == 0u) { r_gx = ld32((slot_1 + 40)); r_qd = r_38; r_d4 = r_38_1; r_9h = ld64((slot_1 + 32)); r_27 = ld64((slot_1 + 24)); goto l_arm_wn; }
@@ -4190,7 +4191,7 @@ l_join_1e:;
     r_ep_2 = (u64)(r_qw_5 >> 32ull);
     if (!((switch_f9 == 1ull) ? ((u8)((u8)((u8)r_ep_2 & 7u) + 255u) < 5u) : 0u)) goto l_join_br;
     r_ij_1 = (u64)(r_qw_5 >> 35ull);
-    r_c6_5 = (u64)(((ld64(away(away(((u8 *)switch_table_typed_conforming_conforms_check_object_5c_426a4812), 8 * (r_ep_2 & 7ull)), 0xfffffffffffffff8ull)) * r_ij_1) + 63ull) >> 6ull);
+    r_c6_5 = (u64)(((ld64(away(away(((u8 *)switch_table_typed_conforming_conforms_check_object_5c_e20a29a0), 8 * (r_ep_2 & 7ull)), 0xfffffffffffffff8ull)) * r_ij_1) + 63ull) >> 6ull);
     if (!t_0c) goto l_join_bd_1;
     st64(r_08_4, uadd_sat64(ld64(r_08_4), 1ull));
 l_join_bd_1:;
@@ -4216,7 +4217,7 @@ l_arm_vo:;
 l_arm_p5:;
     r_z6_5 = (u64)(r_c6_5 << 3ull);
     r_8a = away(t_f6_2, (u64)(r_gk << 3ull));
-    u64 r_se_1 = (u64)(((ld64(away(away(((u8 *)switch_table_typed_conforming_conforms_check_object_5c_426a4812), 8 * (r_ep_2 & 7ull)), 0xfffffffffffffff8ull)) * r_ij_1) + 63ull) >> 6ull);
+    u64 r_se_1 = (u64)(((ld64(away(away(((u8 *)switch_table_typed_conforming_conforms_check_object_5c_e20a29a0), 8 * (r_ep_2 & 7ull)), 0xfffffffffffffff8ull)) * r_ij_1) + 63ull) >> 6ull);
     r_12_3 = (u32)r_se_1;
     u8 *r_2b_5 = away(ldp(r_08_1), r_vp_3);
     r_3q_3 = away(r_2b_5, 24ull);
@@ -4224,9 +4225,9 @@ l_arm_p5:;
     if ((r_se_1 + (u64)r_yf_6) > (u64)(ld64(away(r_2b_5, 8ull)) >> 3ull)) goto l_arm_hj_3;
     st32(r_3q_3, (r_yf_6 + r_12_3));
     st64(away(ldp(away(ldp(r_08_1), r_vp_3)), (u64)((u64)r_sr << 3ull)), ((r_qw_5 & 0xffffffff00000001ull) | (u64)(u32)((r_yf_6 + (r_sr ^ 0xffffffffu)) << 2u)));
-    r_iy = r_yf_6;
-    r_jm = r_0i;
-    goto l_arm_4p;
+    r_fp = r_yf_6;
+    r_p4 = r_0i;
+    goto l_arm_4x;
 l_arm_hj_3:;
     capnp_arena_arena_builder_arena_impl_BuilderArenaImplB_d542f924(slot_1, a_2, (r_12_3 + 1u));
     if (!(ld8(slot_1) == 0u)) goto l_arm_vh;
@@ -4236,15 +4237,15 @@ l_arm_hj_3:;
     u64 r_z6_6 = (u64)((u64)r_e3_3 << 3ull);
     st64(away(ldp(away(ldp(r_08_1), (u64)(r_24_8 << 5ull))), r_z6_6), (r_qw_5 & 0xffffffff00000001ull));
     st64(away(ldp(away(ldp(r_08_1), r_vp_3)), (u64)((u64)r_sr << 3ull)), (((u64)(r_24_8 << 32ull) | r_z6_6) | 2ull));
-    r_iy = (r_e3_3 + 1u);
-    r_jm = r_yf_7;
-l_arm_4p:;
-    u64 r_1q_1 = (ld64(away(away(((u8 *)switch_table_typed_conforming_conforms_check_object_5c_426a4812), 8 * (r_ep_2 & 7ull)), 0xfffffffffffffff8ull)) * r_ij_1);
-    capnp_arena_traits_arena_writing_copy_words_e81703f2515d5e3b(a_2, r_jm, r_iy, r_8a, r_z6_5);
+    r_fp = (r_e3_3 + 1u);
+    r_p4 = r_yf_7;
+l_arm_4x:;
+    u64 r_1q_1 = (ld64(away(away(((u8 *)switch_table_typed_conforming_conforms_check_object_5c_e20a29a0), 8 * (r_ep_2 & 7ull)), 0xfffffffffffffff8ull)) * r_ij_1);
+    capnp_arena_traits_arena_writing_copy_words_e81703f2515d5e3b(a_2, r_p4, r_fp, r_8a, r_z6_5);
     r_4i_1 = (r_1q_1 & 63ull);
     if (r_4i_1 == 0ull) goto l_capnp_v7;
     u64 r_0f_4 = (r_c6_5 + 0xffffffffffffffffull);
-    st64(away(ldp(away(ldp(r_08_1), (u64)((u64)r_jm << 5ull))), (u64)((u64)(r_iy + (u32)r_0f_4) << 3ull)), (ld64(away(r_8a, (u64)(r_0f_4 << 3ull))) & ((u64)(0xffffffffffffffffull << (r_4i_1 & 63u)) ^ 0xffffffffffffffffull)));
+    st64(away(ldp(away(ldp(r_08_1), (u64)((u64)r_p4 << 5ull))), (u64)((u64)(r_fp + (u32)r_0f_4) << 3ull)), (ld64(away(r_8a, (u64)(r_0f_4 << 3ull))) & ((u64)(0xffffffffffffffffull << (r_4i_1 & 63u)) ^ 0xffffffffffffffffull)));
     goto l_capnp_v7;
 l_arm_vh:;
     r_t8_2 = ld8(r_x5_5);
@@ -4263,16 +4264,16 @@ l_join_o1:;
     r_lc_7 = ((r_24_7 + 1ull) + r_m6_2);
     if (!(r_m6_2 < 0x20000000ull)) goto l_else_70_2;
     if (r_lc_7 > r_nb_1) { r_t8_3 = 23u; goto l_capnp_mp_2; }
-    r_jm_1 = r_lc_7;
+    r_jm = r_lc_7;
     goto l_arm_h8;
 l_else_70_2:;
     u64 r_3o_2 = (r_lc_7 + 0xffffffffc0000000ull);
     if ((r_lc_7 < 0x40000000ull) ? 1u : (r_3o_2 > r_nb_1)) { r_t8_3 = 23u; goto l_capnp_mp_2; }
-    r_jm_1 = r_3o_2;
+    r_jm = r_3o_2;
 l_arm_h8:;
-    r_4r = (u32)r_jm_1;
+    r_4r = (u32)r_jm;
     if (r_sg) { r_t8_3 = 26u; goto l_capnp_mp_2; }
-    r_8u = (r_nb_1 < (r_jm_1 + r_lc_6));
+    r_8u = (r_nb_1 < (r_jm + r_lc_6));
     if ((u8)((u8)t_pa | (u8)r_8u)) goto l_capnp_li;
     if (!(ld8(a_6) == 1u)) { r_5b = r_4r; goto l_arm_7a; }
     r_52_7 = ld64(r_rq_6);
@@ -4470,7 +4471,7 @@ l_arm_dc:;
     r_x5_7 = (slot_3 + 8);
     r_k0_4 = (slot_3 + 12);
     r_zd_7 = (slot_3 + 16);
-    r_s1_1 = (r_5k + 0xfffffffeu);
+    r_mx = ((r_4w_1 == 0x80000000u) ? 0x80000000u : (r_5k + 0xfffffffeu));
     r_x5_8 = (slot_1 + 8);
     r_k0_5 = (slot_1 + 12);
     r_zd_8 = (slot_1 + 16);
@@ -4551,7 +4552,7 @@ l_join_iw:;
     r_ep_3 = (u64)(r_qw_6 >> 32ull);
     if (!((switch_f9_1 == 1ull) ? ((u8)((u8)((u8)r_ep_3 & 7u) + 255u) < 5u) : 0u)) goto l_join_br_1;
     r_ij_2 = (u64)(r_qw_6 >> 35ull);
-    r_1q_2 = (ld64(away(away(((u8 *)switch_table_typed_conforming_conforms_check_object_5c_426a4812), 8 * (r_ep_3 & 7ull)), 0xfffffffffffffff8ull)) * r_ij_2);
+    r_1q_2 = (ld64(away(away(((u8 *)switch_table_typed_conforming_conforms_check_object_5c_e20a29a0), 8 * (r_ep_3 & 7ull)), 0xfffffffffffffff8ull)) * r_ij_2);
     r_c6_6 = (u64)((r_1q_2 + 63ull) >> 6ull);
     if (!t_0c_1) goto l_join_bd_2;
     st64(r_08_6, uadd_sat64(ld64(r_08_6), 1ull));
@@ -4578,7 +4579,7 @@ l_arm_vo_1:;
 l_arm_p5_1:;
     r_z6_10 = (u64)(r_c6_6 << 3ull);
     r_8a_1 = away(t_f6_1, (u64)(r_gk_1 << 3ull));
-    u64 r_se_2 = (u64)(((ld64(away(away(((u8 *)switch_table_typed_conforming_conforms_check_object_5c_426a4812), 8 * (r_ep_3 & 7ull)), 0xfffffffffffffff8ull)) * r_ij_2) + 63ull) >> 6ull);
+    u64 r_se_2 = (u64)(((ld64(away(away(((u8 *)switch_table_typed_conforming_conforms_check_object_5c_e20a29a0), 8 * (r_ep_3 & 7ull)), 0xfffffffffffffff8ull)) * r_ij_2) + 63ull) >> 6ull);
     r_12_4 = (u32)r_se_2;
     u8 *r_2b_10 = away(ldp(r_08_5), r_vp_6);
     r_3q_6 = away(r_2b_10, 24ull);
@@ -4586,9 +4587,9 @@ l_arm_p5_1:;
     if ((r_se_2 + (u64)r_yf_12) > (u64)(ld64(away(r_2b_10, 8ull)) >> 3ull)) goto l_arm_hj_5;
     st32(r_3q_6, (r_yf_12 + r_12_4));
     st64(away(ldp(away(ldp(r_08_5), r_vp_6)), (u64)((u64)r_sr_1 << 3ull)), ((r_qw_6 & 0xffffffff00000001ull) | (u64)(u32)((r_yf_12 + (r_sr_1 ^ 0xffffffffu)) << 2u)));
-    r_iy_1 = r_yf_12;
-    r_jm_2 = r_21_1;
-    goto l_arm_4p_1;
+    r_fp_1 = r_yf_12;
+    r_p4_1 = r_21_1;
+    goto l_arm_4x_1;
 l_arm_hj_5:;
     capnp_arena_arena_builder_arena_impl_BuilderArenaImplB_d542f924(slot_1, a_2, (r_12_4 + 1u));
     if (!(ld8(slot_1) == 0u)) goto l_arm_vh_2;
@@ -4598,12 +4599,12 @@ l_arm_hj_5:;
     u64 r_z6_11 = (u64)((u64)r_e3_6 << 3ull);
     st64(away(ldp(away(ldp(r_08_5), (u64)(r_24_15 << 5ull))), r_z6_11), (r_qw_6 & 0xffffffff00000001ull));
     st64(away(ldp(away(ldp(r_08_5), r_vp_6)), (u64)((u64)r_sr_1 << 3ull)), (((u64)(r_24_15 << 32ull) | r_z6_11) | 2ull));
-    r_iy_1 = (r_e3_6 + 1u);
-    r_jm_2 = r_yf_13;
-l_arm_4p_1:;
-    r_1q_3 = (ld64(away(away(((u8 *)switch_table_typed_conforming_conforms_check_object_5c_426a4812), 8 * (r_ep_3 & 7ull)), 0xfffffffffffffff8ull)) * r_ij_2);
+    r_fp_1 = (r_e3_6 + 1u);
+    r_p4_1 = r_yf_13;
+l_arm_4x_1:;
+    r_1q_3 = (ld64(away(away(((u8 *)switch_table_typed_conforming_conforms_check_object_5c_e20a29a0), 8 * (r_ep_3 & 7ull)), 0xfffffffffffffff8ull)) * r_ij_2);
     if (r_c6_6 == 0ull) goto l_capnp_pq;
-    r_2b_11 = away(ldp(away(ldp(r_08_5), (u64)((u64)r_jm_2 << 5ull))), (u64)((u64)r_iy_1 << 3ull));
+    r_2b_11 = away(ldp(away(ldp(r_08_5), (u64)((u64)r_p4_1 << 5ull))), (u64)((u64)r_fp_1 << 3ull));
     if (!(r_1q_2 < 449ull)) goto l_else_r3_3;
     if (!(r_1q_2 > 192ull)) goto l_else_9l;
     mv32(r_2b_11, r_8a_1);
@@ -4633,7 +4634,7 @@ l_capnp_pq:;
     r_4i_2 = (r_1q_3 & 63ull);
     if (r_4i_2 == 0ull) goto l_capnp_v7_1;
     u64 r_0f_5 = (r_c6_6 + 0xffffffffffffffffull);
-    st64(away(ldp(away(ldp(r_08_5), (u64)((u64)r_jm_2 << 5ull))), (u64)((u64)(r_iy_1 + (u32)r_0f_5) << 3ull)), (ld64(away(r_8a_1, (u64)(r_0f_5 << 3ull))) & ((u64)(0xffffffffffffffffull << (r_4i_2 & 63u)) ^ 0xffffffffffffffffull)));
+    st64(away(ldp(away(ldp(r_08_5), (u64)((u64)r_p4_1 << 5ull))), (u64)((u64)(r_fp_1 + (u32)r_0f_5) << 3ull)), (ld64(away(r_8a_1, (u64)(r_0f_5 << 3ull))) & ((u64)(0xffffffffffffffffull << (r_4i_2 & 63u)) ^ 0xffffffffffffffffull)));
     goto l_capnp_v7_1;
 l_arm_vh_2:;
     r_t8_4 = ld8(r_x5_11);
@@ -4652,16 +4653,16 @@ l_join_o1_1:;
     r_lc_11 = ((r_24_14 + 1ull) + r_m6_4);
     if (!(r_m6_4 < 0x20000000ull)) goto l_else_70_4;
     if (r_lc_11 > r_nb_2) { r_t8_5 = 23u; goto l_capnp_mp_4; }
-    r_jm_3 = r_lc_11;
+    r_jm_1 = r_lc_11;
     goto l_arm_h8_1;
 l_else_70_4:;
     u64 r_3o_4 = (r_lc_11 + 0xffffffffc0000000ull);
     if ((r_lc_11 < 0x40000000ull) ? 1u : (r_3o_4 > r_nb_2)) { r_t8_5 = 23u; goto l_capnp_mp_4; }
-    r_jm_3 = r_3o_4;
+    r_jm_1 = r_3o_4;
 l_arm_h8_1:;
-    r_4r_1 = (u32)r_jm_3;
+    r_4r_1 = (u32)r_jm_1;
     if (r_sg_1) { r_t8_5 = 26u; goto l_capnp_mp_4; }
-    r_8u_1 = (r_nb_2 < (r_jm_3 + r_lc_10));
+    r_8u_1 = (r_nb_2 < (r_jm_1 + r_lc_10));
     if ((u8)((u8)t_pa | (u8)r_8u_1)) goto l_capnp_li_1;
     if (!(ld8(a_6) == 1u)) { r_5b_1 = r_4r_1; goto l_arm_7a_1; }
     r_52_9 = ld64(r_rq_7);
@@ -4795,7 +4796,7 @@ l_capnp_5c:;
     st64(r_a8_3, r_9h);
     st32(r_c4_6, (r_5b_1 + ((u32)r_ep_3 & 65535u)));
     st32(r_bk_1, 0u);
-    st32(r_6c_3, r_s1_1);
+    st32(r_6c_3, r_mx);
     capnp_copies_copy_children_copy_children_out_of_line_c_661015d8(slot_1, a_2, r_t8_6, (r_29_1 + r_qt_1), slot_2, r_az_4, a_6, a_7);
     r_2b_14 = ld8(slot_1);
     r_qh_1 = ld8(r_x5_10);
@@ -5174,7 +5175,7 @@ static NEVER void capnp_copies_copy_children_copy_children_out_of_line_c_661015d
     u8 *r_x5_1;
     u8 *r_k0;
     u8 *r_zd_1;
-    u32 r_53;
+    u32 r_mx;
     u8 t_q5;
     u8 *r_08_1;
     u64 r_7l;
@@ -5218,8 +5219,8 @@ static NEVER void capnp_copies_copy_children_copy_children_out_of_line_c_661015d
     u32 r_12;
     u8 *r_3q;
     u32 r_yf;
-    u32 r_iy;
-    u32 r_jm;
+    u32 r_fp;
+    u32 r_p4;
     u64 r_1q_1;
     u8 *r_2b_1;
     u64 r_il;
@@ -5304,7 +5305,7 @@ static NEVER void capnp_copies_copy_children_copy_children_out_of_line_c_661015d
     r_x5_1 = (slot_3 + 8);
     r_k0 = (slot_3 + 12);
     r_zd_1 = (slot_3 + 16);
-    r_53 = (r_5k_1 + 0xffffffffu);
+    r_mx = ((r_5k_1 == 0x80000000u) ? 0x80000000u : (r_5k_1 + 0xffffffffu));
     t_q5 = (a_8 == 1u);
     r_08_1 = away(a_2, 16ull);
     r_7l = (u64)a_3;
@@ -5350,7 +5351,7 @@ l_join_22:;
     r_ep = (u64)(r_qw_3 >> 32ull);
     if (!((switch_f9 == 1ull) ? ((u8)((u8)((u8)r_ep & 7u) + 255u) < 5u) : 0u)) goto l_join_br;
     r_ij = (u64)(r_qw_3 >> 35ull);
-    r_1q = (ld64(away(away(((u8 *)switch_table_typed_conforming_conforms_check_object_5c_426a4812), 8 * (r_ep & 7ull)), 0xfffffffffffffff8ull)) * r_ij);
+    r_1q = (ld64(away(away(((u8 *)switch_table_typed_conforming_conforms_check_object_5c_e20a29a0), 8 * (r_ep & 7ull)), 0xfffffffffffffff8ull)) * r_ij);
     r_c6 = (u64)((r_1q + 63ull) >> 6ull);
     if (!t_0c) goto l_join_bd;
     st64(r_08, uadd_sat64(ld64(r_08), 1ull));
@@ -5377,7 +5378,7 @@ l_arm_i0_1:;
 l_arm_5g:;
     r_z6 = (u64)(r_c6 << 3ull);
     r_dx = away(r_rv_1, (u64)(r_la << 3ull));
-    u64 r_se = (u64)(((ld64(away(away(((u8 *)switch_table_typed_conforming_conforms_check_object_5c_426a4812), 8 * (r_ep & 7ull)), 0xfffffffffffffff8ull)) * r_ij) + 63ull) >> 6ull);
+    u64 r_se = (u64)(((ld64(away(away(((u8 *)switch_table_typed_conforming_conforms_check_object_5c_e20a29a0), 8 * (r_ep & 7ull)), 0xfffffffffffffff8ull)) * r_ij) + 63ull) >> 6ull);
     r_12 = (u32)r_se;
     u8 *r_2b = away(ldp(r_08_1), r_vp);
     r_3q = away(r_2b, 24ull);
@@ -5385,9 +5386,9 @@ l_arm_5g:;
     if ((r_se + (u64)r_yf) > (u64)(ld64(away(r_2b, 8ull)) >> 3ull)) goto l_arm_hj;
     st32(r_3q, (r_yf + r_12));
     st64(away(ldp(away(ldp(r_08_1), r_vp)), (u64)((u64)r_7m << 3ull)), ((r_qw_3 & 0xffffffff00000001ull) | (u64)(u32)((r_yf + (r_7m ^ 0xffffffffu)) << 2u)));
-    r_iy = r_yf;
-    r_jm = a_3;
-    goto l_arm_4p;
+    r_fp = r_yf;
+    r_p4 = a_3;
+    goto l_arm_4x;
 l_arm_hj:;
     capnp_arena_arena_builder_arena_impl_BuilderArenaImplB_d542f924(slot_1, a_2, (r_12 + 1u));
     if (!(ld8(slot_1) == 0u)) goto l_arm_vh;
@@ -5397,12 +5398,12 @@ l_arm_hj:;
     u64 r_z6_1 = (u64)((u64)r_e3 << 3ull);
     st64(away(ldp(away(ldp(r_08_1), (u64)(r_24_1 << 5ull))), r_z6_1), (r_qw_3 & 0xffffffff00000001ull));
     st64(away(ldp(away(ldp(r_08_1), r_vp)), (u64)((u64)r_7m << 3ull)), (((u64)(r_24_1 << 32ull) | r_z6_1) | 2ull));
-    r_iy = (r_e3 + 1u);
-    r_jm = r_yf_1;
-l_arm_4p:;
-    r_1q_1 = (ld64(away(away(((u8 *)switch_table_typed_conforming_conforms_check_object_5c_426a4812), 8 * (r_ep & 7ull)), 0xfffffffffffffff8ull)) * r_ij);
+    r_fp = (r_e3 + 1u);
+    r_p4 = r_yf_1;
+l_arm_4x:;
+    r_1q_1 = (ld64(away(away(((u8 *)switch_table_typed_conforming_conforms_check_object_5c_e20a29a0), 8 * (r_ep & 7ull)), 0xfffffffffffffff8ull)) * r_ij);
     if (r_c6 == 0ull) goto l_capnp_pq;
-    r_2b_1 = away(ldp(away(ldp(r_08_1), (u64)((u64)r_jm << 5ull))), (u64)((u64)r_iy << 3ull));
+    r_2b_1 = away(ldp(away(ldp(r_08_1), (u64)((u64)r_p4 << 5ull))), (u64)((u64)r_fp << 3ull));
     if (!(r_1q < 449ull)) goto l_else_r3;
     if (!(r_1q > 192ull)) goto l_else_9l;
     mv32(r_2b_1, r_dx);
@@ -5432,7 +5433,7 @@ l_capnp_pq:;
     r_4i = (r_1q_1 & 63ull);
     if (r_4i == 0ull) goto l_capnp_v7;
     u64 r_0f = (r_c6 + 0xffffffffffffffffull);
-    st64(away(ldp(away(ldp(r_08_1), (u64)((u64)r_jm << 5ull))), (u64)((u64)(r_iy + (u32)r_0f) << 3ull)), (ld64(away(r_dx, (u64)(r_0f << 3ull))) & ((u64)(0xffffffffffffffffull << (r_4i & 63u)) ^ 0xffffffffffffffffull)));
+    st64(away(ldp(away(ldp(r_08_1), (u64)((u64)r_p4 << 5ull))), (u64)((u64)(r_fp + (u32)r_0f) << 3ull)), (ld64(away(r_dx, (u64)(r_0f << 3ull))) & ((u64)(0xffffffffffffffffull << (r_4i & 63u)) ^ 0xffffffffffffffffull)));
     goto l_capnp_v7;
 l_arm_vh:;
     r_7k = ld64(r_zd_5);
@@ -5594,7 +5595,7 @@ l_capnp_5c:;
     st64(r_a8_1, r_qw_2);
     st32(r_c4_1, (r_5b + ((u32)r_ep & 65535u)));
     st32(r_bk, 0u);
-    st32(r_6c_1, r_53);
+    st32(r_6c_1, r_mx);
     capnp_copies_copy_children_copy_children_out_of_line_c_661015d8(slot_1, a_2, r_t8, (r_29 + r_qt), slot_2, r_az, a_7, a_8);
     r_2b_7 = ld8(slot_1);
     r_qh = ld8(r_x5_4);
@@ -7747,14 +7748,14 @@ l_join_4w:;
     r_ff = (r_az + 1u);
     r_68 = (r_ff + r_12);
     r_ts = (r_y6 == 0ull);
-    if (!r_ts) goto l_join_ns;
+    if (!r_ts) goto l_join_kz;
     struct s_i8_i32 t_ph = (struct s_i8_i32){ 0u, 0u };
     t_ph.f1 = r_68;
     r_d4 = t_ph;
     goto l_capnp_o7;
-l_join_ns:;
-    struct s_i8_i32 r_8c = capnp_objects_pointers_canonical_test_children_5ccc1be374b2e488(slot_2, r_ff, r_12, (r_ny + 0xffffffffu), r_68, slot_1);
-    r_d4 = r_8c;
+l_join_kz:;
+    struct s_i8_i32 r_w7 = capnp_pointers_pointers_canonical_test_children_5ccc1b_aa7a1372(slot_2, r_ff, r_12, (r_ny + 0xffffffffu), r_68, slot_1);
+    r_d4 = r_w7;
 l_capnp_o7:;
     r_xo = r_d4.f1;
     if (!(r_d4.f0 == 0u)) { r_tu = 0u; r_di = 1u; goto l_capnp_cm; }
@@ -7790,9 +7791,9 @@ l_capnp_cm:;
     r_ef = r_i6;
     goto l_capnp_vv;
 l_arm_st:;
-    if (!((u8)((u8)((u8)r_ep & 7u) + 255u) < 5u)) goto l_join_9i;
+    if (!((u8)((u8)((u8)r_ep & 7u) + 255u) < 5u)) goto l_join_9k;
     r_ij = (u64)(r_qw_1 >> 35ull);
-    r_c6 = (u64)(((ld64(away(away(((u8 *)switch_table_typed_conforming_conforms_check_object_5c_426a4812), 8 * (r_ep & 7ull)), 0xfffffffffffffff8ull)) * r_ij) + 63ull) >> 6ull);
+    r_c6 = (u64)(((ld64(away(away(((u8 *)switch_table_typed_conforming_conforms_check_object_5c_e20a29a0), 8 * (r_ep & 7ull)), 0xfffffffffffffff8ull)) * r_ij) + 63ull) >> 6ull);
     if (!t_d6) goto l_join_z3;
     st64(r_zd, uadd_sat64(r_qw, 1ull));
 l_join_z3:;
@@ -7814,7 +7815,7 @@ l_arm_td_1:;
     st64(slot_1, 1ull);
     st64(r_x5, (r_2c - r_c6));
 l_arm_4n:;
-    if (r_i9_1 == 1ull) goto l_join_4p_1;
+    if (r_i9_1 == 1ull) goto l_join_4x;
     goto l_then_1w;
 l_arm_ka:;
     st64(r_lk, 1ull);
@@ -7831,8 +7832,8 @@ l_then_1w:;
     r_tu_1 = 0u;
     r_di_1 = 1u;
     goto l_capnp_cm_1;
-l_join_4p_1:;
-    u64 r_1q = (ld64(away(away(((u8 *)switch_table_typed_conforming_conforms_check_object_5c_426a4812), 8 * (r_ep & 7ull)), 0xfffffffffffffff8ull)) * r_ij);
+l_join_4x:;
+    u64 r_1q = (ld64(away(away(((u8 *)switch_table_typed_conforming_conforms_check_object_5c_e20a29a0), 8 * (r_ep & 7ull)), 0xfffffffffffffff8ull)) * r_ij);
     r_12_1 = (u32)(u64)(r_1q >> 6ull);
     r_ff_1 = (r_12_1 + 1u);
     r_4i = (r_1q & 63ull);
@@ -7851,9 +7852,9 @@ l_capnp_cm_1:;
     r_i6_1.f1 = r_tu_1;
     r_ef = r_i6_1;
     goto l_capnp_vv;
-l_join_9i:;
-    struct s_i8_i32 r_r5 = capnp_objects_pointers_canonical_test_list_5ccc1be374b2e488(slot_2, 0u, r_qw_1, r_ny, 1u, slot_1);
-    r_ef = r_r5;
+l_join_9k:;
+    struct s_i8_i32 r_at = capnp_pointers_pointers_canonical_test_list_5ccc1be374b2e488(slot_2, 0u, r_qw_1, r_ny, 1u, slot_1);
+    r_ef = r_at;
 l_capnp_vv:;
     r_5h = r_ef.f0;
     r_38 = ld64(r_x5);
@@ -7926,8 +7927,8 @@ l_join_bm:;
     goto l_common_68;
 }
 
-/* capnp_objects::source::follow_far::<#5ccc1be374b2e488> */
-NEVER void capnp_objects_source_follow_far_5ccc1be374b2e488(u8 *a_1, u8 *a_2, u64 a_3, u8 *a_4)
+/* capnp_pointers::source::follow_far::<#5ccc1be374b2e488> */
+NEVER void capnp_pointers_source_follow_far_5ccc1be374b2e488(u8 *a_1, u8 *a_2, u64 a_3, u8 *a_4)
 {
     u64 r_cy;
     u8 *r_fx;
@@ -8084,8 +8085,8 @@ l_join_s8:;
     goto l_common_68;
 }
 
-/* capnp_objects::pointers::canonical::test_children::<#5ccc1be374b2e488> */
-static struct s_i8_i32 capnp_objects_pointers_canonical_test_children_5ccc1be374b2e488(u8 *a_1, u32 a_2, u32 a_3, u32 a_4, u32 a_5, u8 *a_6)
+/* capnp_pointers::pointers::canonical::test_children::<#5ccc1be374b2e488> */
+static struct s_i8_i32 capnp_pointers_pointers_canonical_test_children_5ccc1b_aa7a1372(u8 *a_1, u32 a_2, u32 a_3, u32 a_4, u32 a_5, u8 *a_6)
 {
     u8 *r_xz;
     u8 *r_xm;
@@ -8260,14 +8261,14 @@ l_join_p3:;
     r_w0 = (r_l6 + r_az);
     r_w0_1 = (r_w0 + r_12);
     r_ts = (r_y6 == 0ull);
-    if (!r_ts) goto l_join_41;
+    if (!r_ts) goto l_join_li;
     struct s_i8_i32 t_ph = (struct s_i8_i32){ 0u, 0u };
     t_ph.f1 = r_w0_1;
     r_d4 = t_ph;
     goto l_capnp_o7;
-l_join_41:;
-    struct s_i8_i32 r_oa = capnp_objects_pointers_canonical_test_children_5ccc1be374b2e488(a_1, r_w0, r_12, r_y0, r_w0_1, a_6);
-    r_d4 = r_oa;
+l_join_li:;
+    struct s_i8_i32 r_8b = capnp_pointers_pointers_canonical_test_children_5ccc1b_aa7a1372(a_1, r_w0, r_12, r_y0, r_w0_1, a_6);
+    r_d4 = r_8b;
 l_capnp_o7:;
     r_xo = r_d4.f1;
     if (!(r_d4.f0 == 0u)) { r_tu = 0u; r_di = 1u; goto l_capnp_cm; }
@@ -8309,9 +8310,9 @@ l_capnp_cm:;
     goto l_capnp_7u;
 l_arm_ui:;
     r_ep_1 = (u64)(r_qw >> 32ull);
-    if (!((u8)((u8)((u8)r_ep_1 & 7u) + 255u) < 5u)) goto l_join_6e;
+    if (!((u8)((u8)((u8)r_ep_1 & 7u) + 255u) < 5u)) goto l_join_e8;
     r_ij = (u64)(r_qw >> 35ull);
-    r_c6 = (u64)(((ld64(away(away(((u8 *)switch_table_typed_conforming_conforms_check_object_5c_426a4812), 8 * (r_ep_1 & 7ull)), 0xfffffffffffffff8ull)) * r_ij) + 63ull) >> 6ull);
+    r_c6 = (u64)(((ld64(away(away(((u8 *)switch_table_typed_conforming_conforms_check_object_5c_e20a29a0), 8 * (r_ep_1 & 7ull)), 0xfffffffffffffff8ull)) * r_ij) + 63ull) >> 6ull);
     t_0c = (ld8(a_1) == 0u);
     if (!t_0c) goto l_join_bd;
     st64(r_08, uadd_sat64(ld64(r_08), 1ull));
@@ -8338,7 +8339,7 @@ l_arm_f4_1:;
     st64(a_6, 1ull);
     st64(r_rq, (r_52_1 - r_c6));
 l_arm_8x:;
-    if (r_l6 == r_4r_1) goto l_join_ws;
+    if (r_l6 == r_4r_1) goto l_join_cz;
     goto l_then_9r;
 l_arm_dw:;
     st64(r_xz_1, 1ull);
@@ -8358,9 +8359,9 @@ l_then_9r:;
     r_tu_1 = 0u;
     r_di_1 = 1u;
     goto l_capnp_cm_1;
-l_join_ws:;
+l_join_cz:;
     r_52_2 = ld64(r_xz);
-    u64 r_1q = (ld64(away(away(((u8 *)switch_table_typed_conforming_conforms_check_object_5c_426a4812), 8 * (r_ep_1 & 7ull)), 0xfffffffffffffff8ull)) * r_ij);
+    u64 r_1q = (ld64(away(away(((u8 *)switch_table_typed_conforming_conforms_check_object_5c_e20a29a0), 8 * (r_ep_1 & 7ull)), 0xfffffffffffffff8ull)) * r_ij);
     r_w0_2 = (r_l6 + (u32)(u64)(r_1q >> 6ull));
     r_4i = (r_1q & 63ull);
     if (r_4i == 0ull) { r_tu_1 = r_w0_2; r_di_1 = 0u; goto l_capnp_cm_1; }
@@ -8379,9 +8380,9 @@ l_capnp_cm_1:;
     r_i6_1.f1 = r_tu_1;
     r_cp = r_i6_1;
     goto l_capnp_7u;
-l_join_6e:;
-    struct s_i8_i32 r_ka = capnp_objects_pointers_canonical_test_list_5ccc1be374b2e488(a_1, r_7m, r_qw, a_4, r_l6, a_6);
-    r_cp = r_ka;
+l_join_e8:;
+    struct s_i8_i32 r_7n = capnp_pointers_pointers_canonical_test_list_5ccc1be374b2e488(a_1, r_7m, r_qw, a_4, r_l6, a_6);
+    r_cp = r_7n;
 l_capnp_7u:;
     if (r_cp.f0 == 0u) { r_kr = r_cp.f1; goto l_loop_2y; }
     r_us = 0u;
@@ -8404,8 +8405,8 @@ l_return_pr:;
     return r_i6_2;
 }
 
-/* capnp_objects::pointers::canonical::test_list::<#5ccc1be374b2e488> */
-static NEVER struct s_i8_i32 capnp_objects_pointers_canonical_test_list_5ccc1be374b2e488(u8 *a_1, u32 a_2, u64 a_3, u32 a_4, u32 a_5, u8 *a_6)
+/* capnp_pointers::pointers::canonical::test_list::<#5ccc1be374b2e488> */
+static NEVER struct s_i8_i32 capnp_pointers_pointers_canonical_test_list_5ccc1be374b2e488(u8 *a_1, u32 a_2, u64 a_3, u32 a_4, u32 a_5, u8 *a_6)
 {
     A(8) u8 slot_1[56];
     u8 *r_xz;
@@ -8492,7 +8493,7 @@ static NEVER struct s_i8_i32 capnp_objects_pointers_canonical_test_list_5ccc1be3
     if (t_pa) goto l_capnp_sm;
     u8 *r_08 = away(a_6, 16ull);
     st64(r_08, uadd_sat64(ld64(r_08), 1ull));
-    if ((r_qw & 3ull) == 2ull) goto l_capnp_bt;
+    if ((r_qw & 3ull) == 2ull) goto l_capnp_uk;
     goto l_join_bd;
 l_capnp_sm:;
     if (!((r_qw & 3ull) == 2ull)) goto l_join_bd;
@@ -8518,8 +8519,8 @@ l_capnp_i5:;
     r_3g = r_38;
     r_n9 = r_xw;
     goto l_arm_s6;
-l_capnp_bt:;
-    capnp_objects_source_follow_far_5ccc1be374b2e488(slot_1, r_xw_1, r_qw, a_6);
+l_capnp_uk:;
+    capnp_pointers_source_follow_far_5ccc1be374b2e488(slot_1, r_xw_1, r_qw, a_6);
     u64 r_38_1 = ld64((slot_1 + 16));
     u64 r_38_2 = ld64((slot_1 + 8));
     if (ld8(slot_1) == 0u) { r_nz = ld32((slot_1 + 40)); r_tc = r_38_1; r_l8 = r_38_2; r_3g = ld64((slot_1 + 32)); r_n9 = ((u8 *)(uptr)ld64((slot_1 + 24))); goto l_arm_s6; }
@@ -8679,7 +8680,7 @@ l_capnp_f9:;
     r_ru = 34u;
     goto l_arm_ud;
 l_arm_s2:;
-    if (r_nz == a_5) goto l_arm_lp;
+    if (r_nz == a_5) goto l_arm_ei;
     goto l_then_um;
 l_then_s2:;
     if (r_nz == a_2) goto l_arm_um;
@@ -8688,7 +8689,7 @@ l_join_s2:;
     if (r_nz == a_5) goto l_arm_um;
     goto l_then_um;
 l_capnp_s2:;
-    if (r_nz == a_5) goto l_arm_tn;
+    if (r_nz == a_5) goto l_arm_mp;
     goto l_then_um;
 l_arm_ud:;
     u8 or_i7 = (u8)((u8)((a_3 & 3ull) == 1ull) & (u8)(r_ru == 26u));
@@ -8709,9 +8710,9 @@ l_then_um:;
     r_us = 0u;
     r_1x = 1u;
     goto l_return_pr;
-l_arm_lp:;
+l_arm_ei:;
     r_xz_1 = away(a_6, 24ull);
-    u64 r_1q = (ld64((((u8 *)switch_table_capnp_objects_pointers_canonical_test_lis_086bba06) + (i64)(8 * (u64)r_xq))) * r_ij);
+    u64 r_1q = (ld64((((u8 *)switch_table_capnp_pointers_pointers_canonical_test_li_c3e4b247) + (i64)(8 * (u64)r_xq))) * r_ij);
     r_eh_1 = (a_5 + (u32)(u64)(r_1q >> 6ull));
     r_4i = (r_1q & 63ull);
     if (r_4i == 0ull) { r_us = r_eh_1; r_1x = 0u; goto l_return_pr; }
@@ -8724,10 +8725,10 @@ l_arm_lp:;
     r_us = 0u;
     r_1x = 1u;
     goto l_return_pr;
-l_arm_tn:;
-    struct s_i8_i32 r_ce = capnp_objects_pointers_canonical_test_children_5ccc1be374b2e488(a_1, a_5, r_12_1, (a_4 + 0xffffffffu), (a_5 + r_12_1), a_6);
-    r_us = r_ce.f1;
-    r_1x = r_ce.f0;
+l_arm_mp:;
+    struct s_i8_i32 r_5c = capnp_pointers_pointers_canonical_test_children_5ccc1b_aa7a1372(a_1, a_5, r_12_1, (a_4 + 0xffffffffu), (a_5 + r_12_1), a_6);
+    r_us = r_5c.f1;
+    r_1x = r_5c.f0;
     goto l_return_pr;
 l_arm_bb:;
     r_y0 = (a_4 + 0xffffffffu);
@@ -8744,9 +8745,9 @@ l_arm_bb:;
     goto l_return_pr;
 l_join_1x:;
     if (r_68_1 == 0u) { r_us = r_ll; r_1x = 0u; goto l_return_pr; }
-    struct s_i8_i32 r_u9 = capnp_objects_pointers_canonical_test_elements_5ccc1be374b2e488(a_1, r_ll, t_xg, r_py, t_c8, r_y0, a_6);
-    r_us = r_u9.f1;
-    r_1x = r_u9.f0;
+    struct s_i8_i32 r_5a = capnp_pointers_pointers_canonical_test_elements_5ccc1b_0ad11fef(a_1, r_ll, t_xg, r_py, t_c8, r_y0, a_6);
+    r_us = r_5a.f1;
+    r_1x = r_5a.f0;
     goto l_return_pr;
 l_arm_um:;
     u64 r_qw_4 = ld64(r_xz);
@@ -8765,8 +8766,8 @@ l_return_pr:;
     return r_i6;
 }
 
-/* capnp_objects::pointers::canonical::test_elements::<#5ccc1be374b2e488> */
-static struct s_i8_i32 capnp_objects_pointers_canonical_test_elements_5ccc1be374b2e488(u8 *a_1, u32 a_2, u16 a_3, u16 a_4, u32 a_5, u32 a_6, u8 *a_7)
+/* capnp_pointers::pointers::canonical::test_elements::<#5ccc1be374b2e488> */
+static struct s_i8_i32 capnp_pointers_pointers_canonical_test_elements_5ccc1b_0ad11fef(u8 *a_1, u32 a_2, u16 a_3, u16 a_4, u32 a_5, u32 a_6, u8 *a_7)
 {
     u32 r_m2;
     u32 r_m2_1;
@@ -8817,14 +8818,14 @@ static struct s_i8_i32 capnp_objects_pointers_canonical_test_elements_5ccc1be374
 l_join_l2:;
     r_kq_1 = ((r_68 * (u32)indvars_lg) + a_2);
     r_w0 = (r_kq_1 + r_m2);
-    if (!r_kh_1) goto l_join_lg;
+    if (!r_kh_1) goto l_join_2m;
     struct s_i8_i32 t_ph = (struct s_i8_i32){ 0u, 0u };
     t_ph.f1 = r_23;
     r_ff = t_ph;
     goto l_capnp_28;
-l_join_lg:;
-    struct s_i8_i32 r_dl = capnp_objects_pointers_canonical_test_children_5ccc1be374b2e488(a_1, r_w0, r_m2_1, a_6, r_23, a_7);
-    r_ff = r_dl;
+l_join_2m:;
+    struct s_i8_i32 r_xq = capnp_pointers_pointers_canonical_test_children_5ccc1b_aa7a1372(a_1, r_w0, r_m2_1, a_6, r_23, a_7);
+    r_ff = r_xq;
 l_capnp_28:;
     r_xo = r_ff.f1;
     if (!(r_ff.f0 == 0u)) { r_us = 0u; r_1x = 1u; goto l_return_pr; }
@@ -8912,78 +8913,6 @@ l_arm_1j:;
     r_fk = 1u;
 l_return_ri:;
     return r_fk;
-}
-
-/* capnp_messages::messages::whole::canonicalize::<#022cfa5ac0efa2a5> */
-void capnp_messages_messages_whole_canonicalize_022cfa5ac0efa2a5(u8 *a_1, u8 *a_2, u8 *a_3, u8 a_4, u64 a_5)
-{
-    A(8) u8 slot_1[136];
-    A(8) u8 slot_2[32];
-    A(8) u8 slot_3[80];
-    A(8) u8 slot_4[24];
-    A(8) u8 slot_5[32];
-    A(8) u8 slot_6[80];
-    u8 *r_x5;
-    u8 *r_fx;
-    u64 r_52;
-    u32 r_6z;
-    u64 r_6f;
-    u32 r_3l;
-    u32 r_rk;
-    u64 r_7q;
-    memset(slot_6, 0u, 80);
-    st64(slot_4, (u64)a_4);
-    r_x5 = (slot_4 + 8);
-    st64(r_x5, a_5);
-    st64((slot_4 + 16), 0ull);
-    r_fx = ldp(a_3);
-    if (ld64(r_fx) == 0ull) { r_6z = 12u; goto l_arm_pa; }
-    r_52 = ld64(ldp(away(r_fx, 32ull)));
-    if ((r_52 & 0x1fffffffffffffffull) == 0ull) { r_6z = 23u; goto l_arm_pa; }
-    if (!(a_4 == 1u)) goto l_arm_zz;
-    if (a_5 == 0ull) { r_6z = 30u; goto l_arm_pa; }
-    st64(slot_4, 1ull);
-    st64(r_x5, (a_5 + 0xffffffffffffffffull));
-l_arm_zz:;
-    u8 *t_5q = (slot_3 + 64);
-    u32 r_yf = ld32(away(a_3, 8ull));
-    u8 *r_lz = ldp(away(r_fx, 56ull));
-    memset(t_5q, 0u, 16);
-    mv32(slot_2, a_2);
-    st64((slot_3 + 16), (u64)(uptr)a_3);
-    memset((slot_3 + 24), 0u, 16);
-    stp((slot_3 + 40), r_lz);
-    st64((slot_3 + 48), (u64)(r_52 << 3ull));
-    st32((slot_3 + 56), 0u);
-    st32((slot_3 + 60), 0u);
-    memset(slot_3, 0u, 16);
-    st32(t_5q, r_yf);
-    capnp_messages_messages_canonical_copy_canonicalize_re_92f8f3a6(slot_1, slot_2, slot_3, slot_4);
-    u8 r_r5 = ld8(slot_1);
-    u32 r_z4 = ld32((slot_1 + 8));
-    u32 r_uq = ld32((slot_1 + 12));
-    u64 r_38 = ld64((slot_1 + 16));
-    mv32(slot_5, (slot_1 + 24));
-    memcpy(slot_6, (slot_1 + 56), 80);
-    r_6f = (u64)r_r5;
-    r_3l = r_z4;
-    r_rk = r_uq;
-    r_7q = r_38;
-    goto l_join_6f;
-l_arm_pa:;
-    mv32(slot_5, a_2);
-    r_6f = 1ull;
-    r_3l = r_6z;
-    r_rk = 0u;
-    r_7q = 0ull;
-l_join_6f:;
-    st64(a_1, r_6f);
-    st32(away(a_1, 8ull), r_3l);
-    st32(away(a_1, 12ull), r_rk);
-    st64(away(a_1, 16ull), r_7q);
-    mv32(away(a_1, 24ull), slot_5);
-    memcpy(away(a_1, 56ull), slot_6, 80);
-    return;
 }
 
 /* capnp_messages::messages::canonical_copy::canonicalize_reached::<#23e788dd12cd3672> */
@@ -9338,18 +9267,15 @@ static void capnp_messages_messages_canonical_copy_canonicalize_to_83269e83(u8 *
     u8 r_45;
     u32 r_h0;
     u64 r_r1;
-    u8 r_r5_4;
-    u64 t_38;
-    u64 t_38_1;
-    u8 r_ld;
-    u32 r_2q;
-    u64 r_gy;
-    u8 t_7y;
-    u64 r_4v;
-    u8 r_r5_5;
-    u32 r_ka;
-    u64 r_0t;
-    u64 r_ib;
+    u64 r_ly;
+    u32 r_84;
+    u8 r_rw;
+    u8 t_w0;
+    u64 r_wi;
+    u8 r_k8;
+    u32 r_2y;
+    u64 r_v0;
+    u64 r_dw;
     u32 r_cf;
     u8 *r_xw_6;
     u64 r_38_12;
@@ -9359,7 +9285,7 @@ static void capnp_messages_messages_canonical_copy_canonicalize_to_83269e83(u8 *
     u64 r_38_15;
     u64 r_38_16;
     u64 r_38_17;
-    u8 r_r5_6;
+    u8 r_r5_4;
     u8 *r_f2;
     u8 *r_xw_8;
     u64 r_38_18;
@@ -9595,16 +9521,16 @@ l_join_rb:;
     st64(r_zd_3, 0ull);
     r_eg = (u64)r_dd;
     if (!(r_dh == 0u)) goto l_arm_q5;
+    memset(slot_3, 0u, 24);
+    u8 *t_6c = (slot_4 + 56);
+    st64(t_6c, 0ull);
+    st64(slot_4, r_eg);
     mv16((slot_4 + 8), (slot_7 + 7));
     st64((slot_4 + 24), r_qw);
     stp((slot_4 + 32), r_rv);
     st64((slot_4 + 40), r_qw_1);
     st32((slot_4 + 48), r_5k);
     st32((slot_4 + 52), r_5k_1);
-    memset(slot_3, 0u, 24);
-    u8 *t_6c = (slot_4 + 56);
-    st64(t_6c, 0ull);
-    st64(slot_4, r_eg);
     st32(t_6c, r_5k_2);
     capnp_copies_copy_copy_object_3e10f8fb4aa9caee(slot_3, slot_9, 0u, 0u, slot_4, slot_5, 1u);
     r_r5_2 = ld8(slot_3);
@@ -9615,12 +9541,12 @@ l_join_rb:;
     r_lz = ldp(r_89_1);
     r_qw_3 = ld64(r_lz);
     if (r_qw_3 == 0ull) goto l_capnp_8g;
-    capnp_making_landing_follow_257eebf23d8227b7(slot_2, slot_9, 0u, 0u);
+    capnp_allocation_landing_follow_257eebf23d8227b7(slot_2, slot_9, 0u, 0u);
     st64(r_lz, 0ull);
     if (!(ld8(slot_2) == 1u)) goto l_capnp_8g;
-    capnp_making_zeroing_zero_target_257eebf23d8227b7(slot_9, (slot_2 + 8));
+    capnp_allocation_zeroing_zero_target_257eebf23d8227b7(slot_9, (slot_2 + 8));
     if (!((r_qw_3 & 3ull) == 2ull)) goto l_capnp_8g;
-    capnp_making_zeroing_zero_far_pads_257eebf23d8227b7(slot_9, r_qw_3);
+    capnp_allocation_zeroing_zero_far_pads_257eebf23d8227b7(slot_9, r_qw_3);
 l_capnp_8g:;
     r_2b = r_r5_3;
     r_qh = r_uq_2;
@@ -9718,7 +9644,7 @@ l_else_f8:;
     r_1w = r_24_2;
     r_ty = (u64)((u64)r_e3_1 << 3ull);
 l_capnp_cn:;
-    st64(ldp(r_89_1), ((r_ty | (u64)(r_1w << 32ull)) | 2ull));
+    st64(ldp(r_89_1), (((u64)(r_1w << 32ull) | r_ty) | 2ull));
     r_j7 = (r_1w | (u64)((u64)r_ll_1 << 32ull));
 l_arm_e8:;
     r_wt = (u32)r_j7;
@@ -9784,74 +9710,70 @@ l_capnp_no_1:;
     r_r1 = r_wq;
     goto l_capnp_x6;
 l_capnp_x3:;
-    r_ld = ld8((slot_2 + 8));
-    r_2q = ld32((slot_2 + 12));
-    r_gy = ld64((slot_2 + 16));
-    goto l_arm_uo;
+    r_ly = ld64((slot_2 + 16));
+    r_84 = ld32((slot_2 + 12));
+    r_rw = ld8((slot_2 + 8));
+    goto l_arm_e8_1;
 l_capnp_x6:;
-    if (!(r_3i == 0u)) { r_ld = r_45; r_2q = r_h0; r_gy = r_r1; goto l_arm_uo; }
-    r_r5_4 = ld8(slot_5);
-    t_38 = ld64(r_x5_3);
-    t_38_1 = ld64(r_zd_3);
-    if (!(u8)(ld8((slot_9 + 72)) & 1)) { t_7y = 0u; r_4v = 1ull; r_r5_5 = 27u; r_ka = 0u; r_0t = r_v1; r_ib = 0ull; goto l_capnp_1l; }
-    if (ld64((slot_9 + 88)) == 0ull) { t_7y = 1u; r_4v = 0ull; r_r5_5 = r_r5_4; r_ka = 0u; r_0t = t_38; r_ib = t_38_1; goto l_capnp_1l; }
-    t_7y = 0u;
-    r_4v = 1ull;
-    r_r5_5 = 27u;
-    r_ka = 0u;
-    r_0t = r_v1;
-    r_ib = 0ull;
-    goto l_capnp_1l;
-l_arm_uo:;
-    switch (r_ld) {
+    if (!(r_3i == 0u)) { r_ly = r_r1; r_84 = r_h0; r_rw = r_45; goto l_arm_e8_1; }
+    if (!((u8)(ld8((slot_9 + 72)) & 1) ? (ld64((slot_9 + 88)) == 0ull) : 0u)) { t_w0 = 0u; r_wi = 1ull; r_k8 = 27u; r_2y = 0u; r_v0 = r_v1; r_dw = 0ull; goto l_capnp_i8; }
+    t_w0 = 1u;
+    r_wi = 0ull;
+    r_k8 = ld8(slot_5);
+    r_2y = 0u;
+    r_v0 = ld64(r_x5_3);
+    r_dw = ld64(r_zd_3);
+    goto l_capnp_i8;
+l_arm_e8_1:;
+    switch (r_rw) {
     case 0u: goto l_t_h9;
     case 27u: goto l_t_h9;
-    case 1u: { t_7y = 0u; r_4v = 1ull; r_r5_5 = r_ld; r_ka = r_2q; r_0t = r_gy; r_ib = 0ull; goto l_capnp_1l; }
-    case 2u: { t_7y = 0u; r_4v = 1ull; r_r5_5 = r_ld; r_ka = r_2q; r_0t = r_gy; r_ib = 0ull; goto l_capnp_1l; }
-    case 3u: { t_7y = 0u; r_4v = 1ull; r_r5_5 = r_ld; r_ka = r_2q; r_0t = r_gy; r_ib = 0ull; goto l_capnp_1l; }
-    case 4u: { t_7y = 0u; r_4v = 1ull; r_r5_5 = r_ld; r_ka = r_2q; r_0t = r_gy; r_ib = 0ull; goto l_capnp_1l; }
-    case 5u: { t_7y = 0u; r_4v = 1ull; r_r5_5 = r_ld; r_ka = r_2q; r_0t = r_gy; r_ib = 0ull; goto l_capnp_1l; }
-    case 6u: { t_7y = 0u; r_4v = 1ull; r_r5_5 = r_ld; r_ka = r_2q; r_0t = r_gy; r_ib = 0ull; goto l_capnp_1l; }
-    case 7u: { t_7y = 0u; r_4v = 1ull; r_r5_5 = r_ld; r_ka = r_2q; r_0t = r_gy; r_ib = 0ull; goto l_capnp_1l; }
-    case 8u: { t_7y = 0u; r_4v = 1ull; r_r5_5 = r_ld; r_ka = r_2q; r_0t = r_gy; r_ib = 0ull; goto l_capnp_1l; }
-    case 9u: { t_7y = 0u; r_4v = 1ull; r_r5_5 = r_ld; r_ka = r_2q; r_0t = r_gy; r_ib = 0ull; goto l_capnp_1l; }
-    case 10u: { t_7y = 0u; r_4v = 1ull; r_r5_5 = r_ld; r_ka = r_2q; r_0t = r_gy; r_ib = 0ull; goto l_capnp_1l; }
-    case 11u: { t_7y = 0u; r_4v = 1ull; r_r5_5 = r_ld; r_ka = r_2q; r_0t = r_gy; r_ib = 0ull; goto l_capnp_1l; }
-    case 12u: { t_7y = 0u; r_4v = 1ull; r_r5_5 = r_ld; r_ka = r_2q; r_0t = r_gy; r_ib = 0ull; goto l_capnp_1l; }
-    case 13u: { t_7y = 0u; r_4v = 1ull; r_r5_5 = r_ld; r_ka = r_2q; r_0t = r_gy; r_ib = 0ull; goto l_capnp_1l; }
-    case 14u: { t_7y = 0u; r_4v = 1ull; r_r5_5 = r_ld; r_ka = r_2q; r_0t = r_gy; r_ib = 0ull; goto l_capnp_1l; }
-    case 15u: { t_7y = 0u; r_4v = 1ull; r_r5_5 = r_ld; r_ka = r_2q; r_0t = r_gy; r_ib = 0ull; goto l_capnp_1l; }
-    case 16u: { t_7y = 0u; r_4v = 1ull; r_r5_5 = r_ld; r_ka = r_2q; r_0t = r_gy; r_ib = 0ull; goto l_capnp_1l; }
-    case 17u: { t_7y = 0u; r_4v = 1ull; r_r5_5 = r_ld; r_ka = r_2q; r_0t = r_gy; r_ib = 0ull; goto l_capnp_1l; }
-    case 18u: { t_7y = 0u; r_4v = 1ull; r_r5_5 = r_ld; r_ka = r_2q; r_0t = r_gy; r_ib = 0ull; goto l_capnp_1l; }
-    case 19u: { t_7y = 0u; r_4v = 1ull; r_r5_5 = r_ld; r_ka = r_2q; r_0t = r_gy; r_ib = 0ull; goto l_capnp_1l; }
-    case 20u: { t_7y = 0u; r_4v = 1ull; r_r5_5 = r_ld; r_ka = r_2q; r_0t = r_gy; r_ib = 0ull; goto l_capnp_1l; }
-    case 21u: { t_7y = 0u; r_4v = 1ull; r_r5_5 = r_ld; r_ka = r_2q; r_0t = r_gy; r_ib = 0ull; goto l_capnp_1l; }
-    case 22u: { t_7y = 0u; r_4v = 1ull; r_r5_5 = r_ld; r_ka = r_2q; r_0t = r_gy; r_ib = 0ull; goto l_capnp_1l; }
-    case 23u: { t_7y = 0u; r_4v = 1ull; r_r5_5 = r_ld; r_ka = r_2q; r_0t = r_gy; r_ib = 0ull; goto l_capnp_1l; }
-    case 24u: { t_7y = 0u; r_4v = 1ull; r_r5_5 = r_ld; r_ka = r_2q; r_0t = r_gy; r_ib = 0ull; goto l_capnp_1l; }
-    case 25u: { t_7y = 0u; r_4v = 1ull; r_r5_5 = r_ld; r_ka = r_2q; r_0t = r_gy; r_ib = 0ull; goto l_capnp_1l; }
-    case 26u: { t_7y = 0u; r_4v = 1ull; r_r5_5 = r_ld; r_ka = r_2q; r_0t = r_gy; r_ib = 0ull; goto l_capnp_1l; }
-    case 28u: { t_7y = 0u; r_4v = 1ull; r_r5_5 = r_ld; r_ka = r_2q; r_0t = r_gy; r_ib = 0ull; goto l_capnp_1l; }
-    case 29u: { t_7y = 0u; r_4v = 1ull; r_r5_5 = r_ld; r_ka = r_2q; r_0t = r_gy; r_ib = 0ull; goto l_capnp_1l; }
-    case 30u: { t_7y = 0u; r_4v = 1ull; r_r5_5 = r_ld; r_ka = r_2q; r_0t = r_gy; r_ib = 0ull; goto l_capnp_1l; }
-    case 31u: { t_7y = 0u; r_4v = 1ull; r_r5_5 = r_ld; r_ka = r_2q; r_0t = r_gy; r_ib = 0ull; goto l_capnp_1l; }
-    case 32u: { t_7y = 0u; r_4v = 1ull; r_r5_5 = r_ld; r_ka = r_2q; r_0t = r_gy; r_ib = 0ull; goto l_capnp_1l; }
-    case 33u: { t_7y = 0u; r_4v = 1ull; r_r5_5 = r_ld; r_ka = r_2q; r_0t = r_gy; r_ib = 0ull; goto l_capnp_1l; }
-    case 34u: { t_7y = 0u; r_4v = 1ull; r_r5_5 = r_ld; r_ka = r_2q; r_0t = r_gy; r_ib = 0ull; goto l_capnp_1l; }
+    case 1u: { t_w0 = 0u; r_wi = 1ull; r_k8 = r_rw; r_2y = r_84; r_v0 = r_ly; r_dw = 0ull; goto l_capnp_i8; }
+    case 2u: { t_w0 = 0u; r_wi = 1ull; r_k8 = r_rw; r_2y = r_84; r_v0 = r_ly; r_dw = 0ull; goto l_capnp_i8; }
+    case 3u: { t_w0 = 0u; r_wi = 1ull; r_k8 = r_rw; r_2y = r_84; r_v0 = r_ly; r_dw = 0ull; goto l_capnp_i8; }
+    case 4u: { t_w0 = 0u; r_wi = 1ull; r_k8 = r_rw; r_2y = r_84; r_v0 = r_ly; r_dw = 0ull; goto l_capnp_i8; }
+    case 5u: { t_w0 = 0u; r_wi = 1ull; r_k8 = r_rw; r_2y = r_84; r_v0 = r_ly; r_dw = 0ull; goto l_capnp_i8; }
+    case 6u: { t_w0 = 0u; r_wi = 1ull; r_k8 = r_rw; r_2y = r_84; r_v0 = r_ly; r_dw = 0ull; goto l_capnp_i8; }
+    case 7u: { t_w0 = 0u; r_wi = 1ull; r_k8 = r_rw; r_2y = r_84; r_v0 = r_ly; r_dw = 0ull; goto l_capnp_i8; }
+    case 8u: { t_w0 = 0u; r_wi = 1ull; r_k8 = r_rw; r_2y = r_84; r_v0 = r_ly; r_dw = 0ull; goto l_capnp_i8; }
+    case 9u: { t_w0 = 0u; r_wi = 1ull; r_k8 = r_rw; r_2y = r_84; r_v0 = r_ly; r_dw = 0ull; goto l_capnp_i8; }
+    case 10u: { t_w0 = 0u; r_wi = 1ull; r_k8 = r_rw; r_2y = r_84; r_v0 = r_ly; r_dw = 0ull; goto l_capnp_i8; }
+    case 11u: { t_w0 = 0u; r_wi = 1ull; r_k8 = r_rw; r_2y = r_84; r_v0 = r_ly; r_dw = 0ull; goto l_capnp_i8; }
+    case 12u: { t_w0 = 0u; r_wi = 1ull; r_k8 = r_rw; r_2y = r_84; r_v0 = r_ly; r_dw = 0ull; goto l_capnp_i8; }
+    case 13u: { t_w0 = 0u; r_wi = 1ull; r_k8 = r_rw; r_2y = r_84; r_v0 = r_ly; r_dw = 0ull; goto l_capnp_i8; }
+    case 14u: { t_w0 = 0u; r_wi = 1ull; r_k8 = r_rw; r_2y = r_84; r_v0 = r_ly; r_dw = 0ull; goto l_capnp_i8; }
+    case 15u: { t_w0 = 0u; r_wi = 1ull; r_k8 = r_rw; r_2y = r_84; r_v0 = r_ly; r_dw = 0ull; goto l_capnp_i8; }
+    case 16u: { t_w0 = 0u; r_wi = 1ull; r_k8 = r_rw; r_2y = r_84; r_v0 = r_ly; r_dw = 0ull; goto l_capnp_i8; }
+    case 17u: { t_w0 = 0u; r_wi = 1ull; r_k8 = r_rw; r_2y = r_84; r_v0 = r_ly; r_dw = 0ull; goto l_capnp_i8; }
+    case 18u: { t_w0 = 0u; r_wi = 1ull; r_k8 = r_rw; r_2y = r_84; r_v0 = r_ly; r_dw = 0ull; goto l_capnp_i8; }
+    case 19u: { t_w0 = 0u; r_wi = 1ull; r_k8 = r_rw; r_2y = r_84; r_v0 = r_ly; r_dw = 0ull; goto l_capnp_i8; }
+    case 20u: { t_w0 = 0u; r_wi = 1ull; r_k8 = r_rw; r_2y = r_84; r_v0 = r_ly; r_dw = 0ull; goto l_capnp_i8; }
+    case 21u: { t_w0 = 0u; r_wi = 1ull; r_k8 = r_rw; r_2y = r_84; r_v0 = r_ly; r_dw = 0ull; goto l_capnp_i8; }
+    case 22u: { t_w0 = 0u; r_wi = 1ull; r_k8 = r_rw; r_2y = r_84; r_v0 = r_ly; r_dw = 0ull; goto l_capnp_i8; }
+    case 23u: { t_w0 = 0u; r_wi = 1ull; r_k8 = r_rw; r_2y = r_84; r_v0 = r_ly; r_dw = 0ull; goto l_capnp_i8; }
+    case 24u: { t_w0 = 0u; r_wi = 1ull; r_k8 = r_rw; r_2y = r_84; r_v0 = r_ly; r_dw = 0ull; goto l_capnp_i8; }
+    case 25u: { t_w0 = 0u; r_wi = 1ull; r_k8 = r_rw; r_2y = r_84; r_v0 = r_ly; r_dw = 0ull; goto l_capnp_i8; }
+    case 26u: { t_w0 = 0u; r_wi = 1ull; r_k8 = r_rw; r_2y = r_84; r_v0 = r_ly; r_dw = 0ull; goto l_capnp_i8; }
+    case 28u: { t_w0 = 0u; r_wi = 1ull; r_k8 = r_rw; r_2y = r_84; r_v0 = r_ly; r_dw = 0ull; goto l_capnp_i8; }
+    case 29u: { t_w0 = 0u; r_wi = 1ull; r_k8 = r_rw; r_2y = r_84; r_v0 = r_ly; r_dw = 0ull; goto l_capnp_i8; }
+    case 30u: { t_w0 = 0u; r_wi = 1ull; r_k8 = r_rw; r_2y = r_84; r_v0 = r_ly; r_dw = 0ull; goto l_capnp_i8; }
+    case 31u: { t_w0 = 0u; r_wi = 1ull; r_k8 = r_rw; r_2y = r_84; r_v0 = r_ly; r_dw = 0ull; goto l_capnp_i8; }
+    case 32u: { t_w0 = 0u; r_wi = 1ull; r_k8 = r_rw; r_2y = r_84; r_v0 = r_ly; r_dw = 0ull; goto l_capnp_i8; }
+    case 33u: { t_w0 = 0u; r_wi = 1ull; r_k8 = r_rw; r_2y = r_84; r_v0 = r_ly; r_dw = 0ull; goto l_capnp_i8; }
+    case 34u: { t_w0 = 0u; r_wi = 1ull; r_k8 = r_rw; r_2y = r_84; r_v0 = r_ly; r_dw = 0ull; goto l_capnp_i8; }
     default: goto l_noarm_e1;
     }
 l_noarm_e1:;
     UNREACHABLE();
 l_t_h9:;
-    t_7y = 0u;
-    r_4v = 1ull;
-    r_r5_5 = 27u;
-    r_ka = 0u;
-    r_0t = r_v1;
-    r_ib = 0ull;
-l_capnp_1l:;
-    r_cf = (u32)r_r5_5;
+    t_w0 = 0u;
+    r_wi = 1ull;
+    r_k8 = 27u;
+    r_2y = 0u;
+    r_v0 = r_v1;
+    r_dw = 0ull;
+l_capnp_i8:;
+    r_cf = (u32)r_k8;
     r_xw_6 = ldp(r_x5_2);
     r_38_12 = ld64((slot_9 + 16));
     r_38_13 = ld64((slot_9 + 24));
@@ -9860,31 +9782,31 @@ l_capnp_1l:;
     r_38_15 = ld64((slot_9 + 48));
     r_38_16 = ld64((slot_9 + 56));
     r_38_17 = ld64((slot_9 + 64));
-    r_r5_6 = ld8((slot_9 + 72));
+    r_r5_4 = ld8((slot_9 + 72));
     r_f2 = (slot_9 + 73);
     r_xw_8 = ldp((slot_9 + 80));
     r_38_18 = ld64((slot_9 + 88));
     r_38_19 = ld64((slot_9 + 96));
-    if (!t_7y) goto l_arm_33;
+    if (!t_w0) goto l_arm_33;
     r_08 = away(a_4, 16ull);
     r_52_2 = ld64(r_08);
     if (!(r_52_2 == 0ull)) goto l_join_b0;
-    st64(a_4, (u64)r_r5_5);
-    st64(r_rq, r_0t);
-    st64(r_08, r_ib);
+    st64(a_4, (u64)r_k8);
+    st64(r_rq, r_v0);
+    st64(r_08, r_dw);
     goto l_capnp_1x;
 l_join_b0:;
-    if (((ld8(a_4) != 1u) ? 1u : (r_r5_5 != 1u)) ? 1u : (ld64(r_rq) < r_0t)) goto l_after_jc;
+    if (((ld8(a_4) != 1u) ? 1u : (r_k8 != 1u)) ? 1u : (ld64(r_rq) < r_v0)) goto l_after_jc;
     st64(a_4, 1ull);
-    st64(r_rq, r_0t);
+    st64(r_rq, r_v0);
 l_after_jc:;
-    if (r_ib == 0ull) goto l_capnp_1x;
+    if (r_dw == 0ull) goto l_capnp_1x;
     r_3i_1 = r_52_2;
     r_hb = 0ull;
 l_join_j4:;
     r_vg = uadd_sat64(r_3i_1, 1ull);
     u64 r_36 = (r_hb + 1ull);
-    if (!(r_36 == r_ib)) { r_3i_1 = r_vg; r_hb = r_36; goto l_join_j4; }
+    if (!(r_36 == r_dw)) { r_3i_1 = r_vg; r_hb = r_36; goto l_join_j4; }
     st64(r_08, r_vg);
 l_capnp_1x:;
     mv16(slot_12, slot_10);
@@ -9900,7 +9822,7 @@ l_capnp_1x:;
     r_7j = r_xw_8;
     r_p8 = r_38_18;
     r_6l = r_38_19;
-    r_xz = r_r5_6;
+    r_xz = r_r5_4;
     r_tv = r_z4;
     r_6k = r_uq_1;
     r_hn = r_38_10;
@@ -9912,7 +9834,7 @@ l_arm_33:;
     st64(r_x5_4, r_38_10);
     r_zd_4 = (slot_3 + 16);
     mv16(r_zd_4, slot_10);
-    if (!(u8)(r_r5_6 & 1)) goto l_else_r8_1;
+    if (!(u8)(r_r5_4 & 1)) goto l_else_r8_1;
     r_xw_9 = ldp(slot_3);
     u64 r_38_20 = ld64(r_zd_4);
     stp(slot_3, r_xw_7);
@@ -9995,10 +9917,10 @@ l_std_hs:;
     r_6l = 0ull;
     r_xz = 0u;
     r_tv = r_cf;
-    r_6k = r_ka;
-    r_hn = r_0t;
+    r_6k = r_2y;
+    r_hn = r_v0;
 l_join_6f:;
-    st64(a_1, r_4v);
+    st64(a_1, r_wi);
     st32(away(a_1, 8ull), r_tv);
     st32(away(a_1, 12ull), r_6k);
     st64(away(a_1, 16ull), r_hn);
@@ -10371,14 +10293,14 @@ static NEVER void capnp_copies_copy_copy_object_3e10f8fb4aa9caee(u8 *a_1, u8 *a_
     u8 r_kw_3;
     u32 r_re_3;
     struct s_i8_i32 r_pp;
-    u32 r_iy;
-    u32 r_jm;
+    u32 r_fp;
+    u32 r_p4;
     u64 r_4i_1;
     u64 r_y6_2;
     u64 r_q7_1;
     u64 r_lc_6;
     u64 r_lc_7;
-    u64 r_jm_1;
+    u64 r_jm;
     u32 r_4r_1;
     u8 r_8u;
     u64 r_52_11;
@@ -10460,7 +10382,7 @@ static NEVER void capnp_copies_copy_copy_object_3e10f8fb4aa9caee(u8 *a_1, u8 *a_
     u8 *r_x5_9;
     u8 *r_k0_4;
     u8 *r_zd_7;
-    u32 r_s1_1;
+    u32 r_mx;
     u8 *r_yf_12;
     u64 r_24_6;
     u64 r_0f_6;
@@ -10526,8 +10448,8 @@ static NEVER void capnp_copies_copy_copy_object_3e10f8fb4aa9caee(u8 *a_1, u8 *a_
     u64 r_6f;
     u64 r_59_1;
     u64 r_ni_1;
-    u32 r_iy_1;
-    u32 r_jm_2;
+    u32 r_fp_1;
+    u32 r_p4_1;
     u64 r_1q_3;
     u8 *r_u9;
     u8 *r_2b_4;
@@ -10539,7 +10461,7 @@ static NEVER void capnp_copies_copy_copy_object_3e10f8fb4aa9caee(u8 *a_1, u8 *a_
     u64 r_q7_2;
     u64 r_lc_10;
     u64 r_lc_11;
-    u64 r_jm_3;
+    u64 r_jm_1;
     u32 r_4r_2;
     u8 r_8u_1;
     u64 r_52_15;
@@ -10614,7 +10536,7 @@ static NEVER void capnp_copies_copy_copy_object_3e10f8fb4aa9caee(u8 *a_1, u8 *a_
     if (t_pa) goto l_capnp_sm;
     u8 *r_08 = away(a_6, 16ull);
     st64(r_08, uadd_sat64(ld64(r_08), 1ull));
-    if ((r_qw_3 & 3ull) == 2ull) goto l_capnp_bt;
+    if ((r_qw_3 & 3ull) == 2ull) goto l_capnp_uk;
     goto l_join_bd;
 l_capnp_sm:;
     if (!((r_qw_3 & 3ull) == 2ull)) goto l_join_bd;
@@ -10640,8 +10562,8 @@ l_capnp_i5:;
     r_9h = r_qw_2;
     r_27 = t_al;
     goto l_arm_wn;
-l_capnp_bt:;
-    capnp_objects_source_follow_far_5ccc1be374b2e488(slot_1, r_rv, r_qw_3, a_6);
+l_capnp_uk:;
+    capnp_pointers_source_follow_far_5ccc1be374b2e488(slot_1, r_rv, r_qw_3, a_6);
     u64 r_38 = ld64((slot_1 + 16));
     u64 r_38_1 = ld64((slot_1 + 8));
     if (ld8(slot_1) == 0u) { r_gx = ld32((slot_1 + 40)); r_qd = r_38; r_d4 = r_38_1; r_9h = ld64((slot_1 + 32)); r_27 = ld64((slot_1 + 24)); goto l_arm_wn; }
@@ -11302,7 +11224,7 @@ l_join_1e:;
     r_ep_3 = (u64)(r_qw_5 >> 32ull);
     if (!((switch_f9 == 1ull) ? ((u8)((u8)((u8)r_ep_3 & 7u) + 255u) < 5u) : 0u)) goto l_join_br;
     r_ij_1 = (u64)(r_qw_5 >> 35ull);
-    r_c6_5 = (u64)(((ld64(away(away(((u8 *)switch_table_typed_conforming_conforms_check_object_5c_426a4812), 8 * (r_ep_3 & 7ull)), 0xfffffffffffffff8ull)) * r_ij_1) + 63ull) >> 6ull);
+    r_c6_5 = (u64)(((ld64(away(away(((u8 *)switch_table_typed_conforming_conforms_check_object_5c_e20a29a0), 8 * (r_ep_3 & 7ull)), 0xfffffffffffffff8ull)) * r_ij_1) + 63ull) >> 6ull);
     if (!t_0c) goto l_join_bd_1;
     st64(r_08_1, uadd_sat64(ld64(r_08_1), 1ull));
 l_join_bd_1:;
@@ -11328,7 +11250,7 @@ l_arm_vo:;
 l_arm_p5:;
     r_z6_5 = (u64)(r_c6_5 << 3ull);
     r_8a = away(t_f6_2, (u64)(r_gk << 3ull));
-    r_se_1 = (u64)(((ld64(away(away(((u8 *)switch_table_typed_conforming_conforms_check_object_5c_426a4812), 8 * (r_ep_3 & 7ull)), 0xfffffffffffffff8ull)) * r_ij_1) + 63ull) >> 6ull);
+    r_se_1 = (u64)(((ld64(away(away(((u8 *)switch_table_typed_conforming_conforms_check_object_5c_e20a29a0), 8 * (r_ep_3 & 7ull)), 0xfffffffffffffff8ull)) * r_ij_1) + 63ull) >> 6ull);
     r_12_3 = (u32)r_se_1;
     if (!r_2p) goto l_else_xr;
     r_yf_7 = ld32(r_h6_3);
@@ -11356,9 +11278,9 @@ l_capnp_h1:;
     if (!(r_pp.f0 == 1u)) goto l_arm_pq_3;
     u32 r_xo_3 = r_pp.f1;
     capnp_arena_arena_builder_arena_impl_BuilderArenaImplB_8bddd8ee(a_2, r_0i, r_sr, ((r_qw_5 & 0xffffffff00000001ull) | (u64)(u32)((r_xo_3 + (r_sr ^ 0xffffffffu)) << 2u)));
-    r_iy = r_xo_3;
-    r_jm = r_0i;
-    goto l_arm_4p;
+    r_fp = r_xo_3;
+    r_p4 = r_0i;
+    goto l_arm_4x;
 l_arm_pq_3:;
     capnp_arena_arena_builder_arena_impl_BuilderArenaImplB_8452dd78(slot_1, a_2, (r_12_3 + 1u));
     if (!(ld8(slot_1) == 0u)) goto l_arm_vh;
@@ -11366,15 +11288,15 @@ l_arm_pq_3:;
     u32 r_e3_3 = ld32(r_x5_7);
     capnp_arena_arena_builder_arena_impl_BuilderArenaImplB_8bddd8ee(a_2, r_yf_8, r_e3_3, (r_qw_5 & 0xffffffff00000001ull));
     capnp_arena_arena_builder_arena_impl_BuilderArenaImplB_8bddd8ee(a_2, r_0i, r_sr, (((u64)((u64)r_yf_8 << 32ull) | (u64)((u64)r_e3_3 << 3ull)) | 2ull));
-    r_iy = (r_e3_3 + 1u);
-    r_jm = r_yf_8;
-l_arm_4p:;
-    u64 r_1q_1 = (ld64(away(away(((u8 *)switch_table_typed_conforming_conforms_check_object_5c_426a4812), 8 * (r_ep_3 & 7ull)), 0xfffffffffffffff8ull)) * r_ij_1);
-    capnp_arena_traits_arena_writing_copy_words_257eebf23d8227b7(a_2, r_jm, r_iy, r_8a, r_z6_5);
+    r_fp = (r_e3_3 + 1u);
+    r_p4 = r_yf_8;
+l_arm_4x:;
+    u64 r_1q_1 = (ld64(away(away(((u8 *)switch_table_typed_conforming_conforms_check_object_5c_e20a29a0), 8 * (r_ep_3 & 7ull)), 0xfffffffffffffff8ull)) * r_ij_1);
+    capnp_arena_traits_arena_writing_copy_words_257eebf23d8227b7(a_2, r_p4, r_fp, r_8a, r_z6_5);
     r_4i_1 = (r_1q_1 & 63ull);
     if (r_4i_1 == 0ull) goto l_capnp_v7;
     u64 r_0f_5 = (r_c6_5 + 0xffffffffffffffffull);
-    capnp_arena_arena_builder_arena_impl_BuilderArenaImplB_8bddd8ee(a_2, r_jm, (r_iy + (u32)r_0f_5), (ld64(away(r_8a, (u64)(r_0f_5 << 3ull))) & ((u64)(0xffffffffffffffffull << (r_4i_1 & 63u)) ^ 0xffffffffffffffffull)));
+    capnp_arena_arena_builder_arena_impl_BuilderArenaImplB_8bddd8ee(a_2, r_p4, (r_fp + (u32)r_0f_5), (ld64(away(r_8a, (u64)(r_0f_5 << 3ull))) & ((u64)(0xffffffffffffffffull << (r_4i_1 & 63u)) ^ 0xffffffffffffffffull)));
     goto l_capnp_v7;
 l_arm_vh:;
     r_t8_1 = ld8(r_x5_7);
@@ -11393,16 +11315,16 @@ l_join_o1:;
     r_lc_7 = ((r_24_3 + 1ull) + r_m6_2);
     if (!(r_m6_2 < 0x20000000ull)) goto l_else_70_2;
     if (r_lc_7 > r_nb_1) { r_t8_2 = 23u; goto l_capnp_mp_2; }
-    r_jm_1 = r_lc_7;
+    r_jm = r_lc_7;
     goto l_arm_h8;
 l_else_70_2:;
     u64 r_3o_2 = (r_lc_7 + 0xffffffffc0000000ull);
     if ((r_lc_7 < 0x40000000ull) ? 1u : (r_3o_2 > r_nb_1)) { r_t8_2 = 23u; goto l_capnp_mp_2; }
-    r_jm_1 = r_3o_2;
+    r_jm = r_3o_2;
 l_arm_h8:;
-    r_4r_1 = (u32)r_jm_1;
+    r_4r_1 = (u32)r_jm;
     if (r_sg) { r_t8_2 = 26u; goto l_capnp_mp_2; }
-    r_8u = (r_nb_1 < (r_jm_1 + r_lc_6));
+    r_8u = (r_nb_1 < (r_jm + r_lc_6));
     if ((u8)((u8)t_pa | (u8)r_8u)) goto l_capnp_li;
     if (!(ld8(a_6) == 1u)) { r_5b = r_4r_1; goto l_arm_7a; }
     r_52_11 = ld64(r_rq_6);
@@ -11640,7 +11562,7 @@ l_arm_5k:;
     r_x5_9 = (slot_3 + 8);
     r_k0_4 = (slot_3 + 12);
     r_zd_7 = (slot_3 + 16);
-    r_s1_1 = (r_5k + 0xfffffffeu);
+    r_mx = ((r_4w_1 == 0x80000000u) ? 0x80000000u : (r_5k + 0xfffffffeu));
     r_yf_12 = away(a_2, 80ull);
     r_24_6 = (u64)r_21_1;
     r_0f_6 = (r_24_6 + 0xffffffffffffffffull);
@@ -11735,7 +11657,7 @@ l_join_iw:;
     r_ep_4 = (u64)(r_qw_6 >> 32ull);
     if (!((switch_f9_1 == 1ull) ? ((u8)((u8)((u8)r_ep_4 & 7u) + 255u) < 5u) : 0u)) goto l_join_br_1;
     r_ij_2 = (u64)(r_qw_6 >> 35ull);
-    r_1q_2 = (ld64(away(away(((u8 *)switch_table_typed_conforming_conforms_check_object_5c_426a4812), 8 * (r_ep_4 & 7ull)), 0xfffffffffffffff8ull)) * r_ij_2);
+    r_1q_2 = (ld64(away(away(((u8 *)switch_table_typed_conforming_conforms_check_object_5c_e20a29a0), 8 * (r_ep_4 & 7ull)), 0xfffffffffffffff8ull)) * r_ij_2);
     r_c6_6 = (u64)((r_1q_2 + 63ull) >> 6ull);
     if (!t_0c_1) goto l_join_bd_2;
     st64(r_08_2, uadd_sat64(ld64(r_08_2), 1ull));
@@ -11762,7 +11684,7 @@ l_arm_vo_1:;
 l_arm_p5_1:;
     r_z6_11 = (u64)(r_c6_6 << 3ull);
     r_8a_1 = away(t_f6_1, (u64)(r_gk_1 << 3ull));
-    r_se_2 = (u64)(((ld64(away(away(((u8 *)switch_table_typed_conforming_conforms_check_object_5c_426a4812), 8 * (r_ep_4 & 7ull)), 0xfffffffffffffff8ull)) * r_ij_2) + 63ull) >> 6ull);
+    r_se_2 = (u64)(((ld64(away(away(((u8 *)switch_table_typed_conforming_conforms_check_object_5c_e20a29a0), 8 * (r_ep_4 & 7ull)), 0xfffffffffffffff8ull)) * r_ij_2) + 63ull) >> 6ull);
     r_12_4 = (u32)r_se_2;
     if (!r_2p_1) goto l_capnp_5b;
     r_yf_13 = ld32(r_h6_5);
@@ -11780,15 +11702,15 @@ l_capnp_5b:;
 l_then_rx:;
     st32(r_h6_5, r_w0_9);
     st64(away(ldp(r_xm_4), (u64)((u64)r_sr_1 << 3ull)), ((r_qw_6 & 0xffffffff00000001ull) | (u64)(u32)((r_yf_13 + (r_sr_1 ^ 0xffffffffu)) << 2u)));
-    r_iy_1 = r_yf_13;
-    r_jm_2 = 0u;
-    goto l_arm_4p_1;
+    r_fp_1 = r_yf_13;
+    r_p4_1 = 0u;
+    goto l_arm_4x_1;
 l_else_gb:;
     u32 r_xo_6 = r_tu_5.f1;
     capnp_arena_arena_rows_put_word_in_4426f83c3c99ca57(ldp(r_yf_12), r_0f_6, r_sr_1, ((r_qw_6 & 0xffffffff00000001ull) | (u64)(u32)((r_xo_6 + (r_sr_1 ^ 0xffffffffu)) << 2u)));
-    r_iy_1 = r_xo_6;
-    r_jm_2 = r_21_1;
-    goto l_arm_4p_1;
+    r_fp_1 = r_xo_6;
+    r_p4_1 = r_21_1;
+    goto l_arm_4x_1;
 l_arm_pq_5:;
     capnp_arena_arena_builder_arena_impl_BuilderArenaImplB_8452dd78(slot_1, a_2, (r_12_4 + 1u));
     if (!(ld8(slot_1) == 0u)) goto l_arm_vh_2;
@@ -11813,19 +11735,19 @@ l_capnp_9d_1:;
 l_else_bj:;
     capnp_arena_arena_rows_put_word_in_4426f83c3c99ca57(ldp(r_yf_12), r_0f_6, r_sr_1, r_ni_1);
 l_core_5s_1:;
-    r_iy_1 = r_ll_4;
-    r_jm_2 = r_yf_14;
-l_arm_4p_1:;
-    r_1q_3 = (ld64(away(away(((u8 *)switch_table_typed_conforming_conforms_check_object_5c_426a4812), 8 * (r_ep_4 & 7ull)), 0xfffffffffffffff8ull)) * r_ij_2);
+    r_fp_1 = r_ll_4;
+    r_p4_1 = r_yf_14;
+l_arm_4x_1:;
+    r_1q_3 = (ld64(away(away(((u8 *)switch_table_typed_conforming_conforms_check_object_5c_e20a29a0), 8 * (r_ep_4 & 7ull)), 0xfffffffffffffff8ull)) * r_ij_2);
     if (r_c6_6 == 0ull) goto l_capnp_pq;
-    if (!(r_jm_2 == 0u)) goto l_else_h1_3;
+    if (!(r_p4_1 == 0u)) goto l_else_h1_3;
     r_u9 = ldp(r_xm_4);
     goto l_capnp_m1;
 l_else_h1_3:;
-    u8 *r_x5_15 = capnp_arena_arena_rows_Rows_other_mut_4426f83c3c99ca57(r_xm_4, r_jm_2);
+    u8 *r_x5_15 = capnp_arena_arena_rows_Rows_other_mut_4426f83c3c99ca57(r_xm_4, r_p4_1);
     r_u9 = r_x5_15;
 l_capnp_m1:;
-    r_2b_4 = away(r_u9, (u64)((u64)r_iy_1 << 3ull));
+    r_2b_4 = away(r_u9, (u64)((u64)r_fp_1 << 3ull));
     if (!(r_1q_2 < 449ull)) goto l_else_r3_3;
     if (!(r_1q_2 > 192ull)) goto l_else_9l;
     mv32(r_2b_4, r_8a_1);
@@ -11855,13 +11777,13 @@ l_capnp_pq:;
     r_4i_2 = (r_1q_3 & 63ull);
     if (r_4i_2 == 0ull) goto l_capnp_v7_1;
     u64 r_0f_7 = (r_c6_6 + 0xffffffffffffffffull);
-    r_w0_10 = (r_iy_1 + (u32)r_0f_7);
+    r_w0_10 = (r_fp_1 + (u32)r_0f_7);
     r_a5 = (ld64(away(r_8a_1, (u64)(r_0f_7 << 3ull))) & ((u64)(0xffffffffffffffffull << (r_4i_2 & 63u)) ^ 0xffffffffffffffffull));
-    if (!(r_jm_2 == 0u)) goto l_else_eu_1;
+    if (!(r_p4_1 == 0u)) goto l_else_eu_1;
     st64(away(ldp(r_xm_4), (u64)((u64)r_w0_10 << 3ull)), r_a5);
     goto l_capnp_v7_1;
 l_else_eu_1:;
-    capnp_arena_arena_rows_put_word_in_4426f83c3c99ca57(ldp(r_yf_12), ((u64)r_jm_2 + 0xffffffffffffffffull), r_w0_10, r_a5);
+    capnp_arena_arena_rows_put_word_in_4426f83c3c99ca57(ldp(r_yf_12), ((u64)r_p4_1 + 0xffffffffffffffffull), r_w0_10, r_a5);
     goto l_capnp_v7_1;
 l_arm_vh_2:;
     r_t8_3 = ld8(r_x5_13);
@@ -11880,16 +11802,16 @@ l_join_o1_1:;
     r_lc_11 = ((r_24_8 + 1ull) + r_m6_4);
     if (!(r_m6_4 < 0x20000000ull)) goto l_else_70_4;
     if (r_lc_11 > r_nb_2) { r_t8_4 = 23u; goto l_capnp_mp_4; }
-    r_jm_3 = r_lc_11;
+    r_jm_1 = r_lc_11;
     goto l_arm_h8_1;
 l_else_70_4:;
     u64 r_3o_4 = (r_lc_11 + 0xffffffffc0000000ull);
     if ((r_lc_11 < 0x40000000ull) ? 1u : (r_3o_4 > r_nb_2)) { r_t8_4 = 23u; goto l_capnp_mp_4; }
-    r_jm_3 = r_3o_4;
+    r_jm_1 = r_3o_4;
 l_arm_h8_1:;
-    r_4r_2 = (u32)r_jm_3;
+    r_4r_2 = (u32)r_jm_1;
     if (r_sg_1) { r_t8_4 = 26u; goto l_capnp_mp_4; }
-    r_8u_1 = (r_nb_2 < (r_jm_3 + r_lc_10));
+    r_8u_1 = (r_nb_2 < (r_jm_1 + r_lc_10));
     if ((u8)((u8)t_pa | (u8)r_8u_1)) goto l_capnp_li_1;
     if (!(ld8(a_6) == 1u)) { r_5b_1 = r_4r_2; goto l_arm_7a_1; }
     r_52_15 = ld64(r_rq_7);
@@ -12059,7 +11981,7 @@ l_capnp_5c:;
     st64(r_a8_3, r_9h);
     st32(r_c4_6, (r_5b_1 + ((u32)r_ep_4 & 65535u)));
     st32(r_bk_1, 0u);
-    st32(r_6c_3, r_s1_1);
+    st32(r_6c_3, r_mx);
     capnp_copies_copy_children_copy_children_out_of_line_3_45de2596(slot_1, a_2, r_wt_1, (r_29_1 + r_4r_3), slot_2, r_az_4, a_6, a_7);
     r_2b_6 = ld8(slot_1);
     r_qh_1 = ld8(r_x5_12);
@@ -12462,8 +12384,8 @@ static NEVER COLD u64 capnp_arena_arena_rows_word_in_4426f83c3c99ca57(u8 *a_1, u
     return ld64(away(ldp(away(a_1, (a_2 * 40ull))), (u64)((u64)a_3 << 3ull)));
 }
 
-/* capnp_making::landing::follow::<#257eebf23d8227b7> */
-static NEVER COLD void capnp_making_landing_follow_257eebf23d8227b7(u8 *a_1, u8 *a_2, u32 a_3, u32 a_4)
+/* capnp_allocation::landing::follow::<#257eebf23d8227b7> */
+static NEVER COLD void capnp_allocation_landing_follow_257eebf23d8227b7(u8 *a_1, u8 *a_2, u32 a_3, u32 a_4)
 {
     A(8) u8 slot_1[32];
     A(8) u8 slot_2[24];
@@ -12506,7 +12428,7 @@ l_capnp_6l:;
     r_qw = ld64(away(ldp(r_po), (u64)((u64)a_4 << 3ull)));
     memset(slot_1, 0u, 32);
     if (!((r_qw & 3ull) == 2ull)) { r_2n = r_qw; goto l_else_y9; }
-    capnp_making_landing_follow_far_257eebf23d8227b7(slot_1, a_2, r_qw);
+    capnp_allocation_landing_follow_far_257eebf23d8227b7(slot_1, a_2, r_qw);
     r_ud = ld8(slot_1);
     goto l_capnp_ty;
 l_else_y9:;
@@ -12550,8 +12472,8 @@ l_capnp_ty:;
     return;
 }
 
-/* capnp_making::landing::follow_far::<#257eebf23d8227b7> */
-static NEVER COLD void capnp_making_landing_follow_far_257eebf23d8227b7(u8 *a_1, u8 *a_2, u64 a_3)
+/* capnp_allocation::landing::follow_far::<#257eebf23d8227b7> */
+static NEVER COLD void capnp_allocation_landing_follow_far_257eebf23d8227b7(u8 *a_1, u8 *a_2, u64 a_3)
 {
     u64 r_cy;
     u32 r_4r;
@@ -12689,8 +12611,8 @@ l_join_s8:;
     return;
 }
 
-/* capnp_making::zeroing::zero_target::<#257eebf23d8227b7> */
-static NEVER COLD void capnp_making_zeroing_zero_target_257eebf23d8227b7(u8 *a_1, u8 *a_2)
+/* capnp_allocation::zeroing::zero_target::<#257eebf23d8227b7> */
+static NEVER COLD void capnp_allocation_zeroing_zero_target_257eebf23d8227b7(u8 *a_1, u8 *a_2)
 {
     u64 r_tp;
     u32 r_5k;
@@ -12727,8 +12649,8 @@ static NEVER COLD void capnp_making_zeroing_zero_target_257eebf23d8227b7(u8 *a_1
     u64 r_lc_3;
     u64 r_0f_3;
     u8 *r_8r;
-    u32 r_dq;
-    u32 r_sw;
+    u32 r_gq;
+    u32 r_tv;
     u64 r_ic;
     u64 r_b6;
     u64 r_se;
@@ -12770,7 +12692,7 @@ l_arm_ef:;
     r_ef = (u64)ld32(r_li);
 l_capnp_5p:;
     if (r_lc_1 > r_ef) goto l_join_68;
-    capnp_making_zeroing_zero_pointers_257eebf23d8227b7(a_1, r_5k, (u32)r_lc, r_12);
+    capnp_allocation_zeroing_zero_pointers_257eebf23d8227b7(a_1, r_5k, (u32)r_lc, r_12);
     r_68 = ((r_4r & 65535u) + r_12);
     r_es = (u64)r_68;
     if (r_68 == 0u) goto l_join_68;
@@ -12817,7 +12739,7 @@ l_arm_a9:;
     r_ij = (u64)(r_tp >> 35ull);
     switch ((u8)((u8)(u64)(r_tp >> 32ull) & 7u)) {
     case 7u: goto l_arm_so;
-    case 6u: goto l_arm_ns;
+    case 6u: goto l_arm_ww;
     case 0u: { r_ic = 0ull; goto l_capnp_nc; }
     case 5u: goto l_arm_h9;
     case 4u: goto l_arm_h9_1;
@@ -12860,19 +12782,19 @@ l_join_v8:;
     r_8r = away(a_1, 64ull);
 l_arm_w5:;
     if (r_lc_3 > (u64)ld32(r_8r)) goto l_join_68;
-    if (!((r_y6_1 != 0ull) ? (t_c8 != 0u) : 0u)) goto l_capnp_iw;
-    r_dq = (r_5k_1 + 1u);
-    r_sw = 0u;
-l_join_3l:;
-    u32 r_w0 = (r_dq + r_az);
-    capnp_making_zeroing_zero_pointers_257eebf23d8227b7(a_1, r_5k, r_w0, t_12);
-    u32 r_ff = (r_sw + 1u);
-    if (!(r_ff == t_c8)) { r_dq = (r_w0 + t_12); r_sw = r_ff; goto l_join_3l; }
-l_capnp_iw:;
-    capnp_making_zeroing_zero_if_inside_257eebf23d8227b7(a_1, r_5k, r_5k_1, r_c4);
+    if (!((r_y6_1 != 0ull) ? (t_c8 != 0u) : 0u)) goto l_capnp_bs;
+    r_gq = (r_5k_1 + 1u);
+    r_tv = 0u;
+l_join_5a:;
+    u32 r_w0 = (r_gq + r_az);
+    capnp_allocation_zeroing_zero_pointers_257eebf23d8227b7(a_1, r_5k, r_w0, t_12);
+    u32 r_ff = (r_tv + 1u);
+    if (!(r_ff == t_c8)) { r_gq = (r_w0 + t_12); r_tv = r_ff; goto l_join_5a; }
+l_capnp_bs:;
+    capnp_allocation_zeroing_zero_if_inside_257eebf23d8227b7(a_1, r_5k, r_5k_1, r_c4);
     goto l_join_68;
-l_arm_ns:;
-    capnp_making_zeroing_zero_pointers_257eebf23d8227b7(a_1, r_5k, r_5k_1, (u32)r_ij);
+l_arm_ww:;
+    capnp_allocation_zeroing_zero_pointers_257eebf23d8227b7(a_1, r_5k, r_5k_1, (u32)r_ij);
     goto l_join_68;
 l_arm_h9_2:;
     r_ic = 1ull;
@@ -12937,8 +12859,8 @@ l_default_e1:;
     UNREACHABLE();
 }
 
-/* capnp_making::zeroing::zero_pointers::<#257eebf23d8227b7> */
-static void capnp_making_zeroing_zero_pointers_257eebf23d8227b7(u8 *a_1, u32 a_2, u32 a_3, u32 a_4)
+/* capnp_allocation::zeroing::zero_pointers::<#257eebf23d8227b7> */
+static void capnp_allocation_zeroing_zero_pointers_257eebf23d8227b7(u8 *a_1, u32 a_2, u32 a_3, u32 a_4)
 {
     A(8) u8 slot_1[32];
     u64 r_v1;
@@ -12985,26 +12907,26 @@ l_join_xy:;
     r_2b = away(ldp(r_xm), (u64)((u64)r_7m << 3ull));
     r_qw = ld64(r_2b);
     if (r_qw == 0ull) goto l_capnp_o8;
-    goto l_then_ab;
+    goto l_then_8k;
 l_capnp_2f:;
     r_lz = ldp(r_yf);
     r_sq = capnp_arena_arena_rows_word_in_4426f83c3c99ca57(r_lz, r_0f_1, r_7m);
     if (r_sq == 0ull) goto l_capnp_o8;
-    goto l_else_n1;
-l_then_ab:;
-    capnp_making_landing_follow_257eebf23d8227b7(slot_1, a_1, 0u, r_7m);
+    goto l_else_ie;
+l_then_8k:;
+    capnp_allocation_landing_follow_257eebf23d8227b7(slot_1, a_1, 0u, r_7m);
     st64(r_2b, 0ull);
     r_9s = r_qw;
     goto l_capnp_2f_1;
-l_else_n1:;
-    capnp_making_landing_follow_257eebf23d8227b7(slot_1, a_1, a_2, r_7m);
+l_else_ie:;
+    capnp_allocation_landing_follow_257eebf23d8227b7(slot_1, a_1, a_2, r_7m);
     capnp_arena_arena_rows_put_word_in_4426f83c3c99ca57(r_lz, r_0f_1, r_7m, 0ull);
     r_9s = r_sq;
 l_capnp_2f_1:;
     if (!(ld8(slot_1) == 1u)) goto l_capnp_o8;
-    capnp_making_zeroing_zero_target_257eebf23d8227b7(a_1, r_x5);
+    capnp_allocation_zeroing_zero_target_257eebf23d8227b7(a_1, r_x5);
     if (!((r_9s & 3ull) == 2ull)) goto l_capnp_o8;
-    capnp_making_zeroing_zero_far_pads_257eebf23d8227b7(a_1, r_9s);
+    capnp_allocation_zeroing_zero_far_pads_257eebf23d8227b7(a_1, r_9s);
 l_capnp_o8:;
     u64 indvars_r7 = (indvars_mo + 1ull);
     if (!(indvars_r7 == r_v1)) { indvars_mo = indvars_r7; goto l_join_xy; }
@@ -13012,8 +12934,8 @@ l_join_68:;
     return;
 }
 
-/* capnp_making::zeroing::zero_if_inside::<#257eebf23d8227b7> */
-static void capnp_making_zeroing_zero_if_inside_257eebf23d8227b7(u8 *a_1, u32 a_2, u32 a_3, u64 a_4)
+/* capnp_allocation::zeroing::zero_if_inside::<#257eebf23d8227b7> */
+static void capnp_allocation_zeroing_zero_if_inside_257eebf23d8227b7(u8 *a_1, u32 a_2, u32 a_3, u64 a_4)
 {
     u64 r_7l;
     u64 r_o7;
@@ -13073,8 +12995,8 @@ l_join_68:;
     return;
 }
 
-/* capnp_making::zeroing::zero_far_pads::<#257eebf23d8227b7> */
-static NEVER COLD void capnp_making_zeroing_zero_far_pads_257eebf23d8227b7(u8 *a_1, u64 a_2)
+/* capnp_allocation::zeroing::zero_far_pads::<#257eebf23d8227b7> */
+static NEVER COLD void capnp_allocation_zeroing_zero_far_pads_257eebf23d8227b7(u8 *a_1, u64 a_2)
 {
     u8 r_hr;
     u64 t_3h;
@@ -13154,7 +13076,7 @@ static NEVER void capnp_copies_copy_children_copy_children_out_of_line_3_45de259
     u8 *r_x5_1;
     u8 *r_k0;
     u8 *r_zd_1;
-    u32 r_53;
+    u32 r_mx;
     u8 t_q5;
     u8 *r_xm;
     u8 r_sz;
@@ -13214,8 +13136,8 @@ static NEVER void capnp_copies_copy_children_copy_children_out_of_line_3_45de259
     u64 r_6f;
     u64 r_59;
     u64 r_ni;
-    u32 r_iy;
-    u32 r_jm;
+    u32 r_fp;
+    u32 r_p4;
     u64 r_1q_1;
     u8 *r_u9;
     u8 *r_2b;
@@ -13316,7 +13238,7 @@ static NEVER void capnp_copies_copy_children_copy_children_out_of_line_3_45de259
     r_x5_1 = (slot_3 + 8);
     r_k0 = (slot_3 + 12);
     r_zd_1 = (slot_3 + 16);
-    r_53 = (r_5k_1 + 0xffffffffu);
+    r_mx = ((r_5k_1 == 0x80000000u) ? 0x80000000u : (r_5k_1 + 0xffffffffu));
     t_q5 = (a_8 == 1u);
     r_xm = away(a_2, 32ull);
     r_sz = (a_3 == 0u);
@@ -13368,7 +13290,7 @@ l_join_22:;
     r_ep = (u64)(r_qw_3 >> 32ull);
     if (!((switch_f9 == 1ull) ? ((u8)((u8)((u8)r_ep & 7u) + 255u) < 5u) : 0u)) goto l_join_br;
     r_ij = (u64)(r_qw_3 >> 35ull);
-    r_1q = (ld64(away(away(((u8 *)switch_table_typed_conforming_conforms_check_object_5c_426a4812), 8 * (r_ep & 7ull)), 0xfffffffffffffff8ull)) * r_ij);
+    r_1q = (ld64(away(away(((u8 *)switch_table_typed_conforming_conforms_check_object_5c_e20a29a0), 8 * (r_ep & 7ull)), 0xfffffffffffffff8ull)) * r_ij);
     r_c6 = (u64)((r_1q + 63ull) >> 6ull);
     if (!t_0c) goto l_join_bd;
     st64(r_08, uadd_sat64(ld64(r_08), 1ull));
@@ -13395,7 +13317,7 @@ l_arm_i0_1:;
 l_arm_5g:;
     r_z6 = (u64)(r_c6 << 3ull);
     r_dx = away(r_rv_1, (u64)(r_la << 3ull));
-    r_se = (u64)(((ld64(away(away(((u8 *)switch_table_typed_conforming_conforms_check_object_5c_426a4812), 8 * (r_ep & 7ull)), 0xfffffffffffffff8ull)) * r_ij) + 63ull) >> 6ull);
+    r_se = (u64)(((ld64(away(away(((u8 *)switch_table_typed_conforming_conforms_check_object_5c_e20a29a0), 8 * (r_ep & 7ull)), 0xfffffffffffffff8ull)) * r_ij) + 63ull) >> 6ull);
     r_12 = (u32)r_se;
     if (!r_sz) goto l_capnp_5b;
     r_yf_1 = ld32(r_h6);
@@ -13413,15 +13335,15 @@ l_capnp_5b:;
 l_then_rx:;
     st32(r_h6, r_w0);
     st64(away(ldp(r_xm), (u64)((u64)r_7m << 3ull)), ((r_qw_3 & 0xffffffff00000001ull) | (u64)(u32)((r_yf_1 + (r_7m ^ 0xffffffffu)) << 2u)));
-    r_iy = r_yf_1;
-    r_jm = 0u;
-    goto l_arm_4p;
+    r_fp = r_yf_1;
+    r_p4 = 0u;
+    goto l_arm_4x;
 l_else_gb:;
     u32 r_xo = r_tu.f1;
     capnp_arena_arena_rows_put_word_in_4426f83c3c99ca57(ldp(r_yf), r_0f, r_7m, ((r_qw_3 & 0xffffffff00000001ull) | (u64)(u32)((r_xo + (r_7m ^ 0xffffffffu)) << 2u)));
-    r_iy = r_xo;
-    r_jm = a_3;
-    goto l_arm_4p;
+    r_fp = r_xo;
+    r_p4 = a_3;
+    goto l_arm_4x;
 l_arm_pq:;
     capnp_arena_arena_builder_arena_impl_BuilderArenaImplB_8452dd78(slot_1, a_2, (r_12 + 1u));
     if (!(ld8(slot_1) == 0u)) goto l_arm_vh;
@@ -13446,19 +13368,19 @@ l_capnp_9d:;
 l_else_bj:;
     capnp_arena_arena_rows_put_word_in_4426f83c3c99ca57(ldp(r_yf), r_0f, r_7m, r_ni);
 l_core_5s:;
-    r_iy = r_ll;
-    r_jm = r_yf_2;
-l_arm_4p:;
-    r_1q_1 = (ld64(away(away(((u8 *)switch_table_typed_conforming_conforms_check_object_5c_426a4812), 8 * (r_ep & 7ull)), 0xfffffffffffffff8ull)) * r_ij);
+    r_fp = r_ll;
+    r_p4 = r_yf_2;
+l_arm_4x:;
+    r_1q_1 = (ld64(away(away(((u8 *)switch_table_typed_conforming_conforms_check_object_5c_e20a29a0), 8 * (r_ep & 7ull)), 0xfffffffffffffff8ull)) * r_ij);
     if (r_c6 == 0ull) goto l_capnp_pq;
-    if (!(r_jm == 0u)) goto l_else_h1;
+    if (!(r_p4 == 0u)) goto l_else_h1;
     r_u9 = ldp(r_xm);
     goto l_capnp_m1;
 l_else_h1:;
-    u8 *r_x5_6 = capnp_arena_arena_rows_Rows_other_mut_4426f83c3c99ca57(r_xm, r_jm);
+    u8 *r_x5_6 = capnp_arena_arena_rows_Rows_other_mut_4426f83c3c99ca57(r_xm, r_p4);
     r_u9 = r_x5_6;
 l_capnp_m1:;
-    r_2b = away(r_u9, (u64)((u64)r_iy << 3ull));
+    r_2b = away(r_u9, (u64)((u64)r_fp << 3ull));
     if (!(r_1q < 449ull)) goto l_else_r3;
     if (!(r_1q > 192ull)) goto l_else_9l;
     mv32(r_2b, r_dx);
@@ -13488,13 +13410,13 @@ l_capnp_pq:;
     r_4i = (r_1q_1 & 63ull);
     if (r_4i == 0ull) goto l_capnp_v7;
     u64 r_0f_1 = (r_c6 + 0xffffffffffffffffull);
-    r_w0_1 = (r_iy + (u32)r_0f_1);
+    r_w0_1 = (r_fp + (u32)r_0f_1);
     r_a5 = (ld64(away(r_dx, (u64)(r_0f_1 << 3ull))) & ((u64)(0xffffffffffffffffull << (r_4i & 63u)) ^ 0xffffffffffffffffull));
-    if (!(r_jm == 0u)) goto l_else_eu_1;
+    if (!(r_p4 == 0u)) goto l_else_eu_1;
     st64(away(ldp(r_xm), (u64)((u64)r_w0_1 << 3ull)), r_a5);
     goto l_capnp_v7;
 l_else_eu_1:;
-    capnp_arena_arena_rows_put_word_in_4426f83c3c99ca57(ldp(r_yf), ((u64)r_jm + 0xffffffffffffffffull), r_w0_1, r_a5);
+    capnp_arena_arena_rows_put_word_in_4426f83c3c99ca57(ldp(r_yf), ((u64)r_p4 + 0xffffffffffffffffull), r_w0_1, r_a5);
     goto l_capnp_v7;
 l_arm_vh:;
     r_7k = ld64(r_zd_5);
@@ -13710,7 +13632,7 @@ l_capnp_5c:;
     st64(r_a8_1, r_qw_2);
     st32(r_c4_1, (r_5b + ((u32)r_ep & 65535u)));
     st32(r_bk, 0u);
-    st32(r_6c_1, r_53);
+    st32(r_6c_1, r_mx);
     capnp_copies_copy_children_copy_children_out_of_line_3_45de2596(slot_1, a_2, r_wt, (r_29 + r_4r_1), slot_2, r_az, a_7, a_8);
     r_2b_5 = ld8(slot_1);
     r_qh = ld8(r_x5_4);
@@ -13901,7 +13823,7 @@ static void capnp_messages_messages_copy_size_add_value_5ccc1be374b2e488(u8 *a_1
     if (t_pa) goto l_capnp_sm;
     u8 *r_08 = away(a_6, 16ull);
     st64(r_08, uadd_sat64(ld64(r_08), 1ull));
-    if ((r_qw & 3ull) == 2ull) goto l_capnp_bt;
+    if ((r_qw & 3ull) == 2ull) goto l_capnp_uk;
     goto l_join_bd;
 l_capnp_sm:;
     if (!((r_qw & 3ull) == 2ull)) goto l_join_bd;
@@ -13928,8 +13850,8 @@ l_capnp_i5:;
     r_27 = r_38;
     r_hv = r_xw;
     goto l_arm_wn;
-l_capnp_bt:;
-    capnp_objects_source_follow_far_5ccc1be374b2e488(slot_1, r_xw_1, r_qw, a_6);
+l_capnp_uk:;
+    capnp_pointers_source_follow_far_5ccc1be374b2e488(slot_1, r_xw_1, r_qw, a_6);
     u64 r_38_1 = ld64((slot_1 + 16));
     u64 r_38_2 = ld64((slot_1 + 8));
     if (ld8(slot_1) == 0u) { r_gx = ld32((slot_1 + 44)); r_qd = ld32((slot_1 + 40)); r_d4 = r_38_1; r_9h = r_38_2; r_27 = ld64((slot_1 + 32)); r_hv = ((u8 *)(uptr)ld64((slot_1 + 24))); goto l_arm_wn; }
@@ -14060,7 +13982,7 @@ l_arm_oi_1:;
 l_arm_oi_2:;
     r_12_3 = (u32)r_ij;
     if ((i32)a_4 < (i32)1u) { r_pp = 1u; r_9q = 0u; r_ai = 26u; r_m0 = 0u; r_ph = 0ull; goto l_common_4n; }
-    r_c6 = (u64)(((ld64(away(away(((u8 *)switch_table_typed_conforming_conforms_check_object_5c_426a4812), 8 * (r_ep_1 & 7ull)), 0xfffffffffffffff8ull)) * r_ij) + 63ull) >> 6ull);
+    r_c6 = (u64)(((ld64(away(away(((u8 *)switch_table_typed_conforming_conforms_check_object_5c_e20a29a0), 8 * (r_ep_1 & 7ull)), 0xfffffffffffffff8ull)) * r_ij) + 63ull) >> 6ull);
     if (((u64)(r_27 >> 3ull) & 0xffffffffull) < (r_c6 + (u64)r_qd)) { r_pp = 1u; r_9q = 0u; r_ai = 23u; r_m0 = 0u; r_ph = 0ull; goto l_common_4n; }
     if (t_pa) goto l_arm_eq;
     if (!(ld8(a_6) == 1u)) goto l_arm_eq;
@@ -14110,7 +14032,7 @@ l_arm_tt:;
     case 5u: goto l_arm_6q;
     case 4u: { r_p0 = r_2t; r_y6_1 = r_5v; r_zi = r_pr; r_3l = r_v1; r_4c = r_27; r_tz = r_hv; r_lc_2 = r_d4; r_kk = r_oq; r_hp = r_t8; r_mw = r_gr; r_y9 = r_5v; goto l_capnp_qq; }
     case 2u: goto l_arm_89;
-    case 3u: goto l_arm_6l;
+    case 3u: goto l_arm_yk;
     default: goto l_noarm_e1;
     }
 l_capnp_7o:;
@@ -14145,7 +14067,7 @@ l_arm_89:;
     r_mw = r_gr;
     r_y9 = r_28;
     goto l_capnp_qq;
-l_arm_6l:;
+l_arm_yk:;
     r_p0 = r_2t;
     r_y6_1 = r_5v;
     r_zi = r_pr;
@@ -14156,7 +14078,7 @@ l_arm_6l:;
     r_kk = 3u;
     r_hp = r_t8;
     r_mw = r_gr;
-    r_y9 = (u32)(u64)(((ld64((((u8 *)switch_table_capnp_objects_pointers_sizes_add_object_5_3d258a4b) + (i64)(8 * (u64)(r_5v & 255u)))) * (u64)r_2t) + 63ull) >> 6ull);
+    r_y9 = (u32)(u64)(((ld64((((u8 *)switch_table_capnp_pointers_pointers_sizes_add_object__4567bcc5) + (i64)(8 * (u64)(r_5v & 255u)))) * (u64)r_2t) + 63ull) >> 6ull);
     goto l_capnp_qq;
 l_arm_6q:;
     if (r_2t == 0u) { r_p0 = 0u; r_y6_1 = r_5v; r_zi = r_pr; r_3l = r_v1; r_4c = r_27; r_tz = r_hv; r_lc_2 = r_d4; r_kk = 5u; r_hp = r_t8; r_mw = r_gr; r_y9 = 1u; goto l_capnp_qq; }
@@ -14509,11 +14431,11 @@ void capnp_messages_messages_path_read_part_9d3526b9b0726c59(u8 *a_1, u8 *a_2, u
     u64 r_lc;
     u64 r_nb;
     u64 r_yz;
-    u32 r_nz;
-    u64 r_tc;
-    u64 r_l8;
-    u64 r_3g;
-    u64 r_n9;
+    u32 r_7d;
+    u64 r_2w;
+    u64 r_7a;
+    u64 r_0m;
+    u64 r_v8;
     u64 r_ep;
     u64 r_y6;
     u64 r_lc_1;
@@ -14536,7 +14458,7 @@ void capnp_messages_messages_path_read_part_9d3526b9b0726c59(u8 *a_1, u8 *a_2, u
     u64 r_qs;
     u64 r_c6;
     u64 r_52_8;
-    u64 r_r4;
+    u64 r_2g;
     u64 r_ut;
     u64 r_dj;
     u64 r_mo;
@@ -14611,64 +14533,78 @@ l_join_mi:;
     memset(slot_1, 0u, 56);
     if (t_5m) goto l_capnp_sm;
     st64(r_08, uadd_sat64(ld64(r_08), 1ull));
-    if ((r_qw & 3ull) == 2ull) goto l_capnp_vm;
+    if ((r_qw & 3ull) == 2ull) goto l_capnp_w7;
     goto l_join_bd;
 l_capnp_sm:;
     if (!((r_qw & 3ull) == 2ull)) goto l_join_bd;
     st32(r_x5, 32u);
-    r_r4 = ld64(r_x5);
-    goto l_arm_5s;
+    r_2g = ld64(r_x5);
+    goto l_capnp_8g;
 l_join_bd:;
     u64 r_m6 = ((u64)(r_qw >> 2ull) & 0x3fffffffull);
     r_lc = ((r_24 + 1ull) + r_m6);
     r_nb = (r_gw & 0xffffffffull);
     if (!(r_m6 < 0x20000000ull)) goto l_else_70;
-    if (r_lc > r_nb) { r_r4 = 23ull; goto l_arm_5s; }
+    if (r_lc > r_nb) { r_2g = 23ull; goto l_capnp_8g; }
     r_yz = r_lc;
     goto l_capnp_i5;
 l_else_70:;
     u64 r_3o = (r_lc + 0xffffffffc0000000ull);
-    if ((r_lc < 0x40000000ull) ? 1u : (r_3o > r_nb)) { r_r4 = 23ull; goto l_arm_5s; }
+    if ((r_lc < 0x40000000ull) ? 1u : (r_3o > r_nb)) { r_2g = 23ull; goto l_capnp_8g; }
     r_yz = r_3o;
 l_capnp_i5:;
-    r_nz = (u32)r_yz;
-    r_tc = r_nr;
-    r_l8 = r_qw;
-    r_3g = r_c0;
-    r_n9 = t_al;
-    goto l_arm_s6;
-l_capnp_vm:;
-    capnp_objects_source_follow_far_5ccc1be374b2e488(slot_1, t_f6, r_qw, a_5);
+    r_7d = (u32)r_yz;
+    r_2w = r_nr;
+    r_7a = r_qw;
+    r_0m = r_c0;
+    r_v8 = t_al;
+    goto l_arm_nn;
+l_capnp_w7:;
+    capnp_pointers_source_follow_far_5ccc1be374b2e488(slot_1, t_f6, r_qw, a_5);
     u64 r_38 = ld64(r_zd);
     u64 r_38_1 = ld64(r_x5);
-    if (ld8(slot_1) == 0u) { r_nz = ld32(r_a8); r_tc = r_38; r_l8 = r_38_1; r_3g = ld64(r_89); r_n9 = ld64(r_lk); goto l_arm_s6; }
+    if (ld8(slot_1) == 0u) { r_7d = ld32(r_a8); r_2w = r_38; r_7a = r_38_1; r_0m = ld64(r_89); r_v8 = ld64(r_lk); goto l_arm_nn; }
     r_ut = r_38;
     r_dj = r_38_1;
-    goto l_arm_qe;
-l_arm_s6:;
-    switch ((u8)((u8)r_l8 & 3u)) {
+    goto l_capnp_qe;
+l_arm_nn:;
+    switch ((u8)((u8)r_7a & 3u)) {
     case 0u: goto l_arm_xn;
     case 1u: goto l_arm_z2;
     case 2u: { r_dh = 1ull; r_zc = 13u; r_x4 = 0u; r_r7 = 0ull; r_cd = 0ull; r_b7 = 0ull; r_rn = ((u8 *)0); r_kf = 0ull; r_r0 = 0u; r_we = 0u; r_52_2 = 0u; r_7f = 0u; goto l_capnp_do; }
-    case 3u: goto l_capnp_rg;
+    case 3u: goto l_arm_rg;
     default: goto l_default_e1;
     }
 l_arm_xn:;
-    r_ep = (u64)(r_l8 >> 32ull);
-    r_y6 = (u64)(r_l8 >> 48ull);
+    r_ep = (u64)(r_7a >> 32ull);
+    r_y6 = (u64)(r_7a >> 48ull);
     if ((i32)r_eo < (i32)1u) { r_dh = 1ull; r_zc = 26u; r_x4 = 0u; r_r7 = 0ull; r_cd = 0ull; r_b7 = 0ull; r_rn = ((u8 *)0); r_kf = 0ull; r_r0 = 0u; r_we = 0u; r_52_2 = 0u; r_7f = 0u; goto l_capnp_do; }
     r_lc_1 = ((r_ep & 65535ull) + r_y6);
-    if (((u64)(r_3g >> 3ull) & 0xffffffffull) < (r_lc_1 + (u64)r_nz)) { r_dh = 1ull; r_zc = 23u; r_x4 = 0u; r_r7 = 0ull; r_cd = 0ull; r_b7 = 0ull; r_rn = ((u8 *)0); r_kf = 0ull; r_r0 = 0u; r_we = 0u; r_52_2 = 0u; r_7f = 0u; goto l_capnp_do; }
+    if (((u64)(r_0m >> 3ull) & 0xffffffffull) < (r_lc_1 + (u64)r_7d)) { r_dh = 1ull; r_zc = 23u; r_x4 = 0u; r_r7 = 0ull; r_cd = 0ull; r_b7 = 0ull; r_rn = ((u8 *)0); r_kf = 0ull; r_r0 = 0u; r_we = 0u; r_52_2 = 0u; r_7f = 0u; goto l_capnp_do; }
     if (t_5m) goto l_arm_p8;
     if (!(ld8(a_5) == 1u)) goto l_arm_p8;
     r_52_3 = ld64(r_rq_1);
     if (r_52_3 < r_lc_1) { r_dh = 1ull; r_zc = 30u; r_x4 = 0u; r_r7 = 0ull; r_cd = 0ull; r_b7 = 0ull; r_rn = ((u8 *)0); r_kf = 0ull; r_r0 = 0u; r_we = 0u; r_52_2 = 0u; r_7f = 0u; goto l_capnp_do; }
     st64(a_5, 1ull);
     st64(r_rq_1, (r_52_3 - r_lc_1));
-    goto l_arm_p8;
+l_arm_p8:;
+    if (r_yf < (u32)r_y6) goto l_arm_qf;
+    r_dh = 1ull;
+    r_zc = 29u;
+    r_x4 = 0u;
+    r_r7 = 0ull;
+    r_cd = 0ull;
+    r_b7 = 0ull;
+    r_rn = ((u8 *)0);
+    r_kf = 0ull;
+    r_r0 = 0u;
+    r_we = 0u;
+    r_52_2 = 0u;
+    r_7f = 0u;
+    goto l_capnp_do;
 l_arm_z2:;
-    r_ij = (u64)(r_l8 >> 35ull);
-    switch ((u8)((u8)(u64)(r_l8 >> 32ull) & 7u)) {
+    r_ij = (u64)(r_7a >> 35ull);
+    switch ((u8)((u8)(u64)(r_7a >> 32ull) & 7u)) {
     case 7u: goto l_arm_xd;
     case 6u: goto l_arm_te;
     case 0u: goto l_arm_xd_1;
@@ -14682,8 +14618,8 @@ l_arm_z2:;
 l_arm_xd:;
     if ((i32)r_eo < (i32)1u) { r_dh = 1ull; r_zc = 26u; r_x4 = 0u; r_r7 = 0ull; r_cd = 0ull; r_b7 = 0ull; r_rn = ((u8 *)0); r_kf = 0ull; r_r0 = 0u; r_we = 0u; r_52_2 = 0u; r_7f = 0u; goto l_capnp_do; }
     r_c4 = (r_ij + 1ull);
-    r_24_1 = (u64)r_nz;
-    r_gw_1 = (u64)(r_3g >> 3ull);
+    r_24_1 = (u64)r_7d;
+    r_gw_1 = (u64)(r_0m >> 3ull);
     if ((r_gw_1 & 0xffffffffull) < (r_c4 + r_24_1)) { r_dh = 1ull; r_zc = 23u; r_x4 = 0u; r_r7 = 0ull; r_cd = 0ull; r_b7 = 0ull; r_rn = ((u8 *)0); r_kf = 0ull; r_r0 = 0u; r_we = 0u; r_52_2 = 0u; r_7f = 0u; goto l_capnp_do; }
     if (t_5m) goto l_arm_ga_1;
     if (!(ld8(a_5) == 1u)) goto l_arm_ga_1;
@@ -14693,7 +14629,7 @@ l_arm_xd:;
     st64(r_rq_1, (r_52_4 - r_c4));
 l_arm_ga_1:;
     if (!(r_gw_1 > r_24_1)) { r_eh = 0ull; goto l_join_qm; }
-    u64 r_qw_1 = ld64(away(((u8 *)(uptr)r_n9), (u64)(r_24_1 << 3ull)));
+    u64 r_qw_1 = ld64(away(((u8 *)(uptr)r_v8), (u64)(r_24_1 << 3ull)));
     if ((r_qw_1 & 3ull) == 0ull) { r_eh = r_qw_1; goto l_join_qm; }
     r_dh = 1ull;
     r_zc = 11u;
@@ -14725,7 +14661,7 @@ l_join_qm:;
 l_arm_te:;
     r_12_1 = (u32)r_ij;
     if ((i32)r_eo < (i32)1u) { r_dh = 1ull; r_zc = 26u; r_x4 = 0u; r_r7 = 0ull; r_cd = 0ull; r_b7 = 0ull; r_rn = ((u8 *)0); r_kf = 0ull; r_r0 = 0u; r_we = 0u; r_52_2 = 0u; r_7f = 0u; goto l_capnp_do; }
-    if (((u64)(r_3g >> 3ull) & 0xffffffffull) < (r_ij + (u64)r_nz)) { r_dh = 1ull; r_zc = 23u; r_x4 = 0u; r_r7 = 0ull; r_cd = 0ull; r_b7 = 0ull; r_rn = ((u8 *)0); r_kf = 0ull; r_r0 = 0u; r_we = 0u; r_52_2 = 0u; r_7f = 0u; goto l_capnp_do; }
+    if (((u64)(r_0m >> 3ull) & 0xffffffffull) < (r_ij + (u64)r_7d)) { r_dh = 1ull; r_zc = 23u; r_x4 = 0u; r_r7 = 0ull; r_cd = 0ull; r_b7 = 0ull; r_rn = ((u8 *)0); r_kf = 0ull; r_r0 = 0u; r_we = 0u; r_52_2 = 0u; r_7f = 0u; goto l_capnp_do; }
     if (t_5m) goto l_arm_o4;
     if (!(ld8(a_5) == 1u)) goto l_arm_o4;
     r_52_6 = ld64(r_rq_1);
@@ -14735,7 +14671,7 @@ l_arm_te:;
     goto l_arm_o4;
 l_arm_xd_1:;
     if ((i32)r_eo < (i32)1u) { r_dh = 1ull; r_zc = 26u; r_x4 = 0u; r_r7 = 0ull; r_cd = 0ull; r_b7 = 0ull; r_rn = ((u8 *)0); r_kf = 0ull; r_r0 = 0u; r_we = 0u; r_52_2 = 0u; r_7f = 0u; goto l_capnp_do; }
-    u8 r_8u = (((u64)(r_3g >> 3ull) & 0xffffffffull) < (u64)r_nz);
+    u8 r_8u = (((u64)(r_0m >> 3ull) & 0xffffffffull) < (u64)r_7d);
     if ((u8)((u8)t_5m | (u8)r_8u)) { r_dh = 1ull; r_zc = (r_8u ? 23u : 29u); r_x4 = 0u; r_r7 = 0ull; r_cd = 0ull; r_b7 = 0ull; r_rn = ((u8 *)0); r_kf = 0ull; r_r0 = 0u; r_we = 0u; r_52_2 = 0u; r_7f = 0u; goto l_capnp_do; }
     if (!(ld8(a_5) == 1u)) { r_dh = 1ull; r_zc = 29u; r_x4 = 0u; r_r7 = 0ull; r_cd = 0ull; r_b7 = 0ull; r_rn = ((u8 *)0); r_kf = 0ull; r_r0 = 0u; r_we = 0u; r_52_2 = 0u; r_7f = 0u; goto l_capnp_do; }
     st64(a_5, 1ull);
@@ -14769,7 +14705,7 @@ l_capnp_h9_1:;
 l_capnp_xd:;
     if ((i32)r_eo < (i32)1u) { r_dh = 1ull; r_zc = 26u; r_x4 = 0u; r_r7 = 0ull; r_cd = 0ull; r_b7 = 0ull; r_rn = ((u8 *)0); r_kf = 0ull; r_r0 = 0u; r_we = 0u; r_52_2 = 0u; r_7f = 0u; goto l_capnp_do; }
     r_c6 = (u64)(((r_qs * r_ij) + 63ull) >> 6ull);
-    u8 r_8u_1 = (((u64)(r_3g >> 3ull) & 0xffffffffull) < (r_c6 + (u64)r_nz));
+    u8 r_8u_1 = (((u64)(r_0m >> 3ull) & 0xffffffffull) < (r_c6 + (u64)r_7d));
     if ((u8)((u8)t_5m | (u8)r_8u_1)) { r_dh = 1ull; r_zc = (r_8u_1 ? 23u : 29u); r_x4 = 0u; r_r7 = 0ull; r_cd = 0ull; r_b7 = 0ull; r_rn = ((u8 *)0); r_kf = 0ull; r_r0 = 0u; r_we = 0u; r_52_2 = 0u; r_7f = 0u; goto l_capnp_do; }
     if (!(ld8(a_5) == 1u)) { r_dh = 1ull; r_zc = 29u; r_x4 = 0u; r_r7 = 0ull; r_cd = 0ull; r_b7 = 0ull; r_rn = ((u8 *)0); r_kf = 0ull; r_r0 = 0u; r_we = 0u; r_52_2 = 0u; r_7f = 0u; goto l_capnp_do; }
     r_52_8 = ld64(r_rq_1);
@@ -14789,12 +14725,26 @@ l_capnp_xd:;
     r_52_2 = 0u;
     r_7f = 0u;
     goto l_capnp_do;
+l_arm_rg:;
+    r_dh = 1ull;
+    r_zc = (((r_7a & 0xffffffffull) == 3ull) ? 29u : 34u);
+    r_x4 = 0u;
+    r_r7 = 0ull;
+    r_cd = 0ull;
+    r_b7 = 0ull;
+    r_rn = ((u8 *)0);
+    r_kf = 0ull;
+    r_r0 = 0u;
+    r_we = 0u;
+    r_52_2 = 0u;
+    r_7f = 0u;
+    goto l_capnp_do;
 l_default_e1:;
     UNREACHABLE();
-l_arm_5s:;
+l_capnp_8g:;
     r_ut = 0ull;
-    r_dj = r_r4;
-l_arm_qe:;
+    r_dj = r_2g;
+l_capnp_qe:;
     r_dh = 1ull;
     r_zc = (u8)r_dj;
     r_x4 = (u32)(u64)(r_dj >> 32ull);
@@ -14808,54 +14758,39 @@ l_arm_qe:;
     r_52_2 = 0u;
     r_7f = 0u;
     goto l_capnp_do;
-l_capnp_rg:;
-    r_dh = 1ull;
-    r_zc = (((r_l8 & 0xffffffffull) == 3ull) ? 29u : 34u);
-    r_x4 = 0u;
-    r_r7 = 0ull;
-    r_cd = 0ull;
-    r_b7 = 0ull;
-    r_rn = ((u8 *)0);
-    r_kf = 0ull;
-    r_r0 = 0u;
-    r_we = 0u;
-    r_52_2 = 0u;
-    r_7f = 0u;
-    goto l_capnp_do;
-l_arm_p8:;
-    if (!(r_yf < (u32)r_y6)) { r_dh = 1ull; r_zc = 29u; r_x4 = 0u; r_r7 = 0ull; r_cd = 0ull; r_b7 = 0ull; r_rn = ((u8 *)0); r_kf = 0ull; r_r0 = 0u; r_we = 0u; r_52_2 = 0u; r_7f = 0u; goto l_capnp_do; }
-    r_mo = r_n9;
-    r_c3 = r_3g;
+l_arm_qf:;
+    r_mo = r_0m;
+    r_c3 = r_v8;
     r_k8 = 0u;
-    r_er = r_tc;
-    r_ry = ((r_nz + r_yf) + ((u32)r_ep & 65535u));
+    r_er = r_2w;
+    r_ry = ((r_7d + r_yf) + ((u32)r_ep & 65535u));
     r_sf = (r_eo + 0xffffffffu);
     r_mh = 0ull;
     goto l_arm_9q;
 l_arm_o4:;
     if (!(r_yf < r_12_1)) { r_dh = 1ull; r_zc = 29u; r_x4 = 0u; r_r7 = 0ull; r_cd = 0ull; r_b7 = 0ull; r_rn = ((u8 *)0); r_kf = 0ull; r_r0 = 0u; r_we = 0u; r_52_2 = 0u; r_7f = 0u; goto l_capnp_do; }
-    r_mo = r_n9;
-    r_c3 = r_3g;
+    r_mo = r_0m;
+    r_c3 = r_v8;
     r_k8 = 0u;
-    r_er = r_tc;
-    r_ry = (r_nz + r_yf);
+    r_er = r_2w;
+    r_ry = (r_7d + r_yf);
     r_sf = (r_eo + 0xffffffffu);
     r_mh = 0ull;
     goto l_arm_9q;
 l_arm_rw:;
     if (!(t_c8 > r_yf)) { r_dh = 1ull; r_zc = 29u; r_x4 = 0u; r_r7 = 0ull; r_cd = 0ull; r_b7 = 0ull; r_rn = ((u8 *)0); r_kf = 0ull; r_r0 = 0u; r_we = 0u; r_52_2 = 0u; r_7f = 0u; goto l_capnp_do; }
-    r_mo = r_n9;
-    r_c3 = r_3g;
+    r_mo = r_0m;
+    r_c3 = r_v8;
     r_k8 = 1u;
-    r_er = r_tc;
-    r_ry = ((r_nz + 1u) + (r_68 * r_yf));
+    r_er = r_2w;
+    r_ry = ((r_7d + 1u) + (r_68 * r_yf));
     r_sf = (r_eo + 0xffffffffu);
     r_mh = (u64)((u64)((u32)(r_12 << 16u) | r_az) << 32ull);
     goto l_arm_9q;
 l_arm_gi:;
     if (!(r_yf < (u32)r_py)) { r_dh = 1ull; r_zc = 29u; r_x4 = 0u; r_r7 = 0ull; r_cd = 0ull; r_b7 = 0ull; r_rn = ((u8 *)0); r_kf = 0ull; r_r0 = 0u; r_we = 0u; r_52_2 = 0u; r_7f = 0u; goto l_capnp_do; }
-    r_mo = (u64)(uptr)r_qk;
-    r_c3 = r_c0;
+    r_mo = r_c0;
+    r_c3 = (u64)(uptr)r_qk;
     r_k8 = 0u;
     r_er = r_nr;
     r_ry = ((r_kn + (u32)r_ix) + r_yf);
@@ -14864,16 +14799,16 @@ l_arm_gi:;
 l_arm_9q:;
     u16 r_xg = (u16)(u64)(r_mh >> 32ull);
     u16 r_py_1 = (u16)(u64)(r_mh >> 48ull);
-    u8 *t_f6_1 = ((u8 *)(uptr)r_mo);
+    u8 *t_f6_1 = ((u8 *)(uptr)r_c3);
     u64 r_36 = (r_e3 + 1ull);
-    if (r_36 == a_4) { r_dh = 0ull; r_zc = r_k8; r_x4 = 0u; r_r7 = r_jm; r_cd = r_jv; r_b7 = r_er; r_rn = t_f6_1; r_kf = r_c3; r_r0 = r_ry; r_we = r_sf; r_52_2 = r_xg; r_7f = r_py_1; goto l_capnp_do; }
+    if (r_36 == a_4) { r_dh = 0ull; r_zc = r_k8; r_x4 = 0u; r_r7 = r_jm; r_cd = r_jv; r_b7 = r_er; r_rn = t_f6_1; r_kf = r_mo; r_r0 = r_ry; r_we = r_sf; r_52_2 = r_xg; r_7f = r_py_1; goto l_capnp_do; }
     r_i9_1 = r_k8;
     r_e3 = r_36;
     r_eo = r_sf;
     r_py = r_py_1;
     r_ix = r_xg;
     r_kn = r_ry;
-    r_c0 = r_c3;
+    r_c0 = r_mo;
     r_qk = t_f6_1;
     r_nr = r_er;
     goto l_join_mi;
@@ -15366,8 +15301,8 @@ l_return_ri:;
     return r_fk;
 }
 
-/* capnp_objects::pointers::sizes::add_object::<#5ccc1be374b2e488> */
-NEVER u8 capnp_objects_pointers_sizes_add_object_5ccc1be374b2e488(u8 *a_1, u32 a_2, u32 a_3, u8 *a_4)
+/* capnp_pointers::pointers::sizes::add_object::<#5ccc1be374b2e488> */
+NEVER u8 capnp_pointers_pointers_sizes_add_object_5ccc1be374b2e488(u8 *a_1, u32 a_2, u32 a_3, u8 *a_4)
 {
     A(8) u8 slot_1[64];
     A(8) u8 slot_2[56];
@@ -15445,7 +15380,7 @@ NEVER u8 capnp_objects_pointers_sizes_add_object_5ccc1be374b2e488(u8 *a_1, u32 a
     st32((slot_4 + 24), a_2);
     st32((slot_4 + 28), 0u);
     r_xm = away(a_4, 32ull);
-    capnp_objects_source_Source_measure_object_5ccc1be374b2e488(slot_2, slot_3, slot_4, a_3, r_xm);
+    capnp_pointers_source_Source_measure_object_5ccc1be374b2e488(slot_2, slot_3, slot_4, a_3, r_xm);
     r_r5 = ld8((slot_2 + 8));
     if (!(ld8(slot_2) == 0u)) goto l_arm_e5;
     r_zd = (slot_2 + 16);
@@ -15454,14 +15389,14 @@ NEVER u8 capnp_objects_pointers_sizes_add_object_5ccc1be374b2e488(u8 *a_1, u32 a
     switch (r_r5) {
     case 0u: { r_8m = 0ull; goto l_capnp_my; }
     case 1u: { r_8m = 0ull; goto l_capnp_my; }
-    case 3u: goto l_arm_6l;
+    case 3u: goto l_arm_yk;
     case 2u: goto l_arm_1x;
     case 4u: goto l_arm_nl;
     case 5u: goto l_arm_kb;
     default: goto l_noarm_e1;
     }
-l_arm_6l:;
-    r_8m = (u64)(((ld64((((u8 *)switch_table_capnp_objects_pointers_sizes_add_object_5_3d258a4b) + (i64)(8 * (u64)(r_z4 & 255u)))) * (u64)r_uq) + 63ull) >> 6ull);
+l_arm_yk:;
+    r_8m = (u64)(((ld64((((u8 *)switch_table_capnp_pointers_pointers_sizes_add_object__4567bcc5) + (i64)(8 * (u64)(r_z4 & 255u)))) * (u64)r_uq) + 63ull) >> 6ull);
     goto l_capnp_my;
 l_arm_1x:;
     r_8m = (u64)((u32)(r_z4 >> 16u) + (r_z4 & 65535u));
@@ -15574,8 +15509,8 @@ l_join_x4:;
     switch ((u8)((u8)r_qw & 3u)) {
     case 0u: goto l_arm_vb;
     case 1u: goto l_arm_ui;
-    case 2u: goto l_after_e9;
-    case 3u: goto l_after_e9;
+    case 2u: goto l_after_5f;
+    case 3u: goto l_after_5f;
     default: goto l_default_e1;
     }
 l_arm_vb:;
@@ -15626,21 +15561,21 @@ l_arm_h4:;
 l_arm_dt:;
     st64(a_4, (r_yz_1 + r_es_1));
     if (r_y6 == 0ull) goto l_loop_aa;
-    goto l_join_g1;
+    goto l_join_5h;
 l_arm_0l:;
     st32(r_08, 27u);
     st32(r_m3, 0u);
     st64(r_xz, 0xffffffffffffffffull);
     r_fk = 1u;
     goto l_return_ri;
-l_join_g1:;
-    u8 r_eh = capnp_objects_pointers_sizes_add_pointers_5ccc1be374b2e488(slot_1, (r_6l + r_az), r_12, r_53, a_4);
-    r_hf = r_eh;
+l_join_5h:;
+    u8 r_ky = capnp_pointers_pointers_sizes_add_pointers_5ccc1be374b2e488(slot_1, (r_6l + r_az), r_12, r_53, a_4);
+    r_hf = r_ky;
     goto l_capnp_5o;
 l_arm_ui:;
     r_ep = (u64)(r_qw >> 32ull);
-    if (!((u8)((u8)((u8)r_ep & 7u) + 255u) < 5u)) goto l_after_e9;
-    r_c6 = (u64)(((ld64(away(away(((u8 *)switch_table_typed_conforming_conforms_check_object_5c_426a4812), 8 * (r_ep & 7ull)), 0xfffffffffffffff8ull)) * (u64)(r_qw >> 35ull)) + 63ull) >> 6ull);
+    if (!((u8)((u8)((u8)r_ep & 7u) + 255u) < 5u)) goto l_after_5f;
+    r_c6 = (u64)(((ld64(away(away(((u8 *)switch_table_typed_conforming_conforms_check_object_5c_e20a29a0), 8 * (r_ep & 7ull)), 0xfffffffffffffff8ull)) * (u64)(r_qw >> 35ull)) + 63ull) >> 6ull);
     if (r_n1) { r_dq_1 = 25u; goto l_arm_h4_1; }
     if (!t_0c) goto l_join_bd_1;
     st64(r_t9, uadd_sat64(ld64(r_t9), 1ull));
@@ -15680,9 +15615,9 @@ l_arm_h4_1:;
     st64(r_xz, 0ull);
     r_fk = 1u;
     goto l_return_ri;
-l_after_e9:;
-    u8 r_z5 = capnp_objects_pointers_sizes_add_object_5ccc1be374b2e488(slot_1, r_sr, r_e3, a_4);
-    r_hf = r_z5;
+l_after_5f:;
+    u8 r_oc = capnp_pointers_pointers_sizes_add_object_5ccc1be374b2e488(slot_1, r_sr, r_e3, a_4);
+    r_hf = r_oc;
     goto l_capnp_5o;
 l_default_e1:;
     UNREACHABLE();
@@ -15698,8 +15633,8 @@ l_return_ri:;
     return r_fk;
 }
 
-/* capnp_objects::source::Source::measure_object::<#5ccc1be374b2e488> */
-static NEVER void capnp_objects_source_Source_measure_object_5ccc1be374b2e488(u8 *a_1, u8 *a_2, u8 *a_3, u32 a_4, u8 *a_5)
+/* capnp_pointers::source::Source::measure_object::<#5ccc1be374b2e488> */
+static NEVER void capnp_pointers_source_Source_measure_object_5ccc1be374b2e488(u8 *a_1, u8 *a_2, u8 *a_3, u32 a_4, u8 *a_5)
 {
     A(8) u8 slot_1[56];
     u8 r_dh;
@@ -15775,7 +15710,7 @@ static NEVER void capnp_objects_source_Source_measure_object_5ccc1be374b2e488(u8
     if (!t_0c) goto l_capnp_sm;
     u8 *r_08 = away(a_5, 16ull);
     st64(r_08, uadd_sat64(ld64(r_08), 1ull));
-    if ((r_qw_1 & 3ull) == 2ull) goto l_capnp_bt;
+    if ((r_qw_1 & 3ull) == 2ull) goto l_capnp_uk;
     goto l_join_bd;
 l_capnp_sm:;
     if (!((r_qw_1 & 3ull) == 2ull)) goto l_join_bd;
@@ -15802,8 +15737,8 @@ l_capnp_i5:;
     r_nl = r_qw;
     r_b2 = t_al;
     goto l_arm_xs;
-l_capnp_bt:;
-    capnp_objects_source_follow_far_5ccc1be374b2e488(slot_1, r_rv, r_qw_1, a_5);
+l_capnp_uk:;
+    capnp_pointers_source_follow_far_5ccc1be374b2e488(slot_1, r_rv, r_qw_1, a_5);
     u64 r_38 = ld64((slot_1 + 16));
     u64 r_38_1 = ld64((slot_1 + 8));
     if (ld8(slot_1) == 0u) { r_mk = ld32((slot_1 + 44)); r_qj = ld32((slot_1 + 40)); r_vj = r_38; r_at = r_38_1; r_nl = ld64((slot_1 + 32)); r_b2 = ld64((slot_1 + 24)); goto l_arm_xs; }
@@ -15850,11 +15785,11 @@ l_arm_z2:;
     case 7u: goto l_join_vn;
     case 6u: goto l_join_10;
     case 0u: goto l_arm_ps;
-    case 1u: goto l_arm_45;
-    case 2u: goto l_arm_45;
-    case 3u: goto l_arm_45;
-    case 4u: goto l_arm_45;
-    case 5u: goto l_arm_45;
+    case 1u: goto l_arm_5v;
+    case 2u: goto l_arm_5v;
+    case 3u: goto l_arm_5v;
+    case 4u: goto l_arm_5v;
+    case 5u: goto l_arm_5v;
     default: goto l_default_e1;
     }
 l_join_vn:;
@@ -15933,9 +15868,9 @@ l_arm_ps:;
     r_7j = 0u;
     r_p8 = (u32)r_ij;
     goto l_capnp_6f;
-l_arm_45:;
+l_arm_5v:;
     r_12_1 = (u32)r_ij;
-    r_c6 = (u64)(((ld64(away(away(((u8 *)switch_table_typed_conforming_conforms_check_object_5c_426a4812), 8 * (r_ep_1 & 7ull)), 0xfffffffffffffff8ull)) * r_ij) + 63ull) >> 6ull);
+    r_c6 = (u64)(((ld64(away(away(((u8 *)switch_table_typed_conforming_conforms_check_object_5c_e20a29a0), 8 * (r_ep_1 & 7ull)), 0xfffffffffffffff8ull)) * r_ij) + 63ull) >> 6ull);
     if (((u64)(r_nl >> 3ull) & 0xffffffffull) < (r_c6 + (u64)r_qj)) { r_6f = 0ull; r_3l = 0ull; r_rk = 0u; r_7q = 0u; r_yr = 0ull; r_c1 = 1ull; r_g3 = 23u; r_vx = 0u; r_7j = 0u; r_p8 = 0u; goto l_capnp_6f; }
     if (!t_0c) goto l_arm_zg;
     if (!(ld8(a_5) == 1u)) goto l_arm_zg;
@@ -15999,8 +15934,8 @@ l_capnp_6f:;
     return;
 }
 
-/* capnp_objects::pointers::sizes::add_pointers::<#5ccc1be374b2e488> */
-NEVER u8 capnp_objects_pointers_sizes_add_pointers_5ccc1be374b2e488(u8 *a_1, u32 a_2, u32 a_3, u32 a_4, u8 *a_5)
+/* capnp_pointers::pointers::sizes::add_pointers::<#5ccc1be374b2e488> */
+NEVER u8 capnp_pointers_pointers_sizes_add_pointers_5ccc1be374b2e488(u8 *a_1, u32 a_2, u32 a_3, u32 a_4, u8 *a_5)
 {
     u8 *r_su;
     u8 *r_xm;
@@ -16073,8 +16008,8 @@ l_join_7l:;
     switch ((u8)((u8)r_qw & 3u)) {
     case 0u: goto l_arm_vb;
     case 1u: goto l_arm_ui;
-    case 2u: goto l_after_ti;
-    case 3u: goto l_after_ti;
+    case 2u: goto l_after_mx;
+    case 3u: goto l_after_mx;
     default: goto l_default_e1;
     }
 l_arm_vb:;
@@ -16119,13 +16054,13 @@ l_arm_up:;
     if (r_yz > (r_es_1 ^ 0xffffffffffffffffull)) { sink_qh = 27u; sink_dw = 0xffffffffffffffffull; goto l_capnp_y7; }
     st64(a_5, (r_yz + r_es_1));
     if (r_y6 == 0ull) goto l_loop_da;
-    u8 r_x6 = capnp_objects_pointers_sizes_add_pointers_5ccc1be374b2e488(a_1, (r_6l + r_az), r_12, r_ra, a_5);
-    r_t4 = r_x6;
+    u8 r_kn = capnp_pointers_pointers_sizes_add_pointers_5ccc1be374b2e488(a_1, (r_6l + r_az), r_12, r_ra, a_5);
+    r_t4 = r_kn;
     goto l_capnp_qq;
 l_arm_ui:;
     r_ep = (u64)(r_qw >> 32ull);
-    if (!((u8)((u8)((u8)r_ep & 7u) + 255u) < 5u)) goto l_after_ti;
-    r_c6 = (u64)(((ld64(away(away(((u8 *)switch_table_typed_conforming_conforms_check_object_5c_426a4812), 8 * (r_ep & 7ull)), 0xfffffffffffffff8ull)) * (u64)(r_qw >> 35ull)) + 63ull) >> 6ull);
+    if (!((u8)((u8)((u8)r_ep & 7u) + 255u) < 5u)) goto l_after_mx;
+    r_c6 = (u64)(((ld64(away(away(((u8 *)switch_table_typed_conforming_conforms_check_object_5c_e20a29a0), 8 * (r_ep & 7ull)), 0xfffffffffffffff8ull)) * (u64)(r_qw >> 35ull)) + 63ull) >> 6ull);
     if (r_30) { sink_qh = 25u; sink_dw = 0ull; goto l_capnp_y7; }
     t_0c = (ld8(a_1) == 0u);
     if (!t_0c) goto l_join_bd_1;
@@ -16155,9 +16090,9 @@ l_arm_8q:;
     if (r_yz_1 > (r_c6 ^ 0xffffffffffffffffull)) { sink_qh = 27u; sink_dw = 0xffffffffffffffffull; goto l_capnp_y7; }
     st64(a_5, (r_yz_1 + r_c6));
     goto l_loop_da;
-l_after_ti:;
-    u8 r_xz_1 = capnp_objects_pointers_sizes_add_object_5ccc1be374b2e488(a_1, r_7m, a_4, a_5);
-    r_t4 = r_xz_1;
+l_after_mx:;
+    u8 r_ua = capnp_pointers_pointers_sizes_add_object_5ccc1be374b2e488(a_1, r_7m, a_4, a_5);
+    r_t4 = r_ua;
     goto l_capnp_qq;
 l_default_e1:;
     UNREACHABLE();
@@ -16255,9 +16190,9 @@ void capnp_messages_messages_canonical_copy_canonicalize_re_6a62b637(u8 *a_1, u8
     u8 r_45;
     u32 r_h0;
     u64 r_r1;
-    u8 r_ky;
-    u32 r_on;
-    u64 r_lw;
+    u64 r_bt;
+    u32 r_t5;
+    u8 r_up;
     u8 r_p3;
     u8 r_bq;
     u32 r_b3;
@@ -16342,16 +16277,16 @@ l_join_zk:;
     st64((slot_4 + 16), 0ull);
     r_eg = (u64)r_dd;
     if (!(r_dh == 0u)) goto l_arm_q5;
+    memset(slot_2, 0u, 24);
+    u8 *t_6c = (slot_3 + 56);
+    st64(t_6c, 0ull);
+    st64(slot_3, r_eg);
     mv16((slot_3 + 8), (slot_5 + 7));
     st64((slot_3 + 24), r_qw);
     stp((slot_3 + 32), r_rv);
     st64((slot_3 + 40), r_qw_1);
     st32((slot_3 + 48), r_5k);
     st32((slot_3 + 52), r_5k_1);
-    memset(slot_2, 0u, 24);
-    u8 *t_6c = (slot_3 + 56);
-    st64(t_6c, 0ull);
-    st64(slot_3, r_eg);
     st32(t_6c, r_5k_2);
     capnp_copies_copy_copy_object_f743e1513b93edc7(slot_2, a_2, 0u, 0u, slot_3, slot_4, 1u);
     r_r5 = ld8(slot_2);
@@ -16362,12 +16297,12 @@ l_join_zk:;
     r_lz = ldp(away(a_2, 56ull));
     r_qw_2 = ld64(r_lz);
     if (r_qw_2 == 0ull) goto l_capnp_8g;
-    capnp_making_landing_follow_22521b95e02b6c38(slot_1, a_2, 0u, 0u);
+    capnp_allocation_landing_follow_22521b95e02b6c38(slot_1, a_2, 0u, 0u);
     st64(r_lz, 0ull);
     if (!(ld8(slot_1) == 1u)) goto l_capnp_8g;
-    capnp_making_zeroing_zero_target_22521b95e02b6c38(a_2, (slot_1 + 8));
+    capnp_allocation_zeroing_zero_target_22521b95e02b6c38(a_2, (slot_1 + 8));
     if (!((r_qw_2 & 3ull) == 2ull)) goto l_capnp_8g;
-    capnp_making_zeroing_zero_far_pads_22521b95e02b6c38(a_2, r_qw_2);
+    capnp_allocation_zeroing_zero_far_pads_22521b95e02b6c38(a_2, r_qw_2);
 l_capnp_8g:;
     r_2b = r_r5_1;
     r_qh = r_uq;
@@ -16457,7 +16392,7 @@ l_else_o7:;
     r_ou = r_24_2;
     r_d0 = (u64)((u64)r_e3 << 3ull);
 l_capnp_cp:;
-    st64(ldp(away(a_2, 56ull)), ((r_d0 | (u64)(r_ou << 32ull)) | 2ull));
+    st64(ldp(away(a_2, 56ull)), (((u64)(r_ou << 32ull) | r_d0) | 2ull));
     r_j7 = (r_ou | (u64)((u64)r_ll_1 << 32ull));
 l_arm_e8:;
     r_wt = (u32)r_j7;
@@ -16524,66 +16459,77 @@ l_capnp_no_1:;
     r_r1 = r_wq;
     goto l_capnp_x6;
 l_capnp_x3:;
-    r_ky = ld8((slot_1 + 8));
-    r_on = ld32((slot_1 + 12));
-    r_lw = ld64((slot_1 + 16));
-    goto l_arm_vm;
+    r_bt = ld64((slot_1 + 16));
+    r_t5 = ld32((slot_1 + 12));
+    r_up = ld8((slot_1 + 8));
+    goto l_arm_cc;
 l_capnp_x6:;
-    if (!(r_3i == 0u)) { r_ky = r_45; r_on = r_h0; r_lw = r_r1; goto l_arm_vm; }
-    if (!(u8)(ld8(r_yf) & 1)) { r_p3 = 0u; r_bq = 0u; r_b3 = 0u; r_cp = 0u; r_t4 = 0ull; goto l_join_0b; }
-    r_p3 = 0u;
-    r_bq = (u8)(ld64(away(a_2, 96ull)) == 0ull);
-    r_b3 = 0u;
-    r_cp = 0u;
-    r_t4 = 0ull;
-    goto l_join_0b;
-l_arm_vm:;
-    switch (r_ky) {
-    case 0u: { r_p3 = 0u; r_bq = 0u; r_b3 = 0u; r_cp = 0u; r_t4 = 0ull; goto l_join_0b; }
-    case 27u: { r_p3 = 0u; r_bq = 0u; r_b3 = 0u; r_cp = 0u; r_t4 = 0ull; goto l_join_0b; }
-    case 1u: goto l_else_48;
-    case 2u: goto l_else_48;
-    case 3u: goto l_else_48;
-    case 4u: goto l_else_48;
-    case 5u: goto l_else_48;
-    case 6u: goto l_else_48;
-    case 7u: goto l_else_48;
-    case 8u: goto l_else_48;
-    case 9u: goto l_else_48;
-    case 10u: goto l_else_48;
-    case 11u: goto l_else_48;
-    case 12u: goto l_else_48;
-    case 13u: goto l_else_48;
-    case 14u: goto l_else_48;
-    case 15u: goto l_else_48;
-    case 16u: goto l_else_48;
-    case 17u: goto l_else_48;
-    case 18u: goto l_else_48;
-    case 19u: goto l_else_48;
-    case 20u: goto l_else_48;
-    case 21u: goto l_else_48;
-    case 22u: goto l_else_48;
-    case 23u: goto l_else_48;
-    case 24u: goto l_else_48;
-    case 25u: goto l_else_48;
-    case 26u: goto l_else_48;
-    case 28u: goto l_else_48;
-    case 29u: goto l_else_48;
-    case 30u: goto l_else_48;
-    case 31u: goto l_else_48;
-    case 32u: goto l_else_48;
-    case 33u: goto l_else_48;
-    case 34u: goto l_else_48;
+    if (!(r_3i == 0u)) { r_bt = r_r1; r_t5 = r_h0; r_up = r_45; goto l_arm_cc; }
+    if (!(u8)(ld8(r_yf) & 1)) goto l_arm_nb;
+    if (ld64(away(a_2, 96ull)) == 0ull) goto l_capnp_nb;
+    goto l_arm_nb;
+l_arm_cc:;
+    switch (r_up) {
+    case 0u: goto l_arm_nb;
+    case 27u: goto l_arm_nb;
+    case 1u: goto l_arm_nv;
+    case 2u: goto l_arm_nv;
+    case 3u: goto l_arm_nv;
+    case 4u: goto l_arm_nv;
+    case 5u: goto l_arm_nv;
+    case 6u: goto l_arm_nv;
+    case 7u: goto l_arm_nv;
+    case 8u: goto l_arm_nv;
+    case 9u: goto l_arm_nv;
+    case 10u: goto l_arm_nv;
+    case 11u: goto l_arm_nv;
+    case 12u: goto l_arm_nv;
+    case 13u: goto l_arm_nv;
+    case 14u: goto l_arm_nv;
+    case 15u: goto l_arm_nv;
+    case 16u: goto l_arm_nv;
+    case 17u: goto l_arm_nv;
+    case 18u: goto l_arm_nv;
+    case 19u: goto l_arm_nv;
+    case 20u: goto l_arm_nv;
+    case 21u: goto l_arm_nv;
+    case 22u: goto l_arm_nv;
+    case 23u: goto l_arm_nv;
+    case 24u: goto l_arm_nv;
+    case 25u: goto l_arm_nv;
+    case 26u: goto l_arm_nv;
+    case 28u: goto l_arm_nv;
+    case 29u: goto l_arm_nv;
+    case 30u: goto l_arm_nv;
+    case 31u: goto l_arm_nv;
+    case 32u: goto l_arm_nv;
+    case 33u: goto l_arm_nv;
+    case 34u: goto l_arm_nv;
     default: goto l_noarm_e1;
     }
 l_noarm_e1:;
     UNREACHABLE();
-l_else_48:;
+l_capnp_nb:;
+    r_p3 = 0u;
+    r_bq = 1u;
+    r_b3 = 0u;
+    r_cp = 0u;
+    r_t4 = 0ull;
+    goto l_join_0b;
+l_arm_nb:;
+    r_p3 = 0u;
+    r_bq = 0u;
+    r_b3 = 0u;
+    r_cp = 0u;
+    r_t4 = 0ull;
+    goto l_join_0b;
+l_arm_nv:;
+    if (r_up == 27u) { r_p3 = 0u; r_bq = 0u; r_b3 = 0u; r_cp = 0u; r_t4 = 0ull; goto l_join_0b; }
     r_p3 = 1u;
     r_bq = 0u;
-    r_b3 = (u32)r_ky;
-    r_cp = r_on;
-    r_t4 = r_lw;
+    r_b3 = (u32)r_up;
+    r_cp = r_t5;
+    r_t4 = r_bt;
 l_join_0b:;
     st8(a_1, r_p3);
     st8(away(a_1, 1ull), r_bq);
@@ -16904,14 +16850,14 @@ static NEVER void capnp_copies_copy_copy_object_f743e1513b93edc7(u8 *a_1, u8 *a_
     u8 r_kw_3;
     u32 r_re_3;
     struct s_i8_i32 r_pp;
-    u32 r_iy;
-    u32 r_jm;
+    u32 r_fp;
+    u32 r_p4;
     u64 r_4i_1;
     u64 r_y6_2;
     u64 r_q7_1;
     u64 r_lc_6;
     u64 r_lc_7;
-    u64 r_jm_1;
+    u64 r_jm;
     u32 r_4r_1;
     u8 r_8u;
     u64 r_52_7;
@@ -16990,7 +16936,7 @@ static NEVER void capnp_copies_copy_copy_object_f743e1513b93edc7(u8 *a_1, u8 *a_
     u8 *r_x5_7;
     u8 *r_k0_4;
     u8 *r_zd_7;
-    u32 r_s1_1;
+    u32 r_mx;
     u8 *r_o8_1;
     u64 r_24_6;
     u64 r_0f_6;
@@ -17052,8 +16998,8 @@ static NEVER void capnp_copies_copy_copy_object_f743e1513b93edc7(u8 *a_1, u8 *a_
     u64 r_6f;
     u64 r_59_1;
     u64 r_ni_1;
-    u32 r_iy_1;
-    u32 r_jm_2;
+    u32 r_fp_1;
+    u32 r_p4_1;
     u64 r_1q_3;
     u8 *r_u9;
     u8 *r_2b_4;
@@ -17065,7 +17011,7 @@ static NEVER void capnp_copies_copy_copy_object_f743e1513b93edc7(u8 *a_1, u8 *a_
     u64 r_q7_2;
     u64 r_lc_10;
     u64 r_lc_11;
-    u64 r_jm_3;
+    u64 r_jm_1;
     u32 r_4r_2;
     u8 r_8u_1;
     u64 r_52_9;
@@ -17137,7 +17083,7 @@ static NEVER void capnp_copies_copy_copy_object_f743e1513b93edc7(u8 *a_1, u8 *a_
     if (t_pa) goto l_capnp_sm;
     u8 *r_08 = away(a_6, 16ull);
     st64(r_08, uadd_sat64(ld64(r_08), 1ull));
-    if ((r_qw_3 & 3ull) == 2ull) goto l_capnp_bt;
+    if ((r_qw_3 & 3ull) == 2ull) goto l_capnp_uk;
     goto l_join_bd;
 l_capnp_sm:;
     if (!((r_qw_3 & 3ull) == 2ull)) goto l_join_bd;
@@ -17163,8 +17109,8 @@ l_capnp_i5:;
     r_9h = r_qw_2;
     r_27 = t_al;
     goto l_arm_wn;
-l_capnp_bt:;
-    capnp_objects_source_follow_far_5ccc1be374b2e488(slot_1, r_rv, r_qw_3, a_6);
+l_capnp_uk:;
+    capnp_pointers_source_follow_far_5ccc1be374b2e488(slot_1, r_rv, r_qw_3, a_6);
     u64 r_38 = ld64((slot_1 + 16));
     u64 r_38_1 = ld64((slot_1 + 8));
     if (ld8(slot_1) == 0u) { r_gx = ld32((slot_1 + 40)); r_qd = r_38; r_d4 = r_38_1; r_9h = ld64((slot_1 + 32)); r_27 = ld64((slot_1 + 24)); goto l_arm_wn; }
@@ -17805,7 +17751,7 @@ l_join_1e:;
     r_ep_3 = (u64)(r_qw_5 >> 32ull);
     if (!((switch_f9 == 1ull) ? ((u8)((u8)((u8)r_ep_3 & 7u) + 255u) < 5u) : 0u)) goto l_join_br;
     r_ij_1 = (u64)(r_qw_5 >> 35ull);
-    r_c6_5 = (u64)(((ld64(away(away(((u8 *)switch_table_typed_conforming_conforms_check_object_5c_426a4812), 8 * (r_ep_3 & 7ull)), 0xfffffffffffffff8ull)) * r_ij_1) + 63ull) >> 6ull);
+    r_c6_5 = (u64)(((ld64(away(away(((u8 *)switch_table_typed_conforming_conforms_check_object_5c_e20a29a0), 8 * (r_ep_3 & 7ull)), 0xfffffffffffffff8ull)) * r_ij_1) + 63ull) >> 6ull);
     if (!t_0c) goto l_join_bd_1;
     st64(r_08_1, uadd_sat64(ld64(r_08_1), 1ull));
 l_join_bd_1:;
@@ -17831,7 +17777,7 @@ l_arm_vo:;
 l_arm_p5:;
     r_z6_2 = (u64)(r_c6_5 << 3ull);
     r_8a = away(t_f6_2, (u64)(r_gk << 3ull));
-    r_se_1 = (u64)(((ld64(away(away(((u8 *)switch_table_typed_conforming_conforms_check_object_5c_426a4812), 8 * (r_ep_3 & 7ull)), 0xfffffffffffffff8ull)) * r_ij_1) + 63ull) >> 6ull);
+    r_se_1 = (u64)(((ld64(away(away(((u8 *)switch_table_typed_conforming_conforms_check_object_5c_e20a29a0), 8 * (r_ep_3 & 7ull)), 0xfffffffffffffff8ull)) * r_ij_1) + 63ull) >> 6ull);
     r_12_3 = (u32)r_se_1;
     if (!r_2p) goto l_else_5k;
     r_yf_6 = ld32(r_2g_4);
@@ -17853,9 +17799,9 @@ l_capnp_h1:;
     if (!(r_pp.f0 == 1u)) goto l_arm_4u_3;
     u32 r_xo_3 = r_pp.f1;
     capnp_arena_arena_builder_arena_impl_BuilderArenaImplB_baa973df(a_2, r_0i, r_sr, ((r_qw_5 & 0xffffffff00000001ull) | (u64)(u32)((r_xo_3 + (r_sr ^ 0xffffffffu)) << 2u)));
-    r_iy = r_xo_3;
-    r_jm = r_0i;
-    goto l_arm_4p;
+    r_fp = r_xo_3;
+    r_p4 = r_0i;
+    goto l_arm_4x;
 l_arm_4u_3:;
     capnp_arena_arena_builder_arena_impl_BuilderArenaImplB_a1412319(slot_1, a_2, (r_12_3 + 1u));
     if (!(ld8(slot_1) == 0u)) goto l_arm_vh;
@@ -17863,15 +17809,15 @@ l_arm_4u_3:;
     u32 r_e3_3 = ld32(r_x5_5);
     capnp_arena_arena_builder_arena_impl_BuilderArenaImplB_baa973df(a_2, r_yf_7, r_e3_3, (r_qw_5 & 0xffffffff00000001ull));
     capnp_arena_arena_builder_arena_impl_BuilderArenaImplB_baa973df(a_2, r_0i, r_sr, (((u64)((u64)r_yf_7 << 32ull) | (u64)((u64)r_e3_3 << 3ull)) | 2ull));
-    r_iy = (r_e3_3 + 1u);
-    r_jm = r_yf_7;
-l_arm_4p:;
-    u64 r_1q_1 = (ld64(away(away(((u8 *)switch_table_typed_conforming_conforms_check_object_5c_426a4812), 8 * (r_ep_3 & 7ull)), 0xfffffffffffffff8ull)) * r_ij_1);
-    capnp_arena_traits_arena_writing_copy_words_22521b95e02b6c38(a_2, r_jm, r_iy, r_8a, r_z6_2);
+    r_fp = (r_e3_3 + 1u);
+    r_p4 = r_yf_7;
+l_arm_4x:;
+    u64 r_1q_1 = (ld64(away(away(((u8 *)switch_table_typed_conforming_conforms_check_object_5c_e20a29a0), 8 * (r_ep_3 & 7ull)), 0xfffffffffffffff8ull)) * r_ij_1);
+    capnp_arena_traits_arena_writing_copy_words_22521b95e02b6c38(a_2, r_p4, r_fp, r_8a, r_z6_2);
     r_4i_1 = (r_1q_1 & 63ull);
     if (r_4i_1 == 0ull) goto l_capnp_v7;
     u64 r_0f_5 = (r_c6_5 + 0xffffffffffffffffull);
-    capnp_arena_arena_builder_arena_impl_BuilderArenaImplB_baa973df(a_2, r_jm, (r_iy + (u32)r_0f_5), (ld64(away(r_8a, (u64)(r_0f_5 << 3ull))) & ((u64)(0xffffffffffffffffull << (r_4i_1 & 63u)) ^ 0xffffffffffffffffull)));
+    capnp_arena_arena_builder_arena_impl_BuilderArenaImplB_baa973df(a_2, r_p4, (r_fp + (u32)r_0f_5), (ld64(away(r_8a, (u64)(r_0f_5 << 3ull))) & ((u64)(0xffffffffffffffffull << (r_4i_1 & 63u)) ^ 0xffffffffffffffffull)));
     goto l_capnp_v7;
 l_arm_vh:;
     r_t8_1 = ld8(r_x5_5);
@@ -17890,16 +17836,16 @@ l_join_o1:;
     r_lc_7 = ((r_24_3 + 1ull) + r_m6_2);
     if (!(r_m6_2 < 0x20000000ull)) goto l_else_70_2;
     if (r_lc_7 > r_nb_1) { r_t8_2 = 23u; goto l_capnp_mp_2; }
-    r_jm_1 = r_lc_7;
+    r_jm = r_lc_7;
     goto l_arm_h8;
 l_else_70_2:;
     u64 r_3o_2 = (r_lc_7 + 0xffffffffc0000000ull);
     if ((r_lc_7 < 0x40000000ull) ? 1u : (r_3o_2 > r_nb_1)) { r_t8_2 = 23u; goto l_capnp_mp_2; }
-    r_jm_1 = r_3o_2;
+    r_jm = r_3o_2;
 l_arm_h8:;
-    r_4r_1 = (u32)r_jm_1;
+    r_4r_1 = (u32)r_jm;
     if (r_sg) { r_t8_2 = 26u; goto l_capnp_mp_2; }
-    r_8u = (r_nb_1 < (r_jm_1 + r_lc_6));
+    r_8u = (r_nb_1 < (r_jm + r_lc_6));
     if ((u8)((u8)t_pa | (u8)r_8u)) goto l_capnp_li;
     if (!(ld8(a_6) == 1u)) { r_5b = r_4r_1; goto l_arm_7a; }
     r_52_7 = ld64(r_rq_6);
@@ -18131,7 +18077,7 @@ l_arm_5k:;
     r_x5_7 = (slot_3 + 8);
     r_k0_4 = (slot_3 + 12);
     r_zd_7 = (slot_3 + 16);
-    r_s1_1 = (r_5k + 0xfffffffeu);
+    r_mx = ((r_4w_1 == 0x80000000u) ? 0x80000000u : (r_5k + 0xfffffffeu));
     r_o8_1 = away(a_2, 88ull);
     r_24_6 = (u64)r_21_1;
     r_0f_6 = (r_24_6 + 0xffffffffffffffffull);
@@ -18225,7 +18171,7 @@ l_join_iw:;
     r_ep_4 = (u64)(r_qw_6 >> 32ull);
     if (!((switch_f9_1 == 1ull) ? ((u8)((u8)((u8)r_ep_4 & 7u) + 255u) < 5u) : 0u)) goto l_join_br_1;
     r_ij_2 = (u64)(r_qw_6 >> 35ull);
-    r_1q_2 = (ld64(away(away(((u8 *)switch_table_typed_conforming_conforms_check_object_5c_426a4812), 8 * (r_ep_4 & 7ull)), 0xfffffffffffffff8ull)) * r_ij_2);
+    r_1q_2 = (ld64(away(away(((u8 *)switch_table_typed_conforming_conforms_check_object_5c_e20a29a0), 8 * (r_ep_4 & 7ull)), 0xfffffffffffffff8ull)) * r_ij_2);
     r_c6_6 = (u64)((r_1q_2 + 63ull) >> 6ull);
     if (!t_0c_1) goto l_join_bd_2;
     st64(r_08_2, uadd_sat64(ld64(r_08_2), 1ull));
@@ -18252,7 +18198,7 @@ l_arm_vo_1:;
 l_arm_p5_1:;
     r_z6_6 = (u64)(r_c6_6 << 3ull);
     r_8a_1 = away(t_f6_1, (u64)(r_gk_1 << 3ull));
-    r_se_2 = (u64)(((ld64(away(away(((u8 *)switch_table_typed_conforming_conforms_check_object_5c_426a4812), 8 * (r_ep_4 & 7ull)), 0xfffffffffffffff8ull)) * r_ij_2) + 63ull) >> 6ull);
+    r_se_2 = (u64)(((ld64(away(away(((u8 *)switch_table_typed_conforming_conforms_check_object_5c_e20a29a0), 8 * (r_ep_4 & 7ull)), 0xfffffffffffffff8ull)) * r_ij_2) + 63ull) >> 6ull);
     r_12_4 = (u32)r_se_2;
     if (!r_2p_1) goto l_capnp_q5;
     r_yf_11 = ld32(r_2g_6);
@@ -18265,15 +18211,15 @@ l_capnp_q5:;
 l_then_kl:;
     st32(r_2g_6, (r_yf_11 + r_12_4));
     st64(away(ldp(r_r2_2), (u64)((u64)r_sr_1 << 3ull)), ((r_qw_6 & 0xffffffff00000001ull) | (u64)(u32)((r_yf_11 + (r_sr_1 ^ 0xffffffffu)) << 2u)));
-    r_iy_1 = r_yf_11;
-    r_jm_2 = 0u;
-    goto l_arm_4p_1;
+    r_fp_1 = r_yf_11;
+    r_p4_1 = 0u;
+    goto l_arm_4x_1;
 l_else_gb:;
     u32 r_xo_6 = r_39_5.f1;
     capnp_arena_arena_rows_put_word_in_96bc33dd2dacd45a(ldp(r_o8_1), r_0f_6, r_sr_1, ((r_qw_6 & 0xffffffff00000001ull) | (u64)(u32)((r_xo_6 + (r_sr_1 ^ 0xffffffffu)) << 2u)));
-    r_iy_1 = r_xo_6;
-    r_jm_2 = r_21_1;
-    goto l_arm_4p_1;
+    r_fp_1 = r_xo_6;
+    r_p4_1 = r_21_1;
+    goto l_arm_4x_1;
 l_arm_4u_5:;
     capnp_arena_arena_builder_arena_impl_BuilderArenaImplB_a1412319(slot_1, a_2, (r_12_4 + 1u));
     if (!(ld8(slot_1) == 0u)) goto l_arm_vh_2;
@@ -18298,19 +18244,19 @@ l_capnp_9d_1:;
 l_else_kf:;
     capnp_arena_arena_rows_put_word_in_96bc33dd2dacd45a(ldp(r_o8_1), r_0f_6, r_sr_1, r_ni_1);
 l_core_5s_1:;
-    r_iy_1 = r_ll_4;
-    r_jm_2 = r_yf_12;
-l_arm_4p_1:;
-    r_1q_3 = (ld64(away(away(((u8 *)switch_table_typed_conforming_conforms_check_object_5c_426a4812), 8 * (r_ep_4 & 7ull)), 0xfffffffffffffff8ull)) * r_ij_2);
+    r_fp_1 = r_ll_4;
+    r_p4_1 = r_yf_12;
+l_arm_4x_1:;
+    r_1q_3 = (ld64(away(away(((u8 *)switch_table_typed_conforming_conforms_check_object_5c_e20a29a0), 8 * (r_ep_4 & 7ull)), 0xfffffffffffffff8ull)) * r_ij_2);
     if (r_c6_6 == 0ull) goto l_capnp_pq;
-    if (!(r_jm_2 == 0u)) goto l_else_az_3;
+    if (!(r_p4_1 == 0u)) goto l_else_az_3;
     r_u9 = ldp(r_r2_2);
     goto l_capnp_m1;
 l_else_az_3:;
-    u8 *r_6s_3 = capnp_arena_arena_rows_Rows_other_mut_96bc33dd2dacd45a(r_r2_2, r_jm_2);
+    u8 *r_6s_3 = capnp_arena_arena_rows_Rows_other_mut_96bc33dd2dacd45a(r_r2_2, r_p4_1);
     r_u9 = r_6s_3;
 l_capnp_m1:;
-    r_2b_4 = away(r_u9, (u64)((u64)r_iy_1 << 3ull));
+    r_2b_4 = away(r_u9, (u64)((u64)r_fp_1 << 3ull));
     if (!(r_1q_2 < 449ull)) goto l_else_r3_3;
     if (!(r_1q_2 > 192ull)) goto l_else_9l;
     mv32(r_2b_4, r_8a_1);
@@ -18340,13 +18286,13 @@ l_capnp_pq:;
     r_4i_2 = (r_1q_3 & 63ull);
     if (r_4i_2 == 0ull) goto l_capnp_v7_1;
     u64 r_0f_7 = (r_c6_6 + 0xffffffffffffffffull);
-    r_w0_4 = (r_iy_1 + (u32)r_0f_7);
+    r_w0_4 = (r_fp_1 + (u32)r_0f_7);
     r_a5 = (ld64(away(r_8a_1, (u64)(r_0f_7 << 3ull))) & ((u64)(0xffffffffffffffffull << (r_4i_2 & 63u)) ^ 0xffffffffffffffffull));
-    if (!(r_jm_2 == 0u)) goto l_else_fi_1;
+    if (!(r_p4_1 == 0u)) goto l_else_fi_1;
     st64(away(ldp(r_r2_2), (u64)((u64)r_w0_4 << 3ull)), r_a5);
     goto l_capnp_v7_1;
 l_else_fi_1:;
-    capnp_arena_arena_rows_put_word_in_96bc33dd2dacd45a(ldp(r_o8_1), ((u64)r_jm_2 + 0xffffffffffffffffull), r_w0_4, r_a5);
+    capnp_arena_arena_rows_put_word_in_96bc33dd2dacd45a(ldp(r_o8_1), ((u64)r_p4_1 + 0xffffffffffffffffull), r_w0_4, r_a5);
     goto l_capnp_v7_1;
 l_arm_vh_2:;
     r_t8_3 = ld8(r_x5_11);
@@ -18365,16 +18311,16 @@ l_join_o1_1:;
     r_lc_11 = ((r_24_8 + 1ull) + r_m6_4);
     if (!(r_m6_4 < 0x20000000ull)) goto l_else_70_4;
     if (r_lc_11 > r_nb_2) { r_t8_4 = 23u; goto l_capnp_mp_4; }
-    r_jm_3 = r_lc_11;
+    r_jm_1 = r_lc_11;
     goto l_arm_h8_1;
 l_else_70_4:;
     u64 r_3o_4 = (r_lc_11 + 0xffffffffc0000000ull);
     if ((r_lc_11 < 0x40000000ull) ? 1u : (r_3o_4 > r_nb_2)) { r_t8_4 = 23u; goto l_capnp_mp_4; }
-    r_jm_3 = r_3o_4;
+    r_jm_1 = r_3o_4;
 l_arm_h8_1:;
-    r_4r_2 = (u32)r_jm_3;
+    r_4r_2 = (u32)r_jm_1;
     if (r_sg_1) { r_t8_4 = 26u; goto l_capnp_mp_4; }
-    r_8u_1 = (r_nb_2 < (r_jm_3 + r_lc_10));
+    r_8u_1 = (r_nb_2 < (r_jm_1 + r_lc_10));
     if ((u8)((u8)t_pa | (u8)r_8u_1)) goto l_capnp_li_1;
     if (!(ld8(a_6) == 1u)) { r_5b_1 = r_4r_2; goto l_arm_7a_1; }
     r_52_9 = ld64(r_rq_7);
@@ -18538,7 +18484,7 @@ l_capnp_5c:;
     st64(r_a8_3, r_9h);
     st32(r_c4_6, (r_5b_1 + ((u32)r_ep_4 & 65535u)));
     st32(r_bk_1, 0u);
-    st32(r_6c_3, r_s1_1);
+    st32(r_6c_3, r_mx);
     capnp_copies_copy_children_copy_children_out_of_line_f_f51e9aad(slot_1, a_2, r_wt_1, (r_29_1 + r_4r_3), slot_2, r_az_4, a_6, a_7);
     r_2b_6 = ld8(slot_1);
     r_qh_1 = ld8(r_x5_10);
@@ -18953,8 +18899,8 @@ static NEVER COLD u64 capnp_arena_arena_rows_word_in_96bc33dd2dacd45a(u8 *a_1, u
     return ld64(away(ldp(away(a_1, (a_2 * 24ull))), (u64)((u64)a_3 << 3ull)));
 }
 
-/* capnp_making::landing::follow::<#22521b95e02b6c38> */
-static NEVER COLD void capnp_making_landing_follow_22521b95e02b6c38(u8 *a_1, u8 *a_2, u32 a_3, u32 a_4)
+/* capnp_allocation::landing::follow::<#22521b95e02b6c38> */
+static NEVER COLD void capnp_allocation_landing_follow_22521b95e02b6c38(u8 *a_1, u8 *a_2, u32 a_3, u32 a_4)
 {
     A(8) u8 slot_1[32];
     A(8) u8 slot_2[24];
@@ -18997,7 +18943,7 @@ l_capnp_6l:;
     r_qw = ld64(away(ldp(r_po), (u64)((u64)a_4 << 3ull)));
     memset(slot_1, 0u, 32);
     if (!((r_qw & 3ull) == 2ull)) { r_2n = r_qw; goto l_else_y9; }
-    capnp_making_landing_follow_far_22521b95e02b6c38(slot_1, a_2, r_qw);
+    capnp_allocation_landing_follow_far_22521b95e02b6c38(slot_1, a_2, r_qw);
     r_ud = ld8(slot_1);
     goto l_capnp_ty;
 l_else_y9:;
@@ -19041,8 +18987,8 @@ l_capnp_ty:;
     return;
 }
 
-/* capnp_making::landing::follow_far::<#22521b95e02b6c38> */
-static NEVER COLD void capnp_making_landing_follow_far_22521b95e02b6c38(u8 *a_1, u8 *a_2, u64 a_3)
+/* capnp_allocation::landing::follow_far::<#22521b95e02b6c38> */
+static NEVER COLD void capnp_allocation_landing_follow_far_22521b95e02b6c38(u8 *a_1, u8 *a_2, u64 a_3)
 {
     u64 r_cy;
     u32 r_4r;
@@ -19180,8 +19126,8 @@ l_join_s8:;
     return;
 }
 
-/* capnp_making::zeroing::zero_target::<#22521b95e02b6c38> */
-static NEVER COLD void capnp_making_zeroing_zero_target_22521b95e02b6c38(u8 *a_1, u8 *a_2)
+/* capnp_allocation::zeroing::zero_target::<#22521b95e02b6c38> */
+static NEVER COLD void capnp_allocation_zeroing_zero_target_22521b95e02b6c38(u8 *a_1, u8 *a_2)
 {
     u64 r_tp;
     u32 r_5k;
@@ -19218,8 +19164,8 @@ static NEVER COLD void capnp_making_zeroing_zero_target_22521b95e02b6c38(u8 *a_1
     u64 r_lc_3;
     u64 r_0f_3;
     u8 *r_8r;
-    u32 r_zz;
-    u32 r_2f;
+    u32 r_m2;
+    u32 r_k1;
     u64 r_ic;
     u64 r_b6;
     u64 r_se;
@@ -19261,7 +19207,7 @@ l_arm_ef:;
     r_ef = (u64)ld32(r_li);
 l_capnp_5p:;
     if (r_lc_1 > r_ef) goto l_join_68;
-    capnp_making_zeroing_zero_pointers_22521b95e02b6c38(a_1, r_5k, (u32)r_lc, r_12);
+    capnp_allocation_zeroing_zero_pointers_22521b95e02b6c38(a_1, r_5k, (u32)r_lc, r_12);
     r_68 = ((r_4r & 65535u) + r_12);
     r_es = (u64)r_68;
     if (r_68 == 0u) goto l_join_68;
@@ -19308,7 +19254,7 @@ l_arm_a9:;
     r_ij = (u64)(r_tp >> 35ull);
     switch ((u8)((u8)(u64)(r_tp >> 32ull) & 7u)) {
     case 7u: goto l_arm_84;
-    case 6u: goto l_arm_dt;
+    case 6u: goto l_arm_cb;
     case 0u: { r_ic = 0ull; goto l_capnp_nc; }
     case 5u: goto l_arm_h9;
     case 4u: goto l_arm_h9_1;
@@ -19351,19 +19297,19 @@ l_join_if:;
     r_8r = away(a_1, 72ull);
 l_arm_w5:;
     if (r_lc_3 > (u64)ld32(r_8r)) goto l_join_68;
-    if (!((r_y6_1 != 0ull) ? (t_c8 != 0u) : 0u)) goto l_capnp_de;
-    r_zz = (r_5k_1 + 1u);
-    r_2f = 0u;
-l_join_mh:;
-    u32 r_w0 = (r_zz + r_az);
-    capnp_making_zeroing_zero_pointers_22521b95e02b6c38(a_1, r_5k, r_w0, t_12);
-    u32 r_ff = (r_2f + 1u);
-    if (!(r_ff == t_c8)) { r_zz = (r_w0 + t_12); r_2f = r_ff; goto l_join_mh; }
-l_capnp_de:;
-    capnp_making_zeroing_zero_if_inside_22521b95e02b6c38(a_1, r_5k, r_5k_1, r_c4);
+    if (!((r_y6_1 != 0ull) ? (t_c8 != 0u) : 0u)) goto l_capnp_ah;
+    r_m2 = (r_5k_1 + 1u);
+    r_k1 = 0u;
+l_join_cu:;
+    u32 r_w0 = (r_m2 + r_az);
+    capnp_allocation_zeroing_zero_pointers_22521b95e02b6c38(a_1, r_5k, r_w0, t_12);
+    u32 r_ff = (r_k1 + 1u);
+    if (!(r_ff == t_c8)) { r_m2 = (r_w0 + t_12); r_k1 = r_ff; goto l_join_cu; }
+l_capnp_ah:;
+    capnp_allocation_zeroing_zero_if_inside_22521b95e02b6c38(a_1, r_5k, r_5k_1, r_c4);
     goto l_join_68;
-l_arm_dt:;
-    capnp_making_zeroing_zero_pointers_22521b95e02b6c38(a_1, r_5k, r_5k_1, (u32)r_ij);
+l_arm_cb:;
+    capnp_allocation_zeroing_zero_pointers_22521b95e02b6c38(a_1, r_5k, r_5k_1, (u32)r_ij);
     goto l_join_68;
 l_arm_h9_2:;
     r_ic = 1ull;
@@ -19428,8 +19374,8 @@ l_default_e1:;
     UNREACHABLE();
 }
 
-/* capnp_making::zeroing::zero_pointers::<#22521b95e02b6c38> */
-static void capnp_making_zeroing_zero_pointers_22521b95e02b6c38(u8 *a_1, u32 a_2, u32 a_3, u32 a_4)
+/* capnp_allocation::zeroing::zero_pointers::<#22521b95e02b6c38> */
+static void capnp_allocation_zeroing_zero_pointers_22521b95e02b6c38(u8 *a_1, u32 a_2, u32 a_3, u32 a_4)
 {
     A(8) u8 slot_1[32];
     u64 r_v1;
@@ -19476,26 +19422,26 @@ l_join_xy:;
     r_2b = away(ldp(r_r2), (u64)((u64)r_7m << 3ull));
     r_qw = ld64(r_2b);
     if (r_qw == 0ull) goto l_capnp_o8;
-    goto l_then_tf;
+    goto l_then_53;
 l_capnp_ph:;
     r_lz = ldp(r_o8);
     r_uj = capnp_arena_arena_rows_word_in_96bc33dd2dacd45a(r_lz, r_0f_1, r_7m);
     if (r_uj == 0ull) goto l_capnp_o8;
-    goto l_else_so;
-l_then_tf:;
-    capnp_making_landing_follow_22521b95e02b6c38(slot_1, a_1, 0u, r_7m);
+    goto l_else_1j;
+l_then_53:;
+    capnp_allocation_landing_follow_22521b95e02b6c38(slot_1, a_1, 0u, r_7m);
     st64(r_2b, 0ull);
     r_9s = r_qw;
     goto l_capnp_2f;
-l_else_so:;
-    capnp_making_landing_follow_22521b95e02b6c38(slot_1, a_1, a_2, r_7m);
+l_else_1j:;
+    capnp_allocation_landing_follow_22521b95e02b6c38(slot_1, a_1, a_2, r_7m);
     capnp_arena_arena_rows_put_word_in_96bc33dd2dacd45a(r_lz, r_0f_1, r_7m, 0ull);
     r_9s = r_uj;
 l_capnp_2f:;
     if (!(ld8(slot_1) == 1u)) goto l_capnp_o8;
-    capnp_making_zeroing_zero_target_22521b95e02b6c38(a_1, r_x5);
+    capnp_allocation_zeroing_zero_target_22521b95e02b6c38(a_1, r_x5);
     if (!((r_9s & 3ull) == 2ull)) goto l_capnp_o8;
-    capnp_making_zeroing_zero_far_pads_22521b95e02b6c38(a_1, r_9s);
+    capnp_allocation_zeroing_zero_far_pads_22521b95e02b6c38(a_1, r_9s);
 l_capnp_o8:;
     u64 indvars_r7 = (indvars_mo + 1ull);
     if (!(indvars_r7 == r_v1)) { indvars_mo = indvars_r7; goto l_join_xy; }
@@ -19503,8 +19449,8 @@ l_join_68:;
     return;
 }
 
-/* capnp_making::zeroing::zero_if_inside::<#22521b95e02b6c38> */
-static void capnp_making_zeroing_zero_if_inside_22521b95e02b6c38(u8 *a_1, u32 a_2, u32 a_3, u64 a_4)
+/* capnp_allocation::zeroing::zero_if_inside::<#22521b95e02b6c38> */
+static void capnp_allocation_zeroing_zero_if_inside_22521b95e02b6c38(u8 *a_1, u32 a_2, u32 a_3, u64 a_4)
 {
     u64 r_7l;
     u64 r_o7;
@@ -19564,8 +19510,8 @@ l_join_68:;
     return;
 }
 
-/* capnp_making::zeroing::zero_far_pads::<#22521b95e02b6c38> */
-static NEVER COLD void capnp_making_zeroing_zero_far_pads_22521b95e02b6c38(u8 *a_1, u64 a_2)
+/* capnp_allocation::zeroing::zero_far_pads::<#22521b95e02b6c38> */
+static NEVER COLD void capnp_allocation_zeroing_zero_far_pads_22521b95e02b6c38(u8 *a_1, u64 a_2)
 {
     u8 r_hr;
     u64 t_3h;
@@ -19645,7 +19591,7 @@ static NEVER void capnp_copies_copy_children_copy_children_out_of_line_f_f51e9aa
     u8 *r_x5_1;
     u8 *r_k0;
     u8 *r_zd_1;
-    u32 r_53;
+    u32 r_mx;
     u8 t_q5;
     u8 r_sz;
     u8 *r_o8;
@@ -19701,8 +19647,8 @@ static NEVER void capnp_copies_copy_children_copy_children_out_of_line_f_f51e9aa
     u64 r_6f;
     u64 r_59;
     u64 r_ni;
-    u32 r_iy;
-    u32 r_jm;
+    u32 r_fp;
+    u32 r_p4;
     u64 r_1q_1;
     u8 *r_u9;
     u8 *r_2b;
@@ -19800,7 +19746,7 @@ static NEVER void capnp_copies_copy_children_copy_children_out_of_line_f_f51e9aa
     r_x5_1 = (slot_3 + 8);
     r_k0 = (slot_3 + 12);
     r_zd_1 = (slot_3 + 16);
-    r_53 = (r_5k_1 + 0xffffffffu);
+    r_mx = ((r_5k_1 == 0x80000000u) ? 0x80000000u : (r_5k_1 + 0xffffffffu));
     t_q5 = (a_8 == 1u);
     r_sz = (a_3 == 0u);
     r_o8 = away(a_2, 88ull);
@@ -19851,7 +19797,7 @@ l_join_22:;
     r_ep = (u64)(r_qw_3 >> 32ull);
     if (!((switch_f9 == 1ull) ? ((u8)((u8)((u8)r_ep & 7u) + 255u) < 5u) : 0u)) goto l_join_br;
     r_ij = (u64)(r_qw_3 >> 35ull);
-    r_1q = (ld64(away(away(((u8 *)switch_table_typed_conforming_conforms_check_object_5c_426a4812), 8 * (r_ep & 7ull)), 0xfffffffffffffff8ull)) * r_ij);
+    r_1q = (ld64(away(away(((u8 *)switch_table_typed_conforming_conforms_check_object_5c_e20a29a0), 8 * (r_ep & 7ull)), 0xfffffffffffffff8ull)) * r_ij);
     r_c6 = (u64)((r_1q + 63ull) >> 6ull);
     if (!t_0c) goto l_join_bd;
     st64(r_08, uadd_sat64(ld64(r_08), 1ull));
@@ -19878,7 +19824,7 @@ l_arm_i0_1:;
 l_arm_5g:;
     r_z6 = (u64)(r_c6 << 3ull);
     r_dx = away(r_rv_1, (u64)(r_la << 3ull));
-    r_se = (u64)(((ld64(away(away(((u8 *)switch_table_typed_conforming_conforms_check_object_5c_426a4812), 8 * (r_ep & 7ull)), 0xfffffffffffffff8ull)) * r_ij) + 63ull) >> 6ull);
+    r_se = (u64)(((ld64(away(away(((u8 *)switch_table_typed_conforming_conforms_check_object_5c_e20a29a0), 8 * (r_ep & 7ull)), 0xfffffffffffffff8ull)) * r_ij) + 63ull) >> 6ull);
     r_12 = (u32)r_se;
     if (!r_sz) goto l_capnp_q5;
     r_yf = ld32(r_2g);
@@ -19891,15 +19837,15 @@ l_capnp_q5:;
 l_then_kl:;
     st32(r_2g, (r_yf + r_12));
     st64(away(ldp(r_r2), (u64)((u64)r_7m << 3ull)), ((r_qw_3 & 0xffffffff00000001ull) | (u64)(u32)((r_yf + (r_7m ^ 0xffffffffu)) << 2u)));
-    r_iy = r_yf;
-    r_jm = 0u;
-    goto l_arm_4p;
+    r_fp = r_yf;
+    r_p4 = 0u;
+    goto l_arm_4x;
 l_else_gb:;
     u32 r_xo = r_39.f1;
     capnp_arena_arena_rows_put_word_in_96bc33dd2dacd45a(ldp(r_o8), r_0f, r_7m, ((r_qw_3 & 0xffffffff00000001ull) | (u64)(u32)((r_xo + (r_7m ^ 0xffffffffu)) << 2u)));
-    r_iy = r_xo;
-    r_jm = a_3;
-    goto l_arm_4p;
+    r_fp = r_xo;
+    r_p4 = a_3;
+    goto l_arm_4x;
 l_arm_4u:;
     capnp_arena_arena_builder_arena_impl_BuilderArenaImplB_a1412319(slot_1, a_2, (r_12 + 1u));
     if (!(ld8(slot_1) == 0u)) goto l_arm_vh;
@@ -19924,19 +19870,19 @@ l_capnp_9d:;
 l_else_kf:;
     capnp_arena_arena_rows_put_word_in_96bc33dd2dacd45a(ldp(r_o8), r_0f, r_7m, r_ni);
 l_core_5s:;
-    r_iy = r_ll;
-    r_jm = r_yf_1;
-l_arm_4p:;
-    r_1q_1 = (ld64(away(away(((u8 *)switch_table_typed_conforming_conforms_check_object_5c_426a4812), 8 * (r_ep & 7ull)), 0xfffffffffffffff8ull)) * r_ij);
+    r_fp = r_ll;
+    r_p4 = r_yf_1;
+l_arm_4x:;
+    r_1q_1 = (ld64(away(away(((u8 *)switch_table_typed_conforming_conforms_check_object_5c_e20a29a0), 8 * (r_ep & 7ull)), 0xfffffffffffffff8ull)) * r_ij);
     if (r_c6 == 0ull) goto l_capnp_pq;
-    if (!(r_jm == 0u)) goto l_else_az;
+    if (!(r_p4 == 0u)) goto l_else_az;
     r_u9 = ldp(r_r2);
     goto l_capnp_m1;
 l_else_az:;
-    u8 *r_6s = capnp_arena_arena_rows_Rows_other_mut_96bc33dd2dacd45a(r_r2, r_jm);
+    u8 *r_6s = capnp_arena_arena_rows_Rows_other_mut_96bc33dd2dacd45a(r_r2, r_p4);
     r_u9 = r_6s;
 l_capnp_m1:;
-    r_2b = away(r_u9, (u64)((u64)r_iy << 3ull));
+    r_2b = away(r_u9, (u64)((u64)r_fp << 3ull));
     if (!(r_1q < 449ull)) goto l_else_r3;
     if (!(r_1q > 192ull)) goto l_else_9l;
     mv32(r_2b, r_dx);
@@ -19966,13 +19912,13 @@ l_capnp_pq:;
     r_4i = (r_1q_1 & 63ull);
     if (r_4i == 0ull) goto l_capnp_v7;
     u64 r_0f_1 = (r_c6 + 0xffffffffffffffffull);
-    r_w0 = (r_iy + (u32)r_0f_1);
+    r_w0 = (r_fp + (u32)r_0f_1);
     r_a5 = (ld64(away(r_dx, (u64)(r_0f_1 << 3ull))) & ((u64)(0xffffffffffffffffull << (r_4i & 63u)) ^ 0xffffffffffffffffull));
-    if (!(r_jm == 0u)) goto l_else_fi_1;
+    if (!(r_p4 == 0u)) goto l_else_fi_1;
     st64(away(ldp(r_r2), (u64)((u64)r_w0 << 3ull)), r_a5);
     goto l_capnp_v7;
 l_else_fi_1:;
-    capnp_arena_arena_rows_put_word_in_96bc33dd2dacd45a(ldp(r_o8), ((u64)r_jm + 0xffffffffffffffffull), r_w0, r_a5);
+    capnp_arena_arena_rows_put_word_in_96bc33dd2dacd45a(ldp(r_o8), ((u64)r_p4 + 0xffffffffffffffffull), r_w0, r_a5);
     goto l_capnp_v7;
 l_arm_vh:;
     r_7k = ld64(r_zd_5);
@@ -20182,7 +20128,7 @@ l_capnp_5c:;
     st64(r_a8_1, r_qw_2);
     st32(r_c4_1, (r_5b + ((u32)r_ep & 65535u)));
     st32(r_bk, 0u);
-    st32(r_6c_1, r_53);
+    st32(r_6c_1, r_mx);
     capnp_copies_copy_children_copy_children_out_of_line_f_f51e9aad(slot_1, a_2, r_wt, (r_29 + r_4r_1), slot_2, r_az, a_7, a_8);
     r_2b_5 = ld8(slot_1);
     r_qh = ld8(r_x5_4);
@@ -20919,18 +20865,32 @@ l_join_7b:;
 NEVER void capnp_messages_messages_whole_digest_digest_of_copy_02_e6ae90be(u8 *a_1, u8 *a_2, u8 *a_3, u8 a_4, u64 a_5)
 {
     A(8) u8 slot_1[40];
-    A(8) u8 slot_2[32];
-    A(1) u8 slot_3[32];
-    A(8) u8 slot_4[136];
-    A(8) u8 slot_5[32];
-    A(1) u8 slot_6[7];
-    A(8) u8 slot_7[9];
-    A(1) u8 slot_8[39];
-    A(1) u8 slot_9[7];
-    A(1) u8 slot_10[9];
-    A(8) u8 slot_11[32];
-    u8 r_uz;
+    A(8) u8 slot_2[136];
+    A(8) u8 slot_3[32];
+    A(8) u8 slot_4[80];
+    A(8) u8 slot_5[128];
+    A(1) u8 slot_6[32];
+    A(1) u8 slot_7[3];
+    A(8) u8 slot_8[32];
+    A(8) u8 slot_9[80];
+    A(1) u8 slot_10[7];
+    A(8) u8 slot_11[9];
+    A(1) u8 slot_12[39];
+    A(1) u8 slot_13[7];
+    A(1) u8 slot_14[9];
+    A(8) u8 slot_15[32];
+    u8 *t_5q;
     u8 *r_x5;
+    u8 *r_fx;
+    u64 r_52;
+    u32 r_kh;
+    u64 r_n8;
+    u32 r_ov;
+    u8 r_qo;
+    u8 r_54;
+    u32 r_5k;
+    u32 r_5k_1;
+    u64 r_qw;
     u8 *r_xw;
     u64 r_38;
     u64 r_38_1;
@@ -20940,9 +20900,6 @@ NEVER void capnp_messages_messages_whole_digest_digest_of_copy_02_e6ae90be(u8 *a
     u8 *r_xw_2;
     u64 r_38_4;
     u64 r_38_5;
-    u32 r_5k;
-    u32 r_5k_1;
-    u64 r_qw;
     u8 *r_xw_3;
     u64 t_gg;
     u64 r_ax;
@@ -20956,32 +20913,87 @@ NEVER void capnp_messages_messages_whole_digest_digest_of_copy_02_e6ae90be(u8 *a
     u32 r_k9;
     u32 r_al;
     u64 r_jb;
-    memset(slot_3, 0u, 32);
-    memset(slot_8, 0u, 39);
-    memset(slot_11, 0u, 32);
-    mv32(slot_5, a_2);
-    capnp_messages_messages_whole_canonicalize_022cfa5ac0efa2a5(slot_4, slot_5, a_3, a_4, a_5);
-    r_uz = ld8(slot_4);
-    r_x5 = (slot_4 + 8);
-    if (!(r_uz == 0u)) goto l_arm_b3;
-    r_xw = ldp((slot_4 + 40));
-    r_38 = ld64((slot_4 + 48));
-    r_38_1 = ld64((slot_4 + 56));
-    r_xw_1 = ldp((slot_4 + 64));
-    r_38_2 = ld64((slot_4 + 72));
-    r_38_3 = ld64((slot_4 + 80));
-    r_xw_2 = ldp((slot_4 + 112));
-    r_38_4 = ld64((slot_4 + 120));
-    r_38_5 = ld64((slot_4 + 128));
-    u8 r_r5 = ld8((slot_4 + 104));
-    struct s_p_i64 r_jn = capnp_messages_messages_writing_canonical_bytes_038392_13019918(r_x5);
-    sha2_Digest_digest_8314f5c2d9589b12(slot_3, r_jn.f0, r_jn.f1);
-    mv7(slot_9, slot_3);
-    r_5k = ld32((slot_3 + 7));
-    r_5k_1 = ld32((slot_3 + 11));
-    r_qw = ld64((slot_3 + 15));
-    mv9(slot_10, (slot_3 + 23));
-    mv32(slot_2, r_x5);
+    memset(slot_5, 0u, 128);
+    memset(slot_6, 0u, 32);
+    memset(slot_7, 0u, 3);
+    memset(slot_8, 0u, 32);
+    memset(slot_9, 0u, 80);
+    memset(slot_10, 0u, 7);
+    memset(slot_11, 0u, 9);
+    memset(slot_12, 0u, 39);
+    memset(slot_13, 0u, 7);
+    memset(slot_14, 0u, 9);
+    memset(slot_15, 0u, 32);
+    memset(slot_2, 0u, 136);
+    t_5q = (slot_4 + 64);
+    memset(t_5q, 0u, 16);
+    st64(slot_1, (u64)a_4);
+    r_x5 = (slot_1 + 8);
+    st64(r_x5, a_5);
+    st64((slot_1 + 16), 0ull);
+    r_fx = ldp(a_3);
+    if (ld64(r_fx) == 0ull) { r_kh = 12u; goto l_arm_ao; }
+    r_52 = ld64(ldp(away(r_fx, 32ull)));
+    if ((r_52 & 0x1fffffffffffffffull) == 0ull) { r_kh = 23u; goto l_arm_ao; }
+    if (!(a_4 == 1u)) goto l_arm_zz;
+    if (a_5 == 0ull) { r_kh = 30u; goto l_arm_ao; }
+    st64(slot_1, 1ull);
+    st64(r_x5, (a_5 + 0xffffffffffffffffull));
+l_arm_zz:;
+    u32 r_yf = ld32(away(a_3, 8ull));
+    u8 *r_lz = ldp(away(r_fx, 56ull));
+    mv32(slot_3, a_2);
+    memset(slot_4, 0u, 16);
+    st64((slot_4 + 16), (u64)(uptr)a_3);
+    memset((slot_4 + 24), 0u, 16);
+    stp((slot_4 + 40), r_lz);
+    st64((slot_4 + 48), (u64)(r_52 << 3ull));
+    st32((slot_4 + 56), 0u);
+    st32((slot_4 + 60), 0u);
+    st32(t_5q, r_yf);
+    capnp_messages_messages_canonical_copy_canonicalize_re_92f8f3a6(slot_2, slot_3, slot_4, slot_1);
+    r_n8 = ld64((slot_2 + 16));
+    r_ov = ld32((slot_2 + 12));
+    r_qo = ld8((slot_2 + 8));
+    r_54 = ld8(slot_2);
+    goto l_capnp_r1;
+l_arm_ao:;
+    st32((slot_2 + 8), r_kh);
+    mv32((slot_2 + 24), a_2);
+    r_n8 = 0ull;
+    r_ov = 0u;
+    r_qo = (u8)r_kh;
+    r_54 = 1u;
+l_capnp_r1:;
+    mv3(slot_7, (slot_2 + 9));
+    mv32(slot_8, (slot_2 + 24));
+    memcpy(slot_9, (slot_2 + 56), 80);
+    if (!(r_54 == 0u)) goto l_arm_o7;
+    st8(slot_5, r_qo);
+    mv3((slot_5 + 1), slot_7);
+    st32((slot_5 + 4), r_ov);
+    st64((slot_5 + 8), r_n8);
+    mv32((slot_5 + 16), slot_8);
+    u8 *r_c4 = (slot_5 + 48);
+    memcpy(r_c4, slot_9, 80);
+    struct s_p_i64 r_jn = capnp_messages_messages_writing_canonical_bytes_038392_13019918(slot_5);
+    sha2_Digest_digest_8314f5c2d9589b12(slot_6, r_jn.f0, r_jn.f1);
+    mv7(slot_13, slot_6);
+    r_5k = ld32((slot_6 + 7));
+    r_5k_1 = ld32((slot_6 + 11));
+    r_qw = ld64((slot_6 + 15));
+    mv9(slot_14, (slot_6 + 23));
+    r_xw = ldp((slot_5 + 32));
+    r_38 = ld64((slot_5 + 40));
+    r_38_1 = ld64(r_c4);
+    r_xw_1 = ldp((slot_5 + 56));
+    r_38_2 = ld64((slot_5 + 64));
+    r_38_3 = ld64((slot_5 + 72));
+    r_xw_2 = ldp((slot_5 + 104));
+    r_38_4 = ld64((slot_5 + 112));
+    r_38_5 = ld64((slot_5 + 120));
+    u8 r_r5 = ld8((slot_5 + 96));
+    mv32(slot_2, slot_5);
     if (!(u8)(r_r5 & 1)) goto l_else_r8;
     r_xw_3 = ldp(slot_2);
     u8 *r_zd = (slot_2 + 16);
@@ -21050,33 +21062,30 @@ l_capnp_p4:;
     if (r_38_1 == 0ull) goto l_std_qd;
     rattle_dealloc(r_xw);
 l_std_qd:;
-    mv32(slot_11, slot_2);
-    mv7(slot_6, slot_9);
-    mv9(slot_7, slot_10);
-    r_kj = slot_11;
+    mv32(slot_15, slot_2);
+    mv7(slot_10, slot_13);
+    mv9(slot_11, slot_14);
+    r_kj = slot_15;
     r_k9 = r_5k;
     r_al = r_5k_1;
     r_jb = r_qw;
     goto l_join_m3;
-l_arm_b3:;
-    u32 r_cf = (u32)ld8(r_x5);
-    u32 r_uq = ld32((slot_4 + 12));
-    u64 r_38_8 = ld64((slot_4 + 16));
-    memset(slot_6, 0u, 7);
-    memset(slot_7, 0u, 9);
-    r_kj = (slot_4 + 24);
-    r_k9 = r_cf;
-    r_al = r_uq;
-    r_jb = r_38_8;
+l_arm_o7:;
+    memset(slot_10, 0u, 7);
+    memset(slot_11, 0u, 9);
+    r_kj = slot_8;
+    r_k9 = (u32)r_qo;
+    r_al = r_ov;
+    r_jb = r_n8;
 l_join_m3:;
-    mv32((slot_8 + 7), r_kj);
-    st8(a_1, r_uz);
-    mv7(away(a_1, 1ull), slot_6);
+    mv32((slot_12 + 7), r_kj);
+    st8(a_1, r_54);
+    mv7(away(a_1, 1ull), slot_10);
     st32(away(a_1, 8ull), r_k9);
     st32(away(a_1, 12ull), r_al);
     st64(away(a_1, 16ull), r_jb);
-    mv9(away(a_1, 24ull), slot_7);
-    mv32(away(a_1, 40ull), (slot_8 + 7));
+    mv9(away(a_1, 24ull), slot_11);
+    mv32(away(a_1, 40ull), (slot_12 + 7));
     return;
 }
 
@@ -21431,8 +21440,8 @@ l_join_m3:;
     return;
 }
 
-/* capnp_objects::pointers::validate::validate_object::<#5ccc1be374b2e488> */
-NEVER u8 capnp_objects_pointers_validate_validate_object_5ccc1b_507f75cf(u8 *a_1, u32 a_2, u32 a_3, u8 *a_4)
+/* capnp_pointers::pointers::validate::validate_object::<#5ccc1be374b2e488> */
+NEVER u8 capnp_pointers_pointers_validate_validate_object_5ccc1_0a1aa550(u8 *a_1, u32 a_2, u32 a_3, u8 *a_4)
 {
     A(8) u8 slot_1[56];
     A(8) u8 slot_2[64];
@@ -21509,7 +21518,7 @@ NEVER u8 capnp_objects_pointers_validate_validate_object_5ccc1b_507f75cf(u8 *a_1
     u32 r_68_1;
     u32 invariant_w0;
     u32 r_e3;
-    u32 r_7o;
+    u32 r_6s;
     u8 r_fk;
     memset(slot_2, 0u, 64);
     r_52 = ld64(away(a_1, 24ull));
@@ -21531,7 +21540,7 @@ NEVER u8 capnp_objects_pointers_validate_validate_object_5ccc1b_507f75cf(u8 *a_1
     if (t_pa) goto l_capnp_sm;
     u8 *r_r2 = away(a_4, 56ull);
     st64(r_r2, uadd_sat64(ld64(r_r2), 1ull));
-    if ((r_qw & 3ull) == 2ull) goto l_capnp_dn;
+    if ((r_qw & 3ull) == 2ull) goto l_capnp_h9;
     goto l_join_bd;
 l_capnp_sm:;
     if (!((r_qw & 3ull) == 2ull)) goto l_join_bd;
@@ -21558,8 +21567,8 @@ l_capnp_i5:;
     r_o2 = r_38;
     r_hq = t_al;
     goto l_arm_gc;
-l_capnp_dn:;
-    capnp_objects_source_follow_far_5ccc1be374b2e488(slot_1, r_xw_1, r_qw, r_su);
+l_capnp_h9:;
+    capnp_pointers_source_follow_far_5ccc1be374b2e488(slot_1, r_xw_1, r_qw, r_su);
     u64 r_38_2 = ld64((slot_1 + 16));
     u64 r_38_3 = ld64((slot_1 + 8));
     if (ld8(slot_1) == 0u) { r_ag = ld32((slot_1 + 44)); r_38_1 = ld32((slot_1 + 40)); r_7w = r_38_2; r_un = r_38_3; r_o2 = ld64((slot_1 + 32)); r_hq = ld64((slot_1 + 24)); goto l_arm_gc; }
@@ -21805,22 +21814,22 @@ l_arm_2c:;
     if (r_ij == 0u) { r_fk = 0u; goto l_return_ri; }
     invariant_w0 = (r_ae + ld32(r_c4_1));
     r_e3 = ld32(r_6c);
-    r_7o = 0u;
-    goto l_join_17;
+    r_6s = 0u;
+    goto l_join_a1;
 l_loop_i4:;
-    u32 r_ff = (r_7o + 1u);
+    u32 r_ff = (r_6s + 1u);
     if (r_ff == r_ij) { r_fk = 0u; goto l_return_ri; }
-    r_7o = r_ff;
-l_join_17:;
-    u8 r_vo_1 = capnp_objects_pointers_validate_validate_pointers_5ccc_6252bdf3(slot_2, ((r_7o * r_68_1) + invariant_w0), r_3i, r_e3, a_4);
-    if ((u8)(r_vo_1 & 1)) { r_fk = 1u; goto l_return_ri; }
+    r_6s = r_ff;
+l_join_a1:;
+    u8 r_68_2 = capnp_pointers_pointers_validate_validate_pointers_5cc_67e99f56(slot_2, ((r_6s * r_68_1) + invariant_w0), r_3i, r_e3, a_4);
+    if ((u8)(r_68_2 & 1)) { r_fk = 1u; goto l_return_ri; }
     goto l_loop_i4;
 l_return_ri:;
     return r_fk;
 }
 
-/* capnp_objects::pointers::validate::validate_pointers::<#5ccc1be374b2e488> */
-static NEVER u8 capnp_objects_pointers_validate_validate_pointers_5ccc_6252bdf3(u8 *a_1, u32 a_2, u32 a_3, u32 a_4, u8 *a_5)
+/* capnp_pointers::pointers::validate::validate_pointers::<#5ccc1be374b2e488> */
+static NEVER u8 capnp_pointers_pointers_validate_validate_pointers_5cc_67e99f56(u8 *a_1, u32 a_2, u32 a_3, u32 a_4, u8 *a_5)
 {
     u8 *r_su;
     u8 *r_xm;
@@ -21894,8 +21903,8 @@ l_join_7l:;
     switch ((u8)((u8)r_qw & 3u)) {
     case 0u: goto l_arm_kb;
     case 1u: goto l_arm_ui;
-    case 2u: goto l_after_q8;
-    case 3u: goto l_after_q8;
+    case 2u: goto l_after_mh;
+    case 3u: goto l_after_mh;
     default: goto l_default_e1;
     }
 l_arm_kb:;
@@ -21938,13 +21947,13 @@ l_arm_0g:;
     st32(a_5, (r_93 ? 0u : umin32(t_1n, ld32(a_5))));
     st64(r_rq, uadd_sat64((u64)(r_az + r_12), ld64(r_rq)));
     if (r_y6 == 0ull) goto l_loop_2y;
-    u8 r_f7 = capnp_objects_pointers_validate_validate_pointers_5ccc_6252bdf3(a_1, (r_ae + r_az), r_12, t_y0, a_5);
-    r_hf = r_f7;
+    u8 r_9q = capnp_pointers_pointers_validate_validate_pointers_5cc_67e99f56(a_1, (r_ae + r_az), r_12, t_y0, a_5);
+    r_hf = r_9q;
     goto l_capnp_5o;
 l_arm_ui:;
     r_ep_1 = (u64)(r_qw >> 32ull);
-    if (!((u8)((u8)((u8)r_ep_1 & 7u) + 255u) < 5u)) goto l_after_q8;
-    r_c6 = (u64)(((ld64(away(away(((u8 *)switch_table_typed_conforming_conforms_check_object_5c_426a4812), 8 * (r_ep_1 & 7ull)), 0xfffffffffffffff8ull)) * (u64)(r_qw >> 35ull)) + 63ull) >> 6ull);
+    if (!((u8)((u8)((u8)r_ep_1 & 7u) + 255u) < 5u)) goto l_after_mh;
+    r_c6 = (u64)(((ld64(away(away(((u8 *)switch_table_typed_conforming_conforms_check_object_5c_e20a29a0), 8 * (r_ep_1 & 7ull)), 0xfffffffffffffff8ull)) * (u64)(r_qw >> 35ull)) + 63ull) >> 6ull);
     t_0c = (ld8(a_1) == 0u);
     if (!t_0c) goto l_join_bd_1;
     st64(r_r2, uadd_sat64(ld64(r_r2), 1ull));
@@ -21973,9 +21982,9 @@ l_arm_z5:;
     st32(a_5, umin32(t_y0, ld32(a_5)));
     st64(r_rq, uadd_sat64(r_c6, ld64(r_rq)));
     goto l_loop_2y;
-l_after_q8:;
-    u8 r_ni = capnp_objects_pointers_validate_validate_object_5ccc1b_507f75cf(a_1, r_7m, a_4, a_5);
-    r_hf = r_ni;
+l_after_mh:;
+    u8 r_x0 = capnp_pointers_pointers_validate_validate_object_5ccc1_0a1aa550(a_1, r_7m, a_4, a_5);
+    r_hf = r_x0;
     goto l_capnp_5o;
 l_default_e1:;
     UNREACHABLE();
@@ -22150,47 +22159,40 @@ l_join_s8:;
 static void capnp_refusals_refusals_search_search_object_5ccc1be374b2e488(u8 *a_1, u8 a_2, u8 a_3, u8 *a_4, u32 a_5, u32 a_6, u8 *a_7)
 {
     A(8) u8 slot_1[56];
-    A(8) u8 slot_2[56];
-    A(8) u8 slot_3[24];
-    A(8) u8 slot_4[32];
-    A(8) u8 slot_5[64];
-    A(8) u8 slot_6[64];
-    A(8) u8 slot_7[64];
-    A(8) u8 slot_8[24];
-    A(8) u8 slot_9[40];
+    A(8) u8 slot_2[64];
+    u8 r_dh;
+    u64 r_eg;
+    u8 *r_rv;
+    u64 r_qw;
     u64 r_52;
     u8 *r_xw;
     u64 r_38;
-    u8 r_y8;
-    u8 *r_rq;
-    u8 *r_xw_1;
-    u64 r_38_1;
     u64 r_7l;
     u64 r_gw;
-    u64 r_qw;
+    u64 r_qw_1;
+    u8 trunc_eu;
+    u8 r_30;
     u64 t_al;
     u8 t_pa;
     u64 r_lc;
     u64 r_nb;
     u64 r_yz;
-    u32 r_7d;
-    u32 r_2w;
-    u64 r_7a;
-    u64 r_0m;
-    u64 r_v8;
-    u64 r_t9;
+    u32 r_ag;
+    u32 r_38_1;
+    u64 r_7w;
+    u64 r_un;
+    u64 r_o2;
+    u64 r_hq;
     u64 r_ep;
     u64 r_y6;
     u64 r_lc_1;
-    u8 *r_rq_1;
+    u8 *r_rq;
     u64 r_52_1;
-    u64 r_ep_1;
-    u8 switch_wl;
     u64 r_ij;
     u64 r_c4;
     u64 r_24;
     u64 r_gw_1;
-    u8 *r_rq_2;
+    u8 *r_rq_1;
     u64 r_52_2;
     u64 r_eh;
     u32 t_c8;
@@ -22198,80 +22200,72 @@ static void capnp_refusals_refusals_search_search_object_5ccc1be374b2e488(u8 *a_
     u32 r_az;
     u32 r_68;
     u64 r_c0;
-    u8 *r_rq_3;
+    u8 *r_rq_2;
     u64 r_52_3;
     u32 r_12_1;
-    u8 *r_rq_4;
+    u8 *r_rq_3;
     u64 r_52_4;
-    u32 r_12_2;
-    u8 *r_rq_5;
+    u8 *r_rq_4;
     u64 r_52_5;
-    u32 r_12_3;
+    u64 r_la;
     u64 r_c6;
-    u8 *r_rq_6;
+    u8 *r_rq_5;
     u64 r_52_6;
     u64 r_r4;
-    u64 r_ut;
-    u64 r_dj;
-    u64 r_xv;
-    u64 r_qr;
-    u32 r_b6;
-    u32 r_r6;
-    u64 r_ka;
-    u8 r_28;
-    u8 r_5g;
-    u32 r_59;
-    u32 r_14;
-    u32 r_yp;
-    u32 r_8p;
-    u32 r_fj;
-    u64 r_k5;
-    u32 r_q1;
-    u8 r_ll;
-    u8 r_h2;
-    u32 r_5d;
-    u64 r_vt;
-    u64 r_8t;
-    u32 r_49;
-    u32 r_1t;
-    u32 r_a3;
-    u32 r_wr;
-    u64 r_hb;
-    u32 r_mx;
-    memset(slot_5, 0u, 64);
-    memset(slot_6, 0u, 64);
-    memset(slot_7, 0u, 64);
-    memset(slot_8, 0u, 24);
-    memset(slot_9, 0u, 40);
+    u64 r_9r;
+    u64 r_xy;
+    u32 r_ef;
+    u64 r_kn;
+    u32 r_9a;
+    u32 r_nt;
+    u32 r_p0;
+    u32 r_ne;
+    u32 r_dl;
+    u32 r_mb;
+    u8 *r_c4_1;
+    u8 *r_6c;
+    u32 r_68_1;
+    u32 invariant_w0;
+    u32 r_e3;
+    u32 r_wf;
+    u64 r_lt;
+    u64 r_5a;
+    u32 r_8y;
+    u32 r_5c;
+    u32 r_rj;
+    u32 r_40;
+    u64 r_uj;
+    memset(slot_2, 0u, 64);
+    r_dh = ld8(a_4);
+    r_eg = (u64)r_dh;
+    r_rv = ldp(away(a_4, 8ull));
+    r_qw = ld64(away(a_4, 16ull));
     r_52 = ld64(away(a_4, 24ull));
     r_xw = ldp(away(a_4, 32ull));
     r_38 = ld64(away(a_4, 40ull));
-    r_y8 = ld8(a_4);
-    r_rq = away(a_4, 8ull);
-    r_xw_1 = ldp(r_rq);
-    r_38_1 = ld64(away(a_4, 16ull));
-    memset(slot_2, 0u, 56);
-    if ((u8)(a_2 & 1)) goto l_arm_xm;
     r_7l = (u64)a_5;
     r_gw = (u64)(r_38 >> 3ull);
-    if (!(r_gw > r_7l)) { r_xv = 0ull; r_qr = 0ull; r_b6 = 0u; r_r6 = 0u; r_ka = 0ull; r_28 = 0u; r_5g = 0u; r_59 = 0u; r_14 = 0u; r_yp = 0u; goto l_capnp_gh; }
-    r_qw = ld64(away(r_xw, (u64)(r_7l << 3ull)));
-    if (r_qw == 0ull) { r_xv = 0ull; r_qr = 0ull; r_b6 = 0u; r_r6 = 0u; r_ka = 0ull; r_28 = 0u; r_5g = 0u; r_59 = 0u; r_14 = 0u; r_yp = 0u; goto l_capnp_gh; }
+    if (!(r_gw > r_7l)) goto l_arm_h9;
+    r_qw_1 = ld64(away(r_xw, (u64)(r_7l << 3ull)));
+    if (r_qw_1 == 0ull) goto l_arm_h9;
+    trunc_eu = (u8)(a_2 & 1);
+    r_30 = ((i32)a_6 < (i32)1u);
+    if ((u8)((u8)r_30 & (u8)trunc_eu)) { r_ef = 25u; r_kn = 0ull; r_9a = 0u; goto l_arm_c6; }
     t_al = (u64)(uptr)r_xw;
     memset(slot_1, 0u, 56);
-    t_pa = (r_y8 != 0u);
+    t_pa = (r_dh != 0u);
     if (t_pa) goto l_capnp_sm;
     u8 *r_08 = away(a_7, 16ull);
     st64(r_08, uadd_sat64(ld64(r_08), 1ull));
-    if ((r_qw & 3ull) == 2ull) goto l_capnp_bt;
+    if ((r_qw_1 & 3ull) == 2ull) goto l_capnp_uk;
     goto l_join_bd;
 l_capnp_sm:;
-    if (!((r_qw & 3ull) == 2ull)) goto l_join_bd;
+    if (!((r_qw_1 & 3ull) == 2ull)) goto l_join_bd;
     st32((slot_1 + 8), 32u);
     r_r4 = ld64((slot_1 + 8));
     goto l_arm_5s;
 l_join_bd:;
-    u64 r_m6 = ((u64)(r_qw >> 2ull) & 0x3fffffffull);
+    u64 r_m6 = ((u64)(r_qw_1 >> 2ull) & 0x3fffffffull);
     r_lc = ((r_7l + 1ull) + r_m6);
     r_nb = (r_gw & 0xffffffffull);
     if (!(r_m6 < 0x20000000ull)) goto l_else_70;
@@ -22283,368 +22277,235 @@ l_else_70:;
     if ((r_lc < 0x40000000ull) ? 1u : (r_3o > r_nb)) { r_r4 = 23ull; goto l_arm_5s; }
     r_yz = r_3o;
 l_capnp_i5:;
-    r_7d = 0u;
-    r_2w = (u32)r_yz;
-    r_7a = r_52;
-    r_0m = r_qw;
-    r_v8 = r_38;
-    r_t9 = t_al;
-    goto l_arm_nn;
-l_capnp_bt:;
-    capnp_objects_source_follow_far_5ccc1be374b2e488(slot_1, r_xw_1, r_qw, a_7);
+    r_ag = 0u;
+    r_38_1 = (u32)r_yz;
+    r_7w = r_52;
+    r_un = r_qw_1;
+    r_o2 = r_38;
+    r_hq = t_al;
+    goto l_arm_gc;
+l_capnp_uk:;
+    capnp_pointers_source_follow_far_5ccc1be374b2e488(slot_1, r_rv, r_qw_1, a_7);
     u64 r_38_2 = ld64((slot_1 + 16));
     u64 r_38_3 = ld64((slot_1 + 8));
-    if (ld8(slot_1) == 0u) { r_7d = ld32((slot_1 + 44)); r_2w = ld32((slot_1 + 40)); r_7a = r_38_2; r_0m = r_38_3; r_v8 = ld64((slot_1 + 32)); r_t9 = ld64((slot_1 + 24)); goto l_arm_nn; }
-    r_ut = r_38_2;
-    r_dj = r_38_3;
-    goto l_arm_qe;
-l_arm_nn:;
-    switch ((u8)((u8)r_0m & 3u)) {
-    case 0u: goto l_arm_62;
+    if (ld8(slot_1) == 0u) { r_ag = ld32((slot_1 + 44)); r_38_1 = ld32((slot_1 + 40)); r_7w = r_38_2; r_un = r_38_3; r_o2 = ld64((slot_1 + 32)); r_hq = ld64((slot_1 + 24)); goto l_arm_gc; }
+    r_9r = r_38_2;
+    r_xy = r_38_3;
+    goto l_arm_i4;
+l_arm_gc:;
+    switch ((u8)((u8)r_un & 3u)) {
+    case 0u: goto l_arm_j4;
     case 1u: goto l_arm_z2;
-    case 2u: { r_xv = 0ull; r_qr = 0ull; r_b6 = 0u; r_r6 = 0u; r_ka = 0ull; r_28 = 1u; r_5g = 13u; r_59 = 0u; r_14 = 0u; r_yp = 0u; goto l_capnp_gh; }
-    case 3u: goto l_arm_37;
+    case 2u: { r_ef = 13u; r_kn = 0ull; r_9a = 0u; goto l_arm_c6; }
+    case 3u: goto l_capnp_32;
     default: goto l_default_e1;
     }
-l_arm_62:;
-    r_ep = (u64)(r_0m >> 32ull);
-    r_y6 = (u64)(r_0m >> 48ull);
-    if ((i32)a_6 < (i32)1u) { r_xv = 0ull; r_qr = 0ull; r_b6 = 0u; r_r6 = 0u; r_ka = 0ull; r_28 = 1u; r_5g = 26u; r_59 = 0u; r_14 = 0u; r_yp = 0u; goto l_capnp_gh; }
+l_arm_j4:;
+    r_ep = (u64)(r_un >> 32ull);
+    r_y6 = (u64)(r_un >> 48ull);
+    if (r_30) { r_ef = 26u; r_kn = 0ull; r_9a = 0u; goto l_arm_c6; }
     r_lc_1 = ((r_ep & 65535ull) + r_y6);
-    if (((u64)(r_v8 >> 3ull) & 0xffffffffull) < (r_lc_1 + (u64)r_2w)) { r_xv = 0ull; r_qr = 0ull; r_b6 = 0u; r_r6 = 0u; r_ka = 0ull; r_28 = 1u; r_5g = 23u; r_59 = 0u; r_14 = 0u; r_yp = 0u; goto l_capnp_gh; }
-    if (t_pa) goto l_arm_mf;
-    if (!(ld8(a_7) == 1u)) goto l_arm_mf;
-    r_rq_1 = away(a_7, 8ull);
-    r_52_1 = ld64(r_rq_1);
-    if (r_52_1 < r_lc_1) { r_xv = 0ull; r_qr = 0ull; r_b6 = 0u; r_r6 = 0u; r_ka = 0ull; r_28 = 1u; r_5g = 30u; r_59 = 0u; r_14 = 0u; r_yp = 0u; goto l_capnp_gh; }
+    if (((u64)(r_o2 >> 3ull) & 0xffffffffull) < (r_lc_1 + (u64)r_38_1)) { r_ef = 23u; r_kn = 0ull; r_9a = 0u; goto l_arm_c6; }
+    if (t_pa) goto l_join_1n;
+    if (!(ld8(a_7) == 1u)) goto l_join_1n;
+    r_rq = away(a_7, 8ull);
+    r_52_1 = ld64(r_rq);
+    if (r_52_1 < r_lc_1) { r_ef = 30u; r_kn = 0ull; r_9a = 0u; goto l_arm_c6; }
     st64(a_7, 1ull);
-    st64(r_rq_1, (r_52_1 - r_lc_1));
-l_arm_mf:;
-    r_xv = r_t9;
-    r_qr = r_v8;
-    r_b6 = r_2w;
-    r_r6 = r_7d;
-    r_ka = r_7a;
-    r_28 = 0u;
-    r_5g = 2u;
-    r_59 = 0u;
-    r_14 = ((u32)((u32)r_y6 << 16u) | ((u32)r_ep & 65535u));
-    r_yp = 0u;
-    goto l_capnp_gh;
+    st64(r_rq, (r_52_1 - r_lc_1));
+l_join_1n:;
+    r_nt = r_ag;
+    r_p0 = r_38_1;
+    r_ne = ((u32)r_ep & 65535u);
+    r_dl = (u32)r_y6;
+    r_mb = 1u;
+    goto l_arm_6s;
 l_arm_z2:;
-    r_ep_1 = (u64)(r_0m >> 32ull);
-    switch_wl = (u8)((u8)r_ep_1 & 7u);
-    r_ij = (u64)(r_0m >> 35ull);
-    switch (switch_wl) {
-    case 7u: goto l_arm_gg;
-    case 6u: goto l_arm_0w;
-    case 0u: goto l_arm_0w_1;
-    case 1u: goto l_arm_0w_2;
-    case 2u: goto l_arm_0w_2;
-    case 3u: goto l_arm_0w_2;
-    case 4u: goto l_arm_0w_2;
-    case 5u: goto l_arm_0w_2;
+    r_ij = (u64)(r_un >> 35ull);
+    switch ((u8)((u8)(u64)(r_un >> 32ull) & 7u)) {
+    case 7u: goto l_arm_i0;
+    case 6u: goto l_arm_9f;
+    case 0u: goto l_arm_yz;
+    case 5u: goto l_arm_h9_1;
+    case 4u: goto l_arm_h9_2;
+    case 3u: goto l_arm_h9_3;
+    case 1u: { r_la = 1ull; goto l_capnp_i0; }
+    case 2u: goto l_arm_h9_4;
     default: goto l_default_e1;
     }
-l_arm_gg:;
-    if ((i32)a_6 < (i32)1u) { r_xv = 0ull; r_qr = 0ull; r_b6 = 0u; r_r6 = 0u; r_ka = 0ull; r_28 = 1u; r_5g = 26u; r_59 = 0u; r_14 = 0u; r_yp = 0u; goto l_capnp_gh; }
+l_arm_i0:;
+    if (r_30) { r_ef = 26u; r_kn = 0ull; r_9a = 0u; goto l_arm_c6; }
     r_c4 = (r_ij + 1ull);
-    r_24 = (u64)r_2w;
-    r_gw_1 = (u64)(r_v8 >> 3ull);
-    if ((r_gw_1 & 0xffffffffull) < (r_c4 + r_24)) { r_xv = 0ull; r_qr = 0ull; r_b6 = 0u; r_r6 = 0u; r_ka = 0ull; r_28 = 1u; r_5g = 23u; r_59 = 0u; r_14 = 0u; r_yp = 0u; goto l_capnp_gh; }
+    r_24 = (u64)r_38_1;
+    r_gw_1 = (u64)(r_o2 >> 3ull);
+    if ((r_gw_1 & 0xffffffffull) < (r_c4 + r_24)) { r_ef = 23u; r_kn = 0ull; r_9a = 0u; goto l_arm_c6; }
     if (t_pa) goto l_arm_ga;
     if (!(ld8(a_7) == 1u)) goto l_arm_ga;
-    r_rq_2 = away(a_7, 8ull);
-    r_52_2 = ld64(r_rq_2);
-    if (!(r_52_2 > r_ij)) { r_xv = 0ull; r_qr = 0ull; r_b6 = 0u; r_r6 = 0u; r_ka = 0ull; r_28 = 1u; r_5g = 30u; r_59 = 0u; r_14 = 0u; r_yp = 0u; goto l_capnp_gh; }
+    r_rq_1 = away(a_7, 8ull);
+    r_52_2 = ld64(r_rq_1);
+    if (!(r_52_2 > r_ij)) { r_ef = 30u; r_kn = 0ull; r_9a = 0u; goto l_arm_c6; }
     st64(a_7, 1ull);
-    st64(r_rq_2, (r_52_2 - r_c4));
+    st64(r_rq_1, (r_52_2 - r_c4));
 l_arm_ga:;
     if (!(r_gw_1 > r_24)) { r_eh = 0ull; goto l_join_qm; }
-    u64 r_qw_1 = ld64(away(((u8 *)(uptr)r_t9), (u64)(r_24 << 3ull)));
-    if ((r_qw_1 & 3ull) == 0ull) { r_eh = r_qw_1; goto l_join_qm; }
-    r_xv = 0ull;
-    r_qr = 0ull;
-    r_b6 = 0u;
-    r_r6 = 0u;
-    r_ka = 0ull;
-    r_28 = 1u;
-    r_5g = 11u;
-    r_59 = 0u;
-    r_14 = 0u;
-    r_yp = 0u;
-    goto l_capnp_gh;
+    u64 r_qw_2 = ld64(away(((u8 *)(uptr)r_hq), (u64)(r_24 << 3ull)));
+    if ((r_qw_2 & 3ull) == 0ull) { r_eh = r_qw_2; goto l_join_qm; }
+    r_ef = (trunc_eu ? 2u : 11u);
+    r_kn = 0ull;
+    r_9a = 0u;
+    goto l_arm_c6;
 l_join_qm:;
     t_c8 = (u32)((u32)r_eh >> 2u);
     r_12 = (u32)(u64)(r_eh >> 48ull);
     r_az = ((u32)(u64)(r_eh >> 32ull) & 65535u);
     r_68 = (r_az + r_12);
     r_c0 = (u64)t_c8;
-    if (r_ij < ((u64)r_68 * r_c0)) { r_xv = 0ull; r_qr = 0ull; r_b6 = 0u; r_r6 = 0u; r_ka = 0ull; r_28 = 1u; r_5g = 10u; r_59 = 0u; r_14 = 0u; r_yp = 0u; goto l_capnp_gh; }
-    if ((u8)((u8)t_pa | (u8)(r_68 != 0u))) goto l_arm_o2;
-    if (!(ld8(a_7) == 1u)) goto l_arm_o2;
-    r_rq_3 = away(a_7, 8ull);
-    r_52_3 = ld64(r_rq_3);
-    if (r_52_3 < r_c0) { r_xv = 0ull; r_qr = 0ull; r_b6 = 0u; r_r6 = 0u; r_ka = 0ull; r_28 = 1u; r_5g = 30u; r_59 = 0u; r_14 = 0u; r_yp = 0u; goto l_capnp_gh; }
+    if (r_ij < ((u64)r_68 * r_c0)) { r_ef = 10u; r_kn = 0ull; r_9a = 0u; goto l_arm_c6; }
+    if ((u8)((u8)t_pa | (u8)(u8)((u8)(r_68 != 0u) | (u8)trunc_eu))) goto l_join_l6;
+    if (!(ld8(a_7) == 1u)) goto l_join_l6;
+    r_rq_2 = away(a_7, 8ull);
+    r_52_3 = ld64(r_rq_2);
+    if (r_52_3 < r_c0) { r_ef = 30u; r_kn = 0ull; r_9a = 0u; goto l_arm_c6; }
     st64(a_7, 1ull);
-    st64(r_rq_3, (r_52_3 - r_c0));
-l_arm_o2:;
-    r_xv = r_t9;
-    r_qr = r_v8;
-    r_b6 = (r_2w + 1u);
-    r_r6 = 0u;
-    r_ka = r_7a;
-    r_28 = 0u;
-    r_5g = 5u;
-    r_59 = 0u;
-    r_14 = ((u32)(r_12 << 16u) | r_az);
-    r_yp = t_c8;
-    goto l_capnp_gh;
-l_arm_0w:;
+    st64(r_rq_2, (r_52_3 - r_c0));
+l_join_l6:;
+    r_nt = 0u;
+    r_p0 = (r_38_1 + 1u);
+    r_ne = r_az;
+    r_dl = r_12;
+    r_mb = t_c8;
+    goto l_arm_6s;
+l_arm_9f:;
     r_12_1 = (u32)r_ij;
-    if ((i32)a_6 < (i32)1u) { r_xv = 0ull; r_qr = 0ull; r_b6 = 0u; r_r6 = 0u; r_ka = 0ull; r_28 = 1u; r_5g = 26u; r_59 = 0u; r_14 = 0u; r_yp = 0u; goto l_capnp_gh; }
-    if (((u64)(r_v8 >> 3ull) & 0xffffffffull) < (r_ij + (u64)r_2w)) { r_xv = 0ull; r_qr = 0ull; r_b6 = 0u; r_r6 = 0u; r_ka = 0ull; r_28 = 1u; r_5g = 23u; r_59 = 0u; r_14 = 0u; r_yp = 0u; goto l_capnp_gh; }
-    if (t_pa) { r_xv = r_t9; r_qr = r_v8; r_b6 = r_2w; r_r6 = r_7d; r_ka = r_7a; r_28 = 0u; r_5g = 4u; r_59 = 0u; r_14 = r_12_1; r_yp = 0u; goto l_capnp_gh; }
-    if (!(ld8(a_7) == 1u)) { r_xv = r_t9; r_qr = r_v8; r_b6 = r_2w; r_r6 = r_7d; r_ka = r_7a; r_28 = 0u; r_5g = 4u; r_59 = 0u; r_14 = r_12_1; r_yp = 0u; goto l_capnp_gh; }
+    if (r_30) { r_ef = 26u; r_kn = 0ull; r_9a = 0u; goto l_arm_c6; }
+    if (((u64)(r_o2 >> 3ull) & 0xffffffffull) < (r_ij + (u64)r_38_1)) { r_ef = 23u; r_kn = 0ull; r_9a = 0u; goto l_arm_c6; }
+    if (t_pa) { r_nt = r_ag; r_p0 = r_38_1; r_ne = 0u; r_dl = r_12_1; r_mb = 1u; goto l_arm_6s; }
+    if (!(ld8(a_7) == 1u)) { r_nt = r_ag; r_p0 = r_38_1; r_ne = 0u; r_dl = r_12_1; r_mb = 1u; goto l_arm_6s; }
+    r_rq_3 = away(a_7, 8ull);
+    r_52_4 = ld64(r_rq_3);
+    if (r_52_4 < r_ij) { r_ef = 30u; r_kn = 0ull; r_9a = 0u; goto l_arm_c6; }
+    st64(a_7, 1ull);
+    st64(r_rq_3, (r_52_4 - r_ij));
+    r_nt = r_ag;
+    r_p0 = r_38_1;
+    r_ne = 0u;
+    r_dl = r_12_1;
+    r_mb = 1u;
+    goto l_arm_6s;
+l_arm_yz:;
+    if (trunc_eu) goto l_arm_h9;
+    if (r_30) { r_ef = 26u; r_kn = 0ull; r_9a = 0u; goto l_arm_c6; }
+    if (((u64)(r_o2 >> 3ull) & 0xffffffffull) < (u64)r_38_1) { r_ef = 23u; r_kn = 0ull; r_9a = 0u; goto l_arm_c6; }
+    if (t_pa) goto l_arm_h9;
+    if (!(ld8(a_7) == 1u)) goto l_arm_h9;
+    st64(a_7, 1ull);
     r_rq_4 = away(a_7, 8ull);
-    r_52_4 = ld64(r_rq_4);
-    if (r_52_4 < r_ij) { r_xv = 0ull; r_qr = 0ull; r_b6 = 0u; r_r6 = 0u; r_ka = 0ull; r_28 = 1u; r_5g = 30u; r_59 = 0u; r_14 = 0u; r_yp = 0u; goto l_capnp_gh; }
-    st64(a_7, 1ull);
-    st64(r_rq_4, (r_52_4 - r_ij));
-    r_xv = r_t9;
-    r_qr = r_v8;
-    r_b6 = r_2w;
-    r_r6 = r_7d;
-    r_ka = r_7a;
-    r_28 = 0u;
-    r_5g = 4u;
-    r_59 = 0u;
-    r_14 = r_12_1;
-    r_yp = 0u;
-    goto l_capnp_gh;
-l_arm_0w_1:;
-    r_12_2 = (u32)r_ij;
-    if ((i32)a_6 < (i32)1u) { r_xv = 0ull; r_qr = 0ull; r_b6 = 0u; r_r6 = 0u; r_ka = 0ull; r_28 = 1u; r_5g = 26u; r_59 = 0u; r_14 = 0u; r_yp = 0u; goto l_capnp_gh; }
-    if (((u64)(r_v8 >> 3ull) & 0xffffffffull) < (u64)r_2w) { r_xv = 0ull; r_qr = 0ull; r_b6 = 0u; r_r6 = 0u; r_ka = 0ull; r_28 = 1u; r_5g = 23u; r_59 = 0u; r_14 = 0u; r_yp = 0u; goto l_capnp_gh; }
-    if (t_pa) { r_xv = r_t9; r_qr = r_v8; r_b6 = r_2w; r_r6 = r_7d; r_ka = r_7a; r_28 = 0u; r_5g = 3u; r_59 = 0u; r_14 = 0u; r_yp = r_12_2; goto l_capnp_gh; }
-    if (!(ld8(a_7) == 1u)) { r_xv = r_t9; r_qr = r_v8; r_b6 = r_2w; r_r6 = r_7d; r_ka = r_7a; r_28 = 0u; r_5g = 3u; r_59 = 0u; r_14 = 0u; r_yp = r_12_2; goto l_capnp_gh; }
-    st64(a_7, 1ull);
+    r_52_5 = ld64(r_rq_4);
+    if (r_52_5 < r_ij) { r_ef = 30u; r_kn = 0ull; r_9a = 0u; goto l_arm_c6; }
+    st64(r_rq_4, (r_52_5 - r_ij));
+    goto l_arm_h9;
+l_arm_h9_4:;
+    r_la = 8ull;
+    goto l_capnp_i0;
+l_arm_h9_3:;
+    r_la = 16ull;
+    goto l_capnp_i0;
+l_arm_h9_2:;
+    r_la = 32ull;
+    goto l_capnp_i0;
+l_arm_h9_1:;
+    r_la = 64ull;
+l_capnp_i0:;
+    if (r_30) { r_ef = 26u; r_kn = 0ull; r_9a = 0u; goto l_arm_c6; }
+    r_c6 = (u64)(((r_la * r_ij) + 63ull) >> 6ull);
+    if (((u64)(r_o2 >> 3ull) & 0xffffffffull) < (r_c6 + (u64)r_38_1)) { r_ef = 23u; r_kn = 0ull; r_9a = 0u; goto l_arm_c6; }
+    if (t_pa) goto l_arm_h9;
+    if (!(ld8(a_7) == 1u)) goto l_arm_h9;
     r_rq_5 = away(a_7, 8ull);
-    r_52_5 = ld64(r_rq_5);
-    if (r_52_5 < r_ij) { r_xv = 0ull; r_qr = 0ull; r_b6 = 0u; r_r6 = 0u; r_ka = 0ull; r_28 = 1u; r_5g = 30u; r_59 = 0u; r_14 = 0u; r_yp = 0u; goto l_capnp_gh; }
-    st64(r_rq_5, (r_52_5 - r_ij));
-    r_xv = r_t9;
-    r_qr = r_v8;
-    r_b6 = r_2w;
-    r_r6 = r_7d;
-    r_ka = r_7a;
-    r_28 = 0u;
-    r_5g = 3u;
-    r_59 = 0u;
-    r_14 = 0u;
-    r_yp = r_12_2;
-    goto l_capnp_gh;
-l_arm_0w_2:;
-    r_12_3 = (u32)r_ij;
-    if ((i32)a_6 < (i32)1u) { r_xv = 0ull; r_qr = 0ull; r_b6 = 0u; r_r6 = 0u; r_ka = 0ull; r_28 = 1u; r_5g = 26u; r_59 = 0u; r_14 = 0u; r_yp = 0u; goto l_capnp_gh; }
-    r_c6 = (u64)(((ld64(away(away(((u8 *)switch_table_typed_conforming_conforms_check_object_5c_426a4812), 8 * (r_ep_1 & 7ull)), 0xfffffffffffffff8ull)) * r_ij) + 63ull) >> 6ull);
-    if (((u64)(r_v8 >> 3ull) & 0xffffffffull) < (r_c6 + (u64)r_2w)) { r_xv = 0ull; r_qr = 0ull; r_b6 = 0u; r_r6 = 0u; r_ka = 0ull; r_28 = 1u; r_5g = 23u; r_59 = 0u; r_14 = 0u; r_yp = 0u; goto l_capnp_gh; }
-    if (t_pa) goto l_arm_zg;
-    if (!(ld8(a_7) == 1u)) goto l_arm_zg;
-    r_rq_6 = away(a_7, 8ull);
-    r_52_6 = ld64(r_rq_6);
-    if (r_52_6 < r_c6) { r_xv = 0ull; r_qr = 0ull; r_b6 = 0u; r_r6 = 0u; r_ka = 0ull; r_28 = 1u; r_5g = 30u; r_59 = 0u; r_14 = 0u; r_yp = 0u; goto l_capnp_gh; }
+    r_52_6 = ld64(r_rq_5);
+    if (r_52_6 < r_c6) { r_ef = 30u; r_kn = 0ull; r_9a = 0u; goto l_arm_c6; }
     st64(a_7, 1ull);
-    st64(r_rq_6, (r_52_6 - r_c6));
-l_arm_zg:;
-    r_xv = r_t9;
-    r_qr = r_v8;
-    r_b6 = r_2w;
-    r_r6 = r_7d;
-    r_ka = r_7a;
-    r_28 = 0u;
-    r_5g = 3u;
-    r_59 = 0u;
-    r_14 = (u32)switch_wl;
-    r_yp = r_12_3;
-    goto l_capnp_gh;
-l_arm_37:;
-    u8 r_ml = ((r_0m & 0xffffffffull) != 3ull);
-    r_xv = 0ull;
-    r_qr = 0ull;
-    r_b6 = 0u;
-    r_r6 = 0u;
-    r_ka = 0ull;
-    r_28 = (u8)r_ml;
-    r_5g = (r_ml ? 34u : 1u);
-    r_59 = (r_ml ? 0u : (u32)(u64)(r_0m >> 32ull));
-    r_14 = 0u;
-    r_yp = 0u;
-    goto l_capnp_gh;
+    st64(r_rq_5, (r_52_6 - r_c6));
+    goto l_arm_h9;
 l_default_e1:;
     UNREACHABLE();
 l_arm_5s:;
-    r_ut = 0ull;
-    r_dj = r_r4;
-l_arm_qe:;
-    r_xv = 0ull;
-    r_qr = 0ull;
-    r_b6 = 0u;
-    r_r6 = 0u;
-    r_ka = r_ut;
-    r_28 = 1u;
-    r_5g = (u8)r_dj;
-    r_59 = (u32)(u64)(r_dj >> 32ull);
-    r_14 = 0u;
-    r_yp = 0u;
-l_capnp_gh:;
-    st64((slot_2 + 24), r_xv);
-    st64((slot_2 + 32), r_qr);
-    st32((slot_2 + 40), r_b6);
-    st32((slot_2 + 44), r_r6);
-    r_8p = r_yp;
-    r_fj = r_14;
-    r_k5 = r_ka;
-    r_q1 = r_59;
-    r_ll = r_5g;
-    r_h2 = r_28;
-    goto l_capnp_09;
-l_arm_xm:;
-    st64(slot_3, (u64)r_y8);
-    stp((slot_3 + 8), r_xw_1);
-    st64((slot_3 + 16), r_38_1);
-    st64(slot_4, r_52);
-    stp((slot_4 + 8), r_xw);
-    st64((slot_4 + 16), r_38);
-    st32((slot_4 + 24), a_5);
-    st32((slot_4 + 28), 0u);
-    capnp_objects_source_Source_measure_object_5ccc1be374b2e488(slot_2, slot_3, slot_4, a_6, a_7);
-    r_8p = ld32((slot_2 + 52));
-    r_fj = ld32((slot_2 + 48));
-    r_k5 = ld64((slot_2 + 16));
-    r_q1 = ld32((slot_2 + 12));
-    r_ll = ld8((slot_2 + 8));
-    r_h2 = ld8(slot_2);
-l_capnp_09:;
-    mv24(slot_8, (slot_2 + 24));
-    if (!(r_h2 == 0u)) goto l_arm_1g;
-    r_5d = (u32)(r_fj >> 16u);
-    if ((u8)((u8)(r_ll != 1u) | (u8)(u8)(a_3 & 1))) goto l_join_gz;
-    r_vt = 1ull;
-    r_8t = r_52;
-    r_49 = a_5;
-    r_1t = 0u;
-    r_a3 = 1u;
-    r_wr = 0u;
-    r_hb = 0ull;
-l_common_s8:;
-    st64(a_1, r_vt);
-    st64(away(a_1, 8ull), r_8t);
-    st32(away(a_1, 16ull), r_49);
-    st32(away(a_1, 20ull), r_1t);
-    st32(away(a_1, 24ull), r_a3);
-    st32(away(a_1, 28ull), r_wr);
-    st64(away(a_1, 32ull), r_hb);
-    return;
-l_arm_1g:;
-    r_vt = 1ull;
-    r_8t = r_52;
-    r_49 = a_5;
-    r_1t = 0u;
-    r_a3 = (u32)r_ll;
-    r_wr = r_q1;
-    r_hb = r_k5;
-    goto l_common_s8;
-l_join_gz:;
-    r_mx = ((a_6 == 0x80000000u) ? 0x80000000u : (a_6 + 0xffffffffu));
-    switch (r_ll) {
-    case 0u: goto l_arm_c3;
-    case 1u: goto l_arm_c3_1;
-    case 3u: goto l_arm_c3_2;
-    case 2u: goto l_arm_eo;
-    case 4u: goto l_arm_eo_1;
-    case 5u: goto l_arm_eo_2;
-    default: goto l_noarm_e1;
-    }
-l_arm_c3:;
-    st64(slot_9, 0ull);
-    goto l_join_c0;
-l_arm_c3_1:;
-    st64(slot_9, 0ull);
-    goto l_join_c0;
-l_arm_c3_2:;
-    st64(slot_9, 0ull);
-    goto l_join_c0;
-l_arm_eo:;
-    st64(slot_5, (u64)ld8(a_4));
-    mv16((slot_5 + 8), r_rq);
-    st64((slot_5 + 24), r_k5);
-    mv24((slot_5 + 32), slot_8);
-    st32((slot_5 + 56), r_mx);
-    capnp_refusals_refusals_search_search_elements_5ccc1be374b2e488(slot_9, a_2, a_3, slot_5, (r_fj & 65535u), r_5d, 1u, a_7);
-    goto l_join_c0;
-l_arm_eo_1:;
-    st64(slot_6, (u64)ld8(a_4));
-    mv16((slot_6 + 8), r_rq);
-    st64((slot_6 + 24), r_k5);
-    mv24((slot_6 + 32), slot_8);
-    st32((slot_6 + 56), r_mx);
-    capnp_refusals_refusals_search_search_elements_5ccc1be374b2e488(slot_9, a_2, a_3, slot_6, 0u, r_fj, 1u, a_7);
-    goto l_join_c0;
-l_arm_eo_2:;
-    st64(slot_7, (u64)ld8(a_4));
-    mv16((slot_7 + 8), r_rq);
-    st64((slot_7 + 24), r_k5);
-    mv24((slot_7 + 32), slot_8);
-    st32((slot_7 + 56), r_mx);
-    capnp_refusals_refusals_search_search_elements_5ccc1be374b2e488(slot_9, a_2, a_3, slot_7, (r_fj & 65535u), r_5d, r_8p, a_7);
-l_join_c0:;
-    r_vt = (u64)ld8(slot_9);
-    r_8t = ld64((slot_9 + 8));
-    r_49 = ld32((slot_9 + 16));
-    r_1t = ld32((slot_9 + 20));
-    r_a3 = ld32((slot_9 + 24));
-    r_wr = ld32((slot_9 + 28));
-    r_hb = ld64((slot_9 + 32));
-    goto l_common_s8;
-l_noarm_e1:;
-    UNREACHABLE();
-}
-
-/* capnp_refusals::refusals::search::search_elements::<#5ccc1be374b2e488> */
-static void capnp_refusals_refusals_search_search_elements_5ccc1be374b2e488(u8 *a_1, u8 a_2, u8 a_3, u8 *a_4, u32 a_5, u32 a_6, u32 a_7, u8 *a_8)
-{
-    A(8) u8 slot_1[40];
-    u32 r_yg;
-    u8 *r_t9;
-    u8 *r_r2;
-    u32 r_sv;
-    memset(slot_1, 0u, 40);
-    if (a_6 == 0u) goto l_then_h9;
-    goto l_join_a3;
+    r_9r = 0ull;
+    r_xy = r_r4;
+l_arm_i4:;
+    r_ef = ((u32)r_xy & 255u);
+    r_kn = r_9r;
+    r_9a = (u32)(u64)(r_xy >> 32ull);
+    goto l_arm_c6;
+l_capnp_32:;
+    u8 r_e6 = ((r_un & 0xffffffffull) == 3ull);
+    if (!r_e6) { r_ef = (r_e6 ? 1u : 34u); r_kn = 0ull; r_9a = 0u; goto l_arm_c6; }
+    if ((u8)(a_3 & 1)) goto l_arm_h9;
+    goto l_arm_c6_1;
 l_common_68:;
     return;
-l_then_h9:;
-    memset(a_1, 0u, 40);
-    goto l_common_68;
-l_join_a3:;
-    r_yg = (a_6 + a_5);
-    if (a_7 == 0u) goto l_after_h9;
-    r_t9 = away(a_4, 48ull);
-    r_r2 = away(a_4, 56ull);
-    r_sv = 0u;
-    goto l_join_tm;
-l_loop_0k:;
-    u32 r_7t = (r_sv + 1u);
-    if (r_7t == a_7) goto l_after_h9;
-    r_sv = r_7t;
-l_join_tm:;
-    capnp_refusals_refusals_search_search_pointers_5ccc1be374b2e488(slot_1, a_2, a_3, a_4, (((r_sv * r_yg) + a_5) + ld32(r_t9)), a_6, ld32(r_r2), a_8);
-    if (!(ld8(slot_1) == 1u)) goto l_loop_0k;
+l_arm_c6:;
     st64(a_1, 1ull);
-    mv32(away(a_1, 8ull), (slot_1 + 8));
+    st64(away(a_1, 8ull), r_52);
+    st32(away(a_1, 16ull), a_5);
+    st32(away(a_1, 20ull), 0u);
+    st32(away(a_1, 24ull), r_ef);
+    st32(away(a_1, 28ull), r_9a);
+    st64(away(a_1, 32ull), r_kn);
     goto l_common_68;
-l_after_h9:;
+l_arm_c6_1:;
+    st64(a_1, 1ull);
+    st64(away(a_1, 8ull), r_52);
+    st32(away(a_1, 16ull), a_5);
+    st32(away(a_1, 20ull), 0u);
+    st32(away(a_1, 24ull), 1u);
+    st32(away(a_1, 28ull), 0u);
+    st64(away(a_1, 32ull), 0ull);
+    goto l_common_68;
+l_arm_6s:;
+    st64(slot_2, r_eg);
+    stp((slot_2 + 8), r_rv);
+    st64((slot_2 + 16), r_qw);
+    st64((slot_2 + 24), r_7w);
+    st64((slot_2 + 32), r_hq);
+    st64((slot_2 + 40), r_o2);
+    r_c4_1 = (slot_2 + 48);
+    st32(r_c4_1, r_p0);
+    st32((slot_2 + 52), r_nt);
+    r_6c = (slot_2 + 56);
+    st32(r_6c, ((a_6 == 0x80000000u) ? 0x80000000u : (a_6 + 0xffffffffu)));
+    memset(slot_1, 0u, 40);
+    if (r_dl == 0u) { r_lt = 0ull; r_5a = 0ull; r_8y = 0u; r_5c = 0u; r_rj = 0u; r_40 = 0u; r_uj = 0ull; goto l_capnp_ov; }
+    r_68_1 = (r_dl + r_ne);
+    if (r_mb == 0u) { r_lt = 0ull; r_5a = 0ull; r_8y = 0u; r_5c = 0u; r_rj = 0u; r_40 = 0u; r_uj = 0ull; goto l_capnp_ov; }
+    invariant_w0 = (r_ne + ld32(r_c4_1));
+    r_e3 = ld32(r_6c);
+    r_wf = 0u;
+    goto l_join_2v;
+l_loop_j4:;
+    u32 r_ff = (r_wf + 1u);
+    if (r_ff == r_mb) { r_lt = 0ull; r_5a = 0ull; r_8y = 0u; r_5c = 0u; r_rj = 0u; r_40 = 0u; r_uj = 0ull; goto l_capnp_ov; }
+    r_wf = r_ff;
+l_join_2v:;
+    capnp_refusals_refusals_search_search_pointers_5ccc1be374b2e488(slot_1, a_2, a_3, slot_2, ((r_wf * r_68_1) + invariant_w0), r_dl, r_e3, a_7);
+    if (!(ld8(slot_1) == 1u)) goto l_loop_j4;
+    r_lt = 1ull;
+    r_5a = ld64((slot_1 + 8));
+    r_8y = ld32((slot_1 + 16));
+    r_5c = ld32((slot_1 + 20));
+    r_rj = ld32((slot_1 + 24));
+    r_40 = ld32((slot_1 + 28));
+    r_uj = ld64((slot_1 + 32));
+l_capnp_ov:;
+    st64(a_1, r_lt);
+    st64(away(a_1, 8ull), r_5a);
+    st32(away(a_1, 16ull), r_8y);
+    st32(away(a_1, 20ull), r_5c);
+    st32(away(a_1, 24ull), r_rj);
+    st32(away(a_1, 28ull), r_40);
+    st64(away(a_1, 32ull), r_uj);
+    goto l_common_68;
+l_arm_h9:;
     memset(a_1, 0u, 40);
     goto l_common_68;
 }
@@ -23802,19 +23663,19 @@ l_arm_5h:;
     goto l_common_68;
 }
 
-/* capnp_framing::framing::reading::read_into::<#5c1e7eb3de607c93> */
-void capnp_framing_framing_reading_read_into_5c1e7eb3de607c93(u8 *a_1, u8 *a_2, u64 a_3, u8 *a_4)
+/* capnp_framing::framing::reading::read_into_with::<#e17d07640fce9b83> */
+void capnp_framing_framing_reading_read_into_with_e17d07640fce9b83(u8 *a_1, u8 *a_2, u8 *a_3, u64 a_4, u8 *a_5)
 {
     A(8) u8 slot_1[24];
     A(4) u8 slot_2[4];
-    A(8) u8 slot_3[16];
-    u8 *r_r2;
     u64 r_50;
     struct s_i8_i64 r_d0;
     u64 r_h9;
-    u64 r_98;
+    u64 r_vv;
     u64 r_r5;
     u64 r_c4;
+    u64 r_7e;
+    u64 r_ix;
     u64 r_lc;
     u8 *r_rq;
     u8 *r_08;
@@ -23828,6 +23689,8 @@ void capnp_framing_framing_reading_read_into_5c1e7eb3de607c93(u8 *a_1, u8 *a_2, 
     u64 r_az;
     u64 r_5q_1;
     u8 *r_lz;
+    u8 r_r5_1;
+    u64 r_38;
     u64 r_xz_1;
     u64 a_9c;
     u8 *r_2b;
@@ -23835,7 +23698,7 @@ void capnp_framing_framing_reading_read_into_5c1e7eb3de607c93(u8 *a_1, u8 *a_2, 
     u64 r_j7;
     struct s_i8_i64 r_d0_1;
     u64 r_h9_1;
-    u64 r_9o;
+    u64 r_8h;
     u8 *r_lz_1;
     u8 *r_xm;
     u8 *r_su;
@@ -23845,6 +23708,9 @@ void capnp_framing_framing_reading_read_into_5c1e7eb3de607c93(u8 *a_1, u8 *a_2, 
     u64 r_wy;
     u64 r_5q_3;
     u64 r_le;
+    u64 r_7e_1;
+    u64 r_ix_1;
+    u8 *r_r2;
     u64 r_44;
     u8 *r_h6;
     u8 *r_2g;
@@ -23859,6 +23725,8 @@ void capnp_framing_framing_reading_read_into_5c1e7eb3de607c93(u8 *a_1, u8 *a_2, 
     u64 r_5q_4;
     u8 *r_lz_2;
     u64 r_r4;
+    u8 r_r5_2;
+    u64 r_38_1;
     u64 r_dv;
     u64 a_9c_1;
     u8 *r_2b_1;
@@ -23866,52 +23734,50 @@ void capnp_framing_framing_reading_read_into_5c1e7eb3de607c93(u8 *a_1, u8 *a_2, 
     u64 r_j7_1;
     struct s_i8_i64 r_d0_2;
     u64 r_h9_2;
-    u64 r_9o_1;
-    u8 r_b4;
-    u8 r_e6;
-    u8 r_dt;
-    u64 r_83;
-    r_r2 = away(a_4, 56ull);
-    memset(slot_3, 0u, 16);
-    st64(a_4, 0ull);
+    u64 r_8h_1;
+    u64 r_7e_2;
+    u64 r_ix_2;
+    st64(a_5, 0ull);
     st32(slot_2, 0u);
     r_50 = 0ull;
     goto l_join_4v;
 l_loop_yc:;
     u64 r_5q = (r_h9 + r_50);
     if (r_5q < 4ull) { r_50 = r_5q; goto l_join_4v; }
-    r_98 = r_5q;
-    goto l_arm_94;
+    r_vv = r_5q;
+    goto l_arm_0x;
 l_join_4v:;
-    r_d0 = capnp_packing_buffered_standard_BufReaderInputInput_re_81b4ff93(a_2, away(slot_2, r_50), (4ull - r_50));
-    if (!(r_d0.f0 == 0u)) { r_b4 = 1u; r_e6 = 0u; r_dt = 4u; r_83 = 0ull; goto l_capnp_oq; }
+    r_d0 = capnp_packing_buffered_standard_BufReaderInputInput_re_81b4ff93(a_3, away(slot_2, r_50), (4ull - r_50));
+    if (!(r_d0.f0 == 0u)) { r_7e = 4ull; r_ix = 0ull; goto l_arm_tl; }
     r_h9 = r_d0.f1;
-    if (r_h9 == 0ull) { r_98 = r_50; goto l_arm_94; }
+    if (r_h9 == 0ull) { r_vv = r_50; goto l_arm_0x; }
     goto l_loop_yc;
-l_arm_94:;
-    switch (r_98) {
-    case 0ull: { r_b4 = 0u; r_e6 = 0u; r_dt = 0u; r_83 = r_98; goto l_capnp_oq; }
+l_arm_0x:;
+    switch (r_vv) {
+    case 0ull: goto l_arm_yd;
     case 4ull: goto l_join_t2;
-    default: goto l_arm_h9;
+    default: { r_7e = 3ull; r_ix = 0ull; goto l_arm_tl; }
     }
 l_join_t2:;
     u32 t_uq = ld32(slot_2);
     r_r5 = (u64)t_uq;
     r_c4 = (r_r5 + 1ull);
-    if (t_uq > 511u) { r_b4 = 1u; r_e6 = 0u; r_dt = 1u; r_83 = r_c4; goto l_capnp_oq; }
+    if (t_uq > 511u) { r_7e = 1ull; r_ix = r_c4; goto l_arm_tl; }
     goto l_arm_lv;
-l_arm_h9:;
-    r_b4 = 1u;
-    r_e6 = 0u;
-    r_dt = 3u;
-    r_83 = 0ull;
-    goto l_capnp_oq;
+l_common_68:;
+    return;
+l_arm_tl:;
+    st8(a_1, 1u);
+    st8(away(a_1, 1ull), 0u);
+    st64(away(a_1, 8ull), r_7e);
+    st64(away(a_1, 16ull), r_ix);
+    goto l_common_68;
 l_arm_lv:;
     u64 r_vo = (u64)(r_c4 << 2ull);
     r_lc = (((r_vo & 4ull) ^ 4ull) + r_vo);
-    r_rq = away(a_4, 8ull);
-    r_08 = away(a_4, 16ull);
-    r_xz = away(a_4, 24ull);
+    r_rq = away(a_5, 8ull);
+    r_08 = away(a_5, 16ull);
+    r_xz = away(a_5, 24ull);
     r_x5 = (slot_1 + 8);
     r_zd = (slot_1 + 16);
     r_09 = 0ull;
@@ -23927,7 +23793,7 @@ l_join_8s:;
     u64 r_52_1 = ld64(r_xz);
     if (!(r_5p > (r_52_1 - r_52))) { r_ph = r_52_1; r_az = r_52; goto l_join_kx; }
     u8 r_qy = std_alloc_vec_Vec_grow_amortized_ffd95af9aab10bcd(r_rq, r_5p);
-    if (!r_qy) goto l_capnp_pn;
+    if (!r_qy) goto l_capnp_mz;
     r_ph = ld64(r_xz);
     r_az = ld64(r_08);
 l_join_kx:;
@@ -23941,43 +23807,48 @@ l_std_5b:;
     st64(r_xz, r_ph);
     r_xz_1 = r_5q_1;
     goto l_arm_gi;
-l_capnp_pn:;
-    capnp_framing_framing_reading_grow_7f7dbdafe4478eeb(slot_1, slot_3, r_rq);
-    if (!(ld8(slot_1) == 0u)) { r_b4 = 1u; r_e6 = 0u; r_dt = ld8(r_x5); r_83 = ld64(r_zd); goto l_capnp_oq; }
+l_capnp_mz:;
+    capnp_framing_framing_reading_grow_d2a9a4fc44ffc9f7(slot_1, a_2, r_rq);
+    r_r5_1 = ld8(r_x5);
+    r_38 = ld64(r_zd);
+    if (!(ld8(slot_1) == 0u)) goto l_arm_of;
     r_xz_1 = ld64(r_08);
 l_arm_gi:;
     a_9c = umin64(r_xz_1, r_lc);
     r_2b = away(ldp(r_rq), r_09);
     r_l3 = (a_9c - r_09);
-    if (a_9c == r_09) { r_9o = 0ull; goto l_capnp_ud; }
+    if (a_9c == r_09) { r_8h = 0ull; goto l_capnp_v8; }
     r_j7 = 0ull;
     goto l_join_r2;
 l_loop_lw:;
     u64 r_5q_2 = (r_h9_1 + r_j7);
     if (r_5q_2 < r_l3) { r_j7 = r_5q_2; goto l_join_r2; }
-    r_9o = r_5q_2;
-    goto l_capnp_ud;
+    r_8h = r_5q_2;
+    goto l_capnp_v8;
 l_join_r2:;
-    r_d0_1 = capnp_packing_buffered_standard_BufReaderInputInput_re_81b4ff93(a_2, away(r_2b, r_j7), (r_l3 - r_j7));
-    if (!(r_d0_1.f0 == 0u)) { r_b4 = 1u; r_e6 = 0u; r_dt = 4u; r_83 = 0ull; goto l_capnp_oq; }
+    r_d0_1 = capnp_packing_buffered_standard_BufReaderInputInput_re_81b4ff93(a_3, away(r_2b, r_j7), (r_l3 - r_j7));
+    if (!(r_d0_1.f0 == 0u)) { r_7e_1 = 4ull; r_ix_1 = 0ull; goto l_arm_tl_1; }
     r_h9_1 = r_d0_1.f1;
-    if (r_h9_1 == 0ull) { r_9o = r_j7; goto l_capnp_ud; }
+    if (r_h9_1 == 0ull) { r_8h = r_j7; goto l_capnp_v8; }
     goto l_loop_lw;
-l_capnp_ud:;
-    if (r_9o == r_l3) { r_09 = a_9c; goto l_loop_t9; }
-    r_b4 = 1u;
-    r_e6 = 0u;
-    r_dt = 3u;
-    r_83 = 0ull;
-    goto l_capnp_oq;
+l_capnp_v8:;
+    if (r_8h == r_l3) { r_09 = a_9c; goto l_loop_t9; }
+    r_7e_1 = 3ull;
+    r_ix_1 = 0ull;
+    goto l_arm_tl_1;
+l_arm_yd:;
+    st8(a_1, 0u);
+    st8(away(a_1, 1ull), 0u);
+    memset(away(a_1, 8ull), 0u, 16);
+    goto l_common_68;
 l_arm_9w:;
     r_lz_1 = ldp(r_rq);
-    r_xm = away(a_4, 32ull);
-    r_su = away(a_4, 40ull);
+    r_xm = away(a_5, 32ull);
+    r_su = away(a_5, 40ull);
     if (ld64(r_su) == 0ull) goto l_join_mh;
     st64(r_su, 0ull);
 l_join_mh:;
-    r_t9 = away(a_4, 48ull);
+    r_t9 = away(a_5, 48ull);
     r_l5 = 0ull;
     r_rx = 0ull;
     r_wy = 0ull;
@@ -23985,22 +23856,56 @@ l_join_rl:;
     r_5q_3 = (r_rx + (u64)ld32((r_lz_1 + (i64)((u64)(r_wy << 2ull)))));
     if (!(ld64(r_t9) == r_l5)) { r_le = r_l5; goto l_std_28; }
     u8 r_db = std_alloc_vec_Vec_grow_amortized_5e63141f0e39c5e0(r_xm);
-    if (!r_db) { r_b4 = 1u; r_e6 = 0u; r_dt = 6u; r_83 = 0ull; goto l_capnp_oq; }
+    if (!r_db) goto l_arm_cf;
     r_le = ld64(r_su);
 l_std_28:;
     st64((ldp(r_xm) + (i64)((u64)(r_le << 3ull))), r_5q_3);
     u64 r_7n = (r_le + 1ull);
     st64(r_su, r_7n);
-    if (!(r_wy == r_r5)) { u64 r_1 = r_7n; u64 r_2 = r_5q_3; u64 r_3 = (r_wy + 1ull); r_l5 = r_1; r_rx = r_2; r_wy = r_3; goto l_join_rl; }
-    if (a_3 < r_5q_3) { r_b4 = 1u; r_e6 = 0u; r_dt = 2u; r_83 = r_5q_3; goto l_capnp_oq; }
+    if (r_wy == r_r5) goto l_arm_5e;
+    u64 r_1 = r_7n;
+    u64 r_2 = r_5q_3;
+    u64 r_3 = (r_wy + 1ull);
+    r_l5 = r_1;
+    r_rx = r_2;
+    r_wy = r_3;
+    goto l_join_rl;
+l_arm_of:;
+    r_7e_1 = (u64)r_r5_1;
+    r_ix_1 = r_38;
+l_arm_tl_1:;
+    st8(a_1, 1u);
+    st8(away(a_1, 1ull), 0u);
+    st64(away(a_1, 8ull), r_7e_1);
+    st64(away(a_1, 16ull), r_ix_1);
+    goto l_common_68;
+l_arm_5e:;
+    if (a_4 < r_5q_3) goto l_then_tl;
+    goto l_join_zs;
+l_arm_cf:;
+    u8 *r_rq_1 = away(a_2, 8ull);
+    st64(r_rq_1, uadd_sat64(ld64(r_rq_1), 1ull));
+    st8(a_1, 1u);
+    st8(away(a_1, 1ull), 0u);
+    st64(away(a_1, 8ull), 6ull);
+    st64(away(a_1, 16ull), 0ull);
+    goto l_common_68;
+l_then_tl:;
+    st8(a_1, 1u);
+    st8(away(a_1, 1ull), 0u);
+    st64(away(a_1, 8ull), 2ull);
+    st64(away(a_1, 16ull), r_5q_3);
+    goto l_common_68;
+l_join_zs:;
+    r_r2 = away(a_5, 56ull);
     r_44 = (u64)(r_5q_3 << 3ull);
-    r_h6 = away(a_4, 64ull);
-    r_2g = away(a_4, 72ull);
+    r_h6 = away(a_5, 64ull);
+    r_2g = away(a_5, 72ull);
     r_x5_1 = (slot_1 + 8);
     r_zd_1 = (slot_1 + 16);
     r_lj = 0ull;
 l_loop_hb:;
-    if (!(r_lj < r_44)) goto l_arm_hg;
+    if (!(r_lj < r_44)) goto l_arm_es;
     memset(slot_1, 0u, 24);
     r_52_2 = ld64(r_h6);
     if (!(r_lj < r_52_2)) goto l_join_c5;
@@ -24018,7 +23923,7 @@ l_join_q6:;
     u64 r_52_3 = ld64(r_2g);
     if (!(r_e9 > (r_52_3 - r_52_2))) { r_ph_1 = r_52_3; r_az_1 = r_52_2; goto l_join_kx_1; }
     u8 r_qy_1 = std_alloc_vec_Vec_grow_amortized_ffd95af9aab10bcd(r_r2, r_e9);
-    if (!r_qy_1) goto l_capnp_pn_1;
+    if (!r_qy_1) goto l_capnp_mz_1;
     r_ph_1 = ld64(r_2g);
     r_az_1 = ld64(r_h6);
 l_join_kx_1:;
@@ -24034,62 +23939,112 @@ l_std_re:;
 l_capnp_5s:;
     r_dv = r_r4;
     goto l_arm_df;
-l_capnp_pn_1:;
-    capnp_framing_framing_reading_grow_7f7dbdafe4478eeb(slot_1, slot_3, r_r2);
-    if (!(ld8(slot_1) == 0u)) { r_b4 = 1u; r_e6 = 0u; r_dt = ld8(r_x5_1); r_83 = ld64(r_zd_1); goto l_capnp_oq; }
+l_capnp_mz_1:;
+    capnp_framing_framing_reading_grow_d2a9a4fc44ffc9f7(slot_1, a_2, r_r2);
+    r_r5_2 = ld8(r_x5_1);
+    r_38_1 = ld64(r_zd_1);
+    if (!(ld8(slot_1) == 0u)) goto l_arm_of_1;
     r_dv = ld64(r_h6);
 l_arm_df:;
     a_9c_1 = umin64(r_dv, r_44);
     r_2b_1 = away(ldp(r_r2), r_lj);
     r_0j = (a_9c_1 - r_lj);
-    if (a_9c_1 == r_lj) { r_9o_1 = 0ull; goto l_capnp_ud_1; }
+    if (a_9c_1 == r_lj) { r_8h_1 = 0ull; goto l_capnp_v8_1; }
     r_j7_1 = 0ull;
     goto l_join_r2_1;
 l_loop_lw_1:;
     u64 r_5q_5 = (r_h9_2 + r_j7_1);
     if (r_5q_5 < r_0j) { r_j7_1 = r_5q_5; goto l_join_r2_1; }
-    r_9o_1 = r_5q_5;
-    goto l_capnp_ud_1;
+    r_8h_1 = r_5q_5;
+    goto l_capnp_v8_1;
 l_join_r2_1:;
-    r_d0_2 = capnp_packing_buffered_standard_BufReaderInputInput_re_81b4ff93(a_2, away(r_2b_1, r_j7_1), (r_0j - r_j7_1));
-    if (!(r_d0_2.f0 == 0u)) { r_b4 = 1u; r_e6 = 0u; r_dt = 4u; r_83 = 0ull; goto l_capnp_oq; }
+    r_d0_2 = capnp_packing_buffered_standard_BufReaderInputInput_re_81b4ff93(a_3, away(r_2b_1, r_j7_1), (r_0j - r_j7_1));
+    if (!(r_d0_2.f0 == 0u)) { r_7e_2 = 4ull; r_ix_2 = 0ull; goto l_arm_tl_2; }
     r_h9_2 = r_d0_2.f1;
-    if (r_h9_2 == 0ull) { r_9o_1 = r_j7_1; goto l_capnp_ud_1; }
+    if (r_h9_2 == 0ull) { r_8h_1 = r_j7_1; goto l_capnp_v8_1; }
     goto l_loop_lw_1;
-l_capnp_ud_1:;
-    if (r_9o_1 == r_0j) { r_lj = a_9c_1; goto l_loop_hb; }
-    r_b4 = 1u;
-    r_e6 = 0u;
-    r_dt = 3u;
-    r_83 = 0ull;
-    goto l_capnp_oq;
-l_arm_hg:;
-    st64(a_4, r_c4);
-    r_b4 = 0u;
-    r_e6 = 1u;
-    r_dt = 0u;
-    r_83 = 0ull;
-l_capnp_oq:;
-    st8(a_1, r_b4);
-    st8(away(a_1, 1ull), r_e6);
-    st64(away(a_1, 8ull), (u64)r_dt);
-    st64(away(a_1, 16ull), r_83);
-    return;
+l_capnp_v8_1:;
+    if (r_8h_1 == r_0j) { r_lj = a_9c_1; goto l_loop_hb; }
+    r_7e_2 = 3ull;
+    r_ix_2 = 0ull;
+    goto l_arm_tl_2;
+l_arm_es:;
+    st64(a_5, r_c4);
+    st8(a_1, 0u);
+    st8(away(a_1, 1ull), 1u);
+    memset(away(a_1, 8ull), 0u, 16);
+    goto l_common_68;
+l_arm_of_1:;
+    r_7e_2 = (u64)r_r5_2;
+    r_ix_2 = r_38_1;
+l_arm_tl_2:;
+    st8(a_1, 1u);
+    st8(away(a_1, 1ull), 0u);
+    st64(away(a_1, 8ull), r_7e_2);
+    st64(away(a_1, 16ull), r_ix_2);
+    goto l_common_68;
 }
 
-/* capnp_framing::framing::reading::read_into::<#769bb4569b8d536c> */
-void capnp_framing_framing_reading_read_into_769bb4569b8d536c(u8 *a_1, u8 *a_2, u64 a_3, u8 *a_4)
+/* capnp_framing::framing::reading::grow::<#d2a9a4fc44ffc9f7> */
+static NEVER COLD void capnp_framing_framing_reading_grow_d2a9a4fc44ffc9f7(u8 *a_1, u8 *a_2, u8 *a_3)
+{
+    u8 *r_rq;
+    u8 *r_08;
+    u8 *r_rq_1;
+    u64 r_vp;
+    u64 r_7n;
+    u64 r_52_1;
+    r_rq = away(a_2, 8ull);
+    r_08 = away(a_3, 16ull);
+    r_rq_1 = away(a_3, 8ull);
+    u64 r_52 = ld64(r_rq_1);
+    if (!(ld64(r_08) == r_52)) { r_vp = r_52; goto l_std_bs; }
+    u8 r_le = std_alloc_vec_Vec_grow_amortized_5400d4f5161e8cc6(a_3);
+    if (!r_le) goto l_arm_k7;
+    r_vp = ld64(r_rq_1);
+l_std_bs:;
+    st8((ldp(a_3) + (i64)(r_vp)), 0u);
+    r_7n = (r_vp + 1ull);
+    st64(r_rq_1, r_7n);
+    r_52_1 = ld64(r_08);
+    if (r_52_1 > r_7n) goto l_join_re;
+    goto l_then_z5;
+l_arm_k7:;
+    st64(r_rq, uadd_sat64(ld64(r_rq), 1ull));
+    st8(a_1, 1u);
+    st64(away(a_1, 8ull), 6ull);
+    st64(away(a_1, 16ull), 0ull);
+l_common_68:;
+    return;
+l_then_z5:;
+    if (!(r_7n > r_52_1)) goto l_std_k2;
+    st64(r_rq_1, r_52_1);
+    goto l_std_k2;
+l_join_re:;
+    u8 *r_fx = ldp(a_3);
+    memset_or_none(away(r_fx, r_7n), 0u, (r_52_1 - r_7n));
+    stp(a_3, r_fx);
+    st64(r_rq_1, r_52_1);
+    st64(r_08, r_52_1);
+l_std_k2:;
+    st8(a_1, 0u);
+    memset(away(a_1, 8ull), 0u, 16);
+    goto l_common_68;
+}
+
+/* capnp_framing::framing::reading::read_into_with::<#f580c6174cdce4ec> */
+void capnp_framing_framing_reading_read_into_with_f580c6174cdce4ec(u8 *a_1, u8 *a_2, u8 *a_3, u64 a_4, u8 *a_5)
 {
     A(8) u8 slot_1[24];
     A(4) u8 slot_2[4];
-    A(8) u8 slot_3[16];
-    u8 *r_r2;
     u64 r_0k;
     struct s_i8_i64 r_cb;
     u64 r_h9;
-    u64 r_98;
+    u64 r_vv;
     u64 r_r5;
     u64 r_c4;
+    u64 r_7e;
+    u64 r_ix;
     u64 r_lc;
     u8 *r_rq;
     u8 *r_08;
@@ -24103,6 +24058,8 @@ void capnp_framing_framing_reading_read_into_769bb4569b8d536c(u8 *a_1, u8 *a_2, 
     u64 r_az;
     u64 r_5q_1;
     u8 *r_lz;
+    u8 r_r5_1;
+    u64 r_38;
     u64 r_xz_1;
     u64 a_9c;
     u8 *r_2b;
@@ -24110,7 +24067,7 @@ void capnp_framing_framing_reading_read_into_769bb4569b8d536c(u8 *a_1, u8 *a_2, 
     u64 r_9w;
     struct s_i8_i64 r_cb_1;
     u64 r_h9_1;
-    u64 r_9o;
+    u64 r_8h;
     u8 *r_lz_1;
     u8 *r_xm;
     u8 *r_su;
@@ -24120,6 +24077,9 @@ void capnp_framing_framing_reading_read_into_769bb4569b8d536c(u8 *a_1, u8 *a_2, 
     u64 r_wy;
     u64 r_5q_3;
     u64 r_le;
+    u64 r_7e_1;
+    u64 r_ix_1;
+    u8 *r_r2;
     u64 r_44;
     u8 *r_h6;
     u8 *r_2g;
@@ -24134,6 +24094,8 @@ void capnp_framing_framing_reading_read_into_769bb4569b8d536c(u8 *a_1, u8 *a_2, 
     u64 r_5q_4;
     u8 *r_lz_2;
     u64 r_r4;
+    u8 r_r5_2;
+    u64 r_38_1;
     u64 r_dv;
     u64 a_9c_1;
     u8 *r_2b_1;
@@ -24141,52 +24103,50 @@ void capnp_framing_framing_reading_read_into_769bb4569b8d536c(u8 *a_1, u8 *a_2, 
     u64 r_9w_1;
     struct s_i8_i64 r_cb_2;
     u64 r_h9_2;
-    u64 r_9o_1;
-    u8 r_b4;
-    u8 r_e6;
-    u8 r_dt;
-    u64 r_83;
-    r_r2 = away(a_4, 56ull);
-    memset(slot_3, 0u, 16);
-    st64(a_4, 0ull);
+    u64 r_8h_1;
+    u64 r_7e_2;
+    u64 r_ix_2;
+    st64(a_5, 0ull);
     st32(slot_2, 0u);
     r_0k = 0ull;
     goto l_join_8e;
 l_loop_yc:;
     u64 r_5q = (r_h9 + r_0k);
     if (r_5q < 4ull) { r_0k = r_5q; goto l_join_8e; }
-    r_98 = r_5q;
-    goto l_arm_94;
+    r_vv = r_5q;
+    goto l_arm_0x;
 l_join_8e:;
-    r_cb = capnp_packing_packing_unpacking_input_UnpackingInput_u_1b6843d3(a_2, away(slot_2, r_0k), (4ull - r_0k));
-    if (!(r_cb.f0 == 0u)) { r_b4 = 1u; r_e6 = 0u; r_dt = 4u; r_83 = 0ull; goto l_capnp_oq; }
+    r_cb = capnp_packing_packing_unpacking_input_UnpackingInput_u_1b6843d3(a_3, away(slot_2, r_0k), (4ull - r_0k));
+    if (!(r_cb.f0 == 0u)) { r_7e = 4ull; r_ix = 0ull; goto l_arm_tl; }
     r_h9 = r_cb.f1;
-    if (r_h9 == 0ull) { r_98 = r_0k; goto l_arm_94; }
+    if (r_h9 == 0ull) { r_vv = r_0k; goto l_arm_0x; }
     goto l_loop_yc;
-l_arm_94:;
-    switch (r_98) {
-    case 0ull: { r_b4 = 0u; r_e6 = 0u; r_dt = 0u; r_83 = r_98; goto l_capnp_oq; }
+l_arm_0x:;
+    switch (r_vv) {
+    case 0ull: goto l_arm_yd;
     case 4ull: goto l_join_t2;
-    default: goto l_arm_h9;
+    default: { r_7e = 3ull; r_ix = 0ull; goto l_arm_tl; }
     }
 l_join_t2:;
     u32 t_uq = ld32(slot_2);
     r_r5 = (u64)t_uq;
     r_c4 = (r_r5 + 1ull);
-    if (t_uq > 511u) { r_b4 = 1u; r_e6 = 0u; r_dt = 1u; r_83 = r_c4; goto l_capnp_oq; }
+    if (t_uq > 511u) { r_7e = 1ull; r_ix = r_c4; goto l_arm_tl; }
     goto l_arm_lv;
-l_arm_h9:;
-    r_b4 = 1u;
-    r_e6 = 0u;
-    r_dt = 3u;
-    r_83 = 0ull;
-    goto l_capnp_oq;
+l_common_68:;
+    return;
+l_arm_tl:;
+    st8(a_1, 1u);
+    st8(away(a_1, 1ull), 0u);
+    st64(away(a_1, 8ull), r_7e);
+    st64(away(a_1, 16ull), r_ix);
+    goto l_common_68;
 l_arm_lv:;
     u64 r_vo = (u64)(r_c4 << 2ull);
     r_lc = (((r_vo & 4ull) ^ 4ull) + r_vo);
-    r_rq = away(a_4, 8ull);
-    r_08 = away(a_4, 16ull);
-    r_xz = away(a_4, 24ull);
+    r_rq = away(a_5, 8ull);
+    r_08 = away(a_5, 16ull);
+    r_xz = away(a_5, 24ull);
     r_x5 = (slot_1 + 8);
     r_zd = (slot_1 + 16);
     r_09 = 0ull;
@@ -24202,7 +24162,7 @@ l_join_8s:;
     u64 r_52_1 = ld64(r_xz);
     if (!(r_5p > (r_52_1 - r_52))) { r_ph = r_52_1; r_az = r_52; goto l_join_kx; }
     u8 r_qy = std_alloc_vec_Vec_grow_amortized_ffd95af9aab10bcd(r_rq, r_5p);
-    if (!r_qy) goto l_capnp_pn;
+    if (!r_qy) goto l_capnp_mz;
     r_ph = ld64(r_xz);
     r_az = ld64(r_08);
 l_join_kx:;
@@ -24216,43 +24176,48 @@ l_std_5b:;
     st64(r_xz, r_ph);
     r_xz_1 = r_5q_1;
     goto l_arm_gi;
-l_capnp_pn:;
-    capnp_framing_framing_reading_grow_7f7dbdafe4478eeb(slot_1, slot_3, r_rq);
-    if (!(ld8(slot_1) == 0u)) { r_b4 = 1u; r_e6 = 0u; r_dt = ld8(r_x5); r_83 = ld64(r_zd); goto l_capnp_oq; }
+l_capnp_mz:;
+    capnp_framing_framing_reading_grow_d2a9a4fc44ffc9f7(slot_1, a_2, r_rq);
+    r_r5_1 = ld8(r_x5);
+    r_38 = ld64(r_zd);
+    if (!(ld8(slot_1) == 0u)) goto l_arm_of;
     r_xz_1 = ld64(r_08);
 l_arm_gi:;
     a_9c = umin64(r_xz_1, r_lc);
     r_2b = away(ldp(r_rq), r_09);
     r_l3 = (a_9c - r_09);
-    if (a_9c == r_09) { r_9o = 0ull; goto l_capnp_ud; }
+    if (a_9c == r_09) { r_8h = 0ull; goto l_capnp_v8; }
     r_9w = 0ull;
     goto l_join_hf;
 l_loop_lw:;
     u64 r_5q_2 = (r_h9_1 + r_9w);
     if (r_5q_2 < r_l3) { r_9w = r_5q_2; goto l_join_hf; }
-    r_9o = r_5q_2;
-    goto l_capnp_ud;
+    r_8h = r_5q_2;
+    goto l_capnp_v8;
 l_join_hf:;
-    r_cb_1 = capnp_packing_packing_unpacking_input_UnpackingInput_u_1b6843d3(a_2, away(r_2b, r_9w), (r_l3 - r_9w));
-    if (!(r_cb_1.f0 == 0u)) { r_b4 = 1u; r_e6 = 0u; r_dt = 4u; r_83 = 0ull; goto l_capnp_oq; }
+    r_cb_1 = capnp_packing_packing_unpacking_input_UnpackingInput_u_1b6843d3(a_3, away(r_2b, r_9w), (r_l3 - r_9w));
+    if (!(r_cb_1.f0 == 0u)) { r_7e_1 = 4ull; r_ix_1 = 0ull; goto l_arm_tl_1; }
     r_h9_1 = r_cb_1.f1;
-    if (r_h9_1 == 0ull) { r_9o = r_9w; goto l_capnp_ud; }
+    if (r_h9_1 == 0ull) { r_8h = r_9w; goto l_capnp_v8; }
     goto l_loop_lw;
-l_capnp_ud:;
-    if (r_9o == r_l3) { r_09 = a_9c; goto l_loop_t9; }
-    r_b4 = 1u;
-    r_e6 = 0u;
-    r_dt = 3u;
-    r_83 = 0ull;
-    goto l_capnp_oq;
+l_capnp_v8:;
+    if (r_8h == r_l3) { r_09 = a_9c; goto l_loop_t9; }
+    r_7e_1 = 3ull;
+    r_ix_1 = 0ull;
+    goto l_arm_tl_1;
+l_arm_yd:;
+    st8(a_1, 0u);
+    st8(away(a_1, 1ull), 0u);
+    memset(away(a_1, 8ull), 0u, 16);
+    goto l_common_68;
 l_arm_9w:;
     r_lz_1 = ldp(r_rq);
-    r_xm = away(a_4, 32ull);
-    r_su = away(a_4, 40ull);
+    r_xm = away(a_5, 32ull);
+    r_su = away(a_5, 40ull);
     if (ld64(r_su) == 0ull) goto l_join_mh;
     st64(r_su, 0ull);
 l_join_mh:;
-    r_t9 = away(a_4, 48ull);
+    r_t9 = away(a_5, 48ull);
     r_l5 = 0ull;
     r_rx = 0ull;
     r_wy = 0ull;
@@ -24260,22 +24225,56 @@ l_join_rl:;
     r_5q_3 = (r_rx + (u64)ld32((r_lz_1 + (i64)((u64)(r_wy << 2ull)))));
     if (!(ld64(r_t9) == r_l5)) { r_le = r_l5; goto l_std_28; }
     u8 r_db = std_alloc_vec_Vec_grow_amortized_5e63141f0e39c5e0(r_xm);
-    if (!r_db) { r_b4 = 1u; r_e6 = 0u; r_dt = 6u; r_83 = 0ull; goto l_capnp_oq; }
+    if (!r_db) goto l_arm_cf;
     r_le = ld64(r_su);
 l_std_28:;
     st64((ldp(r_xm) + (i64)((u64)(r_le << 3ull))), r_5q_3);
     u64 r_7n = (r_le + 1ull);
     st64(r_su, r_7n);
-    if (!(r_wy == r_r5)) { u64 r_1 = r_7n; u64 r_2 = r_5q_3; u64 r_3 = (r_wy + 1ull); r_l5 = r_1; r_rx = r_2; r_wy = r_3; goto l_join_rl; }
-    if (a_3 < r_5q_3) { r_b4 = 1u; r_e6 = 0u; r_dt = 2u; r_83 = r_5q_3; goto l_capnp_oq; }
+    if (r_wy == r_r5) goto l_arm_5e;
+    u64 r_1 = r_7n;
+    u64 r_2 = r_5q_3;
+    u64 r_3 = (r_wy + 1ull);
+    r_l5 = r_1;
+    r_rx = r_2;
+    r_wy = r_3;
+    goto l_join_rl;
+l_arm_of:;
+    r_7e_1 = (u64)r_r5_1;
+    r_ix_1 = r_38;
+l_arm_tl_1:;
+    st8(a_1, 1u);
+    st8(away(a_1, 1ull), 0u);
+    st64(away(a_1, 8ull), r_7e_1);
+    st64(away(a_1, 16ull), r_ix_1);
+    goto l_common_68;
+l_arm_5e:;
+    if (a_4 < r_5q_3) goto l_then_tl;
+    goto l_join_zs;
+l_arm_cf:;
+    u8 *r_rq_1 = away(a_2, 8ull);
+    st64(r_rq_1, uadd_sat64(ld64(r_rq_1), 1ull));
+    st8(a_1, 1u);
+    st8(away(a_1, 1ull), 0u);
+    st64(away(a_1, 8ull), 6ull);
+    st64(away(a_1, 16ull), 0ull);
+    goto l_common_68;
+l_then_tl:;
+    st8(a_1, 1u);
+    st8(away(a_1, 1ull), 0u);
+    st64(away(a_1, 8ull), 2ull);
+    st64(away(a_1, 16ull), r_5q_3);
+    goto l_common_68;
+l_join_zs:;
+    r_r2 = away(a_5, 56ull);
     r_44 = (u64)(r_5q_3 << 3ull);
-    r_h6 = away(a_4, 64ull);
-    r_2g = away(a_4, 72ull);
+    r_h6 = away(a_5, 64ull);
+    r_2g = away(a_5, 72ull);
     r_x5_1 = (slot_1 + 8);
     r_zd_1 = (slot_1 + 16);
     r_lj = 0ull;
 l_loop_hb:;
-    if (!(r_lj < r_44)) goto l_arm_hg;
+    if (!(r_lj < r_44)) goto l_arm_es;
     memset(slot_1, 0u, 24);
     r_52_2 = ld64(r_h6);
     if (!(r_lj < r_52_2)) goto l_join_c5;
@@ -24293,7 +24292,7 @@ l_join_q6:;
     u64 r_52_3 = ld64(r_2g);
     if (!(r_e9 > (r_52_3 - r_52_2))) { r_ph_1 = r_52_3; r_az_1 = r_52_2; goto l_join_kx_1; }
     u8 r_qy_1 = std_alloc_vec_Vec_grow_amortized_ffd95af9aab10bcd(r_r2, r_e9);
-    if (!r_qy_1) goto l_capnp_pn_1;
+    if (!r_qy_1) goto l_capnp_mz_1;
     r_ph_1 = ld64(r_2g);
     r_az_1 = ld64(r_h6);
 l_join_kx_1:;
@@ -24309,57 +24308,60 @@ l_std_re:;
 l_capnp_5s:;
     r_dv = r_r4;
     goto l_arm_df;
-l_capnp_pn_1:;
-    capnp_framing_framing_reading_grow_7f7dbdafe4478eeb(slot_1, slot_3, r_r2);
-    if (!(ld8(slot_1) == 0u)) { r_b4 = 1u; r_e6 = 0u; r_dt = ld8(r_x5_1); r_83 = ld64(r_zd_1); goto l_capnp_oq; }
+l_capnp_mz_1:;
+    capnp_framing_framing_reading_grow_d2a9a4fc44ffc9f7(slot_1, a_2, r_r2);
+    r_r5_2 = ld8(r_x5_1);
+    r_38_1 = ld64(r_zd_1);
+    if (!(ld8(slot_1) == 0u)) goto l_arm_of_1;
     r_dv = ld64(r_h6);
 l_arm_df:;
     a_9c_1 = umin64(r_dv, r_44);
     r_2b_1 = away(ldp(r_r2), r_lj);
     r_0j = (a_9c_1 - r_lj);
-    if (a_9c_1 == r_lj) { r_9o_1 = 0ull; goto l_capnp_ud_1; }
+    if (a_9c_1 == r_lj) { r_8h_1 = 0ull; goto l_capnp_v8_1; }
     r_9w_1 = 0ull;
     goto l_join_hf_1;
 l_loop_lw_1:;
     u64 r_5q_5 = (r_h9_2 + r_9w_1);
     if (r_5q_5 < r_0j) { r_9w_1 = r_5q_5; goto l_join_hf_1; }
-    r_9o_1 = r_5q_5;
-    goto l_capnp_ud_1;
+    r_8h_1 = r_5q_5;
+    goto l_capnp_v8_1;
 l_join_hf_1:;
-    r_cb_2 = capnp_packing_packing_unpacking_input_UnpackingInput_u_1b6843d3(a_2, away(r_2b_1, r_9w_1), (r_0j - r_9w_1));
-    if (!(r_cb_2.f0 == 0u)) { r_b4 = 1u; r_e6 = 0u; r_dt = 4u; r_83 = 0ull; goto l_capnp_oq; }
+    r_cb_2 = capnp_packing_packing_unpacking_input_UnpackingInput_u_1b6843d3(a_3, away(r_2b_1, r_9w_1), (r_0j - r_9w_1));
+    if (!(r_cb_2.f0 == 0u)) { r_7e_2 = 4ull; r_ix_2 = 0ull; goto l_arm_tl_2; }
     r_h9_2 = r_cb_2.f1;
-    if (r_h9_2 == 0ull) { r_9o_1 = r_9w_1; goto l_capnp_ud_1; }
+    if (r_h9_2 == 0ull) { r_8h_1 = r_9w_1; goto l_capnp_v8_1; }
     goto l_loop_lw_1;
-l_capnp_ud_1:;
-    if (r_9o_1 == r_0j) { r_lj = a_9c_1; goto l_loop_hb; }
-    r_b4 = 1u;
-    r_e6 = 0u;
-    r_dt = 3u;
-    r_83 = 0ull;
-    goto l_capnp_oq;
-l_arm_hg:;
-    st64(a_4, r_c4);
-    r_b4 = 0u;
-    r_e6 = 1u;
-    r_dt = 0u;
-    r_83 = 0ull;
-l_capnp_oq:;
-    st8(a_1, r_b4);
-    st8(away(a_1, 1ull), r_e6);
-    st64(away(a_1, 8ull), (u64)r_dt);
-    st64(away(a_1, 16ull), r_83);
-    return;
+l_capnp_v8_1:;
+    if (r_8h_1 == r_0j) { r_lj = a_9c_1; goto l_loop_hb; }
+    r_7e_2 = 3ull;
+    r_ix_2 = 0ull;
+    goto l_arm_tl_2;
+l_arm_es:;
+    st64(a_5, r_c4);
+    st8(a_1, 0u);
+    st8(away(a_1, 1ull), 1u);
+    memset(away(a_1, 8ull), 0u, 16);
+    goto l_common_68;
+l_arm_of_1:;
+    r_7e_2 = (u64)r_r5_2;
+    r_ix_2 = r_38_1;
+l_arm_tl_2:;
+    st8(a_1, 1u);
+    st8(away(a_1, 1ull), 0u);
+    st64(away(a_1, 8ull), r_7e_2);
+    st64(away(a_1, 16ull), r_ix_2);
+    goto l_common_68;
 }
 
-/* capnp_framing::framing::segment::read_segment_into::<#5c1e7eb3de607c93> */
-void capnp_framing_framing_segment_read_segment_into_5c1e7e_e31dbfcd(u8 *a_1, u8 *a_2, u64 a_3, u8 *a_4)
+/* capnp_framing::framing::segment::read_segment_into_with::<#e17d07640fce9b83> */
+void capnp_framing_framing_segment_read_segment_into_with_e_5cc29fb8(u8 *a_1, u8 *a_2, u8 *a_3, u64 a_4, u8 *a_5)
 {
     A(8) u8 slot_1[24];
-    A(8) u8 slot_2[16];
-    u8 *r_r2;
+    A(8) u8 slot_2[24];
     u64 a_7c;
     u64 r_4k;
+    u8 *r_r2;
     u8 *r_h6;
     u8 *r_2g;
     u8 *r_x5;
@@ -24384,29 +24386,15 @@ void capnp_framing_framing_segment_read_segment_into_5c1e7e_e31dbfcd(u8 *a_1, u8
     u64 r_h9;
     u64 r_8a;
     u64 r_sv;
-    u64 r_oz;
-    u32 r_wt;
-    u8 *r_rq;
-    u8 *r_xm;
-    u8 *r_08;
-    u8 *r_su;
-    u8 *r_xz;
-    u64 r_hh;
-    u64 r_cg;
-    u8 r_47;
-    u64 r_b7;
-    u64 r_nb;
-    u64 r_le;
-    u8 r_9k;
-    u64 r_ni;
-    u64 r_it;
-    r_r2 = away(a_4, 56ull);
-    memset(slot_2, 0u, 16);
-    st64(a_4, 0ull);
-    a_7c = umin64(a_3, 0xffffffffull);
+    u64 r_ba;
+    u64 sink_ia;
+    memset(slot_2, 0u, 24);
+    st64(a_5, 0ull);
+    a_7c = umin64(a_4, 0xffffffffull);
     r_4k = ((u64)(a_7c << 3ull) + 8ull);
-    r_h6 = away(a_4, 64ull);
-    r_2g = away(a_4, 72ull);
+    r_r2 = away(a_5, 56ull);
+    r_h6 = away(a_5, 64ull);
+    r_2g = away(a_5, 72ull);
     r_x5 = (slot_1 + 8);
     r_zd = (slot_1 + 16);
     r_lj = 0ull;
@@ -24424,7 +24412,7 @@ l_join_98:;
     u64 r_52_1 = ld64(r_2g);
     if (!(r_5p > (r_52_1 - r_52))) { r_ph = r_52_1; r_az = r_52; goto l_join_kx; }
     u8 r_hi = std_alloc_vec_Vec_grow_amortized_ffd95af9aab10bcd(r_r2, r_5p);
-    if (!r_hi) goto l_capnp_pn;
+    if (!r_hi) goto l_capnp_mz;
     r_ph = ld64(r_2g);
     r_az = ld64(r_h6);
 l_join_kx:;
@@ -24440,11 +24428,11 @@ l_std_re:;
 l_capnp_5s:;
     r_jw = r_r4;
     goto l_arm_m6;
-l_capnp_pn:;
-    capnp_framing_framing_reading_grow_7f7dbdafe4478eeb(slot_1, slot_2, r_r2);
+l_capnp_mz:;
+    capnp_framing_framing_reading_grow_d2a9a4fc44ffc9f7(slot_1, a_2, r_r2);
     r_r5 = ld8(r_x5);
     r_38 = ld64(r_zd);
-    if (!(ld8(slot_1) == 0u)) goto l_arm_3n;
+    if (!(ld8(slot_1) == 0u)) goto l_arm_of;
     r_jw = ld64(r_h6);
 l_arm_m6:;
     a_fq = umin64(r_jw, r_4k);
@@ -24459,80 +24447,124 @@ l_loop_dw:;
     r_8a = r_5q_1;
     goto l_arm_72;
 l_join_ap:;
-    r_rz = capnp_packing_buffered_standard_BufReaderInputInput_re_81b4ff93(a_2, away(r_2b, r_ll), (r_l3 - r_ll));
-    if (!(r_rz.f0 == 0u)) { r_9k = 1u; r_ni = 4ull; r_it = 0ull; goto l_capnp_4l; }
+    r_rz = capnp_packing_buffered_standard_BufReaderInputInput_re_81b4ff93(a_3, away(r_2b, r_ll), (r_l3 - r_ll));
+    if (!(r_rz.f0 == 0u)) { r_ba = 4ull; sink_ia = 0ull; goto l_arm_nd; }
     r_h9 = r_rz.f1;
     if (r_h9 == 0ull) { r_8a = r_ll; goto l_arm_72; }
     goto l_loop_dw;
-l_arm_3n:;
-    r_9k = 1u;
-    r_ni = (u64)r_r5;
-    r_it = r_38;
-    goto l_capnp_4l;
+l_arm_of:;
+    r_ba = (u64)r_r5;
+    sink_ia = r_38;
+    goto l_arm_nd;
 l_arm_72:;
     u64 r_5q_2 = (r_8a + r_lj);
     if (r_5q_2 < a_fq) { r_sv = r_5q_2; goto l_arm_nl; }
     r_lj = r_5q_2;
     goto l_loop_hb;
 l_arm_nl:;
-    if (!(r_sv == r_4k)) goto l_join_kv;
-    r_9k = 1u;
-    r_ni = 2ull;
-    r_it = (a_7c + 1ull);
-    goto l_capnp_4l;
-l_join_kv:;
-    if (!((r_sv & 7ull) == 0ull)) { r_9k = 1u; r_ni = 3ull; r_it = 0ull; goto l_capnp_4l; }
-    r_oz = (u64)(r_sv >> 3ull);
-    r_wt = (u32)r_oz;
+    if (r_sv == r_4k) goto l_then_je;
+    goto l_join_ha;
+l_common_68:;
+    return;
+l_arm_nd:;
+    st8(a_1, 1u);
+    st64(away(a_1, 8ull), r_ba);
+    st64(away(a_1, 16ull), sink_ia);
+    goto l_common_68;
+l_then_je:;
+    st8(a_1, 1u);
+    st64(away(a_1, 8ull), 2ull);
+    st64(away(a_1, 16ull), (a_7c + 1ull));
+    goto l_common_68;
+l_join_ha:;
+    if ((r_sv & 7ull) == 0ull) goto l_join_80;
+    st8(a_1, 1u);
+    st64(away(a_1, 8ull), 3ull);
+    st64(away(a_1, 16ull), 0ull);
+    goto l_common_68;
+l_join_80:;
+    capnp_framing_framing_segment_set_single_segment_d2a9a_fe11ec29(slot_2, a_2, (u32)(u64)(r_sv >> 3ull), away(a_5, 8ull), away(a_5, 32ull));
+    if (!(ld8(slot_2) == 0u)) goto l_arm_qr;
+    st64(a_5, 1ull);
+    st8(a_1, 0u);
+    memset(away(a_1, 8ull), 0u, 16);
+    goto l_common_68;
+l_arm_qr:;
+    u64 r_38_1 = ld64((slot_2 + 16));
+    u64 r_eg = (u64)ld8((slot_2 + 8));
+    st8(a_1, 1u);
+    st64(away(a_1, 8ull), r_eg);
+    st64(away(a_1, 16ull), r_38_1);
+    goto l_common_68;
+}
+
+/* capnp_framing::framing::segment::set_single_segment::<#d2a9a4fc44ffc9f7> */
+static void capnp_framing_framing_segment_set_single_segment_d2a9a_fe11ec29(u8 *a_1, u8 *a_2, u32 a_3, u8 *a_4, u8 *a_5)
+{
+    A(4) u8 slot_1[4];
+    u8 *r_rq;
+    u8 *r_rq_1;
+    u64 r_kh;
+    u8 *r_08;
+    u64 r_hh;
+    u64 r_cg;
+    u8 r_47;
+    u64 r_af;
+    u64 r_7l;
+    u8 *r_rq_2;
+    u64 r_q1;
     r_rq = away(a_4, 8ull);
-    r_xm = away(a_4, 32ull);
+    if (ld64(r_rq) == 0ull) goto l_std_7d;
+    st64(r_rq, 0ull);
+l_std_7d:;
+    r_rq_1 = away(a_5, 8ull);
+    if (ld64(r_rq_1) == 0ull) { r_kh = 0ull; goto l_std_wc; }
+    st64(r_rq_1, 0ull);
+    r_kh = ld64(r_rq);
+l_std_wc:;
+    st32(slot_1, a_3);
     r_08 = away(a_4, 16ull);
-    if (ld64(r_08) == 0ull) goto l_std_44;
-    st64(r_08, 0ull);
-l_std_44:;
-    r_su = away(a_4, 40ull);
-    if (ld64(r_su) == 0ull) goto l_std_oe;
-    st64(r_su, 0ull);
-l_std_oe:;
-    st32(slot_1, r_wt);
-    r_xz = away(a_4, 24ull);
-    r_hh = 0ull;
+    r_hh = r_kh;
     r_cg = 0ull;
 l_join_ye:;
     r_47 = ld8(away(slot_1, r_cg));
-    if (!(ld64(r_xz) == r_hh)) { r_b7 = r_hh; goto l_std_dy; }
-    u8 r_wa = std_alloc_vec_Vec_grow_amortized_5400d4f5161e8cc6(r_rq);
-    if (!r_wa) goto l_arm_8g;
-    r_b7 = ld64(r_08);
-l_std_dy:;
-    st8((ldp(r_rq) + (i64)(r_b7)), r_47);
-    u64 r_7n = (r_b7 + 1ull);
-    st64(r_08, r_7n);
+    if (!(ld64(r_08) == r_hh)) { r_af = r_hh; goto l_std_5v; }
+    u8 r_le = std_alloc_vec_Vec_grow_amortized_5400d4f5161e8cc6(a_4);
+    if (!r_le) goto l_arm_q2;
+    r_af = ld64(r_rq);
+l_std_5v:;
+    st8((ldp(a_4) + (i64)(r_af)), r_47);
+    u64 r_7n = (r_af + 1ull);
+    st64(r_rq, r_7n);
     u64 r_c4 = (r_cg + 1ull);
     if (!(r_c4 == 4ull)) { r_hh = r_7n; r_cg = r_c4; goto l_join_ye; }
-    r_nb = (r_oz & 0xffffffffull);
-    u64 r_52_2 = ld64(r_su);
-    if (!(ld64(away(a_4, 48ull)) == r_52_2)) { r_le = r_52_2; goto l_arm_28; }
-    u8 r_b8 = std_alloc_vec_Vec_grow_amortized_5e63141f0e39c5e0(r_xm);
-    if (!r_b8) goto l_arm_8g;
-    r_le = ld64(r_su);
-l_arm_28:;
-    st64((ldp(r_xm) + (i64)((u64)(r_le << 3ull))), r_nb);
-    st64(r_su, (r_le + 1ull));
-    st64(a_4, 1ull);
-    r_9k = 0u;
-    r_ni = 0ull;
-    r_it = 0ull;
-    goto l_capnp_4l;
-l_arm_8g:;
-    r_9k = 1u;
-    r_ni = 6ull;
-    r_it = 0ull;
-l_capnp_4l:;
-    st8(a_1, r_9k);
-    st64(away(a_1, 8ull), r_ni);
-    st64(away(a_1, 16ull), r_it);
+    r_7l = (u64)a_3;
+    r_rq_2 = away(a_2, 8ull);
+    u64 r_52 = ld64(r_rq_1);
+    if (!(ld64(away(a_5, 16ull)) == r_52)) { r_q1 = r_52; goto l_std_6g; }
+    u8 r_us = std_alloc_vec_Vec_grow_amortized_5e63141f0e39c5e0(a_5);
+    if (!r_us) goto l_arm_k7;
+    r_q1 = ld64(r_rq_1);
+l_std_6g:;
+    st64((ldp(a_5) + (i64)((u64)(r_q1 << 3ull))), r_7l);
+    st64(r_rq_1, (r_q1 + 1ull));
+    st8(a_1, 0u);
+    memset(away(a_1, 8ull), 0u, 16);
+    goto l_common_68;
+l_arm_k7:;
+    st64(r_rq_2, uadd_sat64(ld64(r_rq_2), 1ull));
+    st8(a_1, 1u);
+    st64(away(a_1, 8ull), 6ull);
+    st64(away(a_1, 16ull), 0ull);
+l_common_68:;
     return;
+l_arm_q2:;
+    u8 *r_rq_3 = away(a_2, 8ull);
+    st64(r_rq_3, uadd_sat64(ld64(r_rq_3), 1ull));
+    st8(a_1, 1u);
+    st64(away(a_1, 8ull), 6ull);
+    st64(away(a_1, 16ull), 0ull);
+    goto l_common_68;
 }
 
 /* capnp_framing::framing::reading::read_into_with::<#50f94a68dd18cac1> */
@@ -25614,19 +25646,19 @@ l_arm_qr:;
     goto l_common_68;
 }
 
-/* capnp_framing::framing::reading::read_into::<#28cb2c7335392011> */
-void capnp_framing_framing_reading_read_into_28cb2c7335392011(u8 *a_1, u8 *a_2, u64 a_3, u8 *a_4)
+/* capnp_framing::framing::reading::read_into_with::<#31ab0fa233179da9> */
+void capnp_framing_framing_reading_read_into_with_31ab0fa233179da9(u8 *a_1, u8 *a_2, u8 *a_3, u64 a_4, u8 *a_5)
 {
     A(8) u8 slot_1[24];
     A(4) u8 slot_2[4];
-    A(8) u8 slot_3[16];
-    u8 *r_r2;
     u64 r_u8;
     struct s_i8_i64 r_67;
     u64 r_h9;
-    u64 r_98;
+    u64 r_vv;
     u64 r_r5;
     u64 r_c4;
+    u64 r_7e;
+    u64 r_ix;
     u64 r_lc;
     u8 *r_rq;
     u8 *r_08;
@@ -25640,6 +25672,8 @@ void capnp_framing_framing_reading_read_into_28cb2c7335392011(u8 *a_1, u8 *a_2, 
     u64 r_az;
     u64 r_5q_1;
     u8 *r_lz;
+    u8 r_r5_1;
+    u64 r_38;
     u64 r_xz_1;
     u64 a_9c;
     u8 *r_2b;
@@ -25647,7 +25681,7 @@ void capnp_framing_framing_reading_read_into_28cb2c7335392011(u8 *a_1, u8 *a_2, 
     u64 r_1y;
     struct s_i8_i64 r_67_1;
     u64 r_h9_1;
-    u64 r_9o;
+    u64 r_8h;
     u8 *r_lz_1;
     u8 *r_xm;
     u8 *r_su;
@@ -25657,6 +25691,9 @@ void capnp_framing_framing_reading_read_into_28cb2c7335392011(u8 *a_1, u8 *a_2, 
     u64 r_wy;
     u64 r_5q_3;
     u64 r_le;
+    u64 r_7e_1;
+    u64 r_ix_1;
+    u8 *r_r2;
     u64 r_44;
     u8 *r_h6;
     u8 *r_2g;
@@ -25671,6 +25708,8 @@ void capnp_framing_framing_reading_read_into_28cb2c7335392011(u8 *a_1, u8 *a_2, 
     u64 r_5q_4;
     u8 *r_lz_2;
     u64 r_r4;
+    u8 r_r5_2;
+    u64 r_38_1;
     u64 r_dv;
     u64 a_9c_1;
     u8 *r_2b_1;
@@ -25678,52 +25717,50 @@ void capnp_framing_framing_reading_read_into_28cb2c7335392011(u8 *a_1, u8 *a_2, 
     u64 r_1y_1;
     struct s_i8_i64 r_67_2;
     u64 r_h9_2;
-    u64 r_9o_1;
-    u8 r_b4;
-    u8 r_e6;
-    u8 r_dt;
-    u64 r_83;
-    r_r2 = away(a_4, 56ull);
-    memset(slot_3, 0u, 16);
-    st64(a_4, 0ull);
+    u64 r_8h_1;
+    u64 r_7e_2;
+    u64 r_ix_2;
+    st64(a_5, 0ull);
     st32(slot_2, 0u);
     r_u8 = 0ull;
     goto l_join_r7;
 l_loop_yc:;
     u64 r_5q = (r_h9 + r_u8);
     if (r_5q < 4ull) { r_u8 = r_5q; goto l_join_r7; }
-    r_98 = r_5q;
-    goto l_arm_94;
+    r_vv = r_5q;
+    goto l_arm_0x;
 l_join_r7:;
-    r_67 = capnp_packing_buffered_standard_BufReaderInputInput_re_133b1ec6(a_2, away(slot_2, r_u8), (4ull - r_u8));
-    if (!(r_67.f0 == 0u)) { r_b4 = 1u; r_e6 = 0u; r_dt = 4u; r_83 = 0ull; goto l_capnp_oq; }
+    r_67 = capnp_packing_buffered_standard_BufReaderInputInput_re_133b1ec6(a_3, away(slot_2, r_u8), (4ull - r_u8));
+    if (!(r_67.f0 == 0u)) { r_7e = 4ull; r_ix = 0ull; goto l_arm_tl; }
     r_h9 = r_67.f1;
-    if (r_h9 == 0ull) { r_98 = r_u8; goto l_arm_94; }
+    if (r_h9 == 0ull) { r_vv = r_u8; goto l_arm_0x; }
     goto l_loop_yc;
-l_arm_94:;
-    switch (r_98) {
-    case 0ull: { r_b4 = 0u; r_e6 = 0u; r_dt = 0u; r_83 = r_98; goto l_capnp_oq; }
+l_arm_0x:;
+    switch (r_vv) {
+    case 0ull: goto l_arm_yd;
     case 4ull: goto l_join_t2;
-    default: goto l_arm_h9;
+    default: { r_7e = 3ull; r_ix = 0ull; goto l_arm_tl; }
     }
 l_join_t2:;
     u32 t_uq = ld32(slot_2);
     r_r5 = (u64)t_uq;
     r_c4 = (r_r5 + 1ull);
-    if (t_uq > 511u) { r_b4 = 1u; r_e6 = 0u; r_dt = 1u; r_83 = r_c4; goto l_capnp_oq; }
+    if (t_uq > 511u) { r_7e = 1ull; r_ix = r_c4; goto l_arm_tl; }
     goto l_arm_lv;
-l_arm_h9:;
-    r_b4 = 1u;
-    r_e6 = 0u;
-    r_dt = 3u;
-    r_83 = 0ull;
-    goto l_capnp_oq;
+l_common_68:;
+    return;
+l_arm_tl:;
+    st8(a_1, 1u);
+    st8(away(a_1, 1ull), 0u);
+    st64(away(a_1, 8ull), r_7e);
+    st64(away(a_1, 16ull), r_ix);
+    goto l_common_68;
 l_arm_lv:;
     u64 r_vo = (u64)(r_c4 << 2ull);
     r_lc = (((r_vo & 4ull) ^ 4ull) + r_vo);
-    r_rq = away(a_4, 8ull);
-    r_08 = away(a_4, 16ull);
-    r_xz = away(a_4, 24ull);
+    r_rq = away(a_5, 8ull);
+    r_08 = away(a_5, 16ull);
+    r_xz = away(a_5, 24ull);
     r_x5 = (slot_1 + 8);
     r_zd = (slot_1 + 16);
     r_09 = 0ull;
@@ -25739,7 +25776,7 @@ l_join_8s:;
     u64 r_52_1 = ld64(r_xz);
     if (!(r_5p > (r_52_1 - r_52))) { r_ph = r_52_1; r_az = r_52; goto l_join_kx; }
     u8 r_qy = std_alloc_vec_Vec_grow_amortized_ffd95af9aab10bcd(r_rq, r_5p);
-    if (!r_qy) goto l_capnp_pn;
+    if (!r_qy) goto l_capnp_mz;
     r_ph = ld64(r_xz);
     r_az = ld64(r_08);
 l_join_kx:;
@@ -25753,43 +25790,48 @@ l_std_5b:;
     st64(r_xz, r_ph);
     r_xz_1 = r_5q_1;
     goto l_arm_gi;
-l_capnp_pn:;
-    capnp_framing_framing_reading_grow_7f7dbdafe4478eeb(slot_1, slot_3, r_rq);
-    if (!(ld8(slot_1) == 0u)) { r_b4 = 1u; r_e6 = 0u; r_dt = ld8(r_x5); r_83 = ld64(r_zd); goto l_capnp_oq; }
+l_capnp_mz:;
+    capnp_framing_framing_reading_grow_d2a9a4fc44ffc9f7(slot_1, a_2, r_rq);
+    r_r5_1 = ld8(r_x5);
+    r_38 = ld64(r_zd);
+    if (!(ld8(slot_1) == 0u)) goto l_arm_of;
     r_xz_1 = ld64(r_08);
 l_arm_gi:;
     a_9c = umin64(r_xz_1, r_lc);
     r_2b = away(ldp(r_rq), r_09);
     r_l3 = (a_9c - r_09);
-    if (a_9c == r_09) { r_9o = 0ull; goto l_capnp_ud; }
+    if (a_9c == r_09) { r_8h = 0ull; goto l_capnp_v8; }
     r_1y = 0ull;
     goto l_join_7l;
 l_loop_lw:;
     u64 r_5q_2 = (r_h9_1 + r_1y);
     if (r_5q_2 < r_l3) { r_1y = r_5q_2; goto l_join_7l; }
-    r_9o = r_5q_2;
-    goto l_capnp_ud;
+    r_8h = r_5q_2;
+    goto l_capnp_v8;
 l_join_7l:;
-    r_67_1 = capnp_packing_buffered_standard_BufReaderInputInput_re_133b1ec6(a_2, away(r_2b, r_1y), (r_l3 - r_1y));
-    if (!(r_67_1.f0 == 0u)) { r_b4 = 1u; r_e6 = 0u; r_dt = 4u; r_83 = 0ull; goto l_capnp_oq; }
+    r_67_1 = capnp_packing_buffered_standard_BufReaderInputInput_re_133b1ec6(a_3, away(r_2b, r_1y), (r_l3 - r_1y));
+    if (!(r_67_1.f0 == 0u)) { r_7e_1 = 4ull; r_ix_1 = 0ull; goto l_arm_tl_1; }
     r_h9_1 = r_67_1.f1;
-    if (r_h9_1 == 0ull) { r_9o = r_1y; goto l_capnp_ud; }
+    if (r_h9_1 == 0ull) { r_8h = r_1y; goto l_capnp_v8; }
     goto l_loop_lw;
-l_capnp_ud:;
-    if (r_9o == r_l3) { r_09 = a_9c; goto l_loop_t9; }
-    r_b4 = 1u;
-    r_e6 = 0u;
-    r_dt = 3u;
-    r_83 = 0ull;
-    goto l_capnp_oq;
+l_capnp_v8:;
+    if (r_8h == r_l3) { r_09 = a_9c; goto l_loop_t9; }
+    r_7e_1 = 3ull;
+    r_ix_1 = 0ull;
+    goto l_arm_tl_1;
+l_arm_yd:;
+    st8(a_1, 0u);
+    st8(away(a_1, 1ull), 0u);
+    memset(away(a_1, 8ull), 0u, 16);
+    goto l_common_68;
 l_arm_9w:;
     r_lz_1 = ldp(r_rq);
-    r_xm = away(a_4, 32ull);
-    r_su = away(a_4, 40ull);
+    r_xm = away(a_5, 32ull);
+    r_su = away(a_5, 40ull);
     if (ld64(r_su) == 0ull) goto l_join_mh;
     st64(r_su, 0ull);
 l_join_mh:;
-    r_t9 = away(a_4, 48ull);
+    r_t9 = away(a_5, 48ull);
     r_l5 = 0ull;
     r_rx = 0ull;
     r_wy = 0ull;
@@ -25797,22 +25839,56 @@ l_join_rl:;
     r_5q_3 = (r_rx + (u64)ld32((r_lz_1 + (i64)((u64)(r_wy << 2ull)))));
     if (!(ld64(r_t9) == r_l5)) { r_le = r_l5; goto l_std_28; }
     u8 r_db = std_alloc_vec_Vec_grow_amortized_5e63141f0e39c5e0(r_xm);
-    if (!r_db) { r_b4 = 1u; r_e6 = 0u; r_dt = 6u; r_83 = 0ull; goto l_capnp_oq; }
+    if (!r_db) goto l_arm_cf;
     r_le = ld64(r_su);
 l_std_28:;
     st64((ldp(r_xm) + (i64)((u64)(r_le << 3ull))), r_5q_3);
     u64 r_7n = (r_le + 1ull);
     st64(r_su, r_7n);
-    if (!(r_wy == r_r5)) { u64 r_1 = r_7n; u64 r_2 = r_5q_3; u64 r_3 = (r_wy + 1ull); r_l5 = r_1; r_rx = r_2; r_wy = r_3; goto l_join_rl; }
-    if (a_3 < r_5q_3) { r_b4 = 1u; r_e6 = 0u; r_dt = 2u; r_83 = r_5q_3; goto l_capnp_oq; }
+    if (r_wy == r_r5) goto l_arm_5e;
+    u64 r_1 = r_7n;
+    u64 r_2 = r_5q_3;
+    u64 r_3 = (r_wy + 1ull);
+    r_l5 = r_1;
+    r_rx = r_2;
+    r_wy = r_3;
+    goto l_join_rl;
+l_arm_of:;
+    r_7e_1 = (u64)r_r5_1;
+    r_ix_1 = r_38;
+l_arm_tl_1:;
+    st8(a_1, 1u);
+    st8(away(a_1, 1ull), 0u);
+    st64(away(a_1, 8ull), r_7e_1);
+    st64(away(a_1, 16ull), r_ix_1);
+    goto l_common_68;
+l_arm_5e:;
+    if (a_4 < r_5q_3) goto l_then_tl;
+    goto l_join_zs;
+l_arm_cf:;
+    u8 *r_rq_1 = away(a_2, 8ull);
+    st64(r_rq_1, uadd_sat64(ld64(r_rq_1), 1ull));
+    st8(a_1, 1u);
+    st8(away(a_1, 1ull), 0u);
+    st64(away(a_1, 8ull), 6ull);
+    st64(away(a_1, 16ull), 0ull);
+    goto l_common_68;
+l_then_tl:;
+    st8(a_1, 1u);
+    st8(away(a_1, 1ull), 0u);
+    st64(away(a_1, 8ull), 2ull);
+    st64(away(a_1, 16ull), r_5q_3);
+    goto l_common_68;
+l_join_zs:;
+    r_r2 = away(a_5, 56ull);
     r_44 = (u64)(r_5q_3 << 3ull);
-    r_h6 = away(a_4, 64ull);
-    r_2g = away(a_4, 72ull);
+    r_h6 = away(a_5, 64ull);
+    r_2g = away(a_5, 72ull);
     r_x5_1 = (slot_1 + 8);
     r_zd_1 = (slot_1 + 16);
     r_lj = 0ull;
 l_loop_hb:;
-    if (!(r_lj < r_44)) goto l_arm_hg;
+    if (!(r_lj < r_44)) goto l_arm_es;
     memset(slot_1, 0u, 24);
     r_52_2 = ld64(r_h6);
     if (!(r_lj < r_52_2)) goto l_join_c5;
@@ -25830,7 +25906,7 @@ l_join_q6:;
     u64 r_52_3 = ld64(r_2g);
     if (!(r_e9 > (r_52_3 - r_52_2))) { r_ph_1 = r_52_3; r_az_1 = r_52_2; goto l_join_kx_1; }
     u8 r_qy_1 = std_alloc_vec_Vec_grow_amortized_ffd95af9aab10bcd(r_r2, r_e9);
-    if (!r_qy_1) goto l_capnp_pn_1;
+    if (!r_qy_1) goto l_capnp_mz_1;
     r_ph_1 = ld64(r_2g);
     r_az_1 = ld64(r_h6);
 l_join_kx_1:;
@@ -25846,62 +25922,65 @@ l_std_re:;
 l_capnp_5s:;
     r_dv = r_r4;
     goto l_arm_df;
-l_capnp_pn_1:;
-    capnp_framing_framing_reading_grow_7f7dbdafe4478eeb(slot_1, slot_3, r_r2);
-    if (!(ld8(slot_1) == 0u)) { r_b4 = 1u; r_e6 = 0u; r_dt = ld8(r_x5_1); r_83 = ld64(r_zd_1); goto l_capnp_oq; }
+l_capnp_mz_1:;
+    capnp_framing_framing_reading_grow_d2a9a4fc44ffc9f7(slot_1, a_2, r_r2);
+    r_r5_2 = ld8(r_x5_1);
+    r_38_1 = ld64(r_zd_1);
+    if (!(ld8(slot_1) == 0u)) goto l_arm_of_1;
     r_dv = ld64(r_h6);
 l_arm_df:;
     a_9c_1 = umin64(r_dv, r_44);
     r_2b_1 = away(ldp(r_r2), r_lj);
     r_0j = (a_9c_1 - r_lj);
-    if (a_9c_1 == r_lj) { r_9o_1 = 0ull; goto l_capnp_ud_1; }
+    if (a_9c_1 == r_lj) { r_8h_1 = 0ull; goto l_capnp_v8_1; }
     r_1y_1 = 0ull;
     goto l_join_7l_1;
 l_loop_lw_1:;
     u64 r_5q_5 = (r_h9_2 + r_1y_1);
     if (r_5q_5 < r_0j) { r_1y_1 = r_5q_5; goto l_join_7l_1; }
-    r_9o_1 = r_5q_5;
-    goto l_capnp_ud_1;
+    r_8h_1 = r_5q_5;
+    goto l_capnp_v8_1;
 l_join_7l_1:;
-    r_67_2 = capnp_packing_buffered_standard_BufReaderInputInput_re_133b1ec6(a_2, away(r_2b_1, r_1y_1), (r_0j - r_1y_1));
-    if (!(r_67_2.f0 == 0u)) { r_b4 = 1u; r_e6 = 0u; r_dt = 4u; r_83 = 0ull; goto l_capnp_oq; }
+    r_67_2 = capnp_packing_buffered_standard_BufReaderInputInput_re_133b1ec6(a_3, away(r_2b_1, r_1y_1), (r_0j - r_1y_1));
+    if (!(r_67_2.f0 == 0u)) { r_7e_2 = 4ull; r_ix_2 = 0ull; goto l_arm_tl_2; }
     r_h9_2 = r_67_2.f1;
-    if (r_h9_2 == 0ull) { r_9o_1 = r_1y_1; goto l_capnp_ud_1; }
+    if (r_h9_2 == 0ull) { r_8h_1 = r_1y_1; goto l_capnp_v8_1; }
     goto l_loop_lw_1;
-l_capnp_ud_1:;
-    if (r_9o_1 == r_0j) { r_lj = a_9c_1; goto l_loop_hb; }
-    r_b4 = 1u;
-    r_e6 = 0u;
-    r_dt = 3u;
-    r_83 = 0ull;
-    goto l_capnp_oq;
-l_arm_hg:;
-    st64(a_4, r_c4);
-    r_b4 = 0u;
-    r_e6 = 1u;
-    r_dt = 0u;
-    r_83 = 0ull;
-l_capnp_oq:;
-    st8(a_1, r_b4);
-    st8(away(a_1, 1ull), r_e6);
-    st64(away(a_1, 8ull), (u64)r_dt);
-    st64(away(a_1, 16ull), r_83);
-    return;
+l_capnp_v8_1:;
+    if (r_8h_1 == r_0j) { r_lj = a_9c_1; goto l_loop_hb; }
+    r_7e_2 = 3ull;
+    r_ix_2 = 0ull;
+    goto l_arm_tl_2;
+l_arm_es:;
+    st64(a_5, r_c4);
+    st8(a_1, 0u);
+    st8(away(a_1, 1ull), 1u);
+    memset(away(a_1, 8ull), 0u, 16);
+    goto l_common_68;
+l_arm_of_1:;
+    r_7e_2 = (u64)r_r5_2;
+    r_ix_2 = r_38_1;
+l_arm_tl_2:;
+    st8(a_1, 1u);
+    st8(away(a_1, 1ull), 0u);
+    st64(away(a_1, 8ull), r_7e_2);
+    st64(away(a_1, 16ull), r_ix_2);
+    goto l_common_68;
 }
 
-/* capnp_framing::framing::reading::read_into::<#d8196ca387589751> */
-void capnp_framing_framing_reading_read_into_d8196ca387589751(u8 *a_1, u8 *a_2, u64 a_3, u8 *a_4)
+/* capnp_framing::framing::reading::read_into_with::<#917c31d355636fb1> */
+void capnp_framing_framing_reading_read_into_with_917c31d355636fb1(u8 *a_1, u8 *a_2, u8 *a_3, u64 a_4, u8 *a_5)
 {
     A(8) u8 slot_1[24];
     A(4) u8 slot_2[4];
-    A(8) u8 slot_3[16];
-    u8 *r_r2;
     u64 r_lm;
     struct s_i8_i64 r_y3;
     u64 r_h9;
-    u64 r_98;
+    u64 r_vv;
     u64 r_r5;
     u64 r_c4;
+    u64 r_7e;
+    u64 r_ix;
     u64 r_lc;
     u8 *r_rq;
     u8 *r_08;
@@ -25915,6 +25994,8 @@ void capnp_framing_framing_reading_read_into_d8196ca387589751(u8 *a_1, u8 *a_2, 
     u64 r_az;
     u64 r_5q_1;
     u8 *r_lz;
+    u8 r_r5_1;
+    u64 r_38;
     u64 r_xz_1;
     u64 a_9c;
     u8 *r_2b;
@@ -25922,7 +26003,7 @@ void capnp_framing_framing_reading_read_into_d8196ca387589751(u8 *a_1, u8 *a_2, 
     u64 r_9n;
     struct s_i8_i64 r_y3_1;
     u64 r_h9_1;
-    u64 r_9o;
+    u64 r_8h;
     u8 *r_lz_1;
     u8 *r_xm;
     u8 *r_su;
@@ -25932,6 +26013,9 @@ void capnp_framing_framing_reading_read_into_d8196ca387589751(u8 *a_1, u8 *a_2, 
     u64 r_wy;
     u64 r_5q_3;
     u64 r_le;
+    u64 r_7e_1;
+    u64 r_ix_1;
+    u8 *r_r2;
     u64 r_44;
     u8 *r_h6;
     u8 *r_2g;
@@ -25946,6 +26030,8 @@ void capnp_framing_framing_reading_read_into_d8196ca387589751(u8 *a_1, u8 *a_2, 
     u64 r_5q_4;
     u8 *r_lz_2;
     u64 r_r4;
+    u8 r_r5_2;
+    u64 r_38_1;
     u64 r_dv;
     u64 a_9c_1;
     u8 *r_2b_1;
@@ -25953,52 +26039,50 @@ void capnp_framing_framing_reading_read_into_d8196ca387589751(u8 *a_1, u8 *a_2, 
     u64 r_9n_1;
     struct s_i8_i64 r_y3_2;
     u64 r_h9_2;
-    u64 r_9o_1;
-    u8 r_b4;
-    u8 r_e6;
-    u8 r_dt;
-    u64 r_83;
-    r_r2 = away(a_4, 56ull);
-    memset(slot_3, 0u, 16);
-    st64(a_4, 0ull);
+    u64 r_8h_1;
+    u64 r_7e_2;
+    u64 r_ix_2;
+    st64(a_5, 0ull);
     st32(slot_2, 0u);
     r_lm = 0ull;
     goto l_join_8w;
 l_loop_yc:;
     u64 r_5q = (r_h9 + r_lm);
     if (r_5q < 4ull) { r_lm = r_5q; goto l_join_8w; }
-    r_98 = r_5q;
-    goto l_arm_94;
+    r_vv = r_5q;
+    goto l_arm_0x;
 l_join_8w:;
-    r_y3 = capnp_packing_packing_unpacking_input_UnpackingInput_u_5217efb3(a_2, away(slot_2, r_lm), (4ull - r_lm));
-    if (!(r_y3.f0 == 0u)) { r_b4 = 1u; r_e6 = 0u; r_dt = 4u; r_83 = 0ull; goto l_capnp_oq; }
+    r_y3 = capnp_packing_packing_unpacking_input_UnpackingInput_u_5217efb3(a_3, away(slot_2, r_lm), (4ull - r_lm));
+    if (!(r_y3.f0 == 0u)) { r_7e = 4ull; r_ix = 0ull; goto l_arm_tl; }
     r_h9 = r_y3.f1;
-    if (r_h9 == 0ull) { r_98 = r_lm; goto l_arm_94; }
+    if (r_h9 == 0ull) { r_vv = r_lm; goto l_arm_0x; }
     goto l_loop_yc;
-l_arm_94:;
-    switch (r_98) {
-    case 0ull: { r_b4 = 0u; r_e6 = 0u; r_dt = 0u; r_83 = r_98; goto l_capnp_oq; }
+l_arm_0x:;
+    switch (r_vv) {
+    case 0ull: goto l_arm_yd;
     case 4ull: goto l_join_t2;
-    default: goto l_arm_h9;
+    default: { r_7e = 3ull; r_ix = 0ull; goto l_arm_tl; }
     }
 l_join_t2:;
     u32 t_uq = ld32(slot_2);
     r_r5 = (u64)t_uq;
     r_c4 = (r_r5 + 1ull);
-    if (t_uq > 511u) { r_b4 = 1u; r_e6 = 0u; r_dt = 1u; r_83 = r_c4; goto l_capnp_oq; }
+    if (t_uq > 511u) { r_7e = 1ull; r_ix = r_c4; goto l_arm_tl; }
     goto l_arm_lv;
-l_arm_h9:;
-    r_b4 = 1u;
-    r_e6 = 0u;
-    r_dt = 3u;
-    r_83 = 0ull;
-    goto l_capnp_oq;
+l_common_68:;
+    return;
+l_arm_tl:;
+    st8(a_1, 1u);
+    st8(away(a_1, 1ull), 0u);
+    st64(away(a_1, 8ull), r_7e);
+    st64(away(a_1, 16ull), r_ix);
+    goto l_common_68;
 l_arm_lv:;
     u64 r_vo = (u64)(r_c4 << 2ull);
     r_lc = (((r_vo & 4ull) ^ 4ull) + r_vo);
-    r_rq = away(a_4, 8ull);
-    r_08 = away(a_4, 16ull);
-    r_xz = away(a_4, 24ull);
+    r_rq = away(a_5, 8ull);
+    r_08 = away(a_5, 16ull);
+    r_xz = away(a_5, 24ull);
     r_x5 = (slot_1 + 8);
     r_zd = (slot_1 + 16);
     r_09 = 0ull;
@@ -26014,7 +26098,7 @@ l_join_8s:;
     u64 r_52_1 = ld64(r_xz);
     if (!(r_5p > (r_52_1 - r_52))) { r_ph = r_52_1; r_az = r_52; goto l_join_kx; }
     u8 r_qy = std_alloc_vec_Vec_grow_amortized_ffd95af9aab10bcd(r_rq, r_5p);
-    if (!r_qy) goto l_capnp_pn;
+    if (!r_qy) goto l_capnp_mz;
     r_ph = ld64(r_xz);
     r_az = ld64(r_08);
 l_join_kx:;
@@ -26028,43 +26112,48 @@ l_std_5b:;
     st64(r_xz, r_ph);
     r_xz_1 = r_5q_1;
     goto l_arm_gi;
-l_capnp_pn:;
-    capnp_framing_framing_reading_grow_7f7dbdafe4478eeb(slot_1, slot_3, r_rq);
-    if (!(ld8(slot_1) == 0u)) { r_b4 = 1u; r_e6 = 0u; r_dt = ld8(r_x5); r_83 = ld64(r_zd); goto l_capnp_oq; }
+l_capnp_mz:;
+    capnp_framing_framing_reading_grow_d2a9a4fc44ffc9f7(slot_1, a_2, r_rq);
+    r_r5_1 = ld8(r_x5);
+    r_38 = ld64(r_zd);
+    if (!(ld8(slot_1) == 0u)) goto l_arm_of;
     r_xz_1 = ld64(r_08);
 l_arm_gi:;
     a_9c = umin64(r_xz_1, r_lc);
     r_2b = away(ldp(r_rq), r_09);
     r_l3 = (a_9c - r_09);
-    if (a_9c == r_09) { r_9o = 0ull; goto l_capnp_ud; }
+    if (a_9c == r_09) { r_8h = 0ull; goto l_capnp_v8; }
     r_9n = 0ull;
     goto l_join_js;
 l_loop_lw:;
     u64 r_5q_2 = (r_h9_1 + r_9n);
     if (r_5q_2 < r_l3) { r_9n = r_5q_2; goto l_join_js; }
-    r_9o = r_5q_2;
-    goto l_capnp_ud;
+    r_8h = r_5q_2;
+    goto l_capnp_v8;
 l_join_js:;
-    r_y3_1 = capnp_packing_packing_unpacking_input_UnpackingInput_u_5217efb3(a_2, away(r_2b, r_9n), (r_l3 - r_9n));
-    if (!(r_y3_1.f0 == 0u)) { r_b4 = 1u; r_e6 = 0u; r_dt = 4u; r_83 = 0ull; goto l_capnp_oq; }
+    r_y3_1 = capnp_packing_packing_unpacking_input_UnpackingInput_u_5217efb3(a_3, away(r_2b, r_9n), (r_l3 - r_9n));
+    if (!(r_y3_1.f0 == 0u)) { r_7e_1 = 4ull; r_ix_1 = 0ull; goto l_arm_tl_1; }
     r_h9_1 = r_y3_1.f1;
-    if (r_h9_1 == 0ull) { r_9o = r_9n; goto l_capnp_ud; }
+    if (r_h9_1 == 0ull) { r_8h = r_9n; goto l_capnp_v8; }
     goto l_loop_lw;
-l_capnp_ud:;
-    if (r_9o == r_l3) { r_09 = a_9c; goto l_loop_t9; }
-    r_b4 = 1u;
-    r_e6 = 0u;
-    r_dt = 3u;
-    r_83 = 0ull;
-    goto l_capnp_oq;
+l_capnp_v8:;
+    if (r_8h == r_l3) { r_09 = a_9c; goto l_loop_t9; }
+    r_7e_1 = 3ull;
+    r_ix_1 = 0ull;
+    goto l_arm_tl_1;
+l_arm_yd:;
+    st8(a_1, 0u);
+    st8(away(a_1, 1ull), 0u);
+    memset(away(a_1, 8ull), 0u, 16);
+    goto l_common_68;
 l_arm_9w:;
     r_lz_1 = ldp(r_rq);
-    r_xm = away(a_4, 32ull);
-    r_su = away(a_4, 40ull);
+    r_xm = away(a_5, 32ull);
+    r_su = away(a_5, 40ull);
     if (ld64(r_su) == 0ull) goto l_join_mh;
     st64(r_su, 0ull);
 l_join_mh:;
-    r_t9 = away(a_4, 48ull);
+    r_t9 = away(a_5, 48ull);
     r_l5 = 0ull;
     r_rx = 0ull;
     r_wy = 0ull;
@@ -26072,22 +26161,56 @@ l_join_rl:;
     r_5q_3 = (r_rx + (u64)ld32((r_lz_1 + (i64)((u64)(r_wy << 2ull)))));
     if (!(ld64(r_t9) == r_l5)) { r_le = r_l5; goto l_std_28; }
     u8 r_db = std_alloc_vec_Vec_grow_amortized_5e63141f0e39c5e0(r_xm);
-    if (!r_db) { r_b4 = 1u; r_e6 = 0u; r_dt = 6u; r_83 = 0ull; goto l_capnp_oq; }
+    if (!r_db) goto l_arm_cf;
     r_le = ld64(r_su);
 l_std_28:;
     st64((ldp(r_xm) + (i64)((u64)(r_le << 3ull))), r_5q_3);
     u64 r_7n = (r_le + 1ull);
     st64(r_su, r_7n);
-    if (!(r_wy == r_r5)) { u64 r_1 = r_7n; u64 r_2 = r_5q_3; u64 r_3 = (r_wy + 1ull); r_l5 = r_1; r_rx = r_2; r_wy = r_3; goto l_join_rl; }
-    if (a_3 < r_5q_3) { r_b4 = 1u; r_e6 = 0u; r_dt = 2u; r_83 = r_5q_3; goto l_capnp_oq; }
+    if (r_wy == r_r5) goto l_arm_5e;
+    u64 r_1 = r_7n;
+    u64 r_2 = r_5q_3;
+    u64 r_3 = (r_wy + 1ull);
+    r_l5 = r_1;
+    r_rx = r_2;
+    r_wy = r_3;
+    goto l_join_rl;
+l_arm_of:;
+    r_7e_1 = (u64)r_r5_1;
+    r_ix_1 = r_38;
+l_arm_tl_1:;
+    st8(a_1, 1u);
+    st8(away(a_1, 1ull), 0u);
+    st64(away(a_1, 8ull), r_7e_1);
+    st64(away(a_1, 16ull), r_ix_1);
+    goto l_common_68;
+l_arm_5e:;
+    if (a_4 < r_5q_3) goto l_then_tl;
+    goto l_join_zs;
+l_arm_cf:;
+    u8 *r_rq_1 = away(a_2, 8ull);
+    st64(r_rq_1, uadd_sat64(ld64(r_rq_1), 1ull));
+    st8(a_1, 1u);
+    st8(away(a_1, 1ull), 0u);
+    st64(away(a_1, 8ull), 6ull);
+    st64(away(a_1, 16ull), 0ull);
+    goto l_common_68;
+l_then_tl:;
+    st8(a_1, 1u);
+    st8(away(a_1, 1ull), 0u);
+    st64(away(a_1, 8ull), 2ull);
+    st64(away(a_1, 16ull), r_5q_3);
+    goto l_common_68;
+l_join_zs:;
+    r_r2 = away(a_5, 56ull);
     r_44 = (u64)(r_5q_3 << 3ull);
-    r_h6 = away(a_4, 64ull);
-    r_2g = away(a_4, 72ull);
+    r_h6 = away(a_5, 64ull);
+    r_2g = away(a_5, 72ull);
     r_x5_1 = (slot_1 + 8);
     r_zd_1 = (slot_1 + 16);
     r_lj = 0ull;
 l_loop_hb:;
-    if (!(r_lj < r_44)) goto l_arm_hg;
+    if (!(r_lj < r_44)) goto l_arm_es;
     memset(slot_1, 0u, 24);
     r_52_2 = ld64(r_h6);
     if (!(r_lj < r_52_2)) goto l_join_c5;
@@ -26105,7 +26228,7 @@ l_join_q6:;
     u64 r_52_3 = ld64(r_2g);
     if (!(r_e9 > (r_52_3 - r_52_2))) { r_ph_1 = r_52_3; r_az_1 = r_52_2; goto l_join_kx_1; }
     u8 r_qy_1 = std_alloc_vec_Vec_grow_amortized_ffd95af9aab10bcd(r_r2, r_e9);
-    if (!r_qy_1) goto l_capnp_pn_1;
+    if (!r_qy_1) goto l_capnp_mz_1;
     r_ph_1 = ld64(r_2g);
     r_az_1 = ld64(r_h6);
 l_join_kx_1:;
@@ -26121,57 +26244,60 @@ l_std_re:;
 l_capnp_5s:;
     r_dv = r_r4;
     goto l_arm_df;
-l_capnp_pn_1:;
-    capnp_framing_framing_reading_grow_7f7dbdafe4478eeb(slot_1, slot_3, r_r2);
-    if (!(ld8(slot_1) == 0u)) { r_b4 = 1u; r_e6 = 0u; r_dt = ld8(r_x5_1); r_83 = ld64(r_zd_1); goto l_capnp_oq; }
+l_capnp_mz_1:;
+    capnp_framing_framing_reading_grow_d2a9a4fc44ffc9f7(slot_1, a_2, r_r2);
+    r_r5_2 = ld8(r_x5_1);
+    r_38_1 = ld64(r_zd_1);
+    if (!(ld8(slot_1) == 0u)) goto l_arm_of_1;
     r_dv = ld64(r_h6);
 l_arm_df:;
     a_9c_1 = umin64(r_dv, r_44);
     r_2b_1 = away(ldp(r_r2), r_lj);
     r_0j = (a_9c_1 - r_lj);
-    if (a_9c_1 == r_lj) { r_9o_1 = 0ull; goto l_capnp_ud_1; }
+    if (a_9c_1 == r_lj) { r_8h_1 = 0ull; goto l_capnp_v8_1; }
     r_9n_1 = 0ull;
     goto l_join_js_1;
 l_loop_lw_1:;
     u64 r_5q_5 = (r_h9_2 + r_9n_1);
     if (r_5q_5 < r_0j) { r_9n_1 = r_5q_5; goto l_join_js_1; }
-    r_9o_1 = r_5q_5;
-    goto l_capnp_ud_1;
+    r_8h_1 = r_5q_5;
+    goto l_capnp_v8_1;
 l_join_js_1:;
-    r_y3_2 = capnp_packing_packing_unpacking_input_UnpackingInput_u_5217efb3(a_2, away(r_2b_1, r_9n_1), (r_0j - r_9n_1));
-    if (!(r_y3_2.f0 == 0u)) { r_b4 = 1u; r_e6 = 0u; r_dt = 4u; r_83 = 0ull; goto l_capnp_oq; }
+    r_y3_2 = capnp_packing_packing_unpacking_input_UnpackingInput_u_5217efb3(a_3, away(r_2b_1, r_9n_1), (r_0j - r_9n_1));
+    if (!(r_y3_2.f0 == 0u)) { r_7e_2 = 4ull; r_ix_2 = 0ull; goto l_arm_tl_2; }
     r_h9_2 = r_y3_2.f1;
-    if (r_h9_2 == 0ull) { r_9o_1 = r_9n_1; goto l_capnp_ud_1; }
+    if (r_h9_2 == 0ull) { r_8h_1 = r_9n_1; goto l_capnp_v8_1; }
     goto l_loop_lw_1;
-l_capnp_ud_1:;
-    if (r_9o_1 == r_0j) { r_lj = a_9c_1; goto l_loop_hb; }
-    r_b4 = 1u;
-    r_e6 = 0u;
-    r_dt = 3u;
-    r_83 = 0ull;
-    goto l_capnp_oq;
-l_arm_hg:;
-    st64(a_4, r_c4);
-    r_b4 = 0u;
-    r_e6 = 1u;
-    r_dt = 0u;
-    r_83 = 0ull;
-l_capnp_oq:;
-    st8(a_1, r_b4);
-    st8(away(a_1, 1ull), r_e6);
-    st64(away(a_1, 8ull), (u64)r_dt);
-    st64(away(a_1, 16ull), r_83);
-    return;
+l_capnp_v8_1:;
+    if (r_8h_1 == r_0j) { r_lj = a_9c_1; goto l_loop_hb; }
+    r_7e_2 = 3ull;
+    r_ix_2 = 0ull;
+    goto l_arm_tl_2;
+l_arm_es:;
+    st64(a_5, r_c4);
+    st8(a_1, 0u);
+    st8(away(a_1, 1ull), 1u);
+    memset(away(a_1, 8ull), 0u, 16);
+    goto l_common_68;
+l_arm_of_1:;
+    r_7e_2 = (u64)r_r5_2;
+    r_ix_2 = r_38_1;
+l_arm_tl_2:;
+    st8(a_1, 1u);
+    st8(away(a_1, 1ull), 0u);
+    st64(away(a_1, 8ull), r_7e_2);
+    st64(away(a_1, 16ull), r_ix_2);
+    goto l_common_68;
 }
 
-/* capnp_framing::framing::segment::read_segment_into::<#28cb2c7335392011> */
-void capnp_framing_framing_segment_read_segment_into_28cb2c_6a4621be(u8 *a_1, u8 *a_2, u64 a_3, u8 *a_4)
+/* capnp_framing::framing::segment::read_segment_into_with::<#31ab0fa233179da9> */
+void capnp_framing_framing_segment_read_segment_into_with_3_422e36e3(u8 *a_1, u8 *a_2, u8 *a_3, u64 a_4, u8 *a_5)
 {
     A(8) u8 slot_1[24];
-    A(8) u8 slot_2[16];
-    u8 *r_r2;
+    A(8) u8 slot_2[24];
     u64 a_7c;
     u64 r_4k;
+    u8 *r_r2;
     u8 *r_h6;
     u8 *r_2g;
     u8 *r_x5;
@@ -26196,29 +26322,15 @@ void capnp_framing_framing_segment_read_segment_into_28cb2c_6a4621be(u8 *a_1, u8
     u64 r_h9;
     u64 r_8a;
     u64 r_sv;
-    u64 r_oz;
-    u32 r_wt;
-    u8 *r_rq;
-    u8 *r_xm;
-    u8 *r_08;
-    u8 *r_su;
-    u8 *r_xz;
-    u64 r_hh;
-    u64 r_cg;
-    u8 r_47;
-    u64 r_b7;
-    u64 r_nb;
-    u64 r_le;
-    u8 r_9k;
-    u64 r_ni;
-    u64 r_it;
-    r_r2 = away(a_4, 56ull);
-    memset(slot_2, 0u, 16);
-    st64(a_4, 0ull);
-    a_7c = umin64(a_3, 0xffffffffull);
+    u64 r_ba;
+    u64 sink_ia;
+    memset(slot_2, 0u, 24);
+    st64(a_5, 0ull);
+    a_7c = umin64(a_4, 0xffffffffull);
     r_4k = ((u64)(a_7c << 3ull) + 8ull);
-    r_h6 = away(a_4, 64ull);
-    r_2g = away(a_4, 72ull);
+    r_r2 = away(a_5, 56ull);
+    r_h6 = away(a_5, 64ull);
+    r_2g = away(a_5, 72ull);
     r_x5 = (slot_1 + 8);
     r_zd = (slot_1 + 16);
     r_lj = 0ull;
@@ -26236,7 +26348,7 @@ l_join_98:;
     u64 r_52_1 = ld64(r_2g);
     if (!(r_5p > (r_52_1 - r_52))) { r_ph = r_52_1; r_az = r_52; goto l_join_kx; }
     u8 r_hi = std_alloc_vec_Vec_grow_amortized_ffd95af9aab10bcd(r_r2, r_5p);
-    if (!r_hi) goto l_capnp_pn;
+    if (!r_hi) goto l_capnp_mz;
     r_ph = ld64(r_2g);
     r_az = ld64(r_h6);
 l_join_kx:;
@@ -26252,11 +26364,11 @@ l_std_re:;
 l_capnp_5s:;
     r_jw = r_r4;
     goto l_arm_m6;
-l_capnp_pn:;
-    capnp_framing_framing_reading_grow_7f7dbdafe4478eeb(slot_1, slot_2, r_r2);
+l_capnp_mz:;
+    capnp_framing_framing_reading_grow_d2a9a4fc44ffc9f7(slot_1, a_2, r_r2);
     r_r5 = ld8(r_x5);
     r_38 = ld64(r_zd);
-    if (!(ld8(slot_1) == 0u)) goto l_arm_3n;
+    if (!(ld8(slot_1) == 0u)) goto l_arm_of;
     r_jw = ld64(r_h6);
 l_arm_m6:;
     a_fq = umin64(r_jw, r_4k);
@@ -26271,80 +26383,55 @@ l_loop_dw:;
     r_8a = r_5q_1;
     goto l_arm_72;
 l_join_cz:;
-    r_uh = capnp_packing_buffered_standard_BufReaderInputInput_re_133b1ec6(a_2, away(r_2b, r_as), (r_l3 - r_as));
-    if (!(r_uh.f0 == 0u)) { r_9k = 1u; r_ni = 4ull; r_it = 0ull; goto l_capnp_4l; }
+    r_uh = capnp_packing_buffered_standard_BufReaderInputInput_re_133b1ec6(a_3, away(r_2b, r_as), (r_l3 - r_as));
+    if (!(r_uh.f0 == 0u)) { r_ba = 4ull; sink_ia = 0ull; goto l_arm_nd; }
     r_h9 = r_uh.f1;
     if (r_h9 == 0ull) { r_8a = r_as; goto l_arm_72; }
     goto l_loop_dw;
-l_arm_3n:;
-    r_9k = 1u;
-    r_ni = (u64)r_r5;
-    r_it = r_38;
-    goto l_capnp_4l;
+l_arm_of:;
+    r_ba = (u64)r_r5;
+    sink_ia = r_38;
+    goto l_arm_nd;
 l_arm_72:;
     u64 r_5q_2 = (r_8a + r_lj);
     if (r_5q_2 < a_fq) { r_sv = r_5q_2; goto l_arm_nl; }
     r_lj = r_5q_2;
     goto l_loop_hb;
 l_arm_nl:;
-    if (!(r_sv == r_4k)) goto l_join_kv;
-    r_9k = 1u;
-    r_ni = 2ull;
-    r_it = (a_7c + 1ull);
-    goto l_capnp_4l;
-l_join_kv:;
-    if (!((r_sv & 7ull) == 0ull)) { r_9k = 1u; r_ni = 3ull; r_it = 0ull; goto l_capnp_4l; }
-    r_oz = (u64)(r_sv >> 3ull);
-    r_wt = (u32)r_oz;
-    r_rq = away(a_4, 8ull);
-    r_xm = away(a_4, 32ull);
-    r_08 = away(a_4, 16ull);
-    if (ld64(r_08) == 0ull) goto l_std_44;
-    st64(r_08, 0ull);
-l_std_44:;
-    r_su = away(a_4, 40ull);
-    if (ld64(r_su) == 0ull) goto l_std_oe;
-    st64(r_su, 0ull);
-l_std_oe:;
-    st32(slot_1, r_wt);
-    r_xz = away(a_4, 24ull);
-    r_hh = 0ull;
-    r_cg = 0ull;
-l_join_ye:;
-    r_47 = ld8(away(slot_1, r_cg));
-    if (!(ld64(r_xz) == r_hh)) { r_b7 = r_hh; goto l_std_dy; }
-    u8 r_wa = std_alloc_vec_Vec_grow_amortized_5400d4f5161e8cc6(r_rq);
-    if (!r_wa) goto l_arm_8g;
-    r_b7 = ld64(r_08);
-l_std_dy:;
-    st8((ldp(r_rq) + (i64)(r_b7)), r_47);
-    u64 r_7n = (r_b7 + 1ull);
-    st64(r_08, r_7n);
-    u64 r_c4 = (r_cg + 1ull);
-    if (!(r_c4 == 4ull)) { r_hh = r_7n; r_cg = r_c4; goto l_join_ye; }
-    r_nb = (r_oz & 0xffffffffull);
-    u64 r_52_2 = ld64(r_su);
-    if (!(ld64(away(a_4, 48ull)) == r_52_2)) { r_le = r_52_2; goto l_arm_28; }
-    u8 r_b8 = std_alloc_vec_Vec_grow_amortized_5e63141f0e39c5e0(r_xm);
-    if (!r_b8) goto l_arm_8g;
-    r_le = ld64(r_su);
-l_arm_28:;
-    st64((ldp(r_xm) + (i64)((u64)(r_le << 3ull))), r_nb);
-    st64(r_su, (r_le + 1ull));
-    st64(a_4, 1ull);
-    r_9k = 0u;
-    r_ni = 0ull;
-    r_it = 0ull;
-    goto l_capnp_4l;
-l_arm_8g:;
-    r_9k = 1u;
-    r_ni = 6ull;
-    r_it = 0ull;
-l_capnp_4l:;
-    st8(a_1, r_9k);
-    st64(away(a_1, 8ull), r_ni);
-    st64(away(a_1, 16ull), r_it);
+    if (r_sv == r_4k) goto l_then_je;
+    goto l_join_ha;
+l_common_68:;
     return;
+l_arm_nd:;
+    st8(a_1, 1u);
+    st64(away(a_1, 8ull), r_ba);
+    st64(away(a_1, 16ull), sink_ia);
+    goto l_common_68;
+l_then_je:;
+    st8(a_1, 1u);
+    st64(away(a_1, 8ull), 2ull);
+    st64(away(a_1, 16ull), (a_7c + 1ull));
+    goto l_common_68;
+l_join_ha:;
+    if ((r_sv & 7ull) == 0ull) goto l_join_80;
+    st8(a_1, 1u);
+    st64(away(a_1, 8ull), 3ull);
+    st64(away(a_1, 16ull), 0ull);
+    goto l_common_68;
+l_join_80:;
+    capnp_framing_framing_segment_set_single_segment_d2a9a_fe11ec29(slot_2, a_2, (u32)(u64)(r_sv >> 3ull), away(a_5, 8ull), away(a_5, 32ull));
+    if (!(ld8(slot_2) == 0u)) goto l_arm_qr;
+    st64(a_5, 1ull);
+    st8(a_1, 0u);
+    memset(away(a_1, 8ull), 0u, 16);
+    goto l_common_68;
+l_arm_qr:;
+    u64 r_38_1 = ld64((slot_2 + 16));
+    u64 r_eg = (u64)ld8((slot_2 + 8));
+    st8(a_1, 1u);
+    st64(away(a_1, 8ull), r_eg);
+    st64(away(a_1, 16ull), r_38_1);
+    goto l_common_68;
 }
 
 /* capnp_messages::text::write_number::<#366e4da2fb9cfb0c> */

@@ -7,7 +7,6 @@ static struct s_i8_i8 capnp_show_show_text_Text_push_number(u8 *a_1, u64 a_2);
 static struct s_i8_i8 capnp_show_show_text_Text_push(u8 *a_1, u8 *a_2, u64 a_3);
 static struct s_i8_i8 capnp_show_show_json_write_pointed_value_5ccc1be374b2e488(u8 *a_1, u32 a_2, u8 *a_3);
 static struct s_i8_i8 capnp_show_show_json_Json_write_place(u8 *a_1, u8 *a_2, u64 a_3, u64 a_4, u32 a_5);
-static void capnp_show_show_objects_read_object_5ccc1be374b2e488(u8 *a_1, u8 *a_2, u8 *a_3);
 static struct s_i8_i8 capnp_show_show_text_Text_push_last_number(u8 *a_1, u8 *a_2, u64 a_3, u64 a_4);
 static struct s_i8_i8 capnp_show_show_text_Text_push_quoted(u8 *a_1, u8 *a_2, u64 a_3);
 static struct s_i8_i8 capnp_show_show_json_write_sections_5ccc1be374b2e488(u8 *a_1, u16 a_2, u16 a_3, u32 a_4, u8 *a_5);
@@ -372,7 +371,7 @@ l_arm_7b:;
     r_z4_1 = ld32((slot_3 + 72));
     r_xv = ld16((slot_3 + 80));
     r_f4 = ld16((slot_3 + 82));
-    if (!(ld8(slot_3) == 0u)) goto l_switch_1y;
+    if (!(ld8(slot_3) == 0u)) goto l_switch_82;
     t_6c = (slot_2 + 56);
     st64(t_6c, 0ull);
     if (!(r_r5 == 0u)) goto l_arm_if;
@@ -434,9 +433,9 @@ l_capnp_8g_1:;
 l_capnp_8g:;
     r_yu_3 = r_2g;
     goto l_capnp_v4_3;
-l_switch_1y:;
-    switch_xq = ld64((((u8 *)switch_table_capnp_canon_inputs_report_refusal_52) + (i64)(8 * (u64)r_r5)));
-    switch_mb = ldp((((u8 *)switch_table_capnp_canon_inputs_report_refusal_51) + (i64)(8 * (u64)r_r5)));
+l_switch_82:;
+    switch_xq = ld64((((u8 *)switch_table_capnp_canon_inputs_report_refusal_51) + (i64)(8 * (u64)r_r5)));
+    switch_mb = ldp((((u8 *)switch_table_capnp_canon_inputs_report_refusal_50) + (i64)(8 * (u64)r_r5)));
     r_rq_2 = away(a_7, 8ull);
     r_52_11 = ld64(r_rq_2);
     if (r_52_11 > 0x3ffffbfull) { r_e7_4 = 0u; goto l_arm_n5_4; }
@@ -651,19 +650,19 @@ static struct s_i8_i8 capnp_show_show_json_write_pointed_value_5ccc1be374b2e488(
     A(8) u8 slot_1[1024];
     A(8) u8 slot_2[64];
     A(8) u8 slot_3[64];
-    A(8) u8 slot_4[16];
-    A(8) u8 slot_5[56];
-    A(8) u8 slot_6[64];
+    u8 r_dh;
     u64 r_eg;
-    u64 r_qw;
     u8 *r_rv;
+    u64 r_qw;
     u64 r_qw_1;
+    u8 *r_rv_1;
+    u64 r_qw_2;
     u32 r_5k;
     u32 r_5k_1;
-    u32 r_5k_2;
     u8 *r_rq;
     u64 r_52;
     u64 r_24;
+    u64 r_gw;
     u8 *r_2b;
     u8 *r_08;
     u64 r_y1;
@@ -677,41 +676,89 @@ static struct s_i8_i8 capnp_show_show_json_write_pointed_value_5ccc1be374b2e488(
     u64 r_q5;
     u8 *r_r2;
     struct s_i8_i8 r_aa;
-    u64 r_qw_2;
+    u64 r_qw_3;
     u64 r_ep;
     u32 t_ri;
-    struct s_i8_i8 r_jw;
-    u8 r_r5;
-    u8 a_u1;
-    u32 r_uq;
-    u64 r_38;
-    u8 *r_xw;
-    u64 r_38_1;
-    u64 r_38_2;
-    u32 r_z4;
-    u32 r_uq_1;
+    struct s_i8_i8 r_gs;
+    u64 r_wn;
+    u8 *r_xm;
+    u64 t_al;
+    u8 t_pa;
+    u64 r_lc;
+    u64 r_nb;
+    u64 r_yz;
+    u32 r_nz;
+    u32 r_tc;
+    u64 r_l8;
+    u64 r_3g;
+    u64 r_n9;
+    u64 r_8d;
+    u64 r_ep_1;
+    u64 r_y6;
+    u64 r_lc_1;
+    u8 *r_su;
+    u64 r_52_3;
+    u64 r_ep_2;
+    u8 switch_wl;
+    u64 r_ij;
+    u64 r_c4_1;
+    u64 r_24_1;
+    u64 r_gw_1;
+    u8 *r_su_1;
+    u64 r_52_4;
+    u64 r_eh;
+    u32 t_c8;
+    u32 r_12;
+    u32 r_az;
+    u32 r_68;
+    u64 r_c0;
+    u8 *r_su_2;
+    u64 r_52_5;
+    u32 r_12_1;
+    u8 *r_su_3;
+    u64 r_52_6;
+    u32 r_12_2;
+    u8 *r_su_4;
+    u64 r_52_7;
+    u32 r_12_3;
+    u64 r_c6;
+    u8 *r_su_5;
+    u64 r_52_8;
+    u64 r_2g;
+    u64 r_ef;
+    u32 r_a5;
+    u32 r_7f;
+    u64 r_e9;
+    u64 r_en;
+    u8 r_li;
+    u32 r_9a;
+    u32 r_57;
+    u64 r_0n;
+    u64 r_vm;
+    u64 r_24_2;
+    u64 r_a7;
     u8 r_ne;
     u16 t_t8;
     u32 r_5d;
     u16 r_gr;
-    u32 r_wt;
-    u32 r_az;
-    u64 r_52_3;
+    u32 r_az_1;
+    u64 r_52_9;
     u64 r_29;
     u64 r_el;
     u8 r_bs;
     u8 r_77;
-    u8 *r_ud;
+    u8 *t_f6;
+    u8 *r_i7;
     u64 a_5j;
     u8 r_qh;
     u64 r_qd;
-    u8 *r_xw_1;
-    u64 r_38_3;
+    u8 *r_xw;
+    u64 r_38_1;
     u8 r_ux;
     u64 r_dq;
     u8 r_47;
     u8 r_17;
-    u64 r_52_5;
+    u64 r_52_11;
     u64 r_0s;
     u64 r_nq;
     u64 r_xe;
@@ -719,10 +766,10 @@ static struct s_i8_i8 capnp_show_show_json_write_pointed_value_5ccc1be374b2e488(
     u8 *r_2b_2;
     u64 r_u0;
     struct s_i8_i8 r_z6;
-    u64 r_52_7;
+    u64 r_52_13;
     u64 r_29_1;
     u64 r_el_1;
-    u64 r_52_9;
+    u64 r_52_15;
     u64 r_wv;
     u64 r_9w;
     u64 r_wr;
@@ -730,7 +777,7 @@ static struct s_i8_i8 capnp_show_show_json_write_pointed_value_5ccc1be374b2e488(
     u8 *r_2b_3;
     u64 r_49;
     u8 *r_x9;
-    u64 r_tc;
+    u64 r_tc_1;
     u64 r_wl;
     u8 *r_uz;
     u64 r_eu;
@@ -749,41 +796,41 @@ static struct s_i8_i8 capnp_show_show_json_write_pointed_value_5ccc1be374b2e488(
     u64 r_x4;
     u8 *r_2b_4;
     u64 r_nd;
-    u8 r_2g;
+    u8 r_2g_1;
     u8 r_bs_1;
     u8 r_77_1;
     u64 r_ad;
     u8 *r_8o;
-    u64 r_52_11;
+    u64 r_52_17;
     u64 r_bu;
     u64 r_tk;
     u64 r_5q_1;
     u8 *r_fx_6;
     u8 *r_2b_5;
     u64 r_il;
-    u64 r_gw;
+    u64 r_gw_2;
     u32 r_ci_1;
-    u64 r_52_13;
+    u64 r_52_19;
     u64 r_qd_1;
     u64 r_cr;
     u32 r_st;
-    u64 r_24_1;
+    u64 r_24_3;
     u64 r_pv;
     u32 r_c2;
     u64 sink_g9;
     u64 r_cw;
-    u64 r_52_15;
+    u64 r_52_21;
     u64 r_08_2;
     u64 r_vr;
     struct s_i8_i8 r_zo_1;
-    u64 r_52_17;
+    u64 r_52_23;
     u64 r_08_3;
     u64 r_vr_1;
     u8 r_95;
     u8 r_t2;
     struct s_i8_i8 r_pg;
     u64 r_aq_1;
-    u64 r_c0;
+    u64 r_c0_1;
     u64 r_54;
     u64 r_x4_1;
     u8 *r_fx_10;
@@ -800,34 +847,36 @@ static struct s_i8_i8 capnp_show_show_json_write_pointed_value_5ccc1be374b2e488(
     struct s_i8_i8 r_vh_1;
     struct s_i8_i8 r_a8;
     u8 r_g7;
-    u8 r_u1;
-    struct s_i8_i8 r_1j;
-    u64 r_52_20;
+    u64 r_50;
+    u64 r_gq;
+    u8 *r_vn;
+    struct s_i8_i8 r_1f;
+    u64 r_52_26;
     u8 r_fu;
     u8 r_vh;
-    r_eg = (u64)ld8(a_1);
-    r_qw = ld64(away(a_1, 24ull));
-    r_rv = ldp(away(a_1, 32ull));
-    r_qw_1 = ld64(away(a_1, 40ull));
+    r_dh = ld8(a_1);
+    r_eg = (u64)r_dh;
+    r_rv = ldp(away(a_1, 8ull));
+    r_qw = ld64(away(a_1, 16ull));
+    r_qw_1 = ld64(away(a_1, 24ull));
+    r_rv_1 = ldp(away(a_1, 32ull));
+    r_qw_2 = ld64(away(a_1, 40ull));
     r_5k = ld32(away(a_1, 48ull));
-    r_5k_1 = ld32(away(a_1, 52ull));
-    r_5k_2 = ld32(away(a_1, 56ull));
+    r_5k_1 = ld32(away(a_1, 56ull));
     r_rq = away(a_3, 8ull);
     r_52 = ld64(r_rq);
-    mv16(slot_4, away(a_1, 8ull));
-    memset(slot_5, 0u, 56);
-    st64((slot_6 + 56), 0ull);
     r_24 = (u64)r_5k;
-    if (!((u64)(r_qw_1 >> 3ull) > r_24)) goto l_then_km;
-    r_2b = away(r_rv, (u64)(r_24 << 3ull));
-    if (!(ld64(r_2b) == 0ull)) goto l_join_zl;
-l_then_km:;
-    if (r_52 > 0x3ffffbcull) { r_u1 = 0u; goto l_capnp_oj; }
+    r_gw = (u64)(r_qw_2 >> 3ull);
+    if (!(r_gw > r_24)) goto l_then_ma;
+    r_2b = away(r_rv_1, (u64)(r_24 << 3ull));
+    if (!(ld64(r_2b) == 0ull)) goto l_join_qd;
+l_then_ma:;
+    if (r_52 > 0x3ffffbcull) { r_fu = 0u; r_vh = 1u; goto l_return_4x; }
     r_08 = away(a_3, 16ull);
     u64 r_52_1 = ld64(r_08);
     if (!((r_52_1 - r_52) < 4ull)) { r_y1 = r_52_1; r_pz = r_52; goto l_join_tt; }
     u8 r_t3 = std_alloc_vec_Vec_grow_amortized_9634afabedddd7ee(a_3, 4ull);
-    if (!r_t3) { r_u1 = 1u; goto l_capnp_oj; }
+    if (!r_t3) { r_fu = 1u; r_vh = 1u; goto l_return_4x; }
     r_y1 = ld64(r_08);
     r_pz = ld64(r_rq);
 l_join_tt:;
@@ -836,23 +885,23 @@ l_join_tt:;
     r_2b_1 = away(r_fx, r_pz);
     if (((u64)(uptr)r_2b_1 - (u64)(uptr)((u8 *)g_static_227)) < 4ull) { r_2y = 0ull; goto l_join_6j; }
     st32(r_2b_1, 0x6c6c756eu);
-    goto l_capnp_l4;
+    goto l_capnp_aw;
 l_join_6j:;
     st8((r_2b_1 + (i64)(r_2y)), ld8((((u8 *)g_static_227) + (i64)(r_2y))));
     u64 r_c4 = (r_2y + 1ull);
     if (!(r_c4 == 4ull)) { r_2y = r_c4; goto l_join_6j; }
-l_capnp_l4:;
+l_capnp_aw:;
     stp(a_3, r_fx);
     st64(r_rq, r_5b);
     st64(r_08, r_y1);
     goto l_arm_2q;
-l_join_zl:;
-    if (r_52 > 0x3ffffbfull) { a_u1 = 0u; goto l_capnp_oj_1; }
+l_join_qd:;
+    if (r_52 > 0x3ffffbfull) { r_fu = 0u; r_vh = 1u; goto l_return_4x; }
     r_08_1 = away(a_3, 16ull);
     u64 r_52_2 = ld64(r_08_1);
     if (!(r_52_2 == r_52)) { r_co = r_52_2; r_q5 = r_52; goto l_join_df; }
     u8 r_av = std_alloc_vec_Vec_grow_amortized_9634afabedddd7ee(a_3, 1ull);
-    if (!r_av) { a_u1 = 1u; goto l_capnp_oj_1; }
+    if (!r_av) { r_fu = 1u; r_vh = 1u; goto l_return_4x; }
     r_co = ld64(r_08_1);
     r_q5 = ld64(r_rq);
 l_join_df:;
@@ -862,79 +911,270 @@ l_join_df:;
     st64(r_rq, (r_q5 + 1ull));
     st64(r_08_1, r_co);
     r_r2 = away(a_3, 56ull);
-    if (!(u8)(ld8(r_r2) & 1)) goto l_arm_cw;
-    r_aa = capnp_show_show_json_Json_write_place(a_3, ((u8 *)g_static_229), 11ull, r_qw, r_5k);
-    if (!(r_aa.f0 == 0u)) goto l_arm_21;
-    r_qw_2 = ld64(r_2b);
-    if ((r_qw_2 & 3ull) == 2ull) goto l_join_m4;
-    goto l_arm_cw;
-l_arm_21:;
-    a_u1 = r_aa.f1;
-    goto l_capnp_oj_1;
-l_join_m4:;
-    r_ep = (u64)(r_qw_2 >> 32ull);
-    t_ri = (u32)((u32)r_qw_2 >> 3u);
-    if ((r_qw_2 & 4ull) == 0ull) goto l_else_2t;
-    struct s_i8_i8 r_ld = capnp_show_show_json_Json_write_place(a_3, ((u8 *)g_static_230), 14ull, r_ep, t_ri);
-    r_jw = r_ld;
-    goto l_capnp_2v;
-l_else_2t:;
-    struct s_i8_i8 r_nn = capnp_show_show_json_Json_write_place(a_3, ((u8 *)g_static_231), 7ull, r_ep, t_ri);
-    r_jw = r_nn;
-l_capnp_2v:;
-    if (!(r_jw.f0 == 0u)) { a_u1 = r_jw.f1; goto l_capnp_oj_1; }
-l_arm_cw:;
-    st64(slot_6, r_eg);
-    mv16((slot_6 + 8), slot_4);
-    st64((slot_6 + 24), r_qw);
-    stp((slot_6 + 32), r_rv);
-    st64((slot_6 + 40), r_qw_1);
-    st32((slot_6 + 48), r_5k);
-    st32((slot_6 + 52), r_5k_1);
-    st32((slot_6 + 56), r_5k_2);
-    capnp_show_show_objects_read_object_5ccc1be374b2e488(slot_5, slot_6, away(a_3, 32ull));
-    r_r5 = ld8((slot_5 + 8));
-    if (ld8(slot_5) == 0u) goto l_arm_ac;
-    goto l_switch_1y;
-l_capnp_oj_1:;
-    r_fu = a_u1;
+    if (!(u8)(ld8(r_r2) & 1)) goto l_capnp_7r;
+    r_aa = capnp_show_show_json_Json_write_place(a_3, ((u8 *)g_static_229), 11ull, r_qw_1, r_5k);
+    if (!(r_aa.f0 == 0u)) goto l_arm_dn;
+    r_qw_3 = ld64(r_2b);
+    if ((r_qw_3 & 3ull) == 2ull) goto l_join_m4;
+    r_wn = r_qw_3;
+    goto l_capnp_ti;
+l_arm_dn:;
+    r_fu = r_aa.f1;
     r_vh = 1u;
     goto l_return_4x;
-l_arm_ac:;
-    r_uq = ld32((slot_5 + 12));
-    r_38 = ld64((slot_5 + 16));
-    r_xw = ldp((slot_5 + 24));
-    r_38_1 = ld64((slot_5 + 32));
-    r_38_2 = ld64((slot_5 + 40));
-    r_z4 = ld32((slot_5 + 48));
-    r_uq_1 = ld32((slot_5 + 52));
-    r_ne = (u8)r_z4;
-    t_t8 = (u16)r_z4;
-    r_5d = (u32)(r_z4 >> 16u);
+l_join_m4:;
+    r_ep = (u64)(r_qw_3 >> 32ull);
+    t_ri = (u32)((u32)r_qw_3 >> 3u);
+    if ((r_qw_3 & 4ull) == 0ull) goto l_else_2t;
+    struct s_i8_i8 r_ld = capnp_show_show_json_Json_write_place(a_3, ((u8 *)g_static_230), 14ull, r_ep, t_ri);
+    r_gs = r_ld;
+    goto l_capnp_il;
+l_else_2t:;
+    struct s_i8_i8 r_nn = capnp_show_show_json_Json_write_place(a_3, ((u8 *)g_static_231), 7ull, r_ep, t_ri);
+    r_gs = r_nn;
+l_capnp_il:;
+    if (!(r_gs.f0 == 0u)) { r_fu = r_gs.f1; r_vh = 1u; goto l_return_4x; }
+l_capnp_7r:;
+    r_wn = ld64(r_2b);
+l_capnp_ti:;
+    r_xm = away(a_3, 32ull);
+    if (r_wn == 0ull) { r_a5 = 0u; r_7f = 0u; r_e9 = 0ull; r_en = 0ull; r_li = 0u; r_9a = 0u; r_57 = 0u; r_0n = 0ull; r_vm = 0ull; goto l_arm_4z; }
+    t_al = (u64)(uptr)r_rv_1;
+    memset(slot_1, 0u, 56);
+    t_pa = (r_dh != 0u);
+    if (t_pa) goto l_capnp_sm;
+    u8 *r_t9 = away(a_3, 48ull);
+    st64(r_t9, uadd_sat64(ld64(r_t9), 1ull));
+    if ((r_wn & 3ull) == 2ull) goto l_capnp_h9;
+    goto l_join_bd;
+l_capnp_sm:;
+    if (!((r_wn & 3ull) == 2ull)) goto l_join_bd;
+    st32((slot_1 + 8), 32u);
+    r_2g = ld64((slot_1 + 8));
+    goto l_capnp_8g;
+l_join_bd:;
+    u64 r_m6 = ((u64)(r_wn >> 2ull) & 0x3fffffffull);
+    r_lc = ((r_24 + 1ull) + r_m6);
+    r_nb = (r_gw & 0xffffffffull);
+    if (!(r_m6 < 0x20000000ull)) goto l_else_70;
+    if (r_lc > r_nb) { r_2g = 23ull; goto l_capnp_8g; }
+    r_yz = r_lc;
+    goto l_capnp_i5;
+l_else_70:;
+    u64 r_3o = (r_lc + 0xffffffffc0000000ull);
+    if ((r_lc < 0x40000000ull) ? 1u : (r_3o > r_nb)) { r_2g = 23ull; goto l_capnp_8g; }
+    r_yz = r_3o;
+l_capnp_i5:;
+    r_nz = 0u;
+    r_tc = (u32)r_yz;
+    r_l8 = r_qw_1;
+    r_3g = r_wn;
+    r_n9 = r_qw_2;
+    r_8d = t_al;
+    goto l_arm_s6;
+l_capnp_h9:;
+    capnp_pointers_source_follow_far_5ccc1be374b2e488(slot_1, r_rv, r_wn, r_xm);
+    u64 r_38 = ld64((slot_1 + 8));
+    if (ld8(slot_1) == 0u) { r_nz = ld32((slot_1 + 44)); r_tc = ld32((slot_1 + 40)); r_l8 = ld64((slot_1 + 16)); r_3g = r_38; r_n9 = ld64((slot_1 + 32)); r_8d = ld64((slot_1 + 24)); goto l_arm_s6; }
+    r_ef = r_38;
+    goto l_capnp_68;
+l_arm_s6:;
+    switch ((u8)((u8)r_3g & 3u)) {
+    case 0u: goto l_arm_xn;
+    case 1u: goto l_arm_z2;
+    case 2u: { r_gq = 25ull; r_vn = ((u8 *)g_static_146); goto l_capnp_ud; }
+    case 3u: goto l_capnp_tl;
+    default: goto l_default_e1;
+    }
+l_arm_xn:;
+    r_ep_1 = (u64)(r_3g >> 32ull);
+    r_y6 = (u64)(r_3g >> 48ull);
+    if ((i32)r_5k_1 < (i32)1u) { r_gq = 40ull; r_vn = ((u8 *)g_static_159); goto l_capnp_ud; }
+    r_lc_1 = ((r_ep_1 & 65535ull) + r_y6);
+    if (((u64)(r_n9 >> 3ull) & 0xffffffffull) < (r_lc_1 + (u64)r_tc)) { r_gq = 33ull; r_vn = ((u8 *)g_static_156); goto l_capnp_ud; }
+    if (t_pa) goto l_arm_mf;
+    if (!(ld8(r_xm) == 1u)) goto l_arm_mf;
+    r_su = away(a_3, 40ull);
+    r_52_3 = ld64(r_su);
+    if (r_52_3 < r_lc_1) { r_gq = 17ull; r_vn = ((u8 *)g_static_163); goto l_capnp_ud; }
+    st64(r_xm, 1ull);
+    st64(r_su, (r_52_3 - r_lc_1));
+l_arm_mf:;
+    r_a5 = 0u;
+    r_7f = ((u32)((u32)r_y6 << 16u) | ((u32)r_ep_1 & 65535u));
+    r_e9 = r_l8;
+    r_en = 0ull;
+    r_li = 2u;
+    r_9a = r_nz;
+    r_57 = r_tc;
+    r_0n = r_n9;
+    r_vm = r_8d;
+    goto l_arm_4z;
+l_arm_z2:;
+    r_ep_2 = (u64)(r_3g >> 32ull);
+    switch_wl = (u8)((u8)r_ep_2 & 7u);
+    r_ij = (u64)(r_3g >> 35ull);
+    switch (switch_wl) {
+    case 7u: goto l_arm_xd;
+    case 6u: goto l_arm_te;
+    case 0u: goto l_arm_te_1;
+    case 1u: goto l_arm_te_2;
+    case 2u: goto l_arm_te_2;
+    case 3u: goto l_arm_te_2;
+    case 4u: goto l_arm_te_2;
+    case 5u: goto l_arm_te_2;
+    default: goto l_default_e1;
+    }
+l_arm_xd:;
+    if ((i32)r_5k_1 < (i32)1u) { r_gq = 40ull; r_vn = ((u8 *)g_static_159); goto l_capnp_ud; }
+    r_c4_1 = (r_ij + 1ull);
+    r_24_1 = (u64)r_tc;
+    r_gw_1 = (u64)(r_n9 >> 3ull);
+    if ((r_gw_1 & 0xffffffffull) < (r_c4_1 + r_24_1)) { r_gq = 33ull; r_vn = ((u8 *)g_static_156); goto l_capnp_ud; }
+    if (t_pa) goto l_arm_ga;
+    if (!(ld8(r_xm) == 1u)) goto l_arm_ga;
+    r_su_1 = away(a_3, 40ull);
+    r_52_4 = ld64(r_su_1);
+    if (!(r_52_4 > r_ij)) { r_gq = 17ull; r_vn = ((u8 *)g_static_163); goto l_capnp_ud; }
+    st64(r_xm, 1ull);
+    st64(r_su_1, (r_52_4 - r_c4_1));
+l_arm_ga:;
+    if (!(r_gw_1 > r_24_1)) { r_eh = 0ull; goto l_join_qm; }
+    u64 r_qw_4 = ld64(away(((u8 *)(uptr)r_8d), (u64)(r_24_1 << 3ull)));
+    if ((r_qw_4 & 3ull) == 0ull) { r_eh = r_qw_4; goto l_join_qm; }
+    r_gq = 50ull;
+    r_vn = ((u8 *)g_static_144);
+    goto l_capnp_ud;
+l_join_qm:;
+    t_c8 = (u32)((u32)r_eh >> 2u);
+    r_12 = (u32)(u64)(r_eh >> 48ull);
+    r_az = ((u32)(u64)(r_eh >> 32ull) & 65535u);
+    r_68 = (r_az + r_12);
+    r_c0 = (u64)t_c8;
+    if (r_ij < ((u64)r_68 * r_c0)) { r_gq = 47ull; r_vn = ((u8 *)g_static_143); goto l_capnp_ud; }
+    if ((u8)((u8)t_pa | (u8)(r_68 != 0u))) goto l_arm_8v;
+    if (!(ld8(r_xm) == 1u)) goto l_arm_8v;
+    r_su_2 = away(a_3, 40ull);
+    r_52_5 = ld64(r_su_2);
+    if (r_52_5 < r_c0) { r_gq = 17ull; r_vn = ((u8 *)g_static_163); goto l_capnp_ud; }
+    st64(r_xm, 1ull);
+    st64(r_su_2, (r_52_5 - r_c0));
+l_arm_8v:;
+    r_a5 = t_c8;
+    r_7f = ((u32)(r_12 << 16u) | r_az);
+    r_e9 = r_l8;
+    r_en = 0ull;
+    r_li = 5u;
+    r_9a = 0u;
+    r_57 = (r_tc + 1u);
+    r_0n = r_n9;
+    r_vm = r_8d;
+    goto l_arm_4z;
+l_arm_te:;
+    r_12_1 = (u32)r_ij;
+    if ((i32)r_5k_1 < (i32)1u) { r_gq = 40ull; r_vn = ((u8 *)g_static_159); goto l_capnp_ud; }
+    if (((u64)(r_n9 >> 3ull) & 0xffffffffull) < (r_ij + (u64)r_tc)) { r_gq = 33ull; r_vn = ((u8 *)g_static_156); goto l_capnp_ud; }
+    if (t_pa) { r_a5 = 0u; r_7f = r_12_1; r_e9 = r_l8; r_en = 0ull; r_li = 4u; r_9a = r_nz; r_57 = r_tc; r_0n = r_n9; r_vm = r_8d; goto l_arm_4z; }
+    if (!(ld8(r_xm) == 1u)) { r_a5 = 0u; r_7f = r_12_1; r_e9 = r_l8; r_en = 0ull; r_li = 4u; r_9a = r_nz; r_57 = r_tc; r_0n = r_n9; r_vm = r_8d; goto l_arm_4z; }
+    r_su_3 = away(a_3, 40ull);
+    r_52_6 = ld64(r_su_3);
+    if (r_52_6 < r_ij) { r_gq = 17ull; r_vn = ((u8 *)g_static_163); goto l_capnp_ud; }
+    st64(r_xm, 1ull);
+    st64(r_su_3, (r_52_6 - r_ij));
+    r_a5 = 0u;
+    r_7f = r_12_1;
+    r_e9 = r_l8;
+    r_en = 0ull;
+    r_li = 4u;
+    r_9a = r_nz;
+    r_57 = r_tc;
+    r_0n = r_n9;
+    r_vm = r_8d;
+    goto l_arm_4z;
+l_arm_te_1:;
+    r_12_2 = (u32)r_ij;
+    if ((i32)r_5k_1 < (i32)1u) { r_gq = 40ull; r_vn = ((u8 *)g_static_159); goto l_capnp_ud; }
+    if (((u64)(r_n9 >> 3ull) & 0xffffffffull) < (u64)r_tc) { r_gq = 33ull; r_vn = ((u8 *)g_static_156); goto l_capnp_ud; }
+    if (t_pa) { r_a5 = r_12_2; r_7f = 0u; r_e9 = r_l8; r_en = 0ull; r_li = 3u; r_9a = r_nz; r_57 = r_tc; r_0n = r_n9; r_vm = r_8d; goto l_arm_4z; }
+    if (!(ld8(r_xm) == 1u)) { r_a5 = r_12_2; r_7f = 0u; r_e9 = r_l8; r_en = 0ull; r_li = 3u; r_9a = r_nz; r_57 = r_tc; r_0n = r_n9; r_vm = r_8d; goto l_arm_4z; }
+    st64(r_xm, 1ull);
+    r_su_4 = away(a_3, 40ull);
+    r_52_7 = ld64(r_su_4);
+    if (r_52_7 < r_ij) { r_gq = 17ull; r_vn = ((u8 *)g_static_163); goto l_capnp_ud; }
+    st64(r_su_4, (r_52_7 - r_ij));
+    r_a5 = r_12_2;
+    r_7f = 0u;
+    r_e9 = r_l8;
+    r_en = 0ull;
+    r_li = 3u;
+    r_9a = r_nz;
+    r_57 = r_tc;
+    r_0n = r_n9;
+    r_vm = r_8d;
+    goto l_arm_4z;
+l_arm_te_2:;
+    r_12_3 = (u32)r_ij;
+    if ((i32)r_5k_1 < (i32)1u) { r_gq = 40ull; r_vn = ((u8 *)g_static_159); goto l_capnp_ud; }
+    r_c6 = (u64)(((ld64(away(away(((u8 *)switch_table_typed_conforming_conforms_check_object_5c_e20a29a0), 8 * (r_ep_2 & 7ull)), 0xfffffffffffffff8ull)) * r_ij) + 63ull) >> 6ull);
+    if (((u64)(r_n9 >> 3ull) & 0xffffffffull) < (r_c6 + (u64)r_tc)) { r_gq = 33ull; r_vn = ((u8 *)g_static_156); goto l_capnp_ud; }
+    if (t_pa) goto l_arm_eq;
+    if (!(ld8(r_xm) == 1u)) goto l_arm_eq;
+    r_su_5 = away(a_3, 40ull);
+    r_52_8 = ld64(r_su_5);
+    if (r_52_8 < r_c6) { r_gq = 17ull; r_vn = ((u8 *)g_static_163); goto l_capnp_ud; }
+    st64(r_xm, 1ull);
+    st64(r_su_5, (r_52_8 - r_c6));
+l_arm_eq:;
+    r_a5 = r_12_3;
+    r_7f = (u32)switch_wl;
+    r_e9 = r_l8;
+    r_en = 0ull;
+    r_li = 3u;
+    r_9a = r_nz;
+    r_57 = r_tc;
+    r_0n = r_n9;
+    r_vm = r_8d;
+    goto l_arm_4z;
+l_default_e1:;
+    UNREACHABLE();
+l_capnp_8g:;
+    r_ef = r_2g;
+l_capnp_68:;
+    r_50 = (r_ef & 255ull);
+    goto l_switch_44;
+l_capnp_tl:;
+    if ((r_3g & 0xffffffffull) == 3ull) { r_a5 = 0u; r_7f = 0u; r_e9 = 0ull; r_en = (u64)(r_3g >> 32ull); r_li = 1u; r_9a = 0u; r_57 = 0u; r_0n = 0ull; r_vm = 0ull; goto l_arm_4z; }
+    r_50 = 34ull;
+    goto l_switch_44;
+l_arm_4z:;
+    r_24_2 = (u64)r_57;
+    r_a7 = ((u64)((u64)r_9a << 32ull) | r_24_2);
+    r_ne = (u8)r_7f;
+    t_t8 = (u16)r_7f;
+    r_5d = (u32)(r_7f >> 16u);
     r_gr = (u16)r_5d;
     memset(slot_2, 0u, 64);
     memset(slot_3, 0u, 64);
-    r_wt = (u32)r_38_2;
-    r_az = (r_z4 & 65535u);
-    if (!((u8)(r_r5 + 254u) < 4u)) goto l_arm_sf;
+    r_az_1 = (r_7f & 65535u);
+    if (!((u8)(r_li + 254u) < 4u)) goto l_arm_sf;
     if (!(u8)(ld8(r_r2) & 1)) goto l_arm_sf;
-    struct s_i8_i8 r_ur = capnp_show_show_json_Json_write_place(a_3, ((u8 *)g_static_235), 6ull, r_38, r_wt);
+    struct s_i8_i8 r_ur = capnp_show_show_json_Json_write_place(a_3, ((u8 *)g_static_235), 6ull, r_e9, r_57);
     if (!(r_ur.f0 == 0u)) { r_a8 = r_ur; r_g7 = 1u; goto l_capnp_mf; }
 l_arm_sf:;
-    switch (r_r5) {
+    switch (r_li) {
     case 0u: goto l_arm_ik;
-    case 1u: goto l_arm_e0;
-    case 3u: goto l_arm_aq;
-    case 2u: goto l_arm_qc;
-    case 4u: goto l_arm_qc_1;
+    case 1u: goto l_arm_ss;
+    case 3u: goto l_arm_s0;
+    case 2u: goto l_arm_0q;
+    case 4u: goto l_arm_0q_1;
     case 5u: goto l_arm_pg;
     default: goto l_noarm_e1;
     }
 l_arm_ik:;
-    r_52_3 = ld64(r_rq);
-    if (r_52_3 > 0x3ffffbfull) { r_bs = 0u; r_77 = 1u; goto l_capnp_8i; }
-    u64 r_52_4 = ld64(r_08_1);
-    if (!(r_52_4 == r_52_3)) { r_29 = r_52_4; r_el = r_52_3; goto l_join_n2; }
+    r_52_9 = ld64(r_rq);
+    if (r_52_9 > 0x3ffffbfull) { r_bs = 0u; r_77 = 1u; goto l_capnp_8i; }
+    u64 r_52_10 = ld64(r_08_1);
+    if (!(r_52_10 == r_52_9)) { r_29 = r_52_10; r_el = r_52_9; goto l_join_n2; }
     u8 r_av_1 = std_alloc_vec_Vec_grow_amortized_9634afabedddd7ee(a_3, 1ull);
     if (!r_av_1) { r_bs = 1u; r_77 = 1u; goto l_capnp_8i; }
     r_29 = ld64(r_08_1);
@@ -954,14 +1194,15 @@ l_capnp_8i:;
     r_9n.f1 = r_bs;
     r_vh_1 = r_9n;
     goto l_join_zt;
-l_arm_e0:;
-    struct s_i8_i8 r_ci = capnp_show_show_text_Text_push_last_number(a_3, ((u8 *)g_static_236), 13ull, (u64)r_uq);
+l_arm_ss:;
+    struct s_i8_i8 r_ci = capnp_show_show_text_Text_push_last_number(a_3, ((u8 *)g_static_236), 13ull, r_en);
     r_vh_1 = r_ci;
     goto l_join_zt;
-l_arm_aq:;
+l_arm_s0:;
+    t_f6 = ((u8 *)(uptr)r_vm);
     switch (r_ne) {
-    case 0u: goto l_arm_56;
-    case 2u: goto l_arm_88;
+    case 0u: goto l_arm_qq;
+    case 2u: goto l_arm_u8;
     case 1u: { r_ad = 8ull; r_8o = ((u8 *)g_static_243); goto l_capnp_6t; }
     case 3u: goto l_arm_h9;
     case 4u: goto l_arm_h9_1;
@@ -970,22 +1211,22 @@ l_arm_aq:;
     case 6u: goto l_arm_h9_2;
     default: goto l_noarm_e1_1;
     }
-l_arm_56:;
-    struct s_i8_i8 r_9y = capnp_show_show_text_Text_push_last_number(a_3, ((u8 *)g_static_237), 7ull, (u64)r_uq_1);
+l_arm_qq:;
+    struct s_i8_i8 r_9y = capnp_show_show_text_Text_push_last_number(a_3, ((u8 *)g_static_237), 7ull, (u64)r_a5);
     r_vh_1 = r_9y;
     goto l_join_zt;
-l_arm_88:;
-    u64 a_f1 = umin64(r_38_1, ((u64)(r_38_2 << 3ull) & 0x7fffffff8ull));
-    r_ud = away(r_xw, a_f1);
-    a_5j = umin64((r_38_1 - a_f1), (u64)r_uq_1);
+l_arm_u8:;
+    u64 a_f1 = umin64(r_0n, (u64)(r_24_2 << 3ull));
+    r_i7 = away(t_f6, a_f1);
+    a_5j = umin64((r_0n - a_f1), (u64)r_a5);
     r_qh = (a_5j == 0ull);
     if (r_qh) goto l_arm_s4;
     r_qd = (a_5j + 0xffffffffffffffffull);
-    if (!(ld8((r_ud + (i64)(r_qd))) == 0u)) goto l_arm_s4;
+    if (!(ld8((r_i7 + (i64)(r_qd))) == 0u)) goto l_arm_s4;
     memset(slot_1, 0u, 24);
-    core_str_utf8_from_utf8(slot_1, r_ud, r_qd);
-    r_xw_1 = ldp((slot_1 + 8));
-    r_38_3 = ld64((slot_1 + 16));
+    core_str_utf8_from_utf8(slot_1, r_i7, r_qd);
+    r_xw = ldp((slot_1 + 8));
+    r_38_1 = ld64((slot_1 + 16));
     if (!(ld8(slot_1) == 0u)) goto l_arm_s4;
     if (r_qd == 0ull) goto l_arm_m3;
     r_ux = 0u;
@@ -997,17 +1238,17 @@ l_loop_2r:;
     r_ux = r_47;
     r_dq = r_36;
 l_join_1e:;
-    r_47 = ld8(away(r_ud, r_dq));
+    r_47 = ld8(away(r_i7, r_dq));
     if (!(r_47 < 32u)) { r_17 = 0u; goto l_capnp_fz; }
     r_17 = (u8)((u8)(r_47 != 13u) & (u8)((u8)(r_47 + 245u) < 254u));
 l_capnp_fz:;
     if ((u8)((u8)(u8)((u8)(r_ux == 194u) & (u8)(r_47 < 160u)) | (u8)(u8)((u8)(r_47 == 127u) | (u8)r_17))) goto l_arm_s4;
     goto l_loop_2r;
 l_arm_m3:;
-    r_52_5 = ld64(r_rq);
-    if (r_52_5 > 0x3ffffb9ull) { r_bs_1 = 1u; r_77_1 = 0u; goto l_capnp_8i_1; }
-    u64 r_52_6 = ld64(r_08_1);
-    if (!((r_52_6 - r_52_5) < 7ull)) { r_0s = r_52_6; r_nq = r_52_5; goto l_join_me; }
+    r_52_11 = ld64(r_rq);
+    if (r_52_11 > 0x3ffffb9ull) { r_bs_1 = 1u; r_77_1 = 0u; goto l_capnp_8i_1; }
+    u64 r_52_12 = ld64(r_08_1);
+    if (!((r_52_12 - r_52_11) < 7ull)) { r_0s = r_52_12; r_nq = r_52_11; goto l_join_me; }
     u8 r_f5 = std_alloc_vec_Vec_grow_amortized_9634afabedddd7ee(a_3, 7ull);
     if (!r_f5) { r_bs_1 = 1u; r_77_1 = 1u; goto l_capnp_8i_1; }
     r_0s = ld64(r_08_1);
@@ -1021,18 +1262,18 @@ l_join_me:;
     goto l_arm_61;
 l_join_dc:;
     st8((r_2b_2 + (i64)(r_u0)), ld8((((u8 *)g_static_238) + (i64)(r_u0))));
-    u64 r_c4_1 = (r_u0 + 1ull);
-    if (!(r_c4_1 == 7ull)) { r_u0 = r_c4_1; goto l_join_dc; }
+    u64 r_c4_2 = (r_u0 + 1ull);
+    if (!(r_c4_2 == 7ull)) { r_u0 = r_c4_2; goto l_join_dc; }
 l_arm_61:;
     stp(a_3, r_fx_3);
     st64(r_rq, r_xe);
     st64(r_08_1, r_0s);
-    r_z6 = capnp_show_show_text_Text_push_quoted(a_3, r_xw_1, r_38_3);
-    if (!(r_z6.f0 == 0u)) goto l_arm_21_1;
-    r_52_7 = ld64(r_rq);
-    if (r_52_7 > 0x3ffffbfull) { r_bs_1 = 1u; r_77_1 = 0u; goto l_capnp_8i_1; }
-    u64 r_52_8 = ld64(r_08_1);
-    if (!(r_52_8 == r_52_7)) { r_29_1 = r_52_8; r_el_1 = r_52_7; goto l_join_n2_1; }
+    r_z6 = capnp_show_show_text_Text_push_quoted(a_3, r_xw, r_38_1);
+    if (!(r_z6.f0 == 0u)) goto l_arm_21;
+    r_52_13 = ld64(r_rq);
+    if (r_52_13 > 0x3ffffbfull) { r_bs_1 = 1u; r_77_1 = 0u; goto l_capnp_8i_1; }
+    u64 r_52_14 = ld64(r_08_1);
+    if (!(r_52_14 == r_52_13)) { r_29_1 = r_52_14; r_el_1 = r_52_13; goto l_join_n2_1; }
     u8 r_av_2 = std_alloc_vec_Vec_grow_amortized_9634afabedddd7ee(a_3, 1ull);
     if (!r_av_2) { r_bs_1 = 1u; r_77_1 = 1u; goto l_capnp_8i_1; }
     r_29_1 = ld64(r_08_1);
@@ -1046,15 +1287,15 @@ l_join_n2_1:;
     r_bs_1 = 0u;
     r_77_1 = 0u;
     goto l_capnp_8i_1;
-l_arm_21_1:;
+l_arm_21:;
     r_bs_1 = 1u;
     r_77_1 = r_z6.f1;
     goto l_capnp_8i_1;
 l_arm_s4:;
-    r_52_9 = ld64(r_rq);
-    if (r_52_9 > 0x3ffffb7ull) { r_bs_1 = 1u; r_77_1 = 0u; goto l_capnp_8i_1; }
-    u64 r_52_10 = ld64(r_08_1);
-    if (!((r_52_10 - r_52_9) < 9ull)) { r_wv = r_52_10; r_9w = r_52_9; goto l_join_k6; }
+    r_52_15 = ld64(r_rq);
+    if (r_52_15 > 0x3ffffb7ull) { r_bs_1 = 1u; r_77_1 = 0u; goto l_capnp_8i_1; }
+    u64 r_52_16 = ld64(r_08_1);
+    if (!((r_52_16 - r_52_15) < 9ull)) { r_wv = r_52_16; r_9w = r_52_15; goto l_join_k6; }
     u8 r_xy = std_alloc_vec_Vec_grow_amortized_9634afabedddd7ee(a_3, 9ull);
     if (!r_xy) { r_bs_1 = 1u; r_77_1 = 1u; goto l_capnp_8i_1; }
     r_wv = ld64(r_08_1);
@@ -1068,17 +1309,17 @@ l_join_k6:;
     goto l_arm_um;
 l_join_00:;
     st8((r_2b_3 + (i64)(r_49)), ld8((((u8 *)g_static_240) + (i64)(r_49))));
-    u64 r_c4_2 = (r_49 + 1ull);
-    if (!(r_c4_2 == 9ull)) { r_49 = r_c4_2; goto l_join_00; }
+    u64 r_c4_3 = (r_49 + 1ull);
+    if (!(r_c4_3 == 9ull)) { r_49 = r_c4_3; goto l_join_00; }
 l_arm_um:;
     stp(a_3, r_fx_5);
     st64(r_rq, r_wr);
     st64(r_08_1, r_wv);
     if (r_qh) { r_aq = r_fx_5; r_9p = r_wv; r_9e = r_wr; goto l_arm_06; }
     r_x9 = r_fx_5;
-    r_tc = r_wv;
+    r_tc_1 = r_wv;
     r_wl = r_wr;
-    r_uz = r_ud;
+    r_uz = r_i7;
     r_eu = a_5j;
 l_join_kl:;
     a_3q = umin64(r_eu, 512ull);
@@ -1086,16 +1327,16 @@ l_join_kl:;
     r_pt = 0ull;
 l_join_jf:;
     u8 r_47_1 = ld8((r_uz + (i64)(r_pt)));
-    u8 *r_a7 = (slot_1 + (i64)((u64)(r_pt << 1ull)));
-    st8(r_a7, ld8((((u8 *)g_static_197) + (i64)((u64)(u8)((u32)r_47_1 >> 4u)))));
-    st8((r_a7 + 1), ld8((((u8 *)g_static_197) + (i64)((u64)(u8)(r_47_1 & 15u)))));
-    u64 r_c4_3 = (r_pt + 1ull);
-    if (!(r_c4_3 == a_3q)) { r_pt = r_c4_3; goto l_join_jf; }
+    u8 *r_a7_1 = (slot_1 + (i64)((u64)(r_pt << 1ull)));
+    st8(r_a7_1, ld8((((u8 *)g_static_197) + (i64)((u64)(u8)((u32)r_47_1 >> 4u)))));
+    st8((r_a7_1 + 1), ld8((((u8 *)g_static_197) + (i64)((u64)(u8)(r_47_1 & 15u)))));
+    u64 r_c4_4 = (r_pt + 1ull);
+    if (!(r_c4_4 == a_3q)) { r_pt = r_c4_4; goto l_join_jf; }
     r_yb = (u64)(a_3q << 1ull);
-    if ((r_wl > 0x3ffffc0ull) ? 1u : ((0x3ffffc0ull - r_wl) < r_yb)) { r_2g = 0u; goto l_arm_8g; }
-    if (!(r_yb > (r_tc - r_wl))) { r_wy = r_x9; r_2n = r_tc; r_wj = r_wl; goto l_arm_nw; }
-    u8 r_c4_4 = std_alloc_vec_Vec_grow_amortized_9634afabedddd7ee(a_3, r_yb);
-    if (!r_c4_4) { r_2g = 1u; goto l_arm_8g; }
+    if ((r_wl > 0x3ffffc0ull) ? 1u : ((0x3ffffc0ull - r_wl) < r_yb)) { r_2g_1 = 0u; goto l_arm_8g; }
+    if (!(r_yb > (r_tc_1 - r_wl))) { r_wy = r_x9; r_2n = r_tc_1; r_wj = r_wl; goto l_arm_nw; }
+    u8 r_c4_5 = std_alloc_vec_Vec_grow_amortized_9634afabedddd7ee(a_3, r_yb);
+    if (!r_c4_5) { r_2g_1 = 1u; goto l_arm_8g; }
     r_wy = ldp(a_3);
     r_2n = ld64(r_08_1);
     r_wj = ld64(r_rq);
@@ -1113,7 +1354,7 @@ l_arm_nw:;
     u8 *r_4 = away(r_uz, a_3q);
     u64 r_5 = r_nr;
     r_x9 = r_1;
-    r_tc = r_2;
+    r_tc_1 = r_2;
     r_wl = r_3;
     r_uz = r_4;
     r_eu = r_5;
@@ -1134,8 +1375,8 @@ l_join_aq:;
     goto l_core_ga;
 l_join_h4:;
     st8((r_2b_4 + (i64)(r_nd)), ld8((((u8 *)g_static_241) + (i64)(r_nd))));
-    u64 r_c4_5 = (r_nd + 1ull);
-    if (!(r_c4_5 == 2ull)) { r_nd = r_c4_5; goto l_join_h4; }
+    u64 r_c4_6 = (r_nd + 1ull);
+    if (!(r_c4_6 == 2ull)) { r_nd = r_c4_6; goto l_join_h4; }
 l_core_ga:;
     stp(a_3, r_yy);
     st64(r_rq, r_x4);
@@ -1145,7 +1386,7 @@ l_core_ga:;
     goto l_capnp_8i_1;
 l_arm_8g:;
     r_bs_1 = 1u;
-    r_77_1 = r_2g;
+    r_77_1 = r_2g_1;
 l_capnp_8i_1:;
     struct s_i8_i8 r_3j_1 = (struct s_i8_i8){ 0 };
     r_3j_1.f0 = r_bs_1;
@@ -1165,12 +1406,12 @@ l_arm_h9_2:;
     r_ad = 7ull;
     r_8o = ((u8 *)g_static_246);
 l_capnp_6t:;
-    r_52_11 = ld64(r_rq);
-    if ((r_52_11 > 0x3ffffc0ull) ? 1u : ((0x3ffffc0ull - r_52_11) < r_ad)) { r_bs_2 = 0u; r_77_2 = 1u; goto l_capnp_8i_2; }
-    u64 r_52_12 = ld64(r_08_1);
-    if (!(r_ad > (r_52_12 - r_52_11))) { r_bu = r_52_12; r_tk = r_52_11; goto l_join_pq; }
-    u8 r_c4_6 = std_alloc_vec_Vec_grow_amortized_9634afabedddd7ee(a_3, r_ad);
-    if (!r_c4_6) { r_bs_2 = 1u; r_77_2 = 1u; goto l_capnp_8i_2; }
+    r_52_17 = ld64(r_rq);
+    if ((r_52_17 > 0x3ffffc0ull) ? 1u : ((0x3ffffc0ull - r_52_17) < r_ad)) { r_bs_2 = 0u; r_77_2 = 1u; goto l_capnp_8i_2; }
+    u64 r_52_18 = ld64(r_08_1);
+    if (!(r_ad > (r_52_18 - r_52_17))) { r_bu = r_52_18; r_tk = r_52_17; goto l_join_pq; }
+    u8 r_c4_7 = std_alloc_vec_Vec_grow_amortized_9634afabedddd7ee(a_3, r_ad);
+    if (!r_c4_7) { r_bs_2 = 1u; r_77_2 = 1u; goto l_capnp_8i_2; }
     r_bu = ld64(r_08_1);
     r_tk = ld64(r_rq);
 l_join_pq:;
@@ -1182,26 +1423,26 @@ l_join_pq:;
     goto l_arm_dd;
 l_join_fh:;
     st8((r_2b_5 + (i64)(r_il)), ld8((r_8o + (i64)(r_il))));
-    u64 r_c4_7 = (r_il + 1ull);
-    if (!(r_c4_7 == r_ad)) { r_il = r_c4_7; goto l_join_fh; }
+    u64 r_c4_8 = (r_il + 1ull);
+    if (!(r_c4_8 == r_ad)) { r_il = r_c4_8; goto l_join_fh; }
 l_arm_dd:;
     stp(a_3, r_fx_6);
     st64(r_rq, r_5q_1);
     st64(r_08_1, r_bu);
-    if (r_uq_1 == 0u) { r_aq_1 = r_5q_1; goto l_arm_06_1; }
-    r_gw = (u64)(r_38_1 >> 3ull);
+    if (r_a5 == 0u) { r_aq_1 = r_5q_1; goto l_arm_06_1; }
+    r_gw_2 = (u64)(r_0n >> 3ull);
     r_ci_1 = 0u;
     goto l_join_fo;
-l_loop_q6:;
-    u32 r_7t = (r_ci_1 + 1u);
-    if (r_7t == r_uq_1) goto l_arm_n1;
-    r_ci_1 = r_7t;
+l_loop_aw:;
+    u32 r_ff = (r_ci_1 + 1u);
+    if (r_ff == r_a5) goto l_arm_n1;
+    r_ci_1 = r_ff;
 l_join_fo:;
     if (r_ci_1 == 0u) goto l_arm_0h;
-    r_52_13 = ld64(r_rq);
-    if (r_52_13 > 0x3ffffbfull) { r_bs_2 = 0u; r_77_2 = 1u; goto l_capnp_8i_2; }
-    u64 r_52_14 = ld64(r_08_1);
-    if (!(r_52_14 == r_52_13)) { r_qd_1 = r_52_14; r_cr = r_52_13; goto l_join_tk; }
+    r_52_19 = ld64(r_rq);
+    if (r_52_19 > 0x3ffffbfull) { r_bs_2 = 0u; r_77_2 = 1u; goto l_capnp_8i_2; }
+    u64 r_52_20 = ld64(r_08_1);
+    if (!(r_52_20 == r_52_19)) { r_qd_1 = r_52_20; r_cr = r_52_19; goto l_join_tk; }
     u8 r_av_3 = std_alloc_vec_Vec_grow_amortized_9634afabedddd7ee(a_3, 1ull);
     if (!r_av_3) { r_bs_2 = 1u; r_77_2 = 1u; goto l_capnp_8i_2; }
     r_qd_1 = ld64(r_08_1);
@@ -1239,9 +1480,9 @@ l_arm_fo:;
 l_noarm_e1_2:;
     UNREACHABLE();
 l_capnp_k6:;
-    r_24_1 = (u64)uadd_sat32(r_st, r_wt);
-    if (!(r_gw > r_24_1)) { r_pv = 0ull; goto l_capnp_pd; }
-    r_pv = ld64(away(r_xw, (u64)(r_24_1 << 3ull)));
+    r_24_3 = (u64)uadd_sat32(r_st, r_57);
+    if (!(r_gw_2 > r_24_3)) { r_pv = 0ull; goto l_capnp_pd; }
+    r_pv = ld64(away(t_f6, (u64)(r_24_3 << 3ull)));
 l_capnp_pd:;
     switch (r_ne) {
     case 1u: goto l_arm_34;
@@ -1276,10 +1517,10 @@ l_arm_aj:;
     r_pg = r_zo;
     goto l_capnp_6i;
 l_arm_ik_1:;
-    r_52_15 = ld64(r_rq);
-    if (r_52_15 > 0x3ffffbfull) { r_95 = 0u; r_t2 = 1u; goto l_capnp_5p; }
-    u64 r_52_16 = ld64(r_08_1);
-    if (!(r_52_16 == r_52_15)) { r_08_2 = r_52_16; r_vr = r_52_15; goto l_join_wq; }
+    r_52_21 = ld64(r_rq);
+    if (r_52_21 > 0x3ffffbfull) { r_95 = 0u; r_t2 = 1u; goto l_capnp_5p; }
+    u64 r_52_22 = ld64(r_08_1);
+    if (!(r_52_22 == r_52_21)) { r_08_2 = r_52_22; r_vr = r_52_21; goto l_join_wq; }
     u8 r_av_4 = std_alloc_vec_Vec_grow_amortized_9634afabedddd7ee(a_3, 1ull);
     if (!r_av_4) { r_95 = 1u; r_t2 = 1u; goto l_capnp_5p; }
     r_08_2 = ld64(r_08_1);
@@ -1291,11 +1532,11 @@ l_join_wq:;
     st64(r_rq, (r_vr + 1ull));
     st64(r_08_1, r_08_2);
     r_zo_1 = capnp_show_show_text_Text_push_number(a_3, r_cw);
-    if (!(r_zo_1.f0 == 0u)) goto l_arm_21_2;
-    r_52_17 = ld64(r_rq);
-    if (r_52_17 > 0x3ffffbfull) { r_95 = 0u; r_t2 = 1u; goto l_capnp_5p; }
-    u64 r_52_18 = ld64(r_08_1);
-    if (!(r_52_18 == r_52_17)) { r_08_3 = r_52_18; r_vr_1 = r_52_17; goto l_join_wq_1; }
+    if (!(r_zo_1.f0 == 0u)) goto l_arm_21_1;
+    r_52_23 = ld64(r_rq);
+    if (r_52_23 > 0x3ffffbfull) { r_95 = 0u; r_t2 = 1u; goto l_capnp_5p; }
+    u64 r_52_24 = ld64(r_08_1);
+    if (!(r_52_24 == r_52_23)) { r_08_3 = r_52_24; r_vr_1 = r_52_23; goto l_join_wq_1; }
     u8 r_av_5 = std_alloc_vec_Vec_grow_amortized_9634afabedddd7ee(a_3, 1ull);
     if (!r_av_5) { r_95 = 1u; r_t2 = 1u; goto l_capnp_5p; }
     r_08_3 = ld64(r_08_1);
@@ -1309,7 +1550,7 @@ l_join_wq_1:;
     r_95 = 0u;
     r_t2 = 0u;
     goto l_capnp_5p;
-l_arm_21_2:;
+l_arm_21_1:;
     r_95 = r_zo_1.f1;
     r_t2 = 1u;
 l_capnp_5p:;
@@ -1319,7 +1560,7 @@ l_capnp_5p:;
     r_9n_2.f1 = r_95;
     r_pg = r_9n_2;
 l_capnp_6i:;
-    if (r_pg.f0 == 0u) goto l_loop_q6;
+    if (r_pg.f0 == 0u) goto l_loop_aw;
     r_bs_2 = r_pg.f1;
     r_77_2 = 1u;
     goto l_capnp_8i_2;
@@ -1327,11 +1568,11 @@ l_arm_n1:;
     r_aq_1 = ld64(r_rq);
 l_arm_06_1:;
     if (r_aq_1 > 0x3ffffbeull) { r_bs_2 = 0u; r_77_2 = 1u; goto l_capnp_8i_2; }
-    u64 r_52_19 = ld64(r_08_1);
-    if (!((r_52_19 - r_aq_1) < 2ull)) { r_c0 = r_52_19; r_54 = r_aq_1; goto l_join_p3; }
+    u64 r_52_25 = ld64(r_08_1);
+    if (!((r_52_25 - r_aq_1) < 2ull)) { r_c0_1 = r_52_25; r_54 = r_aq_1; goto l_join_p3; }
     u8 r_y4_1 = std_alloc_vec_Vec_grow_amortized_9634afabedddd7ee(a_3, 2ull);
     if (!r_y4_1) { r_bs_2 = 1u; r_77_2 = 1u; goto l_capnp_8i_2; }
-    r_c0 = ld64(r_08_1);
+    r_c0_1 = ld64(r_08_1);
     r_54 = ld64(r_rq);
 l_join_p3:;
     r_x4_1 = (r_54 + 2ull);
@@ -1342,12 +1583,12 @@ l_join_p3:;
     goto l_core_ga_1;
 l_join_th:;
     st8((r_2b_6 + (i64)(r_1y)), ld8((((u8 *)g_static_242) + (i64)(r_1y))));
-    u64 r_c4_8 = (r_1y + 1ull);
-    if (!(r_c4_8 == 2ull)) { r_1y = r_c4_8; goto l_join_th; }
+    u64 r_c4_9 = (r_1y + 1ull);
+    if (!(r_c4_9 == 2ull)) { r_1y = r_c4_9; goto l_join_th; }
 l_core_ga_1:;
     stp(a_3, r_fx_10);
     st64(r_rq, r_x4_1);
-    st64(r_08_1, r_c0);
+    st64(r_08_1, r_c0_1);
     r_bs_2 = 0u;
     r_77_2 = 0u;
 l_capnp_8i_2:;
@@ -1359,36 +1600,36 @@ l_capnp_8i_2:;
     goto l_join_zt;
 l_noarm_e1_1:;
     UNREACHABLE();
-l_arm_qc:;
-    mv16((slot_2 + 8), slot_4);
+l_arm_0q:;
     st64(slot_2, r_eg);
-    st64((slot_2 + 24), r_38);
-    stp((slot_2 + 32), r_xw);
-    st64((slot_2 + 40), r_38_1);
-    st32((slot_2 + 48), r_wt);
-    st32((slot_2 + 52), 0u);
-    st32((slot_2 + 56), ((r_5k_2 == 0x80000000u) ? 0x80000000u : (r_5k_2 + 0xffffffffu)));
+    stp((slot_2 + 8), r_rv);
+    st64((slot_2 + 16), r_qw);
+    st64((slot_2 + 24), r_e9);
+    st64((slot_2 + 32), r_vm);
+    st64((slot_2 + 40), r_0n);
+    st64((slot_2 + 48), r_a7);
+    st32((slot_2 + 56), ((r_5k_1 == 0x80000000u) ? 0x80000000u : (r_5k_1 + 0xffffffffu)));
     struct s_i8_i8 r_5u = capnp_show_show_json_write_sections_5ccc1be374b2e488(slot_2, t_t8, r_gr, a_2, a_3);
     r_vh_1 = r_5u;
     goto l_join_zt;
-l_arm_qc_1:;
-    mv16((slot_3 + 8), slot_4);
+l_arm_0q_1:;
     st64(slot_3, r_eg);
-    st64((slot_3 + 24), r_38);
-    stp((slot_3 + 32), r_xw);
-    st64((slot_3 + 40), r_38_1);
-    st32((slot_3 + 48), r_wt);
-    st32((slot_3 + 52), 0u);
-    st32((slot_3 + 56), ((r_5k_2 == 0x80000000u) ? 0x80000000u : (r_5k_2 + 0xffffffffu)));
-    struct s_i8_i8 r_kc = capnp_show_show_json_write_pointer_array_5ccc1be374b2e488(1u, slot_3, r_z4, a_2, a_3);
+    stp((slot_3 + 8), r_rv);
+    st64((slot_3 + 16), r_qw);
+    st64((slot_3 + 24), r_e9);
+    st64((slot_3 + 32), r_vm);
+    st64((slot_3 + 40), r_0n);
+    st64((slot_3 + 48), r_a7);
+    st32((slot_3 + 56), ((r_5k_1 == 0x80000000u) ? 0x80000000u : (r_5k_1 + 0xffffffffu)));
+    struct s_i8_i8 r_kc = capnp_show_show_json_write_pointer_array_5ccc1be374b2e488(1u, slot_3, r_7f, a_2, a_3);
     r_vh_1 = r_kc;
     goto l_join_zt;
 l_arm_pg:;
-    r_mx = ((r_5k_2 == 0x80000000u) ? 0x80000000u : (r_5k_2 + 0xffffffffu));
+    r_mx = ((r_5k_1 == 0x80000000u) ? 0x80000000u : (r_5k_1 + 0xffffffffu));
     st64((slot_1 + 56), 0ull);
     r_kp = capnp_show_show_text_Text_push_sizes(a_3, t_t8, r_gr);
     if (!(r_kp.f0 == 0u)) goto l_arm_rc;
-    if ((r_5d | r_az) == 0u) goto l_then_zn;
+    if ((r_5d | r_az_1) == 0u) goto l_then_te;
     goto l_join_16;
 l_arm_rc:;
     struct s_i8_i8 r_fj = (struct s_i8_i8){ 1u, 0u };
@@ -1396,8 +1637,8 @@ l_arm_rc:;
     r_a8_1 = r_fj;
     r_g7_1 = 1u;
     goto l_capnp_mf_1;
-l_then_zn:;
-    struct s_i8_i8 r_w7 = capnp_show_show_text_Text_push_last_number(a_3, ((u8 *)g_static_255), 8ull, (u64)r_uq_1);
+l_then_te:;
+    struct s_i8_i8 r_w7 = capnp_show_show_text_Text_push_last_number(a_3, ((u8 *)g_static_255), 8ull, (u64)r_a5);
     r_a8_1 = r_w7;
     r_g7_1 = r_w7.f0;
     goto l_capnp_mf_1;
@@ -1405,14 +1646,14 @@ l_join_16:;
     r_6q = capnp_show_show_text_Text_push(a_3, ((u8 *)g_static_252), 11ull);
     if (!(r_6q.f0 == 0u)) goto l_arm_rc_1;
     st64(slot_1, r_eg);
-    mv16((slot_1 + 8), slot_4);
-    st64((slot_1 + 24), r_38);
-    stp((slot_1 + 32), r_xw);
-    st64((slot_1 + 40), r_38_1);
-    st32((slot_1 + 48), r_wt);
-    st32((slot_1 + 52), 0u);
+    stp((slot_1 + 8), r_rv);
+    st64((slot_1 + 16), r_qw);
+    st64((slot_1 + 24), r_e9);
+    st64((slot_1 + 32), r_vm);
+    st64((slot_1 + 40), r_0n);
+    st64((slot_1 + 48), r_a7);
     st32((slot_1 + 56), r_mx);
-    r_fg = capnp_show_show_json_write_struct_elements_5ccc1be374b2e488(slot_1, t_t8, r_gr, r_uq_1, a_2, a_3);
+    r_fg = capnp_show_show_json_write_struct_elements_5ccc1be374b2e488(slot_1, t_t8, r_gr, r_a5, a_2, a_3);
     if (r_fg.f0 == 0u) goto l_arm_fg;
     goto l_arm_rc_2;
 l_arm_rc_1:;
@@ -1448,23 +1689,21 @@ l_capnp_mf:;
     r_3j_5.f0 = r_g7;
     struct s_i8_i8 r_9n_5 = r_3j_5;
     r_9n_5.f1 = r_a8.f1;
-    r_1j = r_9n_5;
-    goto l_capnp_y9;
-l_switch_1y:;
-    struct s_i8_i8 r_ml = capnp_show_show_json_Json_write_refusal(a_3, ldp((((u8 *)switch_table_capnp_canon_inputs_report_refusal_51) + (i64)(8 * (u64)r_r5))), ld64((((u8 *)switch_table_capnp_canon_inputs_report_refusal_52) + (i64)(8 * (u64)r_r5))));
-    r_1j = r_ml;
-    goto l_capnp_y9;
-l_capnp_oj:;
-    r_fu = r_u1;
-    r_vh = 1u;
-    goto l_return_4x;
-l_capnp_y9:;
-    if (!(r_1j.f0 == 0u)) { r_fu = r_1j.f1; r_vh = 1u; goto l_return_4x; }
+    r_1f = r_9n_5;
+    goto l_capnp_5v;
+l_switch_44:;
+    r_gq = ld64((((u8 *)switch_table_capnp_canon_inputs_report_refusal_51) + (i64)(8 * r_50)));
+    r_vn = ldp((((u8 *)switch_table_capnp_canon_inputs_report_refusal_50) + (i64)(8 * r_50)));
+l_capnp_ud:;
+    struct s_i8_i8 r_ay = capnp_show_show_json_Json_write_refusal(a_3, r_vn, r_gq);
+    r_1f = r_ay;
+l_capnp_5v:;
+    if (!(r_1f.f0 == 0u)) { r_fu = r_1f.f1; r_vh = 1u; goto l_return_4x; }
 l_arm_2q:;
-    r_52_20 = ld64(r_rq);
+    r_52_26 = ld64(r_rq);
     if (!(ld8(away(a_3, 64ull)) == 1u)) { r_fu = 0u; r_vh = 0u; goto l_return_4x; }
     if (r_52 > ld64(away(a_3, 80ull))) { r_fu = 0u; r_vh = 0u; goto l_return_4x; }
-    if (!(ld64(away(a_3, 72ull)) < r_52_20)) { r_fu = 0u; r_vh = 0u; goto l_return_4x; }
+    if (!(ld64(away(a_3, 72ull)) < r_52_26)) { r_fu = 0u; r_vh = 0u; goto l_return_4x; }
     st64(away(a_3, 112ull), r_52);
     r_fu = 2u;
     r_vh = 1u;
@@ -1609,339 +1848,6 @@ l_return_4x:;
     struct s_i8_i8 r_9n = r_3j;
     r_9n.f1 = r_fu;
     return r_9n;
-}
-
-/* capnp_show::show::objects::read_object::<#5ccc1be374b2e488> */
-static void capnp_show_show_objects_read_object_5ccc1be374b2e488(u8 *a_1, u8 *a_2, u8 *a_3)
-{
-    A(8) u8 slot_1[56];
-    u8 r_dh;
-    u8 *r_rv;
-    u64 r_qw;
-    u8 *r_rv_1;
-    u64 r_qw_1;
-    u32 r_5k;
-    u64 r_24;
-    u64 r_gw;
-    u64 r_qw_2;
-    u64 t_al;
-    u8 t_pa;
-    u64 r_lc;
-    u64 r_nb;
-    u64 r_yz;
-    u32 r_7d;
-    u32 r_2w;
-    u64 r_7a;
-    u64 r_0m;
-    u64 r_v8;
-    u64 r_t9;
-    u64 r_ep;
-    u64 r_y6;
-    u64 r_lc_1;
-    u8 *r_rq;
-    u64 r_52;
-    u64 r_ep_1;
-    u8 switch_wl;
-    u64 r_ij;
-    u64 r_c4;
-    u64 r_24_1;
-    u64 r_gw_1;
-    u8 *r_rq_1;
-    u64 r_52_1;
-    u64 r_eh;
-    u32 t_c8;
-    u32 r_12;
-    u32 r_az;
-    u32 r_68;
-    u64 r_c0;
-    u8 *r_rq_2;
-    u64 r_52_2;
-    u32 r_12_1;
-    u8 *r_rq_3;
-    u64 r_52_3;
-    u32 r_12_2;
-    u8 *r_rq_4;
-    u64 r_52_4;
-    u32 r_12_3;
-    u64 r_c6;
-    u8 *r_rq_5;
-    u64 r_52_5;
-    u64 r_r4;
-    u64 r_9r;
-    u64 r_xy;
-    u64 r_6f;
-    u64 r_3l;
-    u32 r_rk;
-    u32 r_7q;
-    u64 r_yr;
-    u64 r_c1;
-    u32 r_g3;
-    u32 r_vx;
-    u32 r_7j;
-    u32 r_p8;
-    r_dh = ld8(a_2);
-    r_rv = ldp(away(a_2, 8ull));
-    r_qw = ld64(away(a_2, 24ull));
-    r_rv_1 = ldp(away(a_2, 32ull));
-    r_qw_1 = ld64(away(a_2, 40ull));
-    r_5k = ld32(away(a_2, 56ull));
-    r_24 = (u64)ld32(away(a_2, 48ull));
-    r_gw = (u64)(r_qw_1 >> 3ull);
-    if (!(r_gw > r_24)) { r_6f = 0ull; r_3l = 0ull; r_rk = 0u; r_7q = 0u; r_yr = 0ull; r_c1 = 0ull; r_g3 = 0u; r_vx = 0u; r_7j = 0u; r_p8 = 0u; goto l_capnp_6f; }
-    r_qw_2 = ld64(away(r_rv_1, (u64)(r_24 << 3ull)));
-    if (r_qw_2 == 0ull) { r_6f = 0ull; r_3l = 0ull; r_rk = 0u; r_7q = 0u; r_yr = 0ull; r_c1 = 0ull; r_g3 = 0u; r_vx = 0u; r_7j = 0u; r_p8 = 0u; goto l_capnp_6f; }
-    t_al = (u64)(uptr)r_rv_1;
-    memset(slot_1, 0u, 56);
-    t_pa = (r_dh != 0u);
-    if (t_pa) goto l_capnp_sm;
-    u8 *r_08 = away(a_3, 16ull);
-    st64(r_08, uadd_sat64(ld64(r_08), 1ull));
-    if ((r_qw_2 & 3ull) == 2ull) goto l_capnp_bt;
-    goto l_join_bd;
-l_capnp_sm:;
-    if (!((r_qw_2 & 3ull) == 2ull)) goto l_join_bd;
-    st32((slot_1 + 8), 32u);
-    r_r4 = ld64((slot_1 + 8));
-    goto l_arm_5s;
-l_join_bd:;
-    u64 r_m6 = ((u64)(r_qw_2 >> 2ull) & 0x3fffffffull);
-    r_lc = ((r_24 + 1ull) + r_m6);
-    r_nb = (r_gw & 0xffffffffull);
-    if (!(r_m6 < 0x20000000ull)) goto l_else_70;
-    if (r_lc > r_nb) { r_r4 = 23ull; goto l_arm_5s; }
-    r_yz = r_lc;
-    goto l_capnp_i5;
-l_else_70:;
-    u64 r_3o = (r_lc + 0xffffffffc0000000ull);
-    if ((r_lc < 0x40000000ull) ? 1u : (r_3o > r_nb)) { r_r4 = 23ull; goto l_arm_5s; }
-    r_yz = r_3o;
-l_capnp_i5:;
-    r_7d = 0u;
-    r_2w = (u32)r_yz;
-    r_7a = r_qw;
-    r_0m = r_qw_2;
-    r_v8 = r_qw_1;
-    r_t9 = t_al;
-    goto l_arm_nn;
-l_capnp_bt:;
-    capnp_objects_source_follow_far_5ccc1be374b2e488(slot_1, r_rv, r_qw_2, a_3);
-    u64 r_38 = ld64((slot_1 + 16));
-    u64 r_38_1 = ld64((slot_1 + 8));
-    if (ld8(slot_1) == 0u) { r_7d = ld32((slot_1 + 44)); r_2w = ld32((slot_1 + 40)); r_7a = r_38; r_0m = r_38_1; r_v8 = ld64((slot_1 + 32)); r_t9 = ld64((slot_1 + 24)); goto l_arm_nn; }
-    r_9r = r_38;
-    r_xy = r_38_1;
-    goto l_arm_i4;
-l_arm_nn:;
-    switch ((u8)((u8)r_0m & 3u)) {
-    case 0u: goto l_arm_xn;
-    case 1u: goto l_arm_z2;
-    case 2u: { r_6f = 0ull; r_3l = 0ull; r_rk = 0u; r_7q = 0u; r_yr = 0ull; r_c1 = 1ull; r_g3 = 13u; r_vx = 0u; r_7j = 0u; r_p8 = 0u; goto l_capnp_6f; }
-    case 3u: goto l_arm_37;
-    default: goto l_default_e1;
-    }
-l_arm_xn:;
-    r_ep = (u64)(r_0m >> 32ull);
-    r_y6 = (u64)(r_0m >> 48ull);
-    if ((i32)r_5k < (i32)1u) { r_6f = 0ull; r_3l = 0ull; r_rk = 0u; r_7q = 0u; r_yr = 0ull; r_c1 = 1ull; r_g3 = 26u; r_vx = 0u; r_7j = 0u; r_p8 = 0u; goto l_capnp_6f; }
-    r_lc_1 = ((r_ep & 65535ull) + r_y6);
-    if (((u64)(r_v8 >> 3ull) & 0xffffffffull) < (r_lc_1 + (u64)r_2w)) { r_6f = 0ull; r_3l = 0ull; r_rk = 0u; r_7q = 0u; r_yr = 0ull; r_c1 = 1ull; r_g3 = 23u; r_vx = 0u; r_7j = 0u; r_p8 = 0u; goto l_capnp_6f; }
-    if (t_pa) goto l_arm_mf;
-    if (!(ld8(a_3) == 1u)) goto l_arm_mf;
-    r_rq = away(a_3, 8ull);
-    r_52 = ld64(r_rq);
-    if (r_52 < r_lc_1) { r_6f = 0ull; r_3l = 0ull; r_rk = 0u; r_7q = 0u; r_yr = 0ull; r_c1 = 1ull; r_g3 = 30u; r_vx = 0u; r_7j = 0u; r_p8 = 0u; goto l_capnp_6f; }
-    st64(a_3, 1ull);
-    st64(r_rq, (r_52 - r_lc_1));
-l_arm_mf:;
-    r_6f = r_t9;
-    r_3l = r_v8;
-    r_rk = r_2w;
-    r_7q = r_7d;
-    r_yr = r_7a;
-    r_c1 = 0ull;
-    r_g3 = 2u;
-    r_vx = 0u;
-    r_7j = ((u32)((u32)r_y6 << 16u) | ((u32)r_ep & 65535u));
-    r_p8 = 0u;
-    goto l_capnp_6f;
-l_arm_z2:;
-    r_ep_1 = (u64)(r_0m >> 32ull);
-    switch_wl = (u8)((u8)r_ep_1 & 7u);
-    r_ij = (u64)(r_0m >> 35ull);
-    switch (switch_wl) {
-    case 7u: goto l_arm_xd;
-    case 6u: goto l_arm_te;
-    case 0u: goto l_arm_te_1;
-    case 1u: goto l_arm_te_2;
-    case 2u: goto l_arm_te_2;
-    case 3u: goto l_arm_te_2;
-    case 4u: goto l_arm_te_2;
-    case 5u: goto l_arm_te_2;
-    default: goto l_default_e1;
-    }
-l_arm_xd:;
-    if ((i32)r_5k < (i32)1u) { r_6f = 0ull; r_3l = 0ull; r_rk = 0u; r_7q = 0u; r_yr = 0ull; r_c1 = 1ull; r_g3 = 26u; r_vx = 0u; r_7j = 0u; r_p8 = 0u; goto l_capnp_6f; }
-    r_c4 = (r_ij + 1ull);
-    r_24_1 = (u64)r_2w;
-    r_gw_1 = (u64)(r_v8 >> 3ull);
-    if ((r_gw_1 & 0xffffffffull) < (r_c4 + r_24_1)) { r_6f = 0ull; r_3l = 0ull; r_rk = 0u; r_7q = 0u; r_yr = 0ull; r_c1 = 1ull; r_g3 = 23u; r_vx = 0u; r_7j = 0u; r_p8 = 0u; goto l_capnp_6f; }
-    if (t_pa) goto l_arm_ga;
-    if (!(ld8(a_3) == 1u)) goto l_arm_ga;
-    r_rq_1 = away(a_3, 8ull);
-    r_52_1 = ld64(r_rq_1);
-    if (!(r_52_1 > r_ij)) { r_6f = 0ull; r_3l = 0ull; r_rk = 0u; r_7q = 0u; r_yr = 0ull; r_c1 = 1ull; r_g3 = 30u; r_vx = 0u; r_7j = 0u; r_p8 = 0u; goto l_capnp_6f; }
-    st64(a_3, 1ull);
-    st64(r_rq_1, (r_52_1 - r_c4));
-l_arm_ga:;
-    if (!(r_gw_1 > r_24_1)) { r_eh = 0ull; goto l_join_qm; }
-    u64 r_qw_3 = ld64(away(((u8 *)(uptr)r_t9), (u64)(r_24_1 << 3ull)));
-    if ((r_qw_3 & 3ull) == 0ull) { r_eh = r_qw_3; goto l_join_qm; }
-    r_6f = 0ull;
-    r_3l = 0ull;
-    r_rk = 0u;
-    r_7q = 0u;
-    r_yr = 0ull;
-    r_c1 = 1ull;
-    r_g3 = 11u;
-    r_vx = 0u;
-    r_7j = 0u;
-    r_p8 = 0u;
-    goto l_capnp_6f;
-l_join_qm:;
-    t_c8 = (u32)((u32)r_eh >> 2u);
-    r_12 = (u32)(u64)(r_eh >> 48ull);
-    r_az = ((u32)(u64)(r_eh >> 32ull) & 65535u);
-    r_68 = (r_az + r_12);
-    r_c0 = (u64)t_c8;
-    if (r_ij < ((u64)r_68 * r_c0)) { r_6f = 0ull; r_3l = 0ull; r_rk = 0u; r_7q = 0u; r_yr = 0ull; r_c1 = 1ull; r_g3 = 10u; r_vx = 0u; r_7j = 0u; r_p8 = 0u; goto l_capnp_6f; }
-    if ((u8)((u8)t_pa | (u8)(r_68 != 0u))) goto l_arm_o2;
-    if (!(ld8(a_3) == 1u)) goto l_arm_o2;
-    r_rq_2 = away(a_3, 8ull);
-    r_52_2 = ld64(r_rq_2);
-    if (r_52_2 < r_c0) { r_6f = 0ull; r_3l = 0ull; r_rk = 0u; r_7q = 0u; r_yr = 0ull; r_c1 = 1ull; r_g3 = 30u; r_vx = 0u; r_7j = 0u; r_p8 = 0u; goto l_capnp_6f; }
-    st64(a_3, 1ull);
-    st64(r_rq_2, (r_52_2 - r_c0));
-l_arm_o2:;
-    r_6f = r_t9;
-    r_3l = r_v8;
-    r_rk = (r_2w + 1u);
-    r_7q = 0u;
-    r_yr = r_7a;
-    r_c1 = 0ull;
-    r_g3 = 5u;
-    r_vx = 0u;
-    r_7j = ((u32)(r_12 << 16u) | r_az);
-    r_p8 = t_c8;
-    goto l_capnp_6f;
-l_arm_te:;
-    r_12_1 = (u32)r_ij;
-    if ((i32)r_5k < (i32)1u) { r_6f = 0ull; r_3l = 0ull; r_rk = 0u; r_7q = 0u; r_yr = 0ull; r_c1 = 1ull; r_g3 = 26u; r_vx = 0u; r_7j = 0u; r_p8 = 0u; goto l_capnp_6f; }
-    if (((u64)(r_v8 >> 3ull) & 0xffffffffull) < (r_ij + (u64)r_2w)) { r_6f = 0ull; r_3l = 0ull; r_rk = 0u; r_7q = 0u; r_yr = 0ull; r_c1 = 1ull; r_g3 = 23u; r_vx = 0u; r_7j = 0u; r_p8 = 0u; goto l_capnp_6f; }
-    if (t_pa) { r_6f = r_t9; r_3l = r_v8; r_rk = r_2w; r_7q = r_7d; r_yr = r_7a; r_c1 = 0ull; r_g3 = 4u; r_vx = 0u; r_7j = r_12_1; r_p8 = 0u; goto l_capnp_6f; }
-    if (!(ld8(a_3) == 1u)) { r_6f = r_t9; r_3l = r_v8; r_rk = r_2w; r_7q = r_7d; r_yr = r_7a; r_c1 = 0ull; r_g3 = 4u; r_vx = 0u; r_7j = r_12_1; r_p8 = 0u; goto l_capnp_6f; }
-    r_rq_3 = away(a_3, 8ull);
-    r_52_3 = ld64(r_rq_3);
-    if (r_52_3 < r_ij) { r_6f = 0ull; r_3l = 0ull; r_rk = 0u; r_7q = 0u; r_yr = 0ull; r_c1 = 1ull; r_g3 = 30u; r_vx = 0u; r_7j = 0u; r_p8 = 0u; goto l_capnp_6f; }
-    st64(a_3, 1ull);
-    st64(r_rq_3, (r_52_3 - r_ij));
-    r_6f = r_t9;
-    r_3l = r_v8;
-    r_rk = r_2w;
-    r_7q = r_7d;
-    r_yr = r_7a;
-    r_c1 = 0ull;
-    r_g3 = 4u;
-    r_vx = 0u;
-    r_7j = r_12_1;
-    r_p8 = 0u;
-    goto l_capnp_6f;
-l_arm_te_1:;
-    r_12_2 = (u32)r_ij;
-    if ((i32)r_5k < (i32)1u) { r_6f = 0ull; r_3l = 0ull; r_rk = 0u; r_7q = 0u; r_yr = 0ull; r_c1 = 1ull; r_g3 = 26u; r_vx = 0u; r_7j = 0u; r_p8 = 0u; goto l_capnp_6f; }
-    if (((u64)(r_v8 >> 3ull) & 0xffffffffull) < (u64)r_2w) { r_6f = 0ull; r_3l = 0ull; r_rk = 0u; r_7q = 0u; r_yr = 0ull; r_c1 = 1ull; r_g3 = 23u; r_vx = 0u; r_7j = 0u; r_p8 = 0u; goto l_capnp_6f; }
-    if (t_pa) { r_6f = r_t9; r_3l = r_v8; r_rk = r_2w; r_7q = r_7d; r_yr = r_7a; r_c1 = 0ull; r_g3 = 3u; r_vx = 0u; r_7j = 0u; r_p8 = r_12_2; goto l_capnp_6f; }
-    if (!(ld8(a_3) == 1u)) { r_6f = r_t9; r_3l = r_v8; r_rk = r_2w; r_7q = r_7d; r_yr = r_7a; r_c1 = 0ull; r_g3 = 3u; r_vx = 0u; r_7j = 0u; r_p8 = r_12_2; goto l_capnp_6f; }
-    st64(a_3, 1ull);
-    r_rq_4 = away(a_3, 8ull);
-    r_52_4 = ld64(r_rq_4);
-    if (r_52_4 < r_ij) { r_6f = 0ull; r_3l = 0ull; r_rk = 0u; r_7q = 0u; r_yr = 0ull; r_c1 = 1ull; r_g3 = 30u; r_vx = 0u; r_7j = 0u; r_p8 = 0u; goto l_capnp_6f; }
-    st64(r_rq_4, (r_52_4 - r_ij));
-    r_6f = r_t9;
-    r_3l = r_v8;
-    r_rk = r_2w;
-    r_7q = r_7d;
-    r_yr = r_7a;
-    r_c1 = 0ull;
-    r_g3 = 3u;
-    r_vx = 0u;
-    r_7j = 0u;
-    r_p8 = r_12_2;
-    goto l_capnp_6f;
-l_arm_te_2:;
-    r_12_3 = (u32)r_ij;
-    if ((i32)r_5k < (i32)1u) { r_6f = 0ull; r_3l = 0ull; r_rk = 0u; r_7q = 0u; r_yr = 0ull; r_c1 = 1ull; r_g3 = 26u; r_vx = 0u; r_7j = 0u; r_p8 = 0u; goto l_capnp_6f; }
-    r_c6 = (u64)(((ld64(away(away(((u8 *)switch_table_typed_conforming_conforms_check_object_5c_426a4812), 8 * (r_ep_1 & 7ull)), 0xfffffffffffffff8ull)) * r_ij) + 63ull) >> 6ull);
-    if (((u64)(r_v8 >> 3ull) & 0xffffffffull) < (r_c6 + (u64)r_2w)) { r_6f = 0ull; r_3l = 0ull; r_rk = 0u; r_7q = 0u; r_yr = 0ull; r_c1 = 1ull; r_g3 = 23u; r_vx = 0u; r_7j = 0u; r_p8 = 0u; goto l_capnp_6f; }
-    if (t_pa) goto l_arm_zg;
-    if (!(ld8(a_3) == 1u)) goto l_arm_zg;
-    r_rq_5 = away(a_3, 8ull);
-    r_52_5 = ld64(r_rq_5);
-    if (r_52_5 < r_c6) { r_6f = 0ull; r_3l = 0ull; r_rk = 0u; r_7q = 0u; r_yr = 0ull; r_c1 = 1ull; r_g3 = 30u; r_vx = 0u; r_7j = 0u; r_p8 = 0u; goto l_capnp_6f; }
-    st64(a_3, 1ull);
-    st64(r_rq_5, (r_52_5 - r_c6));
-l_arm_zg:;
-    r_6f = r_t9;
-    r_3l = r_v8;
-    r_rk = r_2w;
-    r_7q = r_7d;
-    r_yr = r_7a;
-    r_c1 = 0ull;
-    r_g3 = 3u;
-    r_vx = 0u;
-    r_7j = (u32)switch_wl;
-    r_p8 = r_12_3;
-    goto l_capnp_6f;
-l_arm_37:;
-    u8 r_ml = ((r_0m & 0xffffffffull) != 3ull);
-    r_6f = 0ull;
-    r_3l = 0ull;
-    r_rk = 0u;
-    r_7q = 0u;
-    r_yr = 0ull;
-    r_c1 = (u64)r_ml;
-    r_g3 = (r_ml ? 34u : 1u);
-    r_vx = (r_ml ? 0u : (u32)(u64)(r_0m >> 32ull));
-    r_7j = 0u;
-    r_p8 = 0u;
-    goto l_capnp_6f;
-l_default_e1:;
-    UNREACHABLE();
-l_arm_5s:;
-    r_9r = 0ull;
-    r_xy = r_r4;
-l_arm_i4:;
-    r_6f = 0ull;
-    r_3l = 0ull;
-    r_rk = 0u;
-    r_7q = 0u;
-    r_yr = r_9r;
-    r_c1 = 1ull;
-    r_g3 = ((u32)r_xy & 255u);
-    r_vx = (u32)(u64)(r_xy >> 32ull);
-    r_7j = 0u;
-    r_p8 = 0u;
-l_capnp_6f:;
-    st64(a_1, r_c1);
-    st32(away(a_1, 8ull), r_g3);
-    st32(away(a_1, 12ull), r_vx);
-    st64(away(a_1, 16ull), r_yr);
-    st64(away(a_1, 24ull), r_6f);
-    st64(away(a_1, 32ull), r_3l);
-    st32(away(a_1, 40ull), r_rk);
-    st32(away(a_1, 44ull), r_7q);
-    st32(away(a_1, 48ull), r_7j);
-    st32(away(a_1, 52ull), r_p8);
-    return;
 }
 
 /* capnp_show::show::text::Text::push_last_number */
@@ -2358,7 +2264,7 @@ l_arm_sv:;
     st64((slot_3 + 24), r_qw);
     stp((slot_3 + 32), r_rv);
     st64((slot_3 + 40), r_qw_1);
-    st32((slot_3 + 48), uadd_sat32(r_m2, r_5k));
+    st32((slot_3 + 48), (r_5k + r_m2));
     st32((slot_3 + 52), 0u);
     st32((slot_3 + 56), r_5k_1);
     struct s_i8_i8 r_10 = capnp_show_show_json_write_pointer_array_5ccc1be374b2e488(0u, slot_3, (u32)a_3, a_4, a_5);
@@ -2549,7 +2455,7 @@ l_join_tk:;
     st64(r_rq_2, (r_cr + 1ull));
     st64(r_08_2, r_qd);
 l_arm_gs:;
-    if (ld8(r_h6) == 0u) goto l_arm_n2;
+    if (ld8(r_h6) == 0u) goto l_arm_lq;
     u64 r_52_6 = ld64(r_lg);
     if (!(ld64(r_we) == r_52_6)) { r_au = r_52_6; goto l_join_qq; }
     u8 r_5t = std_alloc_vec_Vec_grow_amortized_e6560bd0eee8a70a(r_o8);
@@ -2558,12 +2464,12 @@ l_arm_gs:;
 l_join_qq:;
     st64((ldp(r_o8) + (i64)((u64)(r_au << 3ull))), ((u64)(indvars_su << 32ull) | r_u3));
     st64(r_lg, (r_au + 1ull));
-l_arm_n2:;
+l_arm_lq:;
     mv16(r_x5, slot_1);
     mv16(r_89, slot_2);
     st64(slot_3, r_eg);
     st64(r_lk, r_qw);
-    st32(r_c4_2, uadd_sat32((u32)indvars_su, r_5k));
+    st32(r_c4_2, (r_5k + (u32)indvars_su));
     st32(r_bk, 0u);
     st32(r_6c, r_5k_1);
     r_9b = capnp_show_show_json_write_pointed_value_5ccc1be374b2e488(slot_3, r_ra, a_5);
@@ -2954,7 +2860,7 @@ l_arm_df:;
     mv16(r_x5, slot_1);
     st64(r_lk, r_qw);
     mv16(r_89, slot_2);
-    st32(r_c4, uadd_sat32((r_68 * (u32)indvars_su), r_5k));
+    st32(r_c4, ((r_68 * (u32)indvars_su) + r_5k));
     st32(r_bk, 0u);
     st32(r_6c, r_5k_1);
     r_v0 = capnp_show_show_json_write_sections_5ccc1be374b2e488(slot_3, a_2, a_3, a_5, a_6);
@@ -3385,7 +3291,7 @@ l_capnp_98:;
 l_capnp_d8:;
     capnp_messages_messages_path_read_part_9d3526b9b0726c59(slot_4, a_8, a_6, a_7, r_6c);
     r_r5 = ld8((slot_4 + 8));
-    if (!(ld8(slot_4) == 0u)) goto l_switch_1y;
+    if (!(ld8(slot_4) == 0u)) goto l_switch_82;
     r_r5_1 = ld8((slot_4 + 16));
     if (!(r_r5 == 0u)) goto l_arm_h8;
     u32 r_z4 = ld32((slot_4 + 72));
@@ -3412,7 +3318,7 @@ l_arm_h8:;
     st32((slot_2 + 24), r_z4_1);
     st32((slot_2 + 28), r_uq);
     capnp_show_show_lines_Lines_write_struct(slot_6, slot_2, r_xv, r_f4);
-    if (!(ld8(r_gt) == 0u)) goto l_capnp_o6;
+    if (!(ld8(r_gt) == 0u)) goto l_capnp_hr;
     r_52_10 = ld64(r_x5);
     if (r_52_10 > 0x3ffffbfull) { r_fe_1 = 0u; r_4z_1 = 1u; goto l_capnp_x2_1; }
     r_zd_4 = (slot_6 + 16);
@@ -3433,19 +3339,19 @@ l_join_1m_1:;
 l_capnp_x2_1:;
     st8(r_gt, r_4z_1);
     st8((slot_6 + 26), r_fe_1);
-l_capnp_o6:;
+l_capnp_hr:;
     st64(slot_3, (u64)r_r5_1);
     mv16((slot_3 + 8), (slot_4 + 24));
     st64((slot_3 + 24), r_38);
     mv16((slot_3 + 32), r_c4_4);
-    st32((slot_3 + 48), uadd_sat32((u32)r_xv, r_z4_1));
+    st32((slot_3 + 48), (r_z4_1 + (u32)r_xv));
     st32((slot_3 + 52), 0u);
     st32(t_6c, r_z4_2);
     capnp_show_show_lines_show_pointers_5ccc1be374b2e488(slot_3, (u32)r_f4, 0u, r_yf_1, slot_6);
     goto l_capnp_m3;
-l_switch_1y:;
-    u64 switch_xq = ld64((((u8 *)switch_table_capnp_canon_inputs_report_refusal_52) + (i64)(8 * (u64)r_r5)));
-    u8 *switch_mb = ldp((((u8 *)switch_table_capnp_canon_inputs_report_refusal_51) + (i64)(8 * (u64)r_r5)));
+l_switch_82:;
+    u64 switch_xq = ld64((((u8 *)switch_table_capnp_canon_inputs_report_refusal_51) + (i64)(8 * (u64)r_r5)));
+    u8 *switch_mb = ldp((((u8 *)switch_table_capnp_canon_inputs_report_refusal_50) + (i64)(8 * (u64)r_r5)));
     capnp_show_show_lines_Lines_write_path(slot_6);
     capnp_show_show_lines_Lines_write_refusal(slot_6, switch_mb, switch_xq);
 l_capnp_m3:;
@@ -3532,19 +3438,18 @@ static void capnp_show_show_lines_show_pointer_5ccc1be374b2e488(u8 *a_1, u32 a_2
     A(8) u8 slot_2[64];
     A(8) u8 slot_3[64];
     A(8) u8 slot_4[64];
-    A(8) u8 slot_5[16];
-    A(8) u8 slot_6[56];
-    A(8) u8 slot_7[64];
+    u8 r_dh;
     u64 r_eg;
-    u64 r_qw;
     u8 *r_rv;
+    u64 r_qw;
     u64 r_qw_1;
+    u8 *r_rv_1;
+    u64 r_qw_2;
     u32 r_5k;
     u32 r_5k_1;
-    u32 r_5k_2;
     u8 *r_yf;
     u64 r_24;
-    u64 r_qw_2;
+    u64 r_qw_3;
     u8 *r_q6;
     u8 r_dd;
     u8 *r_rq;
@@ -3571,20 +3476,62 @@ static void capnp_show_show_lines_show_pointer_5ccc1be374b2e488(u8 *a_1, u32 a_2
     u8 r_fo;
     u8 r_go;
     u8 *r_q6_1;
-    u8 r_r5;
-    u32 r_uq;
-    u64 r_38;
-    u8 *r_xw;
-    u64 r_38_1;
-    u32 r_z4;
-    u32 r_uq_1;
-    u32 r_z4_1;
-    u32 r_uq_2;
-    u32 r_98;
-    u32 r_5d;
-    u16 r_gr;
-    u8 *r_rq_2;
+    u8 *r_r2;
+    u64 r_24_1;
+    u64 r_gw;
+    u64 r_qw_4;
+    u8 t_pa;
+    u64 r_lc;
+    u64 r_nb;
+    u64 r_yz;
+    u32 r_nz;
+    u32 r_tc;
+    u64 r_l8;
+    u64 r_3g;
+    u64 r_n9;
+    u8 *r_8d;
+    u64 r_ep;
+    u64 r_y6;
+    u64 r_lc_1;
+    u8 *r_h6;
     u64 r_52_4;
+    u8 switch_wl;
+    u64 r_ij;
+    u64 r_c4_2;
+    u64 r_24_2;
+    u64 r_gw_1;
+    u8 *r_h6_1;
+    u64 r_52_5;
+    u64 r_eh;
+    u32 t_c8;
+    u64 r_ep_1;
+    u64 r_y6_1;
+    u32 r_12;
+    u32 r_az;
+    u32 r_68;
+    u64 r_c0;
+    u8 *r_h6_2;
+    u64 r_52_6;
+    u32 r_ll;
+    u32 r_29;
+    u16 r_py_1;
+    u16 r_pz_1;
+    u64 r_c0_1;
+    u32 r_12_1;
+    u8 *r_h6_3;
+    u64 r_52_7;
+    u8 *r_h6_4;
+    u64 r_52_8;
+    u64 r_qs;
+    u64 r_c6;
+    u8 *r_h6_5;
+    u64 r_52_9;
+    u64 r_2g_1;
+    u64 r_ef;
+    u64 r_ep_2;
+    u16 r_s5;
+    u8 *r_rq_2;
+    u64 r_52_10;
     u8 *r_08_2;
     u64 r_af;
     u64 r_rf;
@@ -3594,9 +3541,8 @@ static void capnp_show_show_lines_show_pointer_5ccc1be374b2e488(u8 *a_1, u32 a_2
     u64 r_ol;
     u8 r_1e_1;
     u8 r_6i_1;
-    u64 r_24_1;
     u8 *r_rq_3;
-    u64 r_52_6;
+    u64 r_52_12;
     u8 *r_08_3;
     u64 r_yi;
     u64 r_xi;
@@ -3606,49 +3552,50 @@ static void capnp_show_show_lines_show_pointer_5ccc1be374b2e488(u8 *a_1, u32 a_2
     u64 r_he;
     u8 r_e7;
     struct s_i8_i8 r_o6;
-    u8 r_ne;
-    u64 switch_xq;
-    u8 *switch_mb;
-    u64 r_24_2;
+    u8 r_ah;
+    u64 r_2b_4;
+    u8 *r_2o;
+    u32 r_4b;
+    u32 r_12_2;
     u8 *r_rq_4;
-    u64 r_52_8;
+    u64 r_52_14;
     u8 *r_08_4;
-    u64 r_7n;
-    u64 r_71;
-    u64 r_km;
+    u64 r_bu;
+    u64 r_tk;
+    u64 r_5q;
     u8 *r_fx_4;
-    u8 *r_2b_4;
-    u64 r_qx;
+    u8 *r_2b_5;
+    u64 r_il;
     u8 r_e7_1;
     struct s_i8_i8 r_o6_1;
-    u8 r_kp_1;
+    u8 r_kp;
     u8 *r_i8;
-    u64 r_52_10;
+    u64 r_52_16;
     u8 *r_08_5;
     u64 r_8e;
     u64 r_ue;
     u64 r_hc;
     u8 *r_fx_5;
-    u8 *r_2b_5;
+    u8 *r_2b_6;
     u64 r_e1;
     u8 r_i7;
     u8 r_w0;
     u8 *r_ud;
     u64 a_5j;
     u8 *r_rq_5;
-    u64 r_52_13;
+    u64 r_52_19;
     u8 *r_08_6;
-    u64 r_c0;
+    u64 r_c0_2;
     u64 r_54;
     u64 r_x4;
     u8 *r_fx_6;
-    u8 *r_2b_6;
+    u8 *r_2b_7;
     u64 r_y8;
     u8 r_1e_2;
     u8 r_6i_2;
     u64 r_qd;
-    u8 *r_xw_1;
-    u64 r_38_2;
+    u8 *r_xw;
+    u64 r_38_1;
     u8 r_ux;
     u64 r_dq;
     u8 r_47;
@@ -3657,19 +3604,19 @@ static void capnp_show_show_lines_show_pointer_5ccc1be374b2e488(u8 *a_1, u32 a_2
     u64 r_56;
     u8 *r_i8_1;
     u8 *r_rq_6;
-    u64 r_52_15;
+    u64 r_52_21;
     u8 *r_08_7;
     u64 r_y1_1;
-    u64 r_pz_1;
+    u64 r_pz_2;
     u64 r_5b_1;
     u8 *r_fx_7;
-    u8 *r_2b_7;
+    u8 *r_2b_8;
     u64 r_51;
     u8 r_i7_1;
     u8 r_w0_1;
     u8 r_26;
     u8 *r_rq_7;
-    u64 r_52_17;
+    u64 r_52_23;
     u8 *r_08_8;
     u64 r_20;
     u64 r_j8;
@@ -3678,14 +3625,14 @@ static void capnp_show_show_lines_show_pointer_5ccc1be374b2e488(u8 *a_1, u32 a_2
     u8 *r_rq_8;
     u8 *r_08_9;
     u8 *r_x9;
-    u64 r_tc;
+    u64 r_tc_1;
     u64 a_3q;
     u64 r_pt;
     u64 r_yb;
-    u64 r_52_19;
-    u64 r_kp_3;
+    u64 r_52_25;
+    u64 r_kp_2;
     u64 r_ai;
-    u64 r_5q;
+    u64 r_5q_1;
     u8 *r_fx_9;
     u8 *r_i8_2;
     u8 r_tz;
@@ -3694,7 +3641,7 @@ static void capnp_show_show_lines_show_pointer_5ccc1be374b2e488(u8 *a_1, u32 a_2
     u64 r_bp;
     u8 r_ws;
     u8 r_ak;
-    u64 r_gw;
+    u64 r_gw_2;
     u8 *r_rq_9;
     u8 *r_08_10;
     u8 *r_i8_3;
@@ -3706,74 +3653,79 @@ static void capnp_show_show_lines_show_pointer_5ccc1be374b2e488(u8 *a_1, u32 a_2
     u32 r_st;
     u64 r_24_3;
     u64 r_de;
-    u64 r_zg;
-    u64 r_52_21;
-    u64 r_4b;
+    u64 r_zg_1;
+    u64 r_52_27;
+    u64 r_4b_1;
     u64 r_19;
     u64 r_qh;
     u8 *r_fx_10;
-    u8 *r_2b_8;
+    u8 *r_2b_9;
     u64 r_es;
     u8 r_e7_2;
     struct s_i8_i8 r_su;
     u8 r_9o;
-    u64 r_52_23;
+    u64 r_52_29;
     u64 r_20_1;
     u64 r_j8_1;
     u8 r_ws_1;
     u8 r_ak_1;
-    u64 r_24_4;
     u8 *r_rq_10;
-    u64 r_52_25;
+    u64 r_52_31;
     u8 *r_08_11;
     u64 r_kz;
     u64 r_wh;
     u64 r_ob;
     u8 *r_fx_12;
-    u8 *r_2b_9;
+    u8 *r_2b_10;
     u64 r_di;
     u8 r_e7_3;
     struct s_i8_i8 r_o6_2;
-    u8 r_kp_5;
+    u8 r_kp_4;
     u8 *r_i8_4;
-    u64 r_52_27;
+    u64 r_52_33;
     u8 *r_08_12;
     u64 r_8e_1;
     u64 r_ue_1;
     u64 r_hc_1;
     u8 *r_fx_13;
-    u8 *r_2b_10;
+    u8 *r_2b_11;
     u64 r_e1_1;
     u8 r_i7_2;
     u8 r_w0_2;
-    u16 r_pz_2;
-    u64 r_24_5;
     u8 *r_rq_11;
-    u64 r_52_30;
+    u64 r_52_36;
     u8 *r_08_13;
     u64 r_wv;
     u64 r_9w;
     u64 r_wr;
     u8 *r_fx_14;
-    u8 *r_2b_11;
+    u8 *r_2b_12;
     u64 r_c2;
     u8 r_e7_4;
     struct s_i8_i8 r_o6_3;
-    u8 r_kp_6;
+    u8 r_kp_5;
     u8 *r_i8_5;
-    u64 r_52_32;
+    u64 r_52_38;
     u8 *r_08_14;
     u64 r_8e_2;
     u64 r_ue_2;
     u64 r_hc_2;
     u8 *r_fx_15;
-    u8 *r_2b_12;
+    u8 *r_2b_13;
     u64 r_e1_2;
     u8 r_i7_3;
     u8 r_w0_3;
-    u8 r_lr;
-    u64 r_w8;
+    u16 r_zg;
+    u8 r_co;
+    u32 r_e0;
+    u32 r_sq;
+    u32 r_ls;
+    u32 r_7q;
+    u64 r_6l;
+    u8 *r_u9;
+    u64 r_fk;
     u8 *r_rq_12;
+    u64 r_52_41;
     u8 *r_08_15;
     u64 r_w4;
     u64 r_61;
@@ -3781,8 +3733,9 @@ static void capnp_show_show_lines_show_pointer_5ccc1be374b2e488(u8 *a_1, u32 a_2
     u8 r_go_1;
     u16 r_t8;
     u32 r_mx;
-    u32 r_az;
-    u32 r_68;
+    u32 r_az_1;
+    u32 r_00;
+    u32 r_68_1;
     u8 *r_x5;
     u8 *r_zd;
     u8 *r_lk_1;
@@ -3794,44 +3747,47 @@ static void capnp_show_show_lines_show_pointer_5ccc1be374b2e488(u8 *a_1, u32 a_2
     u8 *r_rq_13;
     u8 *r_08_16;
     u8 *r_x5_1;
+    u8 *r_zd_1;
     u8 *r_lk_2;
     u8 *r_89;
     u8 *r_a8;
-    u8 *r_c4_15;
+    u8 *r_c4_16;
     u8 *r_bk;
     u8 *r_6c;
     u64 wide_v1_1;
-    u64 indvars_lc;
-    u32 t_ql;
+    u64 indvars_e9;
+    u32 r_zy;
     u64 r_mh;
     u8 sink_ku;
-    u64 r_52_37;
+    u64 r_52_44;
     u64 r_w4_1;
     u64 r_61_1;
     u8 r_i7_4;
     u8 r_w0_4;
-    u64 r_52_39;
-    r_eg = (u64)ld8(a_1);
-    mv16(slot_5, away(a_1, 8ull));
-    r_qw = ld64(away(a_1, 24ull));
-    r_rv = ldp(away(a_1, 32ull));
-    r_qw_1 = ld64(away(a_1, 40ull));
+    u64 r_52_46;
+    u64 r_50;
+    u64 r_k2;
+    u8 *r_os;
+    r_dh = ld8(a_1);
+    r_eg = (u64)r_dh;
+    r_rv = ldp(away(a_1, 8ull));
+    r_qw = ld64(away(a_1, 16ull));
+    r_qw_1 = ld64(away(a_1, 24ull));
+    r_rv_1 = ldp(away(a_1, 32ull));
+    r_qw_2 = ld64(away(a_1, 40ull));
     r_5k = ld32(away(a_1, 48ull));
-    r_5k_1 = ld32(away(a_1, 52ull));
-    r_5k_2 = ld32(away(a_1, 56ull));
-    memset(slot_6, 0u, 56);
-    st64((slot_7 + 56), 0ull);
+    r_5k_1 = ld32(away(a_1, 56ull));
     capnp_show_show_lines_Lines_write_path(a_3);
     r_yf = away(a_3, 80ull);
     if (!(u8)(ld8(r_yf) & 1)) goto l_capnp_mn;
-    capnp_show_show_lines_Lines_write_place(a_3, r_qw, r_5k);
+    capnp_show_show_lines_Lines_write_place(a_3, r_qw_1, r_5k);
     r_24 = (u64)r_5k;
-    if (!((u64)(r_qw_1 >> 3ull) > r_24)) goto l_capnp_mn;
-    r_qw_2 = ld64(away(r_rv, (u64)(r_24 << 3ull)));
-    if (!((r_qw_2 & 3ull) == 2ull)) goto l_capnp_mn;
+    if (!((u64)(r_qw_2 >> 3ull) > r_24)) goto l_capnp_mn;
+    r_qw_3 = ld64(away(r_rv_1, (u64)(r_24 << 3ull)));
+    if (!((r_qw_3 & 3ull) == 2ull)) goto l_capnp_mn;
     r_q6 = away(a_3, 25ull);
     r_dd = ld8(r_q6);
-    if ((r_qw_2 & 4ull) == 0ull) { r_lk = r_dd; goto l_join_pz; }
+    if ((r_qw_3 & 4ull) == 0ull) { r_lk = r_dd; goto l_join_pz; }
     if (!(r_dd == 0u)) goto l_capnp_0q;
     r_rq = away(a_3, 8ull);
     r_52 = ld64(r_rq);
@@ -3897,53 +3853,235 @@ l_capnp_1e:;
     st8(r_q6, r_go);
     st8(away(a_3, 26ull), r_fo);
 l_capnp_0q:;
-    capnp_show_show_lines_Lines_write_place(a_3, (u64)(r_qw_2 >> 32ull), (u32)((u32)r_qw_2 >> 3u));
+    capnp_show_show_lines_Lines_write_place(a_3, (u64)(r_qw_3 >> 32ull), (u32)((u32)r_qw_3 >> 3u));
 l_capnp_mn:;
     r_q6_1 = away(a_3, 25ull);
-    if (!(u8)(ld8(r_q6_1) & 1)) goto l_join_cw;
+    if (!(u8)(ld8(r_q6_1) & 1)) goto l_join_b0;
 l_common_68:;
     return;
-l_join_cw:;
-    st64(slot_7, r_eg);
-    mv16((slot_7 + 8), slot_5);
-    st64((slot_7 + 24), r_qw);
-    stp((slot_7 + 32), r_rv);
-    st64((slot_7 + 40), r_qw_1);
-    st32((slot_7 + 48), r_5k);
-    st32((slot_7 + 52), r_5k_1);
-    st32((slot_7 + 56), r_5k_2);
-    capnp_show_show_objects_read_object_5ccc1be374b2e488(slot_6, slot_7, away(a_3, 56ull));
-    r_r5 = ld8((slot_6 + 8));
-    if (!(ld8(slot_6) == 0u)) goto l_switch_1y;
-    r_uq = ld32((slot_6 + 12));
-    r_38 = ld64((slot_6 + 16));
-    r_xw = ldp((slot_6 + 24));
-    r_38_1 = ld64((slot_6 + 32));
-    r_z4 = ld32((slot_6 + 40));
-    r_uq_1 = ld32((slot_6 + 44));
-    r_z4_1 = ld32((slot_6 + 48));
-    r_uq_2 = ld32((slot_6 + 52));
-    r_98 = (u32)(r_z4_1 >> 8u);
-    r_5d = (u32)(r_z4_1 >> 16u);
-    r_gr = (u16)r_5d;
-    memset(slot_2, 0u, 32);
-    switch (r_r5) {
-    case 0u: goto l_arm_x3;
-    case 1u: goto l_arm_og;
-    case 3u: goto l_arm_d0;
-    case 2u: goto l_arm_p0;
-    case 4u: goto l_arm_og_1;
-    case 5u: goto l_arm_0h;
-    default: goto l_noarm_e1;
+l_join_b0:;
+    r_r2 = away(a_3, 56ull);
+    r_24_1 = (u64)r_5k;
+    r_gw = (u64)(r_qw_2 >> 3ull);
+    if (!(r_gw > r_24_1)) goto l_then_1y;
+    r_qw_4 = ld64(away(r_rv_1, (u64)(r_24_1 << 3ull)));
+    if (r_qw_4 == 0ull) goto l_then_1y;
+    memset(slot_1, 0u, 56);
+    t_pa = (r_dh != 0u);
+    if (t_pa) goto l_capnp_sm;
+    u8 *r_2g = away(a_3, 72ull);
+    st64(r_2g, uadd_sat64(ld64(r_2g), 1ull));
+    if ((r_qw_4 & 3ull) == 2ull) goto l_capnp_h9;
+    goto l_join_bd;
+l_capnp_sm:;
+    if (!((r_qw_4 & 3ull) == 2ull)) goto l_join_bd;
+    st32((slot_1 + 8), 32u);
+    r_2g_1 = ld64((slot_1 + 8));
+    goto l_capnp_8g;
+l_join_bd:;
+    u64 r_m6 = ((u64)(r_qw_4 >> 2ull) & 0x3fffffffull);
+    r_lc = ((r_24_1 + 1ull) + r_m6);
+    r_nb = (r_gw & 0xffffffffull);
+    if (!(r_m6 < 0x20000000ull)) goto l_else_70;
+    if (r_lc > r_nb) { r_2g_1 = 23ull; goto l_capnp_8g; }
+    r_yz = r_lc;
+    goto l_capnp_i5;
+l_else_70:;
+    u64 r_3o = (r_lc + 0xffffffffc0000000ull);
+    if ((r_lc < 0x40000000ull) ? 1u : (r_3o > r_nb)) { r_2g_1 = 23ull; goto l_capnp_8g; }
+    r_yz = r_3o;
+l_capnp_i5:;
+    r_nz = 0u;
+    r_tc = (u32)r_yz;
+    r_l8 = r_qw_1;
+    r_3g = r_qw_4;
+    r_n9 = r_qw_2;
+    r_8d = r_rv_1;
+    goto l_arm_s6;
+l_capnp_h9:;
+    capnp_pointers_source_follow_far_5ccc1be374b2e488(slot_1, r_rv, r_qw_4, r_r2);
+    u64 r_38 = ld64((slot_1 + 8));
+    if (ld8(slot_1) == 0u) { r_nz = ld32((slot_1 + 44)); r_tc = ld32((slot_1 + 40)); r_l8 = ld64((slot_1 + 16)); r_3g = r_38; r_n9 = ld64((slot_1 + 32)); r_8d = ((u8 *)(uptr)ld64((slot_1 + 24))); goto l_arm_s6; }
+    r_ef = r_38;
+    goto l_capnp_68;
+l_arm_s6:;
+    switch ((u8)((u8)r_3g & 3u)) {
+    case 0u: goto l_arm_xn;
+    case 1u: goto l_arm_z2;
+    case 2u: { r_k2 = 25ull; r_os = ((u8 *)g_static_146); goto l_capnp_ew; }
+    case 3u: goto l_capnp_tl;
+    default: goto l_default_e1;
     }
-l_arm_x3:;
-    if (!(ld8(r_q6_1) == 0u)) goto l_capnp_qm;
+l_arm_xn:;
+    r_ep = (u64)(r_3g >> 32ull);
+    r_y6 = (u64)(r_3g >> 48ull);
+    if ((i32)r_5k_1 < (i32)1u) { r_k2 = 40ull; r_os = ((u8 *)g_static_159); goto l_capnp_ew; }
+    r_lc_1 = ((r_ep & 65535ull) + r_y6);
+    if (((u64)(r_n9 >> 3ull) & 0xffffffffull) < (r_lc_1 + (u64)r_tc)) { r_k2 = 33ull; r_os = ((u8 *)g_static_156); goto l_capnp_ew; }
+    if (t_pa) goto l_arm_mf;
+    if (!(ld8(r_r2) == 1u)) goto l_arm_mf;
+    r_h6 = away(a_3, 64ull);
+    r_52_4 = ld64(r_h6);
+    if (r_52_4 < r_lc_1) { r_k2 = 17ull; r_os = ((u8 *)g_static_163); goto l_capnp_ew; }
+    st64(r_r2, 1ull);
+    st64(r_h6, (r_52_4 - r_lc_1));
+l_arm_mf:;
+    u16 r_py = (u16)r_y6;
+    st64(slot_2, r_l8);
+    stp((slot_2 + 8), r_8d);
+    st64((slot_2 + 16), r_n9);
+    st32((slot_2 + 24), r_tc);
+    st32((slot_2 + 28), r_nz);
+    capnp_show_show_lines_Lines_write_struct(a_3, slot_2, (u16)((u16)((u16)r_ep & 65280u) | (u16)((u16)r_ep & 255u)), r_py);
+    r_zg = r_py;
+    r_co = 2u;
+    r_e0 = r_nz;
+    r_sq = ((u32)((u32)r_y6 << 16u) | ((u32)r_ep & 65535u));
+    r_ls = 0u;
+    r_7q = r_tc;
+    r_6l = r_n9;
+    r_u9 = r_8d;
+    r_fk = r_l8;
+    goto l_join_x3;
+l_arm_z2:;
+    switch_wl = (u8)((u8)(u64)(r_3g >> 32ull) & 7u);
+    r_ij = (u64)(r_3g >> 35ull);
+    switch (switch_wl) {
+    case 7u: goto l_arm_xd;
+    case 6u: goto l_arm_te;
+    case 0u: goto l_arm_xd_1;
+    case 5u: goto l_arm_h9;
+    case 4u: goto l_arm_h9_1;
+    case 3u: goto l_arm_h9_2;
+    case 1u: { r_qs = 1ull; goto l_capnp_xd; }
+    case 2u: goto l_arm_h9_3;
+    default: goto l_default_e1;
+    }
+l_arm_xd:;
+    if ((i32)r_5k_1 < (i32)1u) { r_k2 = 40ull; r_os = ((u8 *)g_static_159); goto l_capnp_ew; }
+    r_c4_2 = (r_ij + 1ull);
+    r_24_2 = (u64)r_tc;
+    r_gw_1 = (u64)(r_n9 >> 3ull);
+    if ((r_gw_1 & 0xffffffffull) < (r_c4_2 + r_24_2)) { r_k2 = 33ull; r_os = ((u8 *)g_static_156); goto l_capnp_ew; }
+    if (t_pa) goto l_arm_ga;
+    if (!(ld8(r_r2) == 1u)) goto l_arm_ga;
+    r_h6_1 = away(a_3, 64ull);
+    r_52_5 = ld64(r_h6_1);
+    if (!(r_52_5 > r_ij)) { r_k2 = 17ull; r_os = ((u8 *)g_static_163); goto l_capnp_ew; }
+    st64(r_r2, 1ull);
+    st64(r_h6_1, (r_52_5 - r_c4_2));
+l_arm_ga:;
+    if (!(r_gw_1 > r_24_2)) { r_eh = 0ull; goto l_join_qm; }
+    u64 r_qw_5 = ld64(away(r_8d, (u64)(r_24_2 << 3ull)));
+    if ((r_qw_5 & 3ull) == 0ull) { r_eh = r_qw_5; goto l_join_qm; }
+    r_k2 = 50ull;
+    r_os = ((u8 *)g_static_144);
+    goto l_capnp_ew;
+l_join_qm:;
+    t_c8 = (u32)((u32)r_eh >> 2u);
+    r_ep_1 = (u64)(r_eh >> 32ull);
+    r_y6_1 = (u64)(r_eh >> 48ull);
+    r_12 = (u32)r_y6_1;
+    r_az = ((u32)r_ep_1 & 65535u);
+    r_68 = (r_az + r_12);
+    r_c0 = (u64)t_c8;
+    if (r_ij < ((u64)r_68 * r_c0)) { r_k2 = 47ull; r_os = ((u8 *)g_static_143); goto l_capnp_ew; }
+    if ((u8)((u8)t_pa | (u8)(r_68 != 0u))) goto l_arm_8e;
+    if (!(ld8(r_r2) == 1u)) goto l_arm_8e;
+    r_h6_2 = away(a_3, 64ull);
+    r_52_6 = ld64(r_h6_2);
+    if (r_52_6 < r_c0) { r_k2 = 17ull; r_os = ((u8 *)g_static_163); goto l_capnp_ew; }
+    st64(r_r2, 1ull);
+    st64(r_h6_2, (r_52_6 - r_c0));
+l_arm_8e:;
+    r_ll = (r_tc + 1u);
+    r_29 = ((u32)(r_12 << 16u) | r_az);
+    r_py_1 = (u16)r_y6_1;
+    r_pz_1 = (u16)((u16)((u16)r_ep_1 & 65280u) | (u16)((u16)r_ep_1 & 255u));
+    r_c0_1 = (u64)t_c8;
+    if (ld8(r_q6_1) == 0u) goto l_then_q3;
+    goto l_capnp_uq;
+l_arm_te:;
+    r_12_1 = (u32)r_ij;
+    if ((i32)r_5k_1 < (i32)1u) { r_k2 = 40ull; r_os = ((u8 *)g_static_159); goto l_capnp_ew; }
+    if (((u64)(r_n9 >> 3ull) & 0xffffffffull) < (r_ij + (u64)r_tc)) { r_k2 = 33ull; r_os = ((u8 *)g_static_156); goto l_capnp_ew; }
+    if (t_pa) goto l_arm_tt;
+    if (!(ld8(r_r2) == 1u)) goto l_arm_tt;
+    r_h6_3 = away(a_3, 64ull);
+    r_52_7 = ld64(r_h6_3);
+    if (r_52_7 < r_ij) { r_k2 = 17ull; r_os = ((u8 *)g_static_163); goto l_capnp_ew; }
+    st64(r_r2, 1ull);
+    st64(r_h6_3, (r_52_7 - r_ij));
+    goto l_arm_tt;
+l_arm_xd_1:;
+    if ((i32)r_5k_1 < (i32)1u) { r_k2 = 40ull; r_os = ((u8 *)g_static_159); goto l_capnp_ew; }
+    if (((u64)(r_n9 >> 3ull) & 0xffffffffull) < (u64)r_tc) { r_k2 = 33ull; r_os = ((u8 *)g_static_156); goto l_capnp_ew; }
+    if (t_pa) goto l_arm_bj;
+    if (!(ld8(r_r2) == 1u)) goto l_arm_bj;
+    st64(r_r2, 1ull);
+    r_h6_4 = away(a_3, 64ull);
+    r_52_8 = ld64(r_h6_4);
+    if (r_52_8 < r_ij) { r_k2 = 17ull; r_os = ((u8 *)g_static_163); goto l_capnp_ew; }
+    st64(r_h6_4, (r_52_8 - r_ij));
+    goto l_arm_bj;
+l_arm_h9_3:;
+    r_qs = 8ull;
+    goto l_capnp_xd;
+l_arm_h9_2:;
+    r_qs = 16ull;
+    goto l_capnp_xd;
+l_arm_h9_1:;
+    r_qs = 32ull;
+    goto l_capnp_xd;
+l_arm_h9:;
+    r_qs = 64ull;
+l_capnp_xd:;
+    if ((i32)r_5k_1 < (i32)1u) { r_k2 = 40ull; r_os = ((u8 *)g_static_159); goto l_capnp_ew; }
+    r_c6 = (u64)(((r_qs * r_ij) + 63ull) >> 6ull);
+    if (((u64)(r_n9 >> 3ull) & 0xffffffffull) < (r_c6 + (u64)r_tc)) { r_k2 = 33ull; r_os = ((u8 *)g_static_156); goto l_capnp_ew; }
+    if (t_pa) goto l_arm_6p;
+    if (!(ld8(r_r2) == 1u)) goto l_arm_6p;
+    r_h6_5 = away(a_3, 64ull);
+    r_52_9 = ld64(r_h6_5);
+    if (r_52_9 < r_c6) { r_k2 = 17ull; r_os = ((u8 *)g_static_163); goto l_capnp_ew; }
+    st64(r_r2, 1ull);
+    st64(r_h6_5, (r_52_9 - r_c6));
+    goto l_arm_6p;
+l_default_e1:;
+    UNREACHABLE();
+l_capnp_8g:;
+    r_ef = r_2g_1;
+l_capnp_68:;
+    r_50 = (r_ef & 255ull);
+    goto l_switch_44;
+l_capnp_tl:;
+    r_ep_2 = (u64)(r_3g >> 32ull);
+    if ((r_3g & 0xffffffffull) == 3ull) goto l_arm_s6_1;
+    r_50 = 34ull;
+    goto l_switch_44;
+l_arm_tt:;
+    r_s5 = (u16)(u64)(r_3g >> 51ull);
+    if (ld8(r_q6_1) == 0u) goto l_then_23;
+    goto l_capnp_0l;
+l_arm_s6_1:;
+    if (ld8(r_q6_1) == 0u) goto l_then_ae;
+    r_zg = 0u;
+    r_co = 1u;
+    r_e0 = 0u;
+    r_sq = 0u;
+    r_ls = 0u;
+    r_7q = 0u;
+    r_6l = 0ull;
+    r_u9 = ((u8 *)0);
+    r_fk = 0ull;
+    goto l_join_x3;
+l_then_1y:;
     r_rq_2 = away(a_3, 8ull);
-    r_52_4 = ld64(r_rq_2);
-    if (r_52_4 > 0x3ffffbbull) { r_1e_1 = 0u; r_6i_1 = 1u; goto l_capnp_vj_1; }
+    r_52_10 = ld64(r_rq_2);
+    if (r_52_10 > 0x3ffffbbull) { r_1e_1 = 0u; r_6i_1 = 1u; goto l_capnp_vj_1; }
     r_08_2 = away(a_3, 16ull);
-    u64 r_52_5 = ld64(r_08_2);
-    if (!((r_52_5 - r_52_4) < 5ull)) { r_af = r_52_5; r_rf = r_52_4; goto l_join_a9; }
+    u64 r_52_11 = ld64(r_08_2);
+    if (!((r_52_11 - r_52_10) < 5ull)) { r_af = r_52_11; r_rf = r_52_10; goto l_join_a9; }
     u8 r_6h = std_alloc_vec_Vec_grow_amortized_9634afabedddd7ee(a_3, 5ull);
     if (!r_6h) { r_1e_1 = 1u; r_6i_1 = 1u; goto l_capnp_vj_1; }
     r_af = ld64(r_08_2);
@@ -3957,8 +4095,8 @@ l_join_a9:;
     goto l_core_ga_2;
 l_join_4h:;
     st8((r_2b_2 + (i64)(r_ol)), ld8((((u8 *)g_static_271) + (i64)(r_ol))));
-    u64 r_c4_2 = (r_ol + 1ull);
-    if (!(r_c4_2 == 5ull)) { r_ol = r_c4_2; goto l_join_4h; }
+    u64 r_c4_3 = (r_ol + 1ull);
+    if (!(r_c4_3 == 5ull)) { r_ol = r_c4_3; goto l_join_4h; }
 l_core_ga_2:;
     stp(a_3, r_fx_2);
     st64(r_rq_2, r_pk);
@@ -3968,17 +4106,23 @@ l_core_ga_2:;
 l_capnp_vj_1:;
     st8(r_q6_1, r_6i_1);
     st8(away(a_3, 26ull), r_1e_1);
-    r_lr = r_6i_1;
-    goto l_join_ed;
-l_arm_og:;
-    r_24_1 = (u64)r_uq;
-    if (!(ld8(r_q6_1) == 0u)) goto l_capnp_qm;
+    r_zg = 0u;
+    r_co = 0u;
+    r_e0 = 0u;
+    r_sq = 0u;
+    r_ls = 0u;
+    r_7q = 0u;
+    r_6l = 0ull;
+    r_u9 = ((u8 *)0);
+    r_fk = 0ull;
+    goto l_join_x3;
+l_then_ae:;
     r_rq_3 = away(a_3, 8ull);
-    r_52_6 = ld64(r_rq_3);
-    if (r_52_6 > 0x3ffffb4ull) { r_e7 = 0u; goto l_arm_n5; }
+    r_52_12 = ld64(r_rq_3);
+    if (r_52_12 > 0x3ffffb4ull) { r_e7 = 0u; goto l_arm_n5; }
     r_08_3 = away(a_3, 16ull);
-    u64 r_52_7 = ld64(r_08_3);
-    if (!((r_52_7 - r_52_6) < 12ull)) { r_yi = r_52_7; r_xi = r_52_6; goto l_join_4b; }
+    u64 r_52_13 = ld64(r_08_3);
+    if (!((r_52_13 - r_52_12) < 12ull)) { r_yi = r_52_13; r_xi = r_52_12; goto l_join_4b; }
     u8 r_ul = std_alloc_vec_Vec_grow_amortized_9634afabedddd7ee(a_3, 12ull);
     if (!r_ul) { r_e7 = 1u; goto l_arm_n5; }
     r_yi = ld64(r_08_3);
@@ -3992,13 +4136,13 @@ l_join_4b:;
     goto l_arm_na;
 l_join_zx:;
     st8((r_2b_3 + (i64)(r_he)), ld8((((u8 *)g_static_272) + (i64)(r_he))));
-    u64 r_c4_3 = (r_he + 1ull);
-    if (!(r_c4_3 == 12ull)) { r_he = r_c4_3; goto l_join_zx; }
+    u64 r_c4_4 = (r_he + 1ull);
+    if (!(r_c4_4 == 12ull)) { r_he = r_c4_4; goto l_join_zx; }
 l_arm_na:;
     stp(a_3, r_fx_3);
     st64(r_rq_3, r_4y);
     st64(r_08_3, r_yi);
-    struct s_i8_i8 r_zo = capnp_show_show_text_Text_push_number(a_3, r_24_1);
+    struct s_i8_i8 r_zo = capnp_show_show_text_Text_push_number(a_3, r_ep_2);
     r_o6 = r_zo;
     goto l_capnp_rc;
 l_arm_n5:;
@@ -4006,43 +4150,60 @@ l_arm_n5:;
     t_fj.f1 = r_e7;
     r_o6 = t_fj;
 l_capnp_rc:;
-    u8 r_kp = r_o6.f0;
-    st8(r_q6_1, r_kp);
+    st8(r_q6_1, r_o6.f0);
     st8(away(a_3, 26ull), r_o6.f1);
-    r_lr = r_kp;
-    goto l_join_ed;
-l_arm_d0:;
-    r_ne = (u8)r_z4_1;
-    switch_xq = ld64((((u8 *)switch_table_capnp_show_show_lines_show_pointer_5ccc1b_c0287b34) + (i64)(8 * (u64)(r_z4_1 & 255u))));
-    switch_mb = ldp((((u8 *)switch_table_capnp_show_show_lines_show_pointer_5ccc1b_c28a2114) + (i64)(8 * (u64)(r_z4_1 & 255u))));
-    r_24_2 = (u64)r_uq_2;
-    if (!(ld8(r_q6_1) == 0u)) goto l_capnp_uq;
+    r_zg = 0u;
+    r_co = 1u;
+    r_e0 = 0u;
+    r_sq = 0u;
+    r_ls = 0u;
+    r_7q = 0u;
+    r_6l = 0ull;
+    r_u9 = ((u8 *)0);
+    r_fk = 0ull;
+    goto l_join_x3;
+l_arm_bj:;
+    memset(slot_2, 0u, 32);
+    r_ah = 0u;
+    r_2b_4 = 6ull;
+    r_2o = ((u8 *)g_static_273);
+    goto l_capnp_0k;
+l_arm_6p:;
+    memset(slot_2, 0u, 32);
+    u8 switch_w9 = (u8)(switch_wl + 255u);
+    r_ah = switch_wl;
+    r_2b_4 = ld64((((u8 *)switch_table_capnp_show_show_lines_show_pointer_5ccc1b_c0287b34) + (i64)(8 * (u64)switch_w9)));
+    r_2o = ldp((((u8 *)switch_table_capnp_show_show_lines_show_pointer_5ccc1b_ef2ab783) + (i64)(8 * (u64)switch_w9)));
+l_capnp_0k:;
+    r_4b = (u32)r_ah;
+    r_12_2 = (u32)r_ij;
+    if (!(ld8(r_q6_1) == 0u)) goto l_capnp_uq_1;
     r_rq_4 = away(a_3, 8ull);
-    r_52_8 = ld64(r_rq_4);
-    if ((r_52_8 > 0x3ffffc0ull) ? 1u : ((0x3ffffc0ull - r_52_8) < switch_xq)) { r_e7_1 = 0u; goto l_arm_n5_1; }
+    r_52_14 = ld64(r_rq_4);
+    if ((r_52_14 > 0x3ffffc0ull) ? 1u : ((0x3ffffc0ull - r_52_14) < r_2b_4)) { r_e7_1 = 0u; goto l_arm_n5_1; }
     r_08_4 = away(a_3, 16ull);
-    u64 r_52_9 = ld64(r_08_4);
-    if (!(switch_xq > (r_52_9 - r_52_8))) { r_7n = r_52_9; r_71 = r_52_8; goto l_join_am; }
-    u8 r_k1 = std_alloc_vec_Vec_grow_amortized_9634afabedddd7ee(a_3, switch_xq);
-    if (!r_k1) { r_e7_1 = 1u; goto l_arm_n5_1; }
-    r_7n = ld64(r_08_4);
-    r_71 = ld64(r_rq_4);
-l_join_am:;
-    r_km = (r_71 + switch_xq);
+    u64 r_52_15 = ld64(r_08_4);
+    if (!(r_2b_4 > (r_52_15 - r_52_14))) { r_bu = r_52_15; r_tk = r_52_14; goto l_join_pq; }
+    u8 r_9z = std_alloc_vec_Vec_grow_amortized_9634afabedddd7ee(a_3, r_2b_4);
+    if (!r_9z) { r_e7_1 = 1u; goto l_arm_n5_1; }
+    r_bu = ld64(r_08_4);
+    r_tk = ld64(r_rq_4);
+l_join_pq:;
+    r_5q = (r_tk + r_2b_4);
     r_fx_4 = ldp(a_3);
-    r_2b_4 = away(r_fx_4, r_71);
-    if (((u64)(uptr)r_2b_4 - (u64)(uptr)switch_mb) < switch_xq) { r_qx = 0ull; goto l_join_7o; }
-    memcpy_or_none(r_2b_4, switch_mb, switch_xq);
+    r_2b_5 = away(r_fx_4, r_tk);
+    if (((u64)(uptr)r_2b_5 - (u64)(uptr)r_2o) < r_2b_4) { r_il = 0ull; goto l_join_fh; }
+    memcpy_or_none(r_2b_5, r_2o, r_2b_4);
     goto l_arm_na_1;
-l_join_7o:;
-    st8((r_2b_4 + (i64)(r_qx)), ld8((switch_mb + (i64)(r_qx))));
-    u64 r_c4_4 = (r_qx + 1ull);
-    if (!(r_c4_4 == switch_xq)) { r_qx = r_c4_4; goto l_join_7o; }
+l_join_fh:;
+    st8((r_2b_5 + (i64)(r_il)), ld8((r_2o + (i64)(r_il))));
+    u64 r_c4_5 = (r_il + 1ull);
+    if (!(r_c4_5 == r_2b_4)) { r_il = r_c4_5; goto l_join_fh; }
 l_arm_na_1:;
     stp(a_3, r_fx_4);
-    st64(r_rq_4, r_km);
-    st64(r_08_4, r_7n);
-    struct s_i8_i8 r_zo_1 = capnp_show_show_text_Text_push_number(a_3, r_24_2);
+    st64(r_rq_4, r_5q);
+    st64(r_08_4, r_bu);
+    struct s_i8_i8 r_zo_1 = capnp_show_show_text_Text_push_number(a_3, r_ij);
     r_o6_1 = r_zo_1;
     goto l_capnp_rc_1;
 l_arm_n5_1:;
@@ -4050,37 +4211,37 @@ l_arm_n5_1:;
     t_fj_1.f1 = r_e7_1;
     r_o6_1 = t_fj_1;
 l_capnp_rc_1:;
-    r_kp_1 = r_o6_1.f0;
-    st8(r_q6_1, r_kp_1);
+    r_kp = r_o6_1.f0;
+    st8(r_q6_1, r_kp);
     r_i8 = away(a_3, 26ull);
     st8(r_i8, r_o6_1.f1);
     if ((u8)(ld8(r_yf) & 1)) goto l_then_pz;
     goto l_capnp_qg;
-l_capnp_uq:;
+l_capnp_uq_1:;
     if ((u8)(ld8(r_yf) & 1)) goto l_capnp_jh;
     goto l_capnp_qg;
 l_then_pz:;
-    if (!(r_kp_1 == 0u)) goto l_capnp_jh;
-    r_52_10 = ld64(r_rq_4);
-    if (r_52_10 > 0x3ffffbdull) { r_i7 = 0u; r_w0 = 1u; goto l_capnp_xz; }
+    if (!(r_kp == 0u)) goto l_capnp_jh;
+    r_52_16 = ld64(r_rq_4);
+    if (r_52_16 > 0x3ffffbdull) { r_i7 = 0u; r_w0 = 1u; goto l_capnp_xz; }
     r_08_5 = away(a_3, 16ull);
-    u64 r_52_11 = ld64(r_08_5);
-    if (!((r_52_11 - r_52_10) < 3ull)) { r_8e = r_52_11; r_ue = r_52_10; goto l_join_h7; }
-    u8 r_52_12 = std_alloc_vec_Vec_grow_amortized_9634afabedddd7ee(a_3, 3ull);
-    if (!r_52_12) { r_i7 = 1u; r_w0 = 1u; goto l_capnp_xz; }
+    u64 r_52_17 = ld64(r_08_5);
+    if (!((r_52_17 - r_52_16) < 3ull)) { r_8e = r_52_17; r_ue = r_52_16; goto l_join_h7; }
+    u8 r_52_18 = std_alloc_vec_Vec_grow_amortized_9634afabedddd7ee(a_3, 3ull);
+    if (!r_52_18) { r_i7 = 1u; r_w0 = 1u; goto l_capnp_xz; }
     r_8e = ld64(r_08_5);
     r_ue = ld64(r_rq_4);
 l_join_h7:;
     r_hc = (r_ue + 3ull);
     r_fx_5 = ldp(a_3);
-    r_2b_5 = away(r_fx_5, r_ue);
-    if (((u64)(uptr)r_2b_5 - (u64)(uptr)((u8 *)g_static_279)) < 3ull) { r_e1 = 0ull; goto l_join_32; }
-    mv3(r_2b_5, ((u8 *)g_static_279));
+    r_2b_6 = away(r_fx_5, r_ue);
+    if (((u64)(uptr)r_2b_6 - (u64)(uptr)((u8 *)g_static_279)) < 3ull) { r_e1 = 0ull; goto l_join_32; }
+    mv3(r_2b_6, ((u8 *)g_static_279));
     goto l_core_ga_3;
 l_join_32:;
-    st8((r_2b_5 + (i64)(r_e1)), ld8((((u8 *)g_static_279) + (i64)(r_e1))));
-    u64 r_c4_5 = (r_e1 + 1ull);
-    if (!(r_c4_5 == 3ull)) { r_e1 = r_c4_5; goto l_join_32; }
+    st8((r_2b_6 + (i64)(r_e1)), ld8((((u8 *)g_static_279) + (i64)(r_e1))));
+    u64 r_c4_6 = (r_e1 + 1ull);
+    if (!(r_c4_6 == 3ull)) { r_e1 = r_c4_6; goto l_join_32; }
 l_core_ga_3:;
     stp(a_3, r_fx_5);
     st64(r_rq_4, r_hc);
@@ -4091,50 +4252,50 @@ l_capnp_xz:;
     st8(r_q6_1, r_w0);
     st8(r_i8, r_i7);
 l_capnp_jh:;
-    capnp_show_show_lines_Lines_write_place(a_3, r_38, r_z4);
+    capnp_show_show_lines_Lines_write_place(a_3, r_l8, r_tc);
 l_capnp_qg:;
-    switch (r_ne) {
-    case 0u: goto l_join_lc;
+    switch (r_ah) {
+    case 0u: { r_zg = 0u; r_co = 3u; r_e0 = r_nz; r_sq = r_4b; r_ls = r_12_2; r_7q = r_tc; r_6l = r_n9; r_u9 = r_8d; r_fk = r_l8; goto l_join_x3; }
     case 2u: goto l_arm_5c;
-    case 1u: goto l_arm_i8;
-    case 3u: goto l_arm_i8;
-    case 4u: goto l_arm_i8;
-    case 5u: goto l_arm_i8;
-    case 6u: goto l_arm_i8;
-    case 7u: goto l_arm_i8;
-    default: goto l_noarm_e1_1;
+    case 1u: goto l_arm_3e;
+    case 3u: goto l_arm_3e;
+    case 4u: goto l_arm_3e;
+    case 5u: goto l_arm_3e;
+    case 6u: goto l_arm_3e;
+    case 7u: goto l_arm_3e;
+    default: goto l_noarm_e1;
     }
 l_arm_5c:;
-    u64 a_f1 = umin64(r_38_1, (u64)((u64)r_z4 << 3ull));
-    r_ud = away(r_xw, a_f1);
-    a_5j = umin64((r_38_1 - a_f1), r_24_2);
-    if (a_5j == 0ull) goto l_join_lc;
+    u64 a_f1 = umin64(r_n9, (u64)((u64)r_tc << 3ull));
+    r_ud = away(r_8d, a_f1);
+    a_5j = umin64((r_n9 - a_f1), r_ij);
+    if (a_5j == 0ull) { r_zg = 0u; r_co = 3u; r_e0 = r_nz; r_sq = r_4b; r_ls = r_12_2; r_7q = r_tc; r_6l = r_n9; r_u9 = r_8d; r_fk = r_l8; goto l_join_x3; }
     if (!(ld8(r_q6_1) == 0u)) goto l_join_s7;
     r_rq_5 = away(a_3, 8ull);
-    r_52_13 = ld64(r_rq_5);
-    if (r_52_13 > 0x3ffffbeull) { r_1e_2 = 0u; r_6i_2 = 1u; goto l_capnp_vj_2; }
+    r_52_19 = ld64(r_rq_5);
+    if (r_52_19 > 0x3ffffbeull) { r_1e_2 = 0u; r_6i_2 = 1u; goto l_capnp_vj_2; }
     r_08_6 = away(a_3, 16ull);
-    u64 r_52_14 = ld64(r_08_6);
-    if (!((r_52_14 - r_52_13) < 2ull)) { r_c0 = r_52_14; r_54 = r_52_13; goto l_join_p3; }
+    u64 r_52_20 = ld64(r_08_6);
+    if (!((r_52_20 - r_52_19) < 2ull)) { r_c0_2 = r_52_20; r_54 = r_52_19; goto l_join_p3; }
     u8 r_y4 = std_alloc_vec_Vec_grow_amortized_9634afabedddd7ee(a_3, 2ull);
     if (!r_y4) { r_1e_2 = 1u; r_6i_2 = 1u; goto l_capnp_vj_2; }
-    r_c0 = ld64(r_08_6);
+    r_c0_2 = ld64(r_08_6);
     r_54 = ld64(r_rq_5);
 l_join_p3:;
     r_x4 = (r_54 + 2ull);
     r_fx_6 = ldp(a_3);
-    r_2b_6 = away(r_fx_6, r_54);
-    if (((u64)(uptr)r_2b_6 - (u64)(uptr)((u8 *)g_static_61)) < 2ull) { r_y8 = 0ull; goto l_join_pd; }
-    st16(r_2b_6, 8250u);
+    r_2b_7 = away(r_fx_6, r_54);
+    if (((u64)(uptr)r_2b_7 - (u64)(uptr)((u8 *)g_static_61)) < 2ull) { r_y8 = 0ull; goto l_join_pd; }
+    st16(r_2b_7, 8250u);
     goto l_core_ga_4;
 l_join_pd:;
-    st8((r_2b_6 + (i64)(r_y8)), ld8((((u8 *)g_static_61) + (i64)(r_y8))));
-    u64 r_c4_6 = (r_y8 + 1ull);
-    if (!(r_c4_6 == 2ull)) { r_y8 = r_c4_6; goto l_join_pd; }
+    st8((r_2b_7 + (i64)(r_y8)), ld8((((u8 *)g_static_61) + (i64)(r_y8))));
+    u64 r_c4_7 = (r_y8 + 1ull);
+    if (!(r_c4_7 == 2ull)) { r_y8 = r_c4_7; goto l_join_pd; }
 l_core_ga_4:;
     stp(a_3, r_fx_6);
     st64(r_rq_5, r_x4);
-    st64(r_08_6, r_c0);
+    st64(r_08_6, r_c0_2);
     r_1e_2 = 0u;
     r_6i_2 = 0u;
 l_capnp_vj_2:;
@@ -4145,16 +4306,16 @@ l_join_s7:;
     if (!(ld8((r_ud + (i64)(r_qd))) == 0u)) goto l_arm_q4;
     memset(slot_1, 0u, 24);
     core_str_utf8_from_utf8(slot_1, r_ud, r_qd);
-    r_xw_1 = ldp((slot_1 + 8));
-    r_38_2 = ld64((slot_1 + 16));
+    r_xw = ldp((slot_1 + 8));
+    r_38_1 = ld64((slot_1 + 16));
     if (!(ld8(slot_1) == 0u)) goto l_arm_q4;
-    if (r_qd == 0ull) goto l_arm_h9;
+    if (r_qd == 0ull) goto l_arm_h9_4;
     r_ux = 0u;
     r_dq = 0ull;
     goto l_join_1e;
 l_loop_2r:;
     u64 r_36 = (r_dq + 1ull);
-    if (r_36 == r_qd) goto l_arm_h9;
+    if (r_36 == r_qd) goto l_arm_h9_4;
     r_ux = r_47;
     r_dq = r_36;
 l_join_1e:;
@@ -4164,11 +4325,11 @@ l_join_1e:;
 l_capnp_fz:;
     if ((u8)((u8)(u8)((u8)(r_ux == 194u) & (u8)(r_47 < 160u)) | (u8)(u8)((u8)(r_47 == 127u) | (u8)r_17))) goto l_arm_q4;
     goto l_loop_2r;
-l_arm_h9:;
-    if (r_38_2 < 1025ull) { r_56 = r_38_2; goto l_capnp_fk; }
+l_arm_h9_4:;
+    if (r_38_1 < 1025ull) { r_56 = r_38_1; goto l_capnp_fk; }
     r_i2 = 1024ull;
 l_then_pb:;
-    if (!((i8)ld8((r_xw_1 + (i64)(r_i2))) < (i8)192u)) { r_56 = r_i2; goto l_capnp_fk; }
+    if (!((i8)ld8((r_xw + (i64)(r_i2))) < (i8)192u)) { r_56 = r_i2; goto l_capnp_fk; }
     u64 r_0f = (r_i2 + 0xffffffffffffffffull);
     if (r_0f == 0ull) { r_56 = 0ull; goto l_capnp_fk; }
     r_i2 = r_0f;
@@ -4177,33 +4338,33 @@ l_capnp_fk:;
     capnp_show_show_lines_Lines_begin(a_3, 2u);
     u8 r_47_1 = ld8(r_q6_1);
     if (!(r_47_1 == 0u)) { r_26 = r_47_1; goto l_capnp_b6; }
-    struct s_i8_i8 r_z6 = capnp_show_show_text_Text_push_quoted(a_3, r_xw_1, r_56);
-    u8 r_kp_2 = r_z6.f0;
-    st8(r_q6_1, r_kp_2);
+    struct s_i8_i8 r_z6 = capnp_show_show_text_Text_push_quoted(a_3, r_xw, r_56);
+    u8 r_kp_1 = r_z6.f0;
+    st8(r_q6_1, r_kp_1);
     r_i8_1 = away(a_3, 26ull);
     st8(r_i8_1, r_z6.f1);
-    if (!((u8)(ld8(away(a_3, 81ull)) & 1) ? (r_kp_2 == 0u) : 0u)) { r_26 = r_kp_2; goto l_capnp_b6; }
+    if (!((u8)(ld8(away(a_3, 81ull)) & 1) ? (r_kp_1 == 0u) : 0u)) { r_26 = r_kp_1; goto l_capnp_b6; }
     r_rq_6 = away(a_3, 8ull);
-    r_52_15 = ld64(r_rq_6);
-    if (r_52_15 > 0x3ffffbcull) { r_i7_1 = 0u; r_w0_1 = 1u; goto l_capnp_xz_1; }
+    r_52_21 = ld64(r_rq_6);
+    if (r_52_21 > 0x3ffffbcull) { r_i7_1 = 0u; r_w0_1 = 1u; goto l_capnp_xz_1; }
     r_08_7 = away(a_3, 16ull);
-    u64 r_52_16 = ld64(r_08_7);
-    if (!((r_52_16 - r_52_15) < 4ull)) { r_y1_1 = r_52_16; r_pz_1 = r_52_15; goto l_join_tt_1; }
+    u64 r_52_22 = ld64(r_08_7);
+    if (!((r_52_22 - r_52_21) < 4ull)) { r_y1_1 = r_52_22; r_pz_2 = r_52_21; goto l_join_tt_1; }
     u8 r_t3_1 = std_alloc_vec_Vec_grow_amortized_9634afabedddd7ee(a_3, 4ull);
     if (!r_t3_1) { r_i7_1 = 1u; r_w0_1 = 1u; goto l_capnp_xz_1; }
     r_y1_1 = ld64(r_08_7);
-    r_pz_1 = ld64(r_rq_6);
+    r_pz_2 = ld64(r_rq_6);
 l_join_tt_1:;
-    r_5b_1 = (r_pz_1 + 4ull);
+    r_5b_1 = (r_pz_2 + 4ull);
     r_fx_7 = ldp(a_3);
-    r_2b_7 = away(r_fx_7, r_pz_1);
-    if (((u64)(uptr)r_2b_7 - (u64)(uptr)((u8 *)g_static_266)) < 4ull) { r_51 = 0ull; goto l_join_fz; }
-    st32(r_2b_7, 0x6d305b1bu);
+    r_2b_8 = away(r_fx_7, r_pz_2);
+    if (((u64)(uptr)r_2b_8 - (u64)(uptr)((u8 *)g_static_266)) < 4ull) { r_51 = 0ull; goto l_join_fz; }
+    st32(r_2b_8, 0x6d305b1bu);
     goto l_core_ga_5;
 l_join_fz:;
-    st8((r_2b_7 + (i64)(r_51)), ld8((((u8 *)g_static_266) + (i64)(r_51))));
-    u64 r_c4_7 = (r_51 + 1ull);
-    if (!(r_c4_7 == 4ull)) { r_51 = r_c4_7; goto l_join_fz; }
+    st8((r_2b_8 + (i64)(r_51)), ld8((((u8 *)g_static_266) + (i64)(r_51))));
+    u64 r_c4_8 = (r_51 + 1ull);
+    if (!(r_c4_8 == 4ull)) { r_51 = r_c4_8; goto l_join_fz; }
 l_core_ga_5:;
     stp(a_3, r_fx_7);
     st64(r_rq_6, r_5b_1);
@@ -4215,14 +4376,14 @@ l_capnp_xz_1:;
     st8(r_i8_1, r_i7_1);
     r_26 = r_w0_1;
 l_capnp_b6:;
-    if (!(r_56 < r_38_2)) goto l_join_lc;
+    if (!(r_56 < r_38_1)) { r_zg = 0u; r_co = 3u; r_e0 = r_nz; r_sq = r_4b; r_ls = r_12_2; r_7q = r_tc; r_6l = r_n9; r_u9 = r_8d; r_fk = r_l8; goto l_join_x3; }
     if (!(r_26 == 0u)) goto l_join_8y;
     r_rq_7 = away(a_3, 8ull);
-    r_52_17 = ld64(r_rq_7);
-    if (r_52_17 > 0x3ffffbfull) { r_1e_3 = 0u; r_6i_3 = 1u; goto l_capnp_vj_3; }
+    r_52_23 = ld64(r_rq_7);
+    if (r_52_23 > 0x3ffffbfull) { r_1e_3 = 0u; r_6i_3 = 1u; goto l_capnp_vj_3; }
     r_08_8 = away(a_3, 16ull);
-    u64 r_52_18 = ld64(r_08_8);
-    if (!(r_52_18 == r_52_17)) { r_20 = r_52_18; r_j8 = r_52_17; goto l_join_jz; }
+    u64 r_52_24 = ld64(r_08_8);
+    if (!(r_52_24 == r_52_23)) { r_20 = r_52_24; r_j8 = r_52_23; goto l_join_jz; }
     u8 r_av = std_alloc_vec_Vec_grow_amortized_9634afabedddd7ee(a_3, 1ull);
     if (!r_av) { r_1e_3 = 1u; r_6i_3 = 1u; goto l_capnp_vj_3; }
     r_20 = ld64(r_08_8);
@@ -4240,13 +4401,13 @@ l_capnp_vj_3:;
     st8(away(a_3, 26ull), r_1e_3);
     goto l_join_8y;
 l_arm_q4:;
-    if (!(ld8(r_q6_1) == 0u)) goto l_join_cv;
+    if (!(ld8(r_q6_1) == 0u)) goto l_join_4k;
     r_rq_8 = away(a_3, 8ull);
     r_08_9 = away(a_3, 16ull);
     r_x9 = r_ud;
-    r_tc = umin64(a_5j, 64ull);
+    r_tc_1 = umin64(a_5j, 64ull);
 l_join_kl:;
-    a_3q = umin64(r_tc, 512ull);
+    a_3q = umin64(r_tc_1, 512ull);
     memset(slot_1, 0u, 1024);
     r_pt = 0ull;
 l_join_jf:;
@@ -4254,43 +4415,69 @@ l_join_jf:;
     u8 *r_a7 = (slot_1 + (i64)((u64)(r_pt << 1ull)));
     st8(r_a7, ld8((((u8 *)g_static_197) + (i64)((u64)(u8)((u32)r_47_2 >> 4u)))));
     st8((r_a7 + 1), ld8((((u8 *)g_static_197) + (i64)((u64)(u8)(r_47_2 & 15u)))));
-    u64 r_c4_8 = (r_pt + 1ull);
-    if (!(r_c4_8 == a_3q)) { r_pt = r_c4_8; goto l_join_jf; }
+    u64 r_c4_9 = (r_pt + 1ull);
+    if (!(r_c4_9 == a_3q)) { r_pt = r_c4_9; goto l_join_jf; }
     r_yb = (u64)(a_3q << 1ull);
-    r_52_19 = ld64(r_rq_8);
-    if ((r_52_19 > 0x3ffffc0ull) ? 1u : ((0x3ffffc0ull - r_52_19) < r_yb)) { r_tz = 0u; goto l_join_bo; }
-    u64 r_52_20 = ld64(r_08_9);
-    if (!(r_yb > (r_52_20 - r_52_19))) { r_kp_3 = r_52_20; r_ai = r_52_19; goto l_arm_o0; }
-    u8 r_c4_9 = std_alloc_vec_Vec_grow_amortized_9634afabedddd7ee(a_3, r_yb);
-    if (!r_c4_9) { r_tz = 1u; goto l_join_bo; }
-    r_kp_3 = ld64(r_08_9);
+    r_52_25 = ld64(r_rq_8);
+    if ((r_52_25 > 0x3ffffc0ull) ? 1u : ((0x3ffffc0ull - r_52_25) < r_yb)) { r_tz = 0u; goto l_join_bo; }
+    u64 r_52_26 = ld64(r_08_9);
+    if (!(r_yb > (r_52_26 - r_52_25))) { r_kp_2 = r_52_26; r_ai = r_52_25; goto l_arm_o0; }
+    u8 r_c4_10 = std_alloc_vec_Vec_grow_amortized_9634afabedddd7ee(a_3, r_yb);
+    if (!r_c4_10) { r_tz = 1u; goto l_join_bo; }
+    r_kp_2 = ld64(r_08_9);
     r_ai = ld64(r_rq_8);
 l_arm_o0:;
-    r_5q = (r_ai + r_yb);
+    r_5q_1 = (r_ai + r_yb);
     r_fx_9 = ldp(a_3);
     memcpy_or_none(away(r_fx_9, r_ai), slot_1, r_yb);
     stp(a_3, r_fx_9);
-    st64(r_rq_8, r_5q);
-    st64(r_08_9, r_kp_3);
-    u64 r_nr = (r_tc - a_3q);
-    if (!(r_nr == 0ull)) { u8 *r_1 = away(r_x9, a_3q); u64 r_2 = r_nr; r_x9 = r_1; r_tc = r_2; goto l_join_kl; }
+    st64(r_rq_8, r_5q_1);
+    st64(r_08_9, r_kp_2);
+    u64 r_nr = (r_tc_1 - a_3q);
+    if (!(r_nr == 0ull)) { u8 *r_1 = away(r_x9, a_3q); u64 r_2 = r_nr; r_x9 = r_1; r_tc_1 = r_2; goto l_join_kl; }
     st8(r_q6_1, 0u);
     r_i8_2 = away(a_3, 26ull);
     st8(r_i8_2, 0u);
     if (a_5j > 64ull) goto l_then_zl;
-    r_w8 = r_5q;
-    goto l_then_m7;
+    r_zg = 0u;
+    r_co = 3u;
+    r_e0 = r_nz;
+    r_sq = r_4b;
+    r_ls = r_12_2;
+    r_7q = r_tc;
+    r_6l = r_n9;
+    r_u9 = r_8d;
+    r_fk = r_l8;
+    goto l_join_x3;
 l_join_bo:;
     st8(r_q6_1, 1u);
     st8(away(a_3, 26ull), r_tz);
     if (a_5j > 64ull) goto l_join_8y;
-    goto l_capnp_qm;
-l_join_cv:;
+    r_zg = 0u;
+    r_co = 3u;
+    r_e0 = r_nz;
+    r_sq = r_4b;
+    r_ls = r_12_2;
+    r_7q = r_tc;
+    r_6l = r_n9;
+    r_u9 = r_8d;
+    r_fk = r_l8;
+    goto l_join_x3;
+l_join_4k:;
     if (a_5j > 64ull) goto l_join_8y;
-    goto l_capnp_qm;
+    r_zg = 0u;
+    r_co = 3u;
+    r_e0 = r_nz;
+    r_sq = r_4b;
+    r_ls = r_12_2;
+    r_7q = r_tc;
+    r_6l = r_n9;
+    r_u9 = r_8d;
+    r_fk = r_l8;
+    goto l_join_x3;
 l_then_zl:;
-    if (r_5q > 0x3ffffbfull) { r_ws = 0u; r_ak = 1u; goto l_capnp_62; }
-    if (!(r_kp_3 == r_5q)) { r_iq = r_fx_9; r_a3 = r_kp_3; r_bp = r_5q; goto l_join_wl; }
+    if (r_5q_1 > 0x3ffffbfull) { r_ws = 0u; r_ak = 1u; goto l_capnp_62; }
+    if (!(r_kp_2 == r_5q_1)) { r_iq = r_fx_9; r_a3 = r_kp_2; r_bp = r_5q_1; goto l_join_wl; }
     u8 r_av_1 = std_alloc_vec_Vec_grow_amortized_9634afabedddd7ee(a_3, 1ull);
     if (!r_av_1) { r_ws = 1u; r_ak = 1u; goto l_capnp_62; }
     r_iq = ldp(a_3);
@@ -4307,20 +4494,20 @@ l_capnp_62:;
     st8(r_q6_1, r_ak);
     st8(r_i8_2, r_ws);
     goto l_join_8y;
-l_arm_i8:;
-    if (r_uq_2 == 0u) goto l_join_lc;
-    r_gw = (u64)(r_38_1 >> 3ull);
+l_arm_3e:;
+    if (r_ij == 0ull) { r_zg = 0u; r_co = 3u; r_e0 = r_nz; r_sq = r_4b; r_ls = 0u; r_7q = r_tc; r_6l = r_n9; r_u9 = r_8d; r_fk = r_l8; goto l_join_x3; }
+    r_gw_2 = (u64)(r_n9 >> 3ull);
     r_rq_9 = away(a_3, 8ull);
     r_08_10 = away(a_3, 16ull);
     r_i8_3 = away(a_3, 26ull);
-    wide_v1 = (u64)umin32(r_uq_2, 64u);
+    wide_v1 = (u64)umin32(r_12_2, 64u);
     indvars_x9 = 0ull;
 l_join_4v:;
     u8 r_5h = (indvars_x9 == 0ull);
     i_0a = (r_5h ? 2ull : 1ull);
     static_fj = (r_5h ? ((u8 *)g_static_61) : ((u8 *)g_static_267));
     t_nk = (u32)indvars_x9;
-    switch (r_ne) {
+    switch (r_ah) {
     case 1u: goto l_arm_gd;
     case 2u: goto l_arm_g8;
     case 3u: goto l_arm_1t;
@@ -4329,7 +4516,7 @@ l_join_4v:;
     case 5u: { r_st = t_nk; goto l_capnp_k6; }
     case 6u: { r_st = t_nk; goto l_capnp_k6; }
     case 7u: { r_st = t_nk; goto l_capnp_k6; }
-    default: goto l_noarm_e1_2;
+    default: goto l_noarm_e1_1;
     }
 l_arm_gd:;
     r_st = (u32)(t_nk >> 6u);
@@ -4343,64 +4530,64 @@ l_arm_1t:;
 l_arm_0o:;
     r_st = (u32)(t_nk >> 1u);
     goto l_capnp_k6;
-l_noarm_e1_2:;
+l_noarm_e1_1:;
     UNREACHABLE();
 l_capnp_k6:;
-    r_24_3 = (u64)uadd_sat32(r_st, r_z4);
-    if (!(r_gw > r_24_3)) { r_de = 0ull; goto l_capnp_0h; }
-    r_de = ld64(away(r_xw, (u64)(r_24_3 << 3ull)));
+    r_24_3 = (u64)uadd_sat32(r_st, r_tc);
+    if (!(r_gw_2 > r_24_3)) { r_de = 0ull; goto l_capnp_0h; }
+    r_de = ld64(away(r_8d, (u64)(r_24_3 << 3ull)));
 l_capnp_0h:;
-    switch (r_ne) {
+    switch (r_ah) {
     case 1u: goto l_arm_6b;
     case 2u: goto l_arm_qk;
     case 3u: goto l_arm_5n;
     case 4u: goto l_arm_ld;
-    case 0u: { r_zg = r_de; goto l_capnp_x3; }
-    case 5u: { r_zg = r_de; goto l_capnp_x3; }
-    case 6u: { r_zg = r_de; goto l_capnp_x3; }
-    case 7u: { r_zg = r_de; goto l_capnp_x3; }
-    default: goto l_noarm_e1_3;
+    case 0u: { r_zg_1 = r_de; goto l_capnp_x3; }
+    case 5u: { r_zg_1 = r_de; goto l_capnp_x3; }
+    case 6u: { r_zg_1 = r_de; goto l_capnp_x3; }
+    case 7u: { r_zg_1 = r_de; goto l_capnp_x3; }
+    default: goto l_noarm_e1_2;
     }
 l_arm_6b:;
-    r_zg = ((u64)(r_de >> (indvars_x9 & 63u)) & 1ull);
+    r_zg_1 = ((u64)(r_de >> (indvars_x9 & 63u)) & 1ull);
     goto l_capnp_x3;
 l_arm_qk:;
-    r_zg = ((u64)(r_de >> (((u64)(indvars_x9 << 3ull) & 56ull) & 63u)) & 255ull);
+    r_zg_1 = ((u64)(r_de >> (((u64)(indvars_x9 << 3ull) & 56ull) & 63u)) & 255ull);
     goto l_capnp_x3;
 l_arm_5n:;
-    r_zg = ((u64)(r_de >> (((u64)(indvars_x9 << 4ull) & 48ull) & 63u)) & 65535ull);
+    r_zg_1 = ((u64)(r_de >> (((u64)(indvars_x9 << 4ull) & 48ull) & 63u)) & 65535ull);
     goto l_capnp_x3;
 l_arm_ld:;
-    r_zg = ((u64)(r_de >> (((u64)(indvars_x9 << 5ull) & 32ull) & 63u)) & 0xffffffffull);
+    r_zg_1 = ((u64)(r_de >> (((u64)(indvars_x9 << 5ull) & 32ull) & 63u)) & 0xffffffffull);
     goto l_capnp_x3;
-l_noarm_e1_3:;
+l_noarm_e1_2:;
     UNREACHABLE();
 l_capnp_x3:;
     if (!(ld8(r_q6_1) == 0u)) { r_9o = 0u; goto l_capnp_4g; }
-    r_52_21 = ld64(r_rq_9);
-    if ((r_52_21 > 0x3ffffc0ull) ? 1u : ((0x3ffffc0ull - r_52_21) < i_0a)) { r_e7_2 = 0u; goto l_arm_n5_2; }
-    u64 r_52_22 = ld64(r_08_10);
-    if (!(i_0a > (r_52_22 - r_52_21))) { r_4b = r_52_22; r_19 = r_52_21; goto l_join_ue; }
+    r_52_27 = ld64(r_rq_9);
+    if ((r_52_27 > 0x3ffffc0ull) ? 1u : ((0x3ffffc0ull - r_52_27) < i_0a)) { r_e7_2 = 0u; goto l_arm_n5_2; }
+    u64 r_52_28 = ld64(r_08_10);
+    if (!(i_0a > (r_52_28 - r_52_27))) { r_4b_1 = r_52_28; r_19 = r_52_27; goto l_join_ue; }
     u8 r_9u = std_alloc_vec_Vec_grow_amortized_9634afabedddd7ee(a_3, i_0a);
     if (!r_9u) { r_e7_2 = 1u; goto l_arm_n5_2; }
-    r_4b = ld64(r_08_10);
+    r_4b_1 = ld64(r_08_10);
     r_19 = ld64(r_rq_9);
 l_join_ue:;
     r_qh = (r_19 + i_0a);
     r_fx_10 = ldp(a_3);
-    r_2b_8 = away(r_fx_10, r_19);
-    if (((u64)(uptr)r_2b_8 - (u64)(uptr)static_fj) < i_0a) { r_es = 0ull; goto l_join_fx; }
-    memcpy_or_none(r_2b_8, static_fj, i_0a);
+    r_2b_9 = away(r_fx_10, r_19);
+    if (((u64)(uptr)r_2b_9 - (u64)(uptr)static_fj) < i_0a) { r_es = 0ull; goto l_join_fx; }
+    memcpy_or_none(r_2b_9, static_fj, i_0a);
     goto l_arm_na_2;
 l_join_fx:;
-    st8((r_2b_8 + (i64)(r_es)), ld8((static_fj + (i64)(r_es))));
-    u64 r_c4_10 = (r_es + 1ull);
-    if (!(r_c4_10 == i_0a)) { r_es = r_c4_10; goto l_join_fx; }
+    st8((r_2b_9 + (i64)(r_es)), ld8((static_fj + (i64)(r_es))));
+    u64 r_c4_11 = (r_es + 1ull);
+    if (!(r_c4_11 == i_0a)) { r_es = r_c4_11; goto l_join_fx; }
 l_arm_na_2:;
     stp(a_3, r_fx_10);
     st64(r_rq_9, r_qh);
-    st64(r_08_10, r_4b);
-    struct s_i8_i8 r_zo_2 = capnp_show_show_text_Text_push_number(a_3, r_zg);
+    st64(r_08_10, r_4b_1);
+    struct s_i8_i8 r_zo_2 = capnp_show_show_text_Text_push_number(a_3, r_zg_1);
     r_su = r_zo_2;
     goto l_capnp_kx;
 l_arm_n5_2:;
@@ -4408,19 +4595,19 @@ l_arm_n5_2:;
     t_fj_2.f1 = r_e7_2;
     r_su = t_fj_2;
 l_capnp_kx:;
-    u8 r_kp_4 = r_su.f0;
-    st8(r_q6_1, r_kp_4);
+    u8 r_kp_3 = r_su.f0;
+    st8(r_q6_1, r_kp_3);
     st8(r_i8_3, r_su.f1);
-    r_9o = (r_kp_4 == 0u);
+    r_9o = (r_kp_3 == 0u);
 l_capnp_4g:;
     u64 indvars_r7 = (indvars_x9 + 1ull);
     if (!(indvars_r7 == wide_v1)) { indvars_x9 = indvars_r7; goto l_join_4v; }
-    if (!(r_uq_2 > 64u)) goto l_join_lc;
+    if (!(r_3g > 0x207ffffffffull)) { r_zg = 0u; r_co = 3u; r_e0 = r_nz; r_sq = r_4b; r_ls = r_12_2; r_7q = r_tc; r_6l = r_n9; r_u9 = r_8d; r_fk = r_l8; goto l_join_x3; }
     if (!r_9o) goto l_join_8y;
-    r_52_23 = ld64(r_rq_9);
-    if (r_52_23 > 0x3ffffbfull) { r_ws_1 = 0u; r_ak_1 = 1u; goto l_capnp_62_1; }
-    u64 r_52_24 = ld64(r_08_10);
-    if (!(r_52_24 == r_52_23)) { r_20_1 = r_52_24; r_j8_1 = r_52_23; goto l_join_jz_1; }
+    r_52_29 = ld64(r_rq_9);
+    if (r_52_29 > 0x3ffffbfull) { r_ws_1 = 0u; r_ak_1 = 1u; goto l_capnp_62_1; }
+    u64 r_52_30 = ld64(r_08_10);
+    if (!(r_52_30 == r_52_29)) { r_20_1 = r_52_30; r_j8_1 = r_52_29; goto l_join_jz_1; }
     u8 r_av_2 = std_alloc_vec_Vec_grow_amortized_9634afabedddd7ee(a_3, 1ull);
     if (!r_av_2) { r_ws_1 = 1u; r_ak_1 = 1u; goto l_capnp_62_1; }
     r_20_1 = ld64(r_08_10);
@@ -4438,26 +4625,25 @@ l_capnp_62_1:;
     st8(r_i8_3, r_ws_1);
 l_join_8y:;
     capnp_show_show_lines_Lines_write_part(a_3, ((u8 *)g_static_280), 2ull);
-    goto l_join_lc;
-l_noarm_e1_1:;
+    r_zg = 0u;
+    r_co = 3u;
+    r_e0 = r_nz;
+    r_sq = r_4b;
+    r_ls = r_12_2;
+    r_7q = r_tc;
+    r_6l = r_n9;
+    r_u9 = r_8d;
+    r_fk = r_l8;
+    goto l_join_x3;
+l_noarm_e1:;
     UNREACHABLE();
-l_arm_p0:;
-    st64(slot_2, r_38);
-    stp((slot_2 + 8), r_xw);
-    st64((slot_2 + 16), r_38_1);
-    st32((slot_2 + 24), r_z4);
-    st32((slot_2 + 28), r_uq_1);
-    capnp_show_show_lines_Lines_write_struct(a_3, slot_2, (u16)((u16)((u32)(u16)r_98 << 8u) | (u16)((u16)r_z4_1 & 255u)), r_gr);
-    goto l_join_lc;
-l_arm_og_1:;
-    r_24_4 = (u64)r_z4_1;
-    if (!(ld8(r_q6_1) == 0u)) goto l_capnp_uq_1;
+l_then_23:;
     r_rq_10 = away(a_3, 8ull);
-    r_52_25 = ld64(r_rq_10);
-    if (r_52_25 > 0x3ffffb6ull) { r_e7_3 = 0u; goto l_arm_n5_3; }
+    r_52_31 = ld64(r_rq_10);
+    if (r_52_31 > 0x3ffffb6ull) { r_e7_3 = 0u; goto l_arm_n5_3; }
     r_08_11 = away(a_3, 16ull);
-    u64 r_52_26 = ld64(r_08_11);
-    if (!((r_52_26 - r_52_25) < 10ull)) { r_kz = r_52_26; r_wh = r_52_25; goto l_join_67; }
+    u64 r_52_32 = ld64(r_08_11);
+    if (!((r_52_32 - r_52_31) < 10ull)) { r_kz = r_52_32; r_wh = r_52_31; goto l_join_67; }
     u8 r_74 = std_alloc_vec_Vec_grow_amortized_9634afabedddd7ee(a_3, 10ull);
     if (!r_74) { r_e7_3 = 1u; goto l_arm_n5_3; }
     r_kz = ld64(r_08_11);
@@ -4465,19 +4651,19 @@ l_arm_og_1:;
 l_join_67:;
     r_ob = (r_wh + 10ull);
     r_fx_12 = ldp(a_3);
-    r_2b_9 = away(r_fx_12, r_wh);
-    if (((u64)(uptr)r_2b_9 - (u64)(uptr)((u8 *)g_static_286)) < 10ull) { r_di = 0ull; goto l_join_ge; }
-    mv10(r_2b_9, ((u8 *)g_static_286));
+    r_2b_10 = away(r_fx_12, r_wh);
+    if (((u64)(uptr)r_2b_10 - (u64)(uptr)((u8 *)g_static_286)) < 10ull) { r_di = 0ull; goto l_join_ge; }
+    mv10(r_2b_10, ((u8 *)g_static_286));
     goto l_arm_na_3;
 l_join_ge:;
-    st8((r_2b_9 + (i64)(r_di)), ld8((((u8 *)g_static_286) + (i64)(r_di))));
-    u64 r_c4_11 = (r_di + 1ull);
-    if (!(r_c4_11 == 10ull)) { r_di = r_c4_11; goto l_join_ge; }
+    st8((r_2b_10 + (i64)(r_di)), ld8((((u8 *)g_static_286) + (i64)(r_di))));
+    u64 r_c4_12 = (r_di + 1ull);
+    if (!(r_c4_12 == 10ull)) { r_di = r_c4_12; goto l_join_ge; }
 l_arm_na_3:;
     stp(a_3, r_fx_12);
     st64(r_rq_10, r_ob);
     st64(r_08_11, r_kz);
-    struct s_i8_i8 r_zo_3 = capnp_show_show_text_Text_push_number(a_3, r_24_4);
+    struct s_i8_i8 r_zo_3 = capnp_show_show_text_Text_push_number(a_3, r_ij);
     r_o6_2 = r_zo_3;
     goto l_capnp_rc_2;
 l_arm_n5_3:;
@@ -4485,38 +4671,55 @@ l_arm_n5_3:;
     t_fj_3.f1 = r_e7_3;
     r_o6_2 = t_fj_3;
 l_capnp_rc_2:;
-    r_kp_5 = r_o6_2.f0;
-    st8(r_q6_1, r_kp_5);
+    r_kp_4 = r_o6_2.f0;
+    st8(r_q6_1, r_kp_4);
     r_i8_4 = away(a_3, 26ull);
     st8(r_i8_4, r_o6_2.f1);
     if ((u8)(ld8(r_yf) & 1)) goto l_then_pz_1;
-    r_lr = r_kp_5;
-    goto l_join_ed;
-l_capnp_uq_1:;
+    r_zg = r_s5;
+    r_co = 4u;
+    r_e0 = r_nz;
+    r_sq = r_12_1;
+    r_ls = 0u;
+    r_7q = r_tc;
+    r_6l = r_n9;
+    r_u9 = r_8d;
+    r_fk = r_l8;
+    goto l_join_x3;
+l_capnp_0l:;
     if ((u8)(ld8(r_yf) & 1)) goto l_capnp_72;
-    goto l_capnp_qm;
+    r_zg = r_s5;
+    r_co = 4u;
+    r_e0 = r_nz;
+    r_sq = r_12_1;
+    r_ls = 0u;
+    r_7q = r_tc;
+    r_6l = r_n9;
+    r_u9 = r_8d;
+    r_fk = r_l8;
+    goto l_join_x3;
 l_then_pz_1:;
-    if (!(r_kp_5 == 0u)) goto l_capnp_72;
-    r_52_27 = ld64(r_rq_10);
-    if (r_52_27 > 0x3ffffbdull) { r_i7_2 = 0u; r_w0_2 = 1u; goto l_capnp_xz_2; }
+    if (!(r_kp_4 == 0u)) goto l_capnp_72;
+    r_52_33 = ld64(r_rq_10);
+    if (r_52_33 > 0x3ffffbdull) { r_i7_2 = 0u; r_w0_2 = 1u; goto l_capnp_xz_2; }
     r_08_12 = away(a_3, 16ull);
-    u64 r_52_28 = ld64(r_08_12);
-    if (!((r_52_28 - r_52_27) < 3ull)) { r_8e_1 = r_52_28; r_ue_1 = r_52_27; goto l_join_h7_1; }
-    u8 r_52_29 = std_alloc_vec_Vec_grow_amortized_9634afabedddd7ee(a_3, 3ull);
-    if (!r_52_29) { r_i7_2 = 1u; r_w0_2 = 1u; goto l_capnp_xz_2; }
+    u64 r_52_34 = ld64(r_08_12);
+    if (!((r_52_34 - r_52_33) < 3ull)) { r_8e_1 = r_52_34; r_ue_1 = r_52_33; goto l_join_h7_1; }
+    u8 r_52_35 = std_alloc_vec_Vec_grow_amortized_9634afabedddd7ee(a_3, 3ull);
+    if (!r_52_35) { r_i7_2 = 1u; r_w0_2 = 1u; goto l_capnp_xz_2; }
     r_8e_1 = ld64(r_08_12);
     r_ue_1 = ld64(r_rq_10);
 l_join_h7_1:;
     r_hc_1 = (r_ue_1 + 3ull);
     r_fx_13 = ldp(a_3);
-    r_2b_10 = away(r_fx_13, r_ue_1);
-    if (((u64)(uptr)r_2b_10 - (u64)(uptr)((u8 *)g_static_279)) < 3ull) { r_e1_1 = 0ull; goto l_join_32_1; }
-    mv3(r_2b_10, ((u8 *)g_static_279));
+    r_2b_11 = away(r_fx_13, r_ue_1);
+    if (((u64)(uptr)r_2b_11 - (u64)(uptr)((u8 *)g_static_279)) < 3ull) { r_e1_1 = 0ull; goto l_join_32_1; }
+    mv3(r_2b_11, ((u8 *)g_static_279));
     goto l_core_ga_6;
 l_join_32_1:;
-    st8((r_2b_10 + (i64)(r_e1_1)), ld8((((u8 *)g_static_279) + (i64)(r_e1_1))));
-    u64 r_c4_12 = (r_e1_1 + 1ull);
-    if (!(r_c4_12 == 3ull)) { r_e1_1 = r_c4_12; goto l_join_32_1; }
+    st8((r_2b_11 + (i64)(r_e1_1)), ld8((((u8 *)g_static_279) + (i64)(r_e1_1))));
+    u64 r_c4_13 = (r_e1_1 + 1ull);
+    if (!(r_c4_13 == 3ull)) { r_e1_1 = r_c4_13; goto l_join_32_1; }
 l_core_ga_6:;
     stp(a_3, r_fx_13);
     st64(r_rq_10, r_hc_1);
@@ -4527,18 +4730,24 @@ l_capnp_xz_2:;
     st8(r_q6_1, r_w0_2);
     st8(r_i8_4, r_i7_2);
 l_capnp_72:;
-    capnp_show_show_lines_Lines_write_place(a_3, r_38, r_z4);
-    goto l_join_lc;
-l_arm_0h:;
-    r_pz_2 = (u16)((u16)((u32)(u16)r_98 << 8u) | (u16)((u16)r_z4_1 & 255u));
-    r_24_5 = (u64)r_uq_2;
-    if (!(ld8(r_q6_1) == 0u)) goto l_capnp_uq_2;
+    capnp_show_show_lines_Lines_write_place(a_3, r_l8, r_tc);
+    r_zg = r_s5;
+    r_co = 4u;
+    r_e0 = r_nz;
+    r_sq = r_12_1;
+    r_ls = 0u;
+    r_7q = r_tc;
+    r_6l = r_n9;
+    r_u9 = r_8d;
+    r_fk = r_l8;
+    goto l_join_x3;
+l_then_q3:;
     r_rq_11 = away(a_3, 8ull);
-    r_52_30 = ld64(r_rq_11);
-    if (r_52_30 > 0x3ffffb7ull) { r_e7_4 = 0u; goto l_arm_n5_4; }
+    r_52_36 = ld64(r_rq_11);
+    if (r_52_36 > 0x3ffffb7ull) { r_e7_4 = 0u; goto l_arm_n5_4; }
     r_08_13 = away(a_3, 16ull);
-    u64 r_52_31 = ld64(r_08_13);
-    if (!((r_52_31 - r_52_30) < 9ull)) { r_wv = r_52_31; r_9w = r_52_30; goto l_join_k6; }
+    u64 r_52_37 = ld64(r_08_13);
+    if (!((r_52_37 - r_52_36) < 9ull)) { r_wv = r_52_37; r_9w = r_52_36; goto l_join_k6; }
     u8 r_om = std_alloc_vec_Vec_grow_amortized_9634afabedddd7ee(a_3, 9ull);
     if (!r_om) { r_e7_4 = 1u; goto l_arm_n5_4; }
     r_wv = ld64(r_08_13);
@@ -4546,19 +4755,19 @@ l_arm_0h:;
 l_join_k6:;
     r_wr = (r_9w + 9ull);
     r_fx_14 = ldp(a_3);
-    r_2b_11 = away(r_fx_14, r_9w);
-    if (((u64)(uptr)r_2b_11 - (u64)(uptr)((u8 *)g_static_287)) < 9ull) { r_c2 = 0ull; goto l_join_8g; }
-    mv9(r_2b_11, ((u8 *)g_static_287));
+    r_2b_12 = away(r_fx_14, r_9w);
+    if (((u64)(uptr)r_2b_12 - (u64)(uptr)((u8 *)g_static_287)) < 9ull) { r_c2 = 0ull; goto l_join_8g; }
+    mv9(r_2b_12, ((u8 *)g_static_287));
     goto l_arm_na_4;
 l_join_8g:;
-    st8((r_2b_11 + (i64)(r_c2)), ld8((((u8 *)g_static_287) + (i64)(r_c2))));
-    u64 r_c4_13 = (r_c2 + 1ull);
-    if (!(r_c4_13 == 9ull)) { r_c2 = r_c4_13; goto l_join_8g; }
+    st8((r_2b_12 + (i64)(r_c2)), ld8((((u8 *)g_static_287) + (i64)(r_c2))));
+    u64 r_c4_14 = (r_c2 + 1ull);
+    if (!(r_c4_14 == 9ull)) { r_c2 = r_c4_14; goto l_join_8g; }
 l_arm_na_4:;
     stp(a_3, r_fx_14);
     st64(r_rq_11, r_wr);
     st64(r_08_13, r_wv);
-    struct s_i8_i8 r_zo_4 = capnp_show_show_text_Text_push_number(a_3, r_24_5);
+    struct s_i8_i8 r_zo_4 = capnp_show_show_text_Text_push_number(a_3, r_c0_1);
     r_o6_3 = r_zo_4;
     goto l_capnp_rc_3;
 l_arm_n5_4:;
@@ -4566,37 +4775,37 @@ l_arm_n5_4:;
     t_fj_4.f1 = r_e7_4;
     r_o6_3 = t_fj_4;
 l_capnp_rc_3:;
-    r_kp_6 = r_o6_3.f0;
-    st8(r_q6_1, r_kp_6);
+    r_kp_5 = r_o6_3.f0;
+    st8(r_q6_1, r_kp_5);
     r_i8_5 = away(a_3, 26ull);
     st8(r_i8_5, r_o6_3.f1);
     if ((u8)(ld8(r_yf) & 1)) goto l_then_pz_2;
     goto l_capnp_u5;
-l_capnp_uq_2:;
+l_capnp_uq:;
     if ((u8)(ld8(r_yf) & 1)) goto l_capnp_jh_1;
     goto l_capnp_u5;
 l_then_pz_2:;
-    if (!(r_kp_6 == 0u)) goto l_capnp_jh_1;
-    r_52_32 = ld64(r_rq_11);
-    if (r_52_32 > 0x3ffffbdull) { r_i7_3 = 0u; r_w0_3 = 1u; goto l_capnp_xz_3; }
+    if (!(r_kp_5 == 0u)) goto l_capnp_jh_1;
+    r_52_38 = ld64(r_rq_11);
+    if (r_52_38 > 0x3ffffbdull) { r_i7_3 = 0u; r_w0_3 = 1u; goto l_capnp_xz_3; }
     r_08_14 = away(a_3, 16ull);
-    u64 r_52_33 = ld64(r_08_14);
-    if (!((r_52_33 - r_52_32) < 3ull)) { r_8e_2 = r_52_33; r_ue_2 = r_52_32; goto l_join_h7_2; }
-    u8 r_52_34 = std_alloc_vec_Vec_grow_amortized_9634afabedddd7ee(a_3, 3ull);
-    if (!r_52_34) { r_i7_3 = 1u; r_w0_3 = 1u; goto l_capnp_xz_3; }
+    u64 r_52_39 = ld64(r_08_14);
+    if (!((r_52_39 - r_52_38) < 3ull)) { r_8e_2 = r_52_39; r_ue_2 = r_52_38; goto l_join_h7_2; }
+    u8 r_52_40 = std_alloc_vec_Vec_grow_amortized_9634afabedddd7ee(a_3, 3ull);
+    if (!r_52_40) { r_i7_3 = 1u; r_w0_3 = 1u; goto l_capnp_xz_3; }
     r_8e_2 = ld64(r_08_14);
     r_ue_2 = ld64(r_rq_11);
 l_join_h7_2:;
     r_hc_2 = (r_ue_2 + 3ull);
     r_fx_15 = ldp(a_3);
-    r_2b_12 = away(r_fx_15, r_ue_2);
-    if (((u64)(uptr)r_2b_12 - (u64)(uptr)((u8 *)g_static_279)) < 3ull) { r_e1_2 = 0ull; goto l_join_32_2; }
-    mv3(r_2b_12, ((u8 *)g_static_279));
+    r_2b_13 = away(r_fx_15, r_ue_2);
+    if (((u64)(uptr)r_2b_13 - (u64)(uptr)((u8 *)g_static_279)) < 3ull) { r_e1_2 = 0ull; goto l_join_32_2; }
+    mv3(r_2b_13, ((u8 *)g_static_279));
     goto l_core_ga_7;
 l_join_32_2:;
-    st8((r_2b_12 + (i64)(r_e1_2)), ld8((((u8 *)g_static_279) + (i64)(r_e1_2))));
-    u64 r_c4_14 = (r_e1_2 + 1ull);
-    if (!(r_c4_14 == 3ull)) { r_e1_2 = r_c4_14; goto l_join_32_2; }
+    st8((r_2b_13 + (i64)(r_e1_2)), ld8((((u8 *)g_static_279) + (i64)(r_e1_2))));
+    u64 r_c4_15 = (r_e1_2 + 1ull);
+    if (!(r_c4_15 == 3ull)) { r_e1_2 = r_c4_15; goto l_join_32_2; }
 l_core_ga_7:;
     stp(a_3, r_fx_15);
     st64(r_rq_11, r_hc_2);
@@ -4607,20 +4816,26 @@ l_capnp_xz_3:;
     st8(r_q6_1, r_w0_3);
     st8(r_i8_5, r_i7_3);
 l_capnp_jh_1:;
-    capnp_show_show_lines_Lines_write_place(a_3, r_38, r_z4);
+    capnp_show_show_lines_Lines_write_place(a_3, r_l8, r_ll);
 l_capnp_u5:;
-    capnp_show_show_lines_Lines_write_sizes(a_3, r_pz_2, r_gr);
-l_join_lc:;
-    r_lr = ld8(r_q6_1);
-l_join_ed:;
-    if (!(r_lr == 0u)) goto l_capnp_qm;
-    r_w8 = ld64(away(a_3, 8ull));
-l_then_m7:;
+    capnp_show_show_lines_Lines_write_sizes(a_3, r_pz_1, r_py_1);
+    r_zg = r_py_1;
+    r_co = 5u;
+    r_e0 = 0u;
+    r_sq = r_29;
+    r_ls = t_c8;
+    r_7q = r_ll;
+    r_6l = r_n9;
+    r_u9 = r_8d;
+    r_fk = r_l8;
+l_join_x3:;
+    if (!(ld8(r_q6_1) == 0u)) goto l_capnp_qm;
     r_rq_12 = away(a_3, 8ull);
-    if (r_w8 > 0x3ffffbfull) { r_fo_1 = 0u; r_go_1 = 1u; goto l_capnp_1e_1; }
+    r_52_41 = ld64(r_rq_12);
+    if (r_52_41 > 0x3ffffbfull) { r_fo_1 = 0u; r_go_1 = 1u; goto l_capnp_1e_1; }
     r_08_15 = away(a_3, 16ull);
-    u64 r_52_35 = ld64(r_08_15);
-    if (!(r_52_35 == r_w8)) { r_w4 = r_52_35; r_61 = r_w8; goto l_join_e4; }
+    u64 r_52_42 = ld64(r_08_15);
+    if (!(r_52_42 == r_52_41)) { r_w4 = r_52_42; r_61 = r_52_41; goto l_join_e4; }
     u8 r_av_3 = std_alloc_vec_Vec_grow_amortized_9634afabedddd7ee(a_3, 1ull);
     if (!r_av_3) { r_fo_1 = 1u; r_go_1 = 1u; goto l_capnp_1e_1; }
     r_w4 = ld64(r_08_15);
@@ -4636,55 +4851,55 @@ l_join_e4:;
 l_capnp_1e_1:;
     st8(r_q6_1, r_go_1);
     st8(away(a_3, 26ull), r_fo_1);
-    goto l_capnp_qm;
-l_noarm_e1:;
-    UNREACHABLE();
 l_capnp_qm:;
-    r_t8 = (u16)r_z4_1;
+    r_t8 = (u16)r_sq;
     st64((slot_3 + 56), 0ull);
     st64((slot_4 + 56), 0ull);
-    switch (r_r5) {
-    case 2u: goto l_arm_zp;
-    case 4u: goto l_arm_qc;
+    switch (r_co) {
+    case 2u: goto l_arm_wt;
+    case 4u: goto l_arm_0q;
     case 5u: goto l_arm_pg;
     case 0u: goto l_capnp_zr;
     case 1u: goto l_capnp_zr;
     case 3u: goto l_capnp_zr;
-    default: goto l_noarm_e1_4;
+    default: goto l_default_e1;
     }
-l_arm_zp:;
+l_arm_wt:;
     st64(slot_3, r_eg);
-    mv16((slot_3 + 8), slot_5);
-    st64((slot_3 + 24), r_38);
-    stp((slot_3 + 32), r_xw);
-    st64((slot_3 + 40), r_38_1);
-    st32((slot_3 + 48), uadd_sat32((r_z4_1 & 65535u), r_z4));
+    stp((slot_3 + 8), r_rv);
+    st64((slot_3 + 16), r_qw);
+    st64((slot_3 + 24), r_fk);
+    stp((slot_3 + 32), r_u9);
+    st64((slot_3 + 40), r_6l);
+    st32((slot_3 + 48), (r_7q + (r_sq & 65535u)));
     st32((slot_3 + 52), 0u);
-    st32((slot_3 + 56), ((r_5k_2 == 0x80000000u) ? 0x80000000u : (r_5k_2 + 0xffffffffu)));
-    capnp_show_show_lines_show_pointers_5ccc1be374b2e488(slot_3, r_5d, 0u, a_2, a_3);
+    st32((slot_3 + 56), ((r_5k_1 == 0x80000000u) ? 0x80000000u : (r_5k_1 + 0xffffffffu)));
+    capnp_show_show_lines_show_pointers_5ccc1be374b2e488(slot_3, (u32)r_zg, 0u, a_2, a_3);
     goto l_capnp_zr;
-l_arm_qc:;
-    mv16((slot_4 + 8), slot_5);
+l_arm_0q:;
     st64(slot_4, r_eg);
-    st64((slot_4 + 24), r_38);
-    stp((slot_4 + 32), r_xw);
-    st64((slot_4 + 40), r_38_1);
-    st32((slot_4 + 48), r_z4);
-    st32((slot_4 + 52), 0u);
-    st32((slot_4 + 56), ((r_5k_2 == 0x80000000u) ? 0x80000000u : (r_5k_2 + 0xffffffffu)));
-    capnp_show_show_lines_show_pointers_5ccc1be374b2e488(slot_4, r_z4_1, 1u, a_2, a_3);
+    stp((slot_4 + 8), r_rv);
+    st64((slot_4 + 16), r_qw);
+    st64((slot_4 + 24), r_fk);
+    stp((slot_4 + 32), r_u9);
+    st64((slot_4 + 40), r_6l);
+    st32((slot_4 + 48), r_7q);
+    st32((slot_4 + 52), r_e0);
+    st32((slot_4 + 56), ((r_5k_1 == 0x80000000u) ? 0x80000000u : (r_5k_1 + 0xffffffffu)));
+    capnp_show_show_lines_show_pointers_5ccc1be374b2e488(slot_4, r_sq, 1u, a_2, a_3);
     goto l_capnp_zr;
 l_arm_pg:;
-    r_mx = ((r_5k_2 == 0x80000000u) ? 0x80000000u : (r_5k_2 + 0xffffffffu));
+    r_mx = ((r_5k_1 == 0x80000000u) ? 0x80000000u : (r_5k_1 + 0xffffffffu));
     memset(slot_2, 0u, 64);
-    r_az = (r_z4_1 & 65535u);
-    r_68 = (r_5d + r_az);
-    if (r_68 == 0u) goto l_capnp_8g;
+    r_az_1 = (r_sq & 65535u);
+    r_00 = (u32)r_zg;
+    r_68_1 = (r_az_1 + r_00);
+    if (r_68_1 == 0u) goto l_capnp_8g_1;
     if (!(a_2 == 0u)) goto l_join_rh;
-    capnp_show_show_lines_Lines_write_depth_cut(a_3, r_uq_2);
-    goto l_capnp_8g;
+    capnp_show_show_lines_Lines_write_depth_cut(a_3, r_ls);
+    goto l_capnp_8g_1;
 l_join_rh:;
-    if (r_uq_2 == 0u) goto l_after_mr;
+    if (r_ls == 0u) goto l_after_mr;
     r_x5 = (slot_1 + 8);
     r_zd = (slot_1 + 16);
     r_lk_1 = (slot_1 + 24);
@@ -4696,29 +4911,30 @@ l_join_rh:;
     r_rq_13 = away(a_3, 8ull);
     r_08_16 = away(a_3, 16ull);
     r_x5_1 = (slot_2 + 8);
+    r_zd_1 = (slot_2 + 16);
     r_lk_2 = (slot_2 + 24);
     r_89 = (slot_2 + 32);
     r_a8 = (slot_2 + 40);
-    r_c4_15 = (slot_2 + 48);
+    r_c4_16 = (slot_2 + 48);
     r_bk = (slot_2 + 52);
     r_6c = (slot_2 + 56);
-    wide_v1_1 = (u64)umin32(r_uq_2, 64u);
-    indvars_lc = 0ull;
-l_join_r1:;
-    t_ql = uadd_sat32((r_68 * (u32)indvars_lc), r_z4);
-    st64(slot_1, r_38);
-    stp(r_x5, r_xw);
-    st64(r_zd, r_38_1);
-    st32(r_lk_1, t_ql);
+    wide_v1_1 = (u64)umin32(r_ls, 64u);
+    indvars_e9 = 0ull;
+l_join_qa:;
+    r_zy = ((r_68_1 * (u32)indvars_e9) + r_7q);
+    st64(slot_1, r_fk);
+    stp(r_x5, r_u9);
+    st64(r_zd, r_6l);
+    st32(r_lk_1, r_zy);
     st32(r_nk, 0u);
     if (!(ld8(r_q6_1) == 0u)) goto l_capnp_0p;
-    u64 r_52_36 = ld64(r_su_1);
-    if (!(ld64(r_t9) == r_52_36)) { r_mh = r_52_36; goto l_join_vs; }
+    u64 r_52_43 = ld64(r_su_1);
+    if (!(ld64(r_t9) == r_52_43)) { r_mh = r_52_43; goto l_join_vs; }
     u8 r_5t = std_alloc_vec_Vec_grow_amortized_e6560bd0eee8a70a(r_xm);
     if (!r_5t) { sink_ku = 1u; goto l_capnp_0x; }
     r_mh = ld64(r_su_1);
 l_join_vs:;
-    st64((ldp(r_xm) + (i64)((u64)(r_mh << 3ull))), ((u64)(indvars_lc << 32ull) | 1ull));
+    st64((ldp(r_xm) + (i64)((u64)(r_mh << 3ull))), ((u64)(indvars_e9 << 32ull) | 1ull));
     st64(r_su_1, (r_mh + 1ull));
     sink_ku = 0u;
 l_capnp_0x:;
@@ -4726,12 +4942,12 @@ l_capnp_0x:;
     st8(r_i8_6, sink_ku);
 l_capnp_0p:;
     capnp_show_show_lines_Lines_write_path(a_3);
-    capnp_show_show_lines_Lines_write_struct(a_3, slot_1, r_t8, r_gr);
-    if (!(ld8(r_q6_1) == 0u)) goto l_capnp_np;
-    r_52_37 = ld64(r_rq_13);
-    if (r_52_37 > 0x3ffffbfull) { r_i7_4 = 0u; r_w0_4 = 1u; goto l_capnp_xz_4; }
-    u64 r_52_38 = ld64(r_08_16);
-    if (!(r_52_38 == r_52_37)) { r_w4_1 = r_52_38; r_61_1 = r_52_37; goto l_join_e4_1; }
+    capnp_show_show_lines_Lines_write_struct(a_3, slot_1, r_t8, r_zg);
+    if (!(ld8(r_q6_1) == 0u)) goto l_capnp_4y;
+    r_52_44 = ld64(r_rq_13);
+    if (r_52_44 > 0x3ffffbfull) { r_i7_4 = 0u; r_w0_4 = 1u; goto l_capnp_xz_4; }
+    u64 r_52_45 = ld64(r_08_16);
+    if (!(r_52_45 == r_52_44)) { r_w4_1 = r_52_45; r_61_1 = r_52_44; goto l_join_e4_1; }
     u8 r_av_4 = std_alloc_vec_Vec_grow_amortized_9634afabedddd7ee(a_3, 1ull);
     if (!r_av_4) { r_i7_4 = 1u; r_w0_4 = 1u; goto l_capnp_xz_4; }
     r_w4_1 = ld64(r_08_16);
@@ -4747,32 +4963,33 @@ l_join_e4_1:;
 l_capnp_xz_4:;
     st8(r_q6_1, r_w0_4);
     st8(r_i8_6, r_i7_4);
-l_capnp_np:;
+l_capnp_4y:;
     st64(slot_2, r_eg);
-    mv16(r_x5_1, slot_5);
-    st64(r_lk_2, r_38);
-    stp(r_89, r_xw);
-    st64(r_a8, r_38_1);
-    st32(r_c4_15, uadd_sat32(r_az, t_ql));
+    stp(r_x5_1, r_rv);
+    st64(r_zd_1, r_qw);
+    st64(r_lk_2, r_fk);
+    stp(r_89, r_u9);
+    st64(r_a8, r_6l);
+    st32(r_c4_16, (r_zy + r_az_1));
     st32(r_bk, 0u);
     st32(r_6c, r_mx);
-    capnp_show_show_lines_show_pointers_5ccc1be374b2e488(slot_2, r_5d, 0u, a_2, a_3);
-    r_52_39 = ld64(r_su_1);
-    if (r_52_39 == 0ull) goto l_capnp_4g_1;
-    st64(r_su_1, (r_52_39 + 0xffffffffffffffffull));
+    capnp_show_show_lines_show_pointers_5ccc1be374b2e488(slot_2, r_00, 0u, a_2, a_3);
+    r_52_46 = ld64(r_su_1);
+    if (r_52_46 == 0ull) goto l_capnp_4g_1;
+    st64(r_su_1, (r_52_46 + 0xffffffffffffffffull));
 l_capnp_4g_1:;
-    u64 indvars_r7_1 = (indvars_lc + 1ull);
-    if (!(indvars_r7_1 == wide_v1_1)) { indvars_lc = indvars_r7_1; goto l_join_r1; }
+    u64 indvars_r7_1 = (indvars_e9 + 1ull);
+    if (!(indvars_r7_1 == wide_v1_1)) { indvars_e9 = indvars_r7_1; goto l_join_qa; }
 l_after_mr:;
-    capnp_show_show_lines_Lines_write_list_cut(a_3, (r_uq_2 > 64u));
-l_capnp_8g:;
-    goto l_capnp_zr;
-l_noarm_e1_4:;
-    UNREACHABLE();
+    capnp_show_show_lines_Lines_write_list_cut(a_3, (r_ls > 64u));
+l_capnp_8g_1:;
 l_capnp_zr:;
     goto l_common_68;
-l_switch_1y:;
-    capnp_show_show_lines_Lines_write_refusal(a_3, ldp((((u8 *)switch_table_capnp_canon_inputs_report_refusal_51) + (i64)(8 * (u64)r_r5))), ld64((((u8 *)switch_table_capnp_canon_inputs_report_refusal_52) + (i64)(8 * (u64)r_r5))));
+l_switch_44:;
+    r_k2 = ld64((((u8 *)switch_table_capnp_canon_inputs_report_refusal_51) + (i64)(8 * r_50)));
+    r_os = ldp((((u8 *)switch_table_capnp_canon_inputs_report_refusal_50) + (i64)(8 * r_50)));
+l_capnp_ew:;
+    capnp_show_show_lines_Lines_write_refusal(a_3, r_os, r_k2);
     goto l_common_68;
 }
 
@@ -5763,8 +5980,8 @@ static void capnp_show_show_lines_show_pointers_5ccc1be374b2e488(u8 *a_1, u32 a_
     u8 *r_6c;
     u64 wide_24;
     u8 *t_6c;
-    u64 indvars_9o;
-    u32 r_hq;
+    u64 indvars_17;
+    u32 r_sr;
     u64 r_24;
     u64 r_au;
     u8 sink_ku;
@@ -5804,11 +6021,11 @@ l_join_m1:;
     r_6c = (slot_1 + 56);
     wide_24 = (u64)r_va;
     t_6c = (slot_1 + 56);
-    indvars_9o = 0ull;
-l_join_gt:;
-    r_hq = uadd_sat32((u32)indvars_9o, r_5k);
+    indvars_17 = 0ull;
+l_join_n9:;
+    r_sr = (r_5k + (u32)indvars_17);
     st64(t_6c, 0ull);
-    r_24 = (u64)r_hq;
+    r_24 = (u64)r_sr;
     if (!(r_gw > r_24)) goto l_capnp_nv;
     if (ld64(away(r_rv, (u64)(r_24 << 3ull))) == 0ull) goto l_capnp_nv;
     if (!(ld8(r_q6) == 0u)) goto l_capnp_ns;
@@ -5818,7 +6035,7 @@ l_join_gt:;
     if (!r_5t) { sink_ku = 1u; goto l_capnp_0x; }
     r_au = ld64(r_su);
 l_join_qq:;
-    st64((ldp(r_xm) + (i64)((u64)(r_au << 3ull))), ((u64)(indvars_9o << 32ull) | r_u3));
+    st64((ldp(r_xm) + (i64)((u64)(r_au << 3ull))), ((u64)(indvars_17 << 32ull) | r_u3));
     st64(r_su, (r_au + 1ull));
     sink_ku = 0u;
 l_capnp_0x:;
@@ -5830,7 +6047,7 @@ l_capnp_ns:;
     st64(r_lk, r_qw);
     stp(r_89, r_rv);
     st64(r_a8, r_qw_1);
-    st32(r_c4, r_hq);
+    st32(r_c4, r_sr);
     st32(r_bk, 0u);
     st32(r_6c, r_5k_1);
     capnp_show_show_lines_show_pointer_5ccc1be374b2e488(slot_1, r_ra, a_5);
@@ -5838,8 +6055,8 @@ l_capnp_ns:;
     if (r_52_1 == 0ull) goto l_capnp_nv;
     st64(r_su, (r_52_1 + 0xffffffffffffffffull));
 l_capnp_nv:;
-    u64 indvars_r7 = (indvars_9o + 1ull);
-    if (!(indvars_r7 == wide_24)) { indvars_9o = indvars_r7; goto l_join_gt; }
+    u64 indvars_r7 = (indvars_17 + 1ull);
+    if (!(indvars_r7 == wide_24)) { indvars_17 = indvars_r7; goto l_join_n9; }
 l_after_qk:;
     capnp_show_show_lines_Lines_write_list_cut(a_5, spec_u5);
     goto l_common_68;

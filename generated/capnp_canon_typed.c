@@ -2,7 +2,7 @@
  * tools/c_of_module. docs/PROVED.md says what you have to trust. */
 #include "capnp_canon.h"
 
-static NEVER void typed_conforming_conforms_check_object_5ccc1be374b2e488(u8 *a_1, u8 *a_2, u64 a_3, u8 *a_4, u8 *a_5, u32 a_6, u8 *a_7);
+static NEVER u8 typed_conforming_conforms_check_object_5ccc1be374b2e488(u8 *a_1, u64 a_2, u8 *a_3, u8 *a_4, u32 a_5, u8 *a_6);
 static NEVER u8 typed_conforming_conforms_is_utf8_by_bytes(u8 *a_1, u32 a_2);
 static void typed_conforming_conforms_narrow_elements_error(u8 *a_1, u8 a_2, u8 a_3);
 static NEVER u32 typed_conforming_table_tested_word(u8 *a_1, u64 a_2, u32 a_3, u8 *a_4, u32 a_5);
@@ -10,34 +10,39 @@ static NEVER u32 typed_conforming_table_tested_word(u8 *a_1, u64 a_2, u32 a_3, u
 /* typed_streams::conforming::test_message::<#e9487d0add956215> */
 void typed_streams_conforming_test_message_e9487d0add956215(u8 *a_1, u8 *a_2, u64 a_3, u32 a_4, u8 *a_5, u8 *a_6)
 {
-    A(8) u8 slot_1[48];
-    A(4) u8 slot_2[16];
+    A(4) u8 slot_1[16];
+    A(8) u8 slot_2[64];
     A(8) u8 slot_3[24];
-    A(8) u8 slot_4[24];
-    A(8) u8 slot_5[64];
+    A(8) u8 slot_4[64];
     u8 r_dh;
-    u64 r_eg;
     u64 t_qw;
     u32 t_5k;
     u64 r_yz;
-    u8 r_ts;
     u8 *r_xw;
     u64 r_ma;
     u64 r_9u;
     u64 r_l3;
     u64 r_h3;
-    u64 r_r6;
-    u8 *r_x5;
+    u64 r_5q;
     u64 r_52;
+    u64 r_sv;
+    u8 *r_ix;
+    u32 r_vm;
+    u32 r_40;
+    u32 r_u2;
+    u32 r_ta;
+    u64 r_21;
+    u64 r_c1;
+    u32 r_mb;
+    u32 r_kb;
+    u8 r_67;
     u32 r_50;
     r_dh = ld8(a_5);
-    r_eg = (u64)r_dh;
     t_qw = ld64(away(a_5, 8ull));
     t_5k = ld32(away(a_5, 16ull));
-    st64((slot_5 + 56), 0ull);
+    st64((slot_4 + 56), 0ull);
     r_yz = ld64(a_6);
-    r_ts = (r_yz == 0ull);
-    if (r_ts) { r_r6 = 0ull; goto l_capnp_t3; }
+    if (r_yz == 0ull) { r_50 = 12u; goto l_arm_hr; }
     r_xw = ldp(away(a_6, 32ull));
     r_ma = 0ull;
     r_9u = 0ull;
@@ -47,64 +52,62 @@ l_join_y7:;
     r_l3 = r_um;
     r_h3 = ld64(away(away(r_xw, r_um), 0xfffffffffffffff8ull));
 l_capnp_jc:;
-    u64 r_5q = (((ld64((r_xw + (i64)(r_l3))) - r_h3) & 0x1fffffffffffffffull) + r_ma);
+    r_5q = (((ld64((r_xw + (i64)(r_l3))) - r_h3) & 0x1fffffffffffffffull) + r_ma);
     u64 r_36 = (r_9u + 1ull);
-    if (r_36 == r_yz) { r_r6 = r_5q; goto l_capnp_t3; }
-    r_ma = r_5q;
-    r_9u = r_36;
-    goto l_join_y7;
-l_capnp_t3:;
+    if (!(r_36 == r_yz)) { r_ma = r_5q; r_9u = r_36; goto l_join_y7; }
     stp(slot_3, a_6);
     st32((slot_3 + 8), t_5k);
     st32((slot_3 + 12), 0u);
-    st64((slot_3 + 16), r_r6);
-    st64(slot_4, r_eg);
-    r_x5 = (slot_4 + 8);
-    st64(r_x5, t_qw);
-    st64((slot_4 + 16), 0ull);
-    if (r_ts) { r_50 = 12u; goto l_arm_hr; }
-    r_52 = ld64(ldp(away(a_6, 32ull)));
+    st64((slot_3 + 16), r_5q);
+    r_52 = ld64(r_xw);
     if ((r_52 & 0x1fffffffffffffffull) == 0ull) { r_50 = 23u; goto l_arm_hr; }
-    if (!(r_dh == 1u)) goto l_arm_eu;
+    if (!(r_dh == 1u)) { r_sv = t_qw; goto l_arm_eu; }
     if (t_qw == 0ull) { r_50 = 30u; goto l_arm_hr; }
-    st64(slot_4, 1ull);
-    st64(r_x5, (t_qw + 0xffffffffffffffffull));
+    r_sv = (t_qw + 0xffffffffffffffffull);
     goto l_arm_eu;
 l_common_68:;
     return;
 l_arm_eu:;
     u8 *r_lz = ldp(away(a_6, 56ull));
-    st64(slot_5, 0ull);
-    st64((slot_5 + 8), (u64)(uptr)slot_3);
-    memset((slot_5 + 16), 0u, 16);
-    stp((slot_5 + 32), r_lz);
-    st64((slot_5 + 40), (u64)(r_52 << 3ull));
-    st32((slot_5 + 48), 0u);
-    st32((slot_5 + 52), 0u);
-    st32((slot_5 + 56), t_5k);
-    memset(slot_1, 0u, 48);
-    st32(slot_2, 5u);
-    st32((slot_2 + 4), a_4);
-    st32((slot_2 + 8), 0u);
-    st32((slot_2 + 12), 0u);
-    typed_conforming_conforms_check_object_5ccc1be374b2e488(slot_1, a_2, a_3, slot_2, slot_5, 0u, slot_4);
-    u32 r_z4 = ld32((slot_1 + 8));
-    u32 r_uq = ld32((slot_1 + 12));
-    u64 r_38 = ld64((slot_1 + 16));
-    u64 r_38_1 = ld64((slot_1 + 24));
-    u32 r_z4_1 = ld32((slot_1 + 32));
-    u32 r_uq_1 = ld32((slot_1 + 36));
-    u32 r_z4_2 = ld32((slot_1 + 40));
-    u32 r_uq_2 = ld32((slot_1 + 44));
-    st8(a_1, ld8(slot_1));
-    st32(away(a_1, 8ull), r_z4);
-    st32(away(a_1, 12ull), r_uq);
-    st64(away(a_1, 16ull), r_38);
-    st64(away(a_1, 24ull), r_38_1);
-    st32(away(a_1, 32ull), r_z4_1);
-    st32(away(a_1, 36ull), r_uq_1);
-    st32(away(a_1, 40ull), r_z4_2);
-    st32(away(a_1, 44ull), r_uq_2);
+    st64(slot_4, 0ull);
+    st64((slot_4 + 8), (u64)(uptr)slot_3);
+    memset((slot_4 + 16), 0u, 16);
+    stp((slot_4 + 32), r_lz);
+    st64((slot_4 + 40), (u64)(r_52 << 3ull));
+    st32((slot_4 + 48), 0u);
+    st32((slot_4 + 52), 0u);
+    st32((slot_4 + 56), t_5k);
+    st32(slot_1, 5u);
+    st32((slot_1 + 4), a_4);
+    st32((slot_1 + 8), 0u);
+    st32((slot_1 + 12), 0u);
+    st32(slot_2, 30u);
+    r_ix = (slot_2 + 4);
+    memset(r_ix, 0u, 36);
+    st64((slot_2 + 40), (u64)r_dh);
+    st64((slot_2 + 48), r_sv);
+    st64((slot_2 + 56), 0ull);
+    u8 r_9p = typed_conforming_conforms_check_object_5ccc1be374b2e488(a_2, a_3, slot_1, slot_4, 0u, slot_2);
+    if (!(u8)(r_9p & 1)) { r_vm = 0u; r_40 = 0u; r_u2 = 0u; r_ta = 0u; r_21 = 0ull; r_c1 = 0ull; r_mb = 0u; r_kb = 0u; r_67 = 0u; goto l_typed_o5; }
+    r_vm = ld32((slot_2 + 24));
+    r_40 = ld32((slot_2 + 28));
+    r_u2 = ld32((slot_2 + 32));
+    r_ta = ld32((slot_2 + 36));
+    r_21 = ld64((slot_2 + 16));
+    r_c1 = ld64((slot_2 + 8));
+    r_mb = ld32(r_ix);
+    r_kb = ld32(slot_2);
+    r_67 = 1u;
+l_typed_o5:;
+    st8(a_1, r_67);
+    st32(away(a_1, 8ull), r_kb);
+    st32(away(a_1, 12ull), r_mb);
+    st64(away(a_1, 16ull), r_c1);
+    st64(away(a_1, 24ull), r_21);
+    st32(away(a_1, 32ull), r_vm);
+    st32(away(a_1, 36ull), r_40);
+    st32(away(a_1, 40ull), r_u2);
+    st32(away(a_1, 44ull), r_ta);
     goto l_common_68;
 l_arm_hr:;
     st8(a_1, 1u);
@@ -114,12 +117,11 @@ l_arm_hr:;
 }
 
 /* typed_conforming::conforms::check_object::<#5ccc1be374b2e488> */
-static NEVER void typed_conforming_conforms_check_object_5ccc1be374b2e488(u8 *a_1, u8 *a_2, u64 a_3, u8 *a_4, u8 *a_5, u32 a_6, u8 *a_7)
+static NEVER u8 typed_conforming_conforms_check_object_5ccc1be374b2e488(u8 *a_1, u64 a_2, u8 *a_3, u8 *a_4, u32 a_5, u8 *a_6)
 {
     A(8) u8 slot_1[56];
     A(4) u8 slot_2[16];
-    A(8) u8 slot_3[48];
-    A(8) u8 slot_4[64];
+    A(8) u8 slot_3[64];
     u8 r_dh;
     u8 r_dd;
     u32 r_5k;
@@ -135,6 +137,7 @@ static NEVER void typed_conforming_conforms_check_object_5ccc1be374b2e488(u8 *a_
     u8 *r_08;
     u8 *r_r2;
     u32 r_e3;
+    u8 *r_su;
     u64 r_7l;
     u64 r_gw;
     u64 r_qw;
@@ -152,7 +155,7 @@ static NEVER void typed_conforming_conforms_check_object_5ccc1be374b2e488(u8 *a_
     u64 r_ep;
     u64 r_y6;
     u64 r_lc_1;
-    u8 *r_rq_1;
+    u8 *r_t9;
     u64 r_52_1;
     u64 r_ep_1;
     u8 switch_wl;
@@ -160,7 +163,7 @@ static NEVER void typed_conforming_conforms_check_object_5ccc1be374b2e488(u8 *a_
     u64 r_c4;
     u64 r_24;
     u64 r_gw_1;
-    u8 *r_rq_2;
+    u8 *r_t9_1;
     u64 r_52_2;
     u64 r_eh;
     u32 t_c8;
@@ -168,17 +171,17 @@ static NEVER void typed_conforming_conforms_check_object_5ccc1be374b2e488(u8 *a_
     u32 r_az;
     u32 r_68;
     u64 r_c0;
-    u8 *r_rq_3;
+    u8 *r_t9_2;
     u64 r_52_3;
     u32 r_12_1;
-    u8 *r_rq_4;
+    u8 *r_t9_3;
     u64 r_52_4;
     u32 r_12_2;
-    u8 *r_rq_5;
+    u8 *r_t9_4;
     u64 r_52_5;
     u32 r_12_3;
     u64 r_c6;
-    u8 *r_rq_6;
+    u8 *r_t9_5;
     u64 r_52_6;
     u64 r_2g;
     u64 r_jg;
@@ -205,27 +208,27 @@ static NEVER void typed_conforming_conforms_check_object_5ccc1be374b2e488(u8 *a_
     u8 r_qf;
     u32 r_hk;
     u64 r_wj;
-    u32 r_4t;
-    u64 r_o8;
-    u32 r_xo;
-    u64 r_a2;
-    u32 r_mh;
-    u8 r_0a;
+    u32 r_mx;
+    u64 r_99;
+    u32 r_lf;
+    u64 r_g2;
+    u32 r_xd;
+    u8 r_x2;
     u32 r_5d;
     u32 r_j5;
     u32 r_rr;
     u32 r_hr;
     u8 r_dh_1;
-    u32 r_mx;
+    u32 r_mx_1;
     u8 *r_89;
     u8 *t_f6_2;
-    u8 *r_he;
-    u64 r_sf;
-    u32 r_ze;
+    u64 r_24_2;
+    u8 *r_3s;
+    u64 r_cz;
+    u32 r_iz;
+    u8 *r_fd;
+    u64 r_1x;
     u32 narrow_68;
-    u8 r_qc;
-    u8 *r_a7;
-    u64 r_c4_1;
     u8 *r_x5;
     u8 *r_lk;
     u8 *r_nk;
@@ -233,8 +236,15 @@ static NEVER void typed_conforming_conforms_check_object_5ccc1be374b2e488(u8 *a_
     u8 *r_ix;
     u8 *r_x5_1;
     u8 *r_k0;
-    u8 *r_08_2;
-    u8 *r_rq_7;
+    u8 *r_r2_2;
+    u8 *r_t9_6;
+    u8 *r_sl;
+    u8 *r_e7;
+    u8 *r_ud;
+    u8 *r_ng;
+    u8 *r_zh;
+    u8 *r_z8;
+    u8 *r_sd;
     u8 *r_x5_2;
     u8 *r_zd;
     u8 *r_lk_1;
@@ -242,17 +252,9 @@ static NEVER void typed_conforming_conforms_check_object_5ccc1be374b2e488(u8 *a_
     u8 *r_x5_3;
     u8 *r_k0_1;
     u8 *r_zd_1;
-    u8 *r_lk_2;
-    u8 *r_89_1;
-    u8 *r_gs;
-    u8 *r_a8;
-    u8 *r_f3;
     u8 *r_x5_4;
-    u8 *r_k0_2;
     u8 *r_zd_2;
-    u8 *r_x5_5;
-    u8 *r_zd_3;
-    u8 *r_lk_3;
+    u8 *r_lk_2;
     u8 *r_nk_2;
     u64 wide_es_1;
     u64 r_gw_2;
@@ -268,28 +270,21 @@ static NEVER void typed_conforming_conforms_check_object_5ccc1be374b2e488(u8 *a_
     u32 r_w0;
     u32 r_w0_1;
     u32 r_w0_2;
-    u64 indvars_b4;
+    u64 indvars_vr;
     u32 t_nk;
     u32 r_sr;
-    u64 r_24_4;
+    u64 r_24_3;
     u64 r_qw_3;
-    u64 r_pl;
     u32 r_yf_1;
     u32 common_8i;
     u64 r_ep_2;
     u8 switch_wl_1;
+    u8 t_8c;
     u64 r_ij_1;
     u64 r_c6_1;
     u64 r_lc_2;
     u64 r_y0;
     u64 r_52_9;
-    u64 t_5e;
-    u32 r_85;
-    u64 r_49;
-    u32 r_10_1;
-    u32 r_0a_1;
-    u32 r_mo;
-    u8 r_r5;
     u64 r_ij_2;
     u32 r_12_4;
     u64 r_c6_2;
@@ -298,19 +293,13 @@ static NEVER void typed_conforming_conforms_check_object_5ccc1be374b2e488(u8 *a_
     u32 r_4r;
     u8 r_8u;
     u64 r_52_10;
-    u32 r_bp;
-    u64 r_24_5;
+    u32 r_ry;
+    u64 r_24_4;
     u64 r_gw_3;
     u64 indvars_qd_1;
-    u32 r_85_1;
-    u64 r_49_1;
-    u32 r_10_2;
-    u32 r_0a_2;
-    u32 r_mo_1;
-    u8 r_r5_1;
     u32 switch_4w;
-    u8 r_4h;
-    u8 r_0h;
+    u8 r_8r;
+    u8 r_lu;
     u64 r_ij_3;
     u32 r_12_5;
     u64 r_c6_3;
@@ -319,64 +308,41 @@ static NEVER void typed_conforming_conforms_check_object_5ccc1be374b2e488(u8 *a_
     u32 r_4r_1;
     u8 r_8u_1;
     u64 r_52_11;
-    u32 r_rj;
-    u64 r_24_6;
+    u32 r_0n;
+    u64 r_24_5;
     u64 r_gw_4;
     u64 indvars_qd_2;
-    u8 r_1m;
-    u8 r_fh;
-    u32 r_1b;
-    u64 r_sb;
-    u32 r_5t;
-    u64 r_uw;
-    u32 r_0h_1;
-    u32 r_e1;
-    u32 r_d7;
-    u64 r_73;
-    u64 r_do;
-    u32 r_zu;
-    u32 r_jw;
-    u32 r_dg;
-    u8 r_rf_1;
+    u8 r_bv;
+    u8 r_w9;
+    u32 r_sl_1;
+    u64 r_ko;
     u32 r_8n;
     u8 r_p9_1;
     u8 r_8f;
-    u32 r_73_1;
-    u32 r_pe;
-    u32 r_wb;
-    u32 r_9k;
-    u32 r_rw;
-    u64 r_bv;
-    u64 r_z1;
-    u32 r_q6;
-    u32 r_bq;
-    u8 r_rf;
-    u8 r_10;
-    u32 r_kb;
-    u32 r_n4;
-    u64 r_yp;
-    u64 r_iz;
-    u32 r_62;
-    u32 r_24_2;
-    u32 r_lt;
-    u32 r_va;
-    r_dh = ld8(a_4);
-    r_dd = ld8((a_4 + 1));
-    r_5k = ld32((a_4 + 4));
-    r_5k_1 = ld32((a_4 + 8));
-    r_5k_2 = ld32((a_4 + 12));
-    st64((slot_4 + 56), 0ull);
-    r_xz = away(a_5, 24ull);
+    u32 r_73;
+    u32 r_g6;
+    u32 r_8q;
+    u64 r_o5;
+    u8 r_jm;
+    u8 r_fk;
+    r_dh = ld8(a_3);
+    r_dd = ld8((a_3 + 1));
+    r_5k = ld32((a_3 + 4));
+    r_5k_1 = ld32((a_3 + 8));
+    r_5k_2 = ld32((a_3 + 12));
+    st64((slot_3 + 56), 0ull);
+    r_xz = away(a_4, 24ull);
     r_52 = ld64(r_xz);
-    r_xw = ldp(away(a_5, 32ull));
-    r_38 = ld64(away(a_5, 40ull));
-    r_y8 = ld8(a_5);
-    r_rq = away(a_5, 8ull);
+    r_xw = ldp(away(a_4, 32ull));
+    r_38 = ld64(away(a_4, 40ull));
+    r_y8 = ld8(a_4);
+    r_rq = away(a_4, 8ull);
     r_xw_1 = ldp(r_rq);
-    r_08 = away(a_5, 16ull);
-    r_r2 = away(a_5, 56ull);
+    r_08 = away(a_4, 16ull);
+    r_r2 = away(a_4, 56ull);
     r_e3 = ld32(r_r2);
-    r_7l = (u64)a_6;
+    r_su = away(a_6, 40ull);
+    r_7l = (u64)a_5;
     r_gw = (u64)(r_38 >> 3ull);
     if (!(r_gw > r_7l)) { r_7k = 0u; r_4n = 0u; r_f7 = 0ull; switch_vz = 0u; r_a3 = 0u; r_ow = 0u; r_hw = 0u; r_yw = 0ull; r_ps = 0ull; goto l_arm_1h; }
     r_qw = ld64(away(r_xw, (u64)(r_7l << 3ull)));
@@ -385,9 +351,9 @@ static NEVER void typed_conforming_conforms_check_object_5ccc1be374b2e488(u8 *a_
     memset(slot_1, 0u, 56);
     t_pa = (r_y8 != 0u);
     if (t_pa) goto l_capnp_sm;
-    u8 *r_08_1 = away(a_7, 16ull);
-    st64(r_08_1, uadd_sat64(ld64(r_08_1), 1ull));
-    if ((r_qw & 3ull) == 2ull) goto l_capnp_bt;
+    u8 *r_r2_1 = away(a_6, 56ull);
+    st64(r_r2_1, uadd_sat64(ld64(r_r2_1), 1ull));
+    if ((r_qw & 3ull) == 2ull) goto l_capnp_h9;
     goto l_join_bd;
 l_capnp_sm:;
     if (!((r_qw & 3ull) == 2ull)) goto l_join_bd;
@@ -414,8 +380,8 @@ l_capnp_i5:;
     r_o2 = r_38;
     r_hq = t_al;
     goto l_arm_gc;
-l_capnp_bt:;
-    capnp_objects_source_follow_far_5ccc1be374b2e488(slot_1, r_xw_1, r_qw, a_7);
+l_capnp_h9:;
+    capnp_pointers_source_follow_far_5ccc1be374b2e488(slot_1, r_xw_1, r_qw, r_su);
     u64 r_38_2 = ld64((slot_1 + 16));
     u64 r_38_3 = ld64((slot_1 + 8));
     if (ld8(slot_1) == 0u) { r_ag = ld32((slot_1 + 44)); r_38_1 = ld32((slot_1 + 40)); r_7w = r_38_2; r_un = r_38_3; r_o2 = ld64((slot_1 + 32)); r_hq = ld64((slot_1 + 24)); goto l_arm_gc; }
@@ -426,23 +392,23 @@ l_arm_gc:;
     switch ((u8)((u8)r_un & 3u)) {
     case 0u: goto l_arm_zd;
     case 1u: goto l_arm_z2;
-    case 2u: { r_4t = 13u; r_o8 = 0ull; r_xo = 0u; goto l_arm_r8; }
+    case 2u: { r_mx = 13u; r_99 = 0ull; r_lf = 0u; goto l_arm_am; }
     case 3u: goto l_capnp_32;
     default: goto l_default_e1;
     }
 l_arm_zd:;
     r_ep = (u64)(r_un >> 32ull);
     r_y6 = (u64)(r_un >> 48ull);
-    if ((i32)r_e3 < (i32)1u) { r_4t = 26u; r_o8 = 0ull; r_xo = 0u; goto l_arm_r8; }
+    if ((i32)r_e3 < (i32)1u) { r_mx = 26u; r_99 = 0ull; r_lf = 0u; goto l_arm_am; }
     r_lc_1 = ((r_ep & 65535ull) + r_y6);
-    if (((u64)(r_o2 >> 3ull) & 0xffffffffull) < (r_lc_1 + (u64)r_38_1)) { r_4t = 23u; r_o8 = 0ull; r_xo = 0u; goto l_arm_r8; }
+    if (((u64)(r_o2 >> 3ull) & 0xffffffffull) < (r_lc_1 + (u64)r_38_1)) { r_mx = 23u; r_99 = 0ull; r_lf = 0u; goto l_arm_am; }
     if (t_pa) goto l_arm_mf;
-    if (!(ld8(a_7) == 1u)) goto l_arm_mf;
-    r_rq_1 = away(a_7, 8ull);
-    r_52_1 = ld64(r_rq_1);
-    if (r_52_1 < r_lc_1) { r_4t = 30u; r_o8 = 0ull; r_xo = 0u; goto l_arm_r8; }
-    st64(a_7, 1ull);
-    st64(r_rq_1, (r_52_1 - r_lc_1));
+    if (!(ld8(r_su) == 1u)) goto l_arm_mf;
+    r_t9 = away(a_6, 48ull);
+    r_52_1 = ld64(r_t9);
+    if (r_52_1 < r_lc_1) { r_mx = 30u; r_99 = 0ull; r_lf = 0u; goto l_arm_am; }
+    st64(r_su, 1ull);
+    st64(r_t9, (r_52_1 - r_lc_1));
 l_arm_mf:;
     r_7k = 0u;
     r_4n = ((u32)((u32)r_y6 << 16u) | ((u32)r_ep & 65535u));
@@ -470,40 +436,40 @@ l_arm_z2:;
     default: goto l_default_e1;
     }
 l_arm_td:;
-    if ((i32)r_e3 < (i32)1u) { r_4t = 26u; r_o8 = 0ull; r_xo = 0u; goto l_arm_r8; }
+    if ((i32)r_e3 < (i32)1u) { r_mx = 26u; r_99 = 0ull; r_lf = 0u; goto l_arm_am; }
     r_c4 = (r_ij + 1ull);
     r_24 = (u64)r_38_1;
     r_gw_1 = (u64)(r_o2 >> 3ull);
-    if ((r_gw_1 & 0xffffffffull) < (r_c4 + r_24)) { r_4t = 23u; r_o8 = 0ull; r_xo = 0u; goto l_arm_r8; }
+    if ((r_gw_1 & 0xffffffffull) < (r_c4 + r_24)) { r_mx = 23u; r_99 = 0ull; r_lf = 0u; goto l_arm_am; }
     if (t_pa) goto l_arm_ga;
-    if (!(ld8(a_7) == 1u)) goto l_arm_ga;
-    r_rq_2 = away(a_7, 8ull);
-    r_52_2 = ld64(r_rq_2);
-    if (!(r_52_2 > r_ij)) { r_4t = 30u; r_o8 = 0ull; r_xo = 0u; goto l_arm_r8; }
-    st64(a_7, 1ull);
-    st64(r_rq_2, (r_52_2 - r_c4));
+    if (!(ld8(r_su) == 1u)) goto l_arm_ga;
+    r_t9_1 = away(a_6, 48ull);
+    r_52_2 = ld64(r_t9_1);
+    if (!(r_52_2 > r_ij)) { r_mx = 30u; r_99 = 0ull; r_lf = 0u; goto l_arm_am; }
+    st64(r_su, 1ull);
+    st64(r_t9_1, (r_52_2 - r_c4));
 l_arm_ga:;
     if (!(r_gw_1 > r_24)) { r_eh = 0ull; goto l_join_qm; }
     u64 r_qw_1 = ld64(away(((u8 *)(uptr)r_hq), (u64)(r_24 << 3ull)));
     if ((r_qw_1 & 3ull) == 0ull) { r_eh = r_qw_1; goto l_join_qm; }
-    r_4t = 11u;
-    r_o8 = 0ull;
-    r_xo = 0u;
-    goto l_arm_r8;
+    r_mx = 11u;
+    r_99 = 0ull;
+    r_lf = 0u;
+    goto l_arm_am;
 l_join_qm:;
     t_c8 = (u32)((u32)r_eh >> 2u);
     r_12 = (u32)(u64)(r_eh >> 48ull);
     r_az = ((u32)(u64)(r_eh >> 32ull) & 65535u);
     r_68 = (r_az + r_12);
     r_c0 = (u64)t_c8;
-    if (r_ij < ((u64)r_68 * r_c0)) { r_4t = 10u; r_o8 = 0ull; r_xo = 0u; goto l_arm_r8; }
+    if (r_ij < ((u64)r_68 * r_c0)) { r_mx = 10u; r_99 = 0ull; r_lf = 0u; goto l_arm_am; }
     if ((u8)((u8)t_pa | (u8)(r_68 != 0u))) goto l_arm_8v;
-    if (!(ld8(a_7) == 1u)) goto l_arm_8v;
-    r_rq_3 = away(a_7, 8ull);
-    r_52_3 = ld64(r_rq_3);
-    if (r_52_3 < r_c0) { r_4t = 30u; r_o8 = 0ull; r_xo = 0u; goto l_arm_r8; }
-    st64(a_7, 1ull);
-    st64(r_rq_3, (r_52_3 - r_c0));
+    if (!(ld8(r_su) == 1u)) goto l_arm_8v;
+    r_t9_2 = away(a_6, 48ull);
+    r_52_3 = ld64(r_t9_2);
+    if (r_52_3 < r_c0) { r_mx = 30u; r_99 = 0ull; r_lf = 0u; goto l_arm_am; }
+    st64(r_su, 1ull);
+    st64(r_t9_2, (r_52_3 - r_c0));
 l_arm_8v:;
     r_7k = t_c8;
     r_4n = ((u32)(r_12 << 16u) | r_az);
@@ -517,15 +483,15 @@ l_arm_8v:;
     goto l_arm_1h;
 l_arm_ff:;
     r_12_1 = (u32)r_ij;
-    if ((i32)r_e3 < (i32)1u) { r_4t = 26u; r_o8 = 0ull; r_xo = 0u; goto l_arm_r8; }
-    if (((u64)(r_o2 >> 3ull) & 0xffffffffull) < (r_ij + (u64)r_38_1)) { r_4t = 23u; r_o8 = 0ull; r_xo = 0u; goto l_arm_r8; }
+    if ((i32)r_e3 < (i32)1u) { r_mx = 26u; r_99 = 0ull; r_lf = 0u; goto l_arm_am; }
+    if (((u64)(r_o2 >> 3ull) & 0xffffffffull) < (r_ij + (u64)r_38_1)) { r_mx = 23u; r_99 = 0ull; r_lf = 0u; goto l_arm_am; }
     if (t_pa) { r_7k = 0u; r_4n = r_12_1; r_f7 = r_7w; switch_vz = 1u; r_a3 = 4u; r_ow = r_ag; r_hw = r_38_1; r_yw = r_o2; r_ps = r_hq; goto l_arm_1h; }
-    if (!(ld8(a_7) == 1u)) { r_7k = 0u; r_4n = r_12_1; r_f7 = r_7w; switch_vz = 1u; r_a3 = 4u; r_ow = r_ag; r_hw = r_38_1; r_yw = r_o2; r_ps = r_hq; goto l_arm_1h; }
-    r_rq_4 = away(a_7, 8ull);
-    r_52_4 = ld64(r_rq_4);
-    if (r_52_4 < r_ij) { r_4t = 30u; r_o8 = 0ull; r_xo = 0u; goto l_arm_r8; }
-    st64(a_7, 1ull);
-    st64(r_rq_4, (r_52_4 - r_ij));
+    if (!(ld8(r_su) == 1u)) { r_7k = 0u; r_4n = r_12_1; r_f7 = r_7w; switch_vz = 1u; r_a3 = 4u; r_ow = r_ag; r_hw = r_38_1; r_yw = r_o2; r_ps = r_hq; goto l_arm_1h; }
+    r_t9_3 = away(a_6, 48ull);
+    r_52_4 = ld64(r_t9_3);
+    if (r_52_4 < r_ij) { r_mx = 30u; r_99 = 0ull; r_lf = 0u; goto l_arm_am; }
+    st64(r_su, 1ull);
+    st64(r_t9_3, (r_52_4 - r_ij));
     r_7k = 0u;
     r_4n = r_12_1;
     r_f7 = r_7w;
@@ -538,15 +504,15 @@ l_arm_ff:;
     goto l_arm_1h;
 l_arm_ff_1:;
     r_12_2 = (u32)r_ij;
-    if ((i32)r_e3 < (i32)1u) { r_4t = 26u; r_o8 = 0ull; r_xo = 0u; goto l_arm_r8; }
-    if (((u64)(r_o2 >> 3ull) & 0xffffffffull) < (u64)r_38_1) { r_4t = 23u; r_o8 = 0ull; r_xo = 0u; goto l_arm_r8; }
+    if ((i32)r_e3 < (i32)1u) { r_mx = 26u; r_99 = 0ull; r_lf = 0u; goto l_arm_am; }
+    if (((u64)(r_o2 >> 3ull) & 0xffffffffull) < (u64)r_38_1) { r_mx = 23u; r_99 = 0ull; r_lf = 0u; goto l_arm_am; }
     if (t_pa) { r_7k = r_12_2; r_4n = 0u; r_f7 = r_7w; switch_vz = 1u; r_a3 = 3u; r_ow = r_ag; r_hw = r_38_1; r_yw = r_o2; r_ps = r_hq; goto l_arm_1h; }
-    if (!(ld8(a_7) == 1u)) { r_7k = r_12_2; r_4n = 0u; r_f7 = r_7w; switch_vz = 1u; r_a3 = 3u; r_ow = r_ag; r_hw = r_38_1; r_yw = r_o2; r_ps = r_hq; goto l_arm_1h; }
-    st64(a_7, 1ull);
-    r_rq_5 = away(a_7, 8ull);
-    r_52_5 = ld64(r_rq_5);
-    if (r_52_5 < r_ij) { r_4t = 30u; r_o8 = 0ull; r_xo = 0u; goto l_arm_r8; }
-    st64(r_rq_5, (r_52_5 - r_ij));
+    if (!(ld8(r_su) == 1u)) { r_7k = r_12_2; r_4n = 0u; r_f7 = r_7w; switch_vz = 1u; r_a3 = 3u; r_ow = r_ag; r_hw = r_38_1; r_yw = r_o2; r_ps = r_hq; goto l_arm_1h; }
+    st64(r_su, 1ull);
+    r_t9_4 = away(a_6, 48ull);
+    r_52_5 = ld64(r_t9_4);
+    if (r_52_5 < r_ij) { r_mx = 30u; r_99 = 0ull; r_lf = 0u; goto l_arm_am; }
+    st64(r_t9_4, (r_52_5 - r_ij));
     r_7k = r_12_2;
     r_4n = 0u;
     r_f7 = r_7w;
@@ -559,16 +525,16 @@ l_arm_ff_1:;
     goto l_arm_1h;
 l_arm_ff_2:;
     r_12_3 = (u32)r_ij;
-    if ((i32)r_e3 < (i32)1u) { r_4t = 26u; r_o8 = 0ull; r_xo = 0u; goto l_arm_r8; }
-    r_c6 = (u64)(((ld64(away(away(((u8 *)switch_table_typed_conforming_conforms_check_object_5c_426a4812), 8 * (r_ep_1 & 7ull)), 0xfffffffffffffff8ull)) * r_ij) + 63ull) >> 6ull);
-    if (((u64)(r_o2 >> 3ull) & 0xffffffffull) < (r_c6 + (u64)r_38_1)) { r_4t = 23u; r_o8 = 0ull; r_xo = 0u; goto l_arm_r8; }
+    if ((i32)r_e3 < (i32)1u) { r_mx = 26u; r_99 = 0ull; r_lf = 0u; goto l_arm_am; }
+    r_c6 = (u64)(((ld64(away(away(((u8 *)switch_table_typed_conforming_conforms_check_object_5c_e20a29a0), 8 * (r_ep_1 & 7ull)), 0xfffffffffffffff8ull)) * r_ij) + 63ull) >> 6ull);
+    if (((u64)(r_o2 >> 3ull) & 0xffffffffull) < (r_c6 + (u64)r_38_1)) { r_mx = 23u; r_99 = 0ull; r_lf = 0u; goto l_arm_am; }
     if (t_pa) goto l_arm_eq;
-    if (!(ld8(a_7) == 1u)) goto l_arm_eq;
-    r_rq_6 = away(a_7, 8ull);
-    r_52_6 = ld64(r_rq_6);
-    if (r_52_6 < r_c6) { r_4t = 30u; r_o8 = 0ull; r_xo = 0u; goto l_arm_r8; }
-    st64(a_7, 1ull);
-    st64(r_rq_6, (r_52_6 - r_c6));
+    if (!(ld8(r_su) == 1u)) goto l_arm_eq;
+    r_t9_5 = away(a_6, 48ull);
+    r_52_6 = ld64(r_t9_5);
+    if (r_52_6 < r_c6) { r_mx = 30u; r_99 = 0ull; r_lf = 0u; goto l_arm_am; }
+    st64(r_su, 1ull);
+    st64(r_t9_5, (r_52_6 - r_c6));
 l_arm_eq:;
     r_7k = r_12_3;
     r_4n = (u32)switch_wl;
@@ -586,43 +552,43 @@ l_capnp_8g:;
     r_jg = 0ull;
     r_6e = r_2g;
 l_capnp_qu:;
-    r_4t = ((u32)r_6e & 255u);
-    r_o8 = r_jg;
-    r_xo = (u32)(u64)(r_6e >> 32ull);
-    goto l_arm_r8;
+    r_mx = ((u32)r_6e & 255u);
+    r_99 = r_jg;
+    r_lf = (u32)(u64)(r_6e >> 32ull);
+    goto l_arm_am;
 l_capnp_32:;
     u8 r_e6 = ((r_un & 0xffffffffull) == 3ull);
     if (r_e6) { r_7k = 0u; r_4n = 0u; r_f7 = 0ull; switch_vz = 0u; r_a3 = 1u; r_ow = 0u; r_hw = 0u; r_yw = 0ull; r_ps = 0ull; goto l_arm_1h; }
-    r_4t = (r_e6 ? 1u : 34u);
-    r_o8 = 0ull;
-    r_xo = 0u;
-    goto l_arm_r8;
+    r_mx = (r_e6 ? 1u : 34u);
+    r_99 = 0ull;
+    r_lf = 0u;
+    goto l_arm_am;
 l_arm_1h:;
     switch (r_dh) {
-    case 0u: goto l_join_9d;
-    case 2u: goto l_arm_27;
-    case 3u: goto l_arm_27_1;
-    case 4u: goto l_arm_z5;
+    case 0u: goto l_join_xx;
+    case 2u: goto l_arm_y7;
+    case 3u: goto l_arm_y7_1;
+    case 4u: goto l_arm_r1;
     case 7u: goto l_arm_cz;
     case 1u: goto l_arm_lh;
     case 5u: goto l_arm_t4;
     case 6u: goto l_arm_ha;
     default: goto l_noarm_e1;
     }
-l_arm_27:;
+l_arm_y7:;
     t_f6 = ((u8 *)(uptr)r_ps);
     switch (r_a3) {
-    case 0u: goto l_arm_z2_1;
+    case 0u: { r_fk = r_a3; goto l_return_ri; }
     case 3u: goto l_arm_cq;
     case 4u: goto l_after_m6;
     case 5u: goto l_after_m6;
-    case 1u: { r_a2 = 0ull; r_mh = 0u; r_0a = 20u; goto l_arm_vs; }
-    case 2u: { r_a2 = 0ull; r_mh = 0u; r_0a = 20u; goto l_arm_vs; }
+    case 1u: { r_g2 = 0ull; r_xd = 0u; r_x2 = 20u; goto l_arm_b3; }
+    case 2u: { r_g2 = 0ull; r_xd = 0u; r_x2 = 20u; goto l_arm_b3; }
     default: goto l_noarm_e1_1;
     }
 l_arm_cq:;
     if (!((r_4n & 255u) == 2u)) goto l_after_m6;
-    if (r_7k == 0u) { r_a2 = 0ull; r_mh = 0u; r_0a = 24u; goto l_arm_vs; }
+    if (r_7k == 0u) { r_g2 = 0ull; r_xd = 0u; r_x2 = 24u; goto l_arm_b3; }
     u64 r_es = (u64)(r_7k + 0xffffffffu);
     u8 r_pa = ((ld64(away(t_f6, (((u64)((u64)r_hw << 3ull) + r_es) & 0xffffffff8ull))) & (u64)(255ull << (((u64)(r_es << 3ull) & 56ull) & 63u))) != 0ull);
     r_la = r_pa;
@@ -631,38 +597,38 @@ l_arm_cq:;
     r_wj = 0ull;
     goto l_typed_i0;
 l_after_m6:;
-    r_a2 = 0ull;
-    r_mh = 0u;
-    r_0a = 15u;
-    goto l_arm_vs;
+    r_g2 = 0ull;
+    r_xd = 0u;
+    r_x2 = 15u;
+    goto l_arm_b3;
 l_noarm_e1_1:;
     UNREACHABLE();
-l_arm_27_1:;
+l_arm_y7_1:;
     t_f6_1 = ((u8 *)(uptr)r_ps);
     switch (r_a3) {
-    case 0u: goto l_arm_z2_1;
+    case 0u: { r_fk = r_a3; goto l_return_ri; }
     case 3u: goto l_arm_cq_1;
     case 4u: goto l_after_m6_1;
     case 5u: goto l_after_m6_1;
-    case 1u: { r_a2 = 0ull; r_mh = 0u; r_0a = 20u; goto l_arm_vs; }
-    case 2u: { r_a2 = 0ull; r_mh = 0u; r_0a = 20u; goto l_arm_vs; }
+    case 1u: { r_g2 = 0ull; r_xd = 0u; r_x2 = 20u; goto l_arm_b3; }
+    case 2u: { r_g2 = 0ull; r_xd = 0u; r_x2 = 20u; goto l_arm_b3; }
     default: goto l_noarm_e1_2;
     }
 l_arm_cq_1:;
     if (!((r_4n & 255u) == 2u)) goto l_after_m6_1;
-    if (r_7k == 0u) { r_a2 = 0ull; r_mh = 0u; r_0a = 24u; goto l_arm_vs; }
+    if (r_7k == 0u) { r_g2 = 0ull; r_xd = 0u; r_x2 = 24u; goto l_arm_b3; }
     u64 r_es_1 = (u64)(r_7k + 0xffffffffu);
     r_24_1 = (u64)r_hw;
     if ((ld64(away(t_f6_1, (((u64)(r_24_1 << 3ull) + r_es_1) & 0xffffffff8ull))) & (u64)(255ull << (((u64)(r_es_1 << 3ull) & 56ull) & 63u))) == 0ull) goto l_join_zu;
-    r_a2 = 0ull;
-    r_mh = 0u;
-    r_0a = 24u;
-    goto l_arm_vs;
+    r_g2 = 0ull;
+    r_xd = 0u;
+    r_x2 = 24u;
+    goto l_arm_b3;
 l_after_m6_1:;
-    r_a2 = 0ull;
-    r_mh = 0u;
-    r_0a = 15u;
-    goto l_arm_vs;
+    r_g2 = 0ull;
+    r_xd = 0u;
+    r_x2 = 15u;
+    goto l_arm_b3;
 l_noarm_e1_2:;
     UNREACHABLE();
 l_join_zu:;
@@ -672,7 +638,7 @@ l_join_zu:;
 l_loop_qu:;
     u64 indvars_r7 = (indvars_qd + 1ull);
     if (!(indvars_r7 == wide_es)) { indvars_qd = indvars_r7; goto l_join_aa; }
-    goto l_join_9d;
+    goto l_join_xx;
 l_join_aa:;
     if ((ld64(away(t_f6_1, (u64)((indvars_qd + r_24_1) << 3ull))) & 0x8080808080808080ull) == 0ull) goto l_loop_qu;
     st64(slot_1, r_f7);
@@ -686,23 +652,23 @@ l_join_aa:;
     r_hk = 0u;
     r_wj = 0ull;
     goto l_typed_i0;
-l_arm_z5:;
+l_arm_r1:;
     switch (r_a3) {
-    case 0u: goto l_arm_z2_1;
-    case 3u: goto l_arm_cq_2;
+    case 0u: { r_fk = r_a3; goto l_return_ri; }
+    case 3u: goto l_arm_k5;
     case 4u: goto l_after_m6_2;
     case 5u: goto l_after_m6_2;
-    case 1u: { r_a2 = 0ull; r_mh = 0u; r_0a = 18u; goto l_arm_vs; }
-    case 2u: { r_a2 = 0ull; r_mh = 0u; r_0a = 18u; goto l_arm_vs; }
+    case 1u: { r_g2 = 0ull; r_xd = 0u; r_x2 = 18u; goto l_arm_b3; }
+    case 2u: { r_g2 = 0ull; r_xd = 0u; r_x2 = 18u; goto l_arm_b3; }
     default: goto l_noarm_e1_3;
     }
-l_arm_cq_2:;
-    if ((r_4n & 255u) == 2u) goto l_arm_z2_1;
+l_arm_k5:;
+    if ((r_4n & 255u) == 2u) { r_fk = 0u; goto l_return_ri; }
 l_after_m6_2:;
-    r_a2 = 0ull;
-    r_mh = 0u;
-    r_0a = 14u;
-    goto l_arm_vs;
+    r_g2 = 0ull;
+    r_xd = 0u;
+    r_x2 = 14u;
+    goto l_arm_b3;
 l_noarm_e1_3:;
     UNREACHABLE();
 l_arm_cz:;
@@ -786,12 +752,12 @@ l_arm_lh:;
     goto l_typed_i0;
 l_arm_t4:;
     switch (r_a3) {
-    case 0u: goto l_join_9d;
-    case 2u: goto l_join_9d;
-    case 1u: { r_a2 = 0ull; r_mh = 0u; r_0a = 21u; goto l_arm_vs; }
-    case 3u: { r_a2 = 0ull; r_mh = 0u; r_0a = 21u; goto l_arm_vs; }
-    case 4u: { r_a2 = 0ull; r_mh = 0u; r_0a = 21u; goto l_arm_vs; }
-    case 5u: { r_a2 = 0ull; r_mh = 0u; r_0a = 21u; goto l_arm_vs; }
+    case 0u: goto l_join_xx;
+    case 2u: goto l_join_xx;
+    case 1u: { r_g2 = 0ull; r_xd = 0u; r_x2 = 21u; goto l_arm_b3; }
+    case 3u: { r_g2 = 0ull; r_xd = 0u; r_x2 = 21u; goto l_arm_b3; }
+    case 4u: { r_g2 = 0ull; r_xd = 0u; r_x2 = 21u; goto l_arm_b3; }
+    case 5u: { r_g2 = 0ull; r_xd = 0u; r_x2 = 21u; goto l_arm_b3; }
     default: goto l_noarm_e1;
     }
 l_arm_ha:;
@@ -804,40 +770,38 @@ l_arm_ha:;
 l_noarm_e1:;
     UNREACHABLE();
 l_typed_i0:;
-    if (r_la) { r_a2 = r_wj; r_mh = r_hk; r_0a = r_qf; goto l_arm_vs; }
-    goto l_join_9d;
-l_common_68:;
-    return;
-l_arm_r8:;
+    if (r_la) { r_g2 = r_wj; r_xd = r_hk; r_x2 = r_qf; goto l_arm_b3; }
+    goto l_join_xx;
+l_arm_am:;
     u64 r_52_7 = ld64(r_xz);
-    st8(a_1, 1u);
-    st32(away(a_1, 8ull), r_4t);
-    st32(away(a_1, 12ull), r_xo);
-    st64(away(a_1, 16ull), r_o8);
-    st64(away(a_1, 24ull), r_52_7);
-    st32(away(a_1, 32ull), a_6);
-    st32(away(a_1, 36ull), r_5k_1);
-    st32(away(a_1, 40ull), r_5k_2);
-    st32(away(a_1, 44ull), 0u);
-    goto l_common_68;
-l_arm_vs:;
+    st32(a_6, r_mx);
+    st32((a_6 + 4), r_lf);
+    st64((a_6 + 8), r_99);
+    st64((a_6 + 16), r_52_7);
+    st32((a_6 + 24), a_5);
+    st32((a_6 + 28), r_5k_1);
+    st32((a_6 + 32), r_5k_2);
+    st32((a_6 + 36), 0u);
+    r_fk = 1u;
+    goto l_return_ri;
+l_arm_b3:;
     u64 r_52_8 = ld64(r_xz);
-    st8(a_1, 1u);
-    st32(away(a_1, 8ull), (u32)r_0a);
-    st32(away(a_1, 12ull), r_mh);
-    st64(away(a_1, 16ull), r_a2);
-    st64(away(a_1, 24ull), r_52_8);
-    st32(away(a_1, 32ull), a_6);
-    st32(away(a_1, 36ull), r_5k_1);
-    st32(away(a_1, 40ull), r_5k_2);
-    st32(away(a_1, 44ull), 0u);
-    goto l_common_68;
-l_join_9d:;
+    st32(a_6, (u32)r_x2);
+    st32((a_6 + 4), r_xd);
+    st64((a_6 + 8), r_g2);
+    st64((a_6 + 16), r_52_8);
+    st32((a_6 + 24), a_5);
+    st32((a_6 + 28), r_5k_1);
+    st32((a_6 + 32), r_5k_2);
+    st32((a_6 + 36), 0u);
+    r_fk = 1u;
+    goto l_return_ri;
+l_join_xx:;
     r_5d = (u32)(r_4n >> 16u);
     switch (r_a3) {
-    case 0u: goto l_arm_z2_1;
-    case 1u: goto l_arm_z2_1;
-    case 3u: goto l_arm_z2_1;
+    case 0u: { r_fk = 0u; goto l_return_ri; }
+    case 1u: { r_fk = 0u; goto l_return_ri; }
+    case 3u: { r_fk = 0u; goto l_return_ri; }
     case 2u: goto l_arm_si;
     case 4u: { r_j5 = 0u; r_rr = 1u; r_hr = r_4n; goto l_arm_t1; }
     case 5u: goto l_arm_si_1;
@@ -856,48 +820,49 @@ l_arm_si_1:;
 l_noarm_e1_6:;
     UNREACHABLE();
 l_arm_t1:;
-    r_dh_1 = ld8(a_5);
+    r_dh_1 = ld8(a_4);
     u32 r_yf = ld32(r_r2);
-    r_mx = ((r_yf == 0x80000000u) ? 0x80000000u : (r_yf + 0xffffffffu));
+    r_mx_1 = ((r_yf == 0x80000000u) ? 0x80000000u : (r_yf + 0xffffffffu));
     u8 *r_rv = ldp(r_rq);
     u64 r_qw_2 = ld64(r_08);
-    st64(slot_4, (u64)r_dh_1);
-    stp((slot_4 + 8), r_rv);
-    st64((slot_4 + 16), r_qw_2);
-    st64((slot_4 + 24), r_f7);
-    r_89 = (slot_4 + 32);
+    st64(slot_3, (u64)r_dh_1);
+    stp((slot_3 + 8), r_rv);
+    st64((slot_3 + 16), r_qw_2);
+    st64((slot_3 + 24), r_f7);
+    r_89 = (slot_3 + 32);
     st64(r_89, r_ps);
-    st64((slot_4 + 40), r_yw);
-    st32((slot_4 + 48), r_hw);
-    st32((slot_4 + 52), r_ow);
-    st32((slot_4 + 56), r_mx);
+    st64((slot_3 + 40), r_yw);
+    st32((slot_3 + 48), r_hw);
+    st32((slot_3 + 52), r_ow);
+    st32((slot_3 + 56), r_mx_1);
     t_f6_2 = ((u8 *)(uptr)r_ps);
     switch (r_dh) {
-    case 5u: goto l_after_r0;
-    case 7u: goto l_after_r0;
-    case 0u: { r_he = ((u8 *)g_static_294); r_sf = 0ull; r_ze = 0u; goto l_typed_xb; }
-    case 1u: { r_he = ((u8 *)g_static_294); r_sf = 0ull; r_ze = 0u; goto l_typed_xb; }
-    case 2u: { r_he = ((u8 *)g_static_294); r_sf = 0ull; r_ze = 0u; goto l_typed_xb; }
-    case 3u: { r_he = ((u8 *)g_static_294); r_sf = 0ull; r_ze = 0u; goto l_typed_xb; }
-    case 4u: { r_he = ((u8 *)g_static_294); r_sf = 0ull; r_ze = 0u; goto l_typed_xb; }
-    case 6u: { r_he = ((u8 *)g_static_294); r_sf = 0ull; r_ze = 0u; goto l_typed_xb; }
+    case 5u: goto l_after_pt;
+    case 7u: goto l_after_pt;
+    case 0u: { r_3s = ((u8 *)g_static_294); r_cz = 0ull; r_iz = 0u; r_fd = ((u8 *)g_static_294); r_1x = 0ull; goto l_typed_1x; }
+    case 1u: { r_3s = ((u8 *)g_static_294); r_cz = 0ull; r_iz = 0u; r_fd = ((u8 *)g_static_294); r_1x = 0ull; goto l_typed_1x; }
+    case 2u: { r_3s = ((u8 *)g_static_294); r_cz = 0ull; r_iz = 0u; r_fd = ((u8 *)g_static_294); r_1x = 0ull; goto l_typed_1x; }
+    case 3u: { r_3s = ((u8 *)g_static_294); r_cz = 0ull; r_iz = 0u; r_fd = ((u8 *)g_static_294); r_1x = 0ull; goto l_typed_1x; }
+    case 4u: { r_3s = ((u8 *)g_static_294); r_cz = 0ull; r_iz = 0u; r_fd = ((u8 *)g_static_294); r_1x = 0ull; goto l_typed_1x; }
+    case 6u: { r_3s = ((u8 *)g_static_294); r_cz = 0ull; r_iz = 0u; r_fd = ((u8 *)g_static_294); r_1x = 0ull; goto l_typed_1x; }
     default: goto l_noarm_e1_7;
     }
-l_after_r0:;
-    r_he = a_2;
-    r_sf = a_3;
-    r_ze = r_5k;
-    goto l_typed_xb;
+l_after_pt:;
+    r_24_2 = (u64)r_5k;
+    if (!(a_2 > r_24_2)) { r_3s = a_1; r_cz = a_2; r_iz = r_5k; r_fd = ((u8 *)g_static_294); r_1x = 0ull; goto l_typed_1x; }
+    u64 r_c4_1 = (r_24_2 + 1ull);
+    r_3s = a_1;
+    r_cz = a_2;
+    r_iz = r_5k;
+    r_fd = away(a_1, (u64)(r_c4_1 << 2ull));
+    r_1x = umin64((u64)ld32((a_1 + (i64)((u64)(r_24_2 << 2ull)))), (a_2 - r_c4_1));
+    goto l_typed_1x;
 l_noarm_e1_7:;
     UNREACHABLE();
-l_typed_xb:;
-    if (r_rr == 0u) { r_10 = 0u; r_kb = 0u; r_n4 = 0u; r_yp = 0ull; r_iz = 0ull; r_62 = 0u; r_24_2 = 0u; r_lt = 0u; r_va = 0u; goto l_typed_9c; }
+l_typed_1x:;
+    if (r_rr == 0u) { r_fk = 0u; goto l_return_ri; }
     narrow_68 = (r_rr + r_j5);
-    if (r_hr == 0u) { r_10 = 0u; r_kb = 0u; r_n4 = 0u; r_yp = 0ull; r_iz = 0ull; r_62 = 0u; r_24_2 = 0u; r_lt = 0u; r_va = 0u; goto l_typed_9c; }
-    u64 r_24_3 = (u64)r_ze;
-    r_qc = (r_sf > r_24_3);
-    r_a7 = away(r_he, (u64)(r_24_3 << 2ull));
-    r_c4_1 = (r_24_3 + 1ull);
+    if (r_hr == 0u) { r_fk = 0u; goto l_return_ri; }
     r_x5 = (slot_1 + 8);
     r_lk = (slot_1 + 24);
     r_nk = (slot_1 + 28);
@@ -905,507 +870,394 @@ l_typed_xb:;
     r_ix = (slot_2 + 4);
     r_x5_1 = (slot_2 + 8);
     r_k0 = (slot_2 + 12);
-    r_08_2 = away(a_7, 16ull);
-    r_rq_7 = away(a_7, 8ull);
+    r_r2_2 = away(a_6, 56ull);
+    r_t9_6 = away(a_6, 48ull);
+    r_sl = (a_6 + 4);
+    r_e7 = (a_6 + 8);
+    r_ud = (a_6 + 16);
+    r_ng = (a_6 + 24);
+    r_zh = (a_6 + 28);
+    r_z8 = (a_6 + 32);
+    r_sd = (a_6 + 36);
     r_x5_2 = (slot_1 + 8);
     r_zd = (slot_1 + 16);
     r_lk_1 = (slot_1 + 24);
     r_nk_1 = (slot_1 + 28);
-    r_x5_3 = (slot_3 + 8);
-    r_k0_1 = (slot_3 + 12);
-    r_zd_1 = (slot_3 + 16);
-    r_lk_2 = (slot_3 + 24);
-    r_89_1 = (slot_3 + 32);
-    r_gs = (slot_3 + 36);
-    r_a8 = (slot_3 + 40);
-    r_f3 = (slot_3 + 44);
+    r_x5_3 = (slot_1 + 8);
+    r_k0_1 = (slot_1 + 12);
+    r_zd_1 = (slot_1 + 16);
     r_x5_4 = (slot_1 + 8);
-    r_k0_2 = (slot_1 + 12);
     r_zd_2 = (slot_1 + 16);
-    r_x5_5 = (slot_1 + 8);
-    r_zd_3 = (slot_1 + 16);
-    r_lk_3 = (slot_1 + 24);
+    r_lk_2 = (slot_1 + 24);
     r_nk_2 = (slot_1 + 28);
     wide_es_1 = (u64)r_rr;
     r_gw_2 = (u64)(r_yw >> 3ull);
     t_pa_1 = (r_dh_1 != 0u);
     r_nb_1 = (r_gw_2 & 0xffffffffull);
-    r_n1 = ((i32)r_mx < (i32)1u);
+    r_n1 = ((i32)r_mx_1 < (i32)1u);
     t_0c = (r_dh_1 == 0u);
     r_nb_2 = (r_gw_2 & 0xffffffffull);
-    r_n1_1 = ((i32)r_mx < (i32)1u);
+    r_n1_1 = ((i32)r_mx_1 < (i32)1u);
     t_pa_2 = (r_dh_1 != 0u);
     r_nb_3 = (r_gw_2 & 0xffffffffull);
-    r_n1_2 = ((i32)r_mx < (i32)1u);
+    r_n1_2 = ((i32)r_mx_1 < (i32)1u);
     r_w0 = 0u;
-    goto l_join_u5;
-l_loop_73:;
-    u32 r_7t = (r_w0 + 1u);
-    if (r_7t == r_hr) { r_10 = 0u; r_kb = 0u; r_n4 = 0u; r_yp = 0ull; r_iz = 0ull; r_62 = 0u; r_24_2 = 0u; r_lt = 0u; r_va = 0u; goto l_typed_9c; }
-    r_w0 = r_7t;
 l_join_u5:;
     r_w0_1 = (r_hw + (r_w0 * narrow_68));
     r_w0_2 = (r_w0_1 + r_j5);
-    indvars_b4 = 0ull;
-    goto l_join_1e;
-l_loop_w2:;
-    u64 indvars_r7_1 = (indvars_b4 + 1ull);
-    if (indvars_r7_1 == wide_es_1) goto l_loop_73;
-    indvars_b4 = indvars_r7_1;
-l_join_1e:;
+    indvars_vr = 0ull;
+    goto l_join_je;
+l_loop_c4:;
+    u64 indvars_r7_1 = (indvars_vr + 1ull);
+    if (indvars_r7_1 == wide_es_1) goto l_join_ki;
+    indvars_vr = indvars_r7_1;
+l_join_je:;
     st32(slot_2, 0u);
-    memset(slot_3, 0u, 48);
-    t_nk = (u32)indvars_b4;
+    t_nk = (u32)indvars_vr;
     r_sr = (r_w0_2 + t_nk);
-    r_24_4 = (u64)r_sr;
-    if (!(r_gw_2 > r_24_4)) goto l_typed_v7;
-    r_qw_3 = ld64(away(t_f6_2, (u64)(r_24_4 << 3ull)));
-    if (r_qw_3 == 0ull) goto l_typed_v7;
-    if (!r_qc) { common_8i = 0u; goto l_typed_dt; }
-    if (!(indvars_b4 < (u64)ld32(r_a7))) { common_8i = 0u; goto l_typed_dt; }
-    r_pl = (r_c4_1 + indvars_b4);
-    if (!(r_sf > r_pl)) { common_8i = 0u; goto l_typed_dt; }
-    r_yf_1 = ld32((r_he + (i64)((u64)(r_pl << 2ull))));
+    r_24_3 = (u64)r_sr;
+    if (!(r_gw_2 > r_24_3)) goto l_typed_kc;
+    r_qw_3 = ld64(away(t_f6_2, (u64)(r_24_3 << 3ull)));
+    if (r_qw_3 == 0ull) goto l_typed_kc;
+    if (!(r_1x > indvars_vr)) { common_8i = 0u; goto l_typed_dt; }
+    r_yf_1 = ld32((r_fd + (i64)((u64)(indvars_vr << 2ull))));
     if (!((r_yf_1 & 15u) == 7u)) { common_8i = r_yf_1; goto l_typed_dt; }
     st64(slot_1, r_f7);
     mv16(r_x5, r_89);
     st32(r_lk, r_w0_1);
     st32(r_nk, 0u);
-    u32 r_3z = typed_conforming_table_tested_word(r_he, r_sf, r_yf_1, slot_1, r_j5);
-    common_8i = r_3z;
+    u32 r_n1_3 = typed_conforming_table_tested_word(r_3s, r_cz, r_yf_1, slot_1, r_j5);
+    common_8i = r_n1_3;
 l_typed_dt:;
     if (!((r_qw_3 & 3ull) == 1ull)) goto l_after_xg;
     r_ep_2 = (u64)(r_qw_3 >> 32ull);
     switch_wl_1 = (u8)((u8)r_ep_2 & 7u);
     if (!((u8)(switch_wl_1 + 255u) < 5u)) goto l_after_xg;
+    t_8c = (switch_wl_1 != 2u);
+    if (t_8c) goto l_after_3v;
     switch (common_8i) {
-    case 2u: goto l_then_z1;
-    case 3u: goto l_then_on;
-    default: goto l_join_3v;
+    case 2u: goto l_then_hu;
+    case 3u: goto l_then_9h;
+    default: goto l_after_3v;
     }
-l_then_z1:;
+l_then_hu:;
     r_ij_1 = (u64)(r_qw_3 >> 35ull);
-    r_c6_1 = (u64)(((ld64(away(away(((u8 *)switch_table_typed_conforming_conforms_check_object_5c_426a4812), 8 * (r_ep_2 & 7ull)), 0xfffffffffffffff8ull)) * r_ij_1) + 63ull) >> 6ull);
+    r_c6_1 = (u64)(((u64)(r_ij_1 << 3ull) + 63ull) >> 6ull);
     if (!t_0c) goto l_join_bd_1;
-    st64(r_08_2, uadd_sat64(ld64(r_08_2), 1ull));
+    st64(r_r2_2, uadd_sat64(ld64(r_r2_2), 1ull));
 l_join_bd_1:;
     u64 r_m6_1 = ((u64)(r_qw_3 >> 2ull) & 0x3fffffffull);
-    r_lc_2 = ((r_24_4 + 1ull) + r_m6_1);
+    r_lc_2 = ((r_24_3 + 1ull) + r_m6_1);
     if (!(r_m6_1 < 0x20000000ull)) goto l_else_70_1;
-    if (r_lc_2 > r_nb_2) { r_85 = 23u; r_49 = r_f7; r_10_1 = r_sr; r_0a_1 = r_ze; r_mo = t_nk; r_r5 = 1u; goto l_typed_5y; }
+    if (r_lc_2 > r_nb_2) { r_g6 = 23u; r_8q = 0u; r_o5 = 0ull; goto l_typed_8l; }
     r_y0 = r_lc_2;
     goto l_arm_2y;
 l_else_70_1:;
     u64 r_3o_1 = (r_lc_2 + 0xffffffffc0000000ull);
-    if ((r_lc_2 < 0x40000000ull) ? 1u : (r_3o_1 > r_nb_2)) { r_85 = 23u; r_49 = r_f7; r_10_1 = r_sr; r_0a_1 = r_ze; r_mo = t_nk; r_r5 = 1u; goto l_typed_5y; }
+    if ((r_lc_2 < 0x40000000ull) ? 1u : (r_3o_1 > r_nb_2)) { r_g6 = 23u; r_8q = 0u; r_o5 = 0ull; goto l_typed_8l; }
     r_y0 = r_3o_1;
 l_arm_2y:;
-    if (r_n1_1) { r_85 = 26u; r_49 = r_f7; r_10_1 = r_sr; r_0a_1 = r_ze; r_mo = t_nk; r_r5 = 1u; goto l_typed_5y; }
-    if (r_nb_2 < (r_y0 + r_c6_1)) { r_85 = 23u; r_49 = r_f7; r_10_1 = r_sr; r_0a_1 = r_ze; r_mo = t_nk; r_r5 = 1u; goto l_typed_5y; }
-    if (!t_0c) goto l_arm_fy;
-    if (!(ld8(a_7) == 1u)) goto l_arm_fy;
-    r_52_9 = ld64(r_rq_7);
-    if (r_52_9 < r_c6_1) { r_85 = 30u; r_49 = r_f7; r_10_1 = r_sr; r_0a_1 = r_ze; r_mo = t_nk; r_r5 = 1u; goto l_typed_5y; }
-    st64(a_7, 1ull);
-    st64(r_rq_7, (r_52_9 - r_c6_1));
-l_arm_fy:;
-    t_5e = ((u64)(r_y0 << 3ull) & 0x7fffffff8ull);
-    if (!(switch_wl_1 == 2u)) { r_85 = 15u; r_49 = r_f7; r_10_1 = r_sr; r_0a_1 = r_ze; r_mo = t_nk; r_r5 = 1u; goto l_typed_5y; }
-    if (r_ij_1 == 0ull) { r_85 = 24u; r_49 = r_f7; r_10_1 = r_sr; r_0a_1 = r_ze; r_mo = t_nk; r_r5 = 1u; goto l_typed_5y; }
+    if (r_n1_1) { r_g6 = 26u; r_8q = 0u; r_o5 = 0ull; goto l_typed_8l; }
+    if (r_nb_2 < (r_y0 + r_c6_1)) { r_g6 = 23u; r_8q = 0u; r_o5 = 0ull; goto l_typed_8l; }
+    if (!t_0c) goto l_arm_b5;
+    if (!(ld8(r_su) == 1u)) goto l_arm_b5;
+    r_52_9 = ld64(r_t9_6);
+    if (r_52_9 < r_c6_1) { r_g6 = 30u; r_8q = 0u; r_o5 = 0ull; goto l_typed_8l; }
+    st64(r_su, 1ull);
+    st64(r_t9_6, (r_52_9 - r_c6_1));
+l_arm_b5:;
+    if (r_ij_1 == 0ull) { r_g6 = 24u; r_8q = 0u; r_o5 = 0ull; goto l_typed_8l; }
     u64 r_19 = (r_ij_1 + 0xffffffffull);
-    if ((ld64(away(t_f6_2, ((t_5e + (r_19 & 0xffffffffull)) & 0xffffffff8ull))) & (u64)(255ull << (((u64)(r_19 << 3ull) & 56ull) & 63u))) == 0ull) { r_85 = 0u; r_49 = 0ull; r_10_1 = 0u; r_0a_1 = 0u; r_mo = 0u; r_r5 = 0u; goto l_typed_5y; }
-    r_85 = 24u;
-    r_49 = r_f7;
-    r_10_1 = r_sr;
-    r_0a_1 = r_ze;
-    r_mo = t_nk;
-    r_r5 = 1u;
-l_typed_5y:;
-    st8(slot_3, r_r5);
-    st32(r_x5_3, r_85);
-    st32(r_k0_1, 0u);
-    st64(r_zd_1, 0ull);
-    st64(r_lk_2, r_49);
-    st32(r_89_1, r_10_1);
-    st32(r_gs, r_0a_1);
-    r_pe = 0u;
-    r_wb = r_mo;
-    r_9k = r_0a_1;
-    r_rw = r_10_1;
-    r_bv = r_49;
-    r_z1 = 0ull;
-    r_q6 = 0u;
-    r_bq = r_85;
-    r_rf = r_r5;
-    goto l_typed_0z;
-l_then_on:;
+    if ((ld64(away(t_f6_2, ((((u64)(r_y0 << 3ull) & 0x7fffffff8ull) + (r_19 & 0xffffffffull)) & 0xffffffff8ull))) & (u64)(255ull << (((u64)(r_19 << 3ull) & 56ull) & 63u))) == 0ull) goto l_typed_kc;
+    r_g6 = 24u;
+    r_8q = 0u;
+    r_o5 = 0ull;
+    goto l_typed_8l;
+l_then_9h:;
     r_ij_2 = (u64)(r_qw_3 >> 35ull);
     r_12_4 = (u32)r_ij_2;
-    r_c6_2 = (u64)(((ld64(away(away(((u8 *)switch_table_typed_conforming_conforms_check_object_5c_426a4812), 8 * (r_ep_2 & 7ull)), 0xfffffffffffffff8ull)) * r_ij_2) + 63ull) >> 6ull);
+    r_c6_2 = (u64)(((u64)(r_ij_2 << 3ull) + 63ull) >> 6ull);
     if (t_pa_1) goto l_join_bd_2;
-    st64(r_08_2, uadd_sat64(ld64(r_08_2), 1ull));
+    st64(r_r2_2, uadd_sat64(ld64(r_r2_2), 1ull));
 l_join_bd_2:;
     u64 r_m6_2 = ((u64)(r_qw_3 >> 2ull) & 0x3fffffffull);
-    r_lc_3 = ((r_24_4 + 1ull) + r_m6_2);
+    r_lc_3 = ((r_24_3 + 1ull) + r_m6_2);
     if (!(r_m6_2 < 0x20000000ull)) goto l_else_70_2;
-    if (r_lc_3 > r_nb_1) { r_85_1 = 23u; r_49_1 = r_f7; r_10_2 = r_sr; r_0a_2 = r_ze; r_mo_1 = t_nk; r_r5_1 = 1u; goto l_typed_5y_1; }
+    if (r_lc_3 > r_nb_1) { r_g6 = 23u; r_8q = 0u; r_o5 = 0ull; goto l_typed_8l; }
     r_5g = r_lc_3;
     goto l_arm_mu;
 l_else_70_2:;
     u64 r_3o_2 = (r_lc_3 + 0xffffffffc0000000ull);
-    if ((r_lc_3 < 0x40000000ull) ? 1u : (r_3o_2 > r_nb_1)) { r_85_1 = 23u; r_49_1 = r_f7; r_10_2 = r_sr; r_0a_2 = r_ze; r_mo_1 = t_nk; r_r5_1 = 1u; goto l_typed_5y_1; }
+    if ((r_lc_3 < 0x40000000ull) ? 1u : (r_3o_2 > r_nb_1)) { r_g6 = 23u; r_8q = 0u; r_o5 = 0ull; goto l_typed_8l; }
     r_5g = r_3o_2;
 l_arm_mu:;
     r_4r = (u32)r_5g;
-    if (r_n1) { r_85_1 = 26u; r_49_1 = r_f7; r_10_2 = r_sr; r_0a_2 = r_ze; r_mo_1 = t_nk; r_r5_1 = 1u; goto l_typed_5y_1; }
+    if (r_n1) { r_g6 = 26u; r_8q = 0u; r_o5 = 0ull; goto l_typed_8l; }
     r_8u = (r_nb_1 < (r_5g + r_c6_2));
-    if ((u8)((u8)t_pa_1 | (u8)r_8u)) goto l_capnp_yn;
-    if (!(ld8(a_7) == 1u)) { r_bp = r_4r; goto l_arm_20; }
-    r_52_10 = ld64(r_rq_7);
-    if (r_52_10 < r_c6_2) { r_85_1 = 30u; r_49_1 = r_f7; r_10_2 = r_sr; r_0a_2 = r_ze; r_mo_1 = t_nk; r_r5_1 = 1u; goto l_typed_5y_1; }
-    st64(a_7, 1ull);
-    st64(r_rq_7, (r_52_10 - r_c6_2));
-    r_bp = r_4r;
-    goto l_arm_20;
-l_capnp_yn:;
-    if (r_8u) { r_85_1 = (r_8u ? 23u : 0u); r_49_1 = r_f7; r_10_2 = r_sr; r_0a_2 = r_ze; r_mo_1 = t_nk; r_r5_1 = 1u; goto l_typed_5y_1; }
-    r_bp = (r_8u ? 0u : r_4r);
-l_arm_20:;
-    if (!(switch_wl_1 == 2u)) { r_85_1 = 15u; r_49_1 = r_f7; r_10_2 = r_sr; r_0a_2 = r_ze; r_mo_1 = t_nk; r_r5_1 = 1u; goto l_typed_5y_1; }
-    if (r_ij_2 == 0ull) { r_85_1 = 24u; r_49_1 = r_f7; r_10_2 = r_sr; r_0a_2 = r_ze; r_mo_1 = t_nk; r_r5_1 = 1u; goto l_typed_5y_1; }
+    if ((u8)((u8)t_pa_1 | (u8)r_8u)) goto l_capnp_ar;
+    if (!(ld8(r_su) == 1u)) { r_ry = r_4r; goto l_arm_b5_1; }
+    r_52_10 = ld64(r_t9_6);
+    if (r_52_10 < r_c6_2) { r_g6 = 30u; r_8q = 0u; r_o5 = 0ull; goto l_typed_8l; }
+    st64(r_su, 1ull);
+    st64(r_t9_6, (r_52_10 - r_c6_2));
+    r_ry = r_4r;
+    goto l_arm_b5_1;
+l_capnp_ar:;
+    if (r_8u) { r_g6 = 23u; r_8q = 0u; r_o5 = 0ull; goto l_typed_8l; }
+    r_ry = (r_8u ? 0u : r_4r);
+l_arm_b5_1:;
+    if (r_ij_2 == 0ull) { r_g6 = 24u; r_8q = 0u; r_o5 = 0ull; goto l_typed_8l; }
     u64 r_19_1 = (r_ij_2 + 0xffffffffull);
-    r_24_5 = (u64)r_bp;
-    if (!((ld64(away(t_f6_2, (((u64)(r_24_5 << 3ull) + (r_19_1 & 0xffffffffull)) & 0xffffffff8ull))) & (u64)(255ull << (((u64)(r_19_1 << 3ull) & 56ull) & 63u))) == 0ull)) { r_85_1 = 24u; r_49_1 = r_f7; r_10_2 = r_sr; r_0a_2 = r_ze; r_mo_1 = t_nk; r_r5_1 = 1u; goto l_typed_5y_1; }
+    r_24_4 = (u64)r_ry;
+    if (!((ld64(away(t_f6_2, (((u64)(r_24_4 << 3ull) + (r_19_1 & 0xffffffffull)) & 0xffffffff8ull))) & (u64)(255ull << (((u64)(r_19_1 << 3ull) & 56ull) & 63u))) == 0ull)) { r_g6 = 24u; r_8q = 0u; r_o5 = 0ull; goto l_typed_8l; }
     r_gw_3 = (u64)((r_ij_2 + 7ull) >> 3ull);
     indvars_qd_1 = 0ull;
     goto l_join_aa_1;
 l_loop_ob:;
     u64 indvars_r7_2 = (indvars_qd_1 + 1ull);
     if (!(indvars_r7_2 == r_gw_3)) { indvars_qd_1 = indvars_r7_2; goto l_join_aa_1; }
-    r_85_1 = 0u;
-    r_49_1 = 0ull;
-    r_10_2 = 0u;
-    r_0a_2 = 0u;
-    r_mo_1 = 0u;
-    r_r5_1 = 0u;
-    goto l_typed_5y_1;
+    goto l_typed_kc;
 l_join_aa_1:;
-    if ((ld64(away(t_f6_2, (u64)((indvars_qd_1 + r_24_5) << 3ull))) & 0x8080808080808080ull) == 0ull) goto l_loop_ob;
+    if ((ld64(away(t_f6_2, (u64)((indvars_qd_1 + r_24_4) << 3ull))) & 0x8080808080808080ull) == 0ull) goto l_loop_ob;
     st64(slot_1, r_f7);
     stp(r_x5_2, t_f6_2);
     st64(r_zd, r_yw);
-    st32(r_lk_1, r_bp);
+    st32(r_lk_1, r_ry);
     st32(r_nk_1, 0u);
     u8 r_ik_1 = typed_conforming_conforms_is_utf8_by_bytes(slot_1, r_12_4);
-    if (r_ik_1) { r_85_1 = 0u; r_49_1 = 0ull; r_10_2 = 0u; r_0a_2 = 0u; r_mo_1 = 0u; r_r5_1 = 0u; goto l_typed_5y_1; }
-    r_85_1 = 4u;
-    r_49_1 = r_f7;
-    r_10_2 = r_sr;
-    r_0a_2 = r_ze;
-    r_mo_1 = t_nk;
-    r_r5_1 = 1u;
-l_typed_5y_1:;
-    st8(slot_3, r_r5_1);
-    st32(r_x5_3, r_85_1);
-    st32(r_k0_1, 0u);
-    st64(r_zd_1, 0ull);
-    st64(r_lk_2, r_49_1);
-    st32(r_89_1, r_10_2);
-    st32(r_gs, r_0a_2);
-    r_pe = 0u;
-    r_wb = r_mo_1;
-    r_9k = r_0a_2;
-    r_rw = r_10_2;
-    r_bv = r_49_1;
-    r_z1 = 0ull;
-    r_q6 = 0u;
-    r_bq = r_85_1;
-    r_rf = r_r5_1;
-    goto l_typed_0z;
-l_join_3v:;
+    if (r_ik_1) goto l_typed_kc;
+    r_g6 = 4u;
+    r_8q = 0u;
+    r_o5 = 0ull;
+    goto l_typed_8l;
+l_after_3v:;
     switch_4w = ((common_8i & 15u) + 0xffffffffu);
-    if (!(switch_4w < 15u)) { r_4h = 0u; r_0h = 0u; goto l_typed_on; }
-    r_4h = ld8((((u8 *)switch_table_typed_conforming_conforms_check_object_5c_e628d92c) + (i64)((u64)switch_4w)));
-    r_0h = ld8((((u8 *)switch_table_typed_conforming_conforms_check_object_5c_e20a29a0) + (i64)((u64)switch_4w)));
-l_typed_on:;
+    if (!(switch_4w < 15u)) { r_8r = 0u; r_lu = 0u; goto l_typed_ij; }
+    r_8r = ld8((((u8 *)switch_table_typed_conforming_conforms_check_object_5c_a350b32c) + (i64)((u64)switch_4w)));
+    r_lu = ld8((((u8 *)switch_table_typed_conforming_conforms_check_object_5c_e628d92c) + (i64)((u64)switch_4w)));
+l_typed_ij:;
     r_ij_3 = (u64)(r_qw_3 >> 35ull);
     r_12_5 = (u32)r_ij_3;
-    r_c6_3 = (u64)(((ld64(away(away(((u8 *)switch_table_typed_conforming_conforms_check_object_5c_426a4812), 8 * (r_ep_2 & 7ull)), 0xfffffffffffffff8ull)) * r_ij_3) + 63ull) >> 6ull);
+    r_c6_3 = (u64)(((ld64(away(away(((u8 *)switch_table_typed_conforming_conforms_check_object_5c_e20a29a0), 8 * (r_ep_2 & 7ull)), 0xfffffffffffffff8ull)) * r_ij_3) + 63ull) >> 6ull);
     if (t_pa_2) goto l_join_bd_3;
-    st64(r_08_2, uadd_sat64(ld64(r_08_2), 1ull));
+    st64(r_r2_2, uadd_sat64(ld64(r_r2_2), 1ull));
 l_join_bd_3:;
     u64 r_m6_3 = ((u64)(r_qw_3 >> 2ull) & 0x3fffffffull);
-    r_lc_4 = ((r_24_4 + 1ull) + r_m6_3);
+    r_lc_4 = ((r_24_3 + 1ull) + r_m6_3);
     if (!(r_m6_3 < 0x20000000ull)) goto l_else_70_3;
-    if (r_lc_4 > r_nb_3) { r_e1 = 23u; r_d7 = 0u; r_73 = 0ull; r_do = r_f7; r_zu = r_sr; r_jw = r_ze; r_dg = t_nk; r_rf_1 = 1u; goto l_typed_c7; }
+    if (r_lc_4 > r_nb_3) { r_g6 = 23u; r_8q = 0u; r_o5 = 0ull; goto l_typed_8l; }
     r_5g_1 = r_lc_4;
     goto l_arm_mu_1;
 l_else_70_3:;
     u64 r_3o_3 = (r_lc_4 + 0xffffffffc0000000ull);
-    if ((r_lc_4 < 0x40000000ull) ? 1u : (r_3o_3 > r_nb_3)) { r_e1 = 23u; r_d7 = 0u; r_73 = 0ull; r_do = r_f7; r_zu = r_sr; r_jw = r_ze; r_dg = t_nk; r_rf_1 = 1u; goto l_typed_c7; }
+    if ((r_lc_4 < 0x40000000ull) ? 1u : (r_3o_3 > r_nb_3)) { r_g6 = 23u; r_8q = 0u; r_o5 = 0ull; goto l_typed_8l; }
     r_5g_1 = r_3o_3;
 l_arm_mu_1:;
     r_4r_1 = (u32)r_5g_1;
-    if (r_n1_2) { r_e1 = 26u; r_d7 = 0u; r_73 = 0ull; r_do = r_f7; r_zu = r_sr; r_jw = r_ze; r_dg = t_nk; r_rf_1 = 1u; goto l_typed_c7; }
+    if (r_n1_2) { r_g6 = 26u; r_8q = 0u; r_o5 = 0ull; goto l_typed_8l; }
     r_8u_1 = (r_nb_3 < (r_5g_1 + r_c6_3));
-    if ((u8)((u8)t_pa_2 | (u8)r_8u_1)) goto l_capnp_yn_1;
-    if (!(ld8(a_7) == 1u)) { r_rj = r_4r_1; goto l_arm_ef; }
-    r_52_11 = ld64(r_rq_7);
-    if (r_52_11 < r_c6_3) { r_e1 = 30u; r_d7 = 0u; r_73 = 0ull; r_do = r_f7; r_zu = r_sr; r_jw = r_ze; r_dg = t_nk; r_rf_1 = 1u; goto l_typed_c7; }
-    st64(a_7, 1ull);
-    st64(r_rq_7, (r_52_11 - r_c6_3));
-    r_rj = r_4r_1;
-    goto l_arm_ef;
-l_capnp_yn_1:;
-    if (r_8u_1) { r_e1 = (r_8u_1 ? 23u : 0u); r_d7 = 0u; r_73 = 0ull; r_do = r_f7; r_zu = r_sr; r_jw = r_ze; r_dg = t_nk; r_rf_1 = 1u; goto l_typed_c7; }
-    r_rj = (r_8u_1 ? 0u : r_4r_1);
-l_arm_ef:;
-    switch (r_4h) {
-    case 0u: { r_e1 = 0u; r_d7 = 0u; r_73 = 0ull; r_do = 0ull; r_zu = 0u; r_jw = 0u; r_dg = 0u; r_rf_1 = 0u; goto l_typed_c7; }
-    case 2u: goto l_arm_qs;
-    case 3u: goto l_arm_qs_1;
-    case 4u: goto l_arm_52;
+    if ((u8)((u8)t_pa_2 | (u8)r_8u_1)) goto l_capnp_ar_1;
+    if (!(ld8(r_su) == 1u)) { r_0n = r_4r_1; goto l_arm_g5; }
+    r_52_11 = ld64(r_t9_6);
+    if (r_52_11 < r_c6_3) { r_g6 = 30u; r_8q = 0u; r_o5 = 0ull; goto l_typed_8l; }
+    st64(r_su, 1ull);
+    st64(r_t9_6, (r_52_11 - r_c6_3));
+    r_0n = r_4r_1;
+    goto l_arm_g5;
+l_capnp_ar_1:;
+    if (r_8u_1) { r_g6 = 23u; r_8q = 0u; r_o5 = 0ull; goto l_typed_8l; }
+    r_0n = (r_8u_1 ? 0u : r_4r_1);
+l_arm_g5:;
+    switch (r_8r) {
+    case 0u: goto l_typed_kc;
+    case 2u: goto l_arm_eu;
+    case 3u: goto l_arm_eu_1;
+    case 4u: goto l_arm_u7;
     case 7u: goto l_typed_a3;
-    case 1u: { r_5t = 17u; r_uw = 0ull; r_0h_1 = 0u; goto l_arm_r0_2; }
-    case 5u: goto l_join_m6;
-    case 6u: { r_e1 = 0u; r_d7 = 0u; r_73 = 0ull; r_do = 0ull; r_zu = 0u; r_jw = 0u; r_dg = 0u; r_rf_1 = 0u; goto l_typed_c7; }
+    case 1u: goto l_typed_r0;
+    case 5u: { r_g6 = 21u; r_8q = 0u; r_o5 = 0ull; goto l_typed_8l; }
+    case 6u: goto l_typed_kc;
     default: goto l_default_e1;
     }
-l_arm_qs:;
-    if (!(switch_wl_1 == 2u)) { r_5t = 15u; r_uw = 0ull; r_0h_1 = 0u; goto l_arm_r0_2; }
-    if (r_ij_3 == 0ull) { r_5t = 24u; r_uw = 0ull; r_0h_1 = 0u; goto l_arm_r0_2; }
+l_arm_eu:;
+    if (t_8c) { r_g6 = 15u; r_8q = 0u; r_o5 = 0ull; goto l_typed_8l; }
+    if (r_ij_3 == 0ull) { r_g6 = 24u; r_8q = 0u; r_o5 = 0ull; goto l_typed_8l; }
     u64 r_19_2 = (r_ij_3 + 0xffffffffull);
-    u8 r_pa_1 = ((ld64(away(t_f6_2, (((u64)((u64)r_rj << 3ull) + (r_19_2 & 0xffffffffull)) & 0xffffffff8ull))) & (u64)(255ull << (((u64)(r_19_2 << 3ull) & 56ull) & 63u))) != 0ull);
-    r_1m = (u8)r_pa_1;
-    r_fh = (r_pa_1 ? 24u : 0u);
-    r_1b = 0u;
-    r_sb = 0ull;
-    goto l_typed_ag;
-l_arm_qs_1:;
-    if (!(switch_wl_1 == 2u)) { r_5t = 15u; r_uw = 0ull; r_0h_1 = 0u; goto l_arm_r0_2; }
-    if (r_ij_3 == 0ull) { r_5t = 24u; r_uw = 0ull; r_0h_1 = 0u; goto l_arm_r0_2; }
+    u8 r_pa_1 = ((ld64(away(t_f6_2, (((u64)((u64)r_0n << 3ull) + (r_19_2 & 0xffffffffull)) & 0xffffffff8ull))) & (u64)(255ull << (((u64)(r_19_2 << 3ull) & 56ull) & 63u))) != 0ull);
+    r_bv = (u8)r_pa_1;
+    r_w9 = (r_pa_1 ? 24u : 0u);
+    r_sl_1 = 0u;
+    r_ko = 0ull;
+    goto l_typed_gu;
+l_arm_eu_1:;
+    if (t_8c) { r_g6 = 15u; r_8q = 0u; r_o5 = 0ull; goto l_typed_8l; }
+    if (r_ij_3 == 0ull) { r_g6 = 24u; r_8q = 0u; r_o5 = 0ull; goto l_typed_8l; }
     u64 r_19_3 = (r_ij_3 + 0xffffffffull);
-    r_24_6 = (u64)r_rj;
-    if (!((ld64(away(t_f6_2, (((u64)(r_24_6 << 3ull) + (r_19_3 & 0xffffffffull)) & 0xffffffff8ull))) & (u64)(255ull << (((u64)(r_19_3 << 3ull) & 56ull) & 63u))) == 0ull)) { r_5t = 24u; r_uw = 0ull; r_0h_1 = 0u; goto l_arm_r0_2; }
+    r_24_5 = (u64)r_0n;
+    if (!((ld64(away(t_f6_2, (((u64)(r_24_5 << 3ull) + (r_19_3 & 0xffffffffull)) & 0xffffffff8ull))) & (u64)(255ull << (((u64)(r_19_3 << 3ull) & 56ull) & 63u))) == 0ull)) { r_g6 = 24u; r_8q = 0u; r_o5 = 0ull; goto l_typed_8l; }
     r_gw_4 = (u64)((r_ij_3 + 7ull) >> 3ull);
     indvars_qd_2 = 0ull;
     goto l_join_aa_2;
 l_loop_ob_1:;
     u64 indvars_r7_3 = (indvars_qd_2 + 1ull);
     if (!(indvars_r7_3 == r_gw_4)) { indvars_qd_2 = indvars_r7_3; goto l_join_aa_2; }
-    r_e1 = 0u;
-    r_d7 = 0u;
-    r_73 = 0ull;
-    r_do = 0ull;
-    r_zu = 0u;
-    r_jw = 0u;
-    r_dg = 0u;
-    r_rf_1 = 0u;
-    goto l_typed_c7;
+    goto l_typed_kc;
 l_join_aa_2:;
-    if ((ld64(away(t_f6_2, (u64)((indvars_qd_2 + r_24_6) << 3ull))) & 0x8080808080808080ull) == 0ull) goto l_loop_ob_1;
+    if ((ld64(away(t_f6_2, (u64)((indvars_qd_2 + r_24_5) << 3ull))) & 0x8080808080808080ull) == 0ull) goto l_loop_ob_1;
     st64(slot_1, r_f7);
-    stp(r_x5_5, t_f6_2);
-    st64(r_zd_3, r_yw);
-    st32(r_lk_3, r_rj);
+    stp(r_x5_4, t_f6_2);
+    st64(r_zd_2, r_yw);
+    st32(r_lk_2, r_0n);
     st32(r_nk_2, 0u);
     u8 r_ik_2 = typed_conforming_conforms_is_utf8_by_bytes(slot_1, r_12_5);
-    r_1m = (u8)(u8)((u8)r_ik_2 ^ (u8)1u);
-    r_fh = (r_ik_2 ? 0u : 4u);
-    r_1b = 0u;
-    r_sb = 0ull;
-    goto l_typed_ag;
-l_arm_52:;
-    u8 t_8c = (switch_wl_1 != 2u);
-    r_1m = (u8)t_8c;
-    r_fh = (t_8c ? 14u : 0u);
-    r_1b = 0u;
-    r_sb = 0ull;
-    goto l_typed_ag;
+    r_bv = (u8)(u8)((u8)r_ik_2 ^ (u8)1u);
+    r_w9 = (r_ik_2 ? 0u : 4u);
+    r_sl_1 = 0u;
+    r_ko = 0ull;
+    goto l_typed_gu;
+l_arm_u7:;
+    r_bv = (u8)t_8c;
+    r_w9 = (t_8c ? 14u : 0u);
+    r_sl_1 = 0u;
+    r_ko = 0ull;
+    goto l_typed_gu;
 l_typed_a3:;
     memset(slot_1, 0u, 24);
-    typed_conforming_conforms_narrow_elements_error(slot_1, r_0h, switch_wl_1);
-    r_1m = ld8(slot_1);
-    r_fh = ld8(r_x5_4);
-    r_1b = ld32(r_k0_2);
-    r_sb = ld64(r_zd_2);
-    goto l_typed_ag;
-l_join_m6:;
-    r_5t = 21u;
-    r_uw = 0ull;
-    r_0h_1 = 0u;
-    goto l_arm_r0_2;
-l_typed_ag:;
-    if (r_1m == 1u) { r_5t = (u32)r_fh; r_uw = r_sb; r_0h_1 = r_1b; goto l_arm_r0_2; }
-    r_e1 = 0u;
-    r_d7 = 0u;
-    r_73 = 0ull;
-    r_do = 0ull;
-    r_zu = 0u;
-    r_jw = 0u;
-    r_dg = 0u;
-    r_rf_1 = r_1m;
-    goto l_typed_c7;
-l_arm_r0_2:;
-    r_e1 = r_5t;
-    r_d7 = r_0h_1;
-    r_73 = r_uw;
-    r_do = r_f7;
-    r_zu = r_sr;
-    r_jw = r_ze;
-    r_dg = t_nk;
-    r_rf_1 = 1u;
-l_typed_c7:;
-    st8(slot_3, r_rf_1);
-    st32(r_x5_3, r_e1);
-    st32(r_k0_1, r_d7);
-    st64(r_zd_1, r_73);
-    st64(r_lk_2, r_do);
-    st32(r_89_1, r_zu);
-    st32(r_gs, r_jw);
-    r_pe = 0u;
-    r_wb = r_dg;
-    r_9k = r_jw;
-    r_rw = r_zu;
-    r_bv = r_do;
-    r_z1 = r_73;
-    r_q6 = r_d7;
-    r_bq = r_e1;
-    r_rf = r_rf_1;
-    goto l_typed_0z;
+    typed_conforming_conforms_narrow_elements_error(slot_1, r_lu, switch_wl_1);
+    r_bv = ld8(slot_1);
+    r_w9 = ld8(r_x5_3);
+    r_sl_1 = ld32(r_k0_1);
+    r_ko = ld64(r_zd_1);
+l_typed_gu:;
+    if (!(r_bv == 1u)) { r_jm = r_bv; goto l_typed_9j; }
+    r_g6 = (u32)r_w9;
+    r_8q = r_sl_1;
+    r_o5 = r_ko;
+    goto l_typed_8l;
 l_after_xg:;
     r_8n = (u32)(common_8i >> 4u);
     switch ((common_8i & 15u)) {
-    case 1u: { r_p9_1 = 1u; r_8f = 0u; r_73_1 = 0u; goto l_typed_n5; }
-    case 2u: goto l_arm_r0_3;
-    case 3u: goto l_arm_r0_4;
-    case 4u: goto l_arm_r0_5;
-    case 5u: goto l_arm_r0_6;
-    case 6u: goto l_arm_r0_7;
-    case 8u: goto l_arm_r0_8;
-    case 9u: goto l_arm_r0_9;
-    case 10u: goto l_arm_r0_10;
-    case 11u: goto l_arm_r0_11;
-    case 12u: goto l_arm_r0_12;
-    case 13u: goto l_arm_r0_13;
-    case 14u: goto l_arm_r0_14;
-    case 15u: goto l_arm_r0_15;
+    case 1u: { r_p9_1 = 1u; r_8f = 0u; r_73 = 0u; goto l_typed_n5; }
+    case 2u: goto l_arm_r0_2;
+    case 3u: goto l_arm_r0_3;
+    case 4u: goto l_arm_r0_4;
+    case 5u: goto l_arm_r0_5;
+    case 6u: goto l_arm_r0_6;
+    case 8u: goto l_arm_r0_7;
+    case 9u: goto l_arm_r0_8;
+    case 10u: goto l_arm_r0_9;
+    case 11u: goto l_arm_r0_10;
+    case 12u: goto l_arm_r0_11;
+    case 13u: goto l_arm_r0_12;
+    case 14u: goto l_arm_r0_13;
+    case 15u: goto l_arm_r0_14;
     default: goto l_default_r0;
     }
-l_arm_r0_3:;
+l_arm_r0_2:;
     r_p9_1 = 2u;
     r_8f = 0u;
-    r_73_1 = 0u;
+    r_73 = 0u;
     goto l_typed_n5;
-l_arm_r0_4:;
+l_arm_r0_3:;
     r_p9_1 = 3u;
     r_8f = 0u;
-    r_73_1 = 0u;
+    r_73 = 0u;
     goto l_typed_n5;
-l_arm_r0_5:;
+l_arm_r0_4:;
     r_p9_1 = 4u;
     r_8f = 0u;
-    r_73_1 = 0u;
+    r_73 = 0u;
     goto l_typed_n5;
-l_arm_r0_6:;
+l_arm_r0_5:;
     r_p9_1 = 5u;
     r_8f = 0u;
-    r_73_1 = r_8n;
+    r_73 = r_8n;
     goto l_typed_n5;
-l_arm_r0_7:;
+l_arm_r0_6:;
     r_p9_1 = 6u;
     r_8f = 0u;
-    r_73_1 = 0u;
+    r_73 = 0u;
+    goto l_typed_n5;
+l_arm_r0_7:;
+    r_p9_1 = 7u;
+    r_8f = 0u;
+    r_73 = r_8n;
     goto l_typed_n5;
 l_arm_r0_8:;
     r_p9_1 = 7u;
-    r_8f = 0u;
-    r_73_1 = r_8n;
+    r_8f = 1u;
+    r_73 = r_8n;
     goto l_typed_n5;
 l_arm_r0_9:;
     r_p9_1 = 7u;
-    r_8f = 1u;
-    r_73_1 = r_8n;
+    r_8f = 2u;
+    r_73 = r_8n;
     goto l_typed_n5;
 l_arm_r0_10:;
     r_p9_1 = 7u;
-    r_8f = 2u;
-    r_73_1 = r_8n;
+    r_8f = 3u;
+    r_73 = r_8n;
     goto l_typed_n5;
 l_arm_r0_11:;
     r_p9_1 = 7u;
-    r_8f = 3u;
-    r_73_1 = r_8n;
+    r_8f = 4u;
+    r_73 = r_8n;
     goto l_typed_n5;
 l_arm_r0_12:;
     r_p9_1 = 7u;
-    r_8f = 4u;
-    r_73_1 = r_8n;
+    r_8f = 5u;
+    r_73 = r_8n;
     goto l_typed_n5;
 l_arm_r0_13:;
     r_p9_1 = 7u;
-    r_8f = 5u;
-    r_73_1 = r_8n;
+    r_8f = 6u;
+    r_73 = r_8n;
     goto l_typed_n5;
 l_arm_r0_14:;
     r_p9_1 = 7u;
-    r_8f = 6u;
-    r_73_1 = r_8n;
-    goto l_typed_n5;
-l_arm_r0_15:;
-    r_p9_1 = 7u;
     r_8f = 7u;
-    r_73_1 = r_8n;
+    r_73 = r_8n;
     goto l_typed_n5;
 l_default_r0:;
     r_p9_1 = 0u;
     r_8f = 0u;
-    r_73_1 = 0u;
+    r_73 = 0u;
 l_typed_n5:;
     st8(slot_2, r_p9_1);
     st8(r_p9, r_8f);
-    st32(r_ix, r_73_1);
-    st32(r_x5_1, r_ze);
+    st32(r_ix, r_73);
+    st32(r_x5_1, r_iz);
     st32(r_k0, t_nk);
-    typed_conforming_conforms_check_object_5ccc1be374b2e488(slot_3, r_he, r_sf, slot_2, slot_4, r_sr, a_7);
-    r_pe = ld32(r_f3);
-    r_wb = ld32(r_a8);
-    r_9k = ld32(r_gs);
-    r_rw = ld32(r_89_1);
-    r_bv = ld64(r_lk_2);
-    r_z1 = ld64(r_zd_1);
-    r_q6 = ld32(r_k0_1);
-    r_bq = ld32(r_x5_3);
-    r_rf = ld8(slot_3);
-    goto l_typed_0z;
-l_typed_v7:;
-    goto l_loop_w2;
-l_typed_0z:;
-    if (r_rf == 0u) goto l_loop_w2;
-    r_10 = 1u;
-    r_kb = r_bq;
-    r_n4 = r_q6;
-    r_yp = r_z1;
-    r_iz = r_bv;
-    r_62 = r_rw;
-    r_24_2 = r_9k;
-    r_lt = r_wb;
-    r_va = r_pe;
-l_typed_9c:;
-    st8(a_1, r_10);
-    st32(away(a_1, 8ull), r_kb);
-    st32(away(a_1, 12ull), r_n4);
-    st64(away(a_1, 16ull), r_yp);
-    st64(away(a_1, 24ull), r_iz);
-    st32(away(a_1, 32ull), r_62);
-    st32(away(a_1, 36ull), r_24_2);
-    st32(away(a_1, 40ull), r_lt);
-    st32(away(a_1, 44ull), r_va);
-    goto l_common_68;
-l_arm_z2_1:;
-    st8(a_1, 0u);
-    memset(away(a_1, 8ull), 0u, 40);
-    goto l_common_68;
+    u8 r_z7 = typed_conforming_conforms_check_object_5ccc1be374b2e488(r_3s, r_cz, slot_2, slot_3, r_sr, a_6);
+    r_jm = r_z7;
+    goto l_typed_9j;
+l_typed_kc:;
+    goto l_loop_c4;
+l_typed_r0:;
+    r_g6 = 17u;
+    r_8q = 0u;
+    r_o5 = 0ull;
+l_typed_8l:;
+    st32(a_6, r_g6);
+    st32(r_sl, r_8q);
+    st64(r_e7, r_o5);
+    st64(r_ud, r_f7);
+    st32(r_ng, r_sr);
+    st32(r_zh, r_iz);
+    st32(r_z8, t_nk);
+    st32(r_sd, 0u);
+    r_fk = 1u;
+    goto l_return_ri;
+l_typed_9j:;
+    if ((u8)(r_jm & 1)) { r_fk = 1u; goto l_return_ri; }
+    goto l_loop_c4;
+l_join_ki:;
+    u32 r_7t = (r_w0 + 1u);
+    if (r_7t == r_hr) { r_fk = 0u; goto l_return_ri; }
+    r_w0 = r_7t;
+    goto l_join_u5;
+l_return_ri:;
+    return r_fk;
 }
 
 /* typed_conforming::conforms::is_utf8_by_bytes */

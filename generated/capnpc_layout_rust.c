@@ -533,7 +533,7 @@ static const u8 g_static_145[4] = "full";
 static const u8 g_static_146[4] = "type";
 static const u8 g_static_147[3] = "own";
 static const u8 g_static_148[5] = "allow";
-static const u8 g_static_149[35] = "#[allow(dead_code, clippy::style)]\n";
+static const u8 g_static_149[60] = "#[allow(dead_code, clippy::style, clippy::type_complexity)]\n";
 static const u8 g_static_150[3] = "tag";
 static const u8 g_static_151[19] = "its type is unknown";
 static const u8 g_static_152[20] = "its group is unknown";
@@ -1191,7 +1191,7 @@ static const u8 g_static_462[8] = "\n"
 static const u64 switch_table_anyhow_error_ErrorFrom_from_338c36927acf0bc5[35] = { 16u, 44u, 34u, 33u, 47u, 25u, 48u, 53u, 38u, 38u, 47u, 50u, 16u, 25u, 56u, 56u, 46u, 68u, 49u, 56u, 49u, 60u, 36u, 33u, 41u, 24u, 40u, 15u, 20u, 11u, 17u, 28u, 24u, 20u, 18u };
 static const struct place switch_table_anyhow_error_ErrorFrom_from_338c36927acf0bc5_1[35] = { PLACE((const u8 *)g_static_61), PLACE((const u8 *)g_static_68), PLACE((const u8 *)g_static_69), PLACE((const u8 *)g_static_70), PLACE((const u8 *)g_static_71), PLACE((const u8 *)g_static_72), PLACE((const u8 *)g_static_73), PLACE((const u8 *)g_static_74), PLACE((const u8 *)g_static_75), PLACE((const u8 *)g_static_76), PLACE((const u8 *)g_static_77), PLACE((const u8 *)g_static_78), PLACE((const u8 *)g_static_79), PLACE((const u8 *)g_static_80), PLACE((const u8 *)g_static_81), PLACE((const u8 *)g_static_82), PLACE((const u8 *)g_static_83), PLACE((const u8 *)g_static_84), PLACE((const u8 *)g_static_85), PLACE((const u8 *)g_static_86), PLACE((const u8 *)g_static_87), PLACE((const u8 *)g_static_88), PLACE((const u8 *)g_static_89), PLACE((const u8 *)g_static_90), PLACE((const u8 *)g_static_91), PLACE((const u8 *)g_static_92), PLACE((const u8 *)g_static_93), PLACE((const u8 *)g_static_94), PLACE((const u8 *)g_static_95), PLACE((const u8 *)g_static_96), PLACE((const u8 *)g_static_97), PLACE((const u8 *)g_static_98), PLACE((const u8 *)g_static_99), PLACE((const u8 *)g_static_100), PLACE((const u8 *)g_static_101) };
 static const struct place switch_table_capnpc_schema_request_read_type_e069d1cb1d6451b2[4] = { PLACE((const u8 *)g_static_105), PLACE((const u8 *)g_static_106), PLACE((const u8 *)g_static_107), PLACE((const u8 *)g_static_108) };
-static const u64 switch_table_capnp_objects_pointers_sizes_add_object_e_7d4f33bd[8] = { 0u, 1u, 8u, 16u, 32u, 64u, 0u, 0u };
+static const u64 switch_table_capnp_pointers_pointers_sizes_add_object__b5ed7278[8] = { 0u, 1u, 8u, 16u, 32u, 64u, 0u, 0u };
 static const u64 switch_table_capnp_copies_copy_copy_object_c1b701a44f41e856[7] = { 0u, 1u, 8u, 16u, 32u, 64u, 0u };
 static const u64 switch_table_capnp_copies_copy_children_copy_children__a8cf112c[5] = { 1u, 8u, 16u, 32u, 64u };
 static const u32 switch_table_capnpc_schema_table_Making_add_struct[7] = { 9u, 8u, 8u, 10u, 11u, 12u, 13u };
@@ -1231,7 +1231,7 @@ static NEVER COLD u8 std_alloc_vec_Vec_grow_amortized_ffd95af9aab10bcd(u8 *a_1, 
 static NEVER COLD void capnp_framing_framing_reading_grow_7f7dbdafe4478eeb(u8 *a_1, u8 *a_2, u8 *a_3);
 static NEVER COLD u8 std_alloc_vec_Vec_grow_amortized_5400d4f5161e8cc6(u8 *a_1);
 static u8 core_fmt_formatter_Formatter_write_piece_27b95e09ebc76fa9(u8 *a_1, u8 *a_2);
-static NEVER void capnp_objects_source_follow_far_e069d1cb1d6451b2(u8 *a_1, u8 *a_2, u64 a_3, u8 *a_4);
+static NEVER void capnp_pointers_source_follow_far_e069d1cb1d6451b2(u8 *a_1, u8 *a_2, u64 a_3, u8 *a_4);
 static void anyhow_error_ErrorFrom_from_338c36927acf0bc5(u8 *a_1, u8 *a_2);
 static void capnpc_schema_request_read_request_e069d1cb1d6451b2(u8 *a_1, u8 *a_2, u8 *a_3, u8 *a_4);
 static void typed_reading_list_get_structs_e069d1cb1d6451b2(u8 *a_1, u8 *a_2, u64 a_3, u8 *a_4);
@@ -1247,17 +1247,17 @@ static void schema_reading_value_Reader_get_text_e069d1cb1d6451b2(u8 *a_1, u8 *a
 static void schema_reading_value_Reader_get_data_e069d1cb1d6451b2(u8 *a_1, u8 *a_2, u8 *a_3);
 static void capnpc_schema_request_bytes_default(u8 *a_1, u8 *a_2, u8 *a_3);
 static void capnpc_schema_request_words_default_e069d1cb1d6451b2(u8 *a_1, u8 *a_2, u8 *a_3, u8 *a_4);
-static NEVER u8 capnp_objects_pointers_sizes_add_object_e069d1cb1d6451b2(u8 *a_1, u32 a_2, u32 a_3, u8 *a_4);
-static NEVER void capnp_objects_source_Source_measure_object_e069d1cb1d6451b2(u8 *a_1, u8 *a_2, u8 *a_3, u32 a_4, u8 *a_5);
-static NEVER u8 capnp_objects_pointers_sizes_add_pointers_e069d1cb1d6451b2(u8 *a_1, u32 a_2, u32 a_3, u32 a_4, u8 *a_5);
+static NEVER u8 capnp_pointers_pointers_sizes_add_object_e069d1cb1d6451b2(u8 *a_1, u32 a_2, u32 a_3, u8 *a_4);
+static NEVER void capnp_pointers_source_Source_measure_object_e069d1cb1d6451b2(u8 *a_1, u8 *a_2, u8 *a_3, u32 a_4, u8 *a_5);
+static NEVER u8 capnp_pointers_pointers_sizes_add_pointers_e069d1cb1d6451b2(u8 *a_1, u32 a_2, u32 a_3, u32 a_4, u8 *a_5);
 static void capnp_arena_arena_builder_arena_impl_BuilderArenaImpl__b4c37d35(u8 *a_1, u8 *a_2, u32 a_3);
 static NEVER COLD u8 std_alloc_vec_Vec_grow_amortized_22cacb0e3deea15e(u8 *a_1);
-static NEVER COLD void capnp_making_landing_follow_e81703f2515d5e3b(u8 *a_1, u8 *a_2, u32 a_3, u32 a_4);
-static NEVER COLD void capnp_making_landing_follow_far_e81703f2515d5e3b(u8 *a_1, u8 *a_2, u64 a_3);
-static NEVER COLD void capnp_making_zeroing_zero_target_e81703f2515d5e3b(u8 *a_1, u8 *a_2);
-static void capnp_making_zeroing_zero_pointers_e81703f2515d5e3b(u8 *a_1, u32 a_2, u32 a_3, u32 a_4);
-static void capnp_making_zeroing_zero_if_inside_e81703f2515d5e3b(u8 *a_1, u32 a_2, u32 a_3, u64 a_4);
-static NEVER COLD void capnp_making_zeroing_zero_far_pads_e81703f2515d5e3b(u8 *a_1, u64 a_2);
+static NEVER COLD void capnp_allocation_landing_follow_e81703f2515d5e3b(u8 *a_1, u8 *a_2, u32 a_3, u32 a_4);
+static NEVER COLD void capnp_allocation_landing_follow_far_e81703f2515d5e3b(u8 *a_1, u8 *a_2, u64 a_3);
+static NEVER COLD void capnp_allocation_zeroing_zero_target_e81703f2515d5e3b(u8 *a_1, u8 *a_2);
+static void capnp_allocation_zeroing_zero_pointers_e81703f2515d5e3b(u8 *a_1, u32 a_2, u32 a_3, u32 a_4);
+static void capnp_allocation_zeroing_zero_if_inside_e81703f2515d5e3b(u8 *a_1, u32 a_2, u32 a_3, u64 a_4);
+static NEVER COLD void capnp_allocation_zeroing_zero_far_pads_e81703f2515d5e3b(u8 *a_1, u64 a_2);
 static NEVER void capnp_copies_copy_copy_object_c1b701a44f41e856(u8 *a_1, u8 *a_2, u32 a_3, u32 a_4, u8 *a_5, u8 *a_6, u8 a_7);
 static u64 capnp_words_words_used_words_in(u8 *a_1, u64 a_2, u64 a_3);
 static NEVER u64 capnp_words_lanes_used_words_bound(u8 *a_1, u64 a_2);
@@ -2832,7 +2832,7 @@ l_loop_jc:;
     r_qw_1 = ld64(r_9w);
     if (r_qw_1 == 0ull) { r_wc = 0ull; r_vt = ((u8 *)g_static_120); r_n4 = 0ull; r_n3 = 0ull; r_06 = ((u8 *)0); r_bd = 0ull; r_1p = ((u8 *)g_static_120); r_fp = 0ull; r_2a = 0u; r_xi = 0u; r_14 = 0x7fffffffu; r_ff_1 = 2u; goto l_arm_07; }
     st64(r_zd_9, 1ull);
-    if ((r_qw_1 & 3ull) == 2ull) goto l_capnp_xr;
+    if ((r_qw_1 & 3ull) == 2ull) goto l_capnp_zz;
     r_m6 = ((u64)(r_qw_1 >> 2ull) & 0x3fffffffull);
     if (!(r_m6 < 0x20000000ull)) goto l_else_sd;
     if (r_m6 < (r_52_4 & 0xffffffffull)) goto l_arm_sh;
@@ -2853,8 +2853,8 @@ l_capnp_5s_1:;
     r_9r = 0ull;
     r_xy = 23ull;
     goto l_arm_i4;
-l_capnp_xr:;
-    capnp_objects_source_follow_far_e069d1cb1d6451b2(slot_2, slot_14, r_qw_1, slot_13);
+l_capnp_zz:;
+    capnp_pointers_source_follow_far_e069d1cb1d6451b2(slot_2, slot_14, r_qw_1, slot_13);
     u64 r_38_20 = ld64((slot_2 + 16));
     u64 r_38_21 = ld64((slot_2 + 8));
     if (ld8(slot_2) == 0u) { r_ob = ld32((slot_2 + 40)); r_oh = r_38_20; r_q1 = r_38_21; r_ly_1 = ld64((slot_2 + 32)); r_mf = ((u8 *)(uptr)ld64((slot_2 + 24))); goto l_arm_7y; }
@@ -7190,8 +7190,8 @@ l_core_lh:;
     return r_m4;
 }
 
-/* capnp_objects::source::follow_far::<#e069d1cb1d6451b2> */
-static NEVER void capnp_objects_source_follow_far_e069d1cb1d6451b2(u8 *a_1, u8 *a_2, u64 a_3, u8 *a_4)
+/* capnp_pointers::source::follow_far::<#e069d1cb1d6451b2> */
+static NEVER void capnp_pointers_source_follow_far_e069d1cb1d6451b2(u8 *a_1, u8 *a_2, u64 a_3, u8 *a_4)
 {
     u64 r_cy;
     u8 *r_xm;
@@ -8947,7 +8947,7 @@ l_arm_36:;
     memset(slot_2, 0u, 56);
     if (!sink_pr) goto l_capnp_sm;
     st64(r_08, uadd_sat64(ld64(r_08), 1ull));
-    if ((r_qw & 3ull) == 2ull) goto l_capnp_ds;
+    if ((r_qw & 3ull) == 2ull) goto l_capnp_xt;
     goto l_join_dh;
 l_capnp_sm:;
     if (!((r_qw & 3ull) == 2ull)) goto l_join_dh;
@@ -8972,8 +8972,8 @@ l_capnp_i5:;
     r_an = sink_iw;
     r_y1 = static_1d;
     goto l_arm_fc;
-l_capnp_ds:;
-    capnp_objects_source_follow_far_e069d1cb1d6451b2(slot_2, r_y2, r_qw, a_3);
+l_capnp_xt:;
+    capnp_pointers_source_follow_far_e069d1cb1d6451b2(slot_2, r_y2, r_qw, a_3);
     u64 r_38_3 = ld64(r_x5_4);
     if (ld8(slot_2) == 0u) { r_vg = ld32(r_a8); r_dq = r_38_3; r_an = ld64(r_89); r_y1 = ((u8 *)(uptr)ld64(r_lk_1)); goto l_arm_fc; }
     r_vs = ld64(r_zd);
@@ -9582,7 +9582,7 @@ l_arm_36_1:;
     memset(slot_2, 0u, 56);
     if (!sink_pr_1) goto l_capnp_sm_1;
     st64(r_08_2, uadd_sat64(ld64(r_08_2), 1ull));
-    if ((r_qw_1 & 3ull) == 2ull) goto l_capnp_ds_1;
+    if ((r_qw_1 & 3ull) == 2ull) goto l_capnp_xt_1;
     goto l_join_dh_1;
 l_capnp_sm_1:;
     if (!((r_qw_1 & 3ull) == 2ull)) goto l_join_dh_1;
@@ -9607,8 +9607,8 @@ l_capnp_i5_1:;
     r_an_1 = sink_iw_1;
     r_y1_1 = static_1d_1;
     goto l_arm_fc_1;
-l_capnp_ds_1:;
-    capnp_objects_source_follow_far_e069d1cb1d6451b2(slot_2, r_y2_1, r_qw_1, a_3);
+l_capnp_xt_1:;
+    capnp_pointers_source_follow_far_e069d1cb1d6451b2(slot_2, r_y2_1, r_qw_1, a_3);
     u64 r_38_11 = ld64(r_x5_11);
     if (ld8(slot_2) == 0u) { r_vg_1 = ld32(r_a8_3); r_dq_1 = r_38_11; r_an_1 = ld64(r_89_2); r_y1_1 = ((u8 *)(uptr)ld64(r_lk_4)); goto l_arm_fc_1; }
     r_vs_2 = ld64(r_zd_5);
@@ -9787,7 +9787,7 @@ l_arm_36_2:;
     memset(slot_2, 0u, 56);
     if (!sink_pr_2) goto l_capnp_sm_2;
     st64(r_08_2, uadd_sat64(ld64(r_08_2), 1ull));
-    if ((r_qw_2 & 3ull) == 2ull) goto l_capnp_ds_2;
+    if ((r_qw_2 & 3ull) == 2ull) goto l_capnp_xt_2;
     goto l_join_dh_2;
 l_capnp_sm_2:;
     if (!((r_qw_2 & 3ull) == 2ull)) goto l_join_dh_2;
@@ -9812,8 +9812,8 @@ l_capnp_i5_2:;
     r_an_2 = sink_iw_2;
     r_y1_2 = static_1d_2;
     goto l_arm_fc_2;
-l_capnp_ds_2:;
-    capnp_objects_source_follow_far_e069d1cb1d6451b2(slot_2, r_y2_3, r_qw_2, a_3);
+l_capnp_xt_2:;
+    capnp_pointers_source_follow_far_e069d1cb1d6451b2(slot_2, r_y2_3, r_qw_2, a_3);
     u64 r_38_16 = ld64(r_x5_32);
     if (ld8(slot_2) == 0u) { r_vg_2 = ld32(r_a8_10); r_dq_2 = r_38_16; r_an_2 = ld64(r_89_11); r_y1_2 = ((u8 *)(uptr)ld64(r_lk_18)); goto l_arm_fc_2; }
     r_vs_3 = ld64(r_zd_25);
@@ -9923,7 +9923,7 @@ l_arm_j5:;
     t_ao = (sink_sn == 0u);
     if (!t_ao) goto l_capnp_sm_3;
     st64(r_08_2, uadd_sat64(ld64(r_08_2), 1ull));
-    if ((r_qw_3 & 3ull) == 2ull) goto l_capnp_d6;
+    if ((r_qw_3 & 3ull) == 2ull) goto l_capnp_em;
     goto l_join_dh_3;
 l_capnp_sm_3:;
     if (!((r_qw_3 & 3ull) == 2ull)) goto l_join_dh_3;
@@ -9949,8 +9949,8 @@ l_capnp_i5_3:;
     r_ly = sink_ab;
     r_mf = static_gy;
     goto l_arm_7y;
-l_capnp_d6:;
-    capnp_objects_source_follow_far_e069d1cb1d6451b2(slot_2, t_f6, r_qw_3, a_3);
+l_capnp_em:;
+    capnp_pointers_source_follow_far_e069d1cb1d6451b2(slot_2, t_f6, r_qw_3, a_3);
     u64 r_38_17 = ld64(r_zd_27);
     u64 r_38_18 = ld64(r_x5_34);
     if (ld8(slot_2) == 0u) { r_ob = ld32(r_a8_11); r_oh = r_38_17; r_q1 = r_38_18; r_ly = ld64(r_89_12); r_mf = ((u8 *)(uptr)ld64(r_lk_19)); goto l_arm_7y; }
@@ -10052,7 +10052,7 @@ l_arm_rs:;
     t_ao_1 = (sink_oq == 0u);
     if (!t_ao_1) goto l_capnp_sm_4;
     st64(r_08_2, uadd_sat64(ld64(r_08_2), 1ull));
-    if ((r_qw_4 & 3ull) == 2ull) goto l_capnp_d6_1;
+    if ((r_qw_4 & 3ull) == 2ull) goto l_capnp_em_1;
     goto l_join_dh_4;
 l_capnp_sm_4:;
     if (!((r_qw_4 & 3ull) == 2ull)) goto l_join_dh_4;
@@ -10078,8 +10078,8 @@ l_capnp_i5_4:;
     r_ly_1 = sink_zo;
     r_mf_1 = static_y6;
     goto l_arm_7y_1;
-l_capnp_d6_1:;
-    capnp_objects_source_follow_far_e069d1cb1d6451b2(slot_2, t_f6_1, r_qw_4, a_3);
+l_capnp_em_1:;
+    capnp_pointers_source_follow_far_e069d1cb1d6451b2(slot_2, t_f6_1, r_qw_4, a_3);
     u64 r_38_19 = ld64(r_zd_29);
     u64 r_38_20 = ld64(r_x5_37);
     if (ld8(slot_2) == 0u) { r_ob_1 = ld32(r_a8_13); r_oh_1 = r_38_19; r_q1_1 = r_38_20; r_ly_1 = ld64(r_89_14); r_mf_1 = ((u8 *)(uptr)ld64(r_lk_21)); goto l_arm_7y_1; }
@@ -10417,7 +10417,7 @@ l_arm_36_3:;
     memset(slot_2, 0u, 56);
     if (!sink_pr_3) goto l_capnp_sm_5;
     st64(r_08_2, uadd_sat64(ld64(r_08_2), 1ull));
-    if ((r_qw_5 & 3ull) == 2ull) goto l_capnp_ds_3;
+    if ((r_qw_5 & 3ull) == 2ull) goto l_capnp_xt_3;
     goto l_join_dh_5;
 l_capnp_sm_5:;
     if (!((r_qw_5 & 3ull) == 2ull)) goto l_join_dh_5;
@@ -10442,8 +10442,8 @@ l_capnp_i5_5:;
     r_an_3 = sink_iw_3;
     r_y1_3 = static_1d_3;
     goto l_arm_fc_3;
-l_capnp_ds_3:;
-    capnp_objects_source_follow_far_e069d1cb1d6451b2(slot_2, r_y2_4, r_qw_5, a_3);
+l_capnp_xt_3:;
+    capnp_pointers_source_follow_far_e069d1cb1d6451b2(slot_2, r_y2_4, r_qw_5, a_3);
     u64 r_38_24 = ld64(r_x5_24);
     if (ld8(slot_2) == 0u) { r_vg_3 = ld32(r_a8_8); r_dq_3 = r_38_24; r_an_3 = ld64(r_89_9); r_y1_3 = ((u8 *)(uptr)ld64(r_lk_13)); goto l_arm_fc_3; }
     r_vs_4 = ld64(r_zd_17);
@@ -10645,7 +10645,7 @@ l_arm_rs_1:;
     t_ao_2 = (sink_oq_1 == 0u);
     if (!t_ao_2) goto l_capnp_sm_6;
     st64(r_08_2, uadd_sat64(ld64(r_08_2), 1ull));
-    if ((r_qw_6 & 3ull) == 2ull) goto l_capnp_d6_2;
+    if ((r_qw_6 & 3ull) == 2ull) goto l_capnp_em_2;
     goto l_join_dh_6;
 l_capnp_sm_6:;
     if (!((r_qw_6 & 3ull) == 2ull)) goto l_join_dh_6;
@@ -10671,8 +10671,8 @@ l_capnp_i5_6:;
     r_ly_2 = sink_zo_1;
     r_mf_2 = static_y6_1;
     goto l_arm_7y_2;
-l_capnp_d6_2:;
-    capnp_objects_source_follow_far_e069d1cb1d6451b2(slot_2, t_f6_2, r_qw_6, a_3);
+l_capnp_em_2:;
+    capnp_pointers_source_follow_far_e069d1cb1d6451b2(slot_2, t_f6_2, r_qw_6, a_3);
     u64 r_38_28 = ld64(r_zd_8);
     u64 r_38_29 = ld64(r_x5_13);
     if (ld8(slot_2) == 0u) { r_ob_2 = ld32(r_a8_4); r_oh_2 = r_38_28; r_q1_2 = r_38_29; r_ly_2 = ld64(r_89_3); r_mf_2 = ((u8 *)(uptr)ld64(r_lk_5)); goto l_arm_7y_2; }
@@ -10774,7 +10774,7 @@ l_arm_rs_2:;
     t_ao_3 = (sink_oq_2 == 0u);
     if (!t_ao_3) goto l_capnp_sm_7;
     st64(r_08_2, uadd_sat64(ld64(r_08_2), 1ull));
-    if ((r_qw_7 & 3ull) == 2ull) goto l_capnp_d6_3;
+    if ((r_qw_7 & 3ull) == 2ull) goto l_capnp_em_3;
     goto l_join_dh_7;
 l_capnp_sm_7:;
     if (!((r_qw_7 & 3ull) == 2ull)) goto l_join_dh_7;
@@ -10800,8 +10800,8 @@ l_capnp_i5_7:;
     r_ly_3 = sink_zo_2;
     r_mf_3 = static_y6_2;
     goto l_arm_7y_3;
-l_capnp_d6_3:;
-    capnp_objects_source_follow_far_e069d1cb1d6451b2(slot_2, t_f6_3, r_qw_7, a_3);
+l_capnp_em_3:;
+    capnp_pointers_source_follow_far_e069d1cb1d6451b2(slot_2, t_f6_3, r_qw_7, a_3);
     u64 r_38_30 = ld64(r_zd_10);
     u64 r_38_31 = ld64(r_x5_16);
     if (ld8(slot_2) == 0u) { r_ob_3 = ld32(r_a8_6); r_oh_3 = r_38_30; r_q1_3 = r_38_31; r_ly_3 = ld64(r_89_5); r_mf_3 = ((u8 *)(uptr)ld64(r_lk_7)); goto l_arm_7y_3; }
@@ -11580,7 +11580,7 @@ l_arm_36_4:;
     memset(slot_2, 0u, 56);
     if (!sink_pr_4) goto l_capnp_sm_8;
     st64(r_08_4, uadd_sat64(ld64(r_08_4), 1ull));
-    if ((r_qw_9 & 3ull) == 2ull) goto l_capnp_ds_4;
+    if ((r_qw_9 & 3ull) == 2ull) goto l_capnp_xt_4;
     goto l_join_dh_8;
 l_capnp_sm_8:;
     if (!((r_qw_9 & 3ull) == 2ull)) goto l_join_dh_8;
@@ -11605,8 +11605,8 @@ l_capnp_i5_8:;
     r_an_4 = sink_iw_4;
     r_y1_4 = static_1d_4;
     goto l_arm_fc_4;
-l_capnp_ds_4:;
-    capnp_objects_source_follow_far_e069d1cb1d6451b2(slot_2, r_y2_5, r_qw_9, a_3);
+l_capnp_xt_4:;
+    capnp_pointers_source_follow_far_e069d1cb1d6451b2(slot_2, r_y2_5, r_qw_9, a_3);
     u64 r_38_46 = ld64(r_x5_64);
     if (ld8(slot_2) == 0u) { r_vg_4 = ld32(r_a8_25); r_dq_4 = r_38_46; r_an_4 = ld64(r_89_22); r_y1_4 = ((u8 *)(uptr)ld64(r_lk_36)); goto l_arm_fc_4; }
     r_vs_6 = ld64(r_zd_49);
@@ -11790,7 +11790,7 @@ l_arm_36_5:;
     memset(slot_2, 0u, 56);
     if (!sink_pr_5) goto l_capnp_sm_9;
     st64(r_08_4, uadd_sat64(ld64(r_08_4), 1ull));
-    if ((r_qw_10 & 3ull) == 2ull) goto l_capnp_ds_5;
+    if ((r_qw_10 & 3ull) == 2ull) goto l_capnp_xt_5;
     goto l_join_dh_9;
 l_capnp_sm_9:;
     if (!((r_qw_10 & 3ull) == 2ull)) goto l_join_dh_9;
@@ -11815,8 +11815,8 @@ l_capnp_i5_9:;
     r_an_5 = sink_iw_5;
     r_y1_5 = static_1d_5;
     goto l_arm_fc_5;
-l_capnp_ds_5:;
-    capnp_objects_source_follow_far_e069d1cb1d6451b2(slot_2, r_y2_6, r_qw_10, a_3);
+l_capnp_xt_5:;
+    capnp_pointers_source_follow_far_e069d1cb1d6451b2(slot_2, r_y2_6, r_qw_10, a_3);
     u64 r_38_53 = ld64(r_x5_70);
     if (ld8(slot_2) == 0u) { r_vg_5 = ld32(r_a8_26); r_dq_5 = r_38_53; r_an_5 = ld64(r_89_23); r_y1_5 = ((u8 *)(uptr)ld64(r_lk_39)); goto l_arm_fc_5; }
     r_vs_8 = ld64(r_zd_54);
@@ -12148,7 +12148,7 @@ l_arm_gz:;
     if (t_ao) goto l_capnp_sm;
     u8 *r_08 = away(a_4, 16ull);
     st64(r_08, uadd_sat64(ld64(r_08), 1ull));
-    if ((r_qw & 3ull) == 2ull) goto l_capnp_ll;
+    if ((r_qw & 3ull) == 2ull) goto l_capnp_az;
     goto l_join_dh;
 l_capnp_sm:;
     if (!((r_qw & 3ull) == 2ull)) goto l_join_dh;
@@ -12176,8 +12176,8 @@ l_capnp_i5:;
     r_qb = sink_sb;
     r_fk = t_hr;
     goto l_arm_an;
-l_capnp_ll:;
-    capnp_objects_source_follow_far_e069d1cb1d6451b2(slot_1, t_f6, r_qw, a_4);
+l_capnp_az:;
+    capnp_pointers_source_follow_far_e069d1cb1d6451b2(slot_1, t_f6, r_qw, a_4);
     u64 r_38 = ld64((slot_1 + 16));
     u64 r_38_1 = ld64((slot_1 + 8));
     if (ld8(slot_1) == 0u) { r_wm = ld32((slot_1 + 44)); r_ig = ld32((slot_1 + 40)); r_1s = r_38; r_bu = r_38_1; r_qb = ld64((slot_1 + 32)); r_fk = ld64((slot_1 + 24)); goto l_arm_an; }
@@ -12895,7 +12895,7 @@ l_arm_rs:;
     t_ao = (sink_yc == 0u);
     if (!t_ao) goto l_capnp_sm;
     st64(r_08, uadd_sat64(ld64(r_08), 1ull));
-    if ((r_qw & 3ull) == 2ull) goto l_capnp_d6;
+    if ((r_qw & 3ull) == 2ull) goto l_capnp_em;
     goto l_join_dh;
 l_capnp_sm:;
     if (!((r_qw & 3ull) == 2ull)) goto l_join_dh;
@@ -12920,8 +12920,8 @@ l_capnp_i5:;
     r_q1 = sink_qq;
     r_ly = static_oq;
     goto l_arm_7y;
-l_capnp_d6:;
-    capnp_objects_source_follow_far_e069d1cb1d6451b2(slot_1, t_f6, r_qw, a_3);
+l_capnp_em:;
+    capnp_pointers_source_follow_far_e069d1cb1d6451b2(slot_1, t_f6, r_qw, a_3);
     u64 r_38 = ld64(r_x5);
     if (ld8(slot_1) == 0u) { r_ob_1 = ld32(r_a8); r_oh = r_38; r_q1 = ld64(r_89); r_ly = ((u8 *)(uptr)ld64(r_lk)); goto l_arm_7y; }
     r_9r = ld64(r_zd);
@@ -13322,7 +13322,7 @@ l_arm_w3:;
     if (!sink_2h) goto l_capnp_sm;
     u8 *r_08 = away(a_3, 16ull);
     st64(r_08, uadd_sat64(ld64(r_08), 1ull));
-    if ((r_qw & 3ull) == 2ull) goto l_capnp_ai;
+    if ((r_qw & 3ull) == 2ull) goto l_capnp_6l;
     goto l_join_dh;
 l_capnp_sm:;
     if (!((r_qw & 3ull) == 2ull)) goto l_join_dh;
@@ -13347,8 +13347,8 @@ l_capnp_i5:;
     r_an = sink_lt;
     r_y1 = static_iv;
     goto l_arm_fc;
-l_capnp_ai:;
-    capnp_objects_source_follow_far_e069d1cb1d6451b2(slot_1, r_tr, r_qw, a_3);
+l_capnp_6l:;
+    capnp_pointers_source_follow_far_e069d1cb1d6451b2(slot_1, r_tr, r_qw, a_3);
     u64 r_38 = ld64((slot_1 + 8));
     if (ld8(slot_1) == 0u) { r_vg = ld32((slot_1 + 40)); r_dq = r_38; r_an = ld64((slot_1 + 32)); r_y1 = ((u8 *)(uptr)ld64((slot_1 + 24))); goto l_arm_fc; }
     r_vs = ld64((slot_1 + 16));
@@ -13449,7 +13449,7 @@ l_arm_tm:;
     if (!sink_bc) goto l_capnp_sm;
     u8 *r_08 = away(a_3, 16ull);
     st64(r_08, uadd_sat64(ld64(r_08), 1ull));
-    if ((r_qw & 3ull) == 2ull) goto l_capnp_ai;
+    if ((r_qw & 3ull) == 2ull) goto l_capnp_6l;
     goto l_join_dh;
 l_capnp_sm:;
     if (!((r_qw & 3ull) == 2ull)) goto l_join_dh;
@@ -13475,8 +13475,8 @@ l_capnp_i5:;
     r_an = sink_gj;
     r_y1 = static_wb;
     goto l_arm_fc;
-l_capnp_ai:;
-    capnp_objects_source_follow_far_e069d1cb1d6451b2(slot_1, r_h6, r_qw, a_3);
+l_capnp_6l:;
+    capnp_pointers_source_follow_far_e069d1cb1d6451b2(slot_1, r_h6, r_qw, a_3);
     u64 r_38 = ld64((slot_1 + 8));
     if (ld8(slot_1) == 0u) { r_vg = ld32((slot_1 + 40)); r_dq = r_38; r_an = ld64((slot_1 + 32)); r_y1 = ((u8 *)(uptr)ld64((slot_1 + 24))); goto l_arm_fc; }
     r_vs = ld64((slot_1 + 16));
@@ -13718,11 +13718,11 @@ l_join_xs:;
     st64(r_a8_2, r_qw_2);
     u8 *r_c4_2 = (slot_2 + 48);
     st64(r_c4_2, r_qw_3);
-    u8 r_xo = capnp_objects_pointers_sizes_add_object_e069d1cb1d6451b2(slot_9, r_5k, r_5k_2, slot_2);
+    u8 r_h2 = capnp_pointers_pointers_sizes_add_object_e069d1cb1d6451b2(slot_9, r_5k, r_5k_2, slot_2);
     r_38 = ld64(r_a8_2);
     r_38_1 = ld64(r_c4_2);
     r_eg_2 = (u64)ld8(r_89_2);
-    if ((u8)(r_xo & 1)) goto l_arm_zo;
+    if ((u8)(r_h2 & 1)) goto l_arm_zo;
     u32 r_z4 = ld32(slot_2);
     u32 r_uq = ld32((slot_2 + 4));
     st64(a_3, r_eg_2);
@@ -13789,12 +13789,12 @@ l_join_sk:;
     r_lz_1 = ldp(ldp(r_zd_2));
     r_qw_4 = ld64(r_lz_1);
     if (r_qw_4 == 0ull) goto l_capnp_9t;
-    capnp_making_landing_follow_e81703f2515d5e3b(slot_2, slot_8, 0u, 0u);
+    capnp_allocation_landing_follow_e81703f2515d5e3b(slot_2, slot_8, 0u, 0u);
     st64(r_lz_1, 0ull);
     if (!(ld8(slot_2) == 1u)) goto l_capnp_9t;
-    capnp_making_zeroing_zero_target_e81703f2515d5e3b(slot_8, (slot_2 + 8));
+    capnp_allocation_zeroing_zero_target_e81703f2515d5e3b(slot_8, (slot_2 + 8));
     if (!((r_qw_4 & 3ull) == 2ull)) goto l_capnp_9t;
-    capnp_making_zeroing_zero_far_pads_e81703f2515d5e3b(slot_8, r_qw_4);
+    capnp_allocation_zeroing_zero_far_pads_e81703f2515d5e3b(slot_8, r_qw_4);
 l_capnp_9t:;
     mv16(r_x5_1, slot_7);
     st64(r_lk_1, r_qw);
@@ -13824,12 +13824,12 @@ l_capnp_nz:;
     r_lz_2 = ldp(ldp(r_zd_2));
     r_qw_5 = ld64(r_lz_2);
     if (r_qw_5 == 0ull) goto l_arm_f7_2;
-    capnp_making_landing_follow_e81703f2515d5e3b(slot_2, slot_8, 0u, 0u);
+    capnp_allocation_landing_follow_e81703f2515d5e3b(slot_2, slot_8, 0u, 0u);
     st64(r_lz_2, 0ull);
     if (!(ld8(slot_2) == 1u)) goto l_arm_f7_2;
-    capnp_making_zeroing_zero_target_e81703f2515d5e3b(slot_8, (slot_2 + 8));
+    capnp_allocation_zeroing_zero_target_e81703f2515d5e3b(slot_8, (slot_2 + 8));
     if (!((r_qw_5 & 3ull) == 2ull)) goto l_arm_f7_2;
-    capnp_making_zeroing_zero_far_pads_e81703f2515d5e3b(slot_8, r_qw_5);
+    capnp_allocation_zeroing_zero_far_pads_e81703f2515d5e3b(slot_8, r_qw_5);
     goto l_arm_f7_2;
 l_arm_mo:;
     u64 r_38_5 = ld64((slot_3 + 16));
@@ -13908,8 +13908,8 @@ l_join_au:;
     goto l_common_68;
 }
 
-/* capnp_objects::pointers::sizes::add_object::<#e069d1cb1d6451b2> */
-static NEVER u8 capnp_objects_pointers_sizes_add_object_e069d1cb1d6451b2(u8 *a_1, u32 a_2, u32 a_3, u8 *a_4)
+/* capnp_pointers::pointers::sizes::add_object::<#e069d1cb1d6451b2> */
+static NEVER u8 capnp_pointers_pointers_sizes_add_object_e069d1cb1d6451b2(u8 *a_1, u32 a_2, u32 a_3, u8 *a_4)
 {
     A(8) u8 slot_1[64];
     A(8) u8 slot_2[56];
@@ -13987,7 +13987,7 @@ static NEVER u8 capnp_objects_pointers_sizes_add_object_e069d1cb1d6451b2(u8 *a_1
     st32((slot_4 + 24), a_2);
     st32((slot_4 + 28), 0u);
     r_xm = away(a_4, 32ull);
-    capnp_objects_source_Source_measure_object_e069d1cb1d6451b2(slot_2, slot_3, slot_4, a_3, r_xm);
+    capnp_pointers_source_Source_measure_object_e069d1cb1d6451b2(slot_2, slot_3, slot_4, a_3, r_xm);
     r_r5 = ld8((slot_2 + 8));
     if (!(ld8(slot_2) == 0u)) goto l_arm_e5;
     r_zd = (slot_2 + 16);
@@ -13996,14 +13996,14 @@ static NEVER u8 capnp_objects_pointers_sizes_add_object_e069d1cb1d6451b2(u8 *a_1
     switch (r_r5) {
     case 0u: { r_8m = 0ull; goto l_capnp_my; }
     case 1u: { r_8m = 0ull; goto l_capnp_my; }
-    case 3u: goto l_arm_17;
+    case 3u: goto l_arm_fl;
     case 2u: goto l_arm_1x;
     case 4u: goto l_arm_nl;
     case 5u: goto l_arm_kb;
     default: goto l_noarm_e1;
     }
-l_arm_17:;
-    r_8m = (u64)(((ld64((((u8 *)switch_table_capnp_objects_pointers_sizes_add_object_e_7d4f33bd) + (i64)(8 * (u64)(r_z4 & 255u)))) * (u64)r_uq) + 63ull) >> 6ull);
+l_arm_fl:;
+    r_8m = (u64)(((ld64((((u8 *)switch_table_capnp_pointers_pointers_sizes_add_object__b5ed7278) + (i64)(8 * (u64)(r_z4 & 255u)))) * (u64)r_uq) + 63ull) >> 6ull);
     goto l_capnp_my;
 l_arm_1x:;
     r_8m = (u64)((u32)(r_z4 >> 16u) + (r_z4 & 65535u));
@@ -14116,8 +14116,8 @@ l_join_x4:;
     switch ((u8)((u8)r_qw & 3u)) {
     case 0u: goto l_arm_vb;
     case 1u: goto l_arm_ui;
-    case 2u: goto l_after_1j;
-    case 3u: goto l_after_1j;
+    case 2u: goto l_after_4y;
+    case 3u: goto l_after_4y;
     default: goto l_default_e1;
     }
 l_arm_vb:;
@@ -14168,20 +14168,20 @@ l_arm_h4:;
 l_arm_dt:;
     st64(a_4, (r_yz_1 + r_es_1));
     if (r_y6 == 0ull) goto l_loop_aa;
-    goto l_join_yb;
+    goto l_join_ys;
 l_arm_0l:;
     st32(r_08, 27u);
     st32(r_m3, 0u);
     st64(r_xz, 0xffffffffffffffffull);
     r_fk = 1u;
     goto l_return_ri;
-l_join_yb:;
-    u8 r_k9 = capnp_objects_pointers_sizes_add_pointers_e069d1cb1d6451b2(slot_1, (r_6l + r_az), r_12, r_53, a_4);
-    r_hf = r_k9;
+l_join_ys:;
+    u8 r_wq = capnp_pointers_pointers_sizes_add_pointers_e069d1cb1d6451b2(slot_1, (r_6l + r_az), r_12, r_53, a_4);
+    r_hf = r_wq;
     goto l_capnp_5o;
 l_arm_ui:;
     r_ep = (u64)(r_qw >> 32ull);
-    if (!((u8)((u8)((u8)r_ep & 7u) + 255u) < 5u)) goto l_after_1j;
+    if (!((u8)((u8)((u8)r_ep & 7u) + 255u) < 5u)) goto l_after_4y;
     r_c6 = (u64)(((ld64(away(away(((u8 *)switch_table_capnp_copies_copy_children_copy_children__a8cf112c), 8 * (r_ep & 7ull)), 0xfffffffffffffff8ull)) * (u64)(r_qw >> 35ull)) + 63ull) >> 6ull);
     if (r_n1) { r_dq_1 = 25u; goto l_arm_h4_1; }
     if (!t_0c) goto l_join_bd_1;
@@ -14222,9 +14222,9 @@ l_arm_h4_1:;
     st64(r_xz, 0ull);
     r_fk = 1u;
     goto l_return_ri;
-l_after_1j:;
-    u8 r_j2 = capnp_objects_pointers_sizes_add_object_e069d1cb1d6451b2(slot_1, r_sr, r_e3, a_4);
-    r_hf = r_j2;
+l_after_4y:;
+    u8 r_mc = capnp_pointers_pointers_sizes_add_object_e069d1cb1d6451b2(slot_1, r_sr, r_e3, a_4);
+    r_hf = r_mc;
     goto l_capnp_5o;
 l_default_e1:;
     UNREACHABLE();
@@ -14240,8 +14240,8 @@ l_return_ri:;
     return r_fk;
 }
 
-/* capnp_objects::source::Source::measure_object::<#e069d1cb1d6451b2> */
-static NEVER void capnp_objects_source_Source_measure_object_e069d1cb1d6451b2(u8 *a_1, u8 *a_2, u8 *a_3, u32 a_4, u8 *a_5)
+/* capnp_pointers::source::Source::measure_object::<#e069d1cb1d6451b2> */
+static NEVER void capnp_pointers_source_Source_measure_object_e069d1cb1d6451b2(u8 *a_1, u8 *a_2, u8 *a_3, u32 a_4, u8 *a_5)
 {
     A(8) u8 slot_1[56];
     u8 r_dh;
@@ -14317,7 +14317,7 @@ static NEVER void capnp_objects_source_Source_measure_object_e069d1cb1d6451b2(u8
     if (!t_0c) goto l_capnp_sm;
     u8 *r_08 = away(a_5, 16ull);
     st64(r_08, uadd_sat64(ld64(r_08), 1ull));
-    if ((r_qw_1 & 3ull) == 2ull) goto l_capnp_ai;
+    if ((r_qw_1 & 3ull) == 2ull) goto l_capnp_6l;
     goto l_join_bd;
 l_capnp_sm:;
     if (!((r_qw_1 & 3ull) == 2ull)) goto l_join_bd;
@@ -14344,8 +14344,8 @@ l_capnp_i5:;
     r_nl = r_qw;
     r_b2 = t_al;
     goto l_arm_xs;
-l_capnp_ai:;
-    capnp_objects_source_follow_far_e069d1cb1d6451b2(slot_1, r_rv, r_qw_1, a_5);
+l_capnp_6l:;
+    capnp_pointers_source_follow_far_e069d1cb1d6451b2(slot_1, r_rv, r_qw_1, a_5);
     u64 r_38 = ld64((slot_1 + 16));
     u64 r_38_1 = ld64((slot_1 + 8));
     if (ld8(slot_1) == 0u) { r_mk = ld32((slot_1 + 44)); r_qj = ld32((slot_1 + 40)); r_vj = r_38; r_at = r_38_1; r_nl = ld64((slot_1 + 32)); r_b2 = ld64((slot_1 + 24)); goto l_arm_xs; }
@@ -14541,8 +14541,8 @@ l_capnp_6f:;
     return;
 }
 
-/* capnp_objects::pointers::sizes::add_pointers::<#e069d1cb1d6451b2> */
-static NEVER u8 capnp_objects_pointers_sizes_add_pointers_e069d1cb1d6451b2(u8 *a_1, u32 a_2, u32 a_3, u32 a_4, u8 *a_5)
+/* capnp_pointers::pointers::sizes::add_pointers::<#e069d1cb1d6451b2> */
+static NEVER u8 capnp_pointers_pointers_sizes_add_pointers_e069d1cb1d6451b2(u8 *a_1, u32 a_2, u32 a_3, u32 a_4, u8 *a_5)
 {
     u8 *r_su;
     u8 *r_xm;
@@ -14614,8 +14614,8 @@ l_join_5y:;
     switch ((u8)((u8)r_qw & 3u)) {
     case 0u: goto l_arm_vb;
     case 1u: goto l_arm_ui;
-    case 2u: goto l_after_wq;
-    case 3u: goto l_after_wq;
+    case 2u: goto l_after_4m;
+    case 3u: goto l_after_4m;
     default: goto l_default_e1;
     }
 l_arm_vb:;
@@ -14660,12 +14660,12 @@ l_arm_up:;
     if (r_yz > (r_es_1 ^ 0xffffffffffffffffull)) { sink_qh = 27u; sink_dw = 0xffffffffffffffffull; goto l_capnp_y7; }
     st64(a_5, (r_yz + r_es_1));
     if (r_y6 == 0ull) goto l_loop_da;
-    u8 r_7a = capnp_objects_pointers_sizes_add_pointers_e069d1cb1d6451b2(a_1, (r_6l + r_az), r_12, r_ra, a_5);
-    r_t4 = r_7a;
+    u8 r_7p = capnp_pointers_pointers_sizes_add_pointers_e069d1cb1d6451b2(a_1, (r_6l + r_az), r_12, r_ra, a_5);
+    r_t4 = r_7p;
     goto l_capnp_qq;
 l_arm_ui:;
     r_ep = (u64)(r_qw >> 32ull);
-    if (!((u8)((u8)((u8)r_ep & 7u) + 255u) < 5u)) goto l_after_wq;
+    if (!((u8)((u8)((u8)r_ep & 7u) + 255u) < 5u)) goto l_after_4m;
     r_c6 = (u64)(((ld64(away(away(((u8 *)switch_table_capnp_copies_copy_children_copy_children__a8cf112c), 8 * (r_ep & 7ull)), 0xfffffffffffffff8ull)) * (u64)(r_qw >> 35ull)) + 63ull) >> 6ull);
     if (r_30) { sink_qh = 25u; sink_dw = 0ull; goto l_capnp_y7; }
     t_0c = (ld8(a_1) == 0u);
@@ -14696,9 +14696,9 @@ l_arm_8q:;
     if (r_yz_1 > (r_c6 ^ 0xffffffffffffffffull)) { sink_qh = 27u; sink_dw = 0xffffffffffffffffull; goto l_capnp_y7; }
     st64(a_5, (r_yz_1 + r_c6));
     goto l_loop_da;
-l_after_wq:;
-    u8 r_tk = capnp_objects_pointers_sizes_add_object_e069d1cb1d6451b2(a_1, r_7m, a_4, a_5);
-    r_t4 = r_tk;
+l_after_4m:;
+    u8 r_v0 = capnp_pointers_pointers_sizes_add_object_e069d1cb1d6451b2(a_1, r_7m, a_4, a_5);
+    r_t4 = r_v0;
     goto l_capnp_qq;
 l_default_e1:;
     UNREACHABLE();
@@ -14842,8 +14842,8 @@ l_arm_m7:;
     goto l_common_57;
 }
 
-/* capnp_making::landing::follow::<#e81703f2515d5e3b> */
-static NEVER COLD void capnp_making_landing_follow_e81703f2515d5e3b(u8 *a_1, u8 *a_2, u32 a_3, u32 a_4)
+/* capnp_allocation::landing::follow::<#e81703f2515d5e3b> */
+static NEVER COLD void capnp_allocation_landing_follow_e81703f2515d5e3b(u8 *a_1, u8 *a_2, u32 a_3, u32 a_4)
 {
     A(8) u8 slot_1[32];
     A(8) u8 slot_2[24];
@@ -14878,7 +14878,7 @@ l_capnp_6l:;
     r_qw = ld64(away(ldp(r_2b), (u64)(r_7l_1 << 3ull)));
     memset(slot_1, 0u, 32);
     if (!((r_qw & 3ull) == 2ull)) goto l_capnp_jd;
-    capnp_making_landing_follow_far_e81703f2515d5e3b(slot_1, a_2, r_qw);
+    capnp_allocation_landing_follow_far_e81703f2515d5e3b(slot_1, a_2, r_qw);
     r_ud = ld8(slot_1);
     goto l_capnp_ty;
 l_then_ud:;
@@ -14922,8 +14922,8 @@ l_capnp_ty:;
     return;
 }
 
-/* capnp_making::landing::follow_far::<#e81703f2515d5e3b> */
-static NEVER COLD void capnp_making_landing_follow_far_e81703f2515d5e3b(u8 *a_1, u8 *a_2, u64 a_3)
+/* capnp_allocation::landing::follow_far::<#e81703f2515d5e3b> */
+static NEVER COLD void capnp_allocation_landing_follow_far_e81703f2515d5e3b(u8 *a_1, u8 *a_2, u64 a_3)
 {
     u64 r_cy;
     u32 r_4r;
@@ -14998,8 +14998,8 @@ l_join_s8:;
     return;
 }
 
-/* capnp_making::zeroing::zero_target::<#e81703f2515d5e3b> */
-static NEVER COLD void capnp_making_zeroing_zero_target_e81703f2515d5e3b(u8 *a_1, u8 *a_2)
+/* capnp_allocation::zeroing::zero_target::<#e81703f2515d5e3b> */
+static NEVER COLD void capnp_allocation_zeroing_zero_target_e81703f2515d5e3b(u8 *a_1, u8 *a_2)
 {
     u64 r_tp;
     u32 r_5k;
@@ -15028,8 +15028,8 @@ static NEVER COLD void capnp_making_zeroing_zero_target_e81703f2515d5e3b(u8 *a_1
     u32 r_az;
     u32 t_12;
     u64 r_c4;
-    u32 r_5b;
-    u32 r_dm;
+    u32 r_tq;
+    u32 r_wz;
     u64 r_ic;
     u64 r_b6;
     u64 r_se;
@@ -15063,7 +15063,7 @@ l_arm_vb:;
     r_ef = (u64)ld32(away(away(ldp(away(a_1, 16ull)), (u64)(r_24_1 << 5ull)), 24ull));
 l_capnp_5p:;
     if (r_lc_1 > r_ef) goto l_join_68;
-    capnp_making_zeroing_zero_pointers_e81703f2515d5e3b(a_1, r_5k, (u32)r_lc, r_12);
+    capnp_allocation_zeroing_zero_pointers_e81703f2515d5e3b(a_1, r_5k, (u32)r_lc, r_12);
     r_68 = ((r_4r & 65535u) + r_12);
     r_es = (u64)r_68;
     if (r_68 == 0u) goto l_join_68;
@@ -15094,7 +15094,7 @@ l_arm_a9:;
     r_ij = (u64)(r_tp >> 35ull);
     switch ((u8)((u8)(u64)(r_tp >> 32ull) & 7u)) {
     case 7u: goto l_arm_zr;
-    case 6u: goto l_arm_cf;
+    case 6u: goto l_arm_44;
     case 0u: { r_ic = 0ull; goto l_capnp_nc; }
     case 5u: goto l_arm_h9;
     case 4u: goto l_arm_h9_1;
@@ -15118,19 +15118,19 @@ l_capnp_qm:;
     r_c4 = (((u64)(r_az + t_12) * (u64)t_c8) + 1ull);
     if (!r_qc) goto l_join_68;
     if ((r_c4 + (u64)r_5k_1) > (u64)ld32(away(away(ldp(away(a_1, 16ull)), (u64)(r_24_2 << 5ull)), 24ull))) goto l_join_68;
-    if (!((r_y6_1 != 0ull) ? (t_c8 != 0u) : 0u)) goto l_capnp_50;
-    r_5b = (r_5k_1 + 1u);
-    r_dm = 0u;
-l_join_j3:;
-    u32 r_w0 = (r_5b + r_az);
-    capnp_making_zeroing_zero_pointers_e81703f2515d5e3b(a_1, r_5k, r_w0, t_12);
-    u32 r_ff = (r_dm + 1u);
-    if (!(r_ff == t_c8)) { r_5b = (r_w0 + t_12); r_dm = r_ff; goto l_join_j3; }
-l_capnp_50:;
-    capnp_making_zeroing_zero_if_inside_e81703f2515d5e3b(a_1, r_5k, r_5k_1, r_c4);
+    if (!((r_y6_1 != 0ull) ? (t_c8 != 0u) : 0u)) goto l_capnp_b6;
+    r_tq = (r_5k_1 + 1u);
+    r_wz = 0u;
+l_join_p5:;
+    u32 r_w0 = (r_tq + r_az);
+    capnp_allocation_zeroing_zero_pointers_e81703f2515d5e3b(a_1, r_5k, r_w0, t_12);
+    u32 r_ff = (r_wz + 1u);
+    if (!(r_ff == t_c8)) { r_tq = (r_w0 + t_12); r_wz = r_ff; goto l_join_p5; }
+l_capnp_b6:;
+    capnp_allocation_zeroing_zero_if_inside_e81703f2515d5e3b(a_1, r_5k, r_5k_1, r_c4);
     goto l_join_68;
-l_arm_cf:;
-    capnp_making_zeroing_zero_pointers_e81703f2515d5e3b(a_1, r_5k, r_5k_1, (u32)r_ij);
+l_arm_44:;
+    capnp_allocation_zeroing_zero_pointers_e81703f2515d5e3b(a_1, r_5k, r_5k_1, (u32)r_ij);
     goto l_join_68;
 l_arm_h9_2:;
     r_ic = 1ull;
@@ -15180,8 +15180,8 @@ l_default_e1:;
     UNREACHABLE();
 }
 
-/* capnp_making::zeroing::zero_pointers::<#e81703f2515d5e3b> */
-static void capnp_making_zeroing_zero_pointers_e81703f2515d5e3b(u8 *a_1, u32 a_2, u32 a_3, u32 a_4)
+/* capnp_allocation::zeroing::zero_pointers::<#e81703f2515d5e3b> */
+static void capnp_allocation_zeroing_zero_pointers_e81703f2515d5e3b(u8 *a_1, u32 a_2, u32 a_3, u32 a_4)
 {
     A(8) u8 slot_1[32];
     u64 r_v1;
@@ -15211,12 +15211,12 @@ l_join_at:;
     r_2b = away(ldp(away(ldp(r_08), r_vp)), (u64)((u64)r_7m << 3ull));
     r_qw = ld64(r_2b);
     if (r_qw == 0ull) goto l_capnp_o8;
-    capnp_making_landing_follow_e81703f2515d5e3b(slot_1, a_1, a_2, r_7m);
+    capnp_allocation_landing_follow_e81703f2515d5e3b(slot_1, a_1, a_2, r_7m);
     st64(r_2b, 0ull);
     if (!(ld8(slot_1) == 1u)) goto l_capnp_o8;
-    capnp_making_zeroing_zero_target_e81703f2515d5e3b(a_1, r_x5);
+    capnp_allocation_zeroing_zero_target_e81703f2515d5e3b(a_1, r_x5);
     if (!((r_qw & 3ull) == 2ull)) goto l_capnp_o8;
-    capnp_making_zeroing_zero_far_pads_e81703f2515d5e3b(a_1, r_qw);
+    capnp_allocation_zeroing_zero_far_pads_e81703f2515d5e3b(a_1, r_qw);
 l_capnp_o8:;
     u64 indvars_r7 = (indvars_ll + 1ull);
     if (!(indvars_r7 == r_v1)) { indvars_ll = indvars_r7; goto l_join_at; }
@@ -15224,8 +15224,8 @@ l_join_68:;
     return;
 }
 
-/* capnp_making::zeroing::zero_if_inside::<#e81703f2515d5e3b> */
-static void capnp_making_zeroing_zero_if_inside_e81703f2515d5e3b(u8 *a_1, u32 a_2, u32 a_3, u64 a_4)
+/* capnp_allocation::zeroing::zero_if_inside::<#e81703f2515d5e3b> */
+static void capnp_allocation_zeroing_zero_if_inside_e81703f2515d5e3b(u8 *a_1, u32 a_2, u32 a_3, u64 a_4)
 {
     u64 r_7l;
     u64 r_7l_1;
@@ -15265,8 +15265,8 @@ l_join_68:;
     return;
 }
 
-/* capnp_making::zeroing::zero_far_pads::<#e81703f2515d5e3b> */
-static NEVER COLD void capnp_making_zeroing_zero_far_pads_e81703f2515d5e3b(u8 *a_1, u64 a_2)
+/* capnp_allocation::zeroing::zero_far_pads::<#e81703f2515d5e3b> */
+static NEVER COLD void capnp_allocation_zeroing_zero_far_pads_e81703f2515d5e3b(u8 *a_1, u64 a_2)
 {
     u8 r_hr;
     u64 t_3h;
@@ -15586,7 +15586,7 @@ static NEVER void capnp_copies_copy_copy_object_c1b701a44f41e856(u8 *a_1, u8 *a_
     u8 *r_x5_7;
     u8 *r_k0_4;
     u8 *r_zd_7;
-    u32 r_s1_1;
+    u32 r_mx;
     u8 *r_x5_8;
     u8 *r_k0_5;
     u8 *r_zd_8;
@@ -15712,7 +15712,7 @@ static NEVER void capnp_copies_copy_copy_object_c1b701a44f41e856(u8 *a_1, u8 *a_
     if (t_pa) goto l_capnp_sm;
     u8 *r_08 = away(a_6, 16ull);
     st64(r_08, uadd_sat64(ld64(r_08), 1ull));
-    if ((r_qw_3 & 3ull) == 2ull) goto l_capnp_ai;
+    if ((r_qw_3 & 3ull) == 2ull) goto l_capnp_6l;
     goto l_join_bd;
 l_capnp_sm:;
     if (!((r_qw_3 & 3ull) == 2ull)) goto l_join_bd;
@@ -15738,8 +15738,8 @@ l_capnp_i5:;
     r_9h = r_qw_2;
     r_27 = t_al;
     goto l_arm_wn;
-l_capnp_ai:;
-    capnp_objects_source_follow_far_e069d1cb1d6451b2(slot_1, r_rv, r_qw_3, a_6);
+l_capnp_6l:;
+    capnp_pointers_source_follow_far_e069d1cb1d6451b2(slot_1, r_rv, r_qw_3, a_6);
     u64 r_38 = ld64((slot_1 + 16));
     u64 r_38_1 = ld64((slot_1 + 8));
     if (ld8(slot_1) == 0u) { r_gx = ld32((slot_1 + 40)); r_qd = r_38; r_d4 = r_38_1; r_9h = ld64((slot_1 + 32)); r_27 = ld64((slot_1 + 24)); goto l_arm_wn; }
@@ -16628,7 +16628,7 @@ l_arm_dc:;
     r_x5_7 = (slot_3 + 8);
     r_k0_4 = (slot_3 + 12);
     r_zd_7 = (slot_3 + 16);
-    r_s1_1 = (r_5k + 0xfffffffeu);
+    r_mx = ((r_4w_1 == 0x80000000u) ? 0x80000000u : (r_5k + 0xfffffffeu));
     r_x5_8 = (slot_1 + 8);
     r_k0_5 = (slot_1 + 12);
     r_zd_8 = (slot_1 + 16);
@@ -16953,7 +16953,7 @@ l_capnp_5c:;
     st64(r_a8_3, r_9h);
     st32(r_c4_6, (r_5b_1 + ((u32)r_ep_3 & 65535u)));
     st32(r_bk_1, 0u);
-    st32(r_6c_3, r_s1_1);
+    st32(r_6c_3, r_mx);
     capnp_copies_copy_children_copy_children_out_of_line_c_661015d8(slot_1, a_2, r_t8_6, (r_29_1 + r_qt_1), slot_2, r_az_4, a_6, a_7);
     r_2b_14 = ld8(slot_1);
     r_qh_1 = ld8(r_x5_10);
@@ -17332,7 +17332,7 @@ static NEVER void capnp_copies_copy_children_copy_children_out_of_line_c_661015d
     u8 *r_x5_1;
     u8 *r_k0;
     u8 *r_zd_1;
-    u32 r_53;
+    u32 r_mx;
     u8 t_q5;
     u8 *r_08_1;
     u64 r_7l;
@@ -17462,7 +17462,7 @@ static NEVER void capnp_copies_copy_children_copy_children_out_of_line_c_661015d
     r_x5_1 = (slot_3 + 8);
     r_k0 = (slot_3 + 12);
     r_zd_1 = (slot_3 + 16);
-    r_53 = (r_5k_1 + 0xffffffffu);
+    r_mx = ((r_5k_1 == 0x80000000u) ? 0x80000000u : (r_5k_1 + 0xffffffffu));
     t_q5 = (a_8 == 1u);
     r_08_1 = away(a_2, 16ull);
     r_7l = (u64)a_3;
@@ -17752,7 +17752,7 @@ l_capnp_5c:;
     st64(r_a8_1, r_qw_2);
     st32(r_c4_1, (r_5b + ((u32)r_ep & 65535u)));
     st32(r_bk, 0u);
-    st32(r_6c_1, r_53);
+    st32(r_6c_1, r_mx);
     capnp_copies_copy_children_copy_children_out_of_line_c_661015d8(slot_1, a_2, r_t8, (r_29 + r_qt), slot_2, r_az, a_7, a_8);
     r_2b_7 = ld8(slot_1);
     r_qh = ld8(r_x5_4);
@@ -18918,7 +18918,7 @@ l_arm_rs:;
     t_ao = (sink_oq == 0u);
     if (!t_ao) goto l_capnp_sm;
     st64(r_08, uadd_sat64(ld64(r_08), 1ull));
-    if ((r_qw & 3ull) == 2ull) goto l_capnp_d6;
+    if ((r_qw & 3ull) == 2ull) goto l_capnp_em;
     goto l_join_dh;
 l_capnp_sm:;
     if (!((r_qw & 3ull) == 2ull)) goto l_join_dh;
@@ -18944,8 +18944,8 @@ l_capnp_i5:;
     r_ly = sink_zo;
     r_mf = static_y6;
     goto l_arm_7y;
-l_capnp_d6:;
-    capnp_objects_source_follow_far_e069d1cb1d6451b2(slot_2, t_f6, r_qw, a_5);
+l_capnp_em:;
+    capnp_pointers_source_follow_far_e069d1cb1d6451b2(slot_2, t_f6, r_qw, a_5);
     u64 r_38_3 = ld64(r_zd_1);
     u64 r_38_4 = ld64(r_x5_2);
     if (ld8(slot_2) == 0u) { r_ob = ld32(r_a8_1); r_oh = r_38_3; r_q1 = r_38_4; r_ly = ld64(r_89); r_mf = ((u8 *)(uptr)ld64(r_lk_1)); goto l_arm_7y; }
@@ -24835,7 +24835,7 @@ l_arm_aj:;
     capnpc_schema_text_Values_put(slot_10, ((u8 *)g_static_147), 3ull, ldp(r_39), ld64(r_9b));
     mv32(slot_13, slot_10);
     u8 r_qh = (a_4 == 0ull);
-    capnpc_schema_text_Values_put(slot_13, ((u8 *)g_static_148), 5ull, (r_qh ? ((u8 *)g_static_149) : ((u8 *)g_static_120)), (r_qh ? 35ull : 0ull));
+    capnpc_schema_text_Values_put(slot_13, ((u8 *)g_static_148), 5ull, (r_qh ? ((u8 *)g_static_149) : ((u8 *)g_static_120)), (r_qh ? 60ull : 0ull));
     memset(slot_6, 0u, 32);
     memset(slot_7, 0u, 32);
     memset(slot_8, 0u, 32);
@@ -28134,7 +28134,7 @@ l_arm_z3:;
     capnpc_schema_text_Values_put(slot_7, ((u8 *)g_static_147), 3ull, ldp(away(r_2b, 64ull)), ld64(away(r_2b, 72ull)));
     mv32(slot_10, slot_7);
     u8 r_qh_1 = (a_4 == 0ull);
-    capnpc_schema_text_Values_put(slot_10, ((u8 *)g_static_148), 5ull, (r_qh_1 ? ((u8 *)g_static_149) : ((u8 *)g_static_120)), (r_qh_1 ? 35ull : 0ull));
+    capnpc_schema_text_Values_put(slot_10, ((u8 *)g_static_148), 5ull, (r_qh_1 ? ((u8 *)g_static_149) : ((u8 *)g_static_120)), (r_qh_1 ? 60ull : 0ull));
     capnpc_layout_rust_docs_push_docs(slot_9, ((u8 *)g_static_120), 0ull, ldp(away(r_2b, 112ull)), ld64(away(r_2b, 120ull)), ldp(r_zn_15), ld64(r_3q_1));
     if (r_52_106 == 0ull) goto l_then_1j;
     goto l_join_0d_1;
@@ -28494,7 +28494,7 @@ l_then_xs_1:;
     capnpc_schema_text_Values_put(slot_8, ((u8 *)g_static_147), 3ull, ldp(away(r_2b, 64ull)), ld64(away(r_2b, 72ull)));
     mv32(slot_11, slot_8);
     u8 r_qh_2 = (a_4 == 0ull);
-    capnpc_schema_text_Values_put(slot_11, ((u8 *)g_static_148), 5ull, (r_qh_2 ? ((u8 *)g_static_149) : ((u8 *)g_static_120)), (r_qh_2 ? 35ull : 0ull));
+    capnpc_schema_text_Values_put(slot_11, ((u8 *)g_static_148), 5ull, (r_qh_2 ? ((u8 *)g_static_149) : ((u8 *)g_static_120)), (r_qh_2 ? 60ull : 0ull));
     u8 *r_mb_18 = ldp(a_1);
     u64 r_qw_20 = ld64(r_e7);
     st32(slot_13, r_5k);
@@ -33956,7 +33956,7 @@ static void capnpc_layout_rust_generating_open_module(u8 *a_1, u8 *a_2, u64 a_3)
     capnpc_schema_text_Values_put(slot_2, ((u8 *)g_static_146), 4ull, ldp(away(a_2, 88ull)), ld64(away(a_2, 96ull)));
     capnpc_schema_text_Values_put(slot_2, ((u8 *)g_static_147), 3ull, ldp(away(a_2, 64ull)), ld64(away(a_2, 72ull)));
     u8 r_qh = (a_3 == 0ull);
-    capnpc_schema_text_Values_put(slot_2, ((u8 *)g_static_148), 5ull, (r_qh ? ((u8 *)g_static_149) : ((u8 *)g_static_120)), (r_qh ? 35ull : 0ull));
+    capnpc_schema_text_Values_put(slot_2, ((u8 *)g_static_148), 5ull, (r_qh ? ((u8 *)g_static_149) : ((u8 *)g_static_120)), (r_qh ? 60ull : 0ull));
     capnpc_schema_text_Text_push_filled(slot_3, ((u8 *)g_static_299), 53ull, slot_2);
     capnpc_layout_rust_piece_Piece_push_into(slot_3, a_1, a_3);
     r_xw = ldp(slot_2);

@@ -417,7 +417,7 @@ static const u8 g_static_73[10] = "ReadFailed";
 static const u8 g_static_74[11] = "WriteFailed";
 static const u64 switch_table_capnp_copies_copy_copy_object_789b5ce0078f2be2[7] = { 0u, 1u, 8u, 16u, 32u, 64u, 0u };
 static const u64 switch_table_capnp_messages_messages_copy_size_add_val_ffe97267[8] = { 0u, 1u, 8u, 16u, 32u, 64u, 0u, 0u };
-static const u64 switch_table_capnp_objects_pointers_canonical_test_lis_2e4582d4[6] = { 0u, 1u, 8u, 16u, 32u, 64u };
+static const u64 switch_table_capnp_pointers_pointers_canonical_test_li_58523f26[6] = { 0u, 1u, 8u, 16u, 32u, 64u };
 static const struct place switch_table_capnp_layout_tool_engine_answer_refusal_0_d0ee3ebd[35] = { PLACE((const u8 *)g_static_34), PLACE((const u8 *)g_static_35), PLACE((const u8 *)g_static_36), PLACE((const u8 *)g_static_37), PLACE((const u8 *)g_static_38), PLACE((const u8 *)g_static_39), PLACE((const u8 *)g_static_40), PLACE((const u8 *)g_static_41), PLACE((const u8 *)g_static_42), PLACE((const u8 *)g_static_43), PLACE((const u8 *)g_static_44), PLACE((const u8 *)g_static_45), PLACE((const u8 *)g_static_46), PLACE((const u8 *)g_static_47), PLACE((const u8 *)g_static_48), PLACE((const u8 *)g_static_49), PLACE((const u8 *)g_static_50), PLACE((const u8 *)g_static_51), PLACE((const u8 *)g_static_52), PLACE((const u8 *)g_static_53), PLACE((const u8 *)g_static_54), PLACE((const u8 *)g_static_55), PLACE((const u8 *)g_static_56), PLACE((const u8 *)g_static_57), PLACE((const u8 *)g_static_58), PLACE((const u8 *)g_static_59), PLACE((const u8 *)g_static_60), PLACE((const u8 *)g_static_61), PLACE((const u8 *)g_static_62), PLACE((const u8 *)g_static_63), PLACE((const u8 *)g_static_64), PLACE((const u8 *)g_static_65), PLACE((const u8 *)g_static_66), PLACE((const u8 *)g_static_67), PLACE((const u8 *)g_static_68) };
 static const u64 switch_table_capnp_layout_tool_engine_answer_refusal_0_fd87fa01[35] = { 16u, 44u, 34u, 33u, 47u, 25u, 48u, 53u, 38u, 38u, 47u, 50u, 16u, 25u, 56u, 56u, 46u, 68u, 49u, 56u, 49u, 60u, 36u, 33u, 41u, 24u, 40u, 15u, 20u, 11u, 17u, 28u, 24u, 20u, 18u };
 static const struct place switch_table_capnp_layout_tool_engine_answer_refusal_0_24a7d607[7] = { PLACE((const u8 *)g_static_69), PLACE((const u8 *)g_static_70), PLACE((const u8 *)g_static_71), PLACE((const u8 *)g_static_72), PLACE((const u8 *)g_static_73), PLACE((const u8 *)g_static_74), PLACE((const u8 *)g_static_34) };
@@ -436,15 +436,15 @@ static NEVER COLD u8 core_fmt_formatter_Formatter_write_indented_bf264aed5fa7865
 static u8 core_fmt_formatter_Formatter_write_raw_bf264aed5fa78656(u8 *a_1, u8 *a_2, u64 a_3);
 static NEVER COLD u8 std_alloc_vec_Vec_grow_amortized_5400d4f5161e8cc6(u8 *a_1);
 static NEVER COLD u8 std_alloc_vec_Vec_grow_amortized_8cb459f74eb976cc(u8 *a_1);
-static NEVER void capnp_objects_source_follow_far_70170357b7303457(u8 *a_1, u8 *a_2, u64 a_3, u8 *a_4);
-static struct s_i8_i32 capnp_objects_pointers_canonical_test_children_70170357b7303457(u8 *a_1, u32 a_2, u32 a_3, u32 a_4, u32 a_5, u8 *a_6);
-static NEVER struct s_i8_i32 capnp_objects_pointers_canonical_test_list_70170357b7303457(u8 *a_1, u32 a_2, u64 a_3, u32 a_4, u32 a_5, u8 *a_6);
-static struct s_i8_i32 capnp_objects_pointers_canonical_test_elements_70170357b7303457(u8 *a_1, u32 a_2, u16 a_3, u16 a_4, u32 a_5, u32 a_6, u8 *a_7);
+static NEVER void capnp_pointers_source_follow_far_70170357b7303457(u8 *a_1, u8 *a_2, u64 a_3, u8 *a_4);
+static struct s_i8_i32 capnp_pointers_pointers_canonical_test_children_701703_62c5c8fc(u8 *a_1, u32 a_2, u32 a_3, u32 a_4, u32 a_5, u8 *a_6);
+static NEVER struct s_i8_i32 capnp_pointers_pointers_canonical_test_list_70170357b7303457(u8 *a_1, u32 a_2, u64 a_3, u32 a_4, u32 a_5, u8 *a_6);
+static struct s_i8_i32 capnp_pointers_pointers_canonical_test_elements_701703_cdfbd576(u8 *a_1, u32 a_2, u16 a_3, u16 a_4, u32 a_5, u32 a_6, u8 *a_7);
 static NEVER COLD void std_io_buffered_BufWriter_write_cold_89ca6214804c96d4(u8 *a_1, u8 *a_2, u8 *a_3, u64 a_4);
 static void std_io_buffered_BufWriter_flush_buf_89ca6214804c96d4(u8 *a_1, u8 *a_2);
-static NEVER u8 capnp_objects_pointers_sizes_add_object_70170357b7303457(u8 *a_1, u32 a_2, u32 a_3, u8 *a_4);
-static NEVER void capnp_objects_source_Source_measure_object_70170357b7303457(u8 *a_1, u8 *a_2, u8 *a_3, u32 a_4, u8 *a_5);
-static NEVER u8 capnp_objects_pointers_sizes_add_pointers_70170357b7303457(u8 *a_1, u32 a_2, u32 a_3, u32 a_4, u8 *a_5);
+static NEVER u8 capnp_pointers_pointers_sizes_add_object_70170357b7303457(u8 *a_1, u32 a_2, u32 a_3, u8 *a_4);
+static NEVER void capnp_pointers_source_Source_measure_object_70170357b7303457(u8 *a_1, u8 *a_2, u8 *a_3, u32 a_4, u8 *a_5);
+static NEVER u8 capnp_pointers_pointers_sizes_add_pointers_70170357b7303457(u8 *a_1, u32 a_2, u32 a_3, u32 a_4, u8 *a_5);
 static u8 capnp_messages_text_write_number_05c50f83f81b9c23(u8 *a_1, u64 a_2);
 static u8 capnp_layout_tool_frames_write_hex_u32_05c50f83f81b9c23(u8 *a_1, u32 a_2);
 static u8 capnp_layout_tool_writing_write_hex_digits_05c50f83f81b9c23(u8 *a_1, u8 *a_2, u64 a_3);
@@ -467,12 +467,12 @@ static u64 capnp_words_words_used_words_in(u8 *a_1, u64 a_2, u64 a_3);
 static NEVER u64 capnp_words_lanes_used_words_bound(u8 *a_1, u64 a_2);
 static void capnp_copies_copy_elements_put_words_5460ad12cd8c5480(u8 *a_1, u32 a_2, u32 a_3, u8 *a_4, u64 a_5);
 static NEVER COLD u64 capnp_arena_arena_rows_word_in_4426f83c3c99ca57(u8 *a_1, u64 a_2, u32 a_3);
-static NEVER COLD void capnp_making_landing_follow_5460ad12cd8c5480(u8 *a_1, u8 *a_2, u32 a_3, u32 a_4);
-static NEVER COLD void capnp_making_landing_follow_far_5460ad12cd8c5480(u8 *a_1, u8 *a_2, u64 a_3);
-static NEVER COLD void capnp_making_zeroing_zero_target_5460ad12cd8c5480(u8 *a_1, u8 *a_2);
-static void capnp_making_zeroing_zero_pointers_5460ad12cd8c5480(u8 *a_1, u32 a_2, u32 a_3, u32 a_4);
-static void capnp_making_zeroing_zero_if_inside_5460ad12cd8c5480(u8 *a_1, u32 a_2, u32 a_3, u64 a_4);
-static NEVER COLD void capnp_making_zeroing_zero_far_pads_5460ad12cd8c5480(u8 *a_1, u64 a_2);
+static NEVER COLD void capnp_allocation_landing_follow_5460ad12cd8c5480(u8 *a_1, u8 *a_2, u32 a_3, u32 a_4);
+static NEVER COLD void capnp_allocation_landing_follow_far_5460ad12cd8c5480(u8 *a_1, u8 *a_2, u64 a_3);
+static NEVER COLD void capnp_allocation_zeroing_zero_target_5460ad12cd8c5480(u8 *a_1, u8 *a_2);
+static void capnp_allocation_zeroing_zero_pointers_5460ad12cd8c5480(u8 *a_1, u32 a_2, u32 a_3, u32 a_4);
+static void capnp_allocation_zeroing_zero_if_inside_5460ad12cd8c5480(u8 *a_1, u32 a_2, u32 a_3, u64 a_4);
+static NEVER COLD void capnp_allocation_zeroing_zero_far_pads_5460ad12cd8c5480(u8 *a_1, u64 a_2);
 static NEVER void capnp_copies_copy_children_copy_children_out_of_line_7_ae79832a(u8 *a_1, u8 *a_2, u32 a_3, u32 a_4, u8 *a_5, u32 a_6, u8 *a_7, u8 a_8);
 static void capnp_messages_messages_copy_size_add_value_70170357b7303457(u8 *a_1, u8 *a_2, u32 a_3, u32 a_4, u32 a_5, u8 *a_6);
 static void capnp_messages_messages_copy_size_add_elements_70170357b7303457(u8 *a_1, u8 *a_2, u16 a_3, u16 a_4, u32 a_5, u32 a_6, u8 *a_7);
@@ -481,10 +481,10 @@ static NEVER void capnp_messages_messages_copy_size_add_pointers_70170357b730345
 static NEVER COLD u8 std_alloc_vec_Vec_grow_amortized_0e5e43add44bc681(u8 *a_1);
 static NEVER void capnp_arena_arena_builder_arena_impl_deallocate_others_af14abad(u8 *a_1, u8 *a_2);
 static NEVER void core_slice_edits_mirror_e0f4f6844e27f7b4(u8 *a_1, u8 *a_2, u64 a_3);
-static NEVER void capnp_objects_source_follow_far_1e87a151ef20e12e(u8 *a_1, u8 *a_2, u64 a_3, u8 *a_4);
-static struct s_i8_i32 capnp_objects_pointers_canonical_test_children_1e87a151ef20e12e(u8 *a_1, u32 a_2, u32 a_3, u32 a_4, u32 a_5, u8 *a_6);
-static NEVER struct s_i8_i32 capnp_objects_pointers_canonical_test_list_1e87a151ef20e12e(u8 *a_1, u32 a_2, u64 a_3, u32 a_4, u32 a_5, u8 *a_6);
-static struct s_i8_i32 capnp_objects_pointers_canonical_test_elements_1e87a151ef20e12e(u8 *a_1, u32 a_2, u16 a_3, u16 a_4, u32 a_5, u32 a_6, u8 *a_7);
+static NEVER void capnp_pointers_source_follow_far_1e87a151ef20e12e(u8 *a_1, u8 *a_2, u64 a_3, u8 *a_4);
+static struct s_i8_i32 capnp_pointers_pointers_canonical_test_children_1e87a1_c3c6e6a7(u8 *a_1, u32 a_2, u32 a_3, u32 a_4, u32 a_5, u8 *a_6);
+static NEVER struct s_i8_i32 capnp_pointers_pointers_canonical_test_list_1e87a151ef20e12e(u8 *a_1, u32 a_2, u64 a_3, u32 a_4, u32 a_5, u8 *a_6);
+static struct s_i8_i32 capnp_pointers_pointers_canonical_test_elements_1e87a1_bd40b792(u8 *a_1, u32 a_2, u16 a_3, u16 a_4, u32 a_5, u32 a_6, u8 *a_7);
 static u8 capnp_layout_tool_engine_answer_refusal_05c50f83f81b9c23(u8 *a_1, u8 *a_2);
 static u8 layout_tool_print_error(u8 *a_1, u64 a_2);
 
@@ -1340,8 +1340,8 @@ l_arm_m7:;
     goto l_common_57;
 }
 
-/* capnp_objects::source::follow_far::<#70170357b7303457> */
-static NEVER void capnp_objects_source_follow_far_70170357b7303457(u8 *a_1, u8 *a_2, u64 a_3, u8 *a_4)
+/* capnp_pointers::source::follow_far::<#70170357b7303457> */
+static NEVER void capnp_pointers_source_follow_far_70170357b7303457(u8 *a_1, u8 *a_2, u64 a_3, u8 *a_4)
 {
     u64 r_cy;
     u8 *r_rq;
@@ -1479,8 +1479,8 @@ l_join_s8:;
     goto l_common_68;
 }
 
-/* capnp_objects::pointers::canonical::test_children::<#70170357b7303457> */
-static struct s_i8_i32 capnp_objects_pointers_canonical_test_children_70170357b7303457(u8 *a_1, u32 a_2, u32 a_3, u32 a_4, u32 a_5, u8 *a_6)
+/* capnp_pointers::pointers::canonical::test_children::<#70170357b7303457> */
+static struct s_i8_i32 capnp_pointers_pointers_canonical_test_children_701703_62c5c8fc(u8 *a_1, u32 a_2, u32 a_3, u32 a_4, u32 a_5, u8 *a_6)
 {
     u8 *r_xz;
     u8 *r_xm;
@@ -1655,14 +1655,14 @@ l_join_p3:;
     r_w0 = (r_l6 + r_az);
     r_w0_1 = (r_w0 + r_12);
     r_ts = (r_y6 == 0ull);
-    if (!r_ts) goto l_join_ga;
+    if (!r_ts) goto l_join_os;
     struct s_i8_i32 t_ph = (struct s_i8_i32){ 0u, 0u };
     t_ph.f1 = r_w0_1;
     r_d4 = t_ph;
     goto l_capnp_o7;
-l_join_ga:;
-    struct s_i8_i32 r_ux = capnp_objects_pointers_canonical_test_children_70170357b7303457(a_1, r_w0, r_12, r_y0, r_w0_1, a_6);
-    r_d4 = r_ux;
+l_join_os:;
+    struct s_i8_i32 r_p5 = capnp_pointers_pointers_canonical_test_children_701703_62c5c8fc(a_1, r_w0, r_12, r_y0, r_w0_1, a_6);
+    r_d4 = r_p5;
 l_capnp_o7:;
     r_xo = r_d4.f1;
     if (!(r_d4.f0 == 0u)) { r_tu = 0u; r_di = 1u; goto l_capnp_cm; }
@@ -1704,7 +1704,7 @@ l_capnp_cm:;
     goto l_capnp_7u;
 l_arm_ui:;
     r_ep_1 = (u64)(r_qw >> 32ull);
-    if (!((u8)((u8)((u8)r_ep_1 & 7u) + 255u) < 5u)) goto l_join_ls;
+    if (!((u8)((u8)((u8)r_ep_1 & 7u) + 255u) < 5u)) goto l_join_t5;
     r_ij = (u64)(r_qw >> 35ull);
     r_c6 = (u64)(((ld64(away(away(((u8 *)switch_table_main_18), 8 * (r_ep_1 & 7ull)), 0xfffffffffffffff8ull)) * r_ij) + 63ull) >> 6ull);
     t_0c = (ld8(a_1) == 0u);
@@ -1774,9 +1774,9 @@ l_capnp_cm_1:;
     r_i6_1.f1 = r_tu_1;
     r_cp = r_i6_1;
     goto l_capnp_7u;
-l_join_ls:;
-    struct s_i8_i32 r_c4 = capnp_objects_pointers_canonical_test_list_70170357b7303457(a_1, r_7m, r_qw, a_4, r_l6, a_6);
-    r_cp = r_c4;
+l_join_t5:;
+    struct s_i8_i32 r_1d = capnp_pointers_pointers_canonical_test_list_70170357b7303457(a_1, r_7m, r_qw, a_4, r_l6, a_6);
+    r_cp = r_1d;
 l_capnp_7u:;
     if (r_cp.f0 == 0u) { r_kr = r_cp.f1; goto l_loop_2y; }
     r_us = 0u;
@@ -1799,8 +1799,8 @@ l_return_pr:;
     return r_i6_2;
 }
 
-/* capnp_objects::pointers::canonical::test_list::<#70170357b7303457> */
-static NEVER struct s_i8_i32 capnp_objects_pointers_canonical_test_list_70170357b7303457(u8 *a_1, u32 a_2, u64 a_3, u32 a_4, u32 a_5, u8 *a_6)
+/* capnp_pointers::pointers::canonical::test_list::<#70170357b7303457> */
+static NEVER struct s_i8_i32 capnp_pointers_pointers_canonical_test_list_70170357b7303457(u8 *a_1, u32 a_2, u64 a_3, u32 a_4, u32 a_5, u8 *a_6)
 {
     A(8) u8 slot_1[56];
     u8 *r_xz;
@@ -1887,7 +1887,7 @@ static NEVER struct s_i8_i32 capnp_objects_pointers_canonical_test_list_70170357
     if (t_pa) goto l_capnp_sm;
     u8 *r_08 = away(a_6, 16ull);
     st64(r_08, uadd_sat64(ld64(r_08), 1ull));
-    if ((r_qw & 3ull) == 2ull) goto l_capnp_el;
+    if ((r_qw & 3ull) == 2ull) goto l_capnp_d1;
     goto l_join_bd;
 l_capnp_sm:;
     if (!((r_qw & 3ull) == 2ull)) goto l_join_bd;
@@ -1913,8 +1913,8 @@ l_capnp_i5:;
     r_3g = r_38;
     r_n9 = r_xw;
     goto l_arm_s6;
-l_capnp_el:;
-    capnp_objects_source_follow_far_70170357b7303457(slot_1, r_xw_1, r_qw, a_6);
+l_capnp_d1:;
+    capnp_pointers_source_follow_far_70170357b7303457(slot_1, r_xw_1, r_qw, a_6);
     u64 r_38_1 = ld64((slot_1 + 16));
     u64 r_38_2 = ld64((slot_1 + 8));
     if (ld8(slot_1) == 0u) { r_nz = ld32((slot_1 + 40)); r_tc = r_38_1; r_l8 = r_38_2; r_3g = ld64((slot_1 + 32)); r_n9 = ((u8 *)(uptr)ld64((slot_1 + 24))); goto l_arm_s6; }
@@ -2074,7 +2074,7 @@ l_capnp_f9:;
     r_ru = 34u;
     goto l_arm_ud;
 l_arm_s2:;
-    if (r_nz == a_5) goto l_arm_6t;
+    if (r_nz == a_5) goto l_arm_76;
     goto l_then_um;
 l_then_s2:;
     if (r_nz == a_2) goto l_arm_um;
@@ -2083,7 +2083,7 @@ l_join_s2:;
     if (r_nz == a_5) goto l_arm_um;
     goto l_then_um;
 l_capnp_s2:;
-    if (r_nz == a_5) goto l_arm_gg_2;
+    if (r_nz == a_5) goto l_arm_1s;
     goto l_then_um;
 l_arm_ud:;
     u8 or_i7 = (u8)((u8)((a_3 & 3ull) == 1ull) & (u8)(r_ru == 26u));
@@ -2104,9 +2104,9 @@ l_then_um:;
     r_us = 0u;
     r_1x = 1u;
     goto l_return_pr;
-l_arm_6t:;
+l_arm_76:;
     r_xz_1 = away(a_6, 24ull);
-    u64 r_1q = (ld64((((u8 *)switch_table_capnp_objects_pointers_canonical_test_lis_2e4582d4) + (i64)(8 * (u64)r_xq))) * r_ij);
+    u64 r_1q = (ld64((((u8 *)switch_table_capnp_pointers_pointers_canonical_test_li_58523f26) + (i64)(8 * (u64)r_xq))) * r_ij);
     r_eh_1 = (a_5 + (u32)(u64)(r_1q >> 6ull));
     r_4i = (r_1q & 63ull);
     if (r_4i == 0ull) { r_us = r_eh_1; r_1x = 0u; goto l_return_pr; }
@@ -2119,10 +2119,10 @@ l_arm_6t:;
     r_us = 0u;
     r_1x = 1u;
     goto l_return_pr;
-l_arm_gg_2:;
-    struct s_i8_i32 r_34 = capnp_objects_pointers_canonical_test_children_70170357b7303457(a_1, a_5, r_12_1, (a_4 + 0xffffffffu), (a_5 + r_12_1), a_6);
-    r_us = r_34.f1;
-    r_1x = r_34.f0;
+l_arm_1s:;
+    struct s_i8_i32 r_nd = capnp_pointers_pointers_canonical_test_children_701703_62c5c8fc(a_1, a_5, r_12_1, (a_4 + 0xffffffffu), (a_5 + r_12_1), a_6);
+    r_us = r_nd.f1;
+    r_1x = r_nd.f0;
     goto l_return_pr;
 l_arm_bb:;
     r_y0 = (a_4 + 0xffffffffu);
@@ -2139,9 +2139,9 @@ l_arm_bb:;
     goto l_return_pr;
 l_join_1x:;
     if (r_68_1 == 0u) { r_us = r_ll; r_1x = 0u; goto l_return_pr; }
-    struct s_i8_i32 r_f3 = capnp_objects_pointers_canonical_test_elements_70170357b7303457(a_1, r_ll, t_xg, r_py, t_c8, r_y0, a_6);
-    r_us = r_f3.f1;
-    r_1x = r_f3.f0;
+    struct s_i8_i32 r_y7 = capnp_pointers_pointers_canonical_test_elements_701703_cdfbd576(a_1, r_ll, t_xg, r_py, t_c8, r_y0, a_6);
+    r_us = r_y7.f1;
+    r_1x = r_y7.f0;
     goto l_return_pr;
 l_arm_um:;
     u64 r_qw_4 = ld64(r_xz);
@@ -2160,8 +2160,8 @@ l_return_pr:;
     return r_i6;
 }
 
-/* capnp_objects::pointers::canonical::test_elements::<#70170357b7303457> */
-static struct s_i8_i32 capnp_objects_pointers_canonical_test_elements_70170357b7303457(u8 *a_1, u32 a_2, u16 a_3, u16 a_4, u32 a_5, u32 a_6, u8 *a_7)
+/* capnp_pointers::pointers::canonical::test_elements::<#70170357b7303457> */
+static struct s_i8_i32 capnp_pointers_pointers_canonical_test_elements_701703_cdfbd576(u8 *a_1, u32 a_2, u16 a_3, u16 a_4, u32 a_5, u32 a_6, u8 *a_7)
 {
     u32 r_m2;
     u32 r_m2_1;
@@ -2212,14 +2212,14 @@ static struct s_i8_i32 capnp_objects_pointers_canonical_test_elements_70170357b7
 l_join_l2:;
     r_kq_1 = ((r_68 * (u32)indvars_lg) + a_2);
     r_w0 = (r_kq_1 + r_m2);
-    if (!r_kh_1) goto l_join_jy;
+    if (!r_kh_1) goto l_join_ew;
     struct s_i8_i32 t_ph = (struct s_i8_i32){ 0u, 0u };
     t_ph.f1 = r_23;
     r_ff = t_ph;
     goto l_capnp_28;
-l_join_jy:;
-    struct s_i8_i32 r_3z = capnp_objects_pointers_canonical_test_children_70170357b7303457(a_1, r_w0, r_m2_1, a_6, r_23, a_7);
-    r_ff = r_3z;
+l_join_ew:;
+    struct s_i8_i32 r_my = capnp_pointers_pointers_canonical_test_children_701703_62c5c8fc(a_1, r_w0, r_m2_1, a_6, r_23, a_7);
+    r_ff = r_my;
 l_capnp_28:;
     r_xo = r_ff.f1;
     if (!(r_ff.f0 == 0u)) { r_us = 0u; r_1x = 1u; goto l_return_pr; }
@@ -2666,8 +2666,8 @@ l_std_4l:;
     return;
 }
 
-/* capnp_objects::pointers::sizes::add_object::<#70170357b7303457> */
-static NEVER u8 capnp_objects_pointers_sizes_add_object_70170357b7303457(u8 *a_1, u32 a_2, u32 a_3, u8 *a_4)
+/* capnp_pointers::pointers::sizes::add_object::<#70170357b7303457> */
+static NEVER u8 capnp_pointers_pointers_sizes_add_object_70170357b7303457(u8 *a_1, u32 a_2, u32 a_3, u8 *a_4)
 {
     A(8) u8 slot_1[64];
     A(8) u8 slot_2[56];
@@ -2745,7 +2745,7 @@ static NEVER u8 capnp_objects_pointers_sizes_add_object_70170357b7303457(u8 *a_1
     st32((slot_4 + 24), a_2);
     st32((slot_4 + 28), 0u);
     r_xm = away(a_4, 32ull);
-    capnp_objects_source_Source_measure_object_70170357b7303457(slot_2, slot_3, slot_4, a_3, r_xm);
+    capnp_pointers_source_Source_measure_object_70170357b7303457(slot_2, slot_3, slot_4, a_3, r_xm);
     r_r5 = ld8((slot_2 + 8));
     if (!(ld8(slot_2) == 0u)) goto l_arm_e5;
     r_zd = (slot_2 + 16);
@@ -2874,8 +2874,8 @@ l_join_x4:;
     switch ((u8)((u8)r_qw & 3u)) {
     case 0u: goto l_arm_vb;
     case 1u: goto l_arm_ui;
-    case 2u: goto l_after_j5;
-    case 3u: goto l_after_j5;
+    case 2u: goto l_after_m8;
+    case 3u: goto l_after_m8;
     default: goto l_default_e1;
     }
 l_arm_vb:;
@@ -2926,20 +2926,20 @@ l_arm_h4:;
 l_arm_dt:;
     st64(a_4, (r_yz_1 + r_es_1));
     if (r_y6 == 0ull) goto l_loop_aa;
-    goto l_join_z3;
+    goto l_join_pd;
 l_arm_0l:;
     st32(r_08, 27u);
     st32(r_m3, 0u);
     st64(r_xz, 0xffffffffffffffffull);
     r_fk = 1u;
     goto l_return_ri;
-l_join_z3:;
-    u8 r_u5 = capnp_objects_pointers_sizes_add_pointers_70170357b7303457(slot_1, (r_6l + r_az), r_12, r_53, a_4);
-    r_hf = r_u5;
+l_join_pd:;
+    u8 r_xs = capnp_pointers_pointers_sizes_add_pointers_70170357b7303457(slot_1, (r_6l + r_az), r_12, r_53, a_4);
+    r_hf = r_xs;
     goto l_capnp_5o;
 l_arm_ui:;
     r_ep = (u64)(r_qw >> 32ull);
-    if (!((u8)((u8)((u8)r_ep & 7u) + 255u) < 5u)) goto l_after_j5;
+    if (!((u8)((u8)((u8)r_ep & 7u) + 255u) < 5u)) goto l_after_m8;
     r_c6 = (u64)(((ld64(away(away(((u8 *)switch_table_main_18), 8 * (r_ep & 7ull)), 0xfffffffffffffff8ull)) * (u64)(r_qw >> 35ull)) + 63ull) >> 6ull);
     if (r_n1) { r_dq_1 = 25u; goto l_arm_h4_1; }
     if (!t_0c) goto l_join_bd_1;
@@ -2980,9 +2980,9 @@ l_arm_h4_1:;
     st64(r_xz, 0ull);
     r_fk = 1u;
     goto l_return_ri;
-l_after_j5:;
-    u8 r_tx = capnp_objects_pointers_sizes_add_object_70170357b7303457(slot_1, r_sr, r_e3, a_4);
-    r_hf = r_tx;
+l_after_m8:;
+    u8 r_sl = capnp_pointers_pointers_sizes_add_object_70170357b7303457(slot_1, r_sr, r_e3, a_4);
+    r_hf = r_sl;
     goto l_capnp_5o;
 l_default_e1:;
     UNREACHABLE();
@@ -2998,8 +2998,8 @@ l_return_ri:;
     return r_fk;
 }
 
-/* capnp_objects::source::Source::measure_object::<#70170357b7303457> */
-static NEVER void capnp_objects_source_Source_measure_object_70170357b7303457(u8 *a_1, u8 *a_2, u8 *a_3, u32 a_4, u8 *a_5)
+/* capnp_pointers::source::Source::measure_object::<#70170357b7303457> */
+static NEVER void capnp_pointers_source_Source_measure_object_70170357b7303457(u8 *a_1, u8 *a_2, u8 *a_3, u32 a_4, u8 *a_5)
 {
     A(8) u8 slot_1[56];
     u8 r_dh;
@@ -3075,7 +3075,7 @@ static NEVER void capnp_objects_source_Source_measure_object_70170357b7303457(u8
     if (!t_0c) goto l_capnp_sm;
     u8 *r_08 = away(a_5, 16ull);
     st64(r_08, uadd_sat64(ld64(r_08), 1ull));
-    if ((r_qw_1 & 3ull) == 2ull) goto l_capnp_el;
+    if ((r_qw_1 & 3ull) == 2ull) goto l_capnp_d1;
     goto l_join_bd;
 l_capnp_sm:;
     if (!((r_qw_1 & 3ull) == 2ull)) goto l_join_bd;
@@ -3102,8 +3102,8 @@ l_capnp_i5:;
     r_nl = r_qw;
     r_b2 = t_al;
     goto l_arm_xs;
-l_capnp_el:;
-    capnp_objects_source_follow_far_70170357b7303457(slot_1, r_rv, r_qw_1, a_5);
+l_capnp_d1:;
+    capnp_pointers_source_follow_far_70170357b7303457(slot_1, r_rv, r_qw_1, a_5);
     u64 r_38 = ld64((slot_1 + 16));
     u64 r_38_1 = ld64((slot_1 + 8));
     if (ld8(slot_1) == 0u) { r_mk = ld32((slot_1 + 44)); r_qj = ld32((slot_1 + 40)); r_vj = r_38; r_at = r_38_1; r_nl = ld64((slot_1 + 32)); r_b2 = ld64((slot_1 + 24)); goto l_arm_xs; }
@@ -3299,8 +3299,8 @@ l_capnp_6f:;
     return;
 }
 
-/* capnp_objects::pointers::sizes::add_pointers::<#70170357b7303457> */
-static NEVER u8 capnp_objects_pointers_sizes_add_pointers_70170357b7303457(u8 *a_1, u32 a_2, u32 a_3, u32 a_4, u8 *a_5)
+/* capnp_pointers::pointers::sizes::add_pointers::<#70170357b7303457> */
+static NEVER u8 capnp_pointers_pointers_sizes_add_pointers_70170357b7303457(u8 *a_1, u32 a_2, u32 a_3, u32 a_4, u8 *a_5)
 {
     u8 *r_su;
     u8 *r_xm;
@@ -3372,8 +3372,8 @@ l_join_5y:;
     switch ((u8)((u8)r_qw & 3u)) {
     case 0u: goto l_arm_vb;
     case 1u: goto l_arm_ui;
-    case 2u: goto l_after_zg;
-    case 3u: goto l_after_zg;
+    case 2u: goto l_after_5m;
+    case 3u: goto l_after_5m;
     default: goto l_default_e1;
     }
 l_arm_vb:;
@@ -3418,12 +3418,12 @@ l_arm_up:;
     if (r_yz > (r_es_1 ^ 0xffffffffffffffffull)) { sink_qh = 27u; sink_dw = 0xffffffffffffffffull; goto l_capnp_y7; }
     st64(a_5, (r_yz + r_es_1));
     if (r_y6 == 0ull) goto l_loop_da;
-    u8 r_oc = capnp_objects_pointers_sizes_add_pointers_70170357b7303457(a_1, (r_6l + r_az), r_12, r_ra, a_5);
-    r_t4 = r_oc;
+    u8 r_w8 = capnp_pointers_pointers_sizes_add_pointers_70170357b7303457(a_1, (r_6l + r_az), r_12, r_ra, a_5);
+    r_t4 = r_w8;
     goto l_capnp_qq;
 l_arm_ui:;
     r_ep = (u64)(r_qw >> 32ull);
-    if (!((u8)((u8)((u8)r_ep & 7u) + 255u) < 5u)) goto l_after_zg;
+    if (!((u8)((u8)((u8)r_ep & 7u) + 255u) < 5u)) goto l_after_5m;
     r_c6 = (u64)(((ld64(away(away(((u8 *)switch_table_main_18), 8 * (r_ep & 7ull)), 0xfffffffffffffff8ull)) * (u64)(r_qw >> 35ull)) + 63ull) >> 6ull);
     if (r_30) { sink_qh = 25u; sink_dw = 0ull; goto l_capnp_y7; }
     t_0c = (ld8(a_1) == 0u);
@@ -3454,9 +3454,9 @@ l_arm_8q:;
     if (r_yz_1 > (r_c6 ^ 0xffffffffffffffffull)) { sink_qh = 27u; sink_dw = 0xffffffffffffffffull; goto l_capnp_y7; }
     st64(a_5, (r_yz_1 + r_c6));
     goto l_loop_da;
-l_after_zg:;
-    u8 r_z8 = capnp_objects_pointers_sizes_add_object_70170357b7303457(a_1, r_7m, a_4, a_5);
-    r_t4 = r_z8;
+l_after_5m:;
+    u8 r_bd = capnp_pointers_pointers_sizes_add_object_70170357b7303457(a_1, r_7m, a_4, a_5);
+    r_t4 = r_bd;
     goto l_capnp_qq;
 l_default_e1:;
     UNREACHABLE();
@@ -3819,14 +3819,13 @@ static void capnp_layout_tool_engine_answer_canon_8738c8d4622c75c1(u8 *a_1, u8 *
     A(8) u8 slot_8[32];
     A(8) u8 slot_9[80];
     A(8) u8 slot_10[16];
-    A(8) u8 slot_11[16];
-    A(8) u8 slot_12[24];
-    A(8) u8 slot_13[40];
+    A(8) u8 slot_11[24];
+    A(8) u8 slot_12[40];
+    A(8) u8 slot_13[16];
     A(8) u8 slot_14[16];
-    A(8) u8 slot_15[16];
-    A(1) u8 slot_16[23];
-    A(8) u8 slot_17[16];
-    A(8) u8 slot_18[24];
+    A(1) u8 slot_15[23];
+    A(8) u8 slot_16[16];
+    A(8) u8 slot_17[24];
     u8 *r_rv;
     u64 r_qw;
     u8 *r_mb;
@@ -3858,13 +3857,13 @@ static void capnp_layout_tool_engine_answer_canon_8738c8d4622c75c1(u8 *a_1, u8 *
     u8 r_r5_2;
     u32 r_uq_2;
     u64 r_38_2;
-    u32 r_fz_1;
-    u64 r_hh;
+    u32 r_fz;
+    u64 r_hh_1;
     u64 r_5o;
     u8 *r_3u;
     u8 r_r4;
     u32 r_8n;
-    u64 r_ew_1;
+    u64 r_ew;
     u64 r_d4;
     u8 *r_lp;
     u64 r_mc;
@@ -3872,46 +3871,31 @@ static void capnp_layout_tool_engine_answer_canon_8738c8d4622c75c1(u8 *a_1, u8 *
     u32 r_3d;
     u32 r_p0;
     u8 r_yp;
-    u8 *r_ut;
-    u64 r_im;
-    u64 r_pi;
-    u8 *r_wj;
-    u8 r_fz;
-    u32 r_e3;
-    u64 r_vx;
-    u64 r_i9;
-    u8 *r_ux;
-    u64 r_u1;
-    u64 r_4e;
-    u8 r_c9;
-    u32 r_rj;
-    u32 r_nh;
-    u64 r_l6;
-    u8 *r_z5;
-    u64 r_nu;
-    u8 r_6n;
-    u8 *r_jq;
-    u64 r_yl;
-    u64 r_t9;
-    u32 r_ad;
-    u8 r_oe;
-    u8 *r_no;
-    u64 r_33;
-    u64 r_va;
-    u64 r_l9;
-    u32 r_9m;
-    u32 r_ew;
-    u8 r_3b;
+    u8 *r_ze;
+    u64 r_7f;
+    u8 *r_ez;
+    u64 r_kl;
+    u64 r_or;
+    u32 r_45;
+    u8 r_lu;
+    u8 *r_23;
+    u64 r_1s;
+    u64 r_36;
+    u64 r_mh;
+    u8 r_s9;
+    u32 r_77;
+    u32 r_hh;
+    u64 r_1u;
     u32 r_db;
     u8 *r_1e;
-    u64 r_sx;
-    u8 r_ap;
-    u8 *r_x2;
+    u8 r_sx;
+    u8 *r_ap;
+    u64 r_x2;
     u64 r_w9;
-    u64 r_du;
-    u32 r_ch;
-    u8 r_kz;
-    u8 *r_yt;
+    u32 r_du;
+    u8 r_ch;
+    u8 *r_kz;
+    u64 r_yt;
     u64 r_1y;
     u64 r_za;
     u64 r_uo;
@@ -3995,12 +3979,12 @@ static void capnp_layout_tool_engine_answer_canon_8738c8d4622c75c1(u8 *a_1, u8 *
     r_eg = (u64)r_dh;
     t_qw = ld64(away(a_4, 8ull));
     t_5k = ld32(away(a_4, 16ull));
-    memset(slot_15, 0u, 16);
-    memset(slot_16, 0u, 23);
-    memset(slot_17, 0u, 16);
-    memset(slot_18, 0u, 24);
+    memset(slot_14, 0u, 16);
+    memset(slot_15, 0u, 23);
+    memset(slot_16, 0u, 16);
+    memset(slot_17, 0u, 24);
     if (r_qw_1 < 0x100000000ull) { r_5a = r_mb; r_2l = r_qw_1; goto l_loop_7z; }
-    mv16(slot_14, a_2);
+    mv16(slot_13, a_2);
     goto l_join_qu;
 l_loop_7z:;
     if (r_2l == 0ull) goto l_arm_jj;
@@ -4019,36 +4003,35 @@ l_arm_pg:;
     r_gj = r_c4;
     goto l_arm_pg;
 l_capnp_4o:;
-    stp(slot_13, r_mb);
-    r_x5 = (slot_13 + 8);
+    stp(slot_12, r_mb);
+    r_x5 = (slot_12 + 8);
     st64(r_x5, r_qw_1);
-    r_zd = (slot_13 + 16);
+    r_zd = (slot_12 + 16);
     st64(r_zd, r_qw_2);
-    st32((slot_13 + 24), t_5k);
-    st32((slot_13 + 28), 0u);
-    st64((slot_13 + 32), r_sw);
-    st64(slot_12, r_eg);
-    r_x5_1 = (slot_12 + 8);
+    st32((slot_12 + 24), t_5k);
+    st32((slot_12 + 28), 0u);
+    st64((slot_12 + 32), r_sw);
+    st64(slot_11, r_eg);
+    r_x5_1 = (slot_11 + 8);
     st64(r_x5_1, t_qw);
-    st64((slot_12 + 16), 0ull);
+    st64((slot_11 + 16), 0ull);
     if (r_ts) { r_db = 12u; goto l_arm_dk; }
     r_52 = ld64(away(r_mb, 8ull));
     if (r_52 < 8ull) { r_db = 23u; goto l_arm_dk; }
-    if (!(r_dh == 1u)) goto l_capnp_ur;
+    if (!(r_dh == 1u)) goto l_capnp_u2;
     if (t_qw == 0ull) { r_db = 30u; goto l_arm_dk; }
-    st64(slot_12, 1ull);
+    st64(slot_11, 1ull);
     st64(r_x5_1, (t_qw + 0xffffffffffffffffull));
-l_capnp_ur:;
+l_capnp_u2:;
     r_lz = ldp(r_mb);
     r_j0 = (r_52 & 0xfffffffffffffff8ull);
-    memset(slot_11, 0u, 16);
     memset(slot_7, 0u, 136);
     spec_kn = ((r_sw < 0x1fffffffull) ? ((u32)r_sw + 1u) : 0x1fffffffu);
     mv16(slot_8, a_2);
     stp((slot_8 + 16), r_rv);
     st64((slot_8 + 24), r_qw);
     memset(slot_9, 0u, 16);
-    stp((slot_9 + 16), slot_13);
+    stp((slot_9 + 16), slot_12);
     memset((slot_9 + 24), 0u, 16);
     stp((slot_9 + 40), r_lz);
     st64((slot_9 + 48), r_j0);
@@ -4056,7 +4039,7 @@ l_capnp_ur:;
     st32((slot_9 + 60), 0u);
     st32((slot_9 + 64), t_5k);
     memset((slot_9 + 68), 0u, 12);
-    capnp_messages_messages_canonical_copy_canonicalize_to_60f0b323(slot_7, slot_8, slot_9, slot_12, spec_kn);
+    capnp_messages_messages_canonical_copy_canonicalize_to_60f0b323(slot_7, slot_8, slot_9, slot_11, spec_kn);
     r_x5_2 = (slot_7 + 8);
     r_uq = ld32((slot_7 + 12));
     r_38 = ld64((slot_7 + 16));
@@ -4064,47 +4047,47 @@ l_capnp_ur:;
     if (!(ld8(slot_7) == 0u)) goto l_arm_uh;
     u32 r_z4 = ld32(r_x5_2);
     mv16(slot_10, r_lk);
-    r_ut = ldp((slot_7 + 40));
-    r_im = ld64((slot_7 + 128));
-    r_pi = ld64((slot_7 + 120));
-    r_wj = ldp((slot_7 + 112));
-    r_fz = ld8((slot_7 + 104));
-    r_e3 = ld32((slot_7 + 96));
-    r_vx = ld64((slot_7 + 80));
-    r_i9 = ld64((slot_7 + 72));
-    r_ux = ldp((slot_7 + 64));
-    r_u1 = ld64((slot_7 + 56));
-    r_4e = ld64((slot_7 + 48));
-    r_c9 = 1u;
-    r_rj = r_z4;
-    r_nh = r_uq;
-    r_l6 = r_38;
-    goto l_join_5d;
+    r_ze = ldp((slot_7 + 40));
+    r_7f = ld64((slot_7 + 56));
+    r_ez = ldp((slot_7 + 64));
+    r_kl = ld64((slot_7 + 72));
+    r_or = ld64((slot_7 + 80));
+    r_45 = ld32((slot_7 + 96));
+    r_lu = ld8((slot_7 + 104));
+    r_23 = ldp((slot_7 + 112));
+    r_1s = ld64((slot_7 + 120));
+    r_36 = ld64((slot_7 + 128));
+    r_mh = ld64((slot_7 + 48));
+    r_s9 = 1u;
+    r_77 = r_z4;
+    r_hh = r_uq;
+    r_1u = r_38;
+    goto l_capnp_x7;
 l_arm_uh:;
     r_r5 = ld8(r_x5_2);
     if ((spec_kn != 0x1fffffffu) ? (r_r5 == 27u) : 0u) goto l_capnp_qr;
-    mv16(slot_11, r_lk);
-    r_z5 = ldp((slot_7 + 40));
-    r_nu = ld64((slot_7 + 48));
-    r_6n = 1u;
-    r_jq = ((u8 *)0);
-    r_yl = 0ull;
-    r_t9 = 0ull;
-    r_ad = 0u;
-    r_oe = 0u;
-    r_no = ((u8 *)0);
-    r_33 = 0ull;
-    r_va = 0ull;
-    r_l9 = r_38;
-    r_9m = r_uq;
-    r_ew = (u32)r_r5;
-    r_3b = 0u;
-    goto l_capnp_f7;
+    mv16(slot_10, r_lk);
+    r_ze = ldp((slot_7 + 40));
+    r_7f = 0ull;
+    r_ez = ((u8 *)0);
+    r_kl = 0ull;
+    r_or = 0ull;
+    r_45 = 0u;
+    r_lu = 0u;
+    r_23 = ((u8 *)0);
+    r_1s = 0ull;
+    r_36 = 0ull;
+    r_mh = ld64((slot_7 + 48));
+    r_s9 = 0u;
+    r_77 = (u32)r_r5;
+    r_hh = r_uq;
+    r_1u = r_38;
+    goto l_capnp_x7;
 l_capnp_qr:;
     memset(slot_5, 0u, 136);
     memset(slot_6, 0u, 80);
     u8 *t_6c = (slot_3 + 56);
-    u8 r_r5_1 = ld8(slot_12);
+    u8 r_r5_1 = ld8(slot_11);
     u64 r_38_1 = ld64(r_x5_1);
     st64(t_6c, 0ull);
     memset(slot_4, 0u, 24);
@@ -4112,7 +4095,7 @@ l_capnp_qr:;
     st64((slot_2 + 8), r_38_1);
     st64((slot_2 + 16), 0ull);
     st64(slot_3, 0ull);
-    stp((slot_3 + 8), slot_13);
+    stp((slot_3 + 8), slot_12);
     memset((slot_3 + 16), 0u, 16);
     stp((slot_3 + 32), r_lz);
     st64((slot_3 + 40), r_j0);
@@ -4125,14 +4108,14 @@ l_capnp_qr:;
     r_uq_2 = ld32((slot_4 + 12));
     r_38_2 = ld64((slot_4 + 16));
     if (!(ld8(slot_4) == 0u)) goto l_arm_1b;
-    r_fz_1 = umin32(r_uq_1, 0x1fffffffu);
+    r_fz = umin32(r_uq_1, 0x1fffffffu);
     goto l_arm_rb;
 l_arm_1b:;
-    if (r_r5_2 == 27u) { r_fz_1 = 0x1fffffffu; goto l_arm_rb; }
+    if (r_r5_2 == 27u) { r_fz = 0x1fffffffu; goto l_arm_rb; }
     goto l_arm_nu;
 l_arm_rb:;
     memset(slot_6, 0u, 16);
-    stp((slot_6 + 16), slot_13);
+    stp((slot_6 + 16), slot_12);
     memset((slot_6 + 24), 0u, 16);
     stp((slot_6 + 40), r_lz);
     st64((slot_6 + 48), r_j0);
@@ -4140,13 +4123,13 @@ l_arm_rb:;
     st32((slot_6 + 60), 0u);
     st32((slot_6 + 64), t_5k);
     memset((slot_6 + 68), 0u, 12);
-    capnp_messages_messages_canonical_copy_canonicalize_to_60f0b323(slot_5, r_lk, slot_6, slot_12, r_fz_1);
-    r_hh = ld64((slot_5 + 128));
+    capnp_messages_messages_canonical_copy_canonicalize_to_60f0b323(slot_5, r_lk, slot_6, slot_11, r_fz);
+    r_hh_1 = ld64((slot_5 + 128));
     r_5o = ld64((slot_5 + 120));
     r_3u = ldp((slot_5 + 112));
     r_r4 = ld8((slot_5 + 104));
     r_8n = ld32((slot_5 + 96));
-    r_ew_1 = ld64((slot_5 + 80));
+    r_ew = ld64((slot_5 + 80));
     r_d4 = ld64((slot_5 + 72));
     r_lp = ldp((slot_5 + 64));
     r_mc = ld64((slot_5 + 56));
@@ -4157,12 +4140,12 @@ l_arm_rb:;
     goto l_capnp_1y;
 l_arm_nu:;
     mv32((slot_5 + 24), r_lk);
-    r_hh = 0ull;
+    r_hh_1 = 0ull;
     r_5o = 0ull;
     r_3u = ((u8 *)0);
     r_r4 = 0u;
     r_8n = 0u;
-    r_ew_1 = 0ull;
+    r_ew = 0ull;
     r_d4 = 0ull;
     r_lp = ((u8 *)0);
     r_mc = 0ull;
@@ -4172,71 +4155,54 @@ l_arm_nu:;
     r_yp = 0u;
 l_capnp_1y:;
     mv16(slot_10, (slot_5 + 24));
-    r_ut = ldp((slot_5 + 40));
-    r_im = r_hh;
-    r_pi = r_5o;
-    r_wj = r_3u;
-    r_fz = r_r4;
-    r_e3 = r_8n;
-    r_vx = r_ew_1;
-    r_i9 = r_d4;
-    r_ux = r_lp;
-    r_u1 = r_mc;
-    r_4e = ld64((slot_5 + 48));
-    r_c9 = r_yp;
-    r_rj = r_p0;
-    r_nh = r_3d;
-    r_l6 = r_pb;
-l_join_5d:;
-    mv16(slot_11, slot_10);
-    r_z5 = r_ut;
-    r_nu = r_4e;
-    r_6n = (r_u1 == 0ull);
-    r_jq = r_ux;
-    r_yl = r_i9;
-    r_t9 = r_vx;
-    r_ad = r_e3;
-    r_oe = (u8)(r_fz & 1);
-    r_no = r_wj;
-    r_33 = r_pi;
-    r_va = r_im;
-    r_l9 = r_l6;
-    r_9m = r_nh;
-    r_ew = r_rj;
-    r_3b = r_c9;
-l_capnp_f7:;
-    r_1e = r_z5;
-    r_sx = r_nu;
-    r_ap = r_6n;
-    r_x2 = r_jq;
-    r_w9 = r_yl;
-    r_du = r_t9;
-    r_ch = r_ad;
-    r_kz = r_oe;
-    r_yt = r_no;
-    r_1y = r_33;
-    r_za = r_va;
+    r_ze = ldp((slot_5 + 40));
+    r_7f = r_mc;
+    r_ez = r_lp;
+    r_kl = r_d4;
+    r_or = r_ew;
+    r_45 = r_8n;
+    r_lu = r_r4;
+    r_23 = r_3u;
+    r_1s = r_5o;
+    r_36 = r_hh_1;
+    r_mh = ld64((slot_5 + 48));
+    r_s9 = r_yp;
+    r_77 = r_p0;
+    r_hh = r_3d;
+    r_1u = r_pb;
+l_capnp_x7:;
+    r_1e = r_ze;
+    r_sx = (r_7f == 0ull);
+    r_ap = r_ez;
+    r_x2 = r_kl;
+    r_w9 = r_or;
+    r_du = r_45;
+    r_ch = (u8)(r_lu & 1);
+    r_kz = r_23;
+    r_yt = r_1s;
+    r_1y = r_36;
+    r_za = r_mh;
     r_uo = ld64(r_zd);
     r_96 = ld64(r_x5);
-    r_4z = ldp(slot_13);
-    r_hn = r_3b;
-    r_aj = r_ew;
-    r_21 = r_9m;
-    r_l7 = r_l9;
+    r_4z = ldp(slot_12);
+    r_hn = r_s9;
+    r_aj = r_77;
+    r_21 = r_hh;
+    r_l7 = r_1u;
     goto l_capnp_2m;
 l_arm_dk:;
-    mv16(slot_11, a_2);
+    mv16(slot_10, a_2);
     r_1e = r_rv;
-    r_sx = r_qw;
-    r_ap = 1u;
-    r_x2 = ((u8 *)0);
+    r_sx = 1u;
+    r_ap = ((u8 *)0);
+    r_x2 = 0ull;
     r_w9 = 0ull;
-    r_du = 0ull;
+    r_du = 0u;
     r_ch = 0u;
-    r_kz = 0u;
-    r_yt = ((u8 *)0);
+    r_kz = ((u8 *)0);
+    r_yt = 0ull;
     r_1y = 0ull;
-    r_za = 0ull;
+    r_za = r_qw;
     r_uo = r_qw_2;
     r_96 = r_qw_1;
     r_4z = r_mb;
@@ -4252,14 +4218,14 @@ l_join_9n:;
     if (ld64((r_a7 + 16)) == 0ull) goto l_core_jc;
     rattle_dealloc(ldp(r_a7));
 l_core_jc:;
-    u64 r_36 = (r_iu + 1ull);
-    if (!(r_36 == r_96)) { r_iu = r_36; goto l_join_9n; }
+    u64 r_36_1 = (r_iu + 1ull);
+    if (!(r_36_1 == r_96)) { r_iu = r_36_1; goto l_join_9n; }
 l_std_at:;
     if (r_uo == 0ull) goto l_capnp_4b;
     rattle_dealloc(r_4z);
     goto l_capnp_4b;
 l_arm_rq:;
-    mv16(slot_14, a_2);
+    mv16(slot_13, a_2);
     if (r_qw_1 == 0ull) goto l_std_at_1;
 l_join_qu:;
     r_iu_1 = 0ull;
@@ -4268,13 +4234,13 @@ l_join_9n_1:;
     if (ld64((r_a7_1 + 16)) == 0ull) goto l_core_jc_1;
     rattle_dealloc(ldp(r_a7_1));
 l_core_jc_1:;
-    u64 r_36_1 = (r_iu_1 + 1ull);
-    if (!(r_36_1 == r_qw_1)) { r_iu_1 = r_36_1; goto l_join_9n_1; }
+    u64 r_36_2 = (r_iu_1 + 1ull);
+    if (!(r_36_2 == r_qw_1)) { r_iu_1 = r_36_2; goto l_join_9n_1; }
 l_std_at_1:;
     if (r_qw_2 == 0ull) goto l_capnp_4b_1;
     rattle_dealloc(r_mb);
 l_capnp_4b_1:;
-    mv16(slot_15, slot_14);
+    mv16(slot_14, slot_13);
     r_o4 = 0xffffffffffffffffull;
     r_hd = 0u;
     r_67 = 27u;
@@ -4282,16 +4248,16 @@ l_capnp_4b_1:;
     r_4x = r_qw;
     goto l_arm_uu;
 l_capnp_4b:;
-    mv16(slot_15, slot_11);
-    if (!r_hn) { r_o4 = r_l7; r_hd = r_21; r_67 = r_aj; r_vb = r_1e; r_4x = r_sx; goto l_arm_uu; }
-    if (!r_kz) goto l_arm_mh;
-    if (r_1y == 0ull) goto l_capnp_95;
+    mv16(slot_14, slot_10);
+    if (!r_hn) { r_o4 = r_l7; r_hd = r_21; r_67 = r_aj; r_vb = r_1e; r_4x = r_za; goto l_arm_uu; }
+    if (!r_ch) goto l_arm_mh;
+    if (r_yt == 0ull) goto l_capnp_95;
     goto l_capnp_8u;
 l_arm_mh:;
     goto l_after_64;
 l_capnp_8u:;
     memset(slot_2, 0u, 24);
-    r_7n = (r_1y + 1ull);
+    r_7n = (r_yt + 1ull);
     if (r_7n == 0ull) goto l_std_mb;
     if (!(r_7n < 0x800000000000000ull)) goto l_after_64;
     struct s_i64_i64 r_e7 = rattle_alloc((u64)(r_7n << 4ull), 8ull);
@@ -4323,15 +4289,15 @@ l_then_g4:;
     goto l_arm_b8;
 l_join_yc:;
     u8 *r_a7_2 = (r_d2 + (i64)((u64)(r_qn << 4ull)));
-    stp(r_a7_2, r_x2);
-    st64((r_a7_2 + 8), (u64)((u64)r_ch << 3ull));
+    stp(r_a7_2, r_ap);
+    st64((r_a7_2 + 8), (u64)((u64)r_du << 3ull));
     u64 r_7n_1 = (r_qn + 1ull);
     st64(r_ek, r_7n_1);
     r_um = r_d2;
     r_lw = r_7n_1;
     r_g9 = 0ull;
 l_join_f9:;
-    u8 *r_2b = away(r_yt, (r_g9 * 40ull));
+    u8 *r_2b = away(r_kz, (r_g9 * 40ull));
     r_lz_1 = ldp(r_2b);
     r_z6 = (u64)((u64)ld32(away(r_2b, 32ull)) << 3ull);
     if (!(ld64(r_zh) == r_lw)) { r_cm = r_um; r_2k = r_lw; goto l_after_6r; }
@@ -4345,11 +4311,11 @@ l_after_6r:;
     st64((r_a7_3 + 8), r_z6);
     u64 r_7n_2 = (r_2k + 1ull);
     st64(r_ek, r_7n_2);
-    u64 r_36_2 = (r_g9 + 1ull);
-    if (r_36_2 == r_1y) goto l_after_64;
+    u64 r_36_3 = (r_g9 + 1ull);
+    if (r_36_3 == r_yt) goto l_after_64;
     r_um = r_cm;
     r_lw = r_7n_2;
-    r_g9 = r_36_2;
+    r_g9 = r_36_3;
     goto l_join_f9;
 l_arm_g4:;
     if (ld64(r_zh) == 0ull) goto l_after_64;
@@ -4359,9 +4325,9 @@ l_after_64:;
     TRAP();
     UNREACHABLE();
 l_capnp_95:;
-    r_z6_1 = (u64)((u64)r_ch << 3ull);
+    r_z6_1 = (u64)((u64)r_du << 3ull);
     if (!(u8)(a_5 & 1)) goto l_capnp_ak;
-    u8 r_f9 = capnp_layout_tool_writing_write_hex_digits_05c50f83f81b9c23(a_6, r_x2, r_z6_1);
+    u8 r_f9 = capnp_layout_tool_writing_write_hex_digits_05c50f83f81b9c23(a_6, r_ap, r_z6_1);
     if ((u8)(r_f9 & 1)) { r_3i = 3u; goto l_then_33; }
     r_rq = away(a_6, 8ull);
     r_xz = away(a_6, 24ull);
@@ -4382,8 +4348,8 @@ l_join_c8:;
     goto l_arm_5b;
 l_join_fh:;
     st8((r_2b_1 + (i64)(r_il)), ld8((r_7u + (i64)(r_il))));
-    u64 r_36_3 = (r_il + 1ull);
-    if (!(r_36_3 == r_j3)) { r_il = r_36_3; goto l_join_fh; }
+    u64 r_36_4 = (r_il + 1ull);
+    if (!(r_36_4 == r_j3)) { r_il = r_36_4; goto l_join_fh; }
 l_arm_5b:;
     stp(r_rq, r_lz_2);
     st64(r_08, r_5q);
@@ -4396,19 +4362,19 @@ l_std_1k:;
     if ((ld8(slot_2) != 0u) ? 1u : (r_38_3 == 0ull)) goto l_join_yv;
     r_sz = r_38_3;
 l_arm_mz:;
-    u64 r_t9_1 = (r_j3 - r_sz);
-    if (r_t9_1 == 0ull) { r_3i = 0u; goto l_then_33; }
+    u64 r_t9 = (r_j3 - r_sz);
+    if (r_t9 == 0ull) { r_3i = 0u; goto l_then_33; }
     u8 *r_3 = away(r_7u, r_sz);
-    u64 r_4 = r_t9_1;
+    u64 r_4 = r_t9;
     r_7u = r_3;
     r_j3 = r_4;
     goto l_join_c8;
 l_capnp_ak:;
     u8 r_u7 = capnp_layout_tool_frames_write_hex_u32_05c50f83f81b9c23(a_6, 0u);
     if ((u8)(r_u7 & 1)) { r_3i = 3u; goto l_then_33; }
-    u8 r_od = capnp_layout_tool_frames_write_hex_u32_05c50f83f81b9c23(a_6, r_ch);
+    u8 r_od = capnp_layout_tool_frames_write_hex_u32_05c50f83f81b9c23(a_6, r_du);
     if ((u8)(r_od & 1)) { r_3i = 3u; goto l_then_33; }
-    u8 r_f9_1 = capnp_layout_tool_writing_write_hex_digits_05c50f83f81b9c23(a_6, r_x2, r_z6_1);
+    u8 r_f9_1 = capnp_layout_tool_writing_write_hex_digits_05c50f83f81b9c23(a_6, r_ap, r_z6_1);
     if ((u8)(r_f9_1 & 1)) { r_3i = 3u; goto l_then_33; }
     r_rq_1 = away(a_6, 8ull);
     r_xz_1 = away(a_6, 24ull);
@@ -4429,8 +4395,8 @@ l_join_c8_1:;
     goto l_arm_5b_1;
 l_join_fh_1:;
     st8((r_2b_2 + (i64)(r_il_1)), ld8((r_7u_1 + (i64)(r_il_1))));
-    u64 r_36_4 = (r_il_1 + 1ull);
-    if (!(r_36_4 == r_j3_1)) { r_il_1 = r_36_4; goto l_join_fh_1; }
+    u64 r_36_5 = (r_il_1 + 1ull);
+    if (!(r_36_5 == r_j3_1)) { r_il_1 = r_36_5; goto l_join_fh_1; }
 l_arm_5b_1:;
     stp(r_rq_1, r_lz_3);
     st64(r_08_1, r_5q_1);
@@ -4443,10 +4409,10 @@ l_std_1k_1:;
     if ((ld8(slot_2) != 0u) ? 1u : (r_38_4 == 0ull)) goto l_join_yv;
     r_sz_1 = r_38_4;
 l_arm_mz_1:;
-    u64 r_t9_2 = (r_j3_1 - r_sz_1);
-    if (r_t9_2 == 0ull) { r_3i = 0u; goto l_then_33; }
+    u64 r_t9_1 = (r_j3_1 - r_sz_1);
+    if (r_t9_1 == 0ull) { r_3i = 0u; goto l_then_33; }
     u8 *r_5 = away(r_7u_1, r_sz_1);
-    u64 r_6 = r_t9_2;
+    u64 r_6 = r_t9_1;
     r_7u_1 = r_5;
     r_j3_1 = r_6;
     goto l_join_c8_1;
@@ -4457,29 +4423,29 @@ l_then_33:;
     st32(slot_4, r_aj);
     st32((slot_4 + 4), r_21);
     r_zd_3 = (slot_4 + 16);
-    mv16(r_zd_3, slot_15);
+    mv16(r_zd_3, slot_14);
     r_xw = ldp(slot_4);
     u64 r_38_5 = ld64(r_zd_3);
-    stp(slot_4, r_x2);
-    st64((slot_4 + 8), r_w9);
-    st64(r_zd_3, r_du);
+    stp(slot_4, r_ap);
+    st64((slot_4 + 8), r_x2);
+    st64(r_zd_3, r_w9);
     if (r_38_5 == 0ull) goto l_capnp_t4;
     rattle_dealloc(r_xw);
 l_capnp_t4:;
-    stp(slot_2, r_yt);
+    stp(slot_2, r_kz);
     st64((slot_2 + 8), 0ull);
-    st64((slot_2 + 16), r_za);
+    st64((slot_2 + 16), r_1y);
     capnp_arena_arena_builder_arena_impl_deallocate_others_af14abad(slot_4, slot_2);
     memset(slot_3, 0u, 40);
-    if (!(r_sx > 1ull)) goto l_join_jj;
-    if (r_sx > 15ull) goto l_join_ys;
-    t_gg = (u64)((r_sx + 0xfffffffffffffffeull) >> 1ull);
+    if (!(r_za > 1ull)) goto l_join_jj;
+    if (r_za > 15ull) goto l_join_ys;
+    t_gg = (u64)((r_za + 0xfffffffffffffffeull) >> 1ull);
     r_ax = 0ull;
-    r_du_1 = r_sx;
+    r_du_1 = r_za;
     goto l_join_73;
 l_join_ys:;
-    u64 r_dt = (u64)(r_sx >> 1ull);
-    core_slice_edits_mirror_e0f4f6844e27f7b4(r_1e, away(r_1e, ((r_sx - r_dt) * 40ull)), r_dt);
+    u64 r_dt = (u64)(r_za >> 1ull);
+    core_slice_edits_mirror_e0f4f6844e27f7b4(r_1e, away(r_1e, ((r_za - r_dt) * 40ull)), r_dt);
     goto l_arm_m6;
 l_join_73:;
     r_zn = (r_du_1 + 0xffffffffffffffffull);
@@ -4500,9 +4466,9 @@ l_else_7d:;
 l_core_e6:;
     if (!(r_ax == t_gg)) { u64 r_7 = (r_ax + 1ull); u64 r_8 = r_zn; r_ax = r_7; r_du_1 = r_8; goto l_join_73; }
 l_join_jj:;
-    if (r_sx == 0ull) goto l_capnp_yg;
+    if (r_za == 0ull) goto l_capnp_yg;
 l_arm_m6:;
-    r_5x = r_sx;
+    r_5x = r_za;
 l_arm_qk:;
     r_zn_1 = (r_5x + 0xffffffffffffffffull);
     mv40(slot_3, (r_1e + (i64)((r_zn_1 * 40ull))));
@@ -4514,31 +4480,31 @@ l_arm_qk:;
 l_capnp_jj:;
     if (!(r_zn_1 == 0ull)) { r_5x = r_zn_1; goto l_arm_qk; }
 l_capnp_yg:;
-    if (r_ap) goto l_std_qq;
+    if (r_sx) goto l_std_qq;
     rattle_dealloc(r_1e);
 l_std_qq:;
     u8 *r_xw_2 = ldp(r_zd_3);
     u64 r_38_7 = ld64((slot_4 + 24));
-    mv16(slot_17, slot_4);
-    r_ce = slot_17;
+    mv16(slot_16, slot_4);
+    r_ce = slot_16;
     r_4s = r_xw_2;
     r_f7 = r_38_7;
     r_kb = r_3i;
     goto l_join_me;
 l_arm_uu:;
-    st64(slot_18, 0ull);
-    st32((slot_18 + 8), (r_67 & 255u));
-    st32((slot_18 + 12), r_hd);
-    st64((slot_18 + 16), r_o4);
-    u8 r_kn = capnp_layout_tool_engine_answer_refusal_05c50f83f81b9c23(a_6, slot_18);
-    r_ce = slot_15;
+    st64(slot_17, 0ull);
+    st32((slot_17 + 8), (r_67 & 255u));
+    st32((slot_17 + 12), r_hd);
+    st64((slot_17 + 16), r_o4);
+    u8 r_kn = capnp_layout_tool_engine_answer_refusal_05c50f83f81b9c23(a_6, slot_17);
+    r_ce = slot_14;
     r_4s = r_vb;
     r_f7 = r_4x;
     r_kb = r_kn;
 l_join_me:;
-    mv16((slot_16 + 7), r_ce);
+    mv16((slot_15 + 7), r_ce);
     st8(a_1, r_kb);
-    mv23((a_1 + 1), slot_16);
+    mv23((a_1 + 1), slot_15);
     stp((a_1 + 24), r_4s);
     st64((a_1 + 32), r_f7);
     return;
@@ -4670,18 +4636,15 @@ static void capnp_messages_messages_canonical_copy_canonicalize_to_60f0b323(u8 *
     u8 r_45;
     u32 r_h0;
     u64 r_r1;
-    u8 r_r5_4;
-    u64 t_38;
-    u64 t_38_1;
-    u8 r_ld;
-    u32 r_2q;
-    u64 r_gy;
-    u8 t_7y;
-    u64 r_4v;
-    u8 r_r5_5;
-    u32 r_ka;
-    u64 r_0t;
-    u64 r_ib;
+    u64 r_ly;
+    u32 r_84;
+    u8 r_rw;
+    u8 t_w0;
+    u64 r_wi;
+    u8 r_k8;
+    u32 r_2y;
+    u64 r_v0;
+    u64 r_dw;
     u32 r_cf;
     u8 *r_xw_6;
     u64 r_38_12;
@@ -4691,7 +4654,7 @@ static void capnp_messages_messages_canonical_copy_canonicalize_to_60f0b323(u8 *
     u64 r_38_15;
     u64 r_38_16;
     u64 r_38_17;
-    u8 r_r5_6;
+    u8 r_r5_4;
     u8 *r_f2;
     u8 *r_xw_8;
     u64 r_38_18;
@@ -4927,16 +4890,16 @@ l_join_rb:;
     st64(r_zd_3, 0ull);
     r_eg = (u64)r_dd;
     if (!(r_dh == 0u)) goto l_arm_q5;
+    memset(slot_3, 0u, 24);
+    u8 *t_6c = (slot_4 + 56);
+    st64(t_6c, 0ull);
+    st64(slot_4, r_eg);
     mv16((slot_4 + 8), (slot_7 + 7));
     st64((slot_4 + 24), r_qw);
     stp((slot_4 + 32), r_rv);
     st64((slot_4 + 40), r_qw_1);
     st32((slot_4 + 48), r_5k);
     st32((slot_4 + 52), r_5k_1);
-    memset(slot_3, 0u, 24);
-    u8 *t_6c = (slot_4 + 56);
-    st64(t_6c, 0ull);
-    st64(slot_4, r_eg);
     st32(t_6c, r_5k_2);
     capnp_copies_copy_copy_object_789b5ce0078f2be2(slot_3, slot_9, 0u, 0u, slot_4, slot_5, 1u);
     r_r5_2 = ld8(slot_3);
@@ -4947,12 +4910,12 @@ l_join_rb:;
     r_lz = ldp(r_89_1);
     r_qw_3 = ld64(r_lz);
     if (r_qw_3 == 0ull) goto l_capnp_8g;
-    capnp_making_landing_follow_5460ad12cd8c5480(slot_2, slot_9, 0u, 0u);
+    capnp_allocation_landing_follow_5460ad12cd8c5480(slot_2, slot_9, 0u, 0u);
     st64(r_lz, 0ull);
     if (!(ld8(slot_2) == 1u)) goto l_capnp_8g;
-    capnp_making_zeroing_zero_target_5460ad12cd8c5480(slot_9, (slot_2 + 8));
+    capnp_allocation_zeroing_zero_target_5460ad12cd8c5480(slot_9, (slot_2 + 8));
     if (!((r_qw_3 & 3ull) == 2ull)) goto l_capnp_8g;
-    capnp_making_zeroing_zero_far_pads_5460ad12cd8c5480(slot_9, r_qw_3);
+    capnp_allocation_zeroing_zero_far_pads_5460ad12cd8c5480(slot_9, r_qw_3);
 l_capnp_8g:;
     r_2b = r_r5_3;
     r_qh = r_uq_2;
@@ -5050,7 +5013,7 @@ l_else_f8:;
     r_1w = r_24_2;
     r_ty = (u64)((u64)r_e3_1 << 3ull);
 l_capnp_cn:;
-    st64(ldp(r_89_1), ((r_ty | (u64)(r_1w << 32ull)) | 2ull));
+    st64(ldp(r_89_1), (((u64)(r_1w << 32ull) | r_ty) | 2ull));
     r_7f = (r_1w | (u64)((u64)r_ll_1 << 32ull));
 l_arm_99:;
     r_wt = (u32)r_7f;
@@ -5116,74 +5079,70 @@ l_capnp_no_1:;
     r_r1 = r_wq;
     goto l_capnp_x6;
 l_capnp_x3:;
-    r_ld = ld8((slot_2 + 8));
-    r_2q = ld32((slot_2 + 12));
-    r_gy = ld64((slot_2 + 16));
-    goto l_arm_uo;
+    r_ly = ld64((slot_2 + 16));
+    r_84 = ld32((slot_2 + 12));
+    r_rw = ld8((slot_2 + 8));
+    goto l_arm_e8;
 l_capnp_x6:;
-    if (!(r_3i == 0u)) { r_ld = r_45; r_2q = r_h0; r_gy = r_r1; goto l_arm_uo; }
-    r_r5_4 = ld8(slot_5);
-    t_38 = ld64(r_x5_3);
-    t_38_1 = ld64(r_zd_3);
-    if (!(u8)(ld8((slot_9 + 72)) & 1)) { t_7y = 0u; r_4v = 1ull; r_r5_5 = 27u; r_ka = 0u; r_0t = r_v1; r_ib = 0ull; goto l_capnp_1l; }
-    if (ld64((slot_9 + 88)) == 0ull) { t_7y = 1u; r_4v = 0ull; r_r5_5 = r_r5_4; r_ka = 0u; r_0t = t_38; r_ib = t_38_1; goto l_capnp_1l; }
-    t_7y = 0u;
-    r_4v = 1ull;
-    r_r5_5 = 27u;
-    r_ka = 0u;
-    r_0t = r_v1;
-    r_ib = 0ull;
-    goto l_capnp_1l;
-l_arm_uo:;
-    switch (r_ld) {
+    if (!(r_3i == 0u)) { r_ly = r_r1; r_84 = r_h0; r_rw = r_45; goto l_arm_e8; }
+    if (!((u8)(ld8((slot_9 + 72)) & 1) ? (ld64((slot_9 + 88)) == 0ull) : 0u)) { t_w0 = 0u; r_wi = 1ull; r_k8 = 27u; r_2y = 0u; r_v0 = r_v1; r_dw = 0ull; goto l_capnp_i8; }
+    t_w0 = 1u;
+    r_wi = 0ull;
+    r_k8 = ld8(slot_5);
+    r_2y = 0u;
+    r_v0 = ld64(r_x5_3);
+    r_dw = ld64(r_zd_3);
+    goto l_capnp_i8;
+l_arm_e8:;
+    switch (r_rw) {
     case 0u: goto l_t_h9;
     case 27u: goto l_t_h9;
-    case 1u: { t_7y = 0u; r_4v = 1ull; r_r5_5 = r_ld; r_ka = r_2q; r_0t = r_gy; r_ib = 0ull; goto l_capnp_1l; }
-    case 2u: { t_7y = 0u; r_4v = 1ull; r_r5_5 = r_ld; r_ka = r_2q; r_0t = r_gy; r_ib = 0ull; goto l_capnp_1l; }
-    case 3u: { t_7y = 0u; r_4v = 1ull; r_r5_5 = r_ld; r_ka = r_2q; r_0t = r_gy; r_ib = 0ull; goto l_capnp_1l; }
-    case 4u: { t_7y = 0u; r_4v = 1ull; r_r5_5 = r_ld; r_ka = r_2q; r_0t = r_gy; r_ib = 0ull; goto l_capnp_1l; }
-    case 5u: { t_7y = 0u; r_4v = 1ull; r_r5_5 = r_ld; r_ka = r_2q; r_0t = r_gy; r_ib = 0ull; goto l_capnp_1l; }
-    case 6u: { t_7y = 0u; r_4v = 1ull; r_r5_5 = r_ld; r_ka = r_2q; r_0t = r_gy; r_ib = 0ull; goto l_capnp_1l; }
-    case 7u: { t_7y = 0u; r_4v = 1ull; r_r5_5 = r_ld; r_ka = r_2q; r_0t = r_gy; r_ib = 0ull; goto l_capnp_1l; }
-    case 8u: { t_7y = 0u; r_4v = 1ull; r_r5_5 = r_ld; r_ka = r_2q; r_0t = r_gy; r_ib = 0ull; goto l_capnp_1l; }
-    case 9u: { t_7y = 0u; r_4v = 1ull; r_r5_5 = r_ld; r_ka = r_2q; r_0t = r_gy; r_ib = 0ull; goto l_capnp_1l; }
-    case 10u: { t_7y = 0u; r_4v = 1ull; r_r5_5 = r_ld; r_ka = r_2q; r_0t = r_gy; r_ib = 0ull; goto l_capnp_1l; }
-    case 11u: { t_7y = 0u; r_4v = 1ull; r_r5_5 = r_ld; r_ka = r_2q; r_0t = r_gy; r_ib = 0ull; goto l_capnp_1l; }
-    case 12u: { t_7y = 0u; r_4v = 1ull; r_r5_5 = r_ld; r_ka = r_2q; r_0t = r_gy; r_ib = 0ull; goto l_capnp_1l; }
-    case 13u: { t_7y = 0u; r_4v = 1ull; r_r5_5 = r_ld; r_ka = r_2q; r_0t = r_gy; r_ib = 0ull; goto l_capnp_1l; }
-    case 14u: { t_7y = 0u; r_4v = 1ull; r_r5_5 = r_ld; r_ka = r_2q; r_0t = r_gy; r_ib = 0ull; goto l_capnp_1l; }
-    case 15u: { t_7y = 0u; r_4v = 1ull; r_r5_5 = r_ld; r_ka = r_2q; r_0t = r_gy; r_ib = 0ull; goto l_capnp_1l; }
-    case 16u: { t_7y = 0u; r_4v = 1ull; r_r5_5 = r_ld; r_ka = r_2q; r_0t = r_gy; r_ib = 0ull; goto l_capnp_1l; }
-    case 17u: { t_7y = 0u; r_4v = 1ull; r_r5_5 = r_ld; r_ka = r_2q; r_0t = r_gy; r_ib = 0ull; goto l_capnp_1l; }
-    case 18u: { t_7y = 0u; r_4v = 1ull; r_r5_5 = r_ld; r_ka = r_2q; r_0t = r_gy; r_ib = 0ull; goto l_capnp_1l; }
-    case 19u: { t_7y = 0u; r_4v = 1ull; r_r5_5 = r_ld; r_ka = r_2q; r_0t = r_gy; r_ib = 0ull; goto l_capnp_1l; }
-    case 20u: { t_7y = 0u; r_4v = 1ull; r_r5_5 = r_ld; r_ka = r_2q; r_0t = r_gy; r_ib = 0ull; goto l_capnp_1l; }
-    case 21u: { t_7y = 0u; r_4v = 1ull; r_r5_5 = r_ld; r_ka = r_2q; r_0t = r_gy; r_ib = 0ull; goto l_capnp_1l; }
-    case 22u: { t_7y = 0u; r_4v = 1ull; r_r5_5 = r_ld; r_ka = r_2q; r_0t = r_gy; r_ib = 0ull; goto l_capnp_1l; }
-    case 23u: { t_7y = 0u; r_4v = 1ull; r_r5_5 = r_ld; r_ka = r_2q; r_0t = r_gy; r_ib = 0ull; goto l_capnp_1l; }
-    case 24u: { t_7y = 0u; r_4v = 1ull; r_r5_5 = r_ld; r_ka = r_2q; r_0t = r_gy; r_ib = 0ull; goto l_capnp_1l; }
-    case 25u: { t_7y = 0u; r_4v = 1ull; r_r5_5 = r_ld; r_ka = r_2q; r_0t = r_gy; r_ib = 0ull; goto l_capnp_1l; }
-    case 26u: { t_7y = 0u; r_4v = 1ull; r_r5_5 = r_ld; r_ka = r_2q; r_0t = r_gy; r_ib = 0ull; goto l_capnp_1l; }
-    case 28u: { t_7y = 0u; r_4v = 1ull; r_r5_5 = r_ld; r_ka = r_2q; r_0t = r_gy; r_ib = 0ull; goto l_capnp_1l; }
-    case 29u: { t_7y = 0u; r_4v = 1ull; r_r5_5 = r_ld; r_ka = r_2q; r_0t = r_gy; r_ib = 0ull; goto l_capnp_1l; }
-    case 30u: { t_7y = 0u; r_4v = 1ull; r_r5_5 = r_ld; r_ka = r_2q; r_0t = r_gy; r_ib = 0ull; goto l_capnp_1l; }
-    case 31u: { t_7y = 0u; r_4v = 1ull; r_r5_5 = r_ld; r_ka = r_2q; r_0t = r_gy; r_ib = 0ull; goto l_capnp_1l; }
-    case 32u: { t_7y = 0u; r_4v = 1ull; r_r5_5 = r_ld; r_ka = r_2q; r_0t = r_gy; r_ib = 0ull; goto l_capnp_1l; }
-    case 33u: { t_7y = 0u; r_4v = 1ull; r_r5_5 = r_ld; r_ka = r_2q; r_0t = r_gy; r_ib = 0ull; goto l_capnp_1l; }
-    case 34u: { t_7y = 0u; r_4v = 1ull; r_r5_5 = r_ld; r_ka = r_2q; r_0t = r_gy; r_ib = 0ull; goto l_capnp_1l; }
+    case 1u: { t_w0 = 0u; r_wi = 1ull; r_k8 = r_rw; r_2y = r_84; r_v0 = r_ly; r_dw = 0ull; goto l_capnp_i8; }
+    case 2u: { t_w0 = 0u; r_wi = 1ull; r_k8 = r_rw; r_2y = r_84; r_v0 = r_ly; r_dw = 0ull; goto l_capnp_i8; }
+    case 3u: { t_w0 = 0u; r_wi = 1ull; r_k8 = r_rw; r_2y = r_84; r_v0 = r_ly; r_dw = 0ull; goto l_capnp_i8; }
+    case 4u: { t_w0 = 0u; r_wi = 1ull; r_k8 = r_rw; r_2y = r_84; r_v0 = r_ly; r_dw = 0ull; goto l_capnp_i8; }
+    case 5u: { t_w0 = 0u; r_wi = 1ull; r_k8 = r_rw; r_2y = r_84; r_v0 = r_ly; r_dw = 0ull; goto l_capnp_i8; }
+    case 6u: { t_w0 = 0u; r_wi = 1ull; r_k8 = r_rw; r_2y = r_84; r_v0 = r_ly; r_dw = 0ull; goto l_capnp_i8; }
+    case 7u: { t_w0 = 0u; r_wi = 1ull; r_k8 = r_rw; r_2y = r_84; r_v0 = r_ly; r_dw = 0ull; goto l_capnp_i8; }
+    case 8u: { t_w0 = 0u; r_wi = 1ull; r_k8 = r_rw; r_2y = r_84; r_v0 = r_ly; r_dw = 0ull; goto l_capnp_i8; }
+    case 9u: { t_w0 = 0u; r_wi = 1ull; r_k8 = r_rw; r_2y = r_84; r_v0 = r_ly; r_dw = 0ull; goto l_capnp_i8; }
+    case 10u: { t_w0 = 0u; r_wi = 1ull; r_k8 = r_rw; r_2y = r_84; r_v0 = r_ly; r_dw = 0ull; goto l_capnp_i8; }
+    case 11u: { t_w0 = 0u; r_wi = 1ull; r_k8 = r_rw; r_2y = r_84; r_v0 = r_ly; r_dw = 0ull; goto l_capnp_i8; }
+    case 12u: { t_w0 = 0u; r_wi = 1ull; r_k8 = r_rw; r_2y = r_84; r_v0 = r_ly; r_dw = 0ull; goto l_capnp_i8; }
+    case 13u: { t_w0 = 0u; r_wi = 1ull; r_k8 = r_rw; r_2y = r_84; r_v0 = r_ly; r_dw = 0ull; goto l_capnp_i8; }
+    case 14u: { t_w0 = 0u; r_wi = 1ull; r_k8 = r_rw; r_2y = r_84; r_v0 = r_ly; r_dw = 0ull; goto l_capnp_i8; }
+    case 15u: { t_w0 = 0u; r_wi = 1ull; r_k8 = r_rw; r_2y = r_84; r_v0 = r_ly; r_dw = 0ull; goto l_capnp_i8; }
+    case 16u: { t_w0 = 0u; r_wi = 1ull; r_k8 = r_rw; r_2y = r_84; r_v0 = r_ly; r_dw = 0ull; goto l_capnp_i8; }
+    case 17u: { t_w0 = 0u; r_wi = 1ull; r_k8 = r_rw; r_2y = r_84; r_v0 = r_ly; r_dw = 0ull; goto l_capnp_i8; }
+    case 18u: { t_w0 = 0u; r_wi = 1ull; r_k8 = r_rw; r_2y = r_84; r_v0 = r_ly; r_dw = 0ull; goto l_capnp_i8; }
+    case 19u: { t_w0 = 0u; r_wi = 1ull; r_k8 = r_rw; r_2y = r_84; r_v0 = r_ly; r_dw = 0ull; goto l_capnp_i8; }
+    case 20u: { t_w0 = 0u; r_wi = 1ull; r_k8 = r_rw; r_2y = r_84; r_v0 = r_ly; r_dw = 0ull; goto l_capnp_i8; }
+    case 21u: { t_w0 = 0u; r_wi = 1ull; r_k8 = r_rw; r_2y = r_84; r_v0 = r_ly; r_dw = 0ull; goto l_capnp_i8; }
+    case 22u: { t_w0 = 0u; r_wi = 1ull; r_k8 = r_rw; r_2y = r_84; r_v0 = r_ly; r_dw = 0ull; goto l_capnp_i8; }
+    case 23u: { t_w0 = 0u; r_wi = 1ull; r_k8 = r_rw; r_2y = r_84; r_v0 = r_ly; r_dw = 0ull; goto l_capnp_i8; }
+    case 24u: { t_w0 = 0u; r_wi = 1ull; r_k8 = r_rw; r_2y = r_84; r_v0 = r_ly; r_dw = 0ull; goto l_capnp_i8; }
+    case 25u: { t_w0 = 0u; r_wi = 1ull; r_k8 = r_rw; r_2y = r_84; r_v0 = r_ly; r_dw = 0ull; goto l_capnp_i8; }
+    case 26u: { t_w0 = 0u; r_wi = 1ull; r_k8 = r_rw; r_2y = r_84; r_v0 = r_ly; r_dw = 0ull; goto l_capnp_i8; }
+    case 28u: { t_w0 = 0u; r_wi = 1ull; r_k8 = r_rw; r_2y = r_84; r_v0 = r_ly; r_dw = 0ull; goto l_capnp_i8; }
+    case 29u: { t_w0 = 0u; r_wi = 1ull; r_k8 = r_rw; r_2y = r_84; r_v0 = r_ly; r_dw = 0ull; goto l_capnp_i8; }
+    case 30u: { t_w0 = 0u; r_wi = 1ull; r_k8 = r_rw; r_2y = r_84; r_v0 = r_ly; r_dw = 0ull; goto l_capnp_i8; }
+    case 31u: { t_w0 = 0u; r_wi = 1ull; r_k8 = r_rw; r_2y = r_84; r_v0 = r_ly; r_dw = 0ull; goto l_capnp_i8; }
+    case 32u: { t_w0 = 0u; r_wi = 1ull; r_k8 = r_rw; r_2y = r_84; r_v0 = r_ly; r_dw = 0ull; goto l_capnp_i8; }
+    case 33u: { t_w0 = 0u; r_wi = 1ull; r_k8 = r_rw; r_2y = r_84; r_v0 = r_ly; r_dw = 0ull; goto l_capnp_i8; }
+    case 34u: { t_w0 = 0u; r_wi = 1ull; r_k8 = r_rw; r_2y = r_84; r_v0 = r_ly; r_dw = 0ull; goto l_capnp_i8; }
     default: goto l_noarm_e1;
     }
 l_noarm_e1:;
     UNREACHABLE();
 l_t_h9:;
-    t_7y = 0u;
-    r_4v = 1ull;
-    r_r5_5 = 27u;
-    r_ka = 0u;
-    r_0t = r_v1;
-    r_ib = 0ull;
-l_capnp_1l:;
-    r_cf = (u32)r_r5_5;
+    t_w0 = 0u;
+    r_wi = 1ull;
+    r_k8 = 27u;
+    r_2y = 0u;
+    r_v0 = r_v1;
+    r_dw = 0ull;
+l_capnp_i8:;
+    r_cf = (u32)r_k8;
     r_xw_6 = ldp(r_x5_2);
     r_38_12 = ld64((slot_9 + 16));
     r_38_13 = ld64((slot_9 + 24));
@@ -5192,31 +5151,31 @@ l_capnp_1l:;
     r_38_15 = ld64((slot_9 + 48));
     r_38_16 = ld64((slot_9 + 56));
     r_38_17 = ld64((slot_9 + 64));
-    r_r5_6 = ld8((slot_9 + 72));
+    r_r5_4 = ld8((slot_9 + 72));
     r_f2 = (slot_9 + 73);
     r_xw_8 = ldp((slot_9 + 80));
     r_38_18 = ld64((slot_9 + 88));
     r_38_19 = ld64((slot_9 + 96));
-    if (!t_7y) goto l_arm_33;
+    if (!t_w0) goto l_arm_33;
     r_08 = away(a_4, 16ull);
     r_52_2 = ld64(r_08);
     if (!(r_52_2 == 0ull)) goto l_join_b0;
-    st64(a_4, (u64)r_r5_5);
-    st64(r_rq, r_0t);
-    st64(r_08, r_ib);
+    st64(a_4, (u64)r_k8);
+    st64(r_rq, r_v0);
+    st64(r_08, r_dw);
     goto l_capnp_1x;
 l_join_b0:;
-    if (((ld8(a_4) != 1u) ? 1u : (r_r5_5 != 1u)) ? 1u : (ld64(r_rq) < r_0t)) goto l_after_jc;
+    if (((ld8(a_4) != 1u) ? 1u : (r_k8 != 1u)) ? 1u : (ld64(r_rq) < r_v0)) goto l_after_jc;
     st64(a_4, 1ull);
-    st64(r_rq, r_0t);
+    st64(r_rq, r_v0);
 l_after_jc:;
-    if (r_ib == 0ull) goto l_capnp_1x;
+    if (r_dw == 0ull) goto l_capnp_1x;
     r_hh = r_52_2;
     r_30 = 0ull;
 l_join_p6:;
     r_26 = uadd_sat64(r_hh, 1ull);
     u64 r_36 = (r_30 + 1ull);
-    if (!(r_36 == r_ib)) { r_hh = r_26; r_30 = r_36; goto l_join_p6; }
+    if (!(r_36 == r_dw)) { r_hh = r_26; r_30 = r_36; goto l_join_p6; }
     st64(r_08, r_26);
 l_capnp_1x:;
     mv16(slot_12, slot_10);
@@ -5232,7 +5191,7 @@ l_capnp_1x:;
     r_7j = r_xw_8;
     r_p8 = r_38_18;
     r_6l = r_38_19;
-    r_xz = r_r5_6;
+    r_xz = r_r5_4;
     r_tv = r_z4;
     r_6k = r_uq_1;
     r_hn = r_38_10;
@@ -5244,7 +5203,7 @@ l_arm_33:;
     st64(r_x5_4, r_38_10);
     r_zd_4 = (slot_3 + 16);
     mv16(r_zd_4, slot_10);
-    if (!(u8)(r_r5_6 & 1)) goto l_else_r8_1;
+    if (!(u8)(r_r5_4 & 1)) goto l_else_r8_1;
     r_xw_9 = ldp(slot_3);
     u64 r_38_20 = ld64(r_zd_4);
     stp(slot_3, r_xw_7);
@@ -5327,10 +5286,10 @@ l_std_hs:;
     r_6l = 0ull;
     r_xz = 0u;
     r_tv = r_cf;
-    r_6k = r_ka;
-    r_hn = r_0t;
+    r_6k = r_2y;
+    r_hn = r_v0;
 l_join_6f:;
-    st64(a_1, r_4v);
+    st64(a_1, r_wi);
     st32(away(a_1, 8ull), r_tv);
     st32(away(a_1, 12ull), r_6k);
     st64(away(a_1, 16ull), r_hn);
@@ -5810,7 +5769,7 @@ static NEVER void capnp_copies_copy_copy_object_789b5ce0078f2be2(u8 *a_1, u8 *a_
     u8 *r_x5_9;
     u8 *r_k0_4;
     u8 *r_zd_7;
-    u32 r_s1_1;
+    u32 r_mx;
     u8 *r_yf_12;
     u64 r_24_6;
     u64 r_0f_10;
@@ -5964,7 +5923,7 @@ static NEVER void capnp_copies_copy_copy_object_789b5ce0078f2be2(u8 *a_1, u8 *a_
     if (t_pa) goto l_capnp_sm;
     u8 *r_08 = away(a_6, 16ull);
     st64(r_08, uadd_sat64(ld64(r_08), 1ull));
-    if ((r_qw_3 & 3ull) == 2ull) goto l_capnp_el;
+    if ((r_qw_3 & 3ull) == 2ull) goto l_capnp_d1;
     goto l_join_bd;
 l_capnp_sm:;
     if (!((r_qw_3 & 3ull) == 2ull)) goto l_join_bd;
@@ -5990,8 +5949,8 @@ l_capnp_i5:;
     r_9h = r_qw_2;
     r_27 = t_al;
     goto l_arm_wn;
-l_capnp_el:;
-    capnp_objects_source_follow_far_70170357b7303457(slot_1, r_rv, r_qw_3, a_6);
+l_capnp_d1:;
+    capnp_pointers_source_follow_far_70170357b7303457(slot_1, r_rv, r_qw_3, a_6);
     u64 r_38 = ld64((slot_1 + 16));
     u64 r_38_1 = ld64((slot_1 + 8));
     if (ld8(slot_1) == 0u) { r_gx = ld32((slot_1 + 40)); r_qd = r_38; r_d4 = r_38_1; r_9h = ld64((slot_1 + 32)); r_27 = ld64((slot_1 + 24)); goto l_arm_wn; }
@@ -7042,7 +7001,7 @@ l_arm_5k:;
     r_x5_9 = (slot_3 + 8);
     r_k0_4 = (slot_3 + 12);
     r_zd_7 = (slot_3 + 16);
-    r_s1_1 = (r_5k + 0xfffffffeu);
+    r_mx = ((r_4w_1 == 0x80000000u) ? 0x80000000u : (r_5k + 0xfffffffeu));
     r_yf_12 = away(a_2, 80ull);
     r_24_6 = (u64)r_21;
     r_0f_10 = (r_24_6 + 0xffffffffffffffffull);
@@ -7461,7 +7420,7 @@ l_capnp_5c:;
     st64(r_a8_3, r_9h);
     st32(r_c4_6, (r_5b_1 + ((u32)r_ep_4 & 65535u)));
     st32(r_bk_1, 0u);
-    st32(r_6c_3, r_s1_1);
+    st32(r_6c_3, r_mx);
     capnp_copies_copy_children_copy_children_out_of_line_7_ae79832a(slot_1, a_2, r_wt_1, (r_29_1 + r_4r_3), slot_2, r_az_4, a_6, a_7);
     r_2b_6 = ld8(slot_1);
     r_qh_1 = ld8(r_x5_12);
@@ -7913,8 +7872,8 @@ static NEVER COLD u64 capnp_arena_arena_rows_word_in_4426f83c3c99ca57(u8 *a_1, u
     return ld64(away(ldp(away(a_1, (a_2 * 40ull))), (u64)((u64)a_3 << 3ull)));
 }
 
-/* capnp_making::landing::follow::<#5460ad12cd8c5480> */
-static NEVER COLD void capnp_making_landing_follow_5460ad12cd8c5480(u8 *a_1, u8 *a_2, u32 a_3, u32 a_4)
+/* capnp_allocation::landing::follow::<#5460ad12cd8c5480> */
+static NEVER COLD void capnp_allocation_landing_follow_5460ad12cd8c5480(u8 *a_1, u8 *a_2, u32 a_3, u32 a_4)
 {
     A(8) u8 slot_1[32];
     A(8) u8 slot_2[24];
@@ -7957,7 +7916,7 @@ l_capnp_6l:;
     r_qw = ld64(away(ldp(r_po), (u64)((u64)a_4 << 3ull)));
     memset(slot_1, 0u, 32);
     if (!((r_qw & 3ull) == 2ull)) { r_2n = r_qw; goto l_else_y9; }
-    capnp_making_landing_follow_far_5460ad12cd8c5480(slot_1, a_2, r_qw);
+    capnp_allocation_landing_follow_far_5460ad12cd8c5480(slot_1, a_2, r_qw);
     r_ud = ld8(slot_1);
     goto l_capnp_ty;
 l_else_y9:;
@@ -8001,8 +7960,8 @@ l_capnp_ty:;
     return;
 }
 
-/* capnp_making::landing::follow_far::<#5460ad12cd8c5480> */
-static NEVER COLD void capnp_making_landing_follow_far_5460ad12cd8c5480(u8 *a_1, u8 *a_2, u64 a_3)
+/* capnp_allocation::landing::follow_far::<#5460ad12cd8c5480> */
+static NEVER COLD void capnp_allocation_landing_follow_far_5460ad12cd8c5480(u8 *a_1, u8 *a_2, u64 a_3)
 {
     u64 r_cy;
     u32 r_4r;
@@ -8140,8 +8099,8 @@ l_join_s8:;
     return;
 }
 
-/* capnp_making::zeroing::zero_target::<#5460ad12cd8c5480> */
-static NEVER COLD void capnp_making_zeroing_zero_target_5460ad12cd8c5480(u8 *a_1, u8 *a_2)
+/* capnp_allocation::zeroing::zero_target::<#5460ad12cd8c5480> */
+static NEVER COLD void capnp_allocation_zeroing_zero_target_5460ad12cd8c5480(u8 *a_1, u8 *a_2)
 {
     u64 r_tp;
     u32 r_5k;
@@ -8178,8 +8137,8 @@ static NEVER COLD void capnp_making_zeroing_zero_target_5460ad12cd8c5480(u8 *a_1
     u64 r_lc_3;
     u64 r_0f_3;
     u8 *r_8r;
-    u32 r_rh;
-    u32 r_ls;
+    u32 r_wq;
+    u32 r_2j;
     u64 r_ic;
     u64 r_b6;
     u64 r_se;
@@ -8221,7 +8180,7 @@ l_arm_ef:;
     r_ef = (u64)ld32(r_li);
 l_capnp_5p:;
     if (r_lc_1 > r_ef) goto l_join_68;
-    capnp_making_zeroing_zero_pointers_5460ad12cd8c5480(a_1, r_5k, (u32)r_lc, r_12);
+    capnp_allocation_zeroing_zero_pointers_5460ad12cd8c5480(a_1, r_5k, (u32)r_lc, r_12);
     r_68 = ((r_4r & 65535u) + r_12);
     r_es = (u64)r_68;
     if (r_68 == 0u) goto l_join_68;
@@ -8268,7 +8227,7 @@ l_arm_a9:;
     r_ij = (u64)(r_tp >> 35ull);
     switch ((u8)((u8)(u64)(r_tp >> 32ull) & 7u)) {
     case 7u: goto l_arm_so;
-    case 6u: goto l_arm_sq;
+    case 6u: goto l_arm_gq;
     case 0u: { r_ic = 0ull; goto l_capnp_nc; }
     case 5u: goto l_arm_h9;
     case 4u: goto l_arm_h9_1;
@@ -8311,19 +8270,19 @@ l_join_v8:;
     r_8r = away(a_1, 64ull);
 l_arm_w5:;
     if (r_lc_3 > (u64)ld32(r_8r)) goto l_join_68;
-    if (!((r_y6_1 != 0ull) ? (t_c8 != 0u) : 0u)) goto l_capnp_vj;
-    r_rh = (r_5k_1 + 1u);
-    r_ls = 0u;
-l_join_in:;
-    u32 r_w0 = (r_rh + r_az);
-    capnp_making_zeroing_zero_pointers_5460ad12cd8c5480(a_1, r_5k, r_w0, t_12);
-    u32 r_ff = (r_ls + 1u);
-    if (!(r_ff == t_c8)) { r_rh = (r_w0 + t_12); r_ls = r_ff; goto l_join_in; }
-l_capnp_vj:;
-    capnp_making_zeroing_zero_if_inside_5460ad12cd8c5480(a_1, r_5k, r_5k_1, r_c4);
+    if (!((r_y6_1 != 0ull) ? (t_c8 != 0u) : 0u)) goto l_capnp_r3;
+    r_wq = (r_5k_1 + 1u);
+    r_2j = 0u;
+l_join_g6:;
+    u32 r_w0 = (r_wq + r_az);
+    capnp_allocation_zeroing_zero_pointers_5460ad12cd8c5480(a_1, r_5k, r_w0, t_12);
+    u32 r_ff = (r_2j + 1u);
+    if (!(r_ff == t_c8)) { r_wq = (r_w0 + t_12); r_2j = r_ff; goto l_join_g6; }
+l_capnp_r3:;
+    capnp_allocation_zeroing_zero_if_inside_5460ad12cd8c5480(a_1, r_5k, r_5k_1, r_c4);
     goto l_join_68;
-l_arm_sq:;
-    capnp_making_zeroing_zero_pointers_5460ad12cd8c5480(a_1, r_5k, r_5k_1, (u32)r_ij);
+l_arm_gq:;
+    capnp_allocation_zeroing_zero_pointers_5460ad12cd8c5480(a_1, r_5k, r_5k_1, (u32)r_ij);
     goto l_join_68;
 l_arm_h9_2:;
     r_ic = 1ull;
@@ -8388,8 +8347,8 @@ l_default_e1:;
     UNREACHABLE();
 }
 
-/* capnp_making::zeroing::zero_pointers::<#5460ad12cd8c5480> */
-static void capnp_making_zeroing_zero_pointers_5460ad12cd8c5480(u8 *a_1, u32 a_2, u32 a_3, u32 a_4)
+/* capnp_allocation::zeroing::zero_pointers::<#5460ad12cd8c5480> */
+static void capnp_allocation_zeroing_zero_pointers_5460ad12cd8c5480(u8 *a_1, u32 a_2, u32 a_3, u32 a_4)
 {
     A(8) u8 slot_1[32];
     u64 r_v1;
@@ -8436,26 +8395,26 @@ l_join_xy:;
     r_2b = away(ldp(r_xm), (u64)((u64)r_7m << 3ull));
     r_qw = ld64(r_2b);
     if (r_qw == 0ull) goto l_capnp_o8;
-    goto l_then_3p;
+    goto l_then_gs;
 l_capnp_2f:;
     r_lz = ldp(r_yf);
     r_sq = capnp_arena_arena_rows_word_in_4426f83c3c99ca57(r_lz, r_0f_1, r_7m);
     if (r_sq == 0ull) goto l_capnp_o8;
-    goto l_else_sh;
-l_then_3p:;
-    capnp_making_landing_follow_5460ad12cd8c5480(slot_1, a_1, 0u, r_7m);
+    goto l_else_sl;
+l_then_gs:;
+    capnp_allocation_landing_follow_5460ad12cd8c5480(slot_1, a_1, 0u, r_7m);
     st64(r_2b, 0ull);
     r_9s = r_qw;
     goto l_capnp_2f_1;
-l_else_sh:;
-    capnp_making_landing_follow_5460ad12cd8c5480(slot_1, a_1, a_2, r_7m);
+l_else_sl:;
+    capnp_allocation_landing_follow_5460ad12cd8c5480(slot_1, a_1, a_2, r_7m);
     capnp_arena_arena_rows_put_word_in_4426f83c3c99ca57(r_lz, r_0f_1, r_7m, 0ull);
     r_9s = r_sq;
 l_capnp_2f_1:;
     if (!(ld8(slot_1) == 1u)) goto l_capnp_o8;
-    capnp_making_zeroing_zero_target_5460ad12cd8c5480(a_1, r_x5);
+    capnp_allocation_zeroing_zero_target_5460ad12cd8c5480(a_1, r_x5);
     if (!((r_9s & 3ull) == 2ull)) goto l_capnp_o8;
-    capnp_making_zeroing_zero_far_pads_5460ad12cd8c5480(a_1, r_9s);
+    capnp_allocation_zeroing_zero_far_pads_5460ad12cd8c5480(a_1, r_9s);
 l_capnp_o8:;
     u64 indvars_r7 = (indvars_mo + 1ull);
     if (!(indvars_r7 == r_v1)) { indvars_mo = indvars_r7; goto l_join_xy; }
@@ -8463,8 +8422,8 @@ l_join_68:;
     return;
 }
 
-/* capnp_making::zeroing::zero_if_inside::<#5460ad12cd8c5480> */
-static void capnp_making_zeroing_zero_if_inside_5460ad12cd8c5480(u8 *a_1, u32 a_2, u32 a_3, u64 a_4)
+/* capnp_allocation::zeroing::zero_if_inside::<#5460ad12cd8c5480> */
+static void capnp_allocation_zeroing_zero_if_inside_5460ad12cd8c5480(u8 *a_1, u32 a_2, u32 a_3, u64 a_4)
 {
     u64 r_7l;
     u64 r_o7;
@@ -8524,8 +8483,8 @@ l_join_68:;
     return;
 }
 
-/* capnp_making::zeroing::zero_far_pads::<#5460ad12cd8c5480> */
-static NEVER COLD void capnp_making_zeroing_zero_far_pads_5460ad12cd8c5480(u8 *a_1, u64 a_2)
+/* capnp_allocation::zeroing::zero_far_pads::<#5460ad12cd8c5480> */
+static NEVER COLD void capnp_allocation_zeroing_zero_far_pads_5460ad12cd8c5480(u8 *a_1, u64 a_2)
 {
     u8 r_hr;
     u64 t_3h;
@@ -8605,7 +8564,7 @@ static NEVER void capnp_copies_copy_children_copy_children_out_of_line_7_ae79832
     u8 *r_x5_1;
     u8 *r_k0;
     u8 *r_zd_1;
-    u32 r_53;
+    u32 r_mx;
     u8 t_q5;
     u8 *r_xm;
     u8 r_sz;
@@ -8767,7 +8726,7 @@ static NEVER void capnp_copies_copy_children_copy_children_out_of_line_7_ae79832
     r_x5_1 = (slot_3 + 8);
     r_k0 = (slot_3 + 12);
     r_zd_1 = (slot_3 + 16);
-    r_53 = (r_5k_1 + 0xffffffffu);
+    r_mx = ((r_5k_1 == 0x80000000u) ? 0x80000000u : (r_5k_1 + 0xffffffffu));
     t_q5 = (a_8 == 1u);
     r_xm = away(a_2, 32ull);
     r_sz = (a_3 == 0u);
@@ -9161,7 +9120,7 @@ l_capnp_5c:;
     st64(r_a8_1, r_qw_2);
     st32(r_c4_1, (r_5b + ((u32)r_ep & 65535u)));
     st32(r_bk, 0u);
-    st32(r_6c_1, r_53);
+    st32(r_6c_1, r_mx);
     capnp_copies_copy_children_copy_children_out_of_line_7_ae79832a(slot_1, a_2, r_wt, (r_29 + r_4r_1), slot_2, r_az, a_7, a_8);
     r_2b_5 = ld8(slot_1);
     r_qh = ld8(r_x5_4);
@@ -9352,7 +9311,7 @@ static void capnp_messages_messages_copy_size_add_value_70170357b7303457(u8 *a_1
     if (t_pa) goto l_capnp_sm;
     u8 *r_08 = away(a_6, 16ull);
     st64(r_08, uadd_sat64(ld64(r_08), 1ull));
-    if ((r_qw & 3ull) == 2ull) goto l_capnp_el;
+    if ((r_qw & 3ull) == 2ull) goto l_capnp_d1;
     goto l_join_bd;
 l_capnp_sm:;
     if (!((r_qw & 3ull) == 2ull)) goto l_join_bd;
@@ -9379,8 +9338,8 @@ l_capnp_i5:;
     r_27 = r_38;
     r_hv = r_xw;
     goto l_arm_wn;
-l_capnp_el:;
-    capnp_objects_source_follow_far_70170357b7303457(slot_1, r_xw_1, r_qw, a_6);
+l_capnp_d1:;
+    capnp_pointers_source_follow_far_70170357b7303457(slot_1, r_xw_1, r_qw, a_6);
     u64 r_38_1 = ld64((slot_1 + 16));
     u64 r_38_2 = ld64((slot_1 + 8));
     if (ld8(slot_1) == 0u) { r_gx = ld32((slot_1 + 44)); r_qd = ld32((slot_1 + 40)); r_d4 = r_38_1; r_9h = r_38_2; r_27 = ld64((slot_1 + 32)); r_hv = ((u8 *)(uptr)ld64((slot_1 + 24))); goto l_arm_wn; }
@@ -10048,8 +10007,8 @@ l_join_ad:;
     return;
 }
 
-/* capnp_objects::source::follow_far::<#1e87a151ef20e12e> */
-static NEVER void capnp_objects_source_follow_far_1e87a151ef20e12e(u8 *a_1, u8 *a_2, u64 a_3, u8 *a_4)
+/* capnp_pointers::source::follow_far::<#1e87a151ef20e12e> */
+static NEVER void capnp_pointers_source_follow_far_1e87a151ef20e12e(u8 *a_1, u8 *a_2, u64 a_3, u8 *a_4)
 {
     u64 r_cy;
     u64 r_yz;
@@ -10284,8 +10243,8 @@ l_join_s8:;
     goto l_common_68;
 }
 
-/* capnp_objects::pointers::canonical::test_children::<#1e87a151ef20e12e> */
-static struct s_i8_i32 capnp_objects_pointers_canonical_test_children_1e87a151ef20e12e(u8 *a_1, u32 a_2, u32 a_3, u32 a_4, u32 a_5, u8 *a_6)
+/* capnp_pointers::pointers::canonical::test_children::<#1e87a151ef20e12e> */
+static struct s_i8_i32 capnp_pointers_pointers_canonical_test_children_1e87a1_c3c6e6a7(u8 *a_1, u32 a_2, u32 a_3, u32 a_4, u32 a_5, u8 *a_6)
 {
     u8 *r_xz;
     u8 *r_xm;
@@ -10460,14 +10419,14 @@ l_join_p3:;
     r_w0 = (r_l6 + r_az);
     r_w0_1 = (r_w0 + r_12);
     r_ts = (r_y6 == 0ull);
-    if (!r_ts) goto l_join_gc;
+    if (!r_ts) goto l_join_5r;
     struct s_i8_i32 t_ph = (struct s_i8_i32){ 0u, 0u };
     t_ph.f1 = r_w0_1;
     r_d4 = t_ph;
     goto l_capnp_o7;
-l_join_gc:;
-    struct s_i8_i32 r_iq = capnp_objects_pointers_canonical_test_children_1e87a151ef20e12e(a_1, r_w0, r_12, r_y0, r_w0_1, a_6);
-    r_d4 = r_iq;
+l_join_5r:;
+    struct s_i8_i32 r_e9 = capnp_pointers_pointers_canonical_test_children_1e87a1_c3c6e6a7(a_1, r_w0, r_12, r_y0, r_w0_1, a_6);
+    r_d4 = r_e9;
 l_capnp_o7:;
     r_xo = r_d4.f1;
     if (!(r_d4.f0 == 0u)) { r_tu = 0u; r_di = 1u; goto l_capnp_cm; }
@@ -10509,7 +10468,7 @@ l_capnp_cm:;
     goto l_capnp_7u;
 l_arm_ui:;
     r_ep_1 = (u64)(r_qw >> 32ull);
-    if (!((u8)((u8)((u8)r_ep_1 & 7u) + 255u) < 5u)) goto l_join_y4;
+    if (!((u8)((u8)((u8)r_ep_1 & 7u) + 255u) < 5u)) goto l_join_p8;
     r_ij = (u64)(r_qw >> 35ull);
     r_c6 = (u64)(((ld64(away(away(((u8 *)switch_table_main_18), 8 * (r_ep_1 & 7ull)), 0xfffffffffffffff8ull)) * r_ij) + 63ull) >> 6ull);
     t_0c = (ld8(a_1) == 0u);
@@ -10579,9 +10538,9 @@ l_capnp_cm_1:;
     r_i6_1.f1 = r_tu_1;
     r_cp = r_i6_1;
     goto l_capnp_7u;
-l_join_y4:;
-    struct s_i8_i32 r_ct = capnp_objects_pointers_canonical_test_list_1e87a151ef20e12e(a_1, r_7m, r_qw, a_4, r_l6, a_6);
-    r_cp = r_ct;
+l_join_p8:;
+    struct s_i8_i32 r_r7 = capnp_pointers_pointers_canonical_test_list_1e87a151ef20e12e(a_1, r_7m, r_qw, a_4, r_l6, a_6);
+    r_cp = r_r7;
 l_capnp_7u:;
     if (r_cp.f0 == 0u) { r_kr = r_cp.f1; goto l_loop_2y; }
     r_us = 0u;
@@ -10604,8 +10563,8 @@ l_return_pr:;
     return r_i6_2;
 }
 
-/* capnp_objects::pointers::canonical::test_list::<#1e87a151ef20e12e> */
-static NEVER struct s_i8_i32 capnp_objects_pointers_canonical_test_list_1e87a151ef20e12e(u8 *a_1, u32 a_2, u64 a_3, u32 a_4, u32 a_5, u8 *a_6)
+/* capnp_pointers::pointers::canonical::test_list::<#1e87a151ef20e12e> */
+static NEVER struct s_i8_i32 capnp_pointers_pointers_canonical_test_list_1e87a151ef20e12e(u8 *a_1, u32 a_2, u64 a_3, u32 a_4, u32 a_5, u8 *a_6)
 {
     A(8) u8 slot_1[56];
     u8 *r_xz;
@@ -10692,7 +10651,7 @@ static NEVER struct s_i8_i32 capnp_objects_pointers_canonical_test_list_1e87a151
     if (t_pa) goto l_capnp_sm;
     u8 *r_08 = away(a_6, 16ull);
     st64(r_08, uadd_sat64(ld64(r_08), 1ull));
-    if ((r_qw & 3ull) == 2ull) goto l_capnp_q3;
+    if ((r_qw & 3ull) == 2ull) goto l_capnp_hz;
     goto l_join_bd;
 l_capnp_sm:;
     if (!((r_qw & 3ull) == 2ull)) goto l_join_bd;
@@ -10718,8 +10677,8 @@ l_capnp_i5:;
     r_3g = r_38;
     r_n9 = r_xw;
     goto l_arm_s6;
-l_capnp_q3:;
-    capnp_objects_source_follow_far_1e87a151ef20e12e(slot_1, r_xw_1, r_qw, a_6);
+l_capnp_hz:;
+    capnp_pointers_source_follow_far_1e87a151ef20e12e(slot_1, r_xw_1, r_qw, a_6);
     u64 r_38_1 = ld64((slot_1 + 16));
     u64 r_38_2 = ld64((slot_1 + 8));
     if (ld8(slot_1) == 0u) { r_nz = ld32((slot_1 + 40)); r_tc = r_38_1; r_l8 = r_38_2; r_3g = ld64((slot_1 + 32)); r_n9 = ((u8 *)(uptr)ld64((slot_1 + 24))); goto l_arm_s6; }
@@ -10879,7 +10838,7 @@ l_capnp_f9:;
     r_ru = 34u;
     goto l_arm_ud;
 l_arm_s2:;
-    if (r_nz == a_5) goto l_arm_6t;
+    if (r_nz == a_5) goto l_arm_76;
     goto l_then_um;
 l_then_s2:;
     if (r_nz == a_2) goto l_arm_um;
@@ -10888,7 +10847,7 @@ l_join_s2:;
     if (r_nz == a_5) goto l_arm_um;
     goto l_then_um;
 l_capnp_s2:;
-    if (r_nz == a_5) goto l_arm_sj;
+    if (r_nz == a_5) goto l_arm_fy;
     goto l_then_um;
 l_arm_ud:;
     u8 or_i7 = (u8)((u8)((a_3 & 3ull) == 1ull) & (u8)(r_ru == 26u));
@@ -10909,9 +10868,9 @@ l_then_um:;
     r_us = 0u;
     r_1x = 1u;
     goto l_return_pr;
-l_arm_6t:;
+l_arm_76:;
     r_xz_1 = away(a_6, 24ull);
-    u64 r_1q = (ld64((((u8 *)switch_table_capnp_objects_pointers_canonical_test_lis_2e4582d4) + (i64)(8 * (u64)r_xq))) * r_ij);
+    u64 r_1q = (ld64((((u8 *)switch_table_capnp_pointers_pointers_canonical_test_li_58523f26) + (i64)(8 * (u64)r_xq))) * r_ij);
     r_eh_1 = (a_5 + (u32)(u64)(r_1q >> 6ull));
     r_4i = (r_1q & 63ull);
     if (r_4i == 0ull) { r_us = r_eh_1; r_1x = 0u; goto l_return_pr; }
@@ -10924,10 +10883,10 @@ l_arm_6t:;
     r_us = 0u;
     r_1x = 1u;
     goto l_return_pr;
-l_arm_sj:;
-    struct s_i8_i32 r_z9 = capnp_objects_pointers_canonical_test_children_1e87a151ef20e12e(a_1, a_5, r_12_1, (a_4 + 0xffffffffu), (a_5 + r_12_1), a_6);
-    r_us = r_z9.f1;
-    r_1x = r_z9.f0;
+l_arm_fy:;
+    struct s_i8_i32 r_0z = capnp_pointers_pointers_canonical_test_children_1e87a1_c3c6e6a7(a_1, a_5, r_12_1, (a_4 + 0xffffffffu), (a_5 + r_12_1), a_6);
+    r_us = r_0z.f1;
+    r_1x = r_0z.f0;
     goto l_return_pr;
 l_arm_bb:;
     r_y0 = (a_4 + 0xffffffffu);
@@ -10944,9 +10903,9 @@ l_arm_bb:;
     goto l_return_pr;
 l_join_1x:;
     if (r_68_1 == 0u) { r_us = r_ll; r_1x = 0u; goto l_return_pr; }
-    struct s_i8_i32 r_37 = capnp_objects_pointers_canonical_test_elements_1e87a151ef20e12e(a_1, r_ll, t_xg, r_py, t_c8, r_y0, a_6);
-    r_us = r_37.f1;
-    r_1x = r_37.f0;
+    struct s_i8_i32 r_7w = capnp_pointers_pointers_canonical_test_elements_1e87a1_bd40b792(a_1, r_ll, t_xg, r_py, t_c8, r_y0, a_6);
+    r_us = r_7w.f1;
+    r_1x = r_7w.f0;
     goto l_return_pr;
 l_arm_um:;
     u64 r_qw_4 = ld64(r_xz);
@@ -10965,8 +10924,8 @@ l_return_pr:;
     return r_i6;
 }
 
-/* capnp_objects::pointers::canonical::test_elements::<#1e87a151ef20e12e> */
-static struct s_i8_i32 capnp_objects_pointers_canonical_test_elements_1e87a151ef20e12e(u8 *a_1, u32 a_2, u16 a_3, u16 a_4, u32 a_5, u32 a_6, u8 *a_7)
+/* capnp_pointers::pointers::canonical::test_elements::<#1e87a151ef20e12e> */
+static struct s_i8_i32 capnp_pointers_pointers_canonical_test_elements_1e87a1_bd40b792(u8 *a_1, u32 a_2, u16 a_3, u16 a_4, u32 a_5, u32 a_6, u8 *a_7)
 {
     u32 r_m2;
     u32 r_m2_1;
@@ -11017,14 +10976,14 @@ static struct s_i8_i32 capnp_objects_pointers_canonical_test_elements_1e87a151ef
 l_join_l2:;
     r_kq_1 = ((r_68 * (u32)indvars_lg) + a_2);
     r_w0 = (r_kq_1 + r_m2);
-    if (!r_kh_1) goto l_join_hy;
+    if (!r_kh_1) goto l_join_0e;
     struct s_i8_i32 t_ph = (struct s_i8_i32){ 0u, 0u };
     t_ph.f1 = r_23;
     r_ff = t_ph;
     goto l_capnp_28;
-l_join_hy:;
-    struct s_i8_i32 r_sy = capnp_objects_pointers_canonical_test_children_1e87a151ef20e12e(a_1, r_w0, r_m2_1, a_6, r_23, a_7);
-    r_ff = r_sy;
+l_join_0e:;
+    struct s_i8_i32 r_vw = capnp_pointers_pointers_canonical_test_children_1e87a1_c3c6e6a7(a_1, r_w0, r_m2_1, a_6, r_23, a_7);
+    r_ff = r_vw;
 l_capnp_28:;
     r_xo = r_ff.f1;
     if (!(r_ff.f0 == 0u)) { r_us = 0u; r_1x = 1u; goto l_return_pr; }
@@ -11619,7 +11578,7 @@ int main(int count, char **words)
     u64 r_es;
     u64 r_ij;
     u64 r_c6;
-    u64 r_m6_2;
+    u64 r_m6_1;
     u64 r_nb_1;
     u64 r_qs_1;
     u32 r_ff_2;
@@ -11819,7 +11778,7 @@ int main(int count, char **words)
     u64 r_y6_1;
     u64 r_q7_1;
     u64 r_lc_4;
-    u64 r_m6_3;
+    u64 r_m6_2;
     u64 r_i9;
     u32 r_12_2;
     u32 r_az_1;
@@ -11834,7 +11793,7 @@ int main(int count, char **words)
     u8 r_di;
     u64 r_ij_1;
     u64 r_c6_1;
-    u64 r_m6_4;
+    u64 r_m6_3;
     u64 r_i9_1;
     u32 narrow_j8;
     u32 r_12_3;
@@ -12922,14 +12881,14 @@ l_join_4w:;
     r_ff_1 = (r_az + 1u);
     r_68 = (r_ff_1 + r_12);
     r_ts = (r_y6 == 0ull);
-    if (!r_ts) goto l_join_q3;
+    if (!r_ts) goto l_join_ab;
     struct s_i8_i32 t_ph = (struct s_i8_i32){ 0u, 0u };
     t_ph.f1 = r_68;
     r_b5_1 = t_ph;
     goto l_capnp_0j;
-l_join_q3:;
-    struct s_i8_i32 r_m6_1 = capnp_objects_pointers_canonical_test_children_70170357b7303457(slot_3, r_ff_1, r_12, (r_ax + 0xffffffffu), r_68, slot_2);
-    r_b5_1 = r_m6_1;
+l_join_ab:;
+    struct s_i8_i32 r_cg_1 = capnp_pointers_pointers_canonical_test_children_701703_62c5c8fc(slot_3, r_ff_1, r_12, (r_ax + 0xffffffffu), r_68, slot_2);
+    r_b5_1 = r_cg_1;
 l_capnp_0j:;
     if (!(r_b5_1.f0 == 0u)) { r_gy = 1u; goto l_arm_s8; }
     if (r_az == 0u) goto l_join_vo;
@@ -12952,13 +12911,13 @@ l_then_bv:;
     st8((slot_2 + 44), 9u);
     goto l_arm_od;
 l_arm_st:;
-    if (!((u8)((u8)((u8)r_ep_1 & 7u) + 255u) < 5u)) goto l_capnp_vn;
+    if (!((u8)((u8)((u8)r_ep_1 & 7u) + 255u) < 5u)) goto l_capnp_98;
     r_ij = (u64)(r_qw_2 >> 35ull);
     r_c6 = (u64)(((ld64(away(away(((u8 *)switch_table_main_18), 8 * (r_ep_1 & 7ull)), 0xfffffffffffffff8ull)) * r_ij) + 63ull) >> 6ull);
-    r_m6_2 = ((u64)(r_qw_2 >> 2ull) & 0x3fffffffull);
+    r_m6_1 = ((u64)(r_qw_2 >> 2ull) & 0x3fffffffull);
     r_nb_1 = (r_gw & 0xffffffffull);
-    if (!(r_m6_2 < 0x20000000ull)) goto l_else_j9_1;
-    if (r_m6_2 < r_nb_1) { r_qs_1 = (r_m6_2 + 1ull); goto l_arm_xd_1; }
+    if (!(r_m6_1 < 0x20000000ull)) goto l_else_j9_1;
+    if (r_m6_1 < r_nb_1) { r_qs_1 = (r_m6_1 + 1ull); goto l_arm_xd_1; }
     t_n1 = 0u;
     r_r3 = 0u;
     r_so = 23u;
@@ -12966,7 +12925,7 @@ l_arm_st:;
     r_qk = 0ull;
     goto l_capnp_6w;
 l_else_j9_1:;
-    if (r_m6_2 == 0x3fffffffull) { r_qs_1 = 0ull; goto l_arm_xd_1; }
+    if (r_m6_1 == 0x3fffffffull) { r_qs_1 = 0ull; goto l_arm_xd_1; }
     t_n1 = 0u;
     r_r3 = 0u;
     r_so = 23u;
@@ -12991,9 +12950,9 @@ l_join_t1:;
     st32(r_a8, r_ff_2);
     st8((slot_2 + 44), 7u);
     goto l_arm_od;
-l_capnp_vn:;
-    struct s_i8_i32 r_l9 = capnp_objects_pointers_canonical_test_list_70170357b7303457(slot_3, 0u, r_qw_2, r_ax, 1u, slot_2);
-    u8 t_5h = r_l9.f0;
+l_capnp_98:;
+    struct s_i8_i32 r_46_1 = capnp_pointers_pointers_canonical_test_list_70170357b7303457(slot_3, 0u, r_qw_2, r_ax, 1u, slot_2);
+    u8 t_5h = r_46_1.f0;
     if (t_5h == 0u) { t_n1 = 1u; r_r3 = 1u; r_so = 0u; r_j6 = 0u; r_qk = 0ull; goto l_capnp_6w; }
     r_gy = t_5h;
     goto l_arm_s8;
@@ -13208,8 +13167,8 @@ l_arm_gr:;
     st64((slot_2 + 32), r_u2);
     st64((slot_2 + 40), r_oe);
     st64((slot_2 + 48), 0ull);
-    u8 r_ew = capnp_objects_pointers_sizes_add_object_70170357b7303457(slot_3, 0u, r_ax, slot_2);
-    if ((u8)(r_ew & 1)) goto l_arm_t6;
+    u8 r_4b = capnp_pointers_pointers_sizes_add_object_70170357b7303457(slot_3, 0u, r_ax, slot_2);
+    if ((u8)(r_4b & 1)) goto l_arm_t6;
     r_ix_2 = 0u;
     r_fs_1 = ld32(slot_2);
     r_sk = ld32((slot_2 + 4));
@@ -13762,13 +13721,13 @@ l_join_4p_1:;
     r_q7_1 = (r_ep_2 & 65535ull);
     r_lc_4 = (r_q7_1 + r_y6_1);
     st64(r_zd_11, 1ull);
-    r_m6_3 = ((u64)(r_qw_3 >> 2ull) & 0x3fffffffull);
-    if (!(r_m6_3 < 0x20000000ull)) goto l_else_jl;
-    if (r_m6_3 < r_24_1) { r_i9 = (r_m6_3 + 1ull); goto l_arm_td_1; }
+    r_m6_2 = ((u64)(r_qw_3 >> 2ull) & 0x3fffffffull);
+    if (!(r_m6_2 < 0x20000000ull)) goto l_else_jl;
+    if (r_m6_2 < r_24_1) { r_i9 = (r_m6_2 + 1ull); goto l_arm_td_1; }
     r_qt = 23u;
     goto l_arm_nd;
 l_else_jl:;
-    if (r_m6_3 == 0x3fffffffull) { r_i9 = 0ull; goto l_arm_td_1; }
+    if (r_m6_2 == 0x3fffffffull) { r_i9 = 0ull; goto l_arm_td_1; }
     r_qt = 23u;
     goto l_arm_nd;
 l_arm_td_1:;
@@ -13811,14 +13770,14 @@ l_join_4w_1:;
     r_ff_3 = (r_az_1 + 1u);
     r_68_2 = (r_ff_3 + r_12_2);
     r_ts_2 = (r_y6_1 == 0ull);
-    if (!r_ts_2) goto l_join_1h;
+    if (!r_ts_2) goto l_join_if;
     struct s_i8_i32 t_ph_1 = (struct s_i8_i32){ 0u, 0u };
     t_ph_1.f1 = r_68_2;
     r_d4 = t_ph_1;
     goto l_capnp_o7;
-l_join_1h:;
-    struct s_i8_i32 r_4o = capnp_objects_pointers_canonical_test_children_1e87a151ef20e12e(slot_3, r_ff_3, r_12_2, (r_ax + 0xffffffffu), r_68_2, slot_2);
-    r_d4 = r_4o;
+l_join_if:;
+    struct s_i8_i32 r_ec = capnp_pointers_pointers_canonical_test_children_1e87a1_c3c6e6a7(slot_3, r_ff_3, r_12_2, (r_ax + 0xffffffffu), r_68_2, slot_2);
+    r_d4 = r_ec;
 l_capnp_o7:;
     r_xo = r_d4.f1;
     if (!(r_d4.f0 == 0u)) { r_tu = 0u; r_di = 1u; goto l_capnp_cm; }
@@ -13851,16 +13810,16 @@ l_capnp_cm:;
     r_uq = r_i6;
     goto l_capnp_gz;
 l_arm_st_1:;
-    if (!((u8)((u8)((u8)r_ep_2 & 7u) + 255u) < 5u)) goto l_join_iq;
+    if (!((u8)((u8)((u8)r_ep_2 & 7u) + 255u) < 5u)) goto l_join_6u;
     r_ij_1 = (u64)(r_qw_3 >> 35ull);
     r_c6_1 = (u64)(((ld64(away(away(((u8 *)switch_table_main_18), 8 * (r_ep_2 & 7ull)), 0xfffffffffffffff8ull)) * r_ij_1) + 63ull) >> 6ull);
-    r_m6_4 = ((u64)(r_qw_3 >> 2ull) & 0x3fffffffull);
-    if (!(r_m6_4 < 0x20000000ull)) goto l_else_jl_1;
-    if (r_m6_4 < r_24_1) { r_i9_1 = (r_m6_4 + 1ull); goto l_arm_td_2; }
+    r_m6_3 = ((u64)(r_qw_3 >> 2ull) & 0x3fffffffull);
+    if (!(r_m6_3 < 0x20000000ull)) goto l_else_jl_1;
+    if (r_m6_3 < r_24_1) { r_i9_1 = (r_m6_3 + 1ull); goto l_arm_td_2; }
     narrow_j8 = 23u;
     goto l_arm_ka;
 l_else_jl_1:;
-    if (r_m6_4 == 0x3fffffffull) { r_i9_1 = 0ull; goto l_arm_td_2; }
+    if (r_m6_3 == 0x3fffffffull) { r_i9_1 = 0ull; goto l_arm_td_2; }
     narrow_j8 = 23u;
     goto l_arm_ka;
 l_arm_td_2:;
@@ -13904,9 +13863,9 @@ l_capnp_cm_1:;
     r_i6_1.f1 = r_tu_1;
     r_uq = r_i6_1;
     goto l_capnp_gz;
-l_join_iq:;
-    struct s_i8_i32 r_od = capnp_objects_pointers_canonical_test_list_1e87a151ef20e12e(slot_3, 0u, r_qw_3, r_ax, 1u, slot_2);
-    r_uq = r_od;
+l_join_6u:;
+    struct s_i8_i32 r_yv = capnp_pointers_pointers_canonical_test_list_1e87a151ef20e12e(slot_3, 0u, r_qw_3, r_ax, 1u, slot_2);
+    r_uq = r_yv;
 l_capnp_gz:;
     r_5h = r_uq.f0;
     if (!(r_5h == 0u)) goto l_arm_s8_1;
