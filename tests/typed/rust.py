@@ -332,10 +332,10 @@ def files(options, room, counts):
 def compiled(generator, schemas, folder, target, counts, made=None):
     """Compiles the code for schemas, with that of a folder `made`, and returns what the generator says."""
     (folder / 'src').mkdir(parents=True)
-    for path in made.glob('*_capnp.rs') if made else ():
+    for path in made.glob('*_capnp*.rs') if made else ():
         shutil.copy(path, folder / 'src')
     said = ''.join(generate(generator, str(path), folder / 'src')[1] for path in schemas)
-    modules = sorted(it.stem for it in (folder / 'src').glob('*_capnp.rs'))
+    modules = sorted(it.stem for it in (folder / 'src').glob('*_capnp*.rs'))
     (folder / 'src/main.rs').write_text(''.join(f'mod {it};\n' for it in modules) + '\nfn main() {}\n', encoding='utf-8')
     (folder / 'Cargo.toml').write_text(MANIFEST.replace('"made"', f'"{folder.name}"'), encoding='utf-8')
     passed, text = cargo(['clippy'], folder, target)
