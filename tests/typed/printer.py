@@ -230,8 +230,7 @@ def written(printer, schema, crate, reading, roots):
     structs = [node for node in schema.written if 'struct' in node]
     functions = ''.join(printer.function(node) for node in structs)
     enums = {node['module'] for node in schema.written if 'enum' in node and node['module'] + '::' in functions} | {node['which'] for node in structs if 'which' in node}
-    uses = {crate: {node['module'] for node in structs}} | ({reading: enums} if enums else {})
-    if crate == reading:
-        uses = {crate: uses[crate] | enums}
+    modules = {node['module'] for node in structs}
+    uses = {crate: modules | enums} if crate == reading else {crate: modules, reading: enums} if enums else {crate: modules}
     uses = ''.join(f'use {name}::{{{", ".join(sorted(of))}}};\n' for name, of in sorted(uses.items()))
     return HEAD.format(uses=uses) + functions + MAIN.format(count=len(roots), arms=arms(ARM, [schema.find(it) for it in roots]))
